@@ -1,0 +1,4 @@
+pub mod Tree
+pub mod Postorder
+pub mod Shape
+pub mod Code
