@@ -6,3 +6,4 @@ pub mod Built
 pub mod Step
 pub mod Outermost
 pub mod Rows
+pub mod Laws

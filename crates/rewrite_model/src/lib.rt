@@ -3,6 +3,10 @@
 
 ghost use Rattle.rewrite_model.specs.Rows.{OneAndOne, OneUseIsTooFew, RoomSix, RoomFive, OneAndOneBuilds, OneAndOneNeeds, FourTermsBuild, Twice, Guarded, AsksForItself, FirstRule, Products, OutermostEnds, OutermostSums, OutermostBuilds};
 
+mod laws;
+
+pub use laws::{fuel_laws, matching_laws};
+
 /// Worked rows, which the definitions compute.
 pub fn worked_rows()
     ensures value { OneAndOne }

@@ -7,7 +7,7 @@ use Rattle.term_model.specs.declared.Head.{Head}
 use Rattle.term_model.specs.declared.Head.TheVariants.{App, Int, Nil, Cons}
 use Rattle.term_model.proofs.Order.{both_hold}
 
-head_eq_refl : (h : Head) → head_eq h h ≡ true
+pub head_eq_refl : (h : Head) → head_eq h h ≡ true
 head_eq_refl (App f) = eq-eqb f.0 f.0 refl
 head_eq_refl (Int n) = eq-eqb n n refl
 head_eq_refl Nil = refl

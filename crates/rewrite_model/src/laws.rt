@@ -1,0 +1,17 @@
+//! What is true of all matches and evaluations, each law the contract of a function that does nothing.
+
+ghost use Rattle.rewrite_model.specs.Laws.{MatchGivesInstance, MatchBindsVariables, InstancesMatch, BeginsWithItself, FuelFalls, MoreFuelIsLeft};
+
+/// A pattern matches exactly its instances.
+pub fn matching_laws()
+    ensures instance { MatchGivesInstance }
+    ensures variables { MatchBindsVariables }
+    ensures found { InstancesMatch }
+{}
+
+/// Fuel is only spent, and more of it changes no value.
+pub fn fuel_laws()
+    ensures equation { BeginsWithItself }
+    ensures falls { FuelFalls }
+    ensures more { MoreFuelIsLeft }
+{}
