@@ -2,3 +2,4 @@ pub mod Tree
 pub mod Postorder
 pub mod Shape
 pub mod Code
+pub mod Laws

@@ -1,5 +1,5 @@
 -- A tree as a list of items, each head after its arguments.
-use Rattle.std.specs.Prelude.{ℕ, zero, suc, List, [], ◌∷◌, ◌++◌, Option, Some, None, option_and_then, if◌then◌else◌}
+use Rattle.std.specs.Prelude.{ℕ, zero, suc, List, [], ◌∷◌, ◌++◌, Option, Some, None, option_and_then, if◌then◌else◌, Bool, is_some}
 use Rattle.term_model.specs.Tree.{Tree, Leaf, Node, Trees, End, More, count_of, may_be_list}
 use Rattle.term_model.specs.declared.Head.{Head}
 use Rattle.term_model.specs.declared.Head.TheVariants as head
@@ -12,6 +12,24 @@ item_of (head.App f) n = App f n
 item_of (head.Int v) n = Int v
 item_of head.Nil n = Nil
 item_of head.Cons n = Cons
+
+-- the head of an item, and how many trees it takes
+abbrev pub head_of : Item → Option Head
+head_of (Var x) = None
+head_of (App f n) = Some (head.App f)
+head_of (Int v) = Some (head.Int v)
+head_of Nil = Some head.Nil
+head_of Cons = Some head.Cons
+
+abbrev pub has_head : Item → Bool
+has_head i = is_some (head_of i)
+
+abbrev pub arity_of : Item → ℕ
+arity_of (Var x) = 0
+arity_of (App f n) = n
+arity_of (Int v) = 0
+arity_of Nil = 0
+arity_of Cons = 2
 
 abbrev mutual
   pub postorder : Tree → List Item

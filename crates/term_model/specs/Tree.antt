@@ -1,5 +1,5 @@
 -- A term is a tree: a head over a list of trees. A pattern is a tree with variables at leaves.
-use Rattle.std.specs.Prelude.{◌≡◌, ℕ, ◌+◌, List, [], ◌∷◌, ◌++◌, Bool, true, false, ◌&&◌, ◌==◌, if◌then◌else◌}
+use Rattle.std.specs.Prelude.{◌≡◌, ℕ, ◌+◌, List, [], ◌∷◌, ◌++◌, Bool, true, false, ◌&&◌, ◌==◌, if◌then◌else◌, Option, Some, None}
 use Rattle.term_model.specs.declared.Head.{Head}
 use Rattle.term_model.specs.declared.Head.TheVariants.{App, Int, Nil, Cons}
 
@@ -30,6 +30,11 @@ trees_of (t ∷ ts) = More t (trees_of ts)
 abbrev pub arguments : Tree → List Tree
 arguments (Leaf x) = []
 arguments (Node h ts) = list_of ts
+
+-- the head at the root, where it is no variable
+abbrev pub root : Tree → Option Head
+root (Leaf x) = None
+root (Node h ts) = Some h
 
 -- one node for the root, and those of the arguments
 abbrev mutual

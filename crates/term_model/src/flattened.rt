@@ -1,16 +1,17 @@
 //! Terms and patterns in one list of items.
 
 ghost use Rattle.std.specs.Prelude.{◌≡◌, ◌+◌, ◌<◌, ◌≤◌, ◌^◌, ◌↔◌, IsTrue, IsSome, IfSome, IfNone, Some, None, List, length, Bool};
-ghost use Rattle.term_model.specs.Tree.{Tree, IsWellFormed, IsGround, nodes};
-ghost use Rattle.term_model.specs.Postorder.{postorder, tree_of, push_item};
+ghost use Rattle.std.specs.List.{list_all};
+ghost use Rattle.term_model.specs.Tree.{Tree, IsWellFormed, IsGround, nodes, root};
+ghost use Rattle.term_model.specs.Postorder.{postorder, tree_of, push_item, has_head};
 ghost use Rattle.term_model.specs.Shape.{Summarizes, IsPushed};
 
-use crate::Item;
+use crate::{Head, Item};
 use std::marker::Model;
 
 /// A term or a pattern: a well-formed tree, kept as its items in postorder. Nothing here recurses
 /// with the depth of the tree, and neither does a drop.
-#[derive(Drop)]
+#[derive(Clone, Drop)]
 pub struct Flat {
     items: Vec<Item>,
 }
@@ -52,6 +53,37 @@ impl Flat {
     {
         &self.items
     }
+}
+
+impl Flat {
+    /// How many nodes the tree has; never 0.
+    pub fn node_count(&self) -> usize
+        ensures nodes { result ≡ nodes self.now }
+        ensures never_none { 0 < result }
+    {
+        self.items().len()
+    }
+
+    /// The head at the root, which a variable doesn't have.
+    pub fn root(&self) -> Option<Head>
+        ensures { result ≡ root self.now }
+    {
+        self.items().last()?.head()
+    }
+
+    /// Whether there is no variable in the tree.
+    pub fn is_ground(&self) -> bool
+        ensures { IsTrue result ↔ IsGround self.now }
+    {
+        all_have_heads(self.items())
+    }
+}
+
+/// Whether no item is a variable.
+fn all_have_heads(items: &[Item]) -> bool
+    ensures { result ≡ list_all has_head items.now }
+{
+    items.iter().all(|item| item.head().is_some())
 }
 
 /// The number of trees on a stack, and whether the last of them may stand where a list must.

@@ -1,9 +1,16 @@
 //! Terms as trees, and as lists of items in postorder.
 #![tactic(auto)]
 
+ghost use Rattle.std.specs.Prelude.{◌≡◌};
+ghost use Rattle.term_model.specs.Postorder.{head_of, arity_of};
+
 mod flattened;
+mod laws;
+#[cfg(test)]
+mod tests;
 
 pub use flattened::Flat;
+pub use laws::{distinct_laws, equality_laws, postorder_laws, subtree_laws};
 
 /// The name of a stored term.
 #[derive(Clone, Copy, Debug, PartialEq, Eq, PartialOrd, Ord, Hash)]
@@ -33,4 +40,30 @@ pub enum Item {
     Int(u64),
     Nil,
     Cons,
+}
+
+impl Item {
+    /// The head, which a variable doesn't have.
+    pub fn head(self) -> Option<Head>
+        ensures { result ≡ head_of self }
+    {
+        match self {
+            Item::Var(_) => None,
+            Item::App(symbol, _) => Some(Head::App(symbol)),
+            Item::Int(value) => Some(Head::Int(value)),
+            Item::Nil => Some(Head::Nil),
+            Item::Cons => Some(Head::Cons),
+        }
+    }
+
+    /// How many of the terms before it the item takes.
+    pub fn arity(self) -> u32
+        ensures { result ≡ arity_of self }
+    {
+        match self {
+            Item::Var(_) | Item::Int(_) | Item::Nil => 0,
+            Item::App(_, count) => count,
+            Item::Cons => 2,
+        }
+    }
 }

@@ -1,0 +1,3 @@
+pub mod Matches
+pub mod Fuel
+pub mod Closed

@@ -1,0 +1,46 @@
+-- What is true of all matching, evaluations and runs.
+use Rattle.std.specs.Prelude.{◌≡◌, ℕ, ◌+◌, ◌≤◌, List, [], ◌∷◌, ◌++◌, length, Some, All, Contains}
+use Rattle.term_model.specs.Tree.{Tree, IsGround, distinct}
+use Rattle.term_model.specs.Laws.{IsSubtree}
+use Rattle.rewrite_model.specs.Rule.{Rule, IsRule, IsNumbered}
+use Rattle.rewrite_model.specs.Matching.{match_of, instance}
+use Rattle.rewrite_model.specs.Run.{Done}
+use Rattle.rewrite_model.specs.Evaluation.{reduction, begin, evaluation}
+use Rattle.rewrite_model.specs.Built.{built_list, need, distinct_built, need_of_all}
+
+-- A pattern matches exactly its instances, and binds a tree to each variable in order.
+abbrev pub MatchGivesInstance : Type 0
+MatchGivesInstance = (p t : Tree) (bound : List Tree) → match_of p t ≡ Some bound → instance p bound ≡ t
+
+abbrev pub MatchBindsVariables : Type 0
+MatchBindsVariables = (p t : Tree) (k : ℕ) (bound : List Tree) → IsNumbered p k → match_of p t ≡ Some bound → length bound ≡ k
+
+abbrev pub InstancesMatch : Type 0
+InstancesMatch = (p : Tree) (k : ℕ) (bound : List Tree) → IsNumbered p k → length bound ≡ k → match_of p (instance p bound) ≡ Some bound
+
+-- Reducing by all rules begins with itself for the reductions inside.
+abbrev pub BeginsWithItself : Type 0
+BeginsWithItself = (rules : List Rule) (given kept : List Tree) (t : Tree) (fuel room : ℕ) → reduction rules given kept t fuel room ≡ begin (reduction rules) rules given kept t fuel room
+
+-- No more fuel is left than was given.
+abbrev pub FuelFalls : Type 0
+FuelFalls = (rules : List Rule) (t u : Tree) (fuel room left : ℕ) → (evaluation rules t fuel room).end ≡ Done u left → left ≤ fuel
+
+-- With more fuel a value stays, for the same use of fuel and by the same points.
+abbrev pub MoreFuelIsLeft : Type 0
+MoreFuelIsLeft = (rules : List Rule) (t u : Tree) (fuel room left more : ℕ) → (evaluation rules t fuel room).end ≡ Done u left →
+    evaluation rules t (fuel + more) room ≡ record { notes = (evaluation rules t fuel room).notes; end = Done u (left + more) }
+
+-- Every subtree of a built tree is built, before it or as the tree itself.
+abbrev pub SubtreesAreBuilt : Type 0
+SubtreesAreBuilt = (rules : List Rule) (term : Tree) (fuel room : ℕ) → All IsRule rules → IsGround term →
+    (front back : List Tree) (t u : Tree) → built_list rules term fuel room ≡ front ++ t ∷ back → IsSubtree u t → Contains (front ++ t ∷ []) u
+
+-- The trees in hand are built trees: a term needs no more than it builds, and so do many.
+abbrev pub NeedIsBounded : Type 0
+NeedIsBounded = (rules : List Rule) (term : Tree) (fuel room : ℕ) → All IsRule rules → IsGround term →
+    need rules term fuel room ≤ distinct (built_list rules term fuel room)
+
+abbrev pub NeedOfAllIsBounded : Type 0
+NeedOfAllIsBounded = (rules : List Rule) (terms : List Tree) (fuel room : ℕ) → All IsRule rules → All IsGround terms →
+    need_of_all rules terms fuel room ≤ distinct_built rules terms fuel room

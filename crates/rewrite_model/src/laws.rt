@@ -1,0 +1,24 @@
+//! What is true of all matches and evaluations, each law the contract of a function that does nothing.
+
+ghost use Rattle.rewrite_model.specs.Laws.{MatchGivesInstance, MatchBindsVariables, InstancesMatch, BeginsWithItself, FuelFalls, MoreFuelIsLeft, SubtreesAreBuilt, NeedIsBounded, NeedOfAllIsBounded};
+
+/// A pattern matches exactly its instances.
+pub fn matching_laws()
+    ensures instance { MatchGivesInstance }
+    ensures variables { MatchBindsVariables }
+    ensures found { InstancesMatch }
+{}
+
+/// Fuel is only spent, and more of it changes no value.
+pub fn fuel_laws()
+    ensures equation { BeginsWithItself }
+    ensures falls { FuelFalls }
+    ensures more { MoreFuelIsLeft }
+{}
+
+/// What is built holds its subtrees, and what is in hand is built.
+pub fn built_laws()
+    ensures subtrees { SubtreesAreBuilt }
+    ensures need { NeedIsBounded }
+    ensures need_of_all { NeedOfAllIsBounded }
+{}

@@ -1,0 +1,27 @@
+//! The definitions of rewriting: matching, evaluation, what is built, one step, outermost evaluation.
+#![tactic(auto)]
+
+ghost use Rattle.rewrite_model.specs.Rows.{OneAndOne, OneUseIsTooFew, RoomSix, RoomFive, OneAndOneBuilds, OneAndOneNeeds, FourTermsBuild, Twice, Guarded, AsksForItself, FirstRule, Products, OutermostEnds, OutermostSums, OutermostBuilds};
+
+mod laws;
+
+pub use laws::{built_laws, fuel_laws, matching_laws};
+
+/// Worked rows, which the definitions compute.
+pub fn worked_rows()
+    ensures value { OneAndOne }
+    ensures fuel { OneUseIsTooFew }
+    ensures room { RoomSix }
+    ensures too_deep { RoomFive }
+    ensures built { OneAndOneBuilds }
+    ensures need { OneAndOneNeeds }
+    ensures many { FourTermsBuild }
+    ensures twice { Twice }
+    ensures guarded { Guarded }
+    ensures asks_for_itself { AsksForItself }
+    ensures first_rule { FirstRule }
+    ensures products { Products }
+    ensures outermost { OutermostEnds }
+    ensures outermost_sums { OutermostSums }
+    ensures outermost_built { OutermostBuilds }
+{}
