@@ -1,0 +1,4 @@
+pub mod Lock
+pub mod Exclusion
+pub mod Schedule
+pub mod StateText

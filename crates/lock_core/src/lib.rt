@@ -1,0 +1,14 @@
+//! The busy-forbidden lock of Groote, Laveaux and van Spaendonck (2022) as a pure machine: its steps, the exclusion
+//! that they keep, and schedules of steps as text.
+#![tactic(auto)]
+
+mod exclusion;
+mod machine;
+mod parts;
+mod state;
+
+pub use exclusion::exclusion_holds;
+pub use faults::Memory;
+pub use machine::step;
+pub use parts::{LockStep, Phase, SeatState, Standing};
+pub use state::{LockState, MAX_SEATS};
