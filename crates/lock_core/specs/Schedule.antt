@@ -6,15 +6,15 @@ use Rattle.lock_core.specs.declared.parts.LockStep.TheVariants.{Raise, Look, Low
 use Rattle.lock_core.specs.declared.reading.LineFault.{LineFault}
 use Rattle.lock_core.specs.Lock.{Lock, InPlace, after}
 
+-- a byte at the front of the first line, or on a line of its own where there is none
+abbrev pub before_lines : ℕ → List (List ℕ) → List (List ℕ)
+before_lines b [] = (b ∷ []) ∷ []
+before_lines b (line ∷ rest) = (b ∷ line) ∷ rest
+
 -- the lines of a text: each ends with a line feed, and the last may end with the text
 abbrev pub lines : List ℕ → List (List ℕ)
 lines [] = []
 lines (b ∷ bs) = if b == 10 then [] ∷ lines bs else before_lines b (lines bs)
-where
-  -- a byte before the first line, or alone on a line
-  before_lines : ℕ → List (List ℕ) → List (List ℕ)
-  before_lines b [] = (b ∷ []) ∷ []
-  before_lines b (line ∷ rest) = (b ∷ line) ∷ rest
 
 -- how a step is written: its word, and after a space the seat that it is on
 abbrev pub step_text : LockStep → List ℕ

@@ -5,10 +5,14 @@
 mod exclusion;
 mod machine;
 mod parts;
+mod reading;
 mod state;
+mod writing;
 
 pub use exclusion::exclusion_holds;
 pub use faults::Memory;
 pub use machine::step;
 pub use parts::{LockStep, Phase, SeatState, Standing};
+pub use reading::LineFault;
 pub use state::{LockState, MAX_SEATS};
+pub use writing::write_state;
