@@ -2,3 +2,4 @@ pub mod Lock
 pub mod Exclusion
 pub mod Schedule
 pub mod StateText
+pub mod Lines

@@ -13,6 +13,6 @@ pub use exclusion::exclusion_holds;
 pub use faults::Memory;
 pub use machine::step;
 pub use parts::{LockStep, Phase, SeatState, Standing};
-pub use reading::LineFault;
+pub use reading::{LineFault, schedule};
 pub use state::{LockState, MAX_SEATS};
 pub use writing::write_state;
