@@ -25,22 +25,38 @@ looked : (l : Lock) (i : ℕ) → IsSound l → i < length l.seats → (seat_of 
 looked l i k present raised true set_flag = let s : SeatIsSound l.mutex i (seat_of l i) = seat_sound l i k in record {
   busy = s.busy ∙ ap busy_in raised;
   holder = not_holder l.mutex i (seat_of l i).phase Blocked (λ h. grind arith) (λ h. grind arith) s.holder;
-  flag = s.flag; nobody = s.nobody; own = λ h. grind arith; held = λ _ h. grind arith }
+  flag = s.flag;
+  nobody = s.nobody;
+  own = λ h. grind arith;
+  held = λ _ h. grind arith;
+}
 looked l i k present raised false clear = let s : SeatIsSound l.mutex i (seat_of l i) = seat_sound l i k in record {
   busy = s.busy ∙ ap busy_in raised;
   holder = not_holder l.mutex i (seat_of l i).phase Shared (λ h. grind arith) (λ h. grind arith) s.holder;
-  flag = s.flag; nobody = s.nobody; own = λ h. grind arith;
-  held = λ h _. let e : forbidden_at (seat_of l i).standing ≡ true = ap forbidden_at h in let b = s.flag in grind arith }
+  flag = s.flag;
+  nobody = s.nobody;
+  own = λ h. grind arith;
+  held = λ h _. let e : forbidden_at (seat_of l i).standing ≡ true = ap forbidden_at h in let b = s.flag in grind arith;
+}
 
 peeked : (l : Lock) (i j : ℕ) → IsSound l → (seat_of l i).phase ≡ Holder → j ≢ i → (seat_of l j).standing ≡ Asked → (b : Bool) → (seat_of l j).busy ≡ b
     → SeatIsSound l.mutex j (record (seat_of l j) { standing = cond b Seen Held })
 peeked l i j k holder other asked true busy = let s : SeatIsSound l.mutex j (seat_of l j) = seat_sound l j k in record {
-  busy = s.busy; holder = s.holder; flag = s.flag ∙ ap forbidden_at asked;
-  nobody = λ h. let e = s.nobody h in grind arith; own = λ h. let e = s.own h in grind arith; held = λ h _. grind arith }
+  busy = s.busy;
+  holder = s.holder;
+  flag = s.flag ∙ ap forbidden_at asked;
+  nobody = λ h. let e = s.nobody h in grind arith;
+  own = λ h. let e = s.own h in grind arith;
+  held = λ h _. grind arith;
+}
 peeked l i j k holder other asked false busy = let s : SeatIsSound l.mutex j (seat_of l j) = seat_sound l j k in record {
-  busy = s.busy; holder = s.holder; flag = s.flag ∙ ap forbidden_at asked;
-  nobody = λ h. let e = s.nobody h in grind arith; own = λ h. let e = s.own h in grind arith;
-  held = λ _ h. let e : busy_in (seat_of l j).phase ≡ true = ap busy_in h in let b = s.busy in grind arith }
+  busy = s.busy;
+  holder = s.holder;
+  flag = s.flag ∙ ap forbidden_at asked;
+  nobody = λ h. let e = s.nobody h in grind arith;
+  own = λ h. let e = s.own h in grind arith;
+  held = λ _ h. let e : busy_in (seat_of l j).phase ≡ true = ap busy_in h in let b = s.busy in grind arith;
+}
 
 took : (l : Lock) (i : ℕ) → IsSound l → i < length l.seats → (seat_of l i).phase ≡ Out → (m : Option ℕ) → l.mutex ≡ m → IsSound (taken l i m)
 took l i k present out None free = let s : SeatIsSound l.mutex i (seat_of l i) = seat_sound l i k in
@@ -49,7 +65,11 @@ took l i k present out None free = let s : SeatIsSound l.mutex i (seat_of l i) =
     (λ j ne. let t : SeatIsSound l.mutex j (seat_of l j) = seat_sound l j k in record {
       busy = t.busy;
       holder = ((λ h. let e = t.holder.0 h in absurd (grind arith)), λ h. absurd (ne (grind arith)));
-      flag = t.flag; nobody = λ h. grind arith; own = t.own; held = t.held })
+      flag = t.flag;
+      nobody = λ h. grind arith;
+      own = t.own;
+      held = t.held;
+    })
 took l i k present out (Some h) taken_by = k
 
 pub kept : (l : Lock) (i : ℕ) (x : LockStep) → IsSound l → InPlace l i x → IsSound (after l i x)
@@ -82,7 +102,9 @@ kept l i Give k ok = let s : SeatIsSound l.mutex i (seat_of l i) = seat_sound l 
       holder = ((λ h. let e = t.holder.0 h in let mine = (k.holder i).0 p.0 in absurd (ne (grind arith))), λ h. grind arith);
       flag = t.flag;
       nobody = λ _. ⊎_elim (λ b. p.1 j b ne) (λ b. ap (λ (z : SeatState). z.standing) (past l.seats j b)) (cases_lt j (length l.seats));
-      own = t.own; held = t.held })
+      own = t.own;
+      held = t.held;
+    })
 
 pub sound_at_start : (n : ℕ) → IsSound (at_start n)
 sound_at_start n = all_sound (at_start n) (λ j. subst (SeatIsSound None j) (sym (all_idle n j))

@@ -51,5 +51,5 @@ ComesTo n l number [] r = r ≡ Ok l
 ComesTo n l number (line ∷ rest) r =
     (IsBadLine n line × (r ≡ Err record { kind = 15; line = number }))
     ⊎ ((seat : ℕ) × (x : LockStep) × IsLine n line seat x
-        × (((InPlace l seat x → ⊥) × (r ≡ Err record { kind = 16; line = number }))
-            ⊎ (InPlace l seat x × ComesTo n (after l seat x) (number + 1) rest r)))
+    × (((InPlace l seat x → ⊥) × (r ≡ Err record { kind = 16; line = number }))
+    ⊎ (InPlace l seat x × ComesTo n (after l seat x) (number + 1) rest r)))

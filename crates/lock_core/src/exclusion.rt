@@ -10,5 +10,4 @@ pub fn exclusion_holds()
     ensures kept { (l : Lock) (i : ℕ) (x : LockStep) → IsSound l → InPlace l i x → IsSound (after l i x) }
     ensures facts { (n : ℕ) (xs : List (ℕ × LockStep)) (l : Lock) → Leads (at_start n) xs l → IsSound l }
     ensures alone { (n : ℕ) (xs : List (ℕ × LockStep)) (l : Lock) → Leads (at_start n) xs l → Exclusion l }
-{
-}
+{}

@@ -7,6 +7,8 @@ mod machine;
 mod parts;
 mod reading;
 mod state;
+#[cfg(test)]
+mod tests;
 mod writing;
 
 pub use exclusion::exclusion_holds;
@@ -14,5 +16,5 @@ pub use faults::Memory;
 pub use machine::step;
 pub use parts::{LockStep, Phase, SeatState, Standing};
 pub use reading::{LineFault, schedule};
-pub use state::{LockState, MAX_SEATS};
+pub use state::LockState;
 pub use writing::write_state;

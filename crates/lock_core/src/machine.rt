@@ -1,5 +1,6 @@
 // The machine that runs: what each step does, by the table of the lock.
-ghost use Rattle.std.specs.Prelude.{◌≡◌, ◌≢◌, ℕ, ◌<◌, ◌≤◌, length, MatchBool};
+ghost use Rattle.std.specs.Prelude.{◌≡◌, ◌≢◌, ℕ, ◌<◌, ◌≤◌, length, ◌↔◌, IsTrue, MatchBool};
+ghost use Rattle.lock_core.specs.declared.parts.Phase.TheVariants.{Holder};
 ghost use Rattle.lock_core.specs.declared.parts.Standing.TheVariants.{Free};
 ghost use Rattle.lock_core.specs.declared.parts.LockStep.TheVariants.{Raise, Look, Lower, Take, Ask, Peek, Unask, Give};
 ghost use Rattle.lock_core.specs.Lock.{seat_of, Answers};
@@ -92,11 +93,19 @@ fn take(state: &LockState, i: u32) -> Option<LockState>
     Some(state.changed(Some(i), i, holder))
 }
 
+// Whether seat i is the holder, and j is another seat.
+fn names_other(state: &LockState, i: u32, j: u32) -> bool
+    requires { i < length state.now.seats }
+    ensures { IsTrue result ↔ ((seat_of state.now i).phase ≡ Holder) × (j < length state.now.seats) × (j ≢ i) }
+{
+    state.seat(i).phase == Phase::Holder && j < state.count() && j != i
+}
+
 fn ask(state: &LockState, i: u32, j: u32) -> Option<LockState>
     requires { i < length state.now.seats }
     ensures { Answers state.now i (Ask j) result }
 {
-    if state.seat(i).phase != Phase::Holder || j >= state.count() || j == i {
+    if !names_other(state, i, j) {
         return None;
     }
     let other = state.seat(j);
@@ -115,7 +124,7 @@ fn peek(state: &LockState, i: u32, j: u32) -> Option<LockState>
     requires { i < length state.now.seats }
     ensures { Answers state.now i (Peek j) result }
 {
-    if state.seat(i).phase != Phase::Holder || j >= state.count() || j == i {
+    if !names_other(state, i, j) {
         return None;
     }
     let other = state.seat(j);
@@ -134,7 +143,7 @@ fn unask(state: &LockState, i: u32, j: u32) -> Option<LockState>
     requires { i < length state.now.seats }
     ensures { Answers state.now i (Unask j) result }
 {
-    if state.seat(i).phase != Phase::Holder || j >= state.count() || j == i {
+    if !names_other(state, i, j) {
         return None;
     }
     let other = state.seat(j);

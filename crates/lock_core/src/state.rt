@@ -5,9 +5,6 @@ ghost use Rattle.lock_core.specs.Lock.{at_start, seat_of, with_seat};
 use crate::parts::{Phase, SeatState, Standing};
 use std::marker::Model;
 
-/// The greatest number of seats.
-pub const MAX_SEATS: u32 = 16;
-
 /// A lock of 1 to 16 seats. Contracts see it as plain data: who has the mutex, and the seats in order.
 #[derive(Drop)]
 pub struct LockState {

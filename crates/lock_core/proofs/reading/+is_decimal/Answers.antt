@@ -18,6 +18,6 @@ returns-then-n-lt10 t c = one_digit c.args.n _ _ _ _ c.if-n-lt10.true c.in-Some.
 pub returns-else-n-lt10 : goal.returns-else-n-lt10
 returns-else-n-lt10 t c = let text = c.in-Some.ensures.cases.0 in let fits : c.args.n < 2 ^ 64 = omega (arith, c.ranges.n) in
     let step = decimal_step c.args.n c.if-n-lt10.false fits in (
-  λ h. text ∙ (ap (λ (z : List ℕ). z ++ c.in-Some.last.now ∷ []) (c.is_decimal.ensures.0 h) ∙ (ap (λ (d : ℕ). decimal (c.args.n / 10) ++ d ∷ []) c.if-last-n.false ∙ sym step)),
-  λ e. c.is_decimal.ensures.1 (number_ends c.args.n _ _ c.if-n-lt10.false fits (sym text ∙ e)).0,
-)
+      λ h. text ∙ (ap (λ (z : List ℕ). z ++ c.in-Some.last.now ∷ []) (c.is_decimal.ensures.0 h) ∙ (ap (λ (d : ℕ). decimal (c.args.n / 10) ++ d ∷ []) c.if-last-n.false ∙ sym step)),
+      λ e. c.is_decimal.ensures.1 (number_ends c.args.n _ _ c.if-n-lt10.false fits (sym text ∙ e)).0,
+    )

@@ -10,7 +10,7 @@ returns t c =
     let last : List ℕ = (48 + n % 10) ∷ [] in
     let old : List ℕ = c.args.out.now.items in
     elim c.if-n-ge10.branch [
-      then-n-ge10+in_ok-push_decimal w ↦
+      | then-n-ge10+in_ok-push_decimal w ↦
           c.in_ok-push.ensures.items
           ∙ (ap (λ (v : _). v.items ++ last) w.out-is
           ∙ (ap (λ (z : List ℕ). z ++ last) w.in_ok-push_decimal.ensures
