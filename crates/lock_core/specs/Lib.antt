@@ -1,0 +1,5 @@
+pub mod Lock
+pub mod Exclusion
+pub mod Schedule
+pub mod StateText
+pub mod Lines
