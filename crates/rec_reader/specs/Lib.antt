@@ -1,0 +1,4 @@
+pub mod Text
+pub mod FirstForm
+pub mod FirstRead
+pub mod FirstReading
