@@ -1,8 +1,8 @@
 // A sink in memory, which fails at chosen calls.
-ghost use Rattle.std.specs.Prelude.{◌≡◌, ◌≤◌, ◌<◌, ◌↔◌, ◌⊎◌, [], Option, Some, Result, IfOk, IsErr, Contains, length};
+ghost use Rattle.std.specs.Prelude.{◌≡◌, ◌≤◌, ◌<◌, ◌↔◌, ◌⊎◌, Option, Some, Result, IfOk, IsErr, Contains, length};
 ghost use Rattle.std.specs.Io.KnownBytes.{WriteAppends};
-ghost use Rattle.faults.specs.Count.{HasCause, counted};
-ghost use Rattle.ends.specs.InMemory.{fitting, sink_after};
+ghost use Rattle.faults.specs.Count.{HasCause, next_count};
+ghost use Rattle.ends.specs.InMemory.{write_count, sink_of, sink_after};
 
 use crate::{Failed, Memory, Sink};
 use std::alloc::Global;
@@ -26,17 +26,24 @@ impl Model for MemSink {
 
     ghost Value = { SinkState };
 
-    ghost view = { λ s. record { taken = s.bytes.items; space = s.space; most = s.most; failing = s.failing.items; calls = s.calls; faults = s.faults } };
+    ghost view = { λ s. record {
+      taken = s.bytes.items;
+      space = s.space;
+      most = s.most;
+      failing = s.failing.items;
+      calls = s.calls;
+      faults = s.faults;
+    } };
 
     ghost invariant = { λ s. (vec_len s.bytes + s.space ≤ vec_capacity s.bytes) × (0 < s.most) };
 }
 
 impl MemSink {
     /// A sink with this space, whose memory is taken here. It takes at most `most` (1 or more) bytes
-    /// at a write, and fails at the calls with the numbers in `failing`, counted from 1.
+    /// at a write, and fails at the calls with the numbers in `failing`, next_count from 1.
     pub fn new(alloc: Global, space: usize, most: usize, failing: &[u64]) -> Result<Self, Memory>
         requires { 0 < most }
-        ensures { IfOk result (λ s. s ≡ record { taken = []; space = space; most = most; failing = failing.now; calls = 0; faults = 0 }) }
+        ensures { IfOk result (λ s. s ≡ sink_of space most failing.now) }
     {
         let bytes = Vec::with_capacity(alloc, space)?;
         let failing = failing.to_vec(alloc)?;
@@ -70,8 +77,8 @@ impl Sink for MemSink {
         ensures bytes { WriteAppends (Some self.old.taken) (Some self.new.taken) result piece.now }
         ensures cause { HasCause self.old.faults self.new.faults result }
         ensures fails { IsErr result
-            ↔ (Contains self.old.failing (counted self.old.calls) ⊎ (self.old.space ≡ 0)) }
-        ensures count { IfOk result (λ n. n ≡ fitting self.old (length piece.now)) }
+            ↔ (Contains self.old.failing (next_count self.old.calls) ⊎ (self.old.space ≡ 0)) }
+        ensures count { IfOk result (λ n. n ≡ write_count self.old (length piece.now)) }
         ensures after { self.new ≡ sink_after self.old piece.now result }
     {
         self.calls = self.calls.saturating_add(1);

@@ -2,8 +2,8 @@
 ghost use Rattle.std.specs.Prelude.{◌≡◌, ◌<◌, ◌↔◌, Option, Some, Result, IfOk, IsErr, Contains, length};
 ghost use Rattle.std.specs.Io.{ReadsAtMost};
 ghost use Rattle.std.specs.Io.KnownBytes.{ReadConsumes};
-ghost use Rattle.faults.specs.Count.{HasCause, counted};
-ghost use Rattle.ends.specs.InMemory.{due, source_after};
+ghost use Rattle.faults.specs.Count.{HasCause, next_count};
+ghost use Rattle.ends.specs.InMemory.{read_count, source_of, source_after};
 
 use crate::{Failed, Memory, Source};
 use std::alloc::Global;
@@ -26,17 +26,23 @@ impl Model for MemSource {
 
     ghost Value = { SourceState };
 
-    ghost view = { λ s. record { left = drop s.at s.bytes.items; most = s.most; failing = s.failing.items; calls = s.calls; faults = s.faults } };
+    ghost view = { λ s. record {
+      left = drop s.at s.bytes.items;
+      most = s.most;
+      failing = s.failing.items;
+      calls = s.calls;
+      faults = s.faults;
+    } };
 
     ghost invariant = { λ s. (s.at ≤ length s.bytes.items) × (0 < s.most) };
 }
 
 impl MemSource {
     /// A source that gives these bytes, at most `most` (1 or more) at a read, and fails at the calls
-    /// with the numbers in `failing`, counted from 1.
+    /// with the numbers in `failing`, next_count from 1.
     pub fn new(alloc: Global, bytes: &[u8], most: usize, failing: &[u64]) -> Result<Self, Memory>
         requires { 0 < most }
-        ensures { IfOk result (λ s. s ≡ record { left = bytes.now; most = most; failing = failing.now; calls = 0; faults = 0 }) }
+        ensures { IfOk result (λ s. s ≡ source_of bytes.now most failing.now) }
     {
         let bytes = bytes.to_vec(alloc)?;
         let failing = failing.to_vec(alloc)?;
@@ -62,8 +68,8 @@ impl Source for MemSource {
         ensures bound { ReadsAtMost result buf.new }
         ensures bytes { ReadConsumes (Some self.old.left) (Some self.new.left) result buf.new }
         ensures cause { HasCause self.old.faults self.new.faults result }
-        ensures fails { IsErr result ↔ Contains self.old.failing (counted self.old.calls) }
-        ensures count { IfOk result (λ n. n ≡ due self.old (length buf.old)) }
+        ensures fails { IsErr result ↔ Contains self.old.failing (next_count self.old.calls) }
+        ensures count { IfOk result (λ n. n ≡ read_count self.old (length buf.old)) }
         ensures after { self.new ≡ source_after self.old result }
     {
         self.calls = self.calls.saturating_add(1);

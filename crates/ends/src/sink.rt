@@ -30,7 +30,7 @@ pub struct WriteFault;
 pub fn write_all<O: Sink>(sink: &mut O, bytes: &[u8]) -> Result<(), WriteFault>
     ensures whole { OnOk result (Appends (O.taken sink.old) (O.taken sink.new) bytes.now) }
     ensures front { OnErr result (TookFront (O.taken sink.old) (O.taken sink.new) bytes.now) }
-    ensures write_fault_only_where_count_rose { HasCause (O.faults sink.old) (O.faults sink.new) result }
+    ensures fault_only_where_count_rose { HasCause (O.faults sink.old) (O.faults sink.new) result }
 {
     let mut at = 0;
     while at < bytes.len() {

@@ -70,6 +70,8 @@ pub fn read_all<S: Source>(
     // It is too long exactly where, without a fault before, more than the limit was given.
     ensures too_long_only_past_limit { IsErrOf result ReadAllFault.TooLong
         → GaveMoreThan (S.left source.old) (S.left source.new) limit }
+    ensures no_fault_before { IsErrOf result ReadAllFault.ReadFault
+        ⊎ (S.faults source.new ≡ S.faults source.old) }
     ensures past_limit_is_too_long { HasMoreThan (S.left source.old) limit
         → (Rose (S.faults source.old) (S.faults source.new) → ⊥)
         → IsErrOf result ReadAllFault.TooLong ⊎ IsErrOf result ReadAllFault.Memory }

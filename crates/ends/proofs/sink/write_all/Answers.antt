@@ -1,4 +1,4 @@
-use Rattle.std.proofs.Common.{subst, arith}
+use Rattle.std.proofs.Common.{◌∙◌, subst, arith}
 use Rattle.std.proofs.lemmas.Grind.{common_steps}
 use Rattle.std.proofs.KnownBytes.{Appends-trans}
 use Rattle.std.specs.Io.KnownBytes.{Appends}
@@ -11,6 +11,6 @@ loop-at-preserved g c =
     let joined = Appends-trans _ _ _ _ _ c.loop-at.invariant.written c.in-Ok.ensures.bytes in
     record {
       written = subst (λ bs. Appends (g.O.Sink.taken c.args.sink.now) (g.O.Sink.taken c.write.new.self) bs) step joined;
-      later = omega (arith, c.in-Ok.ensures.cause.later);
+      answered = c.in-Ok.ensures.cause.answered ∙ c.loop-at.invariant.answered;
       within = grind (arith, common_steps);
     }

@@ -1,0 +1,69 @@
+//! The program `rec`: standard input, output and error under the top call.
+#![tactic(auto)]
+
+mod streams;
+
+ghost use Rattle.std.specs.Prelude.{◌≡◌, ◌≢◌, [], IfOk, IfErr, IsErr, IsOkAnd};
+ghost use Rattle.std.specs.IoError.{error_kind};
+ghost use Rattle.std.specs.Process.{exit_status};
+ghost use Rattle.std.specs.Vec.Iter.{into_iter_items};
+
+use ends::{Memory, OpenGate};
+use rec_top::{Outcome, out_of_memory, run};
+use std::alloc::Global;
+use std::env::Args;
+use std::io::ErrorKind;
+use std::process::ExitCode;
+use std::{env, io};
+use streams::{Reading, Writing};
+
+// The words of the command line. Where one is no text there are none, which the top call refuses as
+// it refuses all wrong words.
+fn words_of(alloc: Global, args: io::Result<Args>) -> Result<Vec<String>, Memory>
+    ensures all { IfOk args (λ given. IfOk result (λ words. words.items ≡ into_iter_items given)) }
+    ensures no_text { IfErr args (λ fault.
+        error_kind fault ≢ ErrorKind.OutOfMemory → IsOkAnd result (λ words. words.items ≡ [])) }
+    ensures no_memory { IfErr args (λ fault. error_kind fault ≡ ErrorKind.OutOfMemory → IsErr result) }
+{
+    match args {
+        Ok(args) => all_words(alloc, args),
+        Err(fault) if fault.kind() == ErrorKind::OutOfMemory => Err(Memory),
+        Err(_) => Ok(Vec::new(alloc)),
+    }
+}
+
+fn all_words(alloc: Global, args: Args) -> Result<Vec<String>, Memory>
+    ensures { IfOk result (λ words. words.items ≡ into_iter_items args) }
+{
+    let mut words = Vec::new(alloc);
+    for word in args {
+        words.push(word)?;
+    }
+    Ok(words)
+}
+
+// The exit code of a run.
+fn code_of(outcome: Outcome) -> ExitCode
+    ensures { exit_status result ≡ outcome.status }
+{
+    ExitCode::from(outcome.status)
+}
+
+fn main(rt: HostRuntime) -> ExitCode {
+    let alloc = rt.alloc();
+    let mut source = Reading::new(rt.stdin());
+    let mut out = Writing::new(rt.stdout());
+    let mut err = Writing::new(rt.stderr());
+    code_of(match words_of(alloc, env::args(&rt)) {
+        Ok(words) => run(
+            &rt,
+            alloc,
+            &words,
+            &mut source,
+            &mut out,
+            &mut err,
+            &OpenGate,
+        ),
+        Err(Memory) => out_of_memory(alloc, &mut err),
+    })
+}

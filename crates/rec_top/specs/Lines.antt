@@ -1,0 +1,47 @@
+-- The lines that the program writes to standard error, and how much of a line a sink takes.
+use Rattle.std.specs.Prelude.{◌⊎◌, ℕ, List, [], ◌∷◌, ◌++◌, Option, codes, ◌==◌, if◌then◌else◌}
+use Rattle.std.specs.Fmt.{decimal}
+use Rattle.std.specs.Io.KnownBytes.{Appends}
+use Rattle.faults.specs.Count.{Rose}
+use Rattle.ends.specs.Bytes.{TookFront}
+use Rattle.rec_top.specs.declared.stops.Fault.{Fault}
+use Rattle.rec_top.specs.declared.stops.Stop.{Stop}
+use Rattle.rec_top.specs.declared.stops.Stop.TheVariants.{Usage, Refused, ReadFault, WriteFault, Memory}
+
+-- a text, and the end of its line
+abbrev pub line : List ℕ → List ℕ
+line text = text ++ codes "\n"
+
+-- fault K at O
+abbrev pub fault_line : Fault → List ℕ
+fault_line fault = line (codes "fault " ++ decimal fault.kind ++ codes " at " ++ decimal fault.offset)
+
+abbrev pub stop_line : Stop → List ℕ
+stop_line Usage = line (codes "usage: rec COMMAND [OPTIONS]")
+stop_line (Refused fault) = fault_line fault
+stop_line ReadFault = line (codes "read fault")
+stop_line WriteFault = line (codes "write fault")
+stop_line Memory = line (codes "out of memory")
+
+-- the exit status
+abbrev pub stop_status : Stop → ℕ
+stop_status Usage = 2
+stop_status (Refused fault) = 3
+stop_status ReadFault = 5
+stop_status WriteFault = 6
+stop_status Memory = 7
+
+-- the line of each status but 3, whose line names its fault
+abbrev pub status_line : ℕ → List ℕ
+status_line status =
+    if status == 2 then stop_line Usage
+    else if status == 5 then stop_line ReadFault
+    else if status == 6 then stop_line WriteFault
+    else if status == 7 then stop_line Memory
+    else []
+
+-- A front of the line was taken, and all of it where the sink's count of faults didn't rise. What a
+-- sink took and its count are read of it by two functions.
+pub record TookLine {E : Type 0} (taken : E → Option (List ℕ)) (faults : E → ℕ) (old new : E) (whole_line : List ℕ) : Type 0 where
+  pub front : TookFront (taken old) (taken new) whole_line
+  pub whole : Rose (faults old) (faults new) ⊎ Appends (taken old) (taken new) whole_line

@@ -1,0 +1,62 @@
+// What a run answers.
+ghost use Rattle.std.specs.Prelude.{◌≡◌, [], ◌∷◌, IfOk};
+
+use std::alloc::{AllocError, Global};
+use std::marker::Model;
+
+/// The creations and collections of a run in one history. It has no entries yet, since no command
+/// uses a shared store.
+#[derive(Clone, Copy, Debug, PartialEq, Eq)]
+pub struct Chronicle;
+
+/// The worker of each term, from 0, in the order of the terms.
+#[derive(Drop)]
+pub struct Workers {
+    numbers: Vec<u32>,
+}
+
+impl Model for Workers {
+    ghost use Rattle.std.specs.Prelude.{ℕ, List};
+
+    ghost Value = { List ℕ };
+
+    ghost view = { λ w. w.numbers.items };
+}
+
+impl Workers {
+    /// No term was rewritten.
+    pub fn none(alloc: Global) -> Self
+        ensures { result ≡ [] }
+    {
+        Workers {
+            numbers: Vec::new(alloc),
+        }
+    }
+
+    /// One term was rewritten, by the first worker.
+    pub fn first_alone(alloc: Global) -> Result<Self, AllocError>
+        ensures { IfOk result (λ w. w ≡ 0 ∷ []) }
+    {
+        Ok(Workers {
+            numbers: vec![in alloc; 0]?,
+        })
+    }
+
+    /// The workers in the order of the terms.
+    pub fn as_slice(&self) -> &[u32]
+        ensures { result.now ≡ self.now }
+    {
+        &self.numbers
+    }
+}
+
+/// How a run ended.
+#[derive(Drop)]
+pub struct Outcome {
+    /// The exit status.
+    pub status: u8,
+    /// The history of the store that the workers share.
+    pub chronicle: Chronicle,
+    /// The worker of each term that was rewritten, where the output was made; else none.
+    pub workers: Workers,
+}

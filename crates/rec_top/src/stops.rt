@@ -1,0 +1,100 @@
+// Why a run stops without its output, and the line that `err` gets then.
+ghost use Rattle.std.specs.Prelude.{◌≡◌, ◌≤◌, []};
+ghost use Rattle.rec_top.specs.Lines.{fault_line, stop_line, stop_status, status_line, TookLine};
+
+use crate::results::{Chronicle, Outcome, Workers};
+use arrayvec::ArrayString;
+use ends::{Sink, write_all};
+use itoa::Buffer;
+use std::alloc::Global;
+
+// `fault `, a kind of 3 digits, ` at `, an offset of 20, and the end of the line fit.
+const LONGEST_LINE: usize = 34;
+
+/// What is wrong with an input: the kind of the fault, and the byte or line where it is.
+#[derive(Clone, Copy, Debug, PartialEq, Eq)]
+pub struct Fault {
+    pub kind: u8,
+    pub offset: u64,
+}
+
+/// Why a run stops.
+#[derive(Clone, Copy, Debug, PartialEq, Eq)]
+pub enum Stop {
+    /// The words are refused.
+    Usage,
+    /// The input is refused.
+    Refused(Fault),
+    /// A read failed.
+    ReadFault,
+    /// A write failed.
+    WriteFault,
+    /// There is no memory.
+    Memory,
+}
+
+// The line of the fault. It takes no memory.
+fn fault_line(fault: Fault) -> ArrayString<LONGEST_LINE>
+    ensures { result.bytes ≡ fault_line fault }
+{
+    let mut line = ArrayString::new();
+    line.push_str("fault ");
+    line.push_str(Buffer::new().format(fault.kind));
+    line.push_str(" at ");
+    line.push_str(Buffer::new().format(fault.offset));
+    line.push_str("\n");
+    line
+}
+
+// Writes a line to `err`. A fault of `err` changes nothing else.
+fn write_line<E: Sink>(err: &mut E, text: &[u8])
+    ensures line { TookLine E.taken E.faults err.old err.new text.now }
+    ensures later { E.faults err.old ≤ E.faults err.new }
+{
+    let _ = write_all(err, text);
+}
+
+fn write_stop_line<E: Sink>(err: &mut E, stop: Stop)
+    ensures line { TookLine E.taken E.faults err.old err.new (stop_line stop) }
+    ensures later { E.faults err.old ≤ E.faults err.new }
+{
+    match stop {
+        Stop::Usage => write_line(err, b"usage: rec COMMAND [OPTIONS]\n"),
+        Stop::Refused(fault) => write_line(err, fault_line(fault).as_str().as_bytes()),
+        Stop::ReadFault => write_line(err, b"read fault\n"),
+        Stop::WriteFault => write_line(err, b"write fault\n"),
+        Stop::Memory => write_line(err, b"out of memory\n"),
+    }
+}
+
+/// Ends a run that stops here: with its status, and its line to `err`.
+pub fn stopped<E: Sink>(err: &mut E, stop: Stop, workers: Workers) -> Outcome
+    ensures status { result.status ≡ stop_status stop }
+    ensures line { TookLine E.taken E.faults err.old err.new (stop_line stop) }
+    ensures later { E.faults err.old ≤ E.faults err.new }
+    ensures workers { result.workers ≡ workers }
+{
+    write_stop_line(err, stop);
+    let status = match stop {
+        Stop::Usage => 2,
+        Stop::Refused(_) => 3,
+        Stop::ReadFault => 5,
+        Stop::WriteFault => 6,
+        Stop::Memory => 7,
+    };
+    Outcome {
+        status,
+        chronicle: Chronicle,
+        workers,
+    }
+}
+
+/// Ends a run for which there is no memory before it begins.
+pub fn out_of_memory<E: Sink>(alloc: Global, err: &mut E) -> Outcome
+    ensures status { result.status ≡ 7 }
+    ensures line { TookLine E.taken E.faults err.old err.new (status_line 7) }
+    ensures later { E.faults err.old ≤ E.faults err.new }
+    ensures workers { result.workers ≡ [] }
+{
+    stopped(err, Stop::Memory, Workers::none(alloc))
+}
