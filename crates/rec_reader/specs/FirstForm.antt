@@ -19,7 +19,9 @@ is_letter b = (nat_le 65 b && nat_le b 90) || (nat_le 97 b && nat_le b 122)
 
 -- the words that are no names
 unfoldable pub reserved : List (List ℕ)
-reserved = codes "REC-SPEC" ∷ codes "SORTS" ∷ codes "CONS" ∷ codes "OPNS" ∷ codes "VARS" ∷ codes "RULES" ∷ codes "EVAL" ∷ codes "END-SPEC" ∷ codes "if" ∷ codes "and-if" ∷ []
+reserved =
+    codes "REC-SPEC" ∷ codes "SORTS" ∷ codes "CONS" ∷ codes "OPNS" ∷ codes "VARS" ∷ codes "RULES"
+    ∷ codes "EVAL" ∷ codes "END-SPEC" ∷ codes "if" ∷ codes "and-if" ∷ []
 
 -- a name: 1 to 255 letters, and no reserved word
 abbrev pub is_name : List ℕ → Bool

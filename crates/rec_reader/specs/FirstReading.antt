@@ -1,4 +1,5 @@
--- Reading the first form on lists, part by part: a value and the bytes after it.
+-- Reading the first form part by part, from left to right: a value and the bytes after it. The readers
+-- within the crate say that they give these; the first form itself is defined without them.
 use Rattle.std.specs.Prelude.{◌≡◌, ℕ, zero, suc, ◌-◌, List, [], ◌∷◌, ◌++◌, reverse, length, map, drop, slice_get, position, Option, Some, None, Result, Ok, Err, Bool, true, false, ◌==◌, if◌then◌else◌, codes}
 use Rattle.std.specs.List.{list_any, take_while, prefix_len}
 use Rattle.std.specs.Str.{bytes_eq}
@@ -42,9 +43,11 @@ word_at bytes = (take_while is_letter bytes, drop (prefix_len is_letter bytes) b
 abbrev pub only_name : List ℕ × List ℕ → Option (List ℕ × List ℕ)
 only_name word = if is_name word.0 then Some word else None
 
+-- a name
 unfoldable pub name_at : List ℕ → Option (List ℕ × List ℕ)
 name_at bytes = only_name (word_at bytes)
 
+-- the name of the sort, behind that of the specification
 unfoldable pub sort_at : List ℕ → Option (List ℕ × List ℕ)
 sort_at bytes = do
   start ← after (codes "REC-SPEC ") bytes
@@ -60,9 +63,11 @@ or_else (Some x) other = Some x
 abbrev pub with_argument : Bool → Option (List ℕ) → Option (Bool × List ℕ)
 with_argument has_argument rest = rest >>= λ r. Some (has_argument, r)
 
+-- whether there is an argument, up to the sort behind the arrow
 unfoldable pub argument_at : List ℕ → List ℕ → Option (Bool × List ℕ)
 argument_at sort bytes = or_else (with_argument false (after (codes "-> ") bytes)) (with_argument true (after sort bytes >>= after (codes " -> ")))
 
+-- a declaration
 unfoldable pub declaration_at : List ℕ → List ℕ → Option (Declared × List ℕ)
 declaration_at sort bytes = do
   start ← after (codes " ") bytes
@@ -76,6 +81,11 @@ declaration_at sort bytes = do
 abbrev pub added : List Declared → Declared → Option (List Declared)
 added declared d = if list_any (bytes_eq d.name) (names_of declared) then None else Some (declared ++ d ∷ [])
 
+-- the same where the names lie in a map
+abbrev pub added_to : List (Vec ℕ × Bool) → List ℕ → Bool → Option (List Declared)
+added_to entries name has_argument = added (declared_in entries) (as_declared name has_argument)
+
+-- declarations, at most n - 1, up to the word that ends them
 unfoldable pub declarations_at : ℕ → List ℕ → List Declared → List ℕ → Option (List Declared × List ℕ)
 declarations_at zero sort declared bytes = None
 declarations_at (suc n) sort declared bytes = or_else (after (codes " EVAL ") bytes >>= λ rest. Some (declared, rest)) (do
@@ -99,21 +109,24 @@ over inside head =
     if head.1 then (after (codes "(") head.2 >>= λ start. inside start >>= λ others. Some (item head.0 1 ∷ others.0, others.1))
     else Some (item head.0 0 ∷ [], head.2)
 
--- the items of a term, the outermost first
+-- the items of a term of less than n opening parentheses, the outermost first
 unfoldable pub heads_at : ℕ → List Declared → List ℕ → Option (List Item × List ℕ)
 heads_at zero declared bytes = None
 heads_at (suc n) declared bytes = head_at declared bytes >>= over (λ start. heads_at n declared start)
 
+-- so many closing parentheses
 unfoldable pub closed_at : ℕ → List ℕ → Option (List ℕ)
 closed_at zero bytes = Some bytes
 closed_at (suc n) bytes = after (codes ")") bytes >>= closed_at n
 
+-- the items of a term in postorder
 unfoldable pub term_at : List Declared → List ℕ → Option (List Item × List ℕ)
 term_at declared bytes = do
   heads ← heads_at 4096 declared bytes
   rest ← closed_at (length heads.0 - 1) heads.1
   Some (reverse heads.0, rest)
 
+-- the declared names and the items of the term
 unfoldable pub first_at : List ℕ → Option (List Declared × List Item)
 first_at bytes = do
   sort ← sort_at bytes

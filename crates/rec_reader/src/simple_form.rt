@@ -1,4 +1,4 @@
-// The first form of a specification: one sort, constructors of at most one argument, one term.
+//! The first form of a specification: one sort, constructors of at most one argument, one term.
 ghost use Rattle.std.specs.Prelude.{◌≡◌, List, Result, IfOk, IsErrOf};
 ghost use Rattle.term_model.specs.Tree.{Tree};
 ghost use Rattle.rec_reader.specs.FirstForm.{Declared, IsFirst};
@@ -31,6 +31,7 @@ pub struct First {
 /// The names and the term that the bytes spell; NotYet exactly where they aren't of the first form.
 pub fn first_form(alloc: Global, bytes: &[u8]) -> Result<First, FirstFail>
     ensures spelled { IfOk result (λ first. IsFirst bytes.now (declared_of first) first.term) }
+    // The bytes have no other reading.
     ensures only_reading { IfOk result (λ first. (names : List Declared) (term : Tree)
         → IsFirst bytes.now names term → (names ≡ declared_of first) × (term ≡ first.term)) }
     ensures not_yet_only_where_spelled_by_none { IsErrOf result FirstFail.NotYet
@@ -46,7 +47,8 @@ pub fn first_form(alloc: Global, bytes: &[u8]) -> Result<First, FirstFail>
 /// The declared names, and the items of the term in postorder.
 #[tactic(auto, unfolding(crate::specs::FirstReading::first_at))]
 fn parts_of(alloc: Global, bytes: &[u8]) -> Result<(IndexMap<Vec<u8>, bool>, Vec<Item>), FirstFail>
-    ensures { Gives (λ x. (declared_in x.0.entries, x.1.items)) result (first_at bytes.now) }
+    ensures { Gives (λ x. (declared_in x.0.entries, x.1.items)) result
+        (first_at bytes.now) }
 {
     let (sort, rest) = sort_at(bytes).ok_or(FirstFail::NotYet)?;
     let rest = after(rest, b" CONS").ok_or(FirstFail::NotYet)?;

@@ -1,8 +1,8 @@
-// The declared names.
+//! The declared names.
 ghost use Rattle.std.specs.Prelude.{◌≡◌, [], Some, None, OnOk, IsErrOf};
 ghost use Rattle.std.specs.Option.{option_map};
 ghost use Rattle.rec_reader.specs.FirstReading as reading;
-ghost use Rattle.rec_reader.specs.FirstReading.{Gives, declared_in, as_declared, declarations_at, added};
+ghost use Rattle.rec_reader.specs.FirstReading.{Gives, declared_in, as_declared, declarations_at, added_to};
 
 use super::fail::FirstFail;
 use super::words::{after, name_at};
@@ -25,7 +25,8 @@ fn argument_at<'a>(bytes: &'a [u8], sort: &[u8]) -> Option<(bool, &'a [u8])>
 /// The declared name, whether it takes an argument, and the bytes after the declaration.
 #[tactic(auto, unfolding(crate::specs::FirstReading::declaration_at))]
 fn declaration_at<'a>(bytes: &'a [u8], sort: &[u8]) -> Option<(&'a [u8], bool, &'a [u8])>
-    ensures { option_map (λ x. (as_declared x.0.now x.1, x.2.now)) result ≡ reading.declaration_at sort.now bytes.now }
+    ensures { option_map (λ x. (as_declared x.0.now x.1, x.2.now)) result
+        ≡ reading.declaration_at sort.now bytes.now }
 {
     let rest = after(bytes, b" ")?;
     let (name, rest) = name_at(rest)?;
@@ -41,8 +42,10 @@ fn add(
     name: Vec<u8>,
     has_argument: bool,
 ) -> Result<(), FirstFail>
-    ensures ok { OnOk result (added (declared_in names.old.entries) (as_declared name.items has_argument) ≡ Some (declared_in names.new.entries)) }
-    ensures not_yet { IsErrOf result FirstFail.NotYet → added (declared_in names.old.entries) (as_declared name.items has_argument) ≡ None }
+    ensures ok { OnOk result (added_to names.old.entries name.items has_argument
+        ≡ Some (declared_in names.new.entries)) }
+    ensures not_yet { IsErrOf result FirstFail.NotYet
+        → added_to names.old.entries name.items has_argument ≡ None }
 {
     match names.insert(name, has_argument)? {
         None => Ok(()),
@@ -56,7 +59,8 @@ pub(super) fn declarations_of<'a>(
     bytes: &'a [u8],
     sort: &[u8],
 ) -> Result<(IndexMap<Vec<u8>, bool>, &'a [u8]), FirstFail>
-    ensures { Gives (λ x. (declared_in x.0.entries, x.1.now)) result (declarations_at 65536 sort.now [] bytes.now) }
+    ensures { Gives (λ x. (declared_in x.0.entries, x.1.now)) result
+        (declarations_at 65536 sort.now [] bytes.now) }
 {
     let mut names = IndexMap::new(alloc);
     let mut rest = bytes;

@@ -1,3 +1,5 @@
+//! How reading the first form fails.
+
 ghost use Rattle.std.specs.Prelude.{◌≡◌};
 ghost use Rattle.rec_reader.specs.declared.simple_form.fail.FirstFail.TheVariants.{Memory};
 

@@ -1,4 +1,4 @@
-// The heads of the term.
+//! The heads of the term.
 ghost use Rattle.std.specs.Prelude.{◌≡◌, ◌≤◌, [], length};
 ghost use Rattle.std.specs.Option.{option_map, option_copied};
 ghost use Rattle.rec_reader.specs.FirstReading as reading;
@@ -14,7 +14,8 @@ use term_model::{Item, Symbol};
 #[tactic(auto, unfolding(crate::specs::FirstReading::head_at))]
 fn head_at<'a>(names: &IndexMap<Vec<u8>, bool>, bytes: &'a [u8]) -> Option<(Symbol, bool, &'a [u8])>
     requires { length names.now.entries ≤ 65535 }
-    ensures { option_map (λ x. (x.0.0, x.1, x.2.now)) result ≡ reading.head_at (declared_in names.now.entries) bytes.now }
+    ensures { option_map (λ x. (x.0.0, x.1, x.2.now)) result
+        ≡ reading.head_at (declared_in names.now.entries) bytes.now }
 {
     let (word, rest) = word_at(bytes);
     let (index, _, has_argument) = names.get_full(word)?;
@@ -29,7 +30,8 @@ fn heads_of<'a>(
     bytes: &'a [u8],
 ) -> Result<(Vec<Item>, &'a [u8]), FirstFail>
     requires { length names.now.entries ≤ 65535 }
-    ensures { Gives (λ x. (x.0.items, x.1.now)) result (reading.heads_at 4096 (declared_in names.now.entries) bytes.now) }
+    ensures { Gives (λ x. (x.0.items, x.1.now)) result
+        (reading.heads_at 4096 (declared_in names.now.entries) bytes.now) }
 {
     let mut items = Vec::new(alloc);
     let mut rest = bytes;
@@ -65,7 +67,8 @@ pub(super) fn term_of<'a>(
     bytes: &'a [u8],
 ) -> Result<(Vec<Item>, &'a [u8]), FirstFail>
     requires { length names.now.entries ≤ 65535 }
-    ensures { Gives (λ x. (x.0.items, x.1.now)) result (reading.term_at (declared_in names.now.entries) bytes.now) }
+    ensures { Gives (λ x. (x.0.items, x.1.now)) result
+        (reading.term_at (declared_in names.now.entries) bytes.now) }
 {
     let (mut items, rest) = heads_of(alloc, names, bytes)?;
     let rest = closed_at(rest, items.len().saturating_sub(1)).ok_or(FirstFail::NotYet)?;

@@ -1,4 +1,4 @@
-// Literals and names at the front of the bytes.
+//! Literals and names at the front of the bytes.
 ghost use Rattle.std.specs.Prelude.{◌≡◌, nat_eq, length};
 ghost use Rattle.std.specs.List.{list_all, list_any, prefix_len};
 ghost use Rattle.std.specs.Option.{option_map, option_copied};
