@@ -1,3 +1,6 @@
 pub mod Matches
 pub mod Fuel
 pub mod Closed
+pub mod Steps
+pub mod Reached
+pub mod OutermostReached

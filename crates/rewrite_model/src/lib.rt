@@ -5,7 +5,7 @@ ghost use Rattle.rewrite_model.specs.Rows.{OneAndOne, OneUseIsTooFew, RoomSix, R
 
 mod laws;
 
-pub use laws::{built_laws, fuel_laws, matching_laws};
+pub use laws::{built_laws, fuel_laws, matching_laws, value_laws};
 
 /// Worked rows, which the definitions compute.
 pub fn worked_rows()
