@@ -7,3 +7,4 @@ pub mod Step
 pub mod Outermost
 pub mod Rows
 pub mod Laws
+pub mod Boxed

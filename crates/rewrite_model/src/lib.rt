@@ -3,8 +3,10 @@
 
 ghost use Rattle.rewrite_model.specs.Rows.{OneAndOne, OneUseIsTooFew, RoomSix, RoomFive, OneAndOneBuilds, OneAndOneNeeds, FourTermsBuild, Twice, Guarded, AsksForItself, FirstRule, Products, OutermostEnds, OutermostSums, OutermostBuilds};
 
+mod boxed;
 mod laws;
 
+pub use boxed::{Arguments, Term};
 pub use laws::{built_laws, fuel_laws, matching_laws, value_laws};
 
 /// Worked rows, which the definitions compute.
