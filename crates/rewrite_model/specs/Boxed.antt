@@ -1,6 +1,6 @@
 -- The trees that boxed terms are.
-use Rattle.std.specs.Prelude.{◌≡◌, ℕ, List, map}
-use Rattle.term_model.specs.Tree.{Tree, Leaf, Node, Trees, End, More, list_of}
+use Rattle.std.specs.Prelude.{List, map}
+use Rattle.term_model.specs.Tree.{Tree, Leaf, Node, Trees, End, More}
 use Rattle.rewrite_model.specs.declared.boxed.Term.{Term}
 use Rattle.rewrite_model.specs.declared.boxed.Term.TheVariants.{Var, Over}
 use Rattle.rewrite_model.specs.declared.boxed.Arguments.{Arguments}

@@ -8,3 +8,4 @@ pub mod Outermost
 pub mod Rows
 pub mod Laws
 pub mod Boxed
+pub mod Code

@@ -5,9 +5,11 @@ ghost use Rattle.rewrite_model.specs.Rows.{OneAndOne, OneUseIsTooFew, RoomSix, R
 
 mod boxed;
 mod laws;
+mod rules;
 
 pub use boxed::{Arguments, Term};
 pub use laws::{built_laws, fuel_laws, matching_laws, value_laws};
+pub use rules::{Condition, Rule};
 
 /// Worked rows, which the definitions compute.
 pub fn worked_rows()
