@@ -4,3 +4,4 @@ pub mod Closed
 pub mod Steps
 pub mod Reached
 pub mod OutermostReached
+pub mod Stacks

@@ -5,6 +5,7 @@ ghost use Rattle.rewrite_model.specs.Rows.{OneAndOne, OneUseIsTooFew, RoomSix, R
 
 mod boxed;
 mod laws;
+mod reading;
 mod rules;
 
 pub use boxed::{Arguments, Term};
