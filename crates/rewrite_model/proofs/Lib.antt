@@ -5,3 +5,4 @@ pub mod Steps
 pub mod Reached
 pub mod OutermostReached
 pub mod Stacks
+pub mod Binding

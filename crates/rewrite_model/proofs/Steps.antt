@@ -1,5 +1,5 @@
 -- Steps at a root and in arguments, and normal forms.
-use Rattle.std.proofs.Common.{◌≡◌, ℕ, zero, suc, List, [], ◌∷◌, ◌++◌, Some, None, refl, sym, ◌∙◌, ap, subst, arith}
+use Rattle.std.proofs.Common.{◌≡◌, ℕ, zero, suc, List, [], ◌∷◌, ◌++◌, get_or, Some, None, refl, sym, ◌∙◌, ap, subst, arith}
 use Rattle.std.specs.Prelude.{All, Contains}
 use Rattle.std.proofs.lemmas.List.Elements.{All-contains, Contains-append_right}
 use Rattle.std.proofs.lemmas.Option.{same_Some, option_and_then_some}
@@ -118,9 +118,12 @@ module _ (rules : List Rule) where
   variable_normal nodes x = leaf_normal x (λ k r l. node_no_leaf x _ (nodes k r l))
 
   pub tree_normal : All (λ (r : Rule). IsNode r.left) rules → (x : ℕ) (bound : List Tree) → NormalAll bound → IsNormalForm rules (tree_at x bound)
-  tree_normal nodes x [] n = variable_normal nodes x
-  tree_normal nodes zero (t ∷ ts) n = n.0
-  tree_normal nodes (suc x) (t ∷ ts) n = tree_normal nodes x ts n.1
+  tree_normal nodes x bound n = go x bound n
+    where
+      go : (y : ℕ) (ts : List Tree) → NormalAll ts → IsNormalForm rules (get_or ts y (Leaf x))
+      go y [] k = variable_normal nodes x
+      go zero (t ∷ ts) k = k.0
+      go (suc y) (t ∷ ts) k = go y ts k.1
 
 mutual
   pub no_instance : (t : Tree) → instance t [] ≡ t

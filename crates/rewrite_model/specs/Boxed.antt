@@ -1,5 +1,6 @@
 -- The trees that boxed terms are.
-use Rattle.std.specs.Prelude.{◌≡◌, ℕ, List, Some, map}
+use Rattle.std.specs.Prelude.{◌≡◌, ℕ, List, Option, Some, None, Bool, true, false, Vec, map}
+use Rattle.std.specs.Global.{Global}
 use Rattle.term_model.specs.Tree.{Tree, Leaf, Node, Trees, End, More, list_of}
 use Rattle.term_model.specs.Postorder.{take_trees, push_over, push_item}
 use Rattle.term_model.specs.declared.Head.{Head}
@@ -31,3 +32,13 @@ IsOver h count stack after = (want : List Tree) → push_over h (take_trees coun
 
 abbrev pub IsPushed : Item → Trees → Trees → Type 0
 IsPushed item stack after = (want : List Tree) → push_item item (list_of stack) ≡ Some want → list_of after ≡ want
+
+-- what was found, as trees
+abbrev pub found : Option (Vec Term Global) → Option (List Tree)
+found None = None
+found (Some bound) = Some (trees bound.items)
+
+-- a match went on to these bound trees, or there is none
+abbrev pub IsMatched : Bool → Option (List Tree) → List Tree → Type 0
+IsMatched true matched bound = matched ≡ Some bound
+IsMatched false matched bound = matched ≡ None

@@ -83,7 +83,7 @@ impl Arguments {
     }
 }
 
-fn heads_are_same(head: Head, other: Head) -> bool
+pub(crate) fn heads_are_same(head: Head, other: Head) -> bool
     ensures { result ≡ head_eq head other }
 {
     match (head, other) {

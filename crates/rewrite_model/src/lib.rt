@@ -4,6 +4,7 @@
 ghost use Rattle.rewrite_model.specs.Rows.{OneAndOne, OneUseIsTooFew, RoomSix, RoomFive, OneAndOneBuilds, OneAndOneNeeds, FourTermsBuild, Twice, Guarded, AsksForItself, FirstRule, Products, OutermostEnds, OutermostSums, OutermostBuilds};
 
 mod boxed;
+mod finding;
 mod laws;
 mod reading;
 mod rules;
