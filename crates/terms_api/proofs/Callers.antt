@@ -1,17 +1,15 @@
 -- What callers of a store use most.
-use Rattle.std.proofs.Common.{◌≡◌, ◌≢◌, ℕ, ◌+◌, ◌-◌, ◌<◌, ◌≤◌, Bool, true, false, List, [], ◌∷◌, ◌++◌, Option, Some, None, length, take, drop, map, refl, ap, sym, ◌∙◌, subst, arith, rules}
-use Rattle.std.specs.Prelude.{IsSome, Contains, All, slice_get}
+use Rattle.std.proofs.Common.{◌≡◌, ℕ, ◌-◌, List, [], ◌∷◌, ◌++◌, Option, Some, None, length, take, drop, refl, ap, ◌∙◌, subst, arith}
+use Rattle.std.specs.Prelude.{IsSome, slice_get}
 use Rattle.std.specs.Option.{option_map}
-use Rattle.std.proofs.lemmas.Grind.{common_steps}
 use Rattle.std.proofs.lemmas.List.{map-append, drop-map, take-map, length-map, length-append}
 use Rattle.std.proofs.Math.Seq.{take-append_seam, drop-append_seam, take-length, drop-length}
 use Rattle.std.proofs.lemmas.Option.{slice_get_within, get_or_from_slice_get, slice_get-map}
 use Rattle.std.proofs.lemmas.List.Elements.{All-get_or}
 use Rattle.term_model.specs.declared.Row.{Row}
-use Rattle.term_model.specs.declared.Head.{Head}
-use Rattle.term_model.specs.Tree.{Tree, Leaf, subtrees}
+use Rattle.term_model.specs.Tree.{Tree}
 use Rattle.term_model.specs.Postorder.{tree_or_leaf}
-use Rattle.terms_api.specs.Terms.{Store, HasTree, IsHeld, tree_at, trees, reachable, last, but_last, asked, IsSound, Loses, Built, NotBuilt, pushed, kept}
+use Rattle.terms_api.specs.Terms.{Store, HasTree, IsHeld, tree_at, trees, last, but_last, IsSound, pushed, kept}
 
 -- a row's tree is its only one
 pub tree_at-has : (s : Store) (r : Row) (t : Tree) → HasTree s r t → tree_at s r ≡ t

@@ -1,13 +1,13 @@
 -- A leaf, the same leaf and a node over both are one tree more on the stack.
-use Rattle.std.proofs.Common.{◌≡◌, ℕ, ◌+◌, ◌-◌, ◌<◌, List, [], ◌∷◌, ◌++◌, Option, Some, None, length, take, drop, refl, ap, sym, ◌∙◌, subst, arith, append_assoc, append-nil}
+use Rattle.std.proofs.Common.{◌≡◌, ◌+◌, List, [], ◌∷◌, ◌++◌, Some, length, take, refl, ap, sym, ◌∙◌, append_assoc, append-nil}
 use Rattle.std.specs.Prelude.{slice_get}
 use Rattle.std.proofs.lemmas.List.{length-append, length-map}
 use Rattle.std.proofs.Math.Seq.{take-append_seam}
 use Rattle.term_model.specs.declared.Row.{Row}
 use Rattle.term_model.specs.declared.Symbol.{Symbol}
 use Rattle.term_model.specs.declared.Head.TheVariants.{App}
-use Rattle.term_model.specs.Tree.{Tree, Node, End, More, trees_of}
-use Rattle.terms_api.specs.Terms.{Store, HasTree, IsHeld, tree_at, trees, last, but_last, asked, IsSound, Built, kept}
+use Rattle.term_model.specs.Tree.{Tree, Node, End, trees_of}
+use Rattle.terms_api.specs.Terms.{Store, tree_at, trees, last, but_last, asked, IsSound, Built, kept}
 use Rattle.terms_api.specs.Trials.{pair, Grown}
 use Rattle.terms_api.proofs.Callers.{last-append, but_last-append, last-none, but_last-none, trees-at, trees-kept, held-stack, same_row}
 
@@ -69,7 +69,7 @@ one_row s t u p q r g h sound atq atr =
     let places = two_on s.stack t.stack u.stack g.row h.row g.stack h.stack in
     let one : slice_get (trees u) (length s.stack) ≡ Some p = rw (two, ← length-trees s) (behind (trees s) (p ∷ []) p) in
     let next : slice_get (trees u) (length s.stack + 1) ≡ Some p =
-        rw (two, ← append_assoc (trees s) (p ∷ []) (p ∷ []), ← length-more s p) (behind (trees s ++ p ∷ []) [] p) in
+    rw (two, ← append_assoc (trees s) (p ∷ []) (p ∷ []), ← length-more s p) (behind (trees s ++ p ∷ []) [] p) in
     let treeq : tree_at u q ≡ p = some_same _ _ (sym (trees-at u _ q atq) ∙ one) in
     let treer : tree_at u r ≡ p = some_same _ _ (sym (trees-at u _ r atr) ∙ next) in
     same_row u q r sound (held-stack u _ q sound atq) (held-stack u _ r sound atr) (treeq ∙ sym treer)

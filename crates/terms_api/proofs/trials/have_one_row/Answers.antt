@@ -1,4 +1,4 @@
-use Rattle.std.proofs.Common.{◌≡◌, ◌+◌, ◌<◌, ◌≤◌, ◌^◌, length, arith, refl, ap, sym, ◌∙◌, eq-eqb}
+use Rattle.std.proofs.Common.{◌≡◌, ◌+◌, length, arith, ap, ◌∙◌, eq-eqb}
 use Rattle.std.specs.Prelude.{Some, slice_get}
 use Rattle.terms_api.specs.Terms.{trees}
 use Rattle.terms_api.proofs.Growing.{one_row, taken_off, two_deeper}
@@ -17,7 +17,7 @@ returns-clause-one g c =
     let n = c.depth-before.ensures.depth in
     let row : slice_get (s c.build_pair-2.new.terms).stack (length (s c.args.terms.now).stack) ≡ Some c.at-first.result = rw (← n) c.at-first.ensures.row in
     let next : slice_get (s c.build_pair-2.new.terms).stack (length (s c.args.terms.now).stack + 1) ≡ Some c.at-second.result =
-        rw (← n, ← c.at-first.ensures.unchanged) c.at-second.ensures.row in
+    rw (← n, ← c.at-first.ensures.unchanged) c.at-second.ensures.row in
     let same = one_row _ _ _ _ c.at-first.result c.at-second.result c.in_ok-build_pair.ensures.ok c.in_ok-build_pair-2.ensures.ok c.in_ok-build_pair-2.ensures.sound row next in
     c.eq.ensures ∙ eq-eqb _ _ (ap (λ r. r.0) same)
 
