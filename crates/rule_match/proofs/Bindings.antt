@@ -1,13 +1,11 @@
 -- Binding a variable to a row, by its place among the bound rows.
-use Rattle.std.proofs.Common.{◌≡◌, ℕ, zero, suc, ◌+◌, ◌<◌, ◌≤◌, List, [], ◌∷◌, ◌++◌, length, get_or, map, Option, Some, None, Bool, true, false, refl, sym, ◌∙◌, ap, arith, subst, eqb-true, eq-eqb}
-use Rattle.std.specs.Prelude.{◌==◌, if◌then◌else◌, option_and_then, All, slice_get, reverse}
+use Rattle.std.proofs.Common.{◌≡◌, ℕ, zero, suc, ◌<◌, List, [], ◌∷◌, ◌++◌, length, get_or, map, Option, Some, None, Bool, true, false, refl, sym, ◌∙◌, ap, arith, subst, eqb-true, eq-eqb}
+use Rattle.std.specs.Prelude.{◌==◌, if◌then◌else◌, option_and_then, All, reverse}
 use Rattle.std.specs.Option.{option_map}
-use Rattle.std.proofs.lemmas.Option.{same_Some}
 use Rattle.std.proofs.lemmas.List.{map_push, length-map, get_or-map, reverse-append}
 use Rattle.std.proofs.lemmas.List.Elements.{All-get_or}
 use Rattle.term_model.specs.Tree.{Tree, Leaf, tree_eq}
 use Rattle.term_model.specs.declared.Row.{Row}
-use Rattle.term_model.specs.declared.Item.{Item}
 use Rattle.term_model.proofs.Equality.{tree_eq_sound, tree_eq_same}
 use Rattle.terms_api.specs.Terms.{Store, IsHeld, IsSound, tree_at}
 use Rattle.terms_api.proofs.Callers.{same_row}

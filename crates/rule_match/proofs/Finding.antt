@@ -1,5 +1,5 @@
 -- What is left of a match: patterns and trees that stand on two stacks, and trees found for variables.
-use Rattle.std.proofs.Common.{◌≡◌, ℕ, zero, suc, ◌+◌, ◌≤◌, ◌<◌, List, [], ◌∷◌, ◌++◌, Option, Some, None, length, Bool, true, false, refl, sym, ◌∙◌, ap, arith, subst, eqb-true, get_or, take, drop, map}
+use Rattle.std.proofs.Common.{◌≡◌, ℕ, ◌+◌, ◌≤◌, ◌<◌, List, [], ◌∷◌, ◌++◌, Option, Some, None, length, Bool, true, false, refl, sym, ◌∙◌, ap, arith, subst, eqb-true, get_or, take, drop, map}
 use Rattle.std.specs.Prelude.{option_and_then, if◌then◌else◌, reverse, ◌&&◌, ◌==◌}
 use Rattle.std.proofs.lemmas.Option.{same_Some}
 use Rattle.std.proofs.lemmas.List.{append_assoc, append-nil, reverse-append, length-append, length-map, length-take, map_push, take_more, drop_more, take_all, drop_all}

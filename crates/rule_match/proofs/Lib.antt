@@ -3,3 +3,4 @@ pub mod Finding
 pub mod Bindings
 pub mod Pushing
 pub mod Skipping
+pub mod Links

@@ -1,9 +1,8 @@
 -- The patterns that are still to be matched, by the items before a place.
 use Rattle.std.proofs.Common.{◌≡◌, ℕ, zero, suc, ◌+◌, ◌≤◌, List, [], ◌∷◌, ◌++◌, Option, Some, None, length, Bool, true, false, refl, sym, ◌∙◌, ap, arith}
-use Rattle.std.specs.Prelude.{option_and_then, if◌then◌else◌, reverse}
+use Rattle.std.specs.Prelude.{option_and_then, if◌then◌else◌}
 use Rattle.std.proofs.lemmas.Option.{same_Some, option_and_then_some}
-use Rattle.std.proofs.lemmas.List.{append_assoc}
-use Rattle.term_model.specs.Tree.{Tree, Leaf, Node, Trees, End, More, count_of, list_of, may_be_list}
+use Rattle.term_model.specs.Tree.{Tree, Leaf, Node, Trees, End, More, count_of, may_be_list}
 use Rattle.term_model.specs.Postorder.{head_of, arity_of, take_trees, push_over, push_cell, push_item, push_items}
 use Rattle.term_model.specs.Code.{onto, join, join_end}
 use Rattle.term_model.specs.declared.Head.{Head}

@@ -1,5 +1,5 @@
 -- Arguments of a row's tree, put on a stack.
-use Rattle.std.proofs.Common.{◌≡◌, ℕ, zero, suc, ◌+◌, ◌<◌, ◌≤◌, List, [], ◌∷◌, ◌++◌, length, get_or, map, take, Option, Some, None, Bool, true, false, refl, sym, ◌∙◌, ap, arith, subst}
+use Rattle.std.proofs.Common.{◌≡◌, ℕ, ◌+◌, ◌<◌, List, [], ◌∷◌, ◌++◌, length, map, take, Some, Bool, true, refl, sym, ◌∙◌, ap, arith, subst}
 use Rattle.std.specs.Prelude.{All, slice_get, ◌&&◌, ◌==◌}
 use Rattle.std.proofs.lemmas.Option.{same_Some, slice_get_within, get_or_from_slice_get}
 use Rattle.std.proofs.lemmas.List.{map_push, take_more, append_assoc}
@@ -10,7 +10,7 @@ use Rattle.term_model.proofs.Subtrees.{items_are_nodes}
 use Rattle.term_model.specs.declared.Item.{Item}
 use Rattle.term_model.specs.declared.Row.{Row}
 use Rattle.term_model.specs.declared.Head.{Head}
-use Rattle.terms_api.specs.Terms.{Store, IsHeld, IsSound, tree_at}
+use Rattle.terms_api.specs.Terms.{Store, IsHeld, tree_at}
 use Rattle.rule_match.specs.Stands.{stands}
 
 pub nodes_positive : (p : Tree) → 0 < nodes p

@@ -1,9 +1,10 @@
 //! Heads of trees and of patterns.
 
-ghost use Rattle.std.specs.Prelude.{◌≡◌, ◌↔◌, Some, Option, IsTrue};
+ghost use Rattle.std.specs.Prelude.{◌≡◌};
 ghost use Rattle.term_model.specs.Tree.{head_eq, root};
+ghost use Rattle.rule_match.specs.Groups.{symbol_of};
 
-use term_model::{Flat, Head};
+use term_model::{Flat, Head, Symbol};
 
 /// Whether two heads are equal.
 pub(crate) fn heads_are_equal(head: Head, other: Head) -> bool
@@ -17,12 +18,12 @@ pub(crate) fn heads_are_equal(head: Head, other: Head) -> bool
     }
 }
 
-/// Whether this head is at the root of a pattern.
-pub(crate) fn has_head(pattern: &Flat, head: Head) -> bool
-    ensures { IsTrue result ↔ (root pattern.now ≡ Some head) }
+/// The symbol at the root of a pattern; None where another head or a variable is there.
+pub(crate) fn root_symbol(pattern: &Flat) -> Option<Symbol>
+    ensures { result ≡ symbol_of (root pattern.now) }
 {
     match pattern.root() {
-        Some(root) => heads_are_equal(root, head),
-        None => false,
+        Some(Head::App(symbol)) => Some(symbol),
+        _ => None,
     }
 }

@@ -4,6 +4,7 @@
 
 mod binding;
 mod heads;
+mod linking;
 mod matching;
 mod planning;
 

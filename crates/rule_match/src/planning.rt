@@ -5,7 +5,7 @@ ghost use Rattle.term_model.specs.Tree.{Tree};
 ghost use Rattle.rule_match.specs.Planned.{planned, IsPlan, HasRoom};
 ghost use Rattle.rule_match.specs.Groups.{head_at, IsNext, MatchNone};
 
-use crate::heads::has_head;
+use crate::linking::{link, symbol_count};
 use faults::Memory;
 use rewrite_model::Rule;
 use std::alloc::Global;
@@ -18,10 +18,15 @@ use term_model::Head;
 pub struct Plan {
     rules: Vec<Rule>,
     widest: u32,
+    // the first rule of each symbol, by the symbol's number
+    firsts: Vec<Option<u32>>,
+    // after each rule the next of the same symbol
+    nexts: Vec<Option<u32>>,
 }
 
 impl Model for Plan {
-    ghost use Rattle.rule_match.specs.Planned.{Planned, planned_code, planned, IsPlan};
+    ghost use Rattle.rule_match.specs.Planned.{Planned, planned_code, planned};
+    ghost use Rattle.rule_match.specs.Groups.{IsIndexed};
 
     ghost Value = { Planned };
 
@@ -29,17 +34,25 @@ impl Model for Plan {
 
     ghost view = { λ p. planned p.rules.items p.widest };
 
-    ghost invariant = { λ p. IsPlan (planned p.rules.items p.widest) };
+    ghost invariant = { λ p. IsIndexed p.rules.items p.widest p.firsts.items p.nexts.items };
 }
 
 impl Plan {
     /// The plan of rules in written order, over symbols of which the greatest arity is `widest`.
+    /// It takes a place for each symbol up to the greatest number of a left side's.
     pub fn of(alloc: Global, rules: Vec<Rule>, widest: u32) -> Result<Self, Memory>
         requires { IsPlan (planned rules.items widest) }
         ensures { IfOk result (λ plan. plan ≡ planned rules.items widest) }
     {
-        let _ = alloc;
-        Ok(Plan { rules, widest })
+        let mut firsts = vec![in alloc; None; symbol_count(&rules)]?;
+        let mut nexts = vec![in alloc; None; rules.len()]?;
+        link(&rules, &mut firsts, &mut nexts);
+        Ok(Plan {
+            rules,
+            widest,
+            firsts,
+            nexts,
+        })
     }
 
     /// The greatest arity of a symbol, 0 where there is none.
@@ -63,7 +76,12 @@ impl Plan {
         ensures first { IsNext self.now.rules head 0 result }
         ensures none { MatchNone self.now.rules head 0 result }
     {
-        next_from(&self.rules, 0, head)
+        let symbols = self.firsts.len();
+        let Head::App(symbol) = head else {
+            return None;
+        };
+        let at = symbol.0 as usize;
+        if at < symbols { self.firsts[at] } else { None }
     }
 
     /// The next rule whose left side has the head of this one's; None where there is none.
@@ -74,22 +92,6 @@ impl Plan {
         ensures none { (head : Head) → head_at self.now.rules rule ≡ Some head
             → MatchNone self.now.rules head (rule + 1) result }
     {
-        let head = self.rules[rule as usize].left().root()?;
-        next_from(&self.rules, rule as usize + 1, head)
+        self.nexts[rule as usize]
     }
-}
-
-/// The first rule from a place on whose left side has this head; None where there is none.
-fn next_from(rules: &[Rule], from: usize, head: Head) -> Option<u32>
-    requires { length rules.now < 2 ^ 32 }
-    ensures { IsNext rules.now head from result }
-{
-    let mut at = from;
-    'rules: while at < rules.len() {
-        if has_head(rules[at].left(), head) {
-            return Some(at as u32);
-        }
-        at += 1;
-    }
-    None
 }

@@ -1,4 +1,4 @@
-use Rattle.std.proofs.Common.{◌≡◌, length, ap, arith}
+use Rattle.std.proofs.Common.{◌≡◌, length, arith}
 use Rattle.term_model.specs.Tree.{nodes}
 use Rattle.rule_match.proofs.Pushing.{length-postorder}
 use Rattle.rule_match.proofs.matching.bind.Goals as goal

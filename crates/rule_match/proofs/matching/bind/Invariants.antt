@@ -1,4 +1,4 @@
-use Rattle.std.proofs.Common.{◌≡◌, ◌≤◌, [], length, map, drop}
+use Rattle.std.proofs.Common.{◌≡◌, ◌≤◌, [], map, drop}
 use Rattle.std.specs.Prelude.{All, vec_len, vec_capacity, reverse}
 use Rattle.terms_api.specs.Terms.{IsHeld, tree_at}
 use Rattle.rule_match.specs.Binding.{variables, bind_all}

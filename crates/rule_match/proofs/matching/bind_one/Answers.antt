@@ -1,4 +1,4 @@
-use Rattle.std.proofs.Common.{◌≡◌, ◌<◌, length, sym, ◌∙◌, ap, arith, true, false}
+use Rattle.std.proofs.Common.{sym, ◌∙◌, arith}
 use Rattle.std.proofs.lemmas.Bool.{OnTrue_from, OnFalse_from}
 use Rattle.rule_match.proofs.Bindings.{bound_same, bound_other, not_yet, newly, same_number, other_number}
 use Rattle.rule_match.proofs.matching.bind_one.Goals as goal

@@ -1,11 +1,11 @@
-use Rattle.std.proofs.Common.{◌≡◌, ◌+◌, ◌-◌, ◌<◌, ◌++◌, ◌∷◌, [], length, map, ap, arith, sym, ◌∙◌, refl, subst, true, false, Some, get_or}
+use Rattle.std.proofs.Common.{◌≡◌, ◌-◌, ◌++◌, ◌∷◌, [], length, ap, arith, sym, ◌∙◌, refl, subst, true, false, Some, get_or}
 use Rattle.std.proofs.lemmas.List.{nil_from_length}
 use Rattle.std.specs.Prelude.{All}
 use Rattle.std.proofs.lemmas.List.Elements.{All-push, All-pop}
-use Rattle.term_model.specs.Tree.{nodes, arguments}
+use Rattle.term_model.specs.Tree.{arguments}
 use Rattle.term_model.specs.Postorder.{arity_of}
 use Rattle.term_model.specs.declared.Item.TheVariants.{Var}
-use Rattle.terms_api.specs.Terms.{Store, IsHeld, tree_at}
+use Rattle.terms_api.specs.Terms.{IsHeld, tree_at}
 use Rattle.rule_match.specs.Stands.{stands}
 use Rattle.rule_match.proofs.Pushing.{nodes_positive, length-postorder, stands_over, stood, as_many, held_late}
 use Rattle.rule_match.proofs.Finding.{find_first, find_variable, find_head, find_other, find_empty, find_room, find_last, on_stack}

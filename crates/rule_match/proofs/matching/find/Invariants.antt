@@ -1,6 +1,5 @@
 use Rattle.std.proofs.Common.{◌≡◌, ◌+◌, ◌≤◌, length, map, take, drop}
 use Rattle.std.specs.Prelude.{All, vec_len, vec_capacity}
-use Rattle.term_model.specs.Postorder.{postorder}
 use Rattle.terms_api.specs.Terms.{IsHeld, tree_at}
 use Rattle.rule_match.proofs.Finding.{Pending}
 use Rattle.rule_match.proofs.matching.find.Given as goal

@@ -1,7 +1,14 @@
-use Rattle.rule_match.proofs.Skipping.{passed_none, next_of, rules_of}
+use Rattle.std.proofs.Common.{arith}
+use Rattle.rule_match.proofs.Skipping.{first_none, first_read, first_past, first_other}
 use Rattle.rule_match.proofs.planning.Plan.first.Goals as goal
 
-pub returns-clause-none : goal.returns-clause-none
-returns-clause-none c =
-    let next = next_of c.args.self.now _ _ c.args.head 0 c.next_from.result c.self.view_is c.deref.ensures.value c.next_from.ensures in
-    passed_none c.args.self.now.rules c.args.head 0 c.next_from.result (rules_of c.args.self.now _ c.self.view_is c.self.invariant) next
+pub returns-then-at-symbols-clause-none : goal.returns-then-at-symbols-clause-none
+returns-then-at-symbols-clause-none c = (first_none c.args.self.now _ c.args.head c.index.result.now c.self.view_is c.self.invariant.plan (first_read _ _ _ _ c.in-App.symbol c.args.head c.index.result.now c.self.invariant c.in-App.is (omega arith) c.index.ensures)).1
+
+pub returns-else-at-symbols-clause-none : goal.returns-else-at-symbols-clause-none
+returns-else-at-symbols-clause-none c = (first_none c.args.self.now _ c.args.head _ c.self.view_is c.self.invariant.plan (first_past _ _ _ _ c.in-App.symbol c.args.head c.self.invariant c.in-App.is (omega arith))).1
+
+pub returns-in_default : goal.returns-in_default
+returns-in_default c =
+    let r = first_none c.args.self.now _ c.args.head _ c.self.view_is c.self.invariant.plan (first_other _ _ _ _ c.args.head c.self.invariant (λ f. c.in_default.not-App f)) in
+    record { first = r.0; none = r.1 }
