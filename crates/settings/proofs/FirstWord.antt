@@ -1,12 +1,12 @@
 -- What words give, by the option that their first word names.
-use Rattle.std.proofs.Common.{◌≡◌, ℕ, ◌≤◌, ◌<◌, List, [], ◌∷◌, length, Option, Some, None, String, refl, sym, ap, ◌∙◌, arith}
+use Rattle.std.proofs.Common.{◌≡◌, ℕ, ◌<◌, List, [], ◌∷◌, length, Option, Some, None, String, refl, sym, ap, ◌∙◌, arith}
 use Rattle.std.specs.Prelude.{option_and_then}
 use Rattle.std.specs.Global.{Global}
 use Rattle.settings.specs.declared.parts.Command.{Command}
 use Rattle.settings.specs.declared.options.OptionName.{OptionName}
 use Rattle.std.specs.String.{string_bytes}
-use Rattle.settings.specs.Words.{Text, given_options, settings_of, in_front, begun, takes_value, option_named, before_equals_sign, after_equals_sign}
-use Rattle.settings.specs.Reading.{IsRead, given_from, texts}
+use Rattle.settings.specs.Words.{Text, texts, given_options, settings_of, in_front, begun, takes_value, option_named, before_equals_sign, after_equals_sign}
+use Rattle.settings.specs.Reading.{IsRead, given_from}
 
 pub given_by : (c : Command) (word : Text) (rest : List (String Global)) (o : OptionName) (attached : Option Text)
     → option_named c (before_equals_sign word) ≡ Some o → attached ≡ after_equals_sign word

@@ -1,5 +1,5 @@
 -- A word without `=` has nothing after one.
-use Rattle.std.proofs.Common.{◌≡◌, ◌≢◌, ℕ, suc, ◌<◌, List, [], ◌∷◌, length, get_or, Option, None, false, refl, arith, ne_eqb}
+use Rattle.std.proofs.Common.{◌≡◌, ◌≢◌, ℕ, suc, ◌<◌, List, [], ◌∷◌, length, get_or, None, false, refl, arith, ne_eqb}
 use Rattle.std.specs.List.{list_any}
 use Rattle.settings.specs.Words.{is_equals_sign, after_equals_sign}
 

@@ -1,14 +1,9 @@
 -- How the reader takes one option from the front of the words.
-use Rattle.std.specs.Prelude.{◌≡◌, ℕ, ◌≤◌, ◌∷◌, List, length, map, Option, Some, None, String}
+use Rattle.std.specs.Prelude.{◌≡◌, ℕ, ◌≤◌, List, length, Option, Some, None, String}
 use Rattle.std.specs.Global.{Global}
-use Rattle.std.specs.String.{string_bytes}
 use Rattle.settings.specs.declared.parts.Command.{Command}
 use Rattle.settings.specs.declared.options.OptionName.{OptionName}
-use Rattle.settings.specs.Words.{Text, GivenOptions, given_options, in_front, begun, takes_value, most_of}
-
--- the words as texts
-abbrev pub texts : List (String Global) → List Text
-texts words = map string_bytes words
+use Rattle.settings.specs.Words.{Text, texts, GivenOptions, given_options, in_front, begun, takes_value, most_of}
 
 -- of words that give `all`, an option with its number was read, and `rest` are the words after it
 pub record IsRead (c : Command) (all : Option GivenOptions) (words : List (String Global)) (o : OptionName) (n : ℕ) (rest : List (String Global)) : Type 0 where

@@ -3,7 +3,9 @@
 -- The words are the program's name, a command, and options of that command in any order. An option is `--name value` or
 -- `--name=value`, and stands at most once; `--sizes` has no value. A number is an optional `+` and one or more digits,
 -- within the option's range. Nothing else is accepted.
-use Rattle.std.specs.Prelude.{ℕ, ◌+◌, ◌==◌, ◌&&◌, ◌||◌, Bool, true, false, not, List, [], ◌∷◌, length, codes, find, Option, Some, None, is_some, unwrap_or, option_and_then, option_map, if◌then◌else◌, nat_lt, nat_le}
+use Rattle.std.specs.Prelude.{ℕ, ◌==◌, ◌&&◌, Bool, true, false, not, List, [], ◌∷◌, length, map, codes, find, Option, Some, None, option_and_then, option_map, if◌then◌else◌, nat_lt, nat_le, String}
+use Rattle.std.specs.Global.{Global}
+use Rattle.std.specs.String.{string_bytes}
 use Rattle.std.specs.List.{list_any, before_first, after_first}
 use Rattle.std.specs.Str.{bytes_eq, all_ascii_digits}
 use Rattle.std.specs.Str.Parse.{without_leading_plus, digits_value}
@@ -15,6 +17,10 @@ use Rattle.settings.specs.declared.options.OptionName.TheVariants.{Fuel, Rows, D
 
 abbrev pub Text : Type 0
 Text = List ℕ
+
+-- the words as texts
+abbrev pub texts : List (String Global) → List Text
+texts words = map string_bytes words
 
 -- ---- commands and their options
 

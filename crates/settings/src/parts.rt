@@ -14,13 +14,13 @@ pub enum Command {
 #[derive(Clone, Copy, Debug, PartialEq, Eq)]
 pub struct Settings {
     pub command: Command,
-    /// Threads that rewrite. There is 1 today.
+    /// Threads that rewrite terms. Always 1 so far.
     pub workers: u32,
     /// Rules that may be applied to one term, 0 to 1,000,000,000. By default 1,000,000.
     pub fuel: u64,
     /// Trees that the store can hold, 1 to 262,144. By default 65,536.
     pub rows: u32,
-    /// Places of a worker's stack, 1 to 65,536. By default 4,096.
+    /// Places on a worker's stack, the room that a term is rewritten in, 1 to 65,536. By default 4,096.
     pub depth: u32,
     /// Whether a value's sizes are written in place of its text.
     pub sizes: bool,

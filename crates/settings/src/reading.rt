@@ -3,9 +3,8 @@ ghost use Rattle.std.specs.Prelude.{◌≡◌, ◌≤◌, ◌∷◌, Some, None,
 ghost use Rattle.std.specs.Option.{option_copied, ok_or};
 ghost use Rattle.std.specs.String.{string_bytes};
 ghost use Rattle.settings.specs.declared.parts.Command.{Command};
-ghost use Rattle.settings.specs.declared.parts.WordsFault.TheVariants.{Usage};
-ghost use Rattle.settings.specs.Words.{given_options, settings_after, settings_of, before_equals_sign, after_equals_sign};
-ghost use Rattle.settings.specs.Reading.{IsRead, given_from, texts};
+ghost use Rattle.settings.specs.Words.{texts, given_options, settings_after, settings_of, before_equals_sign, after_equals_sign};
+ghost use Rattle.settings.specs.Reading.{IsRead, given_from};
 
 use crate::given::Given;
 use crate::options::{OptionName, has_value, read_command, read_option, read_value};
@@ -28,8 +27,8 @@ fn read_number<'a>(
     attached: Option<&str>,
     words: &'a [String],
 ) -> Option<(u64, &'a [String])>
-    ensures { (c : Command) → MatchOption result (given_from c option (option_copied attached.entry) words.now ≡ None)
-        (λ read. IsRead c (given_from c option (option_copied attached.entry) words.now) words.now option read.0 read.1.now) }
+    ensures { (c : Command) → let all = given_from c option (option_copied attached.entry) words.now in
+        MatchOption result (all ≡ None) (λ read. IsRead c all words.now option read.0 read.1.now) }
 {
     match attached {
         Some(text) if has_value(option) => Some((read_value(option, text)?, words)),
@@ -48,8 +47,8 @@ fn next_option<'a>(
     word: &str,
     rest: &'a [String],
 ) -> Option<(OptionName, u64, &'a [String])>
-    ensures { MatchOption result (given_options command None (word.now ∷ texts rest.now) ≡ None)
-        (λ read. IsRead command (given_options command None (word.now ∷ texts rest.now)) rest.now read.0 read.1 read.2.now) }
+    ensures { let all = given_options command None (word.now ∷ texts rest.now) in
+        MatchOption result (all ≡ None) (λ read. IsRead command all rest.now read.0 read.1 read.2.now) }
 {
     let (name, attached) = split_at_equals_sign(word);
     let option = read_option(command, name)?;
@@ -83,11 +82,13 @@ fn read_words(words: &[String]) -> Option<Settings>
     }
 }
 
-/// The settings that the words give, the program's name first. `Usage` exactly where words are not accepted: a command
-/// and its options in any order, each `--name value` or `--name=value` and at most once, each number a `+` or none and
-/// digits, within its range. Nothing is allocated, so want of memory is never the answer.
+/// Reads the words that the program is started with: its name, a command, and options of that command in any order.
+///
+/// An option is `--name value` or `--name=value`, and stands at most once; `--sizes` has no value. A number is an
+/// optional `+` and one or more digits, within the option's range. All other words are `Usage`, among them `--`,
+/// `--help` and the beginning of a name. Nothing is allocated, so that `Memory` is never the answer.
 pub fn settings(words: &[String]) -> Result<Settings, WordsFault>
-    ensures { result ≡ ok_or (settings_of (texts words.now)) Usage }
+    ensures { result ≡ ok_or (settings_of (texts words.now)) WordsFault.Usage }
 {
     read_words(words).ok_or(WordsFault::Usage)
 }

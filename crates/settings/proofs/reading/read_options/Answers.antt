@@ -1,7 +1,6 @@
 use Rattle.std.proofs.Common.{rules, ◌≡◌, ◌∷◌, Some, None, true, false, sym, ap, ◌∙◌}
-use Rattle.settings.specs.Words.{given_options, in_front}
+use Rattle.settings.specs.Words.{texts, given_options, in_front}
 use Rattle.settings.specs.Given.{has}
-use Rattle.settings.specs.Reading.{texts}
 use Rattle.settings.proofs.FirstWord.{gives_first}
 use Rattle.settings.proofs.Once.{finish, finish_none, finish_first, finish_again, not_true, not_false}
 use Rattle.settings.proofs.reading.read_options.Goals as goal
@@ -14,7 +13,7 @@ returns-then-not-note c =
     let following = given_options c.args.command None (texts c.in_ok-option.rest.now) in
     let words_are : c.loop-word.words.now ≡ c.in-Some.word.now ∷ c.in-Some.rest.now = search rules in
     let gives : given_options c.args.command None (texts c.loop-word.words.now) ≡ in_front c.in_ok-option.option (Some c.in_ok-option.number) following =
-        gives_first c.args.command _ _ c.in-Some.rest.now _ _ _ _ words_are c.as_str.ensures.value c.in_ok-option.ensures in
+    gives_first c.args.command _ _ c.in-Some.rest.now _ _ _ _ words_are c.as_str.ensures.value c.in_ok-option.ensures in
     let had : has c.loop-word.given c.in_ok-option.option ≡ true = not_true _ _ c.note.ensures.first c.if-not-note.true in
     sym (finish_again c.args.command c.loop-word.given c.in_ok-option.option c.in_ok-option.number following had)
     ∙ (ap (finish c.args.command c.loop-word.given) (sym gives) ∙ c.loop-word.invariant)
@@ -24,7 +23,7 @@ loop-word-preserved c =
     let following = given_options c.args.command None (texts c.in_ok-option.rest.now) in
     let words_are : c.loop-word.words.now ≡ c.in-Some.word.now ∷ c.in-Some.rest.now = search rules in
     let gives : given_options c.args.command None (texts c.loop-word.words.now) ≡ in_front c.in_ok-option.option (Some c.in_ok-option.number) following =
-        gives_first c.args.command _ _ c.in-Some.rest.now _ _ _ _ words_are c.as_str.ensures.value c.in_ok-option.ensures in
+    gives_first c.args.command _ _ c.in-Some.rest.now _ _ _ _ words_are c.as_str.ensures.value c.in_ok-option.ensures in
     let lacked : has c.loop-word.given c.in_ok-option.option ≡ false = not_false _ _ c.note.ensures.first c.if-not-note.false in
     ap (λ g. finish c.args.command g following) c.note.ensures.noted
     ∙ (sym (finish_first c.args.command c.loop-word.given c.in_ok-option.option c.in_ok-option.number following lacked)

@@ -1,6 +1,5 @@
 use Rattle.std.proofs.Common.{◌≡◌, None, length}
-use Rattle.settings.specs.Words.{given_options, settings_after}
-use Rattle.settings.specs.Reading.{texts}
+use Rattle.settings.specs.Words.{texts, given_options, settings_after}
 use Rattle.settings.proofs.Once.{finish}
 use Rattle.settings.proofs.reading.read_options.Given as goal
 
