@@ -8,3 +8,4 @@ pub mod Stacks
 pub mod Binding
 pub mod Comes
 pub mod Measures
+pub mod Counts
