@@ -1,5 +1,5 @@
 -- Whatever is in hand at a point was built before, with all its subtrees.
-use Rattle.std.proofs.Common.{◌≡◌, ℕ, zero, suc, ◌+◌, ◌-◌, ◌<◌, ◌≤◌, List, [], ◌∷◌, ◌++◌, length, Option, Some, None, refl, sym, ◌∙◌, ap, subst, arith, Bool, true, false, append_assoc, append-nil, inl, inr}
+use Rattle.std.proofs.Common.{◌≡◌, ℕ, zero, suc, ◌+◌, ◌-◌, ◌<◌, ◌≤◌, List, [], ◌∷◌, ◌++◌, length, get_or, Option, Some, None, refl, sym, ◌∙◌, ap, subst, arith, Bool, true, false, append_assoc, append-nil, inl, inr}
 use Rattle.std.specs.Prelude.{if◌then◌else◌, nat_lt, map, All, Contains}
 use Rattle.std.specs.List.{flat_map}
 use Rattle.std.proofs.lemmas.Option.{same_Some, option_and_then_some}
@@ -84,7 +84,7 @@ mutual
 tree_held : (b : List Tree) (x : ℕ) (bound : List Tree) → nat_lt x (length bound) ≡ true → HoldsAll b bound → Holds b (tree_at x bound)
 tree_held b x bound l h = go x bound (ltb-true x (length bound) l) h
   where
-    go : (y : ℕ) (ts : List Tree) → y < length ts → HoldsAll b ts → Holds b (tree_at y ts)
+    go : (y : ℕ) (ts : List Tree) → y < length ts → HoldsAll b ts → Holds b (get_or ts y (Leaf x))
     go y [] m k = absurd (omega arith)
     go zero (t ∷ ts) m k = k.0
     go (suc y) (t ∷ ts) m k = go y ts (omega arith) k.1

@@ -1,3 +1,11 @@
 pub mod Matches
 pub mod Fuel
 pub mod Closed
+pub mod Steps
+pub mod Reached
+pub mod OutermostReached
+pub mod Stacks
+pub mod Binding
+pub mod Comes
+pub mod Measures
+pub mod Counts

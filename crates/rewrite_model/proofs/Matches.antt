@@ -1,5 +1,5 @@
 -- What a pattern matches is its instance, and the match is the only one.
-use Rattle.std.proofs.Common.{◌≡◌, ℕ, zero, suc, ◌+◌, ◌<◌, ◌≤◌, List, [], ◌∷◌, ◌++◌, length, take, append_assoc, append-nil, Option, Some, None, refl, sym, ◌∙◌, ap, arith, Bool, true, false}
+use Rattle.std.proofs.Common.{◌≡◌, ℕ, zero, suc, ◌+◌, ◌<◌, ◌≤◌, List, [], ◌∷◌, ◌++◌, length, take, get_or, append_assoc, append-nil, Option, Some, None, refl, sym, ◌∙◌, ap, arith, Bool, true, false}
 use Rattle.std.specs.Prelude.{if◌then◌else◌, option_and_then, nat_lt, ◌==◌}
 use Rattle.std.specs.Option.{option_map}
 use Rattle.std.proofs.lemmas.Option.{same_Some, option_and_then_some}
@@ -38,15 +38,15 @@ bind_grows (suc x) t (u ∷ us) after h =
     let g = bind_grows x t us m.0 m.1 in
     record { more = g.more; is = sym m.2 ∙ ap (λ ts. u ∷ ts) g.is }
 
-bound_at : (x : ℕ) (t : Tree) (before after more : List Tree) → bind x t before ≡ Some after → tree_at x (after ++ more) ≡ t
-bound_at zero t [] after more h = ap (λ ts. tree_at 0 (ts ++ more)) (sym (same_Some (t ∷ []) after h))
-bound_at (suc x) t [] after more h = cc
-bound_at zero t (u ∷ us) after more h =
+bound_at : (x : ℕ) (t d : Tree) (before after more : List Tree) → bind x t before ≡ Some after → get_or (after ++ more) x d ≡ t
+bound_at zero t d [] after more h = ap (λ ts. get_or (ts ++ more) 0 d) (sym (same_Some (t ∷ []) after h))
+bound_at (suc x) t d [] after more h = cc
+bound_at zero t d (u ∷ us) after more h =
     let c = chosen (tree_eq u t) (u ∷ us) after h in
-    ap (λ ts. tree_at 0 (ts ++ more)) (sym c.1) ∙ tree_eq_sound u t c.0
-bound_at (suc x) t (u ∷ us) after more h =
+    ap (λ ts. get_or (ts ++ more) 0 d) (sym c.1) ∙ tree_eq_sound u t c.0
+bound_at (suc x) t d (u ∷ us) after more h =
     let m = mapped u (bind x t us) after h in
-    ap (λ ts. tree_at (suc x) (ts ++ more)) (sym m.2) ∙ bound_at x t us m.0 more m.1
+    ap (λ ts. get_or (ts ++ more) (suc x) d) (sym m.2) ∙ bound_at x t d us m.0 more m.1
 
 mutual
   grows : (p t : Tree) (before after : List Tree) → match_from p t before ≡ Some after → Grew before after
@@ -65,7 +65,7 @@ mutual
 
 mutual
   stands : (p t : Tree) (before after more : List Tree) → match_from p t before ≡ Some after → instance p (after ++ more) ≡ t
-  stands (Leaf x) t before after more h = bound_at x t before after more h
+  stands (Leaf x) t before after more h = bound_at x t (Leaf x) before after more h
   stands (Node f ps) (Leaf y) before after more h = cc
   stands (Node f ps) (Node g ts) before after more h =
       let c = if_some (head_eq f g) (match_all ps ts before) after h in
@@ -135,26 +135,26 @@ pub match_binds_variables : (p t : Tree) (k : ℕ) (bound : List Tree) → IsNum
 match_binds_variables p t k bound c h = counts p t 0 k [] bound c refl h
 
 -- A pattern matches its instances.
-finds_old : (x n : ℕ) (bound : List Tree) → x < n → n ≤ length bound → bind x (tree_at x bound) (take n bound) ≡ Some (take n bound)
-finds_old x zero bound l h = absurd (omega arith)
-finds_old x (suc n) [] l h = absurd (omega arith)
-finds_old zero (suc n) (u ∷ us) l h = ap (λ (b : Bool). if b then Some (u ∷ take n us) else None) (tree_eq_same u u refl)
-finds_old (suc x) (suc n) (u ∷ us) l h = ap (λ o. option_map (λ vs. u ∷ vs) o) (finds_old x n us (omega arith) (omega arith))
+finds_old : (x n : ℕ) (d : Tree) (bound : List Tree) → x < n → n ≤ length bound → bind x (get_or bound x d) (take n bound) ≡ Some (take n bound)
+finds_old x zero d bound l h = absurd (omega arith)
+finds_old x (suc n) d [] l h = absurd (omega arith)
+finds_old zero (suc n) d (u ∷ us) l h = ap (λ (b : Bool). if b then Some (u ∷ take n us) else None) (tree_eq_same u u refl)
+finds_old (suc x) (suc n) d (u ∷ us) l h = ap (λ o. option_map (λ vs. u ∷ vs) o) (finds_old x n d us (omega arith) (omega arith))
 
-finds_new : (n : ℕ) (bound : List Tree) → n < length bound → bind n (tree_at n bound) (take n bound) ≡ Some (take (suc n) bound)
-finds_new n [] h = absurd (omega arith)
-finds_new zero (u ∷ us) h = refl
-finds_new (suc n) (u ∷ us) h = ap (λ o. option_map (λ vs. u ∷ vs) o) (finds_new n us (omega arith))
+finds_new : (n : ℕ) (d : Tree) (bound : List Tree) → n < length bound → bind n (get_or bound n d) (take n bound) ≡ Some (take (suc n) bound)
+finds_new n d [] h = absurd (omega arith)
+finds_new zero d (u ∷ us) h = refl
+finds_new (suc n) d (u ∷ us) h = ap (λ o. option_map (λ vs. u ∷ vs) o) (finds_new n d us (omega arith))
 
 mutual
   finds : (p : Tree) (n m : ℕ) (bound : List Tree) → count_from p n ≡ Some m → m ≤ length bound → (n ≤ m) × (match_from p (instance p bound) (take n bound) ≡ Some (take m bound))
   finds (Leaf x) n m bound k h = go (counted x n m k)
     where
       go : Counted x n m → (n ≤ m) × (bind x (tree_at x bound) (take n bound) ≡ Some (take m bound))
-      go (old a e) = (omega arith, finds_old x n bound a (omega arith) ∙ ap (λ i. Some (take i bound)) e)
+      go (old a e) = (omega arith, finds_old x n (Leaf x) bound a (omega arith) ∙ ap (λ i. Some (take i bound)) e)
       go (next a e) =
           let s : suc n ≡ m = omega arith in
-          (omega arith, ap (λ i. bind i (tree_at i bound) (take n bound)) a ∙ finds_new n bound (omega arith) ∙ ap (λ i. Some (take i bound)) s)
+          (omega arith, ap (λ i. bind i (tree_at i bound) (take n bound)) a ∙ finds_new n (Leaf n) bound (omega arith) ∙ ap (λ i. Some (take i bound)) s)
   finds (Node f ps) n m bound k h =
       let r = all_found ps n m bound k h in
       (r.0, rw (head_eq_refl f) r.1)

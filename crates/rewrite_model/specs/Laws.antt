@@ -2,10 +2,12 @@
 use Rattle.std.specs.Prelude.{◌≡◌, ℕ, ◌+◌, ◌≤◌, List, [], ◌∷◌, ◌++◌, length, Some, All, Contains}
 use Rattle.term_model.specs.Tree.{Tree, IsGround, distinct}
 use Rattle.term_model.specs.Laws.{IsSubtree}
-use Rattle.rewrite_model.specs.Rule.{Rule, IsRule, IsNumbered}
+use Rattle.rewrite_model.specs.Rule.{Rule, IsRule, IsNode, IsNumbered, IsUnconditional}
 use Rattle.rewrite_model.specs.Matching.{match_of, instance}
 use Rattle.rewrite_model.specs.Run.{Done}
 use Rattle.rewrite_model.specs.Evaluation.{reduction, begin, evaluation}
+use Rattle.rewrite_model.specs.Step.{Reaches, IsNormalForm}
+use Rattle.rewrite_model.specs.Outermost.{outermost}
 use Rattle.rewrite_model.specs.Built.{built_list, need, distinct_built, need_of_all}
 
 -- A pattern matches exactly its instances, and binds a tree to each variable in order.
@@ -44,3 +46,14 @@ NeedIsBounded = (rules : List Rule) (term : Tree) (fuel room : ℕ) → All IsRu
 abbrev pub NeedOfAllIsBounded : Type 0
 NeedOfAllIsBounded = (rules : List Rule) (terms : List Tree) (fuel room : ℕ) → All IsRule rules → All IsGround terms →
     need_of_all rules terms fuel room ≤ distinct_built rules terms fuel room
+
+-- By rules without conditions, of which no left side is a variable, the value of a term is reached
+-- from the term by single steps, and is a normal form.
+abbrev pub ValueIsReached : Type 0
+ValueIsReached = (rules : List Rule) → All (λ (r : Rule). IsNode r.left) rules → All IsUnconditional rules →
+    (t u : Tree) (fuel room left : ℕ) → (evaluation rules t fuel room).end ≡ Done u left → Reaches rules t u × IsNormalForm rules u
+
+-- The same holds of outermost evaluation, whatever the left sides are.
+abbrev pub OutermostValueIsReached : Type 0
+OutermostValueIsReached = (rules : List Rule) (t u : Tree) (fuel room left : ℕ) → (outermost rules t fuel room).end ≡ Done u left →
+    Reaches rules t u × IsNormalForm rules u

@@ -7,3 +7,6 @@ pub mod Step
 pub mod Outermost
 pub mod Rows
 pub mod Laws
+pub mod Boxed
+pub mod Program
+pub mod Code

@@ -1,5 +1,5 @@
 -- Matching a left side, whose variables are numbered from 0 in order of first occurrence.
-use Rattle.std.specs.Prelude.{ℕ, zero, suc, List, [], ◌∷◌, Option, Some, None, if◌then◌else◌, option_and_then}
+use Rattle.std.specs.Prelude.{ℕ, zero, suc, List, [], ◌∷◌, Option, Some, None, if◌then◌else◌, option_and_then, slice_index_or}
 use Rattle.std.specs.Option.{option_map}
 use Rattle.term_model.specs.Tree.{Tree, Leaf, Node, Trees, End, More, head_eq, tree_eq}
 
@@ -34,9 +34,7 @@ if_matched (Some bound) otherwise go = go bound
 
 -- the tree that a variable is bound to; a variable that is not bound stays itself
 abbrev pub tree_at : ℕ → List Tree → Tree
-tree_at x [] = Leaf x
-tree_at zero (t ∷ ts) = t
-tree_at (suc x) (t ∷ ts) = tree_at x ts
+tree_at x bound = slice_index_or bound x (Leaf x)
 
 -- a pattern with the bound trees in place of its variables
 abbrev mutual

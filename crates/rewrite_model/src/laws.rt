@@ -1,6 +1,6 @@
 //! What is true of all matches and evaluations, each law the contract of a function that does nothing.
 
-ghost use Rattle.rewrite_model.specs.Laws.{MatchGivesInstance, MatchBindsVariables, InstancesMatch, BeginsWithItself, FuelFalls, MoreFuelIsLeft, SubtreesAreBuilt, NeedIsBounded, NeedOfAllIsBounded};
+ghost use Rattle.rewrite_model.specs.Laws.{MatchGivesInstance, MatchBindsVariables, InstancesMatch, BeginsWithItself, FuelFalls, MoreFuelIsLeft, SubtreesAreBuilt, NeedIsBounded, NeedOfAllIsBounded, ValueIsReached, OutermostValueIsReached};
 
 /// A pattern matches exactly its instances.
 pub fn matching_laws()
@@ -21,4 +21,10 @@ pub fn built_laws()
     ensures subtrees { SubtreesAreBuilt }
     ensures need { NeedIsBounded }
     ensures need_of_all { NeedOfAllIsBounded }
+{}
+
+/// By rules without conditions values are reached by single steps, and are normal forms.
+pub fn value_laws()
+    ensures innermost { ValueIsReached }
+    ensures outermost { OutermostValueIsReached }
 {}
