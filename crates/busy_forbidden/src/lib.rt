@@ -1,0 +1,10 @@
+//! The running busy-forbidden lock, on the first words of a table and under any rule that has a lock.
+#![tactic(auto)]
+
+mod law;
+mod rule;
+mod view;
+
+pub use law::{lock_holds, steps_are_the_locks};
+pub use rule::{Busy, HasLock};
+pub use view::{LockView, Read};
