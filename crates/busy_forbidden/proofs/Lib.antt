@@ -1,3 +1,4 @@
 pub mod Views
 pub mod Showing
 pub mod Simulation
+pub mod Goes

@@ -1,3 +1,4 @@
 pub mod Shown
 pub mod Moves
 pub mod Rules
+pub mod Calls

@@ -3,8 +3,11 @@
 
 mod law;
 mod rule;
+mod seat;
+mod steps;
 mod view;
 
 pub use law::{lock_holds, steps_are_the_locks};
 pub use rule::{Busy, HasLock};
+pub use seat::{Seat, Table};
 pub use view::{LockView, Read};
