@@ -1,4 +1,1 @@
-pub mod Views
-pub mod Showing
-pub mod Simulation
 pub mod Goes

@@ -2,3 +2,8 @@ pub mod Shown
 pub mod Moves
 pub mod Rules
 pub mod Calls
+pub mod Views
+pub mod Showing
+pub mod Simulation
+pub mod Only
+pub mod OnlyKeeps

@@ -2,12 +2,14 @@
 #![tactic(auto)]
 
 mod law;
+mod only;
 mod rule;
 mod seat;
 mod steps;
 mod view;
 
 pub use law::{lock_holds, steps_are_the_locks};
+pub use only::{LockOnly, OnlyView};
 pub use rule::{Busy, HasLock};
 pub use seat::{Seat, Table};
 pub use view::{LockView, Read};

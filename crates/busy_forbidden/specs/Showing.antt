@@ -13,7 +13,7 @@ use Rattle.busy_forbidden.specs.declared.view.LockView.{LockView}
 use Rattle.busy_forbidden.specs.declared.view.Read.{Read}
 use Rattle.busy_forbidden.specs.Shown.{busy_at, forbidden_at, bit, mutex_word, standing, put, view_at, Shows}
 use Rattle.busy_forbidden.specs.Moves.{at_phase, at_standing}
-use Rattle.busy_forbidden.proofs.Views.{put_same, put_other, view_case}
+use Rattle.busy_forbidden.specs.Views.{put_same, put_other, view_case}
 
 module _ (n : ℕ) (words : List ℕ) (vs : List LockView) (l : Lock) (sh : Shows n words vs l) (i : ℕ) (inside : i < length vs) where
   -- another view of seat i keeps what the views say of themselves
