@@ -5,5 +5,6 @@ pub mod Calls
 pub mod Views
 pub mod Showing
 pub mod Simulation
+pub mod Entries
 pub mod Only
 pub mod OnlyKeeps

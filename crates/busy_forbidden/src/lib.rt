@@ -5,6 +5,7 @@ mod law;
 mod only;
 mod rule;
 mod seat;
+mod shared;
 mod steps;
 mod view;
 
@@ -12,4 +13,5 @@ pub use law::{lock_holds, steps_are_the_locks};
 pub use only::{LockOnly, OnlyView};
 pub use rule::{Busy, HasLock};
 pub use seat::{Seat, Table};
+pub use shared::{leave_shared, try_enter_shared};
 pub use view::{LockView, Read};
