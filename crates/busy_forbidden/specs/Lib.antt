@@ -8,3 +8,4 @@ pub mod Simulation
 pub mod Entries
 pub mod Only
 pub mod OnlyKeeps
+pub mod Dealt

@@ -2,6 +2,7 @@
 #![tactic(auto)]
 
 mod law;
+mod make;
 mod only;
 mod rule;
 mod seat;
