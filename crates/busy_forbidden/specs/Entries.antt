@@ -49,17 +49,11 @@ module _ {V : Type 0} where
       (λ _. w ≡ run next entered v)
       (λ b. (b ≡ Forbidden) × ((f : ℕ) × (f ≢ 0) × (w ≡ run next (turned_away f) v)))
 
-  -- the mutex was taken after some tries, and given
-  pub record PassesMutex (next : LockStep → ℕ → V → V) (v w : V) : Type 0 where
+  -- the mutex was taken after some tries
+  pub record TakesMutex (next : LockStep → ℕ → V → V) (v w : V) : Type 0 where
     pub held : List ℕ
     pub all_set : AllSet held
-    pub view : w ≡ run next (took_after held ++ (Give, 0) ∷ []) v
-
-  -- some rounds of waits
-  pub record Waits (next : LockStep → ℕ → V → V) (v w : V) : Type 0 where
-    pub rounds : List (ℕ × List ℕ)
-    pub all_set : All (λ (r : ℕ × List ℕ). (r.0 ≢ 0) × AllSet r.1) rounds
-    pub view : w ≡ run next (waits rounds) v
+    pub view : w ≡ run next (took_after held) v
 
   -- shared entry: some rounds of waits, and then an entry
   pub record EntersShared (next : LockStep → ℕ → V → V) (v w : V) : Type 0 where
