@@ -1,6 +1,7 @@
 -- How the holder's standings change, and what may come next.
-use Rattle.std.proofs.Common.{◌≡◌, ◌≢◌, ℕ, zero, suc, ◌+◌, ◌-◌, ◌<◌, ◌≤◌, eqb, true, false, Bool, cond, get_or, List, [], ◌∷◌, ◌++◌, refl, sym, ap, ◌∙◌, subst, arith, eq-eqb, ne_eqb, add-one, ⊎_elim}
+use Rattle.std.proofs.Common.{◌≡◌, ◌≢◌, ℕ, zero, suc, ◌+◌, ◌-◌, ◌<◌, ◌≤◌, eqb, true, false, Bool, cond, get_or, List, [], ◌∷◌, ◌++◌, refl, sym, ap, ◌∙◌, subst, arith, eq-eqb, ne_eqb, add-one, ⊎_elim, length}
 use Rattle.std.proofs.lemmas.Bool.{cases_lt}
+use Rattle.std.specs.Prelude.{All}
 use mathlib.Core.Logic.{dite}
 use native.Mathlib.Decide.{ℕ_discrete}
 use Rattle.atomic_table.specs.declared.shared.Seat.{Seat}
@@ -130,3 +131,10 @@ module _ {V : Type 0} where
 module _ {S V : Type 0} where
   pub same_again : (a b c : Seat S V) → IsSame a b → IsSame b c → IsSame a c
   same_again a b c p q = record { table = q.table ∙ p.table; id = q.id ∙ p.id; slots = q.slots ∙ p.slots }
+
+-- one more of a kind
+pub all_more : {A : Type 0} (P : A → Type 0) (x : A) (xs : List A) → P x → All P xs → All P (x ∷ xs)
+all_more {A = A} P x xs p all k = elim k as (λ (k : ℕ). (d : A) → k < length (x ∷ xs) → P (get_or (x ∷ xs) k d)) [ zero ↦ λ _ _. p | suc k ↦ λ d l. all k d (omega arith) ]
+
+pub none_of : {A : Type 0} (P : A → Type 0) → All P []
+none_of P k d l = absurd (omega arith)
