@@ -1,6 +1,9 @@
 -- Exclusive access: what the holder knows of the other seats, and the steps of each call.
 use Rattle.std.specs.Prelude.{◌≡◌, ◌≢◌, ℕ, zero, suc, ◌+◌, ◌<◌, ◌≤◌, ◌==◌, if◌then◌else◌, List, [], ◌∷◌, ◌++◌, Result, Ok, Err}
-use Rattle.lock_core.specs.declared.parts.Phase.TheVariants.{Out, Holder}
+use mathlib.Core.Option.{some}
+use lib.ListN.{get_elem?}
+use Rattle.atomic_table.specs.Table.{State}
+use Rattle.lock_core.specs.declared.parts.Phase.TheVariants.{Out, Shared, Holder}
 use Rattle.lock_core.specs.declared.parts.Standing.TheVariants.{Free, Seen, Held}
 use Rattle.lock_core.specs.declared.parts.LockStep.{LockStep}
 use Rattle.lock_core.specs.declared.parts.LockStep.TheVariants.{Take, Ask, Peek, Unask, Give}
@@ -9,7 +12,8 @@ use Rattle.busy_forbidden.specs.declared.rule.Busy.{Busy}
 use Rattle.busy_forbidden.specs.declared.rule.Busy.TheVariants.{Forbidden, Mutex, Seat}
 use Rattle.busy_forbidden.specs.Shown.{standing}
 use Rattle.busy_forbidden.specs.Calls.{run}
-use Rattle.busy_forbidden.specs.Entries.{Steps, AllSet, took_after}
+use Rattle.busy_forbidden.specs.declared.view.Read.TheVariants as Reads
+use Rattle.busy_forbidden.specs.Entries.{Steps, AllSet, took_after, reads_of}
 
 -- a seat is out, and no forbidden flag that it set is left
 pub record IsOut (v : LockView) : Type 0 where
@@ -113,7 +117,18 @@ module _ {V : Type 0} where
     pub holds : HoldsBelow i n asks
     pub view : w ≡ run next (took_after held ++ asks) v
 
--- what an exclusive entry without a wait leaves in the own view
-abbrev pub ShowsExclusive : ℕ → ℕ → LockView → Result (Unit {0}) Busy → Type 0
-ShowsExclusive i n w (Ok u) = IsGranted w i n
-ShowsExclusive i n w (Err b) = IsOut w
+-- what an exclusive entry without a wait leaves in the own view: after a Busy no flag that it set, and the word that it
+-- read as set
+abbrev pub ShowsExclusive : ℕ → ℕ → LockView → LockView → Result (Unit {0}) Busy → Type 0
+ShowsExclusive i n v w (Ok u) = IsGranted w i n × (w.reads ≡ v.reads ++ reads_of ((Take, 0) ∷ asked_below i n))
+ShowsExclusive i n v w (Err Forbidden) = ⊥
+ShowsExclusive i n v w (Err Mutex) = IsOut w × ((f : ℕ) × (f ≢ 0) × (w.reads ≡ v.reads ++ Reads.Mutex f ∷ []))
+ShowsExclusive i n v w (Err (Seat j)) =
+    IsOut w × ((f : ℕ) × (f ≢ 0) × (w.reads ≡ (v.reads ++ reads_of ((Take, 0) ∷ asked_below i j)) ++ Reads.Busy j f ∷ []))
+
+module _ {S V : Type 0} where
+  -- beside a seat whose view is granted exclusive access, no seat is shared and no other is holder
+  abbrev pub KeepsApart : (V → LockView) → ℕ → State S V → Type 0
+  KeepsApart lock n s =
+      (i j : ℕ) (v u : V) → get_elem? s.views i ≡ some v → get_elem? s.views j ≡ some u → IsGranted (lock v) i n → j ≢ i
+      → ((lock u).phase ≢ Shared) × ((lock u).phase ≢ Holder)

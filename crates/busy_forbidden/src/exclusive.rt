@@ -68,7 +68,7 @@ pub fn try_enter_exclusive<K: HasLock>(table: &Table<K>, seat: &mut Seat<K>) -> 
     requires may { K.can Take seat.old.seat.me.0 }
     ensures same { IsSame seat.old.seat seat.new.seat × (seat.new.number ≡ seat.old.number) × (seat.new.seats ≡ seat.old.seats) }
     ensures steps { TriesExclusive K.next seat.old.number seat.old.seats seat.old.seat.me.0 seat.new.seat.me.0 result }
-    ensures shows { ShowsExclusive seat.old.number seat.old.seats (K.lock seat.new.seat.me.0) result }
+    ensures shows { ShowsExclusive seat.old.number seat.old.seats (K.lock seat.old.seat.me.0) (K.lock seat.new.seat.me.0) result }
 {
     if take(table, seat) != 0 {
         return Err(Busy::Mutex);

@@ -8,6 +8,7 @@ ghost use Rattle.busy_forbidden.specs.declared.view.LockView.{LockView};
 ghost use Rattle.busy_forbidden.specs.Shown.{Shows, view_at};
 ghost use Rattle.busy_forbidden.specs.Moves.{MayStep, word_of, written, moved};
 ghost use Rattle.busy_forbidden.specs.Rules.{ShowsLock};
+ghost use Rattle.busy_forbidden.specs.Exclusive.{KeepsApart};
 
 use crate::rule::HasLock;
 
@@ -22,6 +23,7 @@ pub fn steps_are_the_locks()
 /// Between any two steps of any seats the table shows a lock in which the facts of exclusion hold: beside an exclusive
 /// seat no seat is shared and no other is exclusive.
 pub fn lock_holds<K: HasLock>(about: &K::Key)
-    ensures { (s : State (Unit {0}) K.View) → K.holds about.now s → (l : ShowsLock K.lock (K.seats about.now) s) × Exclusion l.state }
+    ensures lock { (s : State (Unit {0}) K.View) → K.holds about.now s → (l : ShowsLock K.lock (K.seats about.now) s) × Exclusion l.state }
+    ensures apart { (s : State (Unit {0}) K.View) → K.holds about.now s → KeepsApart K.lock (K.seats about.now) s }
 {
 }

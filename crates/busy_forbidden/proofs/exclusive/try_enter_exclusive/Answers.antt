@@ -4,7 +4,7 @@ use Rattle.busy_forbidden.specs.Moves.{moved}
 use Rattle.busy_forbidden.specs.Calls.{IsSame, run}
 use Rattle.busy_forbidden.specs.Entries.{Steps}
 use Rattle.busy_forbidden.specs.Exclusive.{IsGranting, IsGranted, HasSeen, IsFreeing, asked_one, asked_below, released, next_release}
-use Rattle.busy_forbidden.proofs.Asking.{takes_none, seen_freeing, all_granted, begins_free, asked_more, runs_on, same_again}
+use Rattle.busy_forbidden.proofs.Asking.{takes_none, seen_freeing, all_granted, begins_free, asked_more, runs_on, same_again, reads_run, seen_reads}
 use Rattle.busy_forbidden.proofs.exclusive.try_enter_exclusive.Goals as goal
 
 pub loop-j-init : goal.loop-j-init
@@ -96,6 +96,30 @@ pub returns-clause-shows : goal.returns-clause-shows
 returns-clause-shows g c =
     let inv = c.loop-j.invariant in
     let all = inv.all in
-    let end : c.loop-j.j ≡ c.args.seat.now.seats = omega arith in
+    let i : ℕ = c.args.seat.now.number in
+    let n : ℕ = c.args.seat.now.seats in
+    let next = g.K.HasLock.next in
+    let v = c.args.seat.now.seat.me.0 in
+    let end : c.loop-j.j ≡ n = omega arith in
     let granting = subst (λ (z : ℕ × ℕ). IsGranting (g.K.HasLock.lock c.loop-j.seat.seat.me.0) z.0 z.1) (λ t. (inv.number t, end t)) inv.granting in
-    all_granted c.args.seat.now.number c.args.seat.now.seats _ granting
+    let view = subst (λ k. c.loop-j.seat.seat.me.0 ≡ run next ((Take, 0) ∷ asked_below i k) v) end inv.view in
+    (all_granted i n _ granting, ap (λ w. (g.K.HasLock.lock w).reads) view ∙ reads_run g.K.HasLock.lock next g.K.HasLock.moves ((Take, 0) ∷ asked_below i n) v)
+
+pub returns-then-ask_one-ne0-clause-shows : goal.returns-then-ask_one-ne0-clause-shows
+returns-then-ask_one-ne0-clause-shows g c =
+    let inv = c.loop-j.invariant in
+    let i : ℕ = c.args.seat.now.number in
+    let j : ℕ = c.loop-j.j in
+    let f : ℕ = c.ask_one.result in
+    let next = g.K.HasLock.next in
+    let v = c.args.seat.now.seat.me.0 in
+    let e = c.ask_one.ensures in
+    let busy : f ≢ 0 = c.if-ask_one-ne0.true in
+    let seen = e.seen busy in
+    let before : Steps = (Take, 0) ∷ asked_below i j in
+    let tried : Steps = (Ask j, 0) ∷ (Peek j, f) ∷ [] in
+    let freed = subst (λ (i : ℕ). c.release.new.seat.seat.me.0 ≡ run next (released i (j + 1)) c.ask_one.new.seat.seat.me.0) (e.same.1 ∙ inv.number) c.release.ensures.view in
+    let after = runs_on next tried (released i (j + 1)) _ _ _ seen.1 freed in
+    let view = runs_on next before (tried ++ released i (j + 1)) _ _ _ inv.view after in
+    let reads = ap (λ w. (g.K.HasLock.lock w).reads) view ∙ reads_run g.K.HasLock.lock next g.K.HasLock.moves (before ++ (tried ++ released i (j + 1))) v in
+    (c.release.ensures.out, (f, busy, reads ∙ seen_reads i j f (g.K.HasLock.lock v).reads))
