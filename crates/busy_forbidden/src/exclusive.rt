@@ -66,9 +66,10 @@ pub fn try_enter_exclusive<K: HasLock>(table: &Table<K>, seat: &mut Seat<K>) -> 
     requires of { (seat.old.seat.table_id ≡ table.now.shared.table_id) × (seat.old.seats ≡ K.seats table.now.shared.key) }
     requires out { (K.lock seat.old.seat.me.0).phase ≡ Out }
     requires may { K.can Take seat.old.seat.me.0 }
+    ensures of { (seat.new.seat.table_id ≡ table.now.shared.table_id) × (seat.new.seats ≡ K.seats table.now.shared.key) }
     ensures same { IsSame seat.old.seat seat.new.seat × (seat.new.number ≡ seat.old.number) × (seat.new.seats ≡ seat.old.seats) }
     ensures steps { TriesExclusive K.next seat.old.number seat.old.seats seat.old.seat.me.0 seat.new.seat.me.0 result }
-    ensures shows { ShowsExclusive seat.old.number seat.old.seats (K.lock seat.old.seat.me.0) (K.lock seat.new.seat.me.0) result }
+    ensures shows { ShowsExclusive seat.new.number seat.new.seats (K.lock seat.old.seat.me.0) (K.lock seat.new.seat.me.0) result }
 {
     if take(table, seat) != 0 {
         return Err(Busy::Mutex);
@@ -88,6 +89,7 @@ pub fn leave_exclusive<K: HasLock>(table: &Table<K>, seat: &mut Seat<K>)
     requires of { (seat.old.seat.table_id ≡ table.now.shared.table_id) × (seat.old.seats ≡ K.seats table.now.shared.key) }
     requires granted { IsGranted (K.lock seat.old.seat.me.0) seat.old.number seat.old.seats }
     requires may { K.can (next_release seat.old.number 0 seat.old.seats) seat.old.seat.me.0 }
+    ensures of { (seat.new.seat.table_id ≡ table.now.shared.table_id) × (seat.new.seats ≡ K.seats table.now.shared.key) }
     ensures same { IsSame seat.old.seat seat.new.seat × (seat.new.number ≡ seat.old.number) × (seat.new.seats ≡ seat.old.seats) }
     ensures view { seat.new.seat.me.0 ≡ run K.next (released seat.old.number seat.old.seats) seat.old.seat.me.0 }
     ensures out { IsOut (K.lock seat.new.seat.me.0) }

@@ -9,6 +9,8 @@ mod rule;
 mod seat;
 mod shared;
 mod steps;
+#[cfg(test)]
+mod tests;
 mod view;
 mod waiting;
 

@@ -15,6 +15,7 @@ pub fn try_enter_shared<K: HasLock>(table: &Table<K>, seat: &mut Seat<K>) -> Res
     requires of { (seat.old.seat.table_id ≡ table.now.shared.table_id) × (seat.old.seats ≡ K.seats table.now.shared.key) }
     requires out { (K.lock seat.old.seat.me.0).phase ≡ Out }
     requires may { K.can Raise seat.old.seat.me.0 }
+    ensures of { (seat.new.seat.table_id ≡ table.now.shared.table_id) × (seat.new.seats ≡ K.seats table.now.shared.key) }
     ensures same { IsSame seat.old.seat seat.new.seat × (seat.new.number ≡ seat.old.number) × (seat.new.seats ≡ seat.old.seats) }
     ensures steps { TriesShared K.next seat.old.seat.me.0 seat.new.seat.me.0 result }
     ensures shows { ShowsShared (K.lock seat.old.seat.me.0) (K.lock seat.new.seat.me.0) result }
@@ -32,6 +33,7 @@ pub fn leave_shared<K: HasLock>(table: &Table<K>, seat: &mut Seat<K>)
     requires of { (seat.old.seat.table_id ≡ table.now.shared.table_id) × (seat.old.seats ≡ K.seats table.now.shared.key) }
     requires entered { (K.lock seat.old.seat.me.0).phase ≡ Shared }
     requires may { K.can Lower seat.old.seat.me.0 }
+    ensures of { (seat.new.seat.table_id ≡ table.now.shared.table_id) × (seat.new.seats ≡ K.seats table.now.shared.key) }
     ensures same { IsSame seat.old.seat seat.new.seat × (seat.new.number ≡ seat.old.number) × (seat.new.seats ≡ seat.old.seats) }
     ensures view { seat.new.seat.me.0 ≡ K.next Lower 0 seat.old.seat.me.0 }
     ensures out { (K.lock seat.new.seat.me.0).phase ≡ Out }

@@ -39,6 +39,7 @@ pub fn enter_shared<K: HasLock, R: Wait>(rt: &R, table: &Table<K>, seat: &mut Se
     requires of { (seat.old.seat.table_id ≡ table.now.shared.table_id) × (seat.old.seats ≡ K.seats table.now.shared.key) }
     requires out { (K.lock seat.old.seat.me.0).phase ≡ Out }
     requires may { K.can Raise seat.old.seat.me.0 }
+    ensures of { (seat.new.seat.table_id ≡ table.now.shared.table_id) × (seat.new.seats ≡ K.seats table.now.shared.key) }
     ensures same { IsSame seat.old.seat seat.new.seat × (seat.new.number ≡ seat.old.number) × (seat.new.seats ≡ seat.old.seats) }
     ensures steps { EntersShared K.next seat.old.seat.me.0 seat.new.seat.me.0 }
     ensures entered { (K.lock seat.new.seat.me.0).phase ≡ Shared }
@@ -83,9 +84,10 @@ pub fn enter_exclusive<K: HasLock, R: Wait>(rt: &R, table: &Table<K>, seat: &mut
     requires of { (seat.old.seat.table_id ≡ table.now.shared.table_id) × (seat.old.seats ≡ K.seats table.now.shared.key) }
     requires out { (K.lock seat.old.seat.me.0).phase ≡ Out }
     requires may { K.can Take seat.old.seat.me.0 }
+    ensures of { (seat.new.seat.table_id ≡ table.now.shared.table_id) × (seat.new.seats ≡ K.seats table.now.shared.key) }
     ensures same { IsSame seat.old.seat seat.new.seat × (seat.new.number ≡ seat.old.number) × (seat.new.seats ≡ seat.old.seats) }
     ensures steps { EntersExclusive K.next seat.old.number seat.old.seats seat.old.seat.me.0 seat.new.seat.me.0 }
-    ensures granted { IsGranted (K.lock seat.new.seat.me.0) seat.old.number seat.old.seats }
+    ensures granted { IsGranted (K.lock seat.new.seat.me.0) seat.new.number seat.new.seats }
 {
     take_mutex(rt, table, seat);
     let seats = seat.seats;

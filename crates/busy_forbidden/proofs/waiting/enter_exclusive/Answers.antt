@@ -56,6 +56,9 @@ pub returns-clause-granted : goal.returns-clause-granted
 returns-clause-granted g c =
     let inv = c.loop-j.invariant in
     let all = inv.all in
-    let end : c.loop-j.j ≡ c.args.seat.now.seats = omega arith in
-    let granting = subst (λ (z : ℕ × ℕ). IsGranting (g.K.HasLock.lock c.loop-j.seat.seat.me.0) z.0 z.1) (λ t. (inv.number t, end t)) inv.granting in
-    all_granted c.args.seat.now.number c.args.seat.now.seats _ granting
+    let same = inv.seats in
+    let end : c.loop-j.j ≡ c.loop-j.seat.seats = omega arith in
+    all_granted c.loop-j.seat.number c.loop-j.seat.seats _ (subst (IsGranting (g.K.HasLock.lock c.loop-j.seat.seat.me.0) c.loop-j.seat.number) end inv.granting)
+
+pub returns-clause-of : goal.returns-clause-of
+returns-clause-of g c = let inv = c.loop-j.invariant in (inv.same.table ∙ c.requires.of.0, inv.seats ∙ c.requires.of.1)

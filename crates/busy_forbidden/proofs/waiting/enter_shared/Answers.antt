@@ -57,3 +57,10 @@ returns-then-look-eq0-clause-steps g c =
     let next = g.K.HasLock.next in
     let view = c.look.ensures.made.view ∙ (ap (next Look c.look.result) c.raise.ensures.made.view ∙ ap (λ f. next Look f (next Raise 0 c.loop.seat.seat.me.0)) c.if-look-eq0.true) in
     record { rounds = inv.waited.0; all_set = inv.waited.1; view = runs_on next (waits inv.waited.0) entered _ _ _ inv.waited.2 view }
+
+pub returns-then-look-eq0-clause-of : goal.returns-then-look-eq0-clause-of
+returns-then-look-eq0-clause-of g c =
+    let inv = c.loop.invariant in
+    let a = c.raise.ensures.same in
+    let b = c.look.ensures.same in
+    (b.0.table ∙ (a.0.table ∙ (inv.same.table ∙ c.requires.of.0)), b.2 ∙ (a.2 ∙ (inv.seats ∙ c.requires.of.1)))
