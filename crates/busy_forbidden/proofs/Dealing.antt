@@ -139,7 +139,7 @@ module _ {A : Type 0} where
   each_front P k x xs p e = record {
     count = let c = e.count in omega arith;
     each = λ j. elim j as (λ (j : ℕ). (y : A) → slice_get (x ∷ xs) j ≡ Some y → P j y) [
-      zero ↦ λ y g. let same : x ≡ y = grind arith in subst (P 0) same p
+      | zero ↦ λ y g. let same : x ≡ y = grind arith in subst (P 0) same p
       | suc j ↦ λ y g. subst (λ (m : ℕ). P m y) (add-one j) (e.each j y g)
     ];
   }

@@ -17,13 +17,11 @@ pub fn steps_are_the_locks()
     ensures in_place { (n : ℕ) (words : List ℕ) (vs : List LockView) (l : Lock) (i : ℕ) (x : LockStep) → Shows n words vs l → IsSound l → i < length vs → MayStep n i (view_at vs i) x → InPlace l i x }
     ensures shows { (n : ℕ) (words : List ℕ) (vs : List LockView) (l : Lock) (i : ℕ) (x : LockStep) → Shows n words vs l → IsSound l → i < length vs → MayStep n i (view_at vs i) x
         → let f = slice_index words (word_of i x) in Shows n (slice_set words (word_of i x) (written i x f)) (slice_set vs i (moved (view_at vs i) x f)) (after l i x) }
-{
-}
+{}
 
 /// Between any two steps of any seats the table shows a lock in which the facts of exclusion hold: beside an exclusive
 /// seat no seat is shared and no other is exclusive.
 pub fn lock_holds<K: HasLock>(about: &K::Key)
     ensures lock { (s : State (Unit {0}) K.View) → K.holds about.now s → (l : ShowsLock K.lock (K.seats about.now) s) × Exclusion l.state }
     ensures apart { (s : State (Unit {0}) K.View) → K.holds about.now s → KeepsApart K.lock (K.seats about.now) s }
-{
-}
+{}

@@ -83,7 +83,9 @@ pub(crate) fn raise<K: HasLock>(table: &Table<K>, seat: &mut Seat<K>)
     ensures same { IsSame seat.old.seat seat.new.seat × (seat.new.number ≡ seat.old.number) × (seat.new.seats ≡ seat.old.seats) }
     ensures made { Made K.lock K.can K.next seat.old.seat.me.0 seat.new.seat.me.0 Raise 0 }
 {
-    table.shared.store::<Raises<K>>(&mut seat.seat, 1 + 2 * seat.number as usize, 1);
+    table
+        .shared
+        .store::<Raises<K>>(&mut seat.seat, 1 + 2 * seat.number as usize, 1);
 }
 
 // Reads the own forbidden flag.
@@ -94,7 +96,9 @@ pub(crate) fn look<K: HasLock>(table: &Table<K>, seat: &mut Seat<K>) -> u64
     ensures same { IsSame seat.old.seat seat.new.seat × (seat.new.number ≡ seat.old.number) × (seat.new.seats ≡ seat.old.seats) }
     ensures made { Made K.lock K.can K.next seat.old.seat.me.0 seat.new.seat.me.0 Look result }
 {
-    table.shared.load::<Looks<K>>(&mut seat.seat, 2 + 2 * seat.number as usize)
+    table
+        .shared
+        .load::<Looks<K>>(&mut seat.seat, 2 + 2 * seat.number as usize)
 }
 
 // Clears the own busy flag.
@@ -105,7 +109,9 @@ pub(crate) fn lower<K: HasLock>(table: &Table<K>, seat: &mut Seat<K>)
     ensures same { IsSame seat.old.seat seat.new.seat × (seat.new.number ≡ seat.old.number) × (seat.new.seats ≡ seat.old.seats) }
     ensures made { Made K.lock K.can K.next seat.old.seat.me.0 seat.new.seat.me.0 Lower 0 }
 {
-    table.shared.store::<Lowers<K>>(&mut seat.seat, 1 + 2 * seat.number as usize, 0);
+    table
+        .shared
+        .store::<Lowers<K>>(&mut seat.seat, 1 + 2 * seat.number as usize, 0);
 }
 
 // Takes the mutex, where it is free, and gives what its word was.
@@ -116,7 +122,9 @@ pub(crate) fn take<K: HasLock>(table: &Table<K>, seat: &mut Seat<K>) -> u64
     ensures same { IsSame seat.old.seat seat.new.seat × (seat.new.number ≡ seat.old.number) × (seat.new.seats ≡ seat.old.seats) }
     ensures made { Made K.lock K.can K.next seat.old.seat.me.0 seat.new.seat.me.0 Take result }
 {
-    table.shared.compare_exchange::<Takes<K>>(&mut seat.seat, 0, 0, seat.number as u64 + 1)
+    table
+        .shared
+        .compare_exchange::<Takes<K>>(&mut seat.seat, 0, 0, seat.number as u64 + 1)
 }
 
 // Sets seat j's forbidden flag.
@@ -127,7 +135,9 @@ pub(crate) fn ask<K: HasLock>(table: &Table<K>, seat: &mut Seat<K>, j: u32)
     ensures same { IsSame seat.old.seat seat.new.seat × (seat.new.number ≡ seat.old.number) × (seat.new.seats ≡ seat.old.seats) }
     ensures made { Made K.lock K.can K.next seat.old.seat.me.0 seat.new.seat.me.0 (Ask j) 0 }
 {
-    table.shared.store::<Asks<K>>(&mut seat.seat, 2 + 2 * j as usize, 1);
+    table
+        .shared
+        .store::<Asks<K>>(&mut seat.seat, 2 + 2 * j as usize, 1);
 }
 
 // Reads seat j's busy flag.
@@ -138,7 +148,9 @@ pub(crate) fn peek<K: HasLock>(table: &Table<K>, seat: &mut Seat<K>, j: u32) -> 
     ensures same { IsSame seat.old.seat seat.new.seat × (seat.new.number ≡ seat.old.number) × (seat.new.seats ≡ seat.old.seats) }
     ensures made { Made K.lock K.can K.next seat.old.seat.me.0 seat.new.seat.me.0 (Peek j) result }
 {
-    table.shared.load::<Peeks<K>>(&mut seat.seat, 1 + 2 * j as usize)
+    table
+        .shared
+        .load::<Peeks<K>>(&mut seat.seat, 1 + 2 * j as usize)
 }
 
 // Clears seat j's forbidden flag.
@@ -149,7 +161,9 @@ pub(crate) fn unask<K: HasLock>(table: &Table<K>, seat: &mut Seat<K>, j: u32)
     ensures same { IsSame seat.old.seat seat.new.seat × (seat.new.number ≡ seat.old.number) × (seat.new.seats ≡ seat.old.seats) }
     ensures made { Made K.lock K.can K.next seat.old.seat.me.0 seat.new.seat.me.0 (Unask j) 0 }
 {
-    table.shared.store::<Unasks<K>>(&mut seat.seat, 2 + 2 * j as usize, 0);
+    table
+        .shared
+        .store::<Unasks<K>>(&mut seat.seat, 2 + 2 * j as usize, 0);
 }
 
 // Gives the mutex back.

@@ -52,8 +52,11 @@ loop-preserved g c =
       same = same_again _ _ _ inv.same (same_again _ _ _ a.same.0 u.same.0);
       number = u.same.1 ∙ (a.same.1 ∙ inv.number);
       seats = u.same.2 ∙ (a.same.2 ∙ inv.seats);
-      tries = (f ∷ inv.tries.0, all_more (λ f. f ≢ 0) f inv.tries.0 busy inv.tries.1,
-      runs_on next (failed_asks j inv.tries.0) (tried ++ freed) _ _ _ inv.tries.2 (runs_on next tried freed _ _ _ seen.1 u.made.view));
+      tries = (
+        f ∷ inv.tries.0,
+        all_more (λ f. f ≢ 0) f inv.tries.0 busy inv.tries.1,
+        runs_on next (failed_asks j inv.tries.0) (tried ++ freed) _ _ _ inv.tries.2 (runs_on next tried freed _ _ _ seen.1 u.made.view),
+      );
       granting = subst (λ i. IsGranting (g.K.HasLock.lock c.unask.new.seat.seat.me.0) i j) (sym (u.same.1 ∙ a.same.1))
           (subst (λ l. IsGranting l c.loop.seat.number j) (sym u.made.shown) granting);
       may = λ k. u.made.may (Ask k) tt;
