@@ -1,0 +1,4 @@
+pub mod Goes
+pub mod Dealing
+pub mod Asking
+pub mod Apart
