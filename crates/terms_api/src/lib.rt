@@ -1,0 +1,9 @@
+//! A store of terms as its callers see it: maximally shared terms, a stack of rows that keeps
+//! terms, and calls that read, build and give up.
+#![tactic(auto)]
+
+mod terms;
+mod trials;
+
+pub use terms::{BuildFault, Deep, Terms};
+pub use trials::{build_pair, have_one_row, read_back};
