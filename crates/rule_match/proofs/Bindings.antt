@@ -1,0 +1,111 @@
+-- Binding a variable to a row, by its place among the bound rows.
+use Rattle.std.proofs.Common.{◌≡◌, ℕ, zero, suc, ◌+◌, ◌<◌, ◌≤◌, List, [], ◌∷◌, ◌++◌, length, get_or, map, Option, Some, None, Bool, true, false, refl, sym, ◌∙◌, ap, arith, subst, eqb-true, eq-eqb}
+use Rattle.std.specs.Prelude.{◌==◌, if◌then◌else◌, option_and_then, All, slice_get, reverse}
+use Rattle.std.specs.Option.{option_map}
+use Rattle.std.proofs.lemmas.Option.{same_Some}
+use Rattle.std.proofs.lemmas.List.{map_push, length-map, get_or-map, reverse-append}
+use Rattle.std.proofs.lemmas.List.Elements.{All-get_or}
+use Rattle.term_model.specs.Tree.{Tree, Leaf, tree_eq}
+use Rattle.term_model.specs.declared.Row.{Row}
+use Rattle.term_model.specs.declared.Item.{Item}
+use Rattle.term_model.proofs.Equality.{tree_eq_sound, tree_eq_same}
+use Rattle.terms_api.specs.Terms.{Store, IsHeld, IsSound, tree_at}
+use Rattle.terms_api.proofs.Callers.{same_row}
+use Rattle.rewrite_model.specs.Matching.{bind}
+use Rattle.rule_match.specs.Binding.{bind_all}
+
+-- a test of the tree at a place
+abbrev tested : Bool → List Tree → Option (List Tree)
+tested b ts = if b then Some ts else None
+
+bind_bound : (x : ℕ) (t d : Tree) (ts : List Tree) → x < length ts → bind x t ts ≡ tested (tree_eq (get_or ts x d) t) ts
+bind_bound x t d [] l = absurd (omega arith)
+bind_bound zero t d (u ∷ us) l = refl
+bind_bound (suc x) t d (u ∷ us) l = ap (λ o. option_map (λ vs. u ∷ vs) o) (bind_bound x t d us (omega arith)) ∙ inside (tree_eq (get_or us x d) t)
+  where
+    inside : (b : Bool) → option_map (λ vs. u ∷ vs) (tested b us) ≡ tested b (u ∷ us)
+    inside true = refl
+    inside false = refl
+
+bind_beyond : (x : ℕ) (t : Tree) (ts : List Tree) → length ts < x → bind x t ts ≡ None
+bind_beyond zero t ts l = absurd (omega arith)
+bind_beyond (suc x) t [] l = refl
+bind_beyond (suc x) t (u ∷ us) l = ap (λ o. option_map (λ vs. u ∷ vs) o) (bind_beyond x t us (omega arith))
+
+bind_next : (x : ℕ) (t : Tree) (ts : List Tree) → x ≡ length ts → bind x t ts ≡ Some (ts ++ t ∷ [])
+bind_next zero t [] e = refl
+bind_next (suc x) t [] e = cc
+bind_next zero t (u ∷ us) e = cc
+bind_next (suc x) t (u ∷ us) e = ap (λ o. option_map (λ vs. u ∷ vs) o) (bind_next x t us (omega arith))
+
+-- the tree at a place of some rows
+tree_there : (s : Store) (rows : List Row) (x : ℕ) (q : Row) (d : Tree) → x < length rows → q ≡ get_or rows x q → get_or (map (tree_at s) rows) x d ≡ tree_at s q
+tree_there s rows x q d l e = get_or-map (tree_at s) rows x q d l ∙ ap (tree_at s) (sym e)
+
+bound_there : (s : Store) (rows : List Row) (x : ℕ) (q : Row) (t : Tree) → x < length rows → q ≡ get_or rows x q → bind x t (map (tree_at s) rows) ≡ tested (tree_eq (tree_at s q) t) (map (tree_at s) rows)
+bound_there s rows x q t l e =
+    bind_bound x t (Leaf x) (map (tree_at s) rows) (omega (arith, length-map rows (tree_at s)))
+    ∙ ap (λ u. tested (tree_eq u t) (map (tree_at s) rows)) (tree_there s rows x q (Leaf x) l e)
+
+-- a variable that is bound to the same row
+pub bound_same : (s : Store) (rows : List Row) (x : ℕ) (q r : Row) → x < length rows → q ≡ get_or rows x q → q ≡ r → bind x (tree_at s r) (map (tree_at s) rows) ≡ Some (map (tree_at s) rows)
+bound_same s rows x q r l e i =
+    bound_there s rows x q (tree_at s r) l e
+    ∙ ap (λ b. tested b (map (tree_at s) rows)) (tree_eq_same (tree_at s q) (tree_at s r) (ap (tree_at s) i))
+
+-- a variable that is bound to another row
+pub bound_other : (s : Store) (rows : List Row) (x : ℕ) (q r : Row) → IsSound s → All (IsHeld s) rows → IsHeld s r → x < length rows → q ≡ get_or rows x q → (q ≡ r → ⊥) → bind x (tree_at s r) (map (tree_at s) rows) ≡ None
+bound_other s rows x q r sound all held l e n =
+    bound_there s rows x q (tree_at s r) l e ∙ go (tree_eq (tree_at s q) (tree_at s r)) refl
+  where
+    q_held : IsHeld s q
+    q_held = subst (IsHeld s) (sym e) (All-get_or (IsHeld s) rows x q l all)
+
+    go : (b : Bool) → tree_eq (tree_at s q) (tree_at s r) ≡ b → tested b (map (tree_at s) rows) ≡ None
+    go true f = absurd (n (same_row s q r sound q_held held (tree_eq_sound (tree_at s q) (tree_at s r) f)))
+    go false f = refl
+
+pub not_yet : (s : Store) (rows : List Row) (x : ℕ) (r : Row) → length rows < x → bind x (tree_at s r) (map (tree_at s) rows) ≡ None
+not_yet s rows x r l = bind_beyond x (tree_at s r) (map (tree_at s) rows) (omega (arith, length-map rows (tree_at s)))
+
+pub newly : (s : Store) (rows new : List Row) (x : ℕ) (r : Row) → x ≡ length rows → new ≡ rows ++ r ∷ [] → bind x (tree_at s r) (map (tree_at s) rows) ≡ Some (map (tree_at s) new)
+newly s rows new x r l e =
+    bind_next x (tree_at s r) (map (tree_at s) rows) (l ∙ sym (length-map rows (tree_at s)))
+    ∙ ap Some (sym (map_push (tree_at s) rows r))
+    ∙ ap (λ rs. Some (map (tree_at s) rs)) (sym e)
+
+-- the last row found is for the next variable
+last_found : (s : Store) (found rest : List Row) (r : Row) → found ≡ rest ++ r ∷ [] → reverse (map (tree_at s) found) ≡ tree_at s r ∷ reverse (map (tree_at s) rest)
+last_found s found rest r e =
+    ap (λ rs. reverse (map (tree_at s) rs)) e
+    ∙ ap reverse (map_push (tree_at s) rest r)
+    ∙ reverse-append (map (tree_at s) rest) (tree_at s r ∷ [])
+
+pub binds_more : (s : Store) (found rest rows new : List Row) (r : Row) (x : ℕ) (xs : List ℕ) → found ≡ rest ++ r ∷ [] → bind x (tree_at s r) (map (tree_at s) rows) ≡ Some (map (tree_at s) new) → bind_all (x ∷ xs) (reverse (map (tree_at s) found)) (map (tree_at s) rows) ≡ bind_all xs (reverse (map (tree_at s) rest)) (map (tree_at s) new)
+binds_more s found rest rows new r x xs e b =
+    ap (λ ts. bind_all (x ∷ xs) ts (map (tree_at s) rows)) (last_found s found rest r e)
+    ∙ ap (λ o. option_and_then (λ more. bind_all xs (reverse (map (tree_at s) rest)) more) o) b
+
+pub binds_none : (s : Store) (found rest rows : List Row) (r : Row) (x : ℕ) (xs : List ℕ) → found ≡ rest ++ r ∷ [] → bind x (tree_at s r) (map (tree_at s) rows) ≡ None → bind_all (x ∷ xs) (reverse (map (tree_at s) found)) (map (tree_at s) rows) ≡ None
+binds_none s found rest rows r x xs e b =
+    ap (λ ts. bind_all (x ∷ xs) ts (map (tree_at s) rows)) (last_found s found rest r e)
+    ∙ ap (λ o. option_and_then (λ more. bind_all xs (reverse (map (tree_at s) rest)) more) o) b
+
+pub binds_short : (s : Store) (found : List Row) (x : ℕ) (xs : List ℕ) (bound : List Tree) → found ≡ [] → bind_all (x ∷ xs) (reverse (map (tree_at s) found)) bound ≡ None
+binds_short s found x xs bound e = ap (λ rs. bind_all (x ∷ xs) (reverse (map (tree_at s) rs)) bound) e
+
+-- rows are told apart by their numbers
+pub same_number : (q r : Row) → (q.0 == r.0) ≡ true → q ≡ r
+same_number q r e = let f : ℕ → Row = λ n. record { 0 = n } in ap f (eqb-true q.0 r.0 e)
+
+pub other_number : (q r : Row) → (q.0 == r.0) ≡ false → q ≡ r → ⊥
+other_number q r e i = let f : (q.0 == r.0) ≡ true = eq-eqb q.0 r.0 (ap (λ v. v.0) i) in let z : true ≡ false = sym f ∙ e in absurd (cc)
+
+-- a match in rows, when the store is as it was
+pub matched : (s late : Store) (m : Option (List Tree)) (xs : List ℕ) (found rows : List Row) → late ≡ s → m ≡ bind_all xs (reverse (map (tree_at s) found)) [] → bind_all xs (reverse (map (tree_at late) found)) [] ≡ Some (map (tree_at late) rows) → m ≡ Some (map (tree_at s) rows)
+matched s late m xs found rows e is bound =
+    is ∙ subst (λ (v : Store). bind_all xs (reverse (map (tree_at v) found)) [] ≡ Some (map (tree_at v) rows)) e bound
+
+pub unmatched : (s late : Store) (m : Option (List Tree)) (xs : List ℕ) (found : List Row) → late ≡ s → m ≡ bind_all xs (reverse (map (tree_at s) found)) [] → bind_all xs (reverse (map (tree_at late) found)) [] ≡ None → m ≡ None
+unmatched s late m xs found e is none =
+    is ∙ subst (λ (v : Store). bind_all xs (reverse (map (tree_at v) found)) [] ≡ None) e none

@@ -1,0 +1,5 @@
+pub mod Pending
+pub mod Finding
+pub mod Bindings
+pub mod Pushing
+pub mod Skipping

@@ -1,0 +1,4 @@
+pub mod Planned
+pub mod Groups
+pub mod Binding
+pub mod Stands
