@@ -31,7 +31,7 @@ fn a_symbol_tells_its_name_and_arity(rt: HostRuntime) -> Result<(), Fail> {
     pool.intern(b"f", 1)?;
     let symbol = pool.intern(b"mult", 2)?;
     assert_eq!(rt; symbol, Symbol(1));
-    assert_eq!(rt; pool.name(symbol), b"mult");
+    assert_eq!(rt; pool.name(symbol), b"mult".as_slice());
     assert_eq!(rt; pool.arity(symbol), 2);
     Ok(())
 }
