@@ -1,11 +1,10 @@
 -- Each step keeps the facts of exclusion, so every list of steps does.
-use Rattle.std.proofs.Common.{◌≡◌, ◌≢◌, ◌⊎◌, ℕ, ◌<◌, Bool, true, false, Option, None, Some, List, [], ◌∷◌, length, cond, refl, sym, ap, ◌∙◌, subst, ⊎_elim, ◌≤◌, get_or, arith}
+use Rattle.std.proofs.Common.{◌≡◌, ◌≢◌, ℕ, ◌<◌, Bool, true, false, Option, None, Some, List, [], ◌∷◌, length, cond, refl, sym, ap, ◌∙◌, subst, ⊎_elim, ◌≤◌, get_or, arith}
 use Rattle.std.proofs.lemmas.Grind.{common_steps}
 use Rattle.std.proofs.lemmas.Bool.{cases_lt}
 use Rattle.lock_core.specs.declared.parts.Phase.{Phase}
 use Rattle.lock_core.specs.declared.parts.Phase.TheVariants.{Out, Raised, Shared, Blocked, Holder}
-use Rattle.lock_core.specs.declared.parts.Standing.{Standing}
-use Rattle.lock_core.specs.declared.parts.Standing.TheVariants.{Free, Asked, Seen, Held}
+use Rattle.lock_core.specs.declared.parts.Standing.TheVariants.{Asked, Seen, Held}
 use Rattle.lock_core.specs.declared.parts.LockStep.{LockStep}
 use Rattle.lock_core.specs.declared.parts.LockStep.TheVariants.{Raise, Look, Lower, Take, Ask, Peek, Unask, Give}
 use Rattle.lock_core.specs.declared.parts.SeatState.{SeatState}

@@ -4,3 +4,4 @@ pub mod Appending
 pub mod Decimals
 pub mod Separated
 pub mod StepTexts
+pub mod OneOutcome

@@ -1,5 +1,5 @@
 -- The facts of exclusion, seat by seat.
-use Rattle.std.proofs.Common.{◌≡◌, ◌≢◌, ◌↔◌, ℕ, zero, suc, ◌<◌, Option, None, Some, List, [], ◌∷◌, length, get_or, set, replicate, refl, sym, subst, get_or-set_same, get_or-set_other}
+use Rattle.std.proofs.Common.{◌≡◌, ◌≢◌, ◌↔◌, ℕ, zero, suc, ◌<◌, Option, None, Some, List, length, get_or, set, replicate, refl, sym, subst, get_or-set_same, get_or-set_other}
 use mathlib.Core.Logic.{dite}
 use native.Mathlib.Decide.{ℕ_discrete}
 use Rattle.lock_core.specs.declared.parts.Phase.TheVariants.{Shared, Holder}

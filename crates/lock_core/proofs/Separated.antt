@@ -1,5 +1,5 @@
 -- Bytes at the first separator, and the lines of a text.
-use Rattle.std.proofs.Common.{◌≡◌, ◌≢◌, ℕ, zero, suc, ◌+◌, ◌<◌, ◌≤◌, List, [], ◌∷◌, ◌++◌, length, get_or, refl, sym, ap, ◌∙◌, subst, arith, cond, eq-eqb, ne_eqb, eqb, Bool, true, false}
+use Rattle.std.proofs.Common.{◌≡◌, ◌≢◌, ℕ, zero, suc, ◌<◌, List, [], ◌∷◌, ◌++◌, length, get_or, refl, sym, ap, ◌∙◌, arith, cond, eq-eqb, ne_eqb, eqb, Bool, true, false}
 use Rattle.lock_core.specs.Lines.{Lacks}
 use Rattle.lock_core.specs.Schedule.{lines, before_lines}
 

@@ -1,6 +1,5 @@
 -- The busy-forbidden lock of Groote, Laveaux and van Spaendonck (2022) as plain data: what each step needs, and what it does.
 use Rattle.std.specs.Prelude.{◌≡◌, ◌≢◌, ◌⊎◌, ℕ, ◌<◌, true, false, if◌then◌else◌, Option, Some, None, MatchOption, List, [], ◌∷◌, length, get_or, set, replicate}
-use Rattle.lock_core.specs.declared.parts.Phase.{Phase}
 use Rattle.lock_core.specs.declared.parts.Phase.TheVariants.{Out, Raised, Shared, Blocked, Holder}
 use Rattle.lock_core.specs.declared.parts.Standing.{Standing}
 use Rattle.lock_core.specs.declared.parts.Standing.TheVariants.{Free, Asked, Seen, Held}

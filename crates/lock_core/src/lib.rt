@@ -15,6 +15,6 @@ pub use exclusion::exclusion_holds;
 pub use faults::Memory;
 pub use machine::step;
 pub use parts::{LockStep, Phase, SeatState, Standing};
-pub use reading::{LineFault, schedule};
+pub use reading::{LineFault, schedule, schedules_have_one_outcome};
 pub use state::LockState;
 pub use writing::write_state;

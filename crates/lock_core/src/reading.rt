@@ -1,8 +1,9 @@
 // Schedules, read and run.
-ghost use Rattle.std.specs.Prelude.{◌≡◌, ◌≢◌, ◌↔◌, ℕ, ◌<◌, ◌≤◌, [], ◌++◌, ◌∷◌, length, MatchOption, IsTrue};
+ghost use Rattle.std.specs.Prelude.{◌≡◌, ◌≢◌, ◌↔◌, ℕ, ◌<◌, ◌≤◌, [], ◌++◌, ◌∷◌, List, Result, length, MatchOption, IsTrue};
 ghost use Rattle.std.specs.Fmt.{decimal};
 ghost use Rattle.lock_core.specs.declared.parts.LockStep.{LockStep};
-ghost use Rattle.lock_core.specs.Lock.{at_start};
+ghost use Rattle.lock_core.specs.declared.reading.LineFault.{LineFault};
+ghost use Rattle.lock_core.specs.Lock.{Lock, at_start};
 ghost use Rattle.lock_core.specs.Lines.{Lacks, IsNoStepAlone, IsNoStepOn};
 ghost use Rattle.lock_core.specs.Schedule.{lines, step_text, IsOnSeat, IsLine, IsBadLine, ComesTo};
 
@@ -152,4 +153,10 @@ pub fn schedule(bytes: &[u8], seats: u32) -> Result<LockState, LineFault>
         rest = after;
     }
     Ok(state)
+}
+
+/// A schedule comes to one lock or one fault alone.
+pub fn schedules_have_one_outcome()
+    ensures { (n : ℕ) (l : Lock) (k : ℕ) (ls : List (List ℕ)) (r q : Result Lock LineFault) → n ≤ 16 → ComesTo n l k ls r → ComesTo n l k ls q → r ≡ q }
+{
 }

@@ -2,3 +2,10 @@ pub mod Text
 pub mod FirstForm
 pub mod FirstRead
 pub mod FirstReading
+pub mod Scanned
+pub mod Tokens
+pub mod Syntax
+pub mod Parsed
+pub mod Grammar
+pub mod Refusal
+pub mod Steps

@@ -1,10 +1,25 @@
-//! Reads rewrite specifications.
+//! Reads rewrite specifications: the tokens of bytes, and the syntax that tokens spell.
 #![tactic(auto)]
 
+mod fail;
+mod machine;
+mod parser;
+mod scanner;
+mod sequence;
 mod simple_form;
+mod syntax_tree;
+mod token;
 
+pub use fail::{BAD_BYTE, ReadFail, UNENDED, UNEXPECTED};
 pub use faults::Memory;
+pub use parser::syntax;
+pub use scanner::tokens;
+pub use sequence::Sequence;
 pub use simple_form::{First, FirstFail, first_form};
+pub use syntax_tree::{Condition, Declaration, Node, Rule, Specification, Syntax, Variables};
+pub use token::{Name, Sign, Token, Tokens};
 
+#[cfg(test)]
+mod reading_tests;
 #[cfg(test)]
 mod tests;

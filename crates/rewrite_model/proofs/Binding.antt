@@ -31,11 +31,11 @@ bind_next (suc x) t [] e = cc
 bind_next zero t (u ∷ us) e = cc
 bind_next (suc x) t (u ∷ us) e = ap (λ o. option_map (λ vs. u ∷ vs) o) (bind_next x t us (omega arith))
 
-length_trees : (xs : List Term) → length (trees xs) ≡ length xs
+pub length_trees : (xs : List Term) → length (trees xs) ≡ length xs
 length_trees [] = refl
 length_trees (x ∷ xs) = ap suc (length_trees xs)
 
-trees_push : (xs : List Term) (u : Term) → trees (xs ++ u ∷ []) ≡ trees xs ++ tree_of u ∷ []
+pub trees_push : (xs : List Term) (u : Term) → trees (xs ++ u ∷ []) ≡ trees xs ++ tree_of u ∷ []
 trees_push [] u = refl
 trees_push (x ∷ xs) u = ap (λ ts. tree_of x ∷ ts) (trees_push xs u)
 

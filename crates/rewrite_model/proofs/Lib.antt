@@ -6,3 +6,6 @@ pub mod Reached
 pub mod OutermostReached
 pub mod Stacks
 pub mod Binding
+pub mod Comes
+pub mod Measures
+pub mod Counts

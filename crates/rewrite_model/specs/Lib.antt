@@ -8,4 +8,5 @@ pub mod Outermost
 pub mod Rows
 pub mod Laws
 pub mod Boxed
+pub mod Program
 pub mod Code

@@ -4,12 +4,20 @@
 ghost use Rattle.rewrite_model.specs.Rows.{OneAndOne, OneUseIsTooFew, RoomSix, RoomFive, OneAndOneBuilds, OneAndOneNeeds, FourTermsBuild, Twice, Guarded, AsksForItself, FirstRule, Products, OutermostEnds, OutermostSums, OutermostBuilds};
 
 mod boxed;
+mod counting;
+mod ends;
+mod evaluating;
 mod finding;
 mod laws;
 mod reading;
 mod rules;
+#[cfg(test)]
+mod tests;
 
 pub use boxed::{Arguments, Term};
+pub use counting::distinct;
+pub use ends::{End, Evaluated};
+pub use evaluating::evaluation;
 pub use laws::{built_laws, fuel_laws, matching_laws, value_laws};
 pub use rules::{Condition, Rule};
 

@@ -1,7 +1,7 @@
-use Rattle.std.proofs.Common.{◌≡◌, ℕ, ◌<◌, ◌^◌, ◌/◌, [], ◌∷◌, ◌++◌, List, length, sym, ap, ◌∙◌, arith}
+use Rattle.std.proofs.Common.{ℕ, ◌<◌, ◌^◌, ◌/◌, [], ◌∷◌, ◌++◌, List, length, sym, ap, ◌∙◌, arith}
 use Rattle.std.specs.Fmt.{decimal}
-use Rattle.std.proofs.lemmas.Fmt.{decimal_digit, decimal_step}
-use Rattle.lock_core.proofs.Decimals.{digit_ends, number_ends, last_digit, has_digit, one_digit}
+use Rattle.std.proofs.lemmas.Fmt.{decimal_step}
+use Rattle.lock_core.proofs.Decimals.{number_ends, last_digit, has_digit, one_digit}
 use Rattle.lock_core.proofs.reading.+is_decimal.Goals as goal
 
 pub returns-in_default : goal.returns-in_default

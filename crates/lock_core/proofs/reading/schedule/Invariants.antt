@@ -1,4 +1,4 @@
-use Rattle.std.proofs.Common.{◌≡◌, ℕ, ◌+◌, ◌≤◌, length, Result}
+use Rattle.std.proofs.Common.{◌+◌, ◌≤◌, length, Result}
 use Rattle.lock_core.specs.declared.reading.LineFault.{LineFault}
 use Rattle.lock_core.specs.Lock.{Lock, at_start}
 use Rattle.lock_core.specs.Schedule.{lines, ComesTo}

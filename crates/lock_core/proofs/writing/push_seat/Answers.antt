@@ -1,6 +1,5 @@
-use Rattle.std.proofs.Common.{◌≡◌, ◌++◌, [], ◌∷◌, List, ℕ, codes, sym, ap, ◌∙◌, append_assoc}
+use Rattle.std.proofs.Common.{◌++◌, List, ℕ, codes, ap, ◌∙◌, append_assoc}
 use Rattle.std.specs.Fmt.{decimal}
-use Rattle.lock_core.specs.StateText.{Appends}
 use Rattle.lock_core.proofs.Appending.{appends_after}
 use Rattle.lock_core.proofs.writing.push_seat.Goals as goal
 

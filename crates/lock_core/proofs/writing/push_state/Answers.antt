@@ -1,4 +1,4 @@
-use Rattle.std.proofs.Common.{◌≡◌, ◌++◌, [], ◌∷◌, List, ℕ, length, sym, ap, ◌∙◌, append_assoc, add-one, arith}
+use Rattle.std.proofs.Common.{◌≡◌, ◌++◌, List, ℕ, length, sym, ap, ◌∙◌, append_assoc, add-one, arith}
 use Rattle.lock_core.specs.declared.parts.SeatState.{SeatState}
 use Rattle.lock_core.specs.Lock.{seat_of}
 use Rattle.lock_core.specs.StateText.{seat_lines, seat_line, mutex_text, state_text}

@@ -1,4 +1,4 @@
-use Rattle.std.proofs.Common.{length, ap, ◌∙◌, arith, length-take}
+use Rattle.std.proofs.Common.{length, ap, arith, length-take}
 use Rattle.lock_core.specs.Lock.{Lock}
 use Rattle.lock_core.proofs.state.LockState.count.Goals as goal
 

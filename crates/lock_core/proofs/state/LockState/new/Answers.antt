@@ -1,7 +1,6 @@
-use Rattle.std.proofs.Common.{◌≡◌, ℕ, take, replicate, sym, ap, ◌∙◌, None}
+use Rattle.std.proofs.Common.{ap, None}
 use Rattle.std.proofs.lemmas.List.{take-replicate}
-use Rattle.lock_core.specs.declared.parts.SeatState.{SeatState}
-use Rattle.lock_core.specs.Lock.{Lock, idle}
+use Rattle.lock_core.specs.Lock.{idle}
 use Rattle.lock_core.proofs.state.LockState.new.Goals as goal
 
 pub returns : goal.returns

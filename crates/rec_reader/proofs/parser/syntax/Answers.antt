@@ -1,0 +1,32 @@
+use Rattle.std.proofs.Common.{◌∙◌, List, length, refl, ap, sym, subst}
+use Rattle.std.proofs.lemmas.Result.{err_from_is_err_and}
+use Rattle.rec_reader.specs.declared.token.Token.{Token}
+use Rattle.rec_reader.specs.Steps.{run, start}
+use Rattle.rec_reader.specs.Grammar.{IsInput}
+use Rattle.rec_reader.proofs.Verdicts.{refusal, no_stop, end_refusal, sentence, only_these, unended}
+use Rattle.rec_reader.proofs.parser.syntax.Goals as goal
+
+pub returns-in_err-run-clause-accepted : goal.returns-in_err-run-clause-accepted
+returns-in_err-run-clause-accepted c specs h =
+    let p = err_from_is_err_and c.from_residual-in_err-run.result c.from_residual-in_err-run.ensures.1 in
+    rw (p.1, p.2) (no_stop _ _ c.in_err-run.field-0.0 specs c.as_slice.ensures c.in_err-run.ensures.stopped h)
+
+pub returns-in_err-run-clause-refused_only_at_its_place : goal.returns-in_err-run-clause-refused_only_at_its_place
+returns-in_err-run-clause-refused_only_at_its_place c =
+    let p = err_from_is_err_and c.from_residual-in_err-run.result c.from_residual-in_err-run.ensures.1 in
+    rw (p.1, p.2) (refusal c.args.tokens.now _ c.in_err-run.field-0.0 c.as_slice.ensures c.in_err-run.ensures.stopped)
+
+pub returns-in-Some-clause-sentence : goal.returns-in-Some-clause-sentence
+returns-in-Some-clause-sentence c =
+    sentence c.args.tokens.now.tokens c.in_ok-run.field-0 c.in-Some.items (sym (ap (run start) c.as_slice.ensures) ∙ c.in_ok-run.ensures.ran) (sym c.finish.ensures ∙ c.in-Some.is)
+
+pub returns-in-Some-clause-only : goal.returns-in-Some-clause-only
+returns-in-Some-clause-only c others h = only_these c.args.tokens.now.tokens c.in-Some.items others (returns-in-Some-clause-sentence c) h
+
+pub returns-in-None-clause-accepted : goal.returns-in-None-clause-accepted
+returns-in-None-clause-accepted c specs h =
+    absurd ((unended c.args.tokens.now.tokens c.in_ok-run.field-0 (sym (ap (run start) c.as_slice.ensures) ∙ c.in_ok-run.ensures.ran) (sym c.finish.ensures ∙ c.in-None.is)).unended specs h)
+
+pub returns-in-None-clause-refused_only_at_its_place : goal.returns-in-None-clause-refused_only_at_its_place
+returns-in-None-clause-refused_only_at_its_place c =
+    end_refusal c.args.tokens.now _ c.in_ok-run.field-0 _ c.as_slice.ensures c.in_ok-run.ensures.ran (sym c.finish.ensures ∙ c.in-None.is) (ap length c.text-in-None.ensures)

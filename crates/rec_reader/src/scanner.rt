@@ -1,0 +1,178 @@
+//! Cuts bytes into tokens.
+ghost use Rattle.std.specs.Prelude.{◌≡◌, ◌+◌, ◌≤◌, ◌<◌, length, drop, IfOk, IfErr, IfSome, Ok, Err, take};
+ghost use Rattle.rec_reader.specs.Tokens.{is_space, is_plain, is_name_byte, run_length, comment_length, word_of, mark_of, more_of, token_of_run, piece_at, tokens_of, IsBadByte};
+
+use crate::fail::{BAD_BYTE, ReadFail};
+use crate::token::{Name, Sign, Token, Tokens};
+use std::alloc::Global;
+
+/// What begins at a byte, with the number of bytes that follow its first.
+#[derive(Clone, Copy)]
+pub(crate) enum Piece {
+    /// White space or a comment.
+    Blank(usize),
+    Whole(Token, usize),
+    Bad,
+}
+
+fn is_space(byte: u8) -> bool
+    ensures { result ≡ is_space byte }
+{
+    byte == b' ' || byte == b'\t' || byte == b'\r' || byte == b'\n'
+}
+
+fn is_plain(byte: u8) -> bool
+    ensures { result ≡ is_plain byte }
+{
+    byte.is_ascii_alphanumeric() || b"_'.@#$&*+/!?^~|\\".contains(&byte)
+}
+
+fn is_name_byte(bytes: &[u8], at: usize) -> bool
+    requires { at < length bytes.now }
+    ensures { result ≡ is_name_byte (drop at bytes.now) }
+{
+    is_plain(bytes[at]) || (bytes[at] == b'-' && !(at + 1 < bytes.len() && bytes[at + 1] == b'>'))
+}
+
+fn run_length(bytes: &[u8], start: usize) -> usize
+    requires { start ≤ length bytes.now }
+    ensures counted { result ≡ run_length (drop start bytes.now) }
+    ensures within { start + result ≤ length bytes.now }
+{
+    let mut at = start;
+    while at < bytes.len() && is_name_byte(bytes, at) {
+        at += 1;
+    }
+    at - start
+}
+
+fn comment_length(bytes: &[u8], start: usize) -> usize
+    requires { start ≤ length bytes.now }
+    ensures counted { result ≡ comment_length (drop start bytes.now) }
+    ensures within { start + result ≤ length bytes.now }
+{
+    let mut at = start;
+    while at < bytes.len() && bytes[at] != b'\n' {
+        at += 1;
+    }
+    at - start
+}
+
+fn word_of(run: &[u8]) -> Option<Sign>
+    ensures { result ≡ word_of run.now }
+{
+    if run == b"REC-SPEC".as_slice() {
+        Some(Sign::RecSpec)
+    } else if run == b"SORTS".as_slice() {
+        Some(Sign::Sorts)
+    } else if run == b"CONS".as_slice() {
+        Some(Sign::Cons)
+    } else if run == b"OPNS".as_slice() {
+        Some(Sign::Opns)
+    } else if run == b"VARS".as_slice() {
+        Some(Sign::Vars)
+    } else if run == b"RULES".as_slice() {
+        Some(Sign::Rules)
+    } else if run == b"EVAL".as_slice() {
+        Some(Sign::Eval)
+    } else if run == b"END-SPEC".as_slice() {
+        Some(Sign::EndSpec)
+    } else if run == b"if".as_slice() {
+        Some(Sign::If)
+    } else if run == b"and-if".as_slice() {
+        Some(Sign::AndIf)
+    } else {
+        None
+    }
+}
+
+fn mark_of(bytes: &[u8]) -> Option<(Sign, usize)>
+    ensures mark { result ≡ mark_of bytes.now }
+    ensures within { IfSome result (λ m. m.1 < length bytes.now) }
+{
+    if bytes.starts_with(b":") {
+        Some((Sign::Colon, 0))
+    } else if bytes.starts_with(b",") {
+        Some((Sign::Comma, 0))
+    } else if bytes.starts_with(b"(") {
+        Some((Sign::Open, 0))
+    } else if bytes.starts_with(b")") {
+        Some((Sign::Close, 0))
+    } else if bytes.starts_with(b"=") {
+        Some((Sign::Equal, 0))
+    } else if bytes.starts_with(b"<>") {
+        Some((Sign::Unequal, 1))
+    } else if bytes.starts_with(b"-><-") {
+        Some((Sign::Joins, 3))
+    } else if bytes.starts_with(b"->/<-") {
+        Some((Sign::Parts, 4))
+    } else if bytes.starts_with(b"->") {
+        Some((Sign::Arrow, 1))
+    } else {
+        None
+    }
+}
+
+// The token of a run that begins at `at` and has `more` bytes after its first.
+fn token_of_run(bytes: &[u8], at: usize, more: usize) -> Token
+    requires { at + more < length bytes.now }
+    ensures { result ≡ token_of_run at (take (more + 1) (drop at bytes.now)) }
+{
+    let end = at + more + 1;
+    match word_of(&bytes[at..end]) {
+        Some(sign) => Token::At(sign, at),
+        None => Token::Named(Name { start: at, end }),
+    }
+}
+
+fn piece_at(bytes: &[u8], at: usize) -> Piece
+    requires { at < length bytes.now }
+    ensures piece { result ≡ piece_at at (drop at bytes.now) }
+    ensures within { at + more_of result < length bytes.now }
+{
+    if is_space(bytes[at]) {
+        return Piece::Blank(0);
+    }
+    if bytes[at] == b'%' {
+        return Piece::Blank(comment_length(bytes, at + 1));
+    }
+    if is_name_byte(bytes, at) {
+        let more = run_length(bytes, at + 1);
+        return Piece::Whole(token_of_run(bytes, at, more), more);
+    }
+    match mark_of(&bytes[at..]) {
+        Some((sign, more)) => Piece::Whole(Token::At(sign, at), more),
+        None => Piece::Bad,
+    }
+}
+
+/// The tokens of bytes, with their places in bytes from 0.
+///
+/// White space is space, tab, CR and LF; a comment goes from `%` to the next LF or the end. A name is a
+/// longest run of name bytes that is no reserved word. Refuses with kind 1 the first byte where no token,
+/// white space or comment begins.
+pub fn tokens(alloc: Global, bytes: &[u8]) -> Result<Tokens, ReadFail>
+    ensures bytes { IfOk result (λ t. t.bytes ≡ bytes.now) }
+    ensures tokens { IfOk result (λ t. tokens_of bytes.now ≡ Ok t.tokens) }
+    ensures refused_only_at_first_bad_byte { IfErr result (IsBadByte bytes.now) }
+{
+    let mut items = Vec::new(alloc);
+    let mut at = 0;
+    while at < bytes.len() {
+        match piece_at(bytes, at) {
+            Piece::Blank(more) => at += more + 1,
+            Piece::Whole(token, more) => {
+                items.push(token)?;
+                at += more + 1;
+            }
+            Piece::Bad => {
+                return Err(ReadFail::Refused {
+                    kind: BAD_BYTE,
+                    offset: at as u64,
+                });
+            }
+        }
+    }
+    let text = Vec::from_slice(alloc, bytes)?;
+    Ok(Tokens { text, items })
+}

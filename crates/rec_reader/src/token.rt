@@ -1,0 +1,91 @@
+//! What the bytes are cut into.
+ghost use Rattle.std.specs.Prelude.{◌≡◌};
+ghost use Rattle.rec_reader.specs.Refusal.{place_of};
+
+use std::marker::Model;
+
+/// A name of the input: its bytes stand from `start` up to `end`, places in bytes from 0.
+#[derive(Clone, Copy, Debug, PartialEq, Eq)]
+pub struct Name {
+    pub start: usize,
+    pub end: usize,
+}
+
+/// A reserved word or a mark.
+#[derive(Clone, Copy, Debug, PartialEq, Eq)]
+pub enum Sign {
+    RecSpec,
+    Sorts,
+    Cons,
+    Opns,
+    Vars,
+    Rules,
+    Eval,
+    EndSpec,
+    If,
+    AndIf,
+    /// `-><-`
+    Joins,
+    /// `->/<-`
+    Parts,
+    /// `->`
+    Arrow,
+    Colon,
+    Comma,
+    Open,
+    Close,
+    /// `=`
+    Equal,
+    /// `<>`
+    Unequal,
+}
+
+/// A name, or a sign with its place in bytes from 0.
+#[derive(Clone, Copy, Debug, PartialEq, Eq)]
+pub enum Token {
+    Named(Name),
+    At(Sign, usize),
+}
+
+impl Token {
+    /// The place of its first byte.
+    pub fn place(&self) -> usize
+        ensures { result ≡ place_of self.now }
+    {
+        match *self {
+            Token::Named(name) => name.start,
+            Token::At(_, at) => at,
+        }
+    }
+}
+
+/// The tokens of an input, with the input's bytes, in which the names stand.
+#[derive(Drop)]
+pub struct Tokens {
+    pub(crate) text: Vec<u8>,
+    pub(crate) items: Vec<Token>,
+}
+
+impl Model for Tokens {
+    ghost use Rattle.rec_reader.specs.Scanned.{Scanned};
+
+    ghost Value = { Scanned };
+
+    ghost view = { λ t. record { bytes = t.text.items; tokens = t.items.items } };
+}
+
+impl Tokens {
+    /// The input's bytes.
+    pub fn text(&self) -> &[u8]
+        ensures { result.now ≡ self.now.bytes }
+    {
+        self.text.as_slice()
+    }
+
+    /// The tokens in order.
+    pub fn as_slice(&self) -> &[Token]
+        ensures { result.now ≡ self.now.tokens }
+    {
+        self.items.as_slice()
+    }
+}

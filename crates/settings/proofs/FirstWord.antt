@@ -1,0 +1,34 @@
+-- What words give, by the option that their first word names.
+use Rattle.std.proofs.Common.{◌≡◌, ℕ, ◌<◌, List, [], ◌∷◌, length, Option, Some, None, String, refl, sym, ap, ◌∙◌, arith}
+use Rattle.std.specs.Prelude.{option_and_then}
+use Rattle.std.specs.Global.{Global}
+use Rattle.settings.specs.declared.parts.Command.{Command}
+use Rattle.settings.specs.declared.options.OptionName.{OptionName}
+use Rattle.std.specs.String.{string_bytes}
+use Rattle.settings.specs.Words.{Text, texts, given_options, settings_of, in_front, begun, takes_value, option_named, before_equals_sign, after_equals_sign}
+use Rattle.settings.specs.Reading.{IsRead, given_from}
+
+pub given_by : (c : Command) (word : Text) (rest : List (String Global)) (o : OptionName) (attached : Option Text)
+    → option_named c (before_equals_sign word) ≡ Some o → attached ≡ after_equals_sign word
+    → given_options c None (word ∷ texts rest) ≡ given_from c o attached rest
+given_by c word rest o attached e a =
+    ap (option_and_then (λ n. begun n (takes_value n) (after_equals_sign word) (given_options c None (texts rest)) (given_options c (Some n) (texts rest)))) e
+    ∙ ap (λ t. begun o (takes_value o) t (given_options c None (texts rest)) (given_options c (Some o) (texts rest))) (sym a)
+
+pub read_by : (c : Command) (word : Text) (rest : List (String Global)) (o : OptionName) (attached : Option Text) (n : ℕ) (after : List (String Global))
+    → option_named c (before_equals_sign word) ≡ Some o → attached ≡ after_equals_sign word
+    → IsRead c (given_from c o attached rest) rest o n after → IsRead c (given_options c None (word ∷ texts rest)) rest o n after
+read_by c word rest o attached n after e a h =
+    record { gives = given_by c word rest o attached e a ∙ h.gives; within = h.within; shorter = h.shorter }
+
+-- words whose first option was read give that option, and what the words after it give
+pub gives_first : (c : Command) (words : List (String Global)) (word : String Global) (rest : List (String Global)) (text : Text) (o : OptionName) (n : ℕ) (after : List (String Global))
+    → words ≡ word ∷ rest → text ≡ string_bytes word → IsRead c (given_options c None (text ∷ texts rest)) rest o n after
+    → given_options c None (texts words) ≡ in_front o (Some n) (given_options c None (texts after))
+gives_first c words word rest text o n after e t h =
+    ap (λ ws. given_options c None (texts ws)) e ∙ (ap (λ first. given_options c None (first ∷ texts rest)) (sym t) ∙ h.gives)
+
+pub too_few : (words : List (String Global)) → length words < 2 → None ≡ settings_of (texts words)
+too_few [] h = refl
+too_few (program ∷ []) h = refl
+too_few (program ∷ command ∷ rest) h = absurd (omega arith)

@@ -1,0 +1,4 @@
+pub mod Numbers
+pub mod Signs
+pub mod FirstWord
+pub mod Once

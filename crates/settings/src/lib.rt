@@ -1,0 +1,12 @@
+//! The command line: the words that the program is started with, as settings.
+#![tactic(auto)]
+
+mod given;
+mod options;
+mod parts;
+mod reading;
+#[cfg(test)]
+mod tests;
+
+pub use parts::{Command, Settings, WordsFault};
+pub use reading::settings;

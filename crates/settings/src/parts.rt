@@ -1,0 +1,40 @@
+// What a command line comes to.
+use thiserror::Error;
+
+/// What the program is to do.
+#[derive(Clone, Copy, Debug, PartialEq, Eq)]
+pub enum Command {
+    /// Rewrites the terms of a specification to their values.
+    Rewrite,
+    /// Runs a schedule of steps of the lock.
+    Schedule,
+}
+
+/// How the program is to do it. A field that the command does not use has its default.
+#[derive(Clone, Copy, Debug, PartialEq, Eq)]
+pub struct Settings {
+    pub command: Command,
+    /// Threads that rewrite terms. Always 1 so far.
+    pub workers: u32,
+    /// Rules that may be applied to one term, 0 to 1,000,000,000. By default 1,000,000.
+    pub fuel: u64,
+    /// Trees that the store can hold, 1 to 262,144. By default 65,536.
+    pub rows: u32,
+    /// Places on a worker's stack, the room that a term is rewritten in, 1 to 65,536. By default 4,096.
+    pub depth: u32,
+    /// Whether a value's sizes are written in place of its text.
+    pub sizes: bool,
+    /// Seats of the lock, 1 to 16. By default 2.
+    pub seats: u32,
+}
+
+/// Why words give no settings. The text of each is the line that the program writes of it.
+#[derive(Clone, Copy, Debug, PartialEq, Eq, Error)]
+pub enum WordsFault {
+    /// The words are not accepted.
+    #[error("usage: rec COMMAND [OPTIONS]")]
+    Usage,
+    /// There is no memory.
+    #[error("out of memory")]
+    Memory,
+}

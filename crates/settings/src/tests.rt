@@ -1,0 +1,177 @@
+// Words and the settings that they give.
+use crate::{Command, Settings, WordsFault, settings};
+use std::alloc::{AllocError, Global};
+use std::test::Fail;
+
+const REWRITE: Settings = Settings {
+    command: Command::Rewrite,
+    workers: 1,
+    fuel: 1_000_000,
+    rows: 65_536,
+    depth: 4_096,
+    sizes: false,
+    seats: 2,
+};
+
+const SCHEDULE: Settings = Settings {
+    command: Command::Schedule,
+    ..REWRITE
+};
+
+// The words of a line, between single spaces; no words where the line is empty.
+fn words_of(alloc: Global, line: &str) -> Result<Vec<String>, AllocError> {
+    let mut words = Vec::new(alloc);
+    if line.is_empty() {
+        return Ok(words);
+    }
+    for word in line.split(' ') {
+        words.push(String::from_str(alloc, word)?)?;
+    }
+    Ok(words)
+}
+
+#[test]
+fn accepted_words_give_their_settings(rt: HostRuntime) -> Result<(), Fail> {
+    let rows = [
+        ("rec rewrite", REWRITE),
+        ("rec rewrite --fuel 2", Settings { fuel: 2, ..REWRITE }),
+        ("rec rewrite --fuel=+0", Settings { fuel: 0, ..REWRITE }),
+        (
+            "rec rewrite --fuel 1000000000",
+            Settings {
+                fuel: 1_000_000_000,
+                ..REWRITE
+            },
+        ),
+        (
+            "rec rewrite --fuel 000000000000000000000000000000000000000007",
+            Settings { fuel: 7, ..REWRITE },
+        ),
+        (
+            "rec rewrite --depth 5001",
+            Settings {
+                depth: 5_001,
+                ..REWRITE
+            },
+        ),
+        (
+            "rec rewrite --depth=65536",
+            Settings {
+                depth: 65_536,
+                ..REWRITE
+            },
+        ),
+        ("rec rewrite --rows 3", Settings { rows: 3, ..REWRITE }),
+        (
+            "rec rewrite --rows=262144",
+            Settings {
+                rows: 262_144,
+                ..REWRITE
+            },
+        ),
+        (
+            "rec rewrite --sizes",
+            Settings {
+                sizes: true,
+                ..REWRITE
+            },
+        ),
+        (
+            "rec rewrite --sizes --depth 1 --rows=1 --fuel +3",
+            Settings {
+                sizes: true,
+                depth: 1,
+                rows: 1,
+                fuel: 3,
+                ..REWRITE
+            },
+        ),
+        ("rec schedule", SCHEDULE),
+        (
+            "rec schedule --seats 1",
+            Settings {
+                seats: 1,
+                ..SCHEDULE
+            },
+        ),
+        (
+            "rec schedule --seats=16",
+            Settings {
+                seats: 16,
+                ..SCHEDULE
+            },
+        ),
+        ("-- rewrite", REWRITE),
+    ];
+    for (line, want) in rows {
+        let words = words_of(rt.alloc(), line)?;
+        assert_eq!(rt; settings(words.as_slice()), Ok(want), "{line}");
+    }
+    Ok(())
+}
+
+#[test]
+fn other_words_are_usage(rt: HostRuntime) -> Result<(), Fail> {
+    let lines = [
+        "",
+        "rec",
+        "rec --help",
+        "rec --version",
+        "rec help",
+        "rec rew",
+        "rec Rewrite",
+        "rec -- rewrite",
+        "rec --fuel 2 rewrite",
+        "rec rewrite rewrite",
+        "rec rewrite x",
+        "rec rewrite --",
+        "rec rewrite -h",
+        "rec rewrite --help",
+        "rec rewrite --version",
+        "rec rewrite --workers 0",
+        "rec rewrite --seats 2",
+        "rec schedule --rows 2",
+        "rec rewrite --fue 2",
+        "rec rewrite --fuel",
+        "rec rewrite --fuel=",
+        "rec rewrite --fuel 1000000001",
+        "rec rewrite --fuel 100000000000000000000000000000000000000000",
+        "rec rewrite --fuel -1",
+        "rec rewrite --fuel ++1",
+        "rec rewrite --fuel +",
+        "rec rewrite --fuel 1_000",
+        "rec rewrite --fuel \u{0661}",
+        "rec rewrite --fuel 2 --fuel 2",
+        "rec rewrite --fuel=2=2",
+        "rec rewrite --fuel --rows 2",
+        "rec rewrite --rows 0",
+        "rec rewrite --rows 262145",
+        "rec rewrite --depth 0",
+        "rec rewrite --depth 65537",
+        "rec rewrite --sizes=",
+        "rec rewrite --sizes=true",
+        "rec rewrite --sizes --sizes",
+        "rec rewrite --s\u{00ef}zes",
+        "rec schedule --seats 0",
+        "rec schedule --seats 17",
+        "rec schedule 2",
+    ];
+    for line in lines {
+        let words = words_of(rt.alloc(), line)?;
+        assert_eq!(rt;
+            settings(words.as_slice()),
+            Err(WordsFault::Usage),
+            "{line}"
+        );
+    }
+    Ok(())
+}
+
+#[test]
+fn a_fault_reads_as_its_line(rt: HostRuntime) -> Result<(), Fail> {
+    let usage = format!(in rt.alloc(); "{}", WordsFault::Usage)?;
+    assert_eq!(rt; usage.as_str(), "usage: rec COMMAND [OPTIONS]");
+    let memory = format!(in rt.alloc(); "{}", WordsFault::Memory)?;
+    assert_eq!(rt; memory.as_str(), "out of memory");
+    Ok(())
+}

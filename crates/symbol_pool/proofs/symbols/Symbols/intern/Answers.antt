@@ -1,0 +1,54 @@
+use Rattle.std.proofs.Common.{◌∙◌, ◌++◌, ◌∷◌, [], ap, sym, subst}
+use Rattle.symbol_pool.proofs.Places.{on_err}
+use Rattle.symbol_pool.proofs.Pools.{pool_of_kept}
+use Rattle.symbol_pool.proofs.Grown.{same_symbols, with_name, stands_there, Interned, interned}
+use Rattle.symbol_pool.specs.Pool.{named, Lacks}
+use Rattle.symbol_pool.specs.Kept.{symbols_of, AreKept}
+use Rattle.symbol_pool.proofs.symbols.Symbols.intern.Goals as goal
+
+pub returns-in_err-name-clause-unchanged : goal.returns-in_err-name-clause-unchanged
+returns-in_err-name-clause-unchanged c = on_err _ (same_symbols _ _ _ c.self.invariant c.name_index.ensures.stays ∙ c.self.view_is)
+
+pub returns-in_err-name-clause-pool : goal.returns-in_err-name-clause-pool
+returns-in_err-name-clause-pool c = pool_of_kept _ _ (with_name _ _ _ c.self.invariant c.name_index.ensures.stays c.name_index.ensures.differ)
+
+pub returns-in_err-symbol-clause-unchanged : goal.returns-in_err-symbol-clause-unchanged
+returns-in_err-symbol-clause-unchanged c =
+    on_err _ (ap (symbols_of c.name_index.new.names.keys) c.in_err-symbol.ensures.err ∙ same_symbols _ _ _ c.self.invariant c.name_index.ensures.stays ∙ c.self.view_is)
+
+pub returns-in_err-symbol-clause-pool : goal.returns-in_err-symbol-clause-pool
+returns-in_err-symbol-clause-pool c =
+    pool_of_kept _ _ (subst (AreKept c.name_index.new.names.keys) (sym c.in_err-symbol.ensures.err) (with_name _ _ _ c.self.invariant c.name_index.ensures.stays c.name_index.ensures.differ))
+
+grown : (c : goal.In_ok-symbol) → Interned c.self.inside.names.keys c.name_index.new.names.keys c.self.inside.pairs.keys c.insert_full.new.self.keys (named c.args.name.now c.args.arity)
+grown c =
+    interned
+    c.self.inside.names.keys
+    c.name_index.new.names.keys
+    c.self.inside.pairs.keys
+    c.insert_full.new.self.keys
+    c.in_ok-name.name
+    c.args.name.now
+    c.args.arity
+    c.self.invariant
+    c.name_index.ensures.stays
+    c.name_index.ensures.differ
+    c.in_ok-name.ensures.named
+    (subst (λ pool. Lacks pool (named c.args.name.now c.args.arity)) (sym c.self.view_is) c.in_default.ensures.absent)
+    c.in_ok-symbol.ensures.keys
+    c.insert_full.ensures.unique
+    (λ e. c.if-len-eq-MOST_SYMBOLS.false (c.len.ensures.len ∙ e))
+
+pub invariant_of-self-2 : goal.invariant_of-self-2
+invariant_of-self-2 c = (grown c).kept
+
+pub returns-clause-held : goal.returns-clause-held
+returns-clause-held c =
+    let k = c.in_ok-symbol.ensures.stored in
+    stands_there c.name_index.new.names.keys c.in_ok-name.name c.args.name.now c.args.arity c.in_ok-name.ensures.named c.insert_full.new.self.keys c.in_ok-symbol.symbol k.0 k.1 k.2
+
+pub returns-clause-added : goal.returns-clause-added
+returns-clause-added c = λ _. (grown c).shows ∙ ap (λ pool. pool ++ named c.args.name.now c.args.arity ∷ []) c.self.view_is
+
+pub returns-clause-pool : goal.returns-clause-pool
+returns-clause-pool c = pool_of_kept _ _ (grown c).kept

@@ -1,0 +1,10 @@
+//! The table of function symbols: a name with a number of arguments has one number.
+#![tactic(auto)]
+
+mod fault;
+mod symbols;
+#[cfg(test)]
+mod tests;
+
+pub use fault::PoolFault;
+pub use symbols::{MOST_SYMBOLS, Symbols};
