@@ -1,6 +1,6 @@
 //! Worked rows by the plain program.
 
-use crate::{Condition, End, Evaluated, Rule, Term, distinct, evaluation};
+use crate::{Condition, End, Evaluated, Rule, Term, distinct, evaluation, outermost};
 use faults::Memory;
 use std::alloc::Global;
 use std::process::Abort;
@@ -34,6 +34,8 @@ const G: Item = Item::App(Symbol(9), 1);
 const EQ: Item = Item::App(Symbol(10), 2);
 
 const D: Item = Item::App(Symbol(11), 1);
+
+const L: Item = Item::App(Symbol(13), 0);
 
 const P: Item = Item::App(Symbol(12), 2);
 
@@ -177,5 +179,26 @@ fn doubled_terms_have_few_subtrees(rt: HostRuntime) -> Result<(), Fail> {
         }
         _ => assert!(rt; false, "no value"),
     }
+    Ok(())
+}
+
+#[test]
+fn the_outermost_position_goes_first(rt: HostRuntime) -> Result<(), Fail> {
+    let alloc = rt.alloc();
+    let mut rules = Vec::new(alloc);
+    rules.push(rule(alloc, &[X, F], &[A], 1)?)?;
+    rules.push(rule(alloc, &[L], &[L], 0)?)?;
+    let term = flat(alloc, &[L, F])?;
+    let run = outermost(alloc, &rules, &term, 1, 2)?;
+    is_value(&rt, alloc, &run, &[A], 0)?;
+    let inner = evaluation(alloc, &rules, &term, 5, 99)?;
+    assert!(rt; matches!(&inner.end, End::OutOfFuel));
+    let deep = outermost(alloc, &rules, &term, 1, 1)?;
+    assert!(rt; matches!(&deep.end, End::TooDeep));
+    let sum = flat(alloc, &[Z, S, Z, S, PLUS])?;
+    let two = outermost(alloc, &sums(alloc)?, &sum, 2, 99)?;
+    is_value(&rt, alloc, &two, &[Z, S, S], 0)?;
+    let short = outermost(alloc, &sums(alloc)?, &sum, 1, 99)?;
+    assert!(rt; matches!(&short.end, End::OutOfFuel));
     Ok(())
 }
