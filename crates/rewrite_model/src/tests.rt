@@ -76,7 +76,7 @@ enum Seen {
     TooDeep,
 }
 
-fn seen(alloc: Global, run: &Evaluated, want: &[Item]) -> Result<Seen, Fail> {
+fn came_to(alloc: Global, run: &Evaluated, want: &[Item]) -> Result<Seen, Fail> {
     let want = Term::of(alloc, &flat(alloc, want)?)?;
     match &run.end {
         End::Value(value, left) => {
@@ -101,7 +101,7 @@ fn inner(
 ) -> Result<Seen, Fail> {
     let term = flat(alloc, term)?;
     let run = evaluation(alloc, rules, &term, fuel, room)?;
-    seen(alloc, &run, want)
+    came_to(alloc, &run, want)
 }
 
 fn outer(
@@ -114,7 +114,7 @@ fn outer(
 ) -> Result<Seen, Fail> {
     let term = flat(alloc, term)?;
     let run = outermost(alloc, rules, &term, fuel, room)?;
-    seen(alloc, &run, want)
+    came_to(alloc, &run, want)
 }
 
 /// How many trees an evaluation builds, and how many different ones.
