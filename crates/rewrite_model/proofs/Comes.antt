@@ -50,6 +50,12 @@ module _ {N : Type 0} (tree : N → Tree) where
   then_tail view x g a k old mid new fuel (Err TooDeep) s l t = agrees_then x g a k old mid new NoRoom s t
   then_tail view x g a k old mid new fuel (Err Memory) s l t = tt
 
+  pub then_on : {T A B : Type 0} (view : T → B) (x : Run N A) (g : A → ℕ → Run N B) (a : A) (k m : ℕ) (old mid new : List Tree) (fuel : ℕ) (r : Result (T × ℕ) Stop) → Agrees tree old mid (Done a k) x → m ≤ fuel → ComesTo tree view mid new m r (g a k) → ComesTo tree view old new fuel r (x >>= g)
+  then_on view x g a k m old mid new fuel (Ok r) s l t = (agrees_then x g a k old mid new (Done (view r.0) r.1) s t.0, omega (arith, t.1))
+  then_on view x g a k m old mid new fuel (Err OutOfFuel) s l t = agrees_then x g a k old mid new NoFuel s t
+  then_on view x g a k m old mid new fuel (Err TooDeep) s l t = agrees_then x g a k old mid new NoRoom s t
+  then_on view x g a k m old mid new fuel (Err Memory) s l t = tt
+
   pub comes_done : {A : Type 0} (a b : A) (old : List Tree) (fuel : ℕ) → b ≡ a → Agrees tree old old (Done b fuel) (done a fuel)
   comes_done {A} a b old fuel e = record { built = sym (append-nil old); ends = ap (λ c. Done c fuel) e }
 

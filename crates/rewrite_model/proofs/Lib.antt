@@ -9,3 +9,4 @@ pub mod Binding
 pub mod Comes
 pub mod Measures
 pub mod Counts
+pub mod Steppings

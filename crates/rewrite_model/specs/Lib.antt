@@ -9,4 +9,5 @@ pub mod Rows
 pub mod Laws
 pub mod Boxed
 pub mod Program
+pub mod Stepping
 pub mod Code

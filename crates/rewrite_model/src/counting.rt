@@ -1,7 +1,7 @@
 //! Sizes of boxed terms, and how many of them differ.
 
 ghost use Rattle.std.specs.Prelude.{◌≡◌, ◌++◌, ◌-◌, ◌^◌, min, drop, IfOk, OnOk};
-ghost use Rattle.term_model.specs.Tree.{nodes as nodes_of, nodes_all, subtrees as subtrees_of, subtrees_all, among as among_of, distinct as distinct_of};
+ghost use Rattle.term_model.specs.Tree.{count_of, nodes as nodes_of, nodes_all, subtrees as subtrees_of, subtrees_all, among as among_of, distinct as distinct_of};
 ghost use Rattle.rewrite_model.specs.Boxed.{tree_of, trees_in, trees};
 
 use crate::boxed::{Arguments, Term};
@@ -34,6 +34,16 @@ impl Term {
 }
 
 impl Arguments {
+    /// The count of terms, up to 2^64 - 1.
+    pub(crate) fn count(&self) -> u64
+        ensures { result ≡ min (count_of (trees_in self.now)) (2 ^ 64 - 1) }
+    {
+        match self {
+            Arguments::Empty => 0,
+            Arguments::Next(_, rest) => rest.count().saturating_add(1),
+        }
+    }
+
     #[cycle(counting)]
     fn nodes(&self) -> u64
         ensures { result ≡ min (nodes_all (trees_in self.now)) (2 ^ 64 - 1) }

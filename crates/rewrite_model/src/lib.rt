@@ -11,6 +11,7 @@ mod finding;
 mod laws;
 mod reading;
 mod rules;
+mod stepping;
 #[cfg(test)]
 mod tests;
 
@@ -20,6 +21,7 @@ pub use ends::{End, Evaluated};
 pub use evaluating::evaluation;
 pub use laws::{built_laws, fuel_laws, matching_laws, value_laws};
 pub use rules::{Condition, Rule};
+pub use stepping::outermost;
 
 /// Worked rows, which the definitions compute.
 pub fn worked_rows()

@@ -1,9 +1,7 @@
 //! Worked rows by the plain program.
 
-use crate::{Condition, End, Evaluated, Rule, Term, distinct, evaluation};
-use faults::Memory;
+use crate::{Condition, End, Evaluated, Rule, Term, distinct, evaluation, outermost};
 use std::alloc::Global;
-use std::process::Abort;
 use std::test::Fail;
 use term_model::{Flat, Item, Symbol};
 
@@ -34,6 +32,8 @@ const G: Item = Item::App(Symbol(9), 1);
 const EQ: Item = Item::App(Symbol(10), 2);
 
 const D: Item = Item::App(Symbol(11), 1);
+
+const L: Item = Item::App(Symbol(13), 0);
 
 const P: Item = Item::App(Symbol(12), 2);
 
@@ -67,38 +67,121 @@ fn sums(alloc: Global) -> Result<Vec<Rule>, Fail> {
     Ok(rules)
 }
 
-/// The value's items and the fuel left, or none where there is no value.
-fn is_value(
-    rt: &impl Abort,
-    alloc: Global,
-    run: &Evaluated,
-    items: &[Item],
-    fuel: u64,
-) -> Result<(), Fail> {
-    let want = Term::of(alloc, &flat(alloc, items)?)?;
+/// What an evaluation came to: the value that is wanted, with the fuel that is left, or what else.
+#[derive(Clone, Copy, Debug, PartialEq, Eq)]
+enum Seen {
+    Wanted(u64),
+    Other,
+    OutOfFuel,
+    TooDeep,
+}
+
+fn came_to(alloc: Global, run: &Evaluated, want: &[Item]) -> Result<Seen, Fail> {
+    let want = Term::of(alloc, &flat(alloc, want)?)?;
     match &run.end {
         End::Value(value, left) => {
-            assert!(rt; value.is_same(&want));
-            assert_eq!(rt; *left, fuel);
+            if value.is_same(&want) {
+                Ok(Seen::Wanted(*left))
+            } else {
+                Ok(Seen::Other)
+            }
         }
-        _ => assert!(rt; false, "no value"),
+        End::OutOfFuel => Ok(Seen::OutOfFuel),
+        End::TooDeep => Ok(Seen::TooDeep),
     }
-    Ok(())
 }
+
+fn inner(
+    alloc: Global,
+    rules: &[Rule],
+    term: &[Item],
+    fuel: u64,
+    room: u32,
+    want: &[Item],
+) -> Result<Seen, Fail> {
+    let term = flat(alloc, term)?;
+    let run = evaluation(alloc, rules, &term, fuel, room)?;
+    came_to(alloc, &run, want)
+}
+
+fn outer(
+    alloc: Global,
+    rules: &[Rule],
+    term: &[Item],
+    fuel: u64,
+    room: u32,
+    want: &[Item],
+) -> Result<Seen, Fail> {
+    let term = flat(alloc, term)?;
+    let run = outermost(alloc, rules, &term, fuel, room)?;
+    came_to(alloc, &run, want)
+}
+
+/// How many trees an evaluation builds, and how many different ones.
+fn built(alloc: Global, rules: &[Rule], term: &[Item]) -> Result<(usize, usize), Fail> {
+    let term = flat(alloc, term)?;
+    let run = evaluation(alloc, rules, &term, 99, 99)?;
+    Ok((run.built.len(), distinct(&run.built)))
+}
+
+/// The nodes of a value, and how many different subtrees it has; none without a value.
+fn sizes(alloc: Global, rules: &[Rule], term: &[Item], fuel: u64) -> Result<(u64, usize), Fail> {
+    let term = flat(alloc, term)?;
+    let run = evaluation(alloc, rules, &term, fuel, 1000)?;
+    match &run.end {
+        End::Value(value, _) => {
+            let mut list = Vec::new(alloc);
+            value.subtrees(alloc, &mut list)?;
+            Ok((value.nodes(), distinct(&list)))
+        }
+        _ => Ok((0, 0)),
+    }
+}
+
+/// A product of two numbers.
+fn product(alloc: Global, a: u32, b: u32) -> Result<Vec<Item>, Fail> {
+    let mut items = Vec::new(alloc);
+    items.push(Z)?;
+    for _ in 0..a {
+        items.push(S)?;
+    }
+    items.push(Z)?;
+    for _ in 0..b {
+        items.push(S)?;
+    }
+    items.push(MULT)?;
+    Ok(items)
+}
+
+const ONE_AND_ONE: [Item; 5] = [Z, S, Z, S, PLUS];
+
+const TWO: [Item; 3] = [Z, S, S];
 
 #[test]
 fn one_and_one_is_two(rt: HostRuntime) -> Result<(), Fail> {
     let alloc = rt.alloc();
     let rules = sums(alloc)?;
-    let term = flat(alloc, &[Z, S, Z, S, PLUS])?;
-    let run = evaluation(alloc, &rules, &term, 2, 6)?;
-    is_value(&rt, alloc, &run, &[Z, S, S], 0)?;
-    assert_eq!(rt; run.built.len(), 7);
-    assert_eq!(rt; distinct(&run.built), 5);
-    let short = evaluation(alloc, &rules, &term, 1, 6)?;
-    assert!(rt; matches!(&short.end, End::OutOfFuel));
-    let deep = evaluation(alloc, &rules, &term, 2, 5)?;
-    assert!(rt; matches!(&deep.end, End::TooDeep));
+    assert_eq!(rt;
+        inner(alloc, &rules, &ONE_AND_ONE, 2, 6, &TWO)?,
+        Seen::Wanted(0)
+    );
+    assert_eq!(rt;
+        inner(alloc, &rules, &ONE_AND_ONE, 1, 6, &TWO)?,
+        Seen::OutOfFuel
+    );
+    assert_eq!(rt;
+        inner(alloc, &rules, &ONE_AND_ONE, 2, 5, &TWO)?,
+        Seen::TooDeep
+    );
+    assert_eq!(rt;
+        outer(alloc, &rules, &ONE_AND_ONE, 2, 99, &TWO)?,
+        Seen::Wanted(0)
+    );
+    assert_eq!(rt;
+        outer(alloc, &rules, &ONE_AND_ONE, 1, 99, &TWO)?,
+        Seen::OutOfFuel
+    );
+    assert_eq!(rt; built(alloc, &rules, &ONE_AND_ONE)?, (7, 5));
     Ok(())
 }
 
@@ -107,16 +190,18 @@ fn a_repeated_variable_needs_equal_trees(rt: HostRuntime) -> Result<(), Fail> {
     let alloc = rt.alloc();
     let mut rules = Vec::new(alloc);
     rules.push(rule(alloc, &[X, X, EQ], &[A], 1)?)?;
-    let same = evaluation(alloc, &rules, &flat(alloc, &[Z, S, Z, S, EQ])?, 9, 99)?;
-    is_value(&rt, alloc, &same, &[A], 8)?;
-    let other = evaluation(alloc, &rules, &flat(alloc, &[Z, S, Z, EQ])?, 9, 99)?;
-    is_value(&rt, alloc, &other, &[Z, S, Z, EQ], 9)?;
+    assert_eq!(rt;
+        inner(alloc, &rules, &[Z, S, Z, S, EQ], 9, 99, &[A])?,
+        Seen::Wanted(8)
+    );
+    assert_eq!(rt;
+        inner(alloc, &rules, &[Z, S, Z, EQ], 9, 99, &[Z, S, Z, EQ])?,
+        Seen::Wanted(9)
+    );
     Ok(())
 }
 
-#[test]
-fn conditions_are_tried_in_order(rt: HostRuntime) -> Result<(), Fail> {
-    let alloc = rt.alloc();
+fn guarded(alloc: Global) -> Result<Vec<Rule>, Fail> {
     let mut conditions = Vec::new(alloc);
     conditions.push(condition(alloc, &[X, G], &[B], true)?)?;
     conditions.push(condition(alloc, &[X], &[C], false)?)?;
@@ -124,12 +209,25 @@ fn conditions_are_tried_in_order(rt: HostRuntime) -> Result<(), Fail> {
     rules.push(rule(alloc, &[X, G], &[B], 1)?)?;
     rules.push(Rule::new(flat(alloc, &[X, F])?, flat(alloc, &[A])?, conditions, 1))?;
     rules.push(rule(alloc, &[X, F], &[E], 1)?)?;
-    let failed = evaluation(alloc, &rules, &flat(alloc, &[C, F])?, 3, 99)?;
-    is_value(&rt, alloc, &failed, &[E], 0)?;
-    let short = evaluation(alloc, &rules, &flat(alloc, &[C, F])?, 2, 99)?;
-    assert!(rt; matches!(&short.end, End::OutOfFuel));
-    let held = evaluation(alloc, &rules, &flat(alloc, &[A, F])?, 2, 99)?;
-    is_value(&rt, alloc, &held, &[A], 0)?;
+    Ok(rules)
+}
+
+#[test]
+fn conditions_are_tried_in_order(rt: HostRuntime) -> Result<(), Fail> {
+    let alloc = rt.alloc();
+    let rules = guarded(alloc)?;
+    assert_eq!(rt;
+        inner(alloc, &rules, &[C, F], 3, 99, &[E])?,
+        Seen::Wanted(0)
+    );
+    assert_eq!(rt;
+        inner(alloc, &rules, &[C, F], 2, 99, &[E])?,
+        Seen::OutOfFuel
+    );
+    assert_eq!(rt;
+        inner(alloc, &rules, &[A, F], 2, 99, &[A])?,
+        Seen::Wanted(0)
+    );
     Ok(())
 }
 
@@ -139,25 +237,9 @@ fn products_use_as_much_fuel_as_they_say(rt: HostRuntime) -> Result<(), Fail> {
     let mut rules = sums(alloc)?;
     rules.push(rule(alloc, &[X, Z, MULT], &[Z], 1)?)?;
     rules.push(rule(alloc, &[X, Y, S, MULT], &[X, Y, MULT, X, PLUS], 2)?)?;
-    for (a, b, spent) in [(3u32, 1u32, 6u64), (10, 6, 73), (6, 11, 89)] {
-        let mut items = Vec::new(alloc);
-        items.push(Z)?;
-        for _ in 0..a {
-            items.push(S)?;
-        }
-        items.push(Z)?;
-        for _ in 0..b {
-            items.push(S)?;
-        }
-        items.push(MULT)?;
-        let run = evaluation(alloc, &rules, &flat(alloc, &items)?, spent, 1000)?;
-        match &run.end {
-            End::Value(value, left) => {
-                assert_eq!(rt; *left, 0);
-                assert_eq!(rt; value.nodes(), u64::from(a) * u64::from(b) + 1);
-            }
-            _ => assert!(rt; false, "no value"),
-        }
+    for (a, b, spent, nodes) in [(3, 1, 6, 4), (10, 6, 73, 61), (6, 11, 89, 67)] {
+        let items = product(alloc, a, b)?;
+        assert_eq!(rt; sizes(alloc, &rules, &items, spent)?.0, nodes);
     }
     Ok(())
 }
@@ -167,15 +249,21 @@ fn doubled_terms_have_few_subtrees(rt: HostRuntime) -> Result<(), Fail> {
     let alloc = rt.alloc();
     let mut rules = Vec::new(alloc);
     rules.push(rule(alloc, &[X, D], &[X, X, P], 1)?)?;
-    let run = evaluation(alloc, &rules, &flat(alloc, &[Z, D, D, D])?, 3, 99)?;
-    match &run.end {
-        End::Value(value, _) => {
-            let mut list = Vec::new(alloc);
-            value.subtrees(alloc, &mut list)?;
-            assert_eq!(rt; distinct(&list), 4);
-            assert_eq!(rt; value.nodes(), 15);
-        }
-        _ => assert!(rt; false, "no value"),
-    }
+    assert_eq!(rt; sizes(alloc, &rules, &[Z, D, D, D], 3)?, (15, 4));
+    Ok(())
+}
+
+#[test]
+fn the_outermost_position_goes_first(rt: HostRuntime) -> Result<(), Fail> {
+    let alloc = rt.alloc();
+    let mut rules = Vec::new(alloc);
+    rules.push(rule(alloc, &[X, F], &[A], 1)?)?;
+    rules.push(rule(alloc, &[L], &[L], 0)?)?;
+    assert_eq!(rt; outer(alloc, &rules, &[L, F], 1, 2, &[A])?, Seen::Wanted(0));
+    assert_eq!(rt; outer(alloc, &rules, &[L, F], 1, 1, &[A])?, Seen::TooDeep);
+    assert_eq!(rt;
+        inner(alloc, &rules, &[L, F], 5, 99, &[A])?,
+        Seen::OutOfFuel
+    );
     Ok(())
 }
