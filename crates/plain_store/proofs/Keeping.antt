@@ -13,14 +13,7 @@ use Rattle.term_model.proofs.Subtrees.{subtrees_nest, arguments_are_subtrees}
 use Rattle.terms_api.specs.Terms.{Store, HasTree, IsHeld, tree_at, trees, reachable, asked, IsSound, IsLater, Loses, KeepsAll, GainsNone}
 use Rattle.terms_api.proofs.Callers.{has-held, held-has, tree_at-has}
 use Rattle.terms_api.proofs.Staying.{reached, reached_from, reached-itself, trees_stay}
-use Rattle.plain_store.specs.Contents.{Contents, store_of, trees_on, tree_in, kept_among, epoch_after}
-
--- the same with the rows' trees alone that can be reached
-abbrev pub kept_trees : Contents → List (Option Tree)
-kept_trees c = map (kept_among (reachable (store_of c))) c.trees
-
-abbrev pub collected : Contents → ℕ → Contents
-collected c raised = record c { trees = kept_trees c; raised = raised }
+use Rattle.plain_store.specs.Contents.{Contents, store_of, trees_on, tree_in, kept_among, epoch_after, kept_trees, collected}
 
 -- a row after a collection
 pub kept_at : (c : Contents) (r : Row) → get_or (kept_trees c) r.0 None ≡ kept_among (reachable (store_of c)) (get_or c.trees r.0 None)
@@ -89,21 +82,27 @@ sound_collected c raised sound =
 pub gains_none : (c : Contents) (raised : ℕ) → GainsNone (store_of c) (store_of (collected c raised))
 gains_none c raised = λ r u k. (had c raised r u k).0
 
--- either no row was lost, or the epoch is later
-pub record Raised (old new : Contents) : Type 0 where
-  pub trees : new.trees ≡ kept_trees old
-  pub raises : ((new.raised ≡ old.raised) × (new.trees ≡ old.trees)) ⊎ IsLater (epoch_after old.raised) (epoch_after new.raised)
+abbrev pub Raises : Contents → ℕ → Type 0
+Raises c raised = ((raised ≡ c.raised) × (kept_trees c ≡ c.trees)) ⊎ IsLater (epoch_after c.raised) (epoch_after raised)
 
-pub loses_collected : (c : Contents) (raised : ℕ) → Raised c (collected c raised) → Loses (store_of c) (store_of (collected c raised))
+pub loses_collected : (c : Contents) (raised : ℕ) → Raises c raised → Loses (store_of c) (store_of (collected c raised))
 loses_collected c raised r =
     record {
       reachable = λ q u k reach. keeps c raised q u k reach;
-      epoch = elim r.raises [
+      epoch = elim r [
           inl same ↦ inl (ap epoch_after same.0, λ q u k. ap (λ (xs : List (Option Tree)). get_or xs q.0 None) same.1 ∙ k)
         | inr later ↦ inr later
         ];
     }
 
--- the trees of the stack stay, and what may be built and is asked for too
-pub trees_collected : (c : Contents) (raised : ℕ) → IsSound (store_of c) → Raised c (collected c raised) → trees (store_of (collected c raised)) ≡ trees (store_of c)
-trees_collected c raised sound r = trees_stay (store_of c) (store_of (collected c raised)) sound (loses_collected c raised r)
+sound_any : (c : Contents) → IsSound (store_of c) → IsSound (record (store_of c) { epoch = None })
+sound_any c sound = record { stack = sound.stack; depth = sound.depth; room = sound.room; below = sound.below; one_row = sound.one_row; arguments = sound.arguments; well_formed = sound.well_formed; ground = sound.ground; }
+
+-- what a later epoch allows
+loses_at : (c : Contents) (raised : ℕ) → Loses (record (store_of c) { epoch = None }) (record (store_of (collected c raised)) { epoch = None })
+loses_at c raised = record { reachable = λ q u k reach. keeps c raised q u k reach; epoch = inr tt; }
+
+-- the trees of the stack stay
+pub trees_collected : (c : Contents) (raised : ℕ) → IsSound (store_of c) → trees (store_of (collected c raised)) ≡ trees (store_of c)
+trees_collected c raised sound = trees_stay (record (store_of c) { epoch = None }) (record (store_of (collected c raised)) { epoch = None }) (sound_any c sound) (loses_at c raised)
+

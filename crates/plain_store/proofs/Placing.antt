@@ -15,17 +15,11 @@ use Rattle.terms_api.specs.Terms.{Store, HasTree, IsHeld, tree_at, trees, last, 
 use Rattle.terms_api.proofs.Callers.{has-held, held-has, same_row}
 use Rattle.plain_store.specs.Slots.{Slots, Slot, slot_at, with_slot}
 use Rattle.plain_store.specs.Agreement.{Agree}
-use Rattle.plain_store.specs.Contents.{Contents, store_of, trees_on, tree_in}
+use Rattle.plain_store.specs.Contents.{Contents, store_of, trees_on, tree_in, placed}
 use Rattle.plain_store.proofs.Rows.{row_same, node_same, head_of_node, rows_of_node}
 
 abbrev pub node_of : Head → List Row → Slot
 node_of h rows = Some (h, rows)
-
--- with the tree of the head over the last n places at row r, and that row in their place
-abbrev pub placed : Contents → Head → ℕ → Row → Contents
-placed c h n r =
-    let t = asked (store_of c) h n in
-    record c { stack = but_last n c.stack ++ r ∷ []; trees = set c.trees r.0 (Some t); built = c.built ++ t ∷ [] }
 
 -- the row has the asked tree, or is free while no row has it
 pub record IsPlace (c : Contents) (h : Head) (n : ℕ) (r : Row) : Type 0 where
@@ -76,7 +70,7 @@ has_kept c h n r p q u k =
 held_kept : (c : Contents) (h : Head) (n : ℕ) (r : Row) → IsPlace c h n r → (q : Row) → IsHeld (store_of c) q → IsHeld (store_of (placed c h n r)) q
 held_kept c h n r p q k = held-has (store_of (placed c h n r)) q (tree_at (store_of c) q) (has_kept c h n r p q (tree_at (store_of c) q) (has-held (store_of c) q k))
 
-list_trees : (ts : List Tree) → list_of (trees_of ts) ≡ ts
+pub list_trees : (ts : List Tree) → list_of (trees_of ts) ≡ ts
 list_trees [] = refl
 list_trees (t ∷ ts) = ap (λ us. t ∷ us) (list_trees ts)
 
@@ -239,7 +233,7 @@ pub absent_tree : (slots : Slots) (c : Contents) (h : Head) (n : ℕ) → Agree 
 absent_tree slots c h n agree sound none r has = slot_cases slots c h n agree sound none r has (slot_at slots r) refl
 
 
-no_some : (o : Option Tree) → IsSome o → o ≡ None → ⊥
+pub no_some : (o : Option Tree) → IsSome o → o ≡ None → ⊥
 no_some None h e = absurd (cc)
 no_some (Some t) h e = absurd (cc)
 
