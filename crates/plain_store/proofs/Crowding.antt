@@ -1,13 +1,12 @@
 -- When every row has a tree that can be reached.
-use Rattle.std.proofs.Common.{◌≡◌, ◌≢◌, ℕ, zero, suc, ◌+◌, ◌-◌, ◌<◌, ◌≤◌, ◌⊎◌, inl, inr, Bool, true, false, List, [], ◌∷◌, ◌++◌, Option, Some, None, length, map, get_or, refl, ap, sym, ◌∙◌, subst, arith}
+use Rattle.std.proofs.Common.{◌≡◌, ℕ, zero, suc, ◌+◌, ◌<◌, ◌≤◌, inl, inr, Bool, true, false, List, [], ◌∷◌, Option, Some, None, length, get_or, refl, ap, sym, ◌∙◌, arith}
 use Rattle.std.specs.Prelude.{Contains, if◌then◌else◌}
 use Rattle.std.proofs.lemmas.List.{length-map}
 use Rattle.term_model.specs.declared.Row.{Row}
-use Rattle.term_model.specs.declared.Head.{Head}
 use Rattle.term_model.specs.Tree.{Tree, among, distinct}
 use Rattle.term_model.proofs.Equality.{among_here, among_there, among_cases, among_from_contains, contains_from_among}
 use Rattle.term_model.proofs.Members.{distinct_of_part, distinct_is_bounded}
-use Rattle.terms_api.specs.Terms.{Store, HasTree, trees, reachable, asked, IsSound}
+use Rattle.terms_api.specs.Terms.{reachable, IsSound}
 use Rattle.plain_store.specs.Outcome.{HoldsReachable}
 use Rattle.plain_store.specs.Contents.{Contents, store_of, kept_among, kept_trees}
 use Rattle.plain_store.proofs.Keeping.{had, keeps}
@@ -46,8 +45,8 @@ place_somes [] t h = absurd (cc)
 place_somes (None ∷ os) t h = let r = place_somes os t h in (suc r.0, r.1)
 place_somes (Some u ∷ os) t h =
     elim (among_cases t u (somes os) h) [
-      inl e ↦ (0, ap (λ (x : Tree). Some x) (sym e))
-    | inr g ↦ (let r = place_somes os t g in (suc r.0, r.1))
+      | inl e ↦ (0, ap (λ (x : Tree). Some x) (sym e))
+      | inr g ↦ (let r = place_somes os t g in (suc r.0, r.1))
     ]
 
 distinct_new : (t : Tree) (ts : List Tree) (b : Bool) → among t ts ≡ b → b ≡ false → distinct (t ∷ ts) ≡ distinct ts + 1
@@ -97,7 +96,7 @@ all_full c holds sound full =
     let bound = distinct_is_bounded (somes (kept_trees c)) in
     let long = none_missing (kept_trees c) (λ k h e. full k (omega (arith, size)) e) in
     let differ = all_differ (kept_trees c) (λ i j t e f.
-      (let p : Row = record { 0 = i } in
-      let q : Row = record { 0 = j } in
-      ap (λ (x : Row). x.0) (sound.one_row p q t (had c c.raised p t e).0 (had c c.raised q t f).0))) in
+    (let p : Row = record { 0 = i } in
+    let q : Row = record { 0 = j } in
+    ap (λ (x : Row). x.0) (sound.one_row p q t (had c c.raised p t e).0 (had c c.raised q t f).0))) in
     omega (arith, size, part, back, bound, long, differ)

@@ -1,12 +1,10 @@
 -- What a build tells its caller, by how it ends.
-use Rattle.std.proofs.Common.{◌≡◌, ℕ, ◌+◌, ◌<◌, ◌++◌, ◌∷◌, [], ◌⊎◌, inl, inr, true, false, List, rules, refl, ap, sym, ◌∙◌, subst, arith}
-use Rattle.std.specs.Prelude.{Result, Ok, Err, OnOk, OnErr, IsErrOf, ◌↔◌, max}
-use Rattle.term_model.specs.declared.Row.{Row}
+use Rattle.std.proofs.Common.{◌≡◌, ℕ, ◌++◌, ◌∷◌, [], inl, rules, refl, ap, sym, subst, arith}
+use Rattle.std.specs.Prelude.{Result, Ok, Err, OnOk, OnErr, IsErrOf, ◌↔◌}
 use Rattle.term_model.specs.declared.Head.{Head}
-use Rattle.term_model.specs.Tree.{Tree}
 use Rattle.terms_api.specs.declared.terms.BuildFault.{BuildFault}
 use Rattle.terms_api.specs.declared.terms.BuildFault.TheVariants.{Deep, StoreFull, Worn}
-use Rattle.terms_api.specs.Terms.{Store, IsSound, MayBuild, NeedsPlace, Built, NotBuilt, IsCrowded, CountsRefusal, trees, but_last, asked}
+use Rattle.terms_api.specs.Terms.{IsSound, NeedsPlace, Built, NotBuilt, IsCrowded, CountsRefusal, trees, but_last, asked}
 use Rattle.plain_store.specs.Contents.{Contents, store_of, IsSame, IsFilled, same_itself}
 use Rattle.plain_store.specs.Outcome.{Outcome}
 
@@ -19,12 +17,12 @@ unchanged_not_built c h n =
       stack = refl;
       built = refl;
       none = λ r t k. k;
-      rows = record { reachable = λ r t k reach. k; epoch = inl (refl, λ r t k. k); };
+      rows = record { reachable = λ r t k reach. k; epoch = inl (refl, λ r t k. k) };
       counts = record {
         inside = refl;
         least_sweeps = omega arith;
         most_sweeps = omega arith;
-        load = record { least = omega arith; most = omega arith; };
+        load = record { least = omega arith; most = omega arith };
         rows = refl;
         widest = refl;
         room = refl;

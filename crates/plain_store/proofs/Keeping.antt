@@ -1,29 +1,26 @@
 -- A collection: the rows keep their trees that can be reached from the stack, and the others are free.
-use Rattle.std.proofs.Common.{◌≡◌, ◌≢◌, ℕ, zero, suc, ◌+◌, ◌-◌, ◌<◌, ◌≤◌, ◌⊎◌, inl, inr, Bool, true, false, List, [], ◌∷◌, ◌++◌, Option, Some, None, length, take, drop, map, get_or, refl, ap, sym, ◌∙◌, subst, arith}
-use Rattle.std.specs.Prelude.{Contains, All, IsSome, if◌then◌else◌}
-use Rattle.std.specs.List.{flat_map}
+use Rattle.std.proofs.Common.{◌≡◌, ℕ, ◌≤◌, ◌⊎◌, inl, inr, Bool, true, false, List, Option, Some, None, length, get_or, refl, ap, sym, ◌∙◌, subst, arith}
+use Rattle.std.specs.Prelude.{Contains, if◌then◌else◌}
 use Rattle.std.proofs.lemmas.Bool.{cases_lt}
 use Rattle.std.proofs.lemmas.List.{length-map, get_or-map, get_or_past}
 use Rattle.term_model.specs.declared.Row.{Row}
-use Rattle.term_model.specs.declared.Head.{Head}
-use Rattle.term_model.specs.Tree.{Tree, Node, trees_of, subtrees, arguments, among}
-use Rattle.term_model.specs.Postorder.{tree_or_leaf}
+use Rattle.term_model.specs.Tree.{Tree, arguments, among}
 use Rattle.term_model.proofs.Equality.{among_from_contains, contains_from_among}
 use Rattle.term_model.proofs.Subtrees.{subtrees_nest, arguments_are_subtrees}
-use Rattle.terms_api.specs.Terms.{Store, HasTree, IsHeld, tree_at, trees, reachable, asked, IsSound, IsLater, Loses, KeepsAll, GainsNone}
-use Rattle.terms_api.proofs.Callers.{has-held, held-has, tree_at-has}
+use Rattle.terms_api.specs.Terms.{Store, HasTree, tree_at, trees, reachable, IsSound, IsLater, Loses, GainsNone}
+use Rattle.terms_api.proofs.Callers.{has-held, held-has}
 use Rattle.terms_api.proofs.Staying.{reached, reached_from, reached-itself, trees_stay}
-use Rattle.plain_store.specs.Contents.{Contents, store_of, trees_on, tree_in, kept_among, epoch_after, kept_trees, collected}
+use Rattle.plain_store.specs.Contents.{Contents, store_of, kept_among, epoch_after, kept_trees, collected}
 
 -- a row after a collection
 pub kept_at : (c : Contents) (r : Row) → get_or (kept_trees c) r.0 None ≡ kept_among (reachable (store_of c)) (get_or c.trees r.0 None)
 kept_at c r =
     let f = kept_among (reachable (store_of c)) in
     elim (cases_lt r.0 (length c.trees)) [
-      inl lt ↦ get_or-map f c.trees r.0 None None lt
-    | inr le ↦ (
-        let there : length (kept_trees c) ≤ r.0 = omega (arith, length-map c.trees f) in
-        get_or_past (kept_trees c) r.0 None there ∙ ap f (sym (get_or_past c.trees r.0 None le)))
+      | inl lt ↦ get_or-map f c.trees r.0 None None lt
+      | inr le ↦ (
+          let there : length (kept_trees c) ≤ r.0 = omega (arith, length-map c.trees f) in
+          get_or_past (kept_trees c) r.0 None there ∙ ap f (sym (get_or_past c.trees r.0 None le)))
     ]
 
 among_kept : (ts : List Tree) (t : Tree) → among t ts ≡ true → kept_among ts (Some t) ≡ Some t
@@ -62,19 +59,19 @@ sound_collected c raised sound =
     let s' = store_of (collected c raised) in
     record {
       stack = λ k d lt.
-        (let r = get_or c.stack k d in
-        let t = tree_at s r in
-        let has = has-held s r (sound.stack k d lt) in
-        let there : Contains (trees s) t = (k, omega (arith, length-map c.stack (tree_at s)), get_or-map (tree_at s) c.stack k d t lt) in
-        held-has s' r t (keeps c raised r t has (reached-itself s t there)));
+          (let r = get_or c.stack k d in
+          let t = tree_at s r in
+          let has = has-held s r (sound.stack k d lt) in
+          let there : Contains (trees s) t = (k, omega (arith, length-map c.stack (tree_at s)), get_or-map (tree_at s) c.stack k d t lt) in
+          held-has s' r t (keeps c raised r t has (reached-itself s t there)));
       depth = sound.depth;
       room = sound.room;
       below = λ r u k. (let b = sound.below r u (had c raised r u k).0 in omega (arith, b, length-map c.trees (kept_among (reachable s))));
       one_row = λ r q u k l. sound.one_row r q u (had c raised r u k).0 (had c raised q u l).0;
       arguments = λ r t u k a.
-        (let h = had c raised r t k in
-        let x = sound.arguments r t u h.0 a in
-        (x.0, keeps c raised x.0 u x.1 (closed_reach s t u h.1 a)));
+          (let h = had c raised r t k in
+          let x = sound.arguments r t u h.0 a in
+          (x.0, keeps c raised x.0 u x.1 (closed_reach s t u h.1 a)));
       well_formed = λ r u k. sound.well_formed r u (had c raised r u k).0;
       ground = λ r u k. sound.ground r u (had c raised r u k).0;
     }
@@ -90,19 +87,18 @@ loses_collected c raised r =
     record {
       reachable = λ q u k reach. keeps c raised q u k reach;
       epoch = elim r [
-          inl same ↦ inl (ap epoch_after same.0, λ q u k. ap (λ (xs : List (Option Tree)). get_or xs q.0 None) same.1 ∙ k)
+        | inl same ↦ inl (ap epoch_after same.0, λ q u k. ap (λ (xs : List (Option Tree)). get_or xs q.0 None) same.1 ∙ k)
         | inr later ↦ inr later
-        ];
+      ];
     }
 
 sound_any : (c : Contents) → IsSound (store_of c) → IsSound (record (store_of c) { epoch = None })
-sound_any c sound = record { stack = sound.stack; depth = sound.depth; room = sound.room; below = sound.below; one_row = sound.one_row; arguments = sound.arguments; well_formed = sound.well_formed; ground = sound.ground; }
+sound_any c sound = record { stack = sound.stack; depth = sound.depth; room = sound.room; below = sound.below; one_row = sound.one_row; arguments = sound.arguments; well_formed = sound.well_formed; ground = sound.ground }
 
 -- what a later epoch allows
 loses_at : (c : Contents) (raised : ℕ) → Loses (record (store_of c) { epoch = None }) (record (store_of (collected c raised)) { epoch = None })
-loses_at c raised = record { reachable = λ q u k reach. keeps c raised q u k reach; epoch = inr tt; }
+loses_at c raised = record { reachable = λ q u k reach. keeps c raised q u k reach; epoch = inr tt }
 
 -- the trees of the stack stay
 pub trees_collected : (c : Contents) (raised : ℕ) → IsSound (store_of c) → trees (store_of (collected c raised)) ≡ trees (store_of c)
 trees_collected c raised sound = trees_stay (record (store_of c) { epoch = None }) (record (store_of (collected c raised)) { epoch = None }) (sound_any c sound) (loses_at c raised)
-

@@ -1,17 +1,16 @@
 -- The ways in which a build ends.
-use Rattle.std.proofs.Common.{◌≡◌, ◌≢◌, ℕ, ◌+◌, ◌-◌, ◌<◌, ◌≤◌, ◌⊎◌, inl, inr, true, List, [], ◌∷◌, ◌++◌, Option, Some, None, length, take, map, get_or, refl, ap, sym, ◌∙◌, subst, arith}
-use Rattle.std.proofs.Math.ListN.{set}
-use Rattle.std.specs.Prelude.{Contains, max}
+use Rattle.std.proofs.Common.{◌≡◌, ℕ, ◌<◌, inl, inr, List, [], ◌∷◌, ◌++◌, Option, Some, None, length, get_or, refl, ap, sym, ◌∙◌, subst, arith}
+use Rattle.std.specs.Prelude.{Contains}
 use Rattle.std.specs.List.{flat_map}
 use Rattle.std.proofs.lemmas.List.{length-map, length-set}
 use Rattle.term_model.specs.declared.Row.{Row}
 use Rattle.term_model.specs.declared.Head.{Head}
 use Rattle.term_model.specs.Tree.{Tree, Node, trees_of, subtrees, distinct, may_stand_over}
-use Rattle.terms_api.specs.Terms.{Store, HasTree, trees, reachable, last, but_last, asked, IsSound, MayBuild, NeedsPlace, Built, NotBuilt, Loses, IsCrowded, Counts}
+use Rattle.terms_api.specs.Terms.{HasTree, trees, reachable, last, but_last, asked, IsSound, MayBuild, NeedsPlace}
 use Rattle.terms_api.proofs.Staying.{trees-built}
 use Rattle.plain_store.specs.Contents.{Contents, store_of, placed, collected, kept_trees, kept_among, refused, IsAbsent, IsFreeRow, HasNoFree, IsFilled, IsSame, Collected}
 use Rattle.plain_store.specs.Outcome.{HoldsReachable, IsBuilt, IsRefused}
-use Rattle.plain_store.proofs.Placing.{IsPlace, place_found, place_free, sound_placed, built_placed, has_kept, has_cases, has_it}
+use Rattle.plain_store.proofs.Placing.{IsPlace, place_found, place_free, sound_placed, built_placed, has_kept, has_it}
 use Rattle.plain_store.proofs.Keeping.{Raises, had, keeps, kept_at, loses_collected, trees_collected, sound_collected}
 use Rattle.plain_store.proofs.Crowding.{room_left, all_full}
 use Rattle.plain_store.proofs.Stepping.{sound_refused}
@@ -98,23 +97,23 @@ outcome_collected c raised h n r sound holds may place absent raises free =
         rows = record {
           reachable = λ q u k reach. has_kept d h n r p q u (keeps c raised q u k reach);
           epoch = elim lost.epoch [
-              inl both ↦ inl (both.0, λ q u k. has_kept d h n r p q u (both.1 q u k))
+            | inl both ↦ inl (both.0, λ q u k. has_kept d h n r p q u (both.1 q u k))
             | inr later ↦ inr later
-            ];
+          ];
         };
         counts = record {
           inside = refl;
           least_sweeps = omega arith;
           most_sweeps = omega arith;
-          load = record { least = omega arith; most = omega arith; };
+          load = record { least = omega arith; most = omega arith };
           rows = length-set d.trees r.0 (Some (asked (store_of d) h n)) ∙ size;
           widest = refl;
           room = refl;
         };
       };
       trees = trees-built (store_of d) (store_of e) h n (sound_collected c raised sound) made
-        ∙ ap (λ (ts : List Tree). but_last n ts ++ asked (store_of d) h n ∷ []) (trees_collected c raised sound)
-        ∙ ap (λ (t : Tree). but_last n (trees (store_of c)) ++ t ∷ []) same;
+          ∙ ap (λ (ts : List Tree). but_last n ts ++ asked (store_of d) h n ∷ []) (trees_collected c raised sound)
+          ∙ ap (λ (t : Tree). but_last n (trees (store_of c)) ++ t ∷ []) same;
       refusals = refl;
       sound = well;
       same = (length-set d.trees r.0 (Some (asked (store_of d) h n)) ∙ size, refl, refl);
@@ -138,12 +137,12 @@ outcome_refused c raised h n sound holds place absent raises full =
         stack = refl;
         built = refl;
         none = λ q u k. (had c raised q u k).0;
-        rows = record { reachable = lost.reachable; epoch = lost.epoch; };
+        rows = record { reachable = lost.reachable; epoch = lost.epoch };
         counts = record {
           inside = refl;
           least_sweeps = omega arith;
           most_sweeps = omega arith;
-          load = record { least = omega arith; most = omega arith; };
+          load = record { least = omega arith; most = omega arith };
           rows = size;
           widest = refl;
           room = refl;
@@ -158,7 +157,7 @@ outcome_refused c raised h n sound holds place absent raises full =
       refusals = refl;
       sound = sound_refused d (sound_collected c raised sound);
       same = (size, refl, refl);
-      filled = record { full = filled; absent = missing; };
+      filled = record { full = filled; absent = missing };
       place = place;
     }
 

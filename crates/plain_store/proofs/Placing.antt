@@ -1,17 +1,16 @@
 -- A tree that is built: its row is new or had it, and it takes its arguments' places.
-use Rattle.std.proofs.Common.{◌≡◌, ◌≢◌, ℕ, zero, suc, ◌+◌, ◌-◌, ◌<◌, ◌≤◌, ◌⊎◌, ◌&&◌, inl, inr, Bool, true, false, List, [], ◌∷◌, ◌++◌, Option, Some, None, length, take, drop, map, get_or, refl, ap, sym, ◌∙◌, subst, arith}
+use Rattle.std.proofs.Common.{◌≡◌, ◌≢◌, ℕ, zero, suc, ◌+◌, ◌-◌, ◌<◌, ◌≤◌, ◌⊎◌, ◌&&◌, inl, inr, Bool, true, List, [], ◌∷◌, Option, Some, None, length, take, drop, map, get_or, refl, ap, sym, ◌∙◌, subst, arith}
 use Rattle.std.proofs.Math.ListN.{set}
-use Rattle.std.specs.Prelude.{Contains, All, IsSome, max}
+use Rattle.std.specs.Prelude.{Contains, All, IsSome}
 use Rattle.std.proofs.lemmas.Bool.Decides.{eqb_tells}
-use Rattle.std.proofs.lemmas.Bool.{cases_lt}
-use Rattle.std.proofs.lemmas.List.{length-set, length-map, length-take, length-append, drop-map, get_or-set_same, get_or-set_other, get_or_past, set-get_or, get_or-map, get_or-take, take-append-drop}
-use Rattle.std.proofs.lemmas.List.Elements.{All-append, All-get_or, Contains-append_right, All-contains}
+use Rattle.std.proofs.lemmas.List.{length-set, length-map, length-take, length-append, drop-map, get_or-set_same, get_or-set_other, set-get_or, get_or-map, get_or-take, take-append-drop}
+use Rattle.std.proofs.lemmas.List.Elements.{All-append, All-get_or, Contains-append_right}
 use Rattle.term_model.specs.declared.Row.{Row}
 use Rattle.term_model.specs.declared.Head.{Head}
-use Rattle.term_model.specs.Tree.{Tree, Leaf, Node, Trees, End, More, trees_of, list_of, arguments, may_stand_over, is_well_formed, all_well_formed, is_ground, all_ground}
+use Rattle.term_model.specs.Tree.{Tree, Node, Trees, End, More, trees_of, list_of, arguments, may_stand_over, is_well_formed, all_well_formed, is_ground, all_ground}
 use Rattle.term_model.specs.Postorder.{tree_or_leaf}
-use Rattle.term_model.proofs.Order.{both, both_hold}
-use Rattle.terms_api.specs.Terms.{Store, HasTree, IsHeld, tree_at, trees, last, but_last, asked, IsSound, MayBuild, NeedsPlace, Built, Loses}
+use Rattle.term_model.proofs.Order.{both}
+use Rattle.terms_api.specs.Terms.{Store, HasTree, IsHeld, tree_at, trees, last, but_last, asked, IsSound, MayBuild, NeedsPlace, Built}
 use Rattle.terms_api.proofs.Callers.{has-held, held-has, same_row}
 use Rattle.plain_store.specs.Slots.{Slots, Slot, slot_at, with_slot}
 use Rattle.plain_store.specs.Agreement.{Agree}
@@ -47,10 +46,11 @@ pub has_cases : (c : Contents) (h : Head) (n : ℕ) (r : Row) → IsPlace c h n 
 has_cases c h n r p q u k =
     let t = asked (store_of c) h n in
     elim (eqb_tells q.0 r.0) [
-      inl e ↦ inl (
+      | inl e ↦ inl (
         row_same q r e.1,
-        some_same u t (sym k ∙ ap (λ i. get_or (set c.trees r.0 (Some t)) i None) e.1 ∙ get_or-set_same c.trees r.0 (Some t) None p.below))
-    | inr ne ↦ inr (sym (get_or-set_other c.trees r.0 q.0 (Some t) None ne.1) ∙ k)
+        some_same u t (sym k ∙ ap (λ i. get_or (set c.trees r.0 (Some t)) i None) e.1 ∙ get_or-set_same c.trees r.0 (Some t) None p.below),
+      )
+      | inr ne ↦ inr (sym (get_or-set_other c.trees r.0 q.0 (Some t) None ne.1) ∙ k)
     ]
 
 pub has_it : (c : Contents) (h : Head) (n : ℕ) (r : Row) → IsPlace c h n r → HasTree (store_of (placed c h n r)) r (asked (store_of c) h n)
@@ -60,11 +60,11 @@ pub has_kept : (c : Contents) (h : Head) (n : ℕ) (r : Row) → IsPlace c h n r
 has_kept c h n r p q u k =
     let t = asked (store_of c) h n in
     elim (eqb_tells q.0 r.0) [
-      inl e ↦ (
-        let same : q ≡ r = row_same q r e.1 in
-        let is : u ≡ t = p.only u (subst (λ (x : Row). HasTree (store_of c) x u) same k) in
-        subst (λ (x : Row). HasTree (store_of (placed c h n r)) x u) (sym same) (subst (HasTree (store_of (placed c h n r)) r) (sym is) (has_it c h n r p)))
-    | inr ne ↦ get_or-set_other c.trees r.0 q.0 (Some t) None ne.1 ∙ k
+      | inl e ↦ (
+          let same : q ≡ r = row_same q r e.1 in
+          let is : u ≡ t = p.only u (subst (λ (x : Row). HasTree (store_of c) x u) same k) in
+          subst (λ (x : Row). HasTree (store_of (placed c h n r)) x u) (sym same) (subst (HasTree (store_of (placed c h n r)) r) (sym is) (has_it c h n r p)))
+      | inr ne ↦ get_or-set_other c.trees r.0 q.0 (Some t) None ne.1 ∙ k
     ]
 
 held_kept : (c : Contents) (h : Head) (n : ℕ) (r : Row) → IsPlace c h n r → (q : Row) → IsHeld (store_of c) q → IsHeld (store_of (placed c h n r)) q
@@ -119,36 +119,36 @@ sound_placed c h n r sound may place p =
       depth = omega (arith, depth_fits (length c.stack) n c.room may.depth sound.depth place, length-append (but_last n c.stack) (r ∷ []), length-take (length c.stack - n) c.stack);
       room = sound.room;
       below = λ q u k. elim (has_cases c h n r p q u k) [
-          inl e ↦ (let f = ap (λ (x : Row). x.0) e.0 in omega (arith, f, size, p.below))
+        | inl e ↦ (let f = ap (λ (x : Row). x.0) e.0 in omega (arith, f, size, p.below))
         | inr k' ↦ (let b = sound.below q u k' in omega (arith, b, size))
-        ];
+      ];
       one_row = λ q x u k l. elim (has_cases c h n r p q u k) [
-          inl e ↦ elim (has_cases c h n r p x u l) [
-            inl f ↦ e.0 ∙ sym f.0
+        | inl e ↦ elim (has_cases c h n r p x u l) [
+          | inl f ↦ e.0 ∙ sym f.0
           | inr l' ↦ e.0 ∙ sym (p.alone x (subst (HasTree s x) e.1 l'))
-          ]
+        ]
         | inr k' ↦ elim (has_cases c h n r p x u l) [
-            inl f ↦ p.alone q (subst (HasTree s q) f.1 k') ∙ sym f.0
+          | inl f ↦ p.alone q (subst (HasTree s q) f.1 k') ∙ sym f.0
           | inr l' ↦ sound.one_row q x u k' l'
-          ]
-        ];
+        ]
+      ];
       arguments = λ q v u k a. elim (has_cases c h n r p q v k) [
-          inl e ↦ (
+        | inl e ↦ (
             let there : Contains lasts u = subst (λ xs. Contains xs u) (ap arguments e.1 ∙ list_trees lasts) a in
             let x = rowed u there in
             (x.0, has_kept c h n r p x.0 u x.1))
         | inr k' ↦ (let x = sound.arguments q v u k' a in (x.0, has_kept c h n r p x.0 u x.1))
-        ];
+      ];
       well_formed = λ q v k. elim (has_cases c h n r p q v k) [
-          inl e ↦ (
+        | inl e ↦ (
             let all = all_good is_well_formed all_well_formed refl (λ x xs. refl) lasts (λ u a. let x = rowed u a in sound.well_formed x.0 u x.1) in
             ap is_well_formed e.1 ∙ both (may_stand_over h (trees_of lasts)) (all_well_formed (trees_of lasts)) may.head all)
         | inr k' ↦ sound.well_formed q v k'
-        ];
+      ];
       ground = λ q v k. elim (has_cases c h n r p q v k) [
-          inl e ↦ ap is_ground e.1 ∙ all_good is_ground all_ground refl (λ x xs. refl) lasts (λ u a. let x = rowed u a in sound.ground x.0 u x.1)
+        | inl e ↦ ap is_ground e.1 ∙ all_good is_ground all_ground refl (λ x xs. refl) lasts (λ u a. let x = rowed u a in sound.ground x.0 u x.1)
         | inr k' ↦ sound.ground q v k'
-        ];
+      ];
     }
 
 pub built_placed : (c : Contents) (h : Head) (n : ℕ) (r : Row) → IsPlace c h n r → Built (store_of c) (store_of (placed c h n r)) h n
@@ -162,12 +162,12 @@ built_placed c h n r p =
       tree = has_it c h n r p;
       built = refl;
       only = λ q u k. elim (has_cases c h n r p q u k) [ inl e ↦ inr e.1 | inr k' ↦ inl k' ];
-      rows = record { reachable = λ q u k reached. keeps q u k; epoch = inl (refl, keeps); };
+      rows = record { reachable = λ q u k reached. keeps q u k; epoch = inl (refl, keeps) };
       counts = record {
         inside = refl;
         least_sweeps = omega arith;
         most_sweeps = omega arith;
-        load = record { least = omega arith; most = omega arith; };
+        load = record { least = omega arith; most = omega arith };
         rows = length-set c.trees r.0 (Some (asked s h n));
         widest = refl;
         room = refl;
@@ -232,7 +232,6 @@ pub absent_tree : (slots : Slots) (c : Contents) (h : Head) (n : ℕ) → Agree 
     → (r : Row) → HasTree (store_of c) r (asked (store_of c) h n) → ⊥
 absent_tree slots c h n agree sound none r has = slot_cases slots c h n agree sound none r has (slot_at slots r) refl
 
-
 pub no_some : (o : Option Tree) → IsSome o → o ≡ None → ⊥
 no_some None h e = absurd (cc)
 no_some (Some t) h e = absurd (cc)
@@ -245,7 +244,6 @@ trees_same trees r t free (q ∷ rows) held =
     let ne : q.0 ≢ r.0 = λ e. no_some (get_or trees q.0 None) h (ap (λ i. get_or trees i None) e ∙ free) in
     ap (λ x. x ∷ trees_on (set trees r.0 (Some t)) rows) (ap tree_or_leaf (get_or-set_other trees r.0 q.0 (Some t) None ne))
     ∙ ap (λ xs. tree_in trees q ∷ xs) (trees_same trees r t free rows (λ x k. held x (suc k.0, omega arith, k.2)))
-
 
 node_rows : (h g : Head) (rows args : List Row) → node_of h rows ≡ node_of g args → rows ≡ args
 node_rows h g rows args e = rows_of_node (h, rows) (g, args) e
@@ -266,15 +264,15 @@ agree_made slots c h n r agree sound below free =
     let inrange : r.0 < length slots.slots = omega (arith, agree.size) in
     let stacked : (q : Row) → Contains rows q → IsSome (get_or c.trees q.0 None) = λ q k. stack_held (store_of c) sound q (contains_drop (length c.stack - n) c.stack q k) in
     let some_now : (q : Row) → IsSome (get_or c.trees q.0 None) → IsSome (get_or (set c.trees r.0 (Some t)) q.0 None) = λ q k.
-      (let ne : q.0 ≢ r.0 = λ e. no_some (get_or c.trees q.0 None) k (ap (λ i. get_or c.trees i None) e ∙ free) in subst IsSome (sym (get_or-set_other c.trees r.0 q.0 (Some t) None ne)) k) in
+    (let ne : q.0 ≢ r.0 = λ e. no_some (get_or c.trees q.0 None) k (ap (λ i. get_or c.trees i None) e ∙ free) in subst IsSome (sym (get_or-set_other c.trees r.0 q.0 (Some t) None ne)) k) in
     record {
       size = size ∙ agree.size ∙ sym (length-set c.trees r.0 (Some t));
       free = λ q e. elim (eqb_tells q.0 r.0) [
-          inl eq ↦ absurd (let x : node_of h rows ≡ None = sym (ap (λ i. get_or (set slots.slots r.0 v) i None) eq.1 ∙ get_or-set_same slots.slots r.0 v None inrange) ∙ e in cc)
+        | inl eq ↦ absurd (let x : node_of h rows ≡ None = sym (ap (λ i. get_or (set slots.slots r.0 v) i None) eq.1 ∙ get_or-set_same slots.slots r.0 v None inrange) ∙ e in cc)
         | inr ne ↦ get_or-set_other c.trees r.0 q.0 (Some t) None ne.1 ∙ agree.free q (sym (get_or-set_other slots.slots r.0 q.0 v None ne.1) ∙ e)
-        ];
+      ];
       node = λ q g args e. elim (eqb_tells q.0 r.0) [
-          inl eq ↦ (
+        | inl eq ↦ (
             let is : node_of h rows ≡ node_of g args = sym (ap (λ i. get_or (set slots.slots r.0 v) i None) eq.1 ∙ get_or-set_same slots.slots r.0 v None inrange) ∙ e in
             ap (λ i. get_or (set c.trees r.0 (Some t)) i None) eq.1 ∙ get_or-set_same c.trees r.0 (Some t) None below
             ∙ ap Some (asked_is c h n ∙ ap (λ ts. Node h (trees_of ts)) (sym (trees_same c.trees r t free rows stacked)) ∙ node_tree (set c.trees r.0 (Some t)) h g rows args is))
@@ -282,11 +280,11 @@ agree_made slots c h n r agree sound below free =
             let was = sym (get_or-set_other slots.slots r.0 q.0 v None ne.1) ∙ e in
             get_or-set_other c.trees r.0 q.0 (Some t) None ne.1 ∙ agree.node q g args was
             ∙ ap (λ ts. Some (Node g (trees_of ts))) (sym (trees_same c.trees r t free args (agree.held q g args was))))
-        ];
+      ];
       held = λ q g args e x k. elim (eqb_tells q.0 r.0) [
-          inl eq ↦ (
+        | inl eq ↦ (
             let is : node_of h rows ≡ node_of g args = sym (ap (λ i. get_or (set slots.slots r.0 v) i None) eq.1 ∙ get_or-set_same slots.slots r.0 v None inrange) ∙ e in
             some_now x (stacked x (subst (λ (ys : List Row). Contains ys x) (sym (node_rows h g rows args is)) k)))
         | inr ne ↦ some_now x (agree.held q g args (sym (get_or-set_other slots.slots r.0 q.0 v None ne.1) ∙ e) x k)
-        ];
+      ];
     }

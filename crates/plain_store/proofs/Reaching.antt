@@ -1,6 +1,6 @@
 -- Rows that can be reached from a row are those of its tree's subtrees.
-use Rattle.std.proofs.Common.{◌≡◌, ◌≢◌, ℕ, zero, suc, ◌+◌, ◌-◌, ◌<◌, ◌≤◌, ◌⊎◌, inl, inr, Bool, true, false, List, [], ◌∷◌, ◌++◌, Option, Some, None, length, take, drop, map, get_or, refl, ap, sym, ◌∙◌, subst, arith}
-use Rattle.std.specs.Prelude.{Contains, All, IsSome, replicate, slice_get, if◌then◌else◌}
+use Rattle.std.proofs.Common.{◌≡◌, ℕ, suc, ◌<◌, inl, inr, Bool, true, false, List, [], ◌∷◌, ◌++◌, Option, Some, None, length, get_or, refl, ap, sym, ◌∙◌, subst, arith}
+use Rattle.std.specs.Prelude.{Contains, IsSome, replicate, slice_get, if◌then◌else◌}
 use Rattle.std.specs.Option.{option_map}
 use Rattle.std.proofs.lemmas.Option.{slice_get-map, slice_get-get_or}
 use Rattle.std.proofs.lemmas.Bool.{cases_lt}
@@ -8,19 +8,19 @@ use Rattle.std.proofs.lemmas.List.{length-map, get_or-map, get_or_past, get_or-r
 use Rattle.std.proofs.lemmas.List.Elements.{Contains-append_left, Contains-push, Contains-push_cases, Contains-get_or}
 use Rattle.term_model.specs.declared.Row.{Row}
 use Rattle.term_model.specs.declared.Head.{Head}
-use Rattle.term_model.specs.Tree.{Tree, Leaf, Node, Trees, End, More, trees_of, list_of, subtrees, subtrees_all, arguments, among}
+use Rattle.term_model.specs.Tree.{Tree, Leaf, Node, Trees, End, More, trees_of, subtrees, subtrees_all, arguments, among}
 use Rattle.term_model.specs.Postorder.{tree_or_leaf}
 use Rattle.term_model.proofs.Equality.{among_cases, among_from_contains, contains_from_among}
 use Rattle.term_model.proofs.Subtrees.{among_either, itself as tree_itself, subtrees_nest, arguments_are_subtrees}
-use Rattle.mark_phase.specs.Reachable.{Reaches, itself, child, IsMarked, IsClosed, AddsReached}
-use Rattle.terms_api.specs.Terms.{Store, HasTree, IsHeld, tree_at, trees, reachable, IsSound}
+use Rattle.mark_phase.specs.Reachable.{Reaches, itself, child, IsMarked, AddsReached}
+use Rattle.terms_api.specs.Terms.{HasTree, IsHeld, tree_at, trees, reachable, IsSound}
 use Rattle.terms_api.proofs.Callers.{has-held, held-has, tree_at-has}
 use Rattle.terms_api.proofs.Staying.{reached, reached_from}
 use Rattle.plain_store.specs.Slots.{Slots, Slot, slot_at, children, arguments_of, kept_if, AreSwept}
 use Rattle.plain_store.specs.Agreement.{Agree}
 use Rattle.plain_store.specs.Marked.{MarksFrom}
 use Rattle.plain_store.specs.Contents.{Contents, store_of, trees_on, tree_in, kept_among, kept_trees}
-use Rattle.plain_store.proofs.Placing.{node_of, list_trees, no_some, row_of_stack}
+use Rattle.plain_store.proofs.Placing.{node_of, list_trees, no_some}
 use Rattle.plain_store.proofs.Keeping.{kept_at, keeps, closed_reach}
 
 -- over a child first
@@ -35,7 +35,6 @@ node_cases slots c r agree held (Some node) e = (node.0, node.1, e)
 -- a row that has a tree has a node
 pub node_held : (slots : Slots) (c : Contents) (r : Row) → Agree slots c.trees → IsHeld (store_of c) r → (h : Head) × (rows : List Row) × (slot_at slots r ≡ node_of h rows)
 node_held slots c r agree held = node_cases slots c r agree held (slot_at slots r) refl
-
 
 contains_map : (c : Contents) (rows : List Row) (q : Row) → Contains rows q → Contains (trees_on c.trees rows) (tree_in c.trees q)
 contains_map c rows q (k, lt, e) =
@@ -57,10 +56,9 @@ pub child_argument : (slots : Slots) (c : Contents) (r q : Row) → Agree slots 
 child_argument slots c r q agree held k =
     let node = node_held slots c r agree held in
     let here : Contains node.1 q = subst (λ (s : Slot). Contains (arguments_of s) q) node.2 k in
-    let is : tree_at (store_of c) r ≡ Node node.0 (trees_of (trees_on c.trees node.1)) = tree_at-has (store_of c) r (Node node.0 (trees_of (trees_on c.trees node.1))) (agree.node r node.0 node.1 node.2) in
-    (
+    let is : tree_at (store_of c) r ≡ Node node.0 (trees_of (trees_on c.trees node.1)) = tree_at-has (store_of c) r (Node node.0 (trees_of (trees_on c.trees node.1))) (agree.node r node.0 node.1 node.2) in (
       agree.held r node.0 node.1 node.2 q here,
-      subst (λ (ts : List Tree). Contains ts (tree_at (store_of c) q)) (sym (ap arguments is ∙ node_arguments node.0 (trees_on c.trees node.1))) (contains_map c node.1 q here)
+      subst (λ (ts : List Tree). Contains ts (tree_at (store_of c) q)) (sym (ap arguments is ∙ node_arguments node.0 (trees_on c.trees node.1))) (contains_map c node.1 q here),
     )
 
 -- what is reached from a held row is held, and its tree is a subtree
@@ -91,13 +89,13 @@ mutual
   up slots c agree sound (Leaf x) p u has k = absurd (let g = sound.ground p (Leaf x) has in cc)
   up slots c agree sound (Node h ts) p u has k =
       elim (among_cases u (Node h ts) (subtrees_all ts) k) [
-        inl e ↦ (p, itself, subst (HasTree (store_of c) p) (sym e) has)
-      | inr k' ↦ (
-          let node = node_held slots c p agree (held-has (store_of c) p (Node h ts) has) in
-          let same : ts ≡ trees_of (trees_on c.trees node.1) = args_same h node.0 ts (trees_of (trees_on c.trees node.1)) (sym has ∙ agree.node p node.0 node.1 node.2) in
-          let found = up_all slots c agree sound ts node.1 u same (λ a m. agree.held p node.0 node.1 node.2 a m) k' in
-          let here : Contains (children slots p) found.0 = subst (λ (s : Slot). Contains (arguments_of s) found.0) (sym node.2) found.1 in
-          (found.2.0, reach_through (children slots) p found.0 here found.2.1, found.2.2))
+        | inl e ↦ (p, itself, subst (HasTree (store_of c) p) (sym e) has)
+        | inr k' ↦ (
+            let node = node_held slots c p agree (held-has (store_of c) p (Node h ts) has) in
+            let same : ts ≡ trees_of (trees_on c.trees node.1) = args_same h node.0 ts (trees_of (trees_on c.trees node.1)) (sym has ∙ agree.node p node.0 node.1 node.2) in
+            let found = up_all slots c agree sound ts node.1 u same (λ a m. agree.held p node.0 node.1 node.2 a m) k' in
+            let here : Contains (children slots p) found.0 = subst (λ (s : Slot). Contains (arguments_of s) found.0) (sym node.2) found.1 in
+            (found.2.0, reach_through (children slots) p found.0 here found.2.1, found.2.2))
       ]
 
   pub up_all : (slots : Slots) (c : Contents) → Agree slots c.trees → IsSound (store_of c) → (ts : Trees) (rows : List Row) (u : Tree) → ts ≡ trees_of (trees_on c.trees rows) → ((a : Row) → Contains rows a → IsHeld (store_of c) a) → among u (subtrees_all ts) ≡ true → (a : Row) × Contains rows a × Below slots c a u
@@ -107,12 +105,12 @@ mutual
       let first = more_first t (tree_in c.trees a) ts (trees_of (trees_on c.trees rows)) e in
       let rest = more_rest t (tree_in c.trees a) ts (trees_of (trees_on c.trees rows)) e in
       elim (among_either u (subtrees t) (subtrees_all ts) k) [
-        inl k' ↦ (
-          let has : HasTree (store_of c) a t = has-held (store_of c) a (held a (0, omega arith, refl)) ∙ ap Some (sym first) in
-          (a, (0, omega arith, refl), up slots c agree sound t a u has k'))
-      | inr k' ↦ (
-          let found = up_all slots c agree sound ts rows u rest (λ b m. held b (suc m.0, omega arith, m.2)) k' in
-          (found.0, (suc found.1.0, omega arith, found.1.2), found.2))
+        | inl k' ↦ (
+            let has : HasTree (store_of c) a t = has-held (store_of c) a (held a (0, omega arith, refl)) ∙ ap Some (sym first) in
+            (a, (0, omega arith, refl), up slots c agree sound t a u has k'))
+        | inr k' ↦ (
+            let found = up_all slots c agree sound ts rows u rest (λ b m. held b (suc m.0, omega arith, m.2)) k' in
+            (found.0, (suc found.1.0, omega arith, found.1.2), found.2))
       ]
 
 stack_row : (c : Contents) (u : Tree) → IsSound (store_of c) → Contains (trees (store_of c)) u → (q : Row) × Contains c.stack q × HasTree (store_of c) q u
@@ -133,12 +131,11 @@ reach_row slots c agree sound t h =
     let row = stack_row c from.0 sound from.1 in
     (row.0, row.1, up slots c agree sound from.0 row.0 t row.2 (among_from_contains t (subtrees from.0) from.2))
 
-
 no_mark : (n : ℕ) (r : Row) → IsMarked (replicate n false) r → ⊥
 no_mark n r k =
     elim (cases_lt r.0 n) [
-      inl lt ↦ (let f : false ≡ true = sym (get_or-replicate n r.0 false false lt) ∙ k in absurd (cc))
-    | inr le ↦ (let f : false ≡ true = sym (get_or_past (replicate n false) r.0 false (omega (arith, length-replicate {A = Bool} n false))) ∙ k in absurd (cc))
+      | inl lt ↦ (let f : false ≡ true = sym (get_or-replicate n r.0 false false lt) ∙ k in absurd (cc))
+      | inr le ↦ (let f : false ≡ true = sym (get_or_past (replicate n false) r.0 false (omega (arith, length-replicate {A = Bool} n false))) ∙ k in absurd (cc))
     ]
 
 pub marks_none : (c : Row → List Row) (n : ℕ) → MarksFrom c [] (replicate n false)
@@ -153,17 +150,17 @@ pub marks_more : (c : Row → List Row) (rows : List Row) (p : Row) (old new : L
 marks_more c rows p old new m adds =
     record {
       reached = λ q r k reaches. elim (Contains-push_cases rows p q k) [
-          inl k' ↦ adds.kept r (m.reached q r k' reaches)
+        | inl k' ↦ adds.kept r (m.reached q r k' reaches)
         | inr e ↦ adds.reached r (subst (λ (x : Row). Reaches c x r) (sym e) reaches)
-        ];
+      ];
       only = λ r k. elim (adds.only r k) [
-          inl o ↦ (let x = m.only r o in (x.0, Contains-append_left rows (p ∷ []) x.0 x.1, x.2))
+        | inl o ↦ (let x = m.only r o in (x.0, Contains-append_left rows (p ∷ []) x.0 x.1, x.2))
         | inr reaches ↦ (p, Contains-push rows p, reaches)
-        ];
+      ];
       closed = λ r q k a. elim (adds.only r k) [
-          inl o ↦ adds.kept q (m.closed r q o a)
+        | inl o ↦ adds.kept q (m.closed r q o a)
         | inr reaches ↦ adds.reached q (child reaches a)
-        ];
+      ];
     }
 
 trees_agree : (xs ys : List (Option Tree)) (rows : List Row) → ((q : Row) → Contains rows q → get_or xs q.0 None ≡ get_or ys q.0 None) → trees_on xs rows ≡ trees_on ys rows
@@ -216,17 +213,17 @@ agree_collected slots swept c marks agree sound m are =
       size = are.size ∙ agree.size ∙ sym (length-map c.trees (kept_among (reachable s)));
       free = λ r e. kept_at c r ∙ free_after slots c marks r agree sound m (get_or c.trees r.0 None) refl (get_or marks r.0 false) refl (sym (are.slots r) ∙ e) (among (tree_or_leaf (get_or c.trees r.0 None)) (reachable s)) refl;
       node = λ r h rows e.
-        (let was = kept_node (get_or marks r.0 false) (slot_at slots r) h rows (sym (are.slots r) ∙ e) in
-        let has = agree.node r h rows was.1 in
-        let reach = marked_reach slots c marks r agree sound m was.0 in
-        let t = Node h (trees_of (trees_on c.trees rows)) in
-        let there = subst (Contains (reachable s)) (tree_at-has s r t has) reach in
-        keeps c c.raised r t has there
-        ∙ ap (λ ts. Some (Node h (trees_of ts))) (sym (trees_agree (kept_trees c) c.trees rows (λ q k. child_keeps slots c r q h rows agree was.1 reach k))));
+          (let was = kept_node (get_or marks r.0 false) (slot_at slots r) h rows (sym (are.slots r) ∙ e) in
+          let has = agree.node r h rows was.1 in
+          let reach = marked_reach slots c marks r agree sound m was.0 in
+          let t = Node h (trees_of (trees_on c.trees rows)) in
+          let there = subst (Contains (reachable s)) (tree_at-has s r t has) reach in
+          keeps c c.raised r t has there
+          ∙ ap (λ ts. Some (Node h (trees_of ts))) (sym (trees_agree (kept_trees c) c.trees rows (λ q k. child_keeps slots c r q h rows agree was.1 reach k))));
       held = λ r h rows e q k.
-        (let was = kept_node (get_or marks r.0 false) (slot_at slots r) h rows (sym (are.slots r) ∙ e) in
-        let reach = marked_reach slots c marks r agree sound m was.0 in
-        subst IsSome (sym (child_keeps slots c r q h rows agree was.1 reach k)) (agree.held r h rows was.1 q k));
+          (let was = kept_node (get_or marks r.0 false) (slot_at slots r) h rows (sym (are.slots r) ∙ e) in
+          let reach = marked_reach slots c marks r agree sound m was.0 in
+          subst IsSome (sym (child_keeps slots c r q h rows agree was.1 reach k)) (agree.held r h rows was.1 q k));
     }
 
 -- a row's arguments, as a caller sees them

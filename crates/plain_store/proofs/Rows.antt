@@ -1,9 +1,9 @@
 -- Rows in lists, and the lists of the rows' nodes.
-use Rattle.std.proofs.Common.{◌≡◌, ℕ, zero, suc, ◌+◌, ◌<◌, ◌≤◌, ◌≢◌, ◌⊎◌, inl, inr, Bool, true, false, List, [], ◌∷◌, ◌++◌, Option, Some, None, length, map, get_or, refl, ap, sym, ◌∙◌, subst, arith, eq-eqb, below_more}
+use Rattle.std.proofs.Common.{◌≡◌, ℕ, zero, suc, ◌+◌, ◌<◌, ◌≤◌, ◌≢◌, inl, inr, Bool, true, false, List, [], ◌∷◌, Some, None, length, map, get_or, refl, ap, sym, ◌∙◌, subst, arith, eq-eqb, below_more}
 use Rattle.std.proofs.Math.ListN.{set}
 use Rattle.std.proofs.Math.Dec.{eqb}
 use Rattle.std.proofs.lemmas.Bool.{eqb-true, cases_lt}
-use Rattle.std.specs.Prelude.{replicate, All}
+use Rattle.std.specs.Prelude.{replicate}
 use Rattle.std.proofs.lemmas.List.{get_or-map, map-set, length-set, get_or-set_same, get_or-set_other, get_or_past}
 use lib.Pointwise.{pointwise}
 use Rattle.term_model.specs.declared.Row.{Row}
@@ -50,13 +50,12 @@ pub is_node : (slot : Slot) (own head : Head) (ws bs : List Row) (b c : Bool)
     → (b ≡ true → c ≡ true → slot ≡ Some (head, bs)) × (slot ≡ Some (head, bs) → (b ≡ true) × (c ≡ true))
 is_node slot own head ws bs b c e f told same =
     let n : Node = (own, ws) in
-    let m : Node = (head, bs) in
-    (
+    let m : Node = (head, bs) in (
       λ h k. e ∙ node_same own head ws bs (head_eq_sound own head (sym f ∙ h)) (told k),
       λ h. (
         f ∙ subst (λ x. head_eq own x ≡ true) (head_of_node n m (sym e ∙ h)) (head_eq_refl own),
-        same (rows_of_node n m (sym e ∙ h))
-      )
+        same (rows_of_node n m (sym e ∙ h)),
+      ),
     )
 
 abbrev pub slots_of : List (Slot × ℕ) → List Slot
@@ -88,7 +87,7 @@ pub record Sweeping (marks : List Bool) (was now : Slots) (i : ℕ) : Type 0 whe
 
 pub sweeping_none : (marks : List Bool) (was : Slots) → Sweeping marks was was 0
 sweeping_none marks was =
-    record { size = refl; widest = refl; before = λ k h. absurd (omega arith); behind = λ k h. refl; }
+    record { size = refl; widest = refl; before = λ k h. absurd (omega arith); behind = λ k h. refl }
 
 pub sweeping_more : (marks : List Bool) (was now : Slots) (r : Row) (b : Bool)
     → Sweeping marks was now r.0 → r.0 < length now.slots → b ≡ get_or marks r.0 false
@@ -101,7 +100,7 @@ sweeping_more marks was now r b s h e =
       size = length-set now.slots r.0 v ∙ s.size;
       widest = s.widest;
       before = below_more (λ k. get_or (set now.slots r.0 v) k None ≡ kept_if (get_or marks k false) (get_or was.slots k None)) r.0
-        (λ k lt. let ne : k ≢ r.0 = omega arith in get_or-set_other now.slots r.0 k v None ne ∙ s.before k lt) here;
+          (λ k lt. let ne : k ≢ r.0 = omega arith in get_or-set_other now.slots r.0 k v None ne ∙ s.before k lt) here;
       behind = λ k le. let ne : k ≢ r.0 = omega arith in get_or-set_other now.slots r.0 k v None ne ∙ s.behind k (omega arith);
     }
 
@@ -115,9 +114,9 @@ sweeping_all marks was now i s h =
       size = s.size;
       widest = s.widest;
       slots = λ r. elim (cases_lt r.0 i) [
-          inl lt ↦ s.before r.0 lt
+        | inl lt ↦ s.before r.0 lt
         | inr le ↦ (
             let past : get_or was.slots r.0 None ≡ None = get_or_past was.slots r.0 None (omega arith) in
             s.behind r.0 le ∙ past ∙ sym (kept_none (get_or marks r.0 false)) ∙ ap (kept_if (get_or marks r.0 false)) (sym past))
-        ];
+      ];
     }

@@ -1,23 +1,20 @@
 -- What each thing that happens to a store does to what contracts see of it.
-use Rattle.std.proofs.Common.{◌≡◌, ℕ, ◌+◌, ◌-◌, ◌<◌, ◌≤◌, ◌⊎◌, inl, inr, Bool, true, false, List, [], ◌∷◌, ◌++◌, Option, Some, None, length, take, drop, map, get_or, refl, ap, sym, ◌∙◌, subst, arith}
-use Rattle.std.proofs.Math.ListN.{set}
-use Rattle.std.specs.Prelude.{Contains, IsSome, IfSome, IfNone, vec_capacity, if◌then◌else◌}
+use Rattle.std.proofs.Common.{◌≡◌, ℕ, ◌-◌, ◌<◌, ◌≤◌, Bool, true, false, List, [], ◌∷◌, ◌++◌, Option, Some, None, length, take, drop, get_or, refl, ap, sym, ◌∙◌, subst, arith}
+use Rattle.std.specs.Prelude.{Contains, IfSome, IfNone, vec_capacity, if◌then◌else◌}
 use Rattle.std.proofs.lemmas.List.{length-map, length-drop, ext_get_or}
 use Rattle.std.proofs.Math.Seq.{take-length}
 use Rattle.term_model.specs.declared.Row.{Row}
-use Rattle.term_model.specs.declared.Head.{Head}
 use Rattle.term_model.specs.Tree.{Tree, Node, trees_of, among}
 use Rattle.mark_phase.specs.Reachable.{Reaches}
-use Rattle.terms_api.specs.Terms.{Store, HasTree, IsHeld, trees, reachable, last, but_last, asked, IsSound, MayBuild, NeedsPlace}
+use Rattle.terms_api.specs.Terms.{reachable, last, IsSound}
 use Rattle.terms_api.proofs.Callers.{has-held}
 use Rattle.plain_store.specs.declared.event.Event.{Event}
-use Rattle.plain_store.specs.declared.event.Event.TheVariants.{Built, Swept, Refused}
 use Rattle.plain_store.specs.declared.store.PlainStore.TheInside.{Inside}
-use Rattle.plain_store.specs.Slots.{Slots, Slot, slot_at, children}
+use Rattle.plain_store.specs.Slots.{Slots, Slot, children}
 use Rattle.plain_store.specs.Agreement.{Agree}
-use Rattle.plain_store.specs.Contents.{Past, at_first, after, Contents, store_of, placed, collected, kept_trees, kept_among, refused, trees_on, HasNoFree}
-use Rattle.plain_store.specs.View.{past_of, past, contents_of, IsRight}
-use Rattle.plain_store.proofs.Placing.{node_of, stack_held}
+use Rattle.plain_store.specs.Contents.{Past, at_first, after, Contents, store_of, kept_trees, kept_among, refused, trees_on, HasNoFree}
+use Rattle.plain_store.specs.View.{past_of, contents_of, IsRight}
+use Rattle.plain_store.proofs.Placing.{stack_held}
 use Rattle.plain_store.proofs.Keeping.{kept_at}
 use Rattle.plain_store.proofs.Reaching.{down}
 
@@ -78,7 +75,6 @@ slot_none slots c agree full k h e (Some node) f =
 pub no_free : (slots : Slots) (c : Contents) → Agree slots c.trees → ((k : ℕ) → k < length slots.slots → get_or slots.slots k None ≡ None → ⊥) → HasNoFree c
 no_free slots c agree full k h e = slot_none slots c agree full k h e (get_or slots.slots k None) refl
 
-
 -- what is reached from the stack is a row
 pub reach_below : (slots : Slots) (c : Contents) → Agree slots c.trees → IsSound (store_of c) → (p : Row) → Contains c.stack p → (r : Row) → Reaches (children slots) p r → r.0 < length slots.slots
 reach_below slots c agree sound p k r reaches =
@@ -109,7 +105,6 @@ kept_same slots c agree after' =
     ext_get_or None (kept_trees c) c.trees (length-map c.trees (kept_among (reachable (store_of c))))
     (λ k h. same_at slots c agree after' k (get_or slots.slots k None) refl)
 
-
 pub sound_refused : (c : Contents) → IsSound (store_of c) → IsSound (store_of (refused c))
 sound_refused c sound =
-    record { stack = sound.stack; depth = sound.depth; room = sound.room; below = sound.below; one_row = sound.one_row; arguments = sound.arguments; well_formed = sound.well_formed; ground = sound.ground; }
+    record { stack = sound.stack; depth = sound.depth; room = sound.room; below = sound.below; one_row = sound.one_row; arguments = sound.arguments; well_formed = sound.well_formed; ground = sound.ground }

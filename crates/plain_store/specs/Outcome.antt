@@ -1,12 +1,12 @@
 -- What a build comes to.
-use Rattle.std.specs.Prelude.{◌≡◌, ◌+◌, List, [], ◌∷◌, ◌++◌, Result, Ok, Err, Contains}
+use Rattle.std.specs.Prelude.{◌≡◌, ◌+◌, [], ◌∷◌, ◌++◌, Result, Ok, Err, Contains}
 use Rattle.term_model.specs.declared.Row.{Row}
 use Rattle.term_model.specs.declared.Head.{Head}
 use Rattle.term_model.specs.Tree.{Tree}
 use Rattle.std.specs.Prelude.{ℕ}
 use Rattle.terms_api.specs.declared.terms.BuildFault.{BuildFault}
 use Rattle.terms_api.specs.declared.terms.BuildFault.TheVariants.{Deep, StoreFull, Worn}
-use Rattle.terms_api.specs.Terms.{Store, HasTree, IsSound, NeedsPlace, Built, NotBuilt, IsCrowded, trees, reachable, but_last, asked}
+use Rattle.terms_api.specs.Terms.{HasTree, IsSound, NeedsPlace, Built, NotBuilt, IsCrowded, trees, reachable, but_last, asked}
 use Rattle.plain_store.specs.Contents.{Contents, store_of, IsSame, IsFilled}
 
 -- every tree that can be reached from the stack has a row

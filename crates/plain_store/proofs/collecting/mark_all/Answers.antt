@@ -1,4 +1,4 @@
-use Rattle.std.proofs.Common.{◌≡◌, ◌∙◌, ◌+◌, List, [], ◌∷◌, ◌++◌, length, take, get_or, sym, subst}
+use Rattle.std.proofs.Common.{◌∙◌, List, take, get_or, sym, subst}
 use Rattle.std.proofs.lemmas.List.{take_more}
 use Rattle.term_model.specs.declared.Row.{Row}
 use Rattle.mark_phase.specs.Reachable.{AddsReached}
@@ -18,5 +18,5 @@ loop-row-preserved c =
       nodes = c.mark.ensures.same ∙ inv.nodes;
       size = adds.rows ∙ inv.size;
       marked = subst (λ (xs : List Row). MarksFrom (children c.args.nodes.now) xs c.mark.new.marks) (sym (take_more c.args.places.now i d c.loop-row-test.true))
-        (marks_more (children c.args.nodes.now) (take i c.args.places.now) p c.loop-row.marks c.mark.new.marks inv.marked adds);
+          (marks_more (children c.args.nodes.now) (take i c.args.places.now) p c.loop-row.marks c.mark.new.marks inv.marked adds);
     }

@@ -1,4 +1,4 @@
-use Rattle.std.proofs.Common.{◌≡◌, List, length, sym, subst}
+use Rattle.std.proofs.Common.{◌≡◌, length, sym, subst}
 use Rattle.term_model.specs.Tree.{arguments}
 use Rattle.terms_api.specs.Terms.{IsHeld, tree_at}
 use Rattle.plain_store.specs.Contents.{Contents, store_of}

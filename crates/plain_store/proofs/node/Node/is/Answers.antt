@@ -1,4 +1,4 @@
-use Rattle.std.proofs.Common.{◌≡◌, ◌∙◌, ℕ, sym, Some, refl, ap}
+use Rattle.std.proofs.Common.{◌≡◌, ◌∙◌, ℕ, sym, Some, ap}
 use Rattle.std.specs.Option.{option_map}
 use Rattle.term_model.specs.declared.Head.{Head}
 use Rattle.plain_store.specs.Slots.{Slot}

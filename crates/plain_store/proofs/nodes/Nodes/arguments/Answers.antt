@@ -1,4 +1,4 @@
-use Rattle.std.proofs.Common.{◌≡◌, ◌∙◌, ◌<◌, ℕ, sym, ap, length, arith}
+use Rattle.std.proofs.Common.{◌<◌, ℕ, ap, length, arith}
 use Rattle.std.proofs.lemmas.List.{length-map}
 use Rattle.plain_store.specs.Slots.{Slots, Slot}
 use Rattle.plain_store.proofs.nodes.Nodes.arguments.Goals as goal

@@ -1,4 +1,4 @@
-use Rattle.std.proofs.Common.{◌≡◌, ◌∙◌, true, false, sym, Some, None, ap, length, below_more}
+use Rattle.std.proofs.Common.{◌≡◌, ◌∙◌, true, false, sym, ap, below_more}
 use Rattle.plain_store.specs.Slots.{Slots}
 use Rattle.plain_store.proofs.Rows.{slots_of, slot_of_item}
 use Rattle.plain_store.proofs.nodes.Nodes.first_free.Goals as goal

@@ -1,5 +1,5 @@
-use Rattle.std.proofs.Common.{◌≡◌, ◌∙◌, ℕ, sym, ap, None, Bool, false}
-use Rattle.plain_store.specs.Slots.{Slots, Slot, slot_at, with_slot, kept_if}
+use Rattle.std.proofs.Common.{◌∙◌, ℕ, sym, ap, None, Bool}
+use Rattle.plain_store.specs.Slots.{Slot, slot_at, with_slot, kept_if}
 use Rattle.plain_store.proofs.Rows.{slots-set}
 use Rattle.plain_store.proofs.nodes.Nodes.keep_if.Goals as goal
 

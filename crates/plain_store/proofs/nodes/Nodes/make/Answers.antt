@@ -1,5 +1,5 @@
-use Rattle.std.proofs.Common.{◌≡◌, ◌∙◌, ℕ, sym, ap, Some}
-use Rattle.plain_store.specs.Slots.{Slots, Slot}
+use Rattle.std.proofs.Common.{ℕ, ap, Some}
+use Rattle.plain_store.specs.Slots.{Slot}
 use Rattle.plain_store.proofs.Rows.{slots-set}
 use Rattle.plain_store.proofs.nodes.Nodes.make.Goals as goal
 

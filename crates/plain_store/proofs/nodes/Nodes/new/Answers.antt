@@ -1,4 +1,4 @@
-use Rattle.std.proofs.Common.{◌≡◌, ◌∙◌, ℕ, sym, ap, None, List, arith}
+use Rattle.std.proofs.Common.{◌≡◌, ◌∙◌, ap, None, List, arith}
 use Rattle.std.specs.Prelude.{replicate}
 use Rattle.plain_store.specs.Slots.{Slots, Slot}
 use Rattle.plain_store.proofs.Rows.{slots_of, slots-replicate}

@@ -1,4 +1,4 @@
-use Rattle.std.proofs.Common.{◌≡◌, ◌∙◌, ◌+◌, ◌<◌, ◌≤◌, ℕ, true, false, sym, ap, length, arith, get_or, refl, subst}
+use Rattle.std.proofs.Common.{◌∙◌, ◌+◌, ◌<◌, false, sym, length, arith, get_or, refl, subst}
 use Rattle.term_model.specs.declared.Row.{Row}
 use Rattle.term_model.proofs.Members.{same_test}
 use Rattle.plain_store.specs.Slots.{Slots}
@@ -16,11 +16,11 @@ loop-i-preserved c =
     let below : c.loop-i.i < length c.loop-i.self.slots = omega (arith, c.loop-i.invariant.rows.size, c.len-i-end.ensures) in
     record {
       rows = subst (λ (s : Slots). Sweeping c.args.marks.now c.args.self.now s (c.loop-i.i + 1)) (sym c.keep_if-freed.ensures.kept)
-        (sweeping_more c.args.marks.now c.args.self.now c.loop-i.self row c.has-kept.result c.loop-i.invariant.rows below told);
+          (sweeping_more c.args.marks.now c.args.self.now c.loop-i.self row c.has-kept.result c.loop-i.invariant.rows below told);
       none = elim c.if-lost.branch [
-          then-lost w ↦ (λ h. absurd (cc))
+        | then-lost w ↦ (λ h. absurd (cc))
         | else-lost w ↦ (λ h. c.keep_if-freed.ensures.none (sym w.lost-is ∙ h) ∙ c.loop-i.invariant.none w.if-lost.false)
-        ];
+      ];
     }
 
 pub returns-clause-swept : goal.returns-clause-swept

@@ -1,15 +1,13 @@
-use Rattle.std.proofs.Common.{◌≡◌, ◌∙◌, ◌≤◌, ◌++◌, ◌∷◌, ◌⊎◌, inl, inr, [], ℕ, List, Option, ap, refl, sym, subst, length, arith}
-use Rattle.std.specs.Prelude.{vec_capacity, Contains}
+use Rattle.std.proofs.Common.{◌∙◌, inl, inr, List, ap, sym, subst, length}
+use Rattle.std.specs.Prelude.{Contains}
 use Rattle.term_model.specs.declared.Row.{Row}
-use Rattle.term_model.specs.Tree.{Tree}
-use Rattle.mark_phase.specs.Reachable.{Reaches}
 use Rattle.terms_api.specs.Terms.{IsLater}
 use Rattle.plain_store.specs.declared.event.Event.TheVariants.{Swept}
 use Rattle.plain_store.specs.Slots.{Slots, children}
 use Rattle.plain_store.specs.Agreement.{Agree}
 use Rattle.plain_store.specs.Marked.{MarksFrom}
-use Rattle.plain_store.specs.Contents.{Contents, Past, store_of, collected, kept_trees, epoch_after}
-use Rattle.plain_store.specs.View.{contents_of, past}
+use Rattle.plain_store.specs.Contents.{Contents, Past, collected, kept_trees, epoch_after}
+use Rattle.plain_store.specs.View.{contents_of}
 use Rattle.plain_store.proofs.Keeping.{sound_collected}
 use Rattle.plain_store.proofs.Reaching.{agree_collected}
 use Rattle.plain_store.proofs.Stepping.{past_step, shape, right_from, reach_below, kept_same}

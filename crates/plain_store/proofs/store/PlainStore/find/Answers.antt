@@ -1,6 +1,6 @@
-use Rattle.std.proofs.Common.{◌≡◌, ◌∙◌, ◌-◌, ℕ, List, None, ap, sym, subst, drop, get_or}
+use Rattle.std.proofs.Common.{◌≡◌, ◌∙◌, ◌-◌, ℕ, List, None, ap, sym, subst, get_or}
 use Rattle.term_model.specs.declared.Row.{Row}
-use Rattle.terms_api.specs.Terms.{HasTree, asked, last, IsSound}
+use Rattle.terms_api.specs.Terms.{HasTree, asked, IsSound}
 use Rattle.plain_store.specs.Slots.{slot_at}
 use Rattle.plain_store.specs.Contents.{Contents, store_of, IsAbsent}
 use Rattle.plain_store.specs.View.{contents_of}
@@ -28,7 +28,7 @@ returns-clause-absent c =
     let args = slice_last c.deref.result.now s.places.items (c.len.result - n) _ n c.deref.ensures.value c.deref.ensures.len (ap (λ j. j - n) c.len.ensures) in
     if_none c.find.result ((k : ℕ) → get_or s.nodes.slots k None ≡ node_of h (sliced (c.len.result - n) c.deref.result.now) → ⊥) (IsAbsent c.args.self.now (asked (store_of c.args.self.now) h n))
     (λ none. subst (λ (x : Contents). IsAbsent x (asked (store_of x) h n)) c.self.view_is
-      (absent_tree s.nodes (contents_of s) h n c.self.invariant.agree c.self.invariant.sound (λ k e. none k (e ∙ ap (λ (xs : List Row). node_of h xs) (sym args)))))
+    (absent_tree s.nodes (contents_of s) h n c.self.invariant.agree c.self.invariant.sound (λ k e. none k (e ∙ ap (λ (xs : List Row). node_of h xs) (sym args)))))
     c.find.ensures.absent
 
 pub returns-clause-sound : goal.returns-clause-sound

@@ -1,11 +1,9 @@
-use Rattle.std.proofs.Common.{◌≡◌, ◌∙◌, ◌-◌, ◌<◌, ◌≤◌, ◌++◌, ◌∷◌, [], List, Option, None, ap, refl, sym, subst, length, drop, arith}
-use Rattle.std.specs.Prelude.{vec_capacity}
+use Rattle.std.proofs.Common.{◌∙◌, ◌-◌, ◌<◌, List, ap, sym, subst, length, arith}
 use Rattle.std.proofs.lemmas.List.{length-set}
 use Rattle.term_model.specs.declared.Row.{Row}
-use Rattle.term_model.specs.Tree.{Tree}
-use Rattle.terms_api.specs.Terms.{HasTree, asked, MayBuild, NeedsPlace, but_last, last}
+use Rattle.terms_api.specs.Terms.{asked, MayBuild, NeedsPlace, last}
 use Rattle.plain_store.specs.declared.event.Event.TheVariants.{Built}
-use Rattle.plain_store.specs.Slots.{Slots, Slot, with_slot, slot_at}
+use Rattle.plain_store.specs.Slots.{Slots, with_slot}
 use Rattle.plain_store.specs.Agreement.{Agree}
 use Rattle.plain_store.specs.Contents.{Contents, Past, store_of, placed, after, IsAbsent, HasNoFree}
 use Rattle.plain_store.specs.View.{contents_of, past}
@@ -35,7 +33,7 @@ invariant_of-self-2 c =
     let size = ap (λ (x : Slots). length x.slots) made ∙ length-set s.nodes.slots r.0 (node_of h (last n s.places.items)) in
     let step = past_step s.history.items c.and-self-inside.result.items (λ v. v.items) (length s.nodes.slots) (length c.make.new.self.slots) s.places e c.and-self-inside.ensures size in
     let is = ap (λ (p : Past). shape c.put.new.places.items p s.inside s.widest s.room s.raised) step
-      ∙ ap (λ (xs : List Row). shape xs (after (past s) s.places.items e) s.inside s.widest s.room s.raised) c.put.ensures.items in
+    ∙ ap (λ (xs : List Row). shape xs (after (past s) s.places.items e) s.inside s.widest s.room s.raised) c.put.ensures.items in
     let free = c.self.invariant.agree.free r c.in_ok-row.ensures.free in
     let below : r.0 < length was.trees = omega (arith, c.in_ok-row.ensures.below, c.self.invariant.agree.size) in
     right_from _ (placed was h n r) is

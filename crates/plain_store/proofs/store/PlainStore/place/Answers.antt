@@ -1,8 +1,7 @@
-use Rattle.std.proofs.Common.{◌≡◌, ◌∙◌, ◌≤◌, ◌++◌, ◌∷◌, [], List, Option, ap, refl, sym, subst, length, arith}
-use Rattle.std.specs.Prelude.{vec_capacity}
+use Rattle.std.proofs.Common.{◌∙◌, List, Option, ap, refl, sym, subst, length, arith}
 use Rattle.term_model.specs.declared.Row.{Row}
 use Rattle.term_model.specs.Tree.{Tree}
-use Rattle.terms_api.specs.Terms.{HasTree, asked, MayBuild, NeedsPlace, but_last}
+use Rattle.terms_api.specs.Terms.{HasTree, asked, MayBuild, NeedsPlace}
 use Rattle.plain_store.specs.declared.event.Event.TheVariants.{Built}
 use Rattle.plain_store.specs.Agreement.{Agree}
 use Rattle.plain_store.specs.Contents.{Contents, Past, store_of, placed, after}
@@ -25,7 +24,7 @@ invariant_of-self c =
     let has = subst (λ (x : Contents). HasTree (store_of x) r (asked (store_of x) h n)) back c.requires.has in
     let step = past_step s.history.items c.and-self-inside.result.items (λ v. v.items) (length s.nodes.slots) (length s.nodes.slots) s.places e c.and-self-inside.ensures refl in
     let is = ap (λ (p : Past). shape c.put.new.places.items p s.inside s.widest s.room s.raised) step
-      ∙ ap (λ (xs : List Row). shape xs (after (past s) s.places.items e) s.inside s.widest s.room s.raised) c.put.ensures.items in
+    ∙ ap (λ (xs : List Row). shape xs (after (past s) s.places.items e) s.inside s.widest s.room s.raised) c.put.ensures.items in
     right_from _ (placed was h n r) is
     (subst (λ (xs : List (Option Tree)). Agree s.nodes xs) (sym (trees_found was h n r has)) c.self.invariant.agree)
     (sound_placed was h n r c.self.invariant.sound may room (place_found was h n r c.self.invariant.sound has))

@@ -1,5 +1,4 @@
-use Rattle.std.proofs.Common.{◌≡◌, ◌∙◌, ap, refl, List, length}
-use Rattle.term_model.specs.declared.Row.{Row}
+use Rattle.std.proofs.Common.{◌∙◌, ap, refl, length}
 use Rattle.plain_store.specs.declared.event.Event.TheVariants.{Refused}
 use Rattle.plain_store.specs.Contents.{Contents, Past, refused}
 use Rattle.plain_store.specs.View.{contents_of}

@@ -1,7 +1,6 @@
 use Rattle.std.proofs.Common.{◌≡◌, ◌∙◌, true, false, ap, sym, subst}
-use Rattle.term_model.specs.declared.Row.{Row}
 use Rattle.terms_api.specs.Terms.{MayBuild, NeedsPlace, asked}
-use Rattle.plain_store.specs.Contents.{Contents, store_of, placed, collected, refused, IsAbsent, IsFreeRow, HasNoFree, Collected}
+use Rattle.plain_store.specs.Contents.{Contents, store_of, placed, refused, IsAbsent, IsFreeRow, HasNoFree, Collected}
 use Rattle.plain_store.specs.Outcome.{IsBuilt, IsRefused}
 use Rattle.plain_store.proofs.Outcomes.{outcome_found, outcome_made, outcome_collected, outcome_refused, may_collected, absent_collected, raises_of}
 use Rattle.plain_store.proofs.store.PlainStore.try_build.Goals as goal
