@@ -1,0 +1,9 @@
+pub mod Walks
+pub mod Rows
+pub mod Placing
+pub mod Keeping
+pub mod Reaching
+pub mod Crowding
+pub mod Stepping
+pub mod Outcomes
+pub mod Ends

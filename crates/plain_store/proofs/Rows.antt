@@ -1,0 +1,122 @@
+-- Rows in lists, and the lists of the rows' nodes.
+use Rattle.std.proofs.Common.{◌≡◌, ℕ, zero, suc, ◌+◌, ◌<◌, ◌≤◌, ◌≢◌, inl, inr, Bool, true, false, List, [], ◌∷◌, Some, None, length, map, get_or, refl, ap, sym, ◌∙◌, subst, arith, eq-eqb, below_more}
+use Rattle.std.proofs.Math.ListN.{set}
+use Rattle.std.proofs.Math.Dec.{eqb}
+use Rattle.std.proofs.lemmas.Bool.{eqb-true, cases_lt}
+use Rattle.std.specs.Prelude.{replicate}
+use Rattle.std.proofs.lemmas.List.{get_or-map, map-set, length-set, get_or-set_same, get_or-set_other, get_or_past}
+use lib.Pointwise.{pointwise}
+use Rattle.term_model.specs.declared.Row.{Row}
+use Rattle.term_model.specs.declared.Head.{Head}
+use Rattle.term_model.specs.Tree.{head_eq}
+use Rattle.term_model.proofs.Equality.{head_eq_refl, head_eq_sound}
+use Rattle.term_model.proofs.Order.{both, both_hold}
+use Rattle.plain_store.specs.Slots.{Slot, Slots, slot_at, with_slot, kept_if, AreSwept}
+
+pub row_same : (r q : Row) → r.0 ≡ q.0 → r ≡ q
+row_same r q e = ap (λ (n : ℕ). let x : Row = record { 0 = n } in x) e
+
+pub rows_told : (xs ys : List Row) → pointwise (λ (a b : Row). eqb a.0 b.0) xs ys ≡ true → xs ≡ ys
+rows_told [] [] h = refl
+rows_told [] (y ∷ ys) h = absurd (cc)
+rows_told (x ∷ xs) [] h = absurd (cc)
+rows_told (x ∷ xs) (y ∷ ys) h =
+    let b = both_hold (eqb x.0 y.0) (pointwise (λ (a b : Row). eqb a.0 b.0) xs ys) h in
+    ap (λ z. z ∷ xs) (row_same x y (eqb-true x.0 y.0 b.0)) ∙ ap (λ zs. y ∷ zs) (rows_told xs ys b.1)
+
+rows_itself : (xs : List Row) → pointwise (λ (a b : Row). eqb a.0 b.0) xs xs ≡ true
+rows_itself [] = refl
+rows_itself (x ∷ xs) = both (eqb x.0 x.0) (pointwise (λ (a b : Row). eqb a.0 b.0) xs xs) (eq-eqb x.0 x.0 refl) (rows_itself xs)
+
+pub rows_same : (xs ys : List Row) → xs ≡ ys → pointwise (λ (a b : Row). eqb a.0 b.0) xs ys ≡ true
+rows_same xs ys e = subst (λ zs. pointwise (λ (a b : Row). eqb a.0 b.0) xs zs ≡ true) e (rows_itself xs)
+
+abbrev pub Node : Type 0
+Node = Head × List Row
+
+pub head_of_node : (n m : Node) → Some n ≡ Some m → n.0 ≡ m.0
+head_of_node n m e = let f : n ≡ m = cc in ap (λ (x : Node). x.0) f
+
+pub rows_of_node : (n m : Node) → Some n ≡ Some m → n.1 ≡ m.1
+rows_of_node n m e = let f : n ≡ m = cc in ap (λ (x : Node). x.1) f
+
+pub node_same : (h g : Head) (ws bs : List Row) → h ≡ g → ws ≡ bs → let n : Node = (h, ws) in let m : Node = (g, bs) in Some n ≡ Some m
+node_same h g ws bs e f =
+    ap (λ (x : Head). let n : Node = (x, ws) in Some n) e ∙ ap (λ (xs : List Row). let n : Node = (g, xs) in Some n) f
+
+-- the test of a row's head and arguments
+pub is_node : (slot : Slot) (own head : Head) (ws bs : List Row) (b c : Bool)
+    → slot ≡ Some (own, ws) → b ≡ head_eq own head → (c ≡ true → ws ≡ bs) → (ws ≡ bs → c ≡ true)
+    → (b ≡ true → c ≡ true → slot ≡ Some (head, bs)) × (slot ≡ Some (head, bs) → (b ≡ true) × (c ≡ true))
+is_node slot own head ws bs b c e f told same =
+    let n : Node = (own, ws) in
+    let m : Node = (head, bs) in (
+      λ h k. e ∙ node_same own head ws bs (head_eq_sound own head (sym f ∙ h)) (told k),
+      λ h. (
+        f ∙ subst (λ x. head_eq own x ≡ true) (head_of_node n m (sym e ∙ h)) (head_eq_refl own),
+        same (rows_of_node n m (sym e ∙ h)),
+      ),
+    )
+
+abbrev pub slots_of : List (Slot × ℕ) → List Slot
+slots_of items = map (λ (n : Slot × ℕ). n.0) items
+
+-- the slot of an item
+pub slot_of_item : (slots : List Slot) (items : List (Slot × ℕ)) (i : ℕ) (x : Slot × ℕ) → slots_of items ≡ slots → i < length items → x ≡ get_or items i x → get_or slots i None ≡ x.0
+slot_of_item slots items i x e h is =
+    ap (λ (xs : List Slot). get_or xs i None) (sym e) ∙ get_or-map (λ (n : Slot × ℕ). n.0) items i x None h ∙ ap (λ (n : Slot × ℕ). n.0) (sym is)
+
+pub slots-replicate : (n w : ℕ) → slots_of (replicate n (None, w)) ≡ replicate n None
+slots-replicate zero w = refl
+slots-replicate (suc n) w = ap (λ xs. None ∷ xs) (slots-replicate n w)
+
+pub slots-set : (s : Slots) (w : ℕ) (items : List (Slot × ℕ)) (r : Row) (y : Slot × ℕ) (v : Slot)
+    → let shown : Slots = record { slots = slots_of items; widest = w } in shown ≡ s → y.0 ≡ v
+    → let now : Slots = record { slots = slots_of (set items r.0 y); widest = w } in now ≡ with_slot s r v
+slots-set s w items r y v e f =
+    let show = λ (xs : List Slot). let x : Slots = record { slots = xs; widest = w } in x in
+    ap show (map-set (λ (n : Slot × ℕ). n.0) items r.0 y ∙ ap (λ (z : Slot). set (slots_of items) r.0 z) f)
+    ∙ ap (λ (x : Slots). with_slot x r v) e
+
+-- the rows below i are swept, and the others are as they were
+pub record Sweeping (marks : List Bool) (was now : Slots) (i : ℕ) : Type 0 where
+  pub size : length now.slots ≡ length was.slots
+  pub widest : now.widest ≡ was.widest
+  pub before : (k : ℕ) → k < i → get_or now.slots k None ≡ kept_if (get_or marks k false) (get_or was.slots k None)
+  pub behind : (k : ℕ) → i ≤ k → get_or now.slots k None ≡ get_or was.slots k None
+
+pub sweeping_none : (marks : List Bool) (was : Slots) → Sweeping marks was was 0
+sweeping_none marks was =
+    record { size = refl; widest = refl; before = λ k h. absurd (omega arith); behind = λ k h. refl }
+
+pub sweeping_more : (marks : List Bool) (was now : Slots) (r : Row) (b : Bool)
+    → Sweeping marks was now r.0 → r.0 < length now.slots → b ≡ get_or marks r.0 false
+    → Sweeping marks was (with_slot now r (kept_if b (slot_at now r))) (r.0 + 1)
+sweeping_more marks was now r b s h e =
+    let v = kept_if b (slot_at now r) in
+    let here : get_or (set now.slots r.0 v) r.0 None ≡ kept_if (get_or marks r.0 false) (get_or was.slots r.0 None) =
+    get_or-set_same now.slots r.0 v None h ∙ ap (λ c. kept_if c (slot_at now r)) e ∙ ap (kept_if (get_or marks r.0 false)) (s.behind r.0 (omega arith)) in
+    record {
+      size = length-set now.slots r.0 v ∙ s.size;
+      widest = s.widest;
+      before = below_more (λ k. get_or (set now.slots r.0 v) k None ≡ kept_if (get_or marks k false) (get_or was.slots k None)) r.0
+          (λ k lt. let ne : k ≢ r.0 = omega arith in get_or-set_other now.slots r.0 k v None ne ∙ s.before k lt) here;
+      behind = λ k le. let ne : k ≢ r.0 = omega arith in get_or-set_other now.slots r.0 k v None ne ∙ s.behind k (omega arith);
+    }
+
+kept_none : (b : Bool) → kept_if b None ≡ None
+kept_none true = refl
+kept_none false = refl
+
+pub sweeping_all : (marks : List Bool) (was now : Slots) (i : ℕ) → Sweeping marks was now i → length was.slots ≤ i → AreSwept marks was now
+sweeping_all marks was now i s h =
+    record {
+      size = s.size;
+      widest = s.widest;
+      slots = λ r. elim (cases_lt r.0 i) [
+        | inl lt ↦ s.before r.0 lt
+        | inr le ↦ (
+            let past : get_or was.slots r.0 None ≡ None = get_or_past was.slots r.0 None (omega arith) in
+            s.behind r.0 le ∙ past ∙ sym (kept_none (get_or marks r.0 false)) ∙ ap (kept_if (get_or marks r.0 false)) (sym past))
+      ];
+    }

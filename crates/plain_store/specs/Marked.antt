@@ -1,0 +1,10 @@
+-- Marks that are those of what can be reached from some rows.
+use Rattle.std.specs.Prelude.{Bool, List, Contains}
+use Rattle.term_model.specs.declared.Row.{Row}
+use Rattle.mark_phase.specs.Reachable.{Reaches, IsMarked, IsClosed}
+
+-- the marks are those of what is reached from these rows
+pub record MarksFrom (c : Row → List Row) (rows : List Row) (marks : List Bool) : Type 0 where
+  pub reached : (p r : Row) → Contains rows p → Reaches c p r → IsMarked marks r
+  pub only : (r : Row) → IsMarked marks r → (p : Row) × Contains rows p × Reaches c p r
+  pub closed : IsClosed c marks

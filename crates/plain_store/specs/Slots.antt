@@ -1,0 +1,36 @@
+-- Rows: each is free, or has a head over the rows of its arguments.
+use Rattle.std.specs.Prelude.{◌≡◌, ℕ, Bool, true, false, List, [], Option, Some, None, length, slice_index_or, slice_set}
+use Rattle.term_model.specs.declared.Row.{Row}
+use Rattle.term_model.specs.declared.Head.{Head}
+
+abbrev pub Slot : Type 0
+Slot = Option (Head × List Row)
+
+-- the rows, and how many arguments each has room for
+pub record Slots : Type 0 where
+  pub slots : List Slot
+  pub widest : ℕ
+
+abbrev pub slot_at : Slots → Row → Slot
+slot_at s r = slice_index_or s.slots r.0 None
+
+-- the rows of the arguments
+abbrev pub arguments_of : Slot → List Row
+arguments_of None = []
+arguments_of (Some n) = n.1
+
+abbrev pub children : Slots → Row → List Row
+children s r = arguments_of (slot_at s r)
+
+abbrev pub with_slot : Slots → Row → Slot → Slots
+with_slot s r n = record s { slots = slice_set s.slots r.0 n }
+
+abbrev pub kept_if : Bool → Slot → Slot
+kept_if true n = n
+kept_if false n = None
+
+-- the rows that aren't marked are free now, and each other is as before
+pub record AreSwept (marks : List Bool) (old new : Slots) : Type 0 where
+  pub size : length new.slots ≡ length old.slots
+  pub widest : new.widest ≡ old.widest
+  pub slots : (r : Row) → slot_at new r ≡ kept_if (slice_index_or marks r.0 false) (slot_at old r)

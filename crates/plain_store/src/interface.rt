@@ -1,0 +1,110 @@
+// The store as its callers see it.
+ghost use Rattle.std.specs.Prelude.{◌≡◌, ◌+◌, ◌<◌, ◌≤◌, ◌↔◌, Option, Some, None, Result, OnOk, OnErr, IsErr, IsErrOf, true, false, [], ◌∷◌, ◌++◌, length, slice_get};
+ghost use Rattle.terms_api.specs.Terms.{IsSound, MayBuild, Built as BuiltOf, NotBuilt, NeedsPlace, IsCrowded, CountsRefusal, trees, but_last, asked};
+ghost use Rattle.plain_store.specs.Contents.{store_of, IsFilled, IsSame};
+
+use crate::PlainStore;
+use crate::places::{keep_ends, put};
+use term_model::{Head, Row};
+use terms_api::{BuildFault, Deep, Terms};
+
+impl Terms for PlainStore {
+    ghost use Rattle.std.specs.Prelude.{◌≡◌};
+    ghost use Rattle.plain_store.specs.Contents.{store_of, IsSame, same_itself, same_turn};
+
+    ghost store = { store_of };
+
+    ghost same = { IsSame };
+
+    ghost same_as_itself = { same_itself };
+
+    ghost same_in_turn = { same_turn };
+
+    /// Takes no memory and loses nothing.
+    fn enter(&mut self) {
+        self.inside = true;
+    }
+
+    fn leave(&mut self) {
+        self.inside = false;
+    }
+
+    /// There is nobody else, so nothing happens.
+    fn breathe(&mut self) {
+        let _ = &self.inside;
+    }
+
+    fn depth(&self) -> u32 {
+        self.places.len() as u32
+    }
+
+    fn room(&self) -> u32 {
+        self.room
+    }
+
+    fn at(&mut self, i: u32) -> Row {
+        self.places[i as usize]
+    }
+
+    fn head(&mut self, row: Row) -> Head {
+        self.nodes.head(row).unwrap_or(Head::Nil)
+    }
+
+    fn count(&mut self, row: Row) -> u32 {
+        self.nodes.arguments(row).len() as u32
+    }
+
+    fn child(&mut self, row: Row, j: u32) -> Row {
+        self.nodes.arguments(row)[j as usize]
+    }
+
+    fn push(&mut self, row: Row) -> Result<(), Deep> {
+        if self.is_full() {
+            return Err(Deep);
+        }
+        put(&mut self.places, 0, row);
+        Ok(())
+    }
+
+    /// Finds the tree's row, or takes a free one, or collects and takes one that was freed. The
+    /// store is full exactly where the trees under the stack fill all rows without the asked one,
+    /// and its numbers never end.
+    fn build(&mut self, head: Head, n: u32) -> Result<(), BuildFault>
+        requires inside { (store_of self.old).inside ≡ true }
+        requires may { MayBuild (store_of self.old) head n }
+        ensures ok { OnOk result (BuiltOf (store_of self.old) (store_of self.new) head n) }
+        ensures trees { OnOk result (trees (store_of self.new)
+            ≡ but_last n (trees (store_of self.old)) ++ asked (store_of self.old) head n ∷ []) }
+        ensures err { OnErr result (NotBuilt (store_of self.old) (store_of self.new) head n) }
+        ensures err_trees { OnErr result (trees (store_of self.new) ≡ trees (store_of self.old)) }
+        ensures deep { IsErrOf result BuildFault.Deep ↔ NeedsPlace (store_of self.old) n }
+        ensures store_full_only_where_crowded { IsErrOf result BuildFault.StoreFull
+            → IsCrowded (store_of self.old) (store_of self.new) head n }
+        ensures worn_only_where_spent { IsErrOf result BuildFault.Worn
+            → (store_of self.new).spent ≡ true }
+        ensures was_sound { IsSound (store_of self.old) }
+        ensures refusals { CountsRefusal result (store_of self.old) (store_of self.new) }
+        ensures sound { IsSound (store_of self.new) }
+        ensures same { IsSame self.old self.new }
+        ensures store_full_only_where_filled { IsErrOf result BuildFault.StoreFull
+            → IsFilled (store_of self.old) head n }
+        ensures filled_is_store_full { IsFilled (store_of self.old) head n
+            → (NeedsPlace (store_of self.old) n → ⊥) → IsErrOf result BuildFault.StoreFull }
+        ensures never_worn { IsErrOf result BuildFault.Worn → ⊥ }
+    {
+        let _ = self.is_full();
+        self.try_build(head, n)
+    }
+
+    fn keep(&mut self, from: u32, top: u32) {
+        keep_ends(&mut self.places, from as usize, top as usize);
+    }
+
+    fn epoch(&self) -> Option<u64> {
+        if self.raised == u64::MAX {
+            None
+        } else {
+            Some(self.raised)
+        }
+    }
+}
