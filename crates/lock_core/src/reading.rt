@@ -158,5 +158,4 @@ pub fn schedule(bytes: &[u8], seats: u32) -> Result<LockState, LineFault>
 /// A schedule comes to one lock or one fault alone.
 pub fn schedules_have_one_outcome()
     ensures { (n : ℕ) (l : Lock) (k : ℕ) (ls : List (List ℕ)) (r q : Result Lock LineFault) → n ≤ 16 → ComesTo n l k ls r → ComesTo n l k ls q → r ≡ q }
-{
-}
+{}
