@@ -3,11 +3,13 @@
 #![tactic(auto)]
 
 mod binding;
+mod checking;
 mod heads;
 mod linking;
 mod matching;
 mod planning;
 
 pub use binding::Binds;
+pub use checking::may_be_planned;
 pub use matching::matches;
 pub use planning::Plan;
