@@ -8,6 +8,8 @@ mod heads;
 mod linking;
 mod matching;
 mod planning;
+#[cfg(test)]
+mod tests;
 
 pub use binding::Binds;
 pub use checking::may_be_planned;
