@@ -4,3 +4,4 @@ pub mod Bindings
 pub mod Pushing
 pub mod Skipping
 pub mod Links
+pub mod Numbering

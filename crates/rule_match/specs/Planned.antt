@@ -1,12 +1,12 @@
 -- What a plan has: rules in order, which have symbols alone, and the greatest arity of a symbol.
-use Rattle.std.specs.Prelude.{◌≡◌, ℕ, zero, suc, ◌<◌, ◌≤◌, ◌^◌, List, [], ◌∷◌, length, Option, None, Bool, true, false, nat_le, All, refl}
+use Rattle.std.specs.Prelude.{◌≡◌, ℕ, zero, suc, ◌<◌, ◌≤◌, ◌^◌, List, [], ◌∷◌, length, Option, None, Bool, true, false, nat_le, nat_lt, All, refl}
 use Rattle.std.specs.List.{list_all}
 use Rattle.std.specs.Coded.{Coded, code_by, coded×, coded_ℕ, coded_list}
 use Rattle.term_model.specs.Tree.{Tree, nodes}
 use Rattle.term_model.specs.Postorder.{postorder}
 use Rattle.term_model.specs.declared.Item.{Item}
 use Rattle.term_model.specs.declared.Item.TheVariants.{Var, App, Int, Nil, Cons}
-use Rattle.rewrite_model.specs.Rule.{Rule, Condition, IsRule}
+use Rattle.rewrite_model.specs.Rule.{Rule, Condition, IsRule, IsBelow}
 use Rattle.rewrite_model.specs.Matching.{match_of}
 use Rattle.rewrite_model.specs.Code.{rule_code}
 
@@ -39,6 +39,26 @@ pub record HasSymbolsAlone (widest : ℕ) (r : Rule) : Type 0 where
   pub right : IsPlain widest r.right
   pub firsts : All (λ (c : Condition). IsPlain widest c.first) r.conditions
   pub seconds : All (λ (c : Condition). IsPlain widest c.second) r.conditions
+
+-- a rule that a plan may have
+pub record IsFit (widest : ℕ) (r : Rule) : Type 0 where
+  pub rule : IsRule r
+  pub symbols : HasSymbolsAlone widest r
+
+-- a condition whose sides are patterns of symbols alone, with variables below a count
+pub record HasSides (vars widest : ℕ) (c : Condition) : Type 0 where
+  pub first_below : IsBelow vars c.first
+  pub first : IsPlain widest c.first
+  pub second_below : IsBelow vars c.second
+  pub second : IsPlain widest c.second
+
+-- a variable below a count, or a head
+abbrev pub is_item_below : ℕ → Item → Bool
+is_item_below vars (Var x) = nat_lt x vars
+is_item_below vars (App f n) = true
+is_item_below vars (Int v) = true
+is_item_below vars Nil = true
+is_item_below vars Cons = true
 
 -- The rules are rules of symbols alone, and a rule's number fits 32 bits.
 pub record IsPlan (p : Planned) : Type 0 where

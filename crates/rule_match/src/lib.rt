@@ -3,11 +3,15 @@
 #![tactic(auto)]
 
 mod binding;
+mod checking;
 mod heads;
 mod linking;
 mod matching;
 mod planning;
+#[cfg(test)]
+mod tests;
 
 pub use binding::Binds;
+pub use checking::may_be_planned;
 pub use matching::matches;
 pub use planning::Plan;
