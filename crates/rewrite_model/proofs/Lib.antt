@@ -1,7 +1,8 @@
 pub mod Matches
 pub mod Fuel
 pub mod Closed
-pub mod Steps
+pub mod NormalForms
+pub mod SingleSteps
 pub mod Reached
 pub mod OutermostReached
 pub mod Stacks

@@ -9,7 +9,7 @@ use Rattle.rewrite_model.specs.Matching.{match_of, if_matched, instance, instanc
 use Rattle.rewrite_model.specs.Run.{Done, OutOfFuel, TooDeep, done, ends, noting}
 use Rattle.rewrite_model.specs.Step.{Step, at_root, inside, StepIn, here, there, Reaches, none, more, IsNormalForm}
 use Rattle.rewrite_model.specs.Outermost.{Building, build, build_all, Stepped, Same, Changed, use_right, step_at_root, rebuild, in_front, if_same, step, step_all, go_on, steps, outermost}
-use Rattle.rewrite_model.proofs.Steps.{NoneMatches, first_contained, NormalIn, node_normal, leaf_normal, no_instance}
+use Rattle.rewrite_model.proofs.NormalForms.{NoneMatches, first_contained, NormalIn, node_normal, leaf_normal, no_instance}
 use Rattle.rewrite_model.proofs.Reached.{went_on, had_room, same_value}
 
 -- what is built is the instance

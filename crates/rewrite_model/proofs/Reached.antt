@@ -9,7 +9,7 @@ use Rattle.rewrite_model.specs.Matching.{match_of, if_matched, instance, instanc
 use Rattle.rewrite_model.specs.Run.{Run, Ended, Done, OutOfFuel, TooDeep, done, ends, after, ◌>>=◌, in_room}
 use Rattle.rewrite_model.specs.Evaluation.{Evaluated, Reducer, evaluate, evaluate_all, hold, replace, apply, reduce_by, begin, reduce_within, reduction, evaluation}
 use Rattle.rewrite_model.specs.Step.{at_root, Reaches, none, more, IsNormalForm}
-use Rattle.rewrite_model.proofs.Steps.{NoneMatches, first_contained, ReachesIn, none_in, NormalIn, NormalAll, reaches_both, reach_both, all_inside, all_here, all_there, node_normal, root_match_normal, tree_normal, no_instance}
+use Rattle.rewrite_model.proofs.NormalForms.{NoneMatches, first_contained, ReachesIn, none_in, NormalIn, NormalAll, reaches_both, reach_both, all_inside, all_here, all_there, node_normal, root_match_normal, tree_normal, no_instance}
 
 -- a run that ends with a value went on from one
 pub went_on : {N A B P : Type 0} (x : Run N A) (g : A → ℕ → Run N B) (b : B) (n : ℕ) → (x >>= g).end ≡ Done b n → ((a : A) (m : ℕ) → x.end ≡ Done a m → (g a m).end ≡ Done b n → P) → P

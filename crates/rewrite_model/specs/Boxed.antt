@@ -22,6 +22,9 @@ abbrev mutual
 abbrev pub trees : List Term → List Tree
 trees ts = map tree_of ts
 
+abbrev pub argument_lists : List Arguments → List Trees
+argument_lists args = map trees_in args
+
 -- A stack is a list with its top first. What is taken from it, or stands on it after an item, is
 -- what the items of a tree say.
 abbrev pub IsTaken : ℕ → Trees → Trees → Trees → Trees → Type 0

@@ -1,12 +1,13 @@
 -- What is true of all matching, evaluations and runs.
-use Rattle.std.specs.Prelude.{◌≡◌, ℕ, ◌+◌, ◌≤◌, List, [], ◌∷◌, ◌++◌, length, Some, All, Contains}
+use Rattle.std.specs.Prelude.{◌≡◌, ◌↔◌, ℕ, ◌+◌, ◌≤◌, List, [], ◌∷◌, ◌++◌, length, Some, All, Contains}
 use Rattle.term_model.specs.Tree.{Tree, IsGround, distinct}
 use Rattle.term_model.specs.Laws.{IsSubtree}
 use Rattle.rewrite_model.specs.Rule.{Rule, IsRule, IsNode, IsNumbered, IsUnconditional}
 use Rattle.rewrite_model.specs.Matching.{match_of, instance}
 use Rattle.rewrite_model.specs.Run.{Done}
 use Rattle.rewrite_model.specs.Evaluation.{reduction, begin, evaluation}
-use Rattle.rewrite_model.specs.Step.{Reaches, IsNormalForm}
+use Rattle.rewrite_model.specs.Step.{Step, Reaches, IsNormalForm}
+use Rattle.rewrite_model.specs.Steps.{steps_of}
 use Rattle.rewrite_model.specs.Outermost.{outermost}
 use Rattle.rewrite_model.specs.Built.{built_list, need, distinct_built, need_of_all}
 
@@ -57,3 +58,11 @@ ValueIsReached = (rules : List Rule) → All (λ (r : Rule). IsNode r.left) rule
 abbrev pub OutermostValueIsReached : Type 0
 OutermostValueIsReached = (rules : List Rule) (t u : Tree) (fuel room left : ℕ) → (outermost rules t fuel room).end ≡ Done u left →
     Reaches rules t u × IsNormalForm rules u
+
+-- A tree is reached by one step exactly where it is one of the steps of the tree, so that a normal
+-- form is exactly a tree without steps.
+abbrev pub StepsAreAll : Type 0
+StepsAreAll = (rules : List Rule) (t u : Tree) → Contains (steps_of rules t) u ↔ Step rules t u
+
+abbrev pub NormalHasNone : Type 0
+NormalHasNone = (rules : List Rule) (t : Tree) → IsNormalForm rules t ↔ (steps_of rules t ≡ [])

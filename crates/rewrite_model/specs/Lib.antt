@@ -4,6 +4,7 @@ pub mod Run
 pub mod Evaluation
 pub mod Built
 pub mod Step
+pub mod Steps
 pub mod Outermost
 pub mod Rows
 pub mod Laws

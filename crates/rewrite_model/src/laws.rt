@@ -1,6 +1,6 @@
 //! What is true of all matches and evaluations, each law the contract of a function that does nothing.
 
-ghost use Rattle.rewrite_model.specs.Laws.{MatchGivesInstance, MatchBindsVariables, InstancesMatch, BeginsWithItself, FuelFalls, MoreFuelIsLeft, SubtreesAreBuilt, NeedIsBounded, NeedOfAllIsBounded, ValueIsReached, OutermostValueIsReached};
+ghost use Rattle.rewrite_model.specs.Laws.{MatchGivesInstance, MatchBindsVariables, InstancesMatch, BeginsWithItself, FuelFalls, MoreFuelIsLeft, SubtreesAreBuilt, NeedIsBounded, NeedOfAllIsBounded, ValueIsReached, OutermostValueIsReached, StepsAreAll, NormalHasNone};
 
 /// A pattern matches exactly its instances.
 pub fn matching_laws()
@@ -27,4 +27,10 @@ pub fn built_laws()
 pub fn value_laws()
     ensures innermost { ValueIsReached }
     ensures outermost { OutermostValueIsReached }
+{}
+
+/// The single steps of a term are those that `steps` lists, and a normal form is a term without any.
+pub fn one_step_laws()
+    ensures all { StepsAreAll }
+    ensures normal { NormalHasNone }
 {}

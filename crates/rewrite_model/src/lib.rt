@@ -9,6 +9,7 @@ mod ends;
 mod evaluating;
 mod finding;
 mod laws;
+mod one_step;
 mod reading;
 mod rules;
 mod stepping;
@@ -19,7 +20,8 @@ pub use boxed::{Arguments, Term};
 pub use counting::distinct;
 pub use ends::{End, Evaluated};
 pub use evaluating::evaluation;
-pub use laws::{built_laws, fuel_laws, matching_laws, value_laws};
+pub use laws::{built_laws, fuel_laws, matching_laws, one_step_laws, value_laws};
+pub use one_step::steps;
 pub use rules::{Condition, Rule};
 pub use stepping::outermost;
 

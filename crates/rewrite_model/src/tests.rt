@@ -1,6 +1,6 @@
 //! Worked rows by the plain program.
 
-use crate::{Condition, End, Evaluated, Rule, Term, distinct, evaluation, outermost};
+use crate::{Condition, End, Evaluated, Rule, Term, distinct, evaluation, outermost, steps};
 use std::alloc::Global;
 use std::test::Fail;
 use term_model::{Flat, Item, Symbol};
@@ -264,6 +264,44 @@ fn the_outermost_position_goes_first(rt: HostRuntime) -> Result<(), Fail> {
     assert_eq!(rt;
         inner(alloc, &rules, &[L, F], 5, 99, &[A])?,
         Seen::OutOfFuel
+    );
+    Ok(())
+}
+
+/// Whether the single steps of a term are these, in this order.
+fn steps_are(
+    alloc: Global,
+    rules: &[Rule],
+    term: &[Item],
+    wants: &[&[Item]],
+) -> Result<bool, Fail> {
+    let term = Term::of(alloc, &flat(alloc, term)?)?;
+    let list = steps(alloc, rules, &term)?;
+    let mut same = list.len() == wants.len();
+    for (changed, want) in list.iter().zip(wants) {
+        let want = Term::of(alloc, &flat(alloc, want)?)?;
+        same = same && changed.is_same(&want);
+    }
+    Ok(same)
+}
+
+#[test]
+fn all_single_steps_stand_in_order(rt: HostRuntime) -> Result<(), Fail> {
+    let alloc = rt.alloc();
+    let rules = sums(alloc)?;
+    assert!(rt; steps_are(alloc, &rules, &ONE_AND_ONE, &[&[Z, S, Z, PLUS, S]])?);
+    assert!(rt; steps_are(alloc, &rules, &TWO, &[])?);
+    let nested: [Item; 5] = [Z, S, Z, PLUS, D];
+    let mut rules = sums(alloc)?;
+    rules.push(rule(alloc, &[X, D], &[X, X, P], 1)?)?;
+    rules.push(rule(alloc, &[X, D], &[A], 1)?)?;
+    assert!(rt;
+        steps_are(
+            alloc,
+            &rules,
+            &nested,
+            &[&[Z, S, Z, PLUS, Z, S, Z, PLUS, P], &[A], &[Z, S, D]]
+        )?
     );
     Ok(())
 }
