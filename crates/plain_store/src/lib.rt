@@ -9,6 +9,8 @@ mod node;
 mod nodes;
 mod places;
 mod store;
+#[cfg(test)]
+mod tests;
 
 pub use faults::Memory;
 pub use store::PlainStore;
