@@ -1,0 +1,5 @@
+pub mod Code
+pub mod Follow
+pub mod Laws
+pub mod Reducing
+pub mod Normalized
