@@ -1,7 +1,6 @@
 -- Runs, one after another.
-use Rattle.std.proofs.Common.{◌≡◌, ℕ, zero, suc, ◌+◌, ◌-◌, ◌≤◌, List, [], ◌∷◌, ◌++◌, length, refl, sym, ◌∙◌, ap, subst, arith, append_assoc, append-nil, Bool, true, false}
-use Rattle.std.specs.Prelude.{if◌then◌else◌}
-use Rattle.rewrite_model.specs.Run.{Run, Ended, Done, OutOfFuel, TooDeep, done, ends, after, ◌>>=◌, in_room}
+use Rattle.std.proofs.Common.{◌≡◌, ℕ, List, ◌∷◌, ◌++◌, refl, sym, ap, append_assoc, append-nil}
+use Rattle.rewrite_model.specs.Run.{Run, Ended, Done, OutOfFuel, TooDeep, done, noting, after, ◌>>=◌}
 
 -- the value, where there is one, has this
 abbrev pub EndsIn : {A : Type 0} → (A → Type 0) → Ended A → Type 0
@@ -50,3 +49,21 @@ module _ {N : Type 0} where
 
   pub ends_then : {A B : Type 0} (P : B → Type 0) (x : Run N A) (g : A → ℕ → Run N B) → ((a : A) (n : ℕ) → EndsIn P (g a n).end) → EndsIn P (x >>= g).end
   ends_then P x g h = ends_after P x.notes x.end g h
+
+  noting_after : {A B : Type 0} (n : N) (notes : List N) (e : Ended A) (g : A → ℕ → Run N B) → after (n ∷ notes) e g ≡ (let r : Run N B = after notes e g in record { notes = n ∷ r.notes; end = r.end })
+  noting_after n notes (Done a left) g = refl
+  noting_after n notes OutOfFuel g = refl
+  noting_after n notes TooDeep g = refl
+
+  -- what was noted first stays first
+  pub noting_then : {A B : Type 0} (n : N) (x : Run N A) (g : A → ℕ → Run N B) → (noting n x >>= g) ≡ noting n (x >>= g)
+  noting_then n x g = noting_after n x.notes x.end g
+
+  done_after : {A : Type 0} (notes : List N) (e : Ended A) → after notes e (λ a left. done a left) ≡ (let r : Run N A = record { notes = notes; end = e } in r)
+  done_after {A} notes (Done a left) = ap (λ (ns : List N). let r : Run N A = record { notes = ns; end = Done a left } in r) (append-nil notes)
+  done_after notes OutOfFuel = refl
+  done_after notes TooDeep = refl
+
+  -- nothing more is done
+  pub then_done : {A : Type 0} (x : Run N A) → (x >>= (λ a left. done a left)) ≡ x
+  then_done x = done_after x.notes x.end

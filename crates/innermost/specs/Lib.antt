@@ -3,3 +3,4 @@ pub mod Follow
 pub mod Laws
 pub mod Reducing
 pub mod Normalized
+pub mod State

@@ -1,6 +1,7 @@
 //! What is true of all code, each law the contract of a function that does nothing.
 
 ghost use Rattle.innermost.specs.Laws.{CodeEvaluates, CodeTests, RulesGoOn};
+ghost use Rattle.innermost.specs.State.{Begins, Closes, Builds, BuildsLast, HasNoRoom, PutsBound, Gives, Chooses, Tests, Opens, Stays};
 ghost use Rattle.innermost.specs.Reducing.{TreeStays, RulePasses, NeedsFuel, NeedsRoom, RuleIsUsed};
 
 /// Code comes to what it is the code of.
@@ -17,4 +18,19 @@ pub fn choice_laws()
     ensures fuel { NeedsFuel }
     ensures room { NeedsRoom }
     ensures used { RuleIsUsed }
+{}
+
+/// Each step of the machine keeps what its state comes to, but for the points that it comes to.
+pub fn step_laws()
+    ensures begins { Begins }
+    ensures closes { Closes }
+    ensures builds { Builds }
+    ensures builds_last { BuildsLast }
+    ensures no_room { HasNoRoom }
+    ensures bound { PutsBound }
+    ensures gives { Gives }
+    ensures chosen { Chooses }
+    ensures tests { Tests }
+    ensures opens { Opens }
+    ensures stays { Stays }
 {}

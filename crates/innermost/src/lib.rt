@@ -5,5 +5,5 @@ mod laws;
 mod normal;
 mod step;
 
-pub use laws::{choice_laws, code_laws};
+pub use laws::{choice_laws, code_laws, step_laws};
 pub use normal::{Normal, RunFault};
