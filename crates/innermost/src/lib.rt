@@ -1,0 +1,9 @@
+//! Leftmost innermost normalization over any store of terms, with explicit stacks.
+#![tactic(auto)]
+
+mod laws;
+mod normal;
+mod step;
+
+pub use laws::{choice_laws, code_laws, step_laws};
+pub use normal::{Normal, RunFault};
