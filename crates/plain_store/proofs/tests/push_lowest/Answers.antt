@@ -1,4 +1,4 @@
-use Rattle.std.proofs.Common.{◌≡◌, subst, sym}
+use Rattle.std.proofs.Common.{subst, sym}
 use Rattle.terms_api.specs.Terms.{Store, IsHeld, IsSound}
 use Rattle.terms_api.proofs.Callers.{held-stack}
 use Rattle.plain_store.proofs.tests.push_lowest.Goals as goal
