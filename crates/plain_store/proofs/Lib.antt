@@ -1,9 +1,11 @@
 pub mod Walks
 pub mod Rows
+pub mod Indexing
 pub mod Placing
 pub mod Keeping
 pub mod Reaching
 pub mod Crowding
 pub mod Stepping
+pub mod Beginning
 pub mod Outcomes
 pub mod Ends

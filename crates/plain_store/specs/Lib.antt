@@ -1,4 +1,6 @@
 pub mod Slots
+pub mod Hash
+pub mod Index
 pub mod Contents
 pub mod Agreement
 pub mod View

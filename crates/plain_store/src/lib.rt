@@ -3,12 +3,15 @@
 
 mod collecting;
 mod event;
+mod hashing;
 mod history;
+mod index;
 mod interface;
 mod node;
 mod nodes;
 mod places;
 mod store;
+mod table;
 #[cfg(test)]
 mod tests;
 

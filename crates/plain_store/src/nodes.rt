@@ -1,9 +1,11 @@
-// The rows of a store.
-ghost use Rattle.std.specs.Prelude.{◌≡◌, ◌<◌, ◌≤◌, ◌^◌, ℕ, Option, Some, None, IfOk, IfSome, IfNone, IsSome, true, false, length, replicate, slice_get, slice_index_or};
+// The rows of a store, each tree of which is found by its hash.
+ghost use Rattle.std.specs.Prelude.{◌≡◌, ◌+◌, ◌<◌, ◌≤◌, ◌^◌, ℕ, Option, Some, None, IfOk, IfSome, IfNone, IsSome, true, false, length, replicate, take, [], slice_get, slice_index_or};
 ghost use Rattle.std.specs.Option.{option_map};
-ghost use Rattle.plain_store.specs.Slots.{slot_at, children, with_slot, kept_if, AreSwept};
+ghost use Rattle.plain_store.specs.Slots.{slot_at, children, with_slot, AreSwept};
+ghost use Rattle.plain_store.specs.Index.{IsIndexed};
 
-use crate::node::Node;
+use crate::index::{END, Index};
+use crate::table::Table;
 use faults::Memory;
 use mark_phase::{Graph, Marks};
 use std::alloc::Global;
@@ -13,20 +15,49 @@ use term_model::{Head, Row};
 /// Rows with room for so many arguments each. Contracts see what each row has.
 #[derive(Drop)]
 pub(crate) struct Nodes {
-    nodes: Vec<Node>,
-    widest: u32,
+    table: Table,
+    index: Index,
 }
 
 impl Model for Nodes {
-    ghost use Rattle.std.specs.Prelude.{◌≡◌, ◌<◌, ◌^◌, All, map, length};
-    ghost use Rattle.plain_store.specs.Slots.{Slots, Slot};
-    ghost use Rattle.std.specs.Prelude.{ℕ};
+    ghost use Rattle.std.specs.Prelude.{◌≡◌, length};
+    ghost use Rattle.plain_store.specs.Slots.{Slots};
+    ghost use Rattle.plain_store.specs.Index.{IsIndexed};
 
     ghost Value = { Slots };
 
-    ghost view = { λ s. record { slots = map (λ (n : Slot × ℕ). n.0) s.nodes.items; widest = s.widest } };
+    ghost view = { λ s. s.table };
 
-    ghost invariant = { λ s. (length s.nodes.items < 2 ^ 32) × (s.widest < 2 ^ 32) × All (λ (n : Slot × ℕ). n.1 ≡ s.widest) s.nodes.items };
+    ghost invariant = { λ s. IsIndexed s.table.slots s.index × (length s.index.nexts ≡ length s.table.slots) };
+}
+
+// Puts a row into the chain of its bucket, or on the stack of free rows.
+fn add(table: &Table, index: &mut Index, row: Row)
+    requires below { row.0 < length table.now.slots }
+    requires room { length index.old.nexts ≡ length table.now.slots }
+    requires before { IsIndexed (take row.0 table.now.slots) index.old }
+    ensures indexed { IsIndexed (take (row.0 + 1) table.now.slots) index.new }
+    ensures room { length index.new.nexts ≡ length index.old.nexts }
+{
+    match table.head(row) {
+        Some(head) => {
+            let bucket = index.bucket(head, table.arguments(row));
+            index.link(bucket, row);
+        }
+        None => index.free(row),
+    }
+}
+
+// Puts all rows where they are looked for.
+fn add_all(table: &Table, index: &mut Index)
+    requires room { length index.old.nexts ≡ length table.now.slots }
+    requires none { IsIndexed [] index.old }
+    ensures indexed { IsIndexed table.now.slots index.new }
+    ensures room { length index.new.nexts ≡ length index.old.nexts }
+{
+    for i in 0..table.len() {
+        add(table, index, Row(i));
+    }
 }
 
 impl Nodes {
@@ -34,12 +65,10 @@ impl Nodes {
     pub(crate) fn new(alloc: Global, rows: u32, widest: u32) -> Result<Nodes, Memory>
         ensures { IfOk result (λ nodes. nodes ≡ record { slots = replicate rows None; widest = widest }) }
     {
-        let mut nodes = Vec::with_capacity(alloc, rows as usize)?;
-        for made in 0..rows {
-            let _ = made;
-            nodes.push(Node::new(alloc, widest)?)?;
-        }
-        Ok(Nodes { nodes, widest })
+        let table = Table::new(alloc, rows, widest)?;
+        let mut index = Index::new(alloc, rows)?;
+        add_all(&table, &mut index);
+        Ok(Nodes { table, index })
     }
 
     /// The row that has this head over these rows.
@@ -47,25 +76,16 @@ impl Nodes {
         ensures found { IfSome result (λ row. slot_at self.now row ≡ Some (head, arguments.now)) }
         ensures absent { IfNone result ((k : ℕ) → slice_index_or self.now.slots k None ≡ Some (head, arguments.now) → ⊥) }
     {
-        for (i, node) in self.nodes.iter().enumerate() {
-            if node.is(head, arguments) {
-                return Some(Row(i as u32));
+        let mut at = self.index.first(self.index.bucket(head, arguments));
+        for passed in 0..self.table.len() {
+            let _ = passed;
+            if at == END {
+                return None;
             }
-        }
-        None
-    }
-
-    /// A free row.
-    fn first_free(&self) -> Option<Row>
-        ensures free { IfSome result (λ row. slot_at self.now row ≡ None) }
-        ensures below { IfSome result (λ row. row.0 < length self.now.slots) }
-        ensures full { IfNone result ((k : ℕ) → k < length self.now.slots
-            → slice_index_or self.now.slots k None ≡ None → ⊥) }
-    {
-        for (i, node) in self.nodes.iter().enumerate() {
-            if node.is_free() {
-                return Some(Row(i as u32));
+            if self.table.is(Row(at), head, arguments) {
+                return Some(Row(at));
             }
+            at = self.index.next(at);
         }
         None
     }
@@ -80,9 +100,10 @@ impl Nodes {
             → slice_index_or self.old.slots k None ≡ None → ⊥) }
         ensures unchanged { IfNone result (self.new ≡ self.old) }
     {
-        let row = self.first_free()?;
-        let node = &mut self.nodes[row.0 as usize];
-        node.set(head, arguments);
+        let row = self.index.take_free()?;
+        self.table.set(row, head, arguments);
+        let bucket = self.index.bucket(head, arguments);
+        self.index.link(bucket, row);
         Some(row)
     }
 
@@ -92,34 +113,10 @@ impl Nodes {
         ensures swept { AreSwept marks.now self.old self.new }
         ensures none { result ≡ false → self.new ≡ self.old }
     {
-        let mut lost = false;
-        for i in 0..self.len() {
-            let kept = marks.has(Row(i));
-            let freed = self.keep_if(Row(i), kept);
-            lost = lost || freed;
-        }
+        let lost = self.table.sweep(marks);
+        self.index.clear();
+        add_all(&self.table, &mut self.index);
         lost
-    }
-
-    // Frees the row unless it is to be kept, and says whether it wasn't free.
-    fn keep_if(&mut self, row: Row, kept: bool) -> bool
-        requires { row.0 < length self.old.slots }
-        ensures kept { self.new ≡ with_slot self.old row (kept_if kept (slot_at self.old row)) }
-        ensures none { result ≡ false → self.new ≡ self.old }
-    {
-        if kept || self.nodes[row.0 as usize].is_free() {
-            return false;
-        }
-        let node = &mut self.nodes[row.0 as usize];
-        node.free();
-        true
-    }
-
-    /// How many rows there are.
-    pub(crate) fn len(&self) -> u32
-        ensures { result ≡ length self.now.slots }
-    {
-        self.nodes.len() as u32
     }
 
     /// The head of a row, which a free row doesn't have.
@@ -127,7 +124,7 @@ impl Nodes {
         requires { row.0 < length self.now.slots }
         ensures { result ≡ option_map (λ n. n.0) (slot_at self.now row) }
     {
-        self.nodes[row.0 as usize].head()
+        self.table.head(row)
     }
 
     /// The rows of a row's arguments, none of a free row.
@@ -136,7 +133,7 @@ impl Nodes {
         ensures arguments { result.now ≡ children self.now row }
         ensures fits { length result.now < 2 ^ 32 }
     {
-        self.nodes[row.0 as usize].arguments()
+        self.table.arguments(row)
     }
 }
 

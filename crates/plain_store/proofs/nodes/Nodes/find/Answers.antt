@@ -1,10 +1,33 @@
-use Rattle.std.proofs.Common.{◌≡◌, ◌∙◌, true, false, sym, ap, below_more}
+use Rattle.std.proofs.Common.{◌≡◌, ◌∙◌, true, false, None, get_or, refl, ap, sym, arith}
 use Rattle.plain_store.specs.Slots.{Slots}
-use Rattle.plain_store.proofs.Rows.{slots_of, slot_of_item}
+use Rattle.plain_store.specs.Index.{end}
+use Rattle.plain_store.proofs.Placing.{node_of}
+use Rattle.plain_store.proofs.Indexing.{ahead_at_first, ahead_is, ahead_below, ahead_more}
 use Rattle.plain_store.proofs.nodes.Nodes.find.Goals as goal
 
-pub loop-i-preserved : goal.loop-i-preserved
-loop-i-preserved c =
-    let shown = ap (λ (s : Slots). s.slots) c.self.view_is in
-    let item = slot_of_item c.args.self.now.slots c.deref-node-items.result.now c.loop-i.i c.node-item.result (ap slots_of c.deref-node-items.ensures.value ∙ shown) c.loop-i-test.true c.node-item.is in
-    below_more _ _ c.loop-i.invariant (λ h. let t : true ≡ false = sym (c.is.ensures.1 (sym item ∙ h)) ∙ c.if-is.false in absurd (cc))
+pub loop-passed-init : goal.loop-passed-init
+loop-passed-init c =
+    let x = c.self.inside.index in
+    let slots = ap (λ (s : Slots). s.slots) c.self.view_is in
+    ahead_is c.self.inside.table.slots c.args.self.now.slots x.nexts (node_of c.args.head c.args.arguments.now) _ c.first-at.result 0 slots c.first-at.ensures
+    (ahead_at_first c.self.inside.table.slots x c.args.head c.args.arguments.now c.bucket.result c.bucket.ensures.bucket c.bucket.ensures.below c.self.invariant.0)
+
+pub is-requires : goal.is-requires
+is-requires c =
+    let below = ahead_below c.args.self.now.slots c.self.inside.index.nexts (node_of c.args.head c.args.arguments.now) c.loop-passed.at c.loop-passed.passed c.loop-passed.invariant c.if-at.false in
+    omega (arith, below, c.self.invariant.1)
+
+pub next-at-requires : goal.next-at-requires
+next-at-requires c =
+    ahead_below c.args.self.now.slots c.self.inside.index.nexts (node_of c.args.head c.args.arguments.now) c.loop-passed.at c.loop-passed.passed c.loop-passed.invariant c.if-at.false
+
+pub loop-passed-preserved : goal.loop-passed-preserved
+loop-passed-preserved c =
+    let slots = c.args.self.now.slots in
+    let nexts = c.self.inside.index.nexts in
+    let wanted = node_of c.args.head c.args.arguments.now in
+    let at = c.loop-passed.at in
+    let same = ap (λ (s : Slots). get_or s.slots at None) c.self.view_is in
+    let other : get_or slots at None ≡ wanted → ⊥ = λ e. (let t : true ≡ false = sym (c.is.ensures.1 (same ∙ e)) ∙ c.if-is.false in absurd (cc)) in
+    ahead_is slots slots nexts wanted (get_or nexts at end) c.next-at.result _ refl c.next-at.ensures
+    (ahead_more slots nexts wanted at c.loop-passed.passed c.loop-passed.invariant c.if-at.false other)

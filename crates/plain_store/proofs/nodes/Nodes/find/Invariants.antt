@@ -1,7 +1,7 @@
-use Rattle.std.proofs.Common.{◌≡◌, ℕ, ◌<◌, Some, None, get_or}
+use Rattle.std.proofs.Common.{◌≡◌, Some}
+use Rattle.plain_store.proofs.Indexing.{Ahead}
 use Rattle.plain_store.proofs.nodes.Nodes.find.Given as goal
 
--- no row before has it
-abbrev pub invariant-loop-i : goal.invariant-loop-i
-invariant-loop-i l =
-    (k : ℕ) → k < l.i → get_or l.self.slots k None ≡ Some (l.head, l.arguments) → ⊥
+-- the row, if there is one, is still ahead
+abbrev pub invariant-loop-passed : goal.invariant-loop-passed
+invariant-loop-passed l = Ahead l.self.slots l.self-inside.index.nexts (Some (l.head, l.arguments)) l.at l.passed

@@ -1,7 +1,7 @@
 use Rattle.std.proofs.Common.{◌<◌, ℕ, ap, length, arith}
 use Rattle.std.proofs.lemmas.List.{length-map}
 use Rattle.plain_store.specs.Slots.{Slots, Slot}
-use Rattle.plain_store.proofs.nodes.Nodes.arguments.Goals as goal
+use Rattle.plain_store.proofs.table.Table.arguments.Goals as goal
 
 pub returns-clause-fits : goal.returns-clause-fits
 returns-clause-fits c =

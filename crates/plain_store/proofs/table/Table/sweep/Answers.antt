@@ -3,8 +3,8 @@ use Rattle.term_model.specs.declared.Row.{Row}
 use Rattle.term_model.proofs.Members.{same_test}
 use Rattle.plain_store.specs.Slots.{Slots}
 use Rattle.plain_store.proofs.Rows.{Sweeping, sweeping_none, sweeping_more, sweeping_all}
-use Rattle.plain_store.proofs.nodes.Nodes.sweep.Goals as goal
-use Rattle.plain_store.proofs.nodes.Nodes.sweep.Goals.{then-lost, else-lost}
+use Rattle.plain_store.proofs.table.Table.sweep.Goals as goal
+use Rattle.plain_store.proofs.table.Table.sweep.Goals.{then-lost, else-lost}
 
 pub loop-i-init : goal.loop-i-init
 loop-i-init c = record { rows = sweeping_none c.args.marks.now c.args.self.now; none = λ h. refl }

@@ -1,7 +1,7 @@
 use Rattle.std.proofs.Common.{◌∙◌, ℕ, sym, ap, None, Bool}
 use Rattle.plain_store.specs.Slots.{Slot, slot_at, with_slot, kept_if}
 use Rattle.plain_store.proofs.Rows.{slots-set}
-use Rattle.plain_store.proofs.nodes.Nodes.keep_if.Goals as goal
+use Rattle.plain_store.proofs.table.Table.keep_if.Goals as goal
 
 pub returns-clause-kept : goal.returns-clause-kept
 returns-clause-kept c =

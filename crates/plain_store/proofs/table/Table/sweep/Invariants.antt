@@ -1,6 +1,6 @@
 use Rattle.std.proofs.Common.{◌≡◌, false}
 use Rattle.plain_store.proofs.Rows.{Sweeping}
-use Rattle.plain_store.proofs.nodes.Nodes.sweep.Given as goal
+use Rattle.plain_store.proofs.table.Table.sweep.Given as goal
 
 abbrev pub invariant-loop-i : goal.invariant-loop-i
 invariant-loop-i l =

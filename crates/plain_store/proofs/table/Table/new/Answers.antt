@@ -2,7 +2,7 @@ use Rattle.std.proofs.Common.{◌≡◌, ◌∙◌, ap, None, List, arith}
 use Rattle.std.specs.Prelude.{replicate}
 use Rattle.plain_store.specs.Slots.{Slots, Slot}
 use Rattle.plain_store.proofs.Rows.{slots_of, slots-replicate}
-use Rattle.plain_store.proofs.nodes.Nodes.new.Goals as goal
+use Rattle.plain_store.proofs.table.Table.new.Goals as goal
 
 pub returns : goal.returns
 returns c =

@@ -1,0 +1,24 @@
+use Rattle.std.proofs.Common.{◌∙◌, None, get_or, sym, subst}
+use Rattle.plain_store.specs.Index.{Index, IsIndexed, bucket_of}
+use Rattle.std.proofs.Common.{take, ◌+◌}
+use Rattle.plain_store.proofs.Indexing.{slot_bucket, slot_free, added, added_empty}
+use Rattle.plain_store.proofs.nodes.add.Goals as goal
+
+pub returns-in-Some-clause-indexed : goal.returns-in-Some-clause-indexed
+returns-in-Some-clause-indexed c =
+    let slots = c.args.table.now.slots in
+    let x = c.args.index.now in
+    let k = c.args.row in
+    let b = c.bucket-bucket.result in
+    let is = slot_bucket x.shift (get_or slots k.0 None) c.in-Some.head c.arguments.result.now b c.in-Some.ensures c.arguments.ensures.arguments c.bucket-bucket.ensures.bucket in
+    subst (λ (y : Index). IsIndexed (take (k.0 + 1) slots) y) (sym c.link.ensures)
+    (added slots x k b c.requires.below c.requires.room is c.bucket-bucket.ensures.below c.requires.before)
+
+pub returns-in-None-clause-indexed : goal.returns-in-None-clause-indexed
+returns-in-None-clause-indexed c =
+    let slots = c.args.table.now.slots in
+    let x = c.args.index.now in
+    let k = c.args.row in
+    let is = slot_free (get_or slots k.0 None) c.head.result c.in-None.is c.head.ensures in
+    subst (λ (y : Index). IsIndexed (take (k.0 + 1) slots) y) (sym c.free.ensures)
+    (added_empty slots x k c.requires.below c.requires.room is c.requires.before)

@@ -1,0 +1,109 @@
+// Where the rows are: those in use by their hashes, and the free ones.
+ghost use Rattle.std.specs.Prelude.{◌≡◌, ◌+◌, ◌/◌, ◌^◌, ◌<◌, ◌≤◌, ◌++◌, [], ◌∷◌, ℕ, IfOk, IfSome, IfNone, length};
+ghost use Rattle.plain_store.specs.Hash.{hash};
+ghost use Rattle.plain_store.specs.Index.{first_of, next_of, linked, freed, taken, bucket_of, IsIndexed};
+
+use crate::hashing::hash_of;
+use faults::Memory;
+use std::alloc::Global;
+use std::marker::Model;
+use term_model::{Head, Row};
+
+/// What stands behind the last row of a chain.
+pub(crate) const END: u32 = u32::MAX;
+
+/// A table of hashed rows with a chain for each bucket, and a stack of free rows.
+#[derive(Drop)]
+pub(crate) struct Index {
+    firsts: Vec<u32>,
+    nexts: Vec<u32>,
+    free: Vec<Row>,
+    shift: u32,
+}
+
+impl Model for Index {
+    ghost use Rattle.std.specs.Prelude.{◌≡◌, ◌-◌, ◌<◌, ◌≤◌, ◌^◌, length, vec_capacity};
+    ghost use Rattle.plain_store.specs.Index.{Index};
+
+    ghost Value = { Index };
+
+    ghost view = { λ s. record { firsts = s.firsts.items; nexts = s.nexts.items; free = s.free.items; shift = s.shift } };
+
+    ghost invariant = { λ s. (length s.nexts.items < 2 ^ 32) × (length s.nexts.items ≤ vec_capacity s.free) × (s.shift < 64) × (2 ^ (64 - s.shift) ≤ length s.firsts.items) };
+}
+
+impl Index {
+    /// Room for so many rows, and none of them.
+    pub(crate) fn new(alloc: Global, rows: u32) -> Result<Index, Memory>
+        ensures none { IfOk result (λ x. IsIndexed [] x) }
+        ensures room { IfOk result (λ x. length x.nexts ≡ rows) }
+    {
+        let bits = 32 - rows.max(1).leading_zeros();
+        Ok(Index {
+            firsts: vec![in alloc; END; 1usize << bits]?,
+            nexts: vec![in alloc; END; rows as usize]?,
+            free: Vec::with_capacity(alloc, rows as usize)?,
+            shift: 64 - bits,
+        })
+    }
+
+    /// The bucket of this head over these rows.
+    pub(crate) fn bucket(&self, head: Head, arguments: &[Row]) -> usize
+        ensures bucket { result ≡ hash head arguments.now / 2 ^ self.now.shift }
+        ensures below { result < length self.now.firsts }
+    {
+        (hash_of(head, arguments) >> self.shift) as usize
+    }
+
+    /// The first row of a bucket's chain.
+    pub(crate) fn first(&self, bucket: usize) -> u32
+        requires { bucket < length self.now.firsts }
+        ensures { result ≡ first_of self.now bucket }
+    {
+        self.firsts[bucket]
+    }
+
+    /// The row behind this one in its chain.
+    pub(crate) fn next(&self, row: u32) -> u32
+        requires { row < length self.now.nexts }
+        ensures { result ≡ next_of self.now row }
+    {
+        self.nexts[row as usize]
+    }
+
+    /// Puts a row in front of a bucket's chain.
+    pub(crate) fn link(&mut self, bucket: usize, row: Row)
+        requires bucket { bucket < length self.old.firsts }
+        requires row { row.0 < length self.old.nexts }
+        ensures { self.new ≡ linked self.old bucket row }
+    {
+        self.nexts[row.0 as usize] = self.firsts[bucket];
+        self.firsts[bucket] = row.0;
+    }
+
+    /// Puts a row on the stack of free ones.
+    pub(crate) fn free(&mut self, row: Row)
+        requires { length self.old.free < length self.old.nexts }
+        ensures { self.new ≡ freed self.old row }
+    {
+        let _ = self.free.push(row);
+    }
+
+    /// Takes the last free row.
+    pub(crate) fn take_free(&mut self) -> Option<Row>
+        ensures last { IfSome result (λ row. self.old.free ≡ self.new.free ++ row ∷ []) }
+        ensures taken { self.new ≡ taken self.old }
+        ensures none { IfNone result (self.old.free ≡ []) }
+    {
+        self.free.pop()
+    }
+
+    /// Takes all rows away.
+    pub(crate) fn clear(&mut self)
+        ensures none { IsIndexed [] self.new }
+        ensures room { length self.new.nexts ≡ length self.old.nexts }
+    {
+        self.firsts.fill(END);
+        self.free.clear();
+    }
+}
