@@ -1,6 +1,7 @@
 pub mod Walks
 pub mod Rows
 pub mod Indexing
+pub mod Flattened
 pub mod Placing
 pub mod Keeping
 pub mod Reaching

@@ -1,4 +1,4 @@
--- Rows in lists, and the lists of the rows' nodes.
+-- Rows in lists, and the nodes of rows.
 use Rattle.std.proofs.Common.{◌≡◌, ℕ, zero, suc, ◌+◌, ◌<◌, ◌≤◌, ◌≢◌, inl, inr, Bool, true, false, List, [], ◌∷◌, Some, None, length, map, get_or, refl, ap, sym, ◌∙◌, subst, arith, eq-eqb, below_more}
 use Rattle.std.proofs.Math.ListN.{set}
 use Rattle.std.proofs.Math.Dec.{eqb}
@@ -43,40 +43,6 @@ rows_of_node n m e = let f : n ≡ m = cc in ap (λ (x : Node). x.1) f
 pub node_same : (h g : Head) (ws bs : List Row) → h ≡ g → ws ≡ bs → let n : Node = (h, ws) in let m : Node = (g, bs) in Some n ≡ Some m
 node_same h g ws bs e f =
     ap (λ (x : Head). let n : Node = (x, ws) in Some n) e ∙ ap (λ (xs : List Row). let n : Node = (g, xs) in Some n) f
-
--- the test of a row's head and arguments
-pub is_node : (slot : Slot) (own head : Head) (ws bs : List Row) (b c : Bool)
-    → slot ≡ Some (own, ws) → b ≡ head_eq own head → (c ≡ true → ws ≡ bs) → (ws ≡ bs → c ≡ true)
-    → (b ≡ true → c ≡ true → slot ≡ Some (head, bs)) × (slot ≡ Some (head, bs) → (b ≡ true) × (c ≡ true))
-is_node slot own head ws bs b c e f told same =
-    let n : Node = (own, ws) in
-    let m : Node = (head, bs) in (
-      λ h k. e ∙ node_same own head ws bs (head_eq_sound own head (sym f ∙ h)) (told k),
-      λ h. (
-        f ∙ subst (λ x. head_eq own x ≡ true) (head_of_node n m (sym e ∙ h)) (head_eq_refl own),
-        same (rows_of_node n m (sym e ∙ h)),
-      ),
-    )
-
-abbrev pub slots_of : List (Slot × ℕ) → List Slot
-slots_of items = map (λ (n : Slot × ℕ). n.0) items
-
--- the slot of an item
-pub slot_of_item : (slots : List Slot) (items : List (Slot × ℕ)) (i : ℕ) (x : Slot × ℕ) → slots_of items ≡ slots → i < length items → x ≡ get_or items i x → get_or slots i None ≡ x.0
-slot_of_item slots items i x e h is =
-    ap (λ (xs : List Slot). get_or xs i None) (sym e) ∙ get_or-map (λ (n : Slot × ℕ). n.0) items i x None h ∙ ap (λ (n : Slot × ℕ). n.0) (sym is)
-
-pub slots-replicate : (n w : ℕ) → slots_of (replicate n (None, w)) ≡ replicate n None
-slots-replicate zero w = refl
-slots-replicate (suc n) w = ap (λ xs. None ∷ xs) (slots-replicate n w)
-
-pub slots-set : (s : Slots) (w : ℕ) (items : List (Slot × ℕ)) (r : Row) (y : Slot × ℕ) (v : Slot)
-    → let shown : Slots = record { slots = slots_of items; widest = w } in shown ≡ s → y.0 ≡ v
-    → let now : Slots = record { slots = slots_of (set items r.0 y); widest = w } in now ≡ with_slot s r v
-slots-set s w items r y v e f =
-    let show = λ (xs : List Slot). let x : Slots = record { slots = xs; widest = w } in x in
-    ap show (map-set (λ (n : Slot × ℕ). n.0) items r.0 y ∙ ap (λ (z : Slot). set (slots_of items) r.0 z) f)
-    ∙ ap (λ (x : Slots). with_slot x r v) e
 
 -- the rows below i are swept, and the others are as they were
 pub record Sweeping (marks : List Bool) (was now : Slots) (i : ℕ) : Type 0 where

@@ -7,7 +7,6 @@ mod hashing;
 mod history;
 mod index;
 mod interface;
-mod node;
 mod nodes;
 mod places;
 mod store;

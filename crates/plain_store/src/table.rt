@@ -1,32 +1,78 @@
-// What the rows have.
-ghost use Rattle.std.specs.Prelude.{◌≡◌, ◌<◌, ◌≤◌, ◌^◌, ◌↔◌, ℕ, Option, Some, None, IfOk, IsSome, IsTrue, true, false, length, replicate, slice_get, slice_index_or};
+// What the rows have, in flat arrays.
+ghost use Rattle.std.specs.Prelude.{◌≡◌, ◌+◌, ◌<◌, ◌≤◌, ◌*◌, ◌^◌, ◌↔◌, ℕ, Option, Some, None, IfOk, IsSome, IsTrue, true, false, length, take, drop, replicate, slice_get, slice_index_or};
 ghost use Rattle.std.specs.Option.{option_map};
+ghost use Rattle.term_model.specs.Tree.{head_eq};
+ghost use Rattle.plain_store.specs.Flat.{written};
 ghost use Rattle.plain_store.specs.Slots.{slot_at, children, with_slot, kept_if, AreSwept};
 
-use crate::node::Node;
 use faults::Memory;
 use mark_phase::Marks;
 use std::alloc::Global;
 use std::marker::Model;
 use term_model::{Head, Row};
 
+/// The head of a row, if it has one, and how many arguments it has.
+#[derive(Clone, Copy)]
+pub(crate) struct Entry {
+    head: Option<Head>,
+    count: u32,
+}
+
+const FREE: Entry = Entry { head: None, count: 0 };
+
 /// Rows with room for so many arguments each. Contracts see what each row has.
 #[derive(Drop)]
 pub(crate) struct Table {
-    nodes: Vec<Node>,
+    entries: Vec<Entry>,
+    places: Vec<Row>,
     widest: u32,
 }
 
 impl Model for Table {
-    ghost use Rattle.std.specs.Prelude.{◌≡◌, ◌<◌, ◌^◌, All, map, length};
-    ghost use Rattle.plain_store.specs.Slots.{Slots, Slot};
-    ghost use Rattle.std.specs.Prelude.{ℕ};
+    ghost use Rattle.std.specs.Prelude.{◌≡◌, ◌<◌, ◌*◌, ◌^◌, All, length};
+    ghost use Rattle.plain_store.specs.Slots.{Slots};
+    ghost use Rattle.plain_store.specs.Flat.{slots_of, IsEntry};
 
     ghost Value = { Slots };
 
-    ghost view = { λ s. record { slots = map (λ (n : Slot × ℕ). n.0) s.nodes.items; widest = s.widest } };
+    ghost view = { λ s. record { slots = slots_of s.widest s.entries.items s.places.items; widest = s.widest } };
 
-    ghost invariant = { λ s. (length s.nodes.items < 2 ^ 32) × (s.widest < 2 ^ 32) × All (λ (n : Slot × ℕ). n.1 ≡ s.widest) s.nodes.items };
+    ghost invariant = { λ s. (length s.entries.items < 2 ^ 32) × (s.widest < 2 ^ 32) × (length s.places.items ≡ length s.entries.items * s.widest) × All (IsEntry s.widest) s.entries.items };
+}
+
+fn same_head(one: Head, other: Head) -> bool
+    ensures { result ≡ head_eq one other }
+{
+    match (one, other) {
+        (Head::App(f), Head::App(g)) => f.0 == g.0,
+        (Head::Int(m), Head::Int(n)) => m == n,
+        (Head::Nil, Head::Nil) | (Head::Cons, Head::Cons) => true,
+        _ => false,
+    }
+}
+
+fn same_rows(rows: &[Row], others: &[Row]) -> bool
+    ensures { IsTrue result ↔ (rows.now ≡ others.now) }
+{
+    rows == others
+}
+
+// So many rows from a place on.
+fn part(places: &[Row], from: usize, count: usize) -> &[Row]
+    requires { from + count ≤ length places.now }
+    ensures { result.now ≡ take count (drop from places.now) }
+{
+    &places[from..from + count]
+}
+
+// Writes rows from a place on.
+fn write(places: &mut [Row], from: usize, rows: &[Row])
+    requires { from + length rows.now ≤ length places.old }
+    ensures written { places.new ≡ written places.old from rows.now }
+    ensures size { length places.new ≡ length places.old }
+{
+    let part = &mut places[from..from + rows.len()];
+    part.copy_from_slice(rows);
 }
 
 impl Table {
@@ -34,12 +80,13 @@ impl Table {
     pub(crate) fn new(alloc: Global, rows: u32, widest: u32) -> Result<Table, Memory>
         ensures { IfOk result (λ table. table ≡ record { slots = replicate rows None; widest = widest }) }
     {
-        let mut nodes = Vec::with_capacity(alloc, rows as usize)?;
-        for made in 0..rows {
-            let _ = made;
-            nodes.push(Node::new(alloc, widest)?)?;
-        }
-        Ok(Table { nodes, widest })
+        let entries = vec![in alloc; FREE; rows as usize]?;
+        let places = vec![in alloc; Row(0); rows as usize * widest as usize]?;
+        Ok(Table {
+            entries,
+            places,
+            widest,
+        })
     }
 
     /// Whether the row has this head over these rows.
@@ -47,7 +94,10 @@ impl Table {
         requires { row.0 < length self.now.slots }
         ensures { IsTrue result ↔ (slot_at self.now row ≡ Some (head, arguments.now)) }
     {
-        self.nodes[row.0 as usize].is(head, arguments)
+        match self.head(row) {
+            Some(own) => same_head(own, head) && same_rows(self.arguments(row), arguments),
+            None => false,
+        }
     }
 
     /// Gives the row a head and arguments, for which it has the room.
@@ -56,8 +106,12 @@ impl Table {
         requires room { length arguments.now ≤ self.old.widest }
         ensures { self.new ≡ with_slot self.old row (Some (head, arguments.now)) }
     {
-        let node = &mut self.nodes[row.0 as usize];
-        node.set(head, arguments);
+        let from = row.0 as usize * self.widest as usize;
+        write(&mut self.places, from, arguments);
+        self.entries[row.0 as usize] = Entry {
+            head: Some(head),
+            count: arguments.len() as u32,
+        };
     }
 
     /// Frees the rows that aren't marked, and says whether there were any.
@@ -81,11 +135,10 @@ impl Table {
         ensures kept { self.new ≡ with_slot self.old row (kept_if kept (slot_at self.old row)) }
         ensures none { result ≡ false → self.new ≡ self.old }
     {
-        if kept || self.nodes[row.0 as usize].is_free() {
+        if kept || self.head(row).is_none() {
             return false;
         }
-        let node = &mut self.nodes[row.0 as usize];
-        node.free();
+        self.entries[row.0 as usize] = FREE;
         true
     }
 
@@ -93,7 +146,7 @@ impl Table {
     pub(crate) fn len(&self) -> u32
         ensures { result ≡ length self.now.slots }
     {
-        self.nodes.len() as u32
+        self.entries.len() as u32
     }
 
     /// The head of a row, which a free row doesn't have.
@@ -101,7 +154,7 @@ impl Table {
         requires { row.0 < length self.now.slots }
         ensures { result ≡ option_map (λ n. n.0) (slot_at self.now row) }
     {
-        self.nodes[row.0 as usize].head()
+        self.entries[row.0 as usize].head
     }
 
     /// The rows of a row's arguments, none of a free row.
@@ -110,6 +163,8 @@ impl Table {
         ensures arguments { result.now ≡ children self.now row }
         ensures fits { length result.now < 2 ^ 32 }
     {
-        self.nodes[row.0 as usize].arguments()
+        let from = row.0 as usize * self.widest as usize;
+        let count = self.entries[row.0 as usize].count as usize;
+        part(&self.places, from, count)
     }
 }

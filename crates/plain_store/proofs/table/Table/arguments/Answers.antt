@@ -1,13 +1,36 @@
-use Rattle.std.proofs.Common.{◌<◌, ℕ, ap, length, arith}
-use Rattle.std.proofs.lemmas.List.{length-map}
-use Rattle.plain_store.specs.Slots.{Slots, Slot}
+use Rattle.std.proofs.Common.{◌∙◌, ◌≡◌, ◌*◌, ◌<◌, None, length, take, drop, get_or, ap, sym, subst, List, arith}
+use Rattle.std.proofs.lemmas.List.{length-take}
+use Rattle.term_model.specs.declared.Row.{Row}
+use Rattle.plain_store.specs.declared.table.Entry.{Entry}
+use Rattle.plain_store.specs.Slots.{Slots}
+use Rattle.plain_store.specs.Flat.{IsEntry}
+use Rattle.plain_store.proofs.Flattened.{length-slots_of, slot_is, rows_of_slot, place_below}
 use Rattle.plain_store.proofs.table.Table.arguments.Goals as goal
 
-pub returns-clause-fits : goal.returns-clause-fits
-returns-clause-fits c =
-    let items = c.self.inside.nodes.items in
-    let shown = ap (λ (s : Slots). length s.slots) c.self.view_is in
-    let below : c.args.row.0 < length items = omega (arith, shown, length-map items (λ (n : Slot × ℕ). n.0), c.requires) in
-    let room = c.self.invariant.2 c.args.row.0 c.index.result.now below in
-    let same = ap (λ (n : Slot × ℕ). n.1) c.index.ensures in
-    omega (arith, room, same, c.arguments.ensures.room, c.self.invariant.1)
+pub index-requires : goal.index-requires
+index-requires c =
+    let s = c.self.inside in
+    let shown = ap (λ (x : Slots). length x.slots) c.self.view_is in
+    omega (arith, shown, length-slots_of s.widest s.entries.items s.places.items, s.entries.ok.0, c.requires)
+
+pub part-requires : goal.part-requires
+part-requires c =
+    let s = c.self.inside in
+    let k = c.args.row.0 in
+    let e = c.index.result.now in
+    let shown = ap (λ (x : Slots). length x.slots) c.self.view_is in
+    let lt : k < length s.entries.items = omega (arith, shown, length-slots_of s.widest s.entries.items s.places.items, c.requires) in
+    let ok = subst (IsEntry s.widest) (sym c.index.ensures) (c.self.invariant.3 k e lt) in
+    omega (arith, place_below (length s.entries.items) k s.widest e.count lt ok.fits, c.self.invariant.2, ap (λ (xs : List Row). length xs) c.deref.ensures.value)
+
+pub returns-clause-arguments : goal.returns-clause-arguments
+returns-clause-arguments c =
+    let s = c.self.inside in
+    let k = c.args.row.0 in
+    let e = c.index.result.now in
+    let shown = ap (λ (x : Slots). length x.slots) c.self.view_is in
+    let lt : k < length s.entries.items = omega (arith, shown, length-slots_of s.widest s.entries.items s.places.items, c.requires) in
+    let ok = subst (IsEntry s.widest) (sym c.index.ensures) (c.self.invariant.3 k e lt) in
+    let is = slot_is s.widest s.entries.items s.places.items c.args.self.now.slots k e (ap (λ (x : Slots). x.slots) c.self.view_is) c.requires c.index.ensures in
+    c.part.ensures ∙ ap (λ (xs : List Row). take e.count (drop (k * s.widest) xs)) c.deref.ensures.value
+    ∙ rows_of_slot s.widest e (drop (k * s.widest) s.places.items) (get_or c.args.self.now.slots k None) ok is

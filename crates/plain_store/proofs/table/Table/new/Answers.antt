@@ -1,12 +1,15 @@
-use Rattle.std.proofs.Common.{◌≡◌, ◌∙◌, ap, None, List, arith}
+use Rattle.std.proofs.Common.{◌∙◌, ◌≡◌, List, None, ap, refl, rules}
 use Rattle.std.specs.Prelude.{replicate}
+use Rattle.plain_store.specs.declared.table.Entry.{Entry}
 use Rattle.plain_store.specs.Slots.{Slots, Slot}
-use Rattle.plain_store.proofs.Rows.{slots_of, slots-replicate}
+use Rattle.plain_store.specs.Flat.{slots_of}
+use Rattle.plain_store.proofs.Flattened.{free-slots}
 use Rattle.plain_store.proofs.table.Table.new.Goals as goal
 
 pub returns : goal.returns
 returns c =
-    let end : c.loop-made.made ≡ c.args.rows = omega arith in
     let w = c.args.widest in
-    let items = ap slots_of c.loop-made.invariant ∙ slots-replicate c.loop-made.made w ∙ ap (λ n. replicate {A = Slot} n None) end in
-    ap (λ (xs : List Slot). let s : Slots = record { slots = xs; widest = w } in s) items
+    let free : Entry = record { head = None; count = 0 } in
+    let places = c.in_ok-places.places.items in
+    let entries : c.in_ok-entries.entries.items ≡ replicate c.args.rows free = c.in_ok-entries.ensures.items_if_clones_equal (search rules) in
+    ap (λ (xs : List Slot). let s : Slots = record { slots = xs; widest = w } in s) (ap (λ (es : List Entry). slots_of w es places) entries ∙ free-slots w c.args.rows free places refl)

@@ -1,0 +1,108 @@
+-- Reading and writing rows in flat lists.
+use Rattle.std.proofs.Common.{◌≡◌, ℕ, zero, suc, ◌+◌, ◌-◌, ◌*◌, ◌<◌, ◌≤◌, List, [], ◌∷◌, ◌++◌, Option, Some, None, length, take, drop, get_or, refl, ap, sym, ◌∙◌, subst, arith}
+use Rattle.std.proofs.Math.ListN.{set}
+use Rattle.std.specs.Prelude.{All, replicate}
+use Rattle.std.proofs.lemmas.List.{drop-drop, drop-take, length-drop, length-take-le, take-take, take-append-le, drop-append-le}
+use Rattle.std.proofs.lemmas.Slice.{drop-append-drop}
+use Rattle.std.proofs.Math.Nat.{mul-le-mul_right}
+use Rattle.std.proofs.Math.Seq.{take-append_seam}
+use Rattle.term_model.specs.declared.Row.{Row}
+use Rattle.term_model.specs.declared.Head.{Head}
+use Rattle.std.specs.Option.{option_map}
+use Rattle.plain_store.specs.declared.table.Entry.{Entry}
+use Rattle.plain_store.specs.Slots.{Slot, arguments_of}
+use Rattle.plain_store.specs.Flat.{slot_of, slots_of, written, IsEntry}
+
+pub length-slots_of : (w : ℕ) (es : List Entry) (places : List Row) → length (slots_of w es places) ≡ length es
+length-slots_of w [] places = refl
+length-slots_of w (e ∷ es) places = ap suc (length-slots_of w es (drop w places))
+
+next_places : (w k : ℕ) (places : List Row) → drop (k * w) (drop w places) ≡ drop (suc k * w) places
+next_places w k places =
+    drop-drop (k * w) w places ∙ ap (λ n. drop n places) (let e : w + k * w ≡ suc k * w = omega arith in e)
+
+-- the slot of a row
+pub slot-at : (w : ℕ) (es : List Entry) (places : List Row) (k : ℕ) (d : Entry) → k < length es → get_or (slots_of w es places) k None ≡ slot_of (get_or es k d) (drop (k * w) places)
+slot-at w [] places k d lt = absurd (omega arith)
+slot-at w (e ∷ es) places zero d lt = ap (λ j. slot_of e (drop j places)) (let z : 0 ≡ 0 * w = omega arith in z)
+slot-at w (e ∷ es) places (suc k) d lt =
+    slot-at w es (drop w places) k d (omega arith) ∙ ap (slot_of (get_or es k d)) (next_places w k places)
+
+-- the entry of a row is set
+pub set-entry : (w : ℕ) (es : List Entry) (places : List Row) (k : ℕ) (e : Entry) → k < length es → slots_of w (set es k e) places ≡ set (slots_of w es places) k (slot_of e (drop (k * w) places))
+set-entry w [] places k e lt = absurd (omega arith)
+set-entry w (x ∷ es) places zero e lt = ap (λ j. slot_of e (drop j places) ∷ slots_of w es (drop w places)) (let z : 0 ≡ 0 * w = omega arith in z)
+set-entry w (x ∷ es) places (suc k) e lt =
+    ap (λ ss. slot_of x places ∷ ss) (set-entry w es (drop w places) k e (omega arith) ∙ ap (λ ps. set (slots_of w es (drop w places)) k (slot_of e ps)) (next_places w k places))
+
+pub free-slots : (w n : ℕ) (e : Entry) (places : List Row) → e.head ≡ None → slots_of w (replicate n e) places ≡ replicate n None
+free-slots w zero e places h = refl
+free-slots w (suc n) e places h =
+    ap (λ s. s ∷ slots_of w (replicate n e) (drop w places)) (ap (option_map (λ (x : Head). (x, take e.count places))) h) ∙ ap (λ ss. None ∷ ss) (free-slots w n e (drop w places) h)
+
+-- a row's places are there
+pub place_below : (n k w c : ℕ) → k < n → c ≤ w → k * w + c ≤ n * w
+place_below n k w c lt le =
+    let h : suc k * w ≤ n * w = mul-le-mul_right w (let l : suc k ≤ n = omega arith in l) in
+    let e : suc k * w ≡ k * w + w = omega arith in
+    omega arith
+
+before_part : (n i : ℕ) (places rest : List Row) → n ≤ i → i ≤ length places → take n (take i places ++ rest) ≡ take n places
+before_part n i places rest le fits =
+    take-append-le n (take i places) rest (omega (arith, length-take-le i places fits)) ∙ take-take n i places le
+
+behind_part : (w m : ℕ) (places vs : List Row) → w + m ≤ length places → drop w (written places (w + m) vs) ≡ written (drop w places) m vs
+behind_part w m places vs fits =
+    let rest = vs ++ drop (w + m + length vs) places in
+    let n : m + length vs + w ≡ w + m + length vs = omega arith in
+    drop-append-le w (take (w + m) places) rest (omega (arith, length-take-le (w + m) places fits))
+    ∙ ap (λ (xs : List Row). xs ++ rest) (drop-take w m places)
+    ∙ ap (λ (xs : List Row). take m (drop w places) ++ (vs ++ xs)) (ap (λ j. drop j places) (let e : w + m + length vs ≡ w + (m + length vs) = omega arith in e) ∙ sym (drop-drop (m + length vs) w places))
+
+-- the row at k gets an entry and its arguments
+pub set-row : (w : ℕ) (es : List Entry) (places : List Row) (k i : ℕ) (e : Entry) (vs : List Row) → i ≡ k * w → k < length es → length places ≡ length es * w → All (IsEntry w) es → e.count ≡ length vs → length vs ≤ w → slots_of w (set es k e) (written places i vs) ≡ set (slots_of w es places) k (option_map (λ (h : Head). (h, vs)) e.head)
+set-row w [] places k i e vs at lt long counts count fits = absurd (omega arith)
+set-row w (x ∷ es) places zero i e vs at lt long counts count fits =
+    let z : i ≡ 0 = omega arith in
+    let all : written places i vs ≡ vs ++ drop (length vs) places = ap (λ j. written places j vs) z ∙ ap (λ j. vs ++ drop j places) (let n : 0 + length vs ≡ length vs = omega arith in n) in
+    let own : take e.count (written places i vs) ≡ vs = ap (λ n. take n (written places i vs)) count ∙ ap (take (length vs)) all ∙ take-append_seam vs (drop (length vs) places) in
+    let rest : drop w (written places i vs) ≡ drop w places = ap (drop w) all ∙ drop-append-drop (length vs) places vs w fits refl in
+    ap (λ (xs : List Row). option_map (λ (h : Head). (h, xs)) e.head ∷ slots_of w es (drop w (written places i vs))) own
+    ∙ ap (λ (xs : List Row). option_map (λ (h : Head). (h, vs)) e.head ∷ slots_of w es xs) rest
+set-row w (x ∷ es) places (suc k) i e vs at lt long counts count fits =
+    let m = k * w in
+    let there : i ≡ w + m = omega arith in
+    let room = place_below (length es) k w w (omega arith) (omega arith) in
+    let more : length (x ∷ es) * w ≡ length es * w + w = omega arith in
+    let inside : w + m ≤ length places = omega arith in
+    let long' : length (drop w places) ≡ length es * w = omega (arith, length-drop w places) in
+    let x_fits = (counts 0 x (omega arith)).fits in
+    let own : take x.count (written places i vs) ≡ take x.count places = before_part x.count i places (vs ++ drop (i + length vs) places) (omega arith) (omega arith) in
+    let rest : drop w (written places i vs) ≡ written (drop w places) m vs = ap (λ j. drop w (written places j vs)) there ∙ behind_part w m places vs inside in
+    let ih = set-row w es (drop w places) k m e vs refl (omega arith) long' (λ j d l. counts (suc j) d (omega arith)) count fits in
+    ap (λ (xs : List Row). option_map (λ (h : Head). (h, xs)) x.head ∷ slots_of w (set es k e) (drop w (written places i vs))) own
+    ∙ ap (λ (ss : List Slot). slot_of x places ∷ ss) (ap (slots_of w (set es k e)) rest ∙ ih)
+
+-- what a row has, read from its entry
+pub slot_is : (w : ℕ) (es : List Entry) (places : List Row) (slots : List Slot) (k : ℕ) (e : Entry) → slots_of w es places ≡ slots → k < length slots → e ≡ get_or es k e → get_or slots k None ≡ slot_of e (drop (k * w) places)
+slot_is w es places slots k e shown lt is =
+    ap (λ ss. get_or ss k None) (sym shown) ∙ slot-at w es places k e (omega (arith, ap length shown, length-slots_of w es places)) ∙ ap (λ (x : Entry). slot_of x (drop (k * w) places)) (sym is)
+
+head_again : (o : Option Head) (xs : List Row) → option_map (λ (n : Head × List Row). n.0) (option_map (λ (h : Head). (h, xs)) o) ≡ o
+head_again None xs = refl
+head_again (Some h) xs = refl
+
+pub head_of_slot : (e : Entry) (places : List Row) (slot : Slot) → slot ≡ slot_of e places → e.head ≡ option_map (λ (n : Head × List Row). n.0) slot
+head_of_slot e places slot is =
+    sym (head_again e.head (take e.count places)) ∙ ap (option_map (λ (n : Head × List Row). n.0)) (sym is)
+
+rows_again : (o : Option Head) (n : ℕ) (places : List Row) → (o ≡ None → n ≡ 0) → take n places ≡ arguments_of (option_map (λ (h : Head). (h, take n places)) o)
+rows_again None n places none = ap (λ j. take j places) (none refl)
+rows_again (Some h) n places none = refl
+
+pub rows_of_slot : (w : ℕ) (e : Entry) (places : List Row) (slot : Slot) → IsEntry w e → slot ≡ slot_of e places → take e.count places ≡ arguments_of slot
+rows_of_slot w e places slot ok is =
+    rows_again e.head e.count places ok.free ∙ ap arguments_of (sym is)
+
+pub refilled : (n : ℕ) (places rest : List Row) → n ≡ length places → take n (places ++ rest) ≡ places
+refilled n places rest e = ap (λ j. take j (places ++ rest)) e ∙ take-append_seam places rest
