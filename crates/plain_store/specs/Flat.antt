@@ -1,15 +1,18 @@
 -- Rows in flat lists: what each one has, and the arguments of all, each with as many places as the
 -- widest.
-use Rattle.std.specs.Prelude.{◌≡◌, ℕ, ◌+◌, ◌≤◌, List, [], ◌∷◌, ◌++◌, None, length, take, drop}
-use Rattle.std.specs.Option.{option_map}
+use Rattle.std.specs.Prelude.{◌≡◌, ℕ, ◌+◌, ◌≤◌, Bool, true, false, List, [], ◌∷◌, ◌++◌, Some, None, length, take, drop}
 use Rattle.term_model.specs.declared.Row.{Row}
 use Rattle.term_model.specs.declared.Head.{Head}
 use Rattle.plain_store.specs.declared.table.Entry.{Entry}
 use Rattle.plain_store.specs.Slots.{Slot}
 
+abbrev pub slot_if : Bool → Head → List Row → Slot
+slot_if false h rows = None
+slot_if true h rows = Some (h, rows)
+
 -- a row whose arguments come first in these places
 abbrev pub slot_of : Entry → List Row → Slot
-slot_of e places = option_map (λ (h : Head). (h, take e.count places)) e.head
+slot_of e places = slot_if e.used e.head (take e.count places)
 
 abbrev pub slots_of : ℕ → List Entry → List Row → List Slot
 slots_of widest [] places = []
@@ -18,7 +21,7 @@ slots_of widest (e ∷ entries) places = slot_of e places ∷ slots_of widest en
 -- its arguments have their places, and a free row has none
 pub record IsEntry (widest : ℕ) (e : Entry) : Type 0 where
   pub fits : e.count ≤ widest
-  pub free : e.head ≡ None → e.count ≡ 0
+  pub free : e.used ≡ false → e.count ≡ 0
 
 -- places in which these rows stand from one on
 abbrev pub written : List Row → ℕ → List Row → List Row

@@ -21,8 +21,7 @@ pub(crate) fn keep_ends(places: &mut Vec<Row>, from: usize, top: usize)
     ensures items { places.new.items ≡ take from places.old.items ++ last top places.old.items }
     ensures capacity { vec_capacity places.new ≡ vec_capacity places.old }
 {
-    let gone = places.len() - top - from;
-    let behind = &mut places[from..];
-    behind.rotate_left(gone);
+    let last = places.len() - top;
+    places.copy_within(last.., from);
     places.truncate(from + top);
 }

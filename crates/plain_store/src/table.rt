@@ -11,14 +11,19 @@ use std::alloc::Global;
 use std::marker::Model;
 use term_model::{Head, Row};
 
-/// The head of a row, if it has one, and how many arguments it has.
+/// Whether a row is in use, its head then, and how many arguments it has.
 #[derive(Clone, Copy)]
 pub(crate) struct Entry {
-    head: Option<Head>,
+    head: Head,
     count: u32,
+    used: bool,
 }
 
-const FREE: Entry = Entry { head: None, count: 0 };
+const FREE: Entry = Entry {
+    head: Head::Nil,
+    count: 0,
+    used: false,
+};
 
 /// Rows with room for so many arguments each. Contracts see what each row has.
 #[derive(Drop)]
@@ -54,7 +59,15 @@ fn same_head(one: Head, other: Head) -> bool
 fn same_rows(rows: &[Row], others: &[Row]) -> bool
     ensures { IsTrue result ↔ (rows.now ≡ others.now) }
 {
-    rows == others
+    if rows.len() != others.len() {
+        return false;
+    }
+    for i in 0..rows.len() {
+        if rows[i].0 != others[i].0 {
+            return false;
+        }
+    }
+    true
 }
 
 // So many rows from a place on.
@@ -65,14 +78,25 @@ fn part(places: &[Row], from: usize, count: usize) -> &[Row]
     &places[from..from + count]
 }
 
-// Writes rows from a place on.
+// Writes rows from a place on. Most trees have at most two arguments, and are written without a
+// call.
 fn write(places: &mut [Row], from: usize, rows: &[Row])
     requires { from + length rows.now ≤ length places.old }
     ensures written { places.new ≡ written places.old from rows.now }
     ensures size { length places.new ≡ length places.old }
 {
-    let part = &mut places[from..from + rows.len()];
-    part.copy_from_slice(rows);
+    match rows {
+        [] => {}
+        [one] => places[from] = *one,
+        [first, second] => {
+            places[from] = *first;
+            places[from + 1] = *second;
+        }
+        _ => {
+            let part = &mut places[from..from + rows.len()];
+            part.copy_from_slice(rows);
+        }
+    }
 }
 
 impl Table {
@@ -109,8 +133,9 @@ impl Table {
         let from = row.0 as usize * self.widest as usize;
         write(&mut self.places, from, arguments);
         self.entries[row.0 as usize] = Entry {
-            head: Some(head),
+            head,
             count: arguments.len() as u32,
+            used: true,
         };
     }
 
@@ -154,7 +179,8 @@ impl Table {
         requires { row.0 < length self.now.slots }
         ensures { result ≡ option_map (λ n. n.0) (slot_at self.now row) }
     {
-        self.entries[row.0 as usize].head
+        let entry = self.entries[row.0 as usize];
+        if entry.used { Some(entry.head) } else { None }
     }
 
     /// The rows of a row's arguments, none of a free row.

@@ -1,4 +1,4 @@
-use Rattle.std.proofs.Common.{◌∙◌, ◌*◌, ◌<◌, ◌≡◌, Some, Bool, List, length, drop, sym, ap, refl, arith}
+use Rattle.std.proofs.Common.{◌∙◌, ◌*◌, ◌<◌, ◌≡◌, true, Bool, List, length, drop, sym, ap, refl, arith}
 use Rattle.std.proofs.Math.ListN.{set}
 use Rattle.term_model.specs.declared.Row.{Row}
 use Rattle.plain_store.specs.declared.table.Entry.{Entry}
@@ -28,7 +28,7 @@ returns c =
     let s = c.self.inside in
     let k = c.args.row.0 in
     let vs = c.args.arguments.now in
-    let e : Entry = record { head = Some c.args.head; count = length vs } in
+    let e : Entry = record { head = c.args.head; count = length vs; used = true } in
     let shown = ap (λ (x : Slots). length x.slots) c.self.view_is in
     let wide = ap (λ (x : Slots). x.widest) c.self.view_is in
     let lt : k < length s.entries.items = omega (arith, shown, length-slots_of s.widest s.entries.items s.places.items, c.requires.below) in
