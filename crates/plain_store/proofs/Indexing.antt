@@ -11,7 +11,7 @@ use Rattle.term_model.specs.declared.Row.{Row}
 use Rattle.term_model.specs.declared.Head.{Head}
 use Rattle.plain_store.specs.Slots.{Slot, arguments_of}
 use Rattle.plain_store.specs.Hash.{hash}
-use Rattle.plain_store.specs.Index.{Index, end, first_of, next_of, linked, freed, IsChain, bucket_of, bucket_at, HasChain, IsIndexed}
+use Rattle.plain_store.specs.Index.{Index, end, first_of, linked, freed, IsChain, bucket_of, bucket_at, HasChain, IsIndexed}
 use Rattle.plain_store.proofs.Rows.{row_same}
 
 front_or_behind : (r : Row) (rows : List Row) (q : Row) → Contains (r ∷ rows) q → (r ≡ q) ⊎ Contains rows q
@@ -27,13 +27,12 @@ behind r rows q (k, lt, e) = (suc k, omega arith, e)
 -- a chain stays while another row gets a row behind it
 chain_stays : (nexts : List ℕ) (k v : ℕ) (rows : List Row) (at : ℕ) → ((r : Row) → Contains rows r → r.0 ≢ k) → IsChain nexts at rows → IsChain (set nexts k v) at rows
 chain_stays nexts k v [] at away c = c
-chain_stays nexts k v (r ∷ rows) at away c =
-    (
-      c.0,
-      omega (arith, c.1, length-set nexts k v),
-      subst (λ (a : ℕ). IsChain (set nexts k v) a rows) (sym (get_or-set_other nexts k r.0 v end (away r (in_front r rows))))
+chain_stays nexts k v (r ∷ rows) at away c = (
+  c.0,
+  omega (arith, c.1, length-set nexts k v),
+  subst (λ (a : ℕ). IsChain (set nexts k v) a rows) (sym (get_or-set_other nexts k r.0 v end (away r (in_front r rows))))
       (chain_stays nexts k v rows (get_or nexts r.0 end) (λ q m. away q (behind r rows q m)) c.2),
-    )
+)
 
 no_place : (o : Option ℕ) (b : ℕ) → o ≡ None → o ≡ Some b → ⊥
 no_place o b e f = let g : None ≡ Some b = sym e ∙ f in absurd (cc)

@@ -1,17 +1,14 @@
 -- Rows in lists, and the nodes of rows.
-use Rattle.std.proofs.Common.{◌≡◌, ℕ, zero, suc, ◌+◌, ◌<◌, ◌≤◌, ◌≢◌, inl, inr, Bool, true, false, List, [], ◌∷◌, Some, None, length, map, get_or, refl, ap, sym, ◌∙◌, subst, arith, eq-eqb, below_more}
+use Rattle.std.proofs.Common.{◌≡◌, ℕ, ◌+◌, ◌<◌, ◌≤◌, ◌≢◌, inl, inr, Bool, true, false, List, [], ◌∷◌, Some, None, length, get_or, refl, ap, sym, ◌∙◌, subst, arith, eq-eqb, below_more}
 use Rattle.std.proofs.Math.ListN.{set}
 use Rattle.std.proofs.Math.Dec.{eqb}
 use Rattle.std.proofs.lemmas.Bool.{eqb-true, cases_lt}
-use Rattle.std.specs.Prelude.{replicate}
-use Rattle.std.proofs.lemmas.List.{get_or-map, map-set, length-set, get_or-set_same, get_or-set_other, get_or_past}
+use Rattle.std.proofs.lemmas.List.{length-set, get_or-set_same, get_or-set_other, get_or_past}
 use lib.Pointwise.{pointwise}
 use Rattle.term_model.specs.declared.Row.{Row}
 use Rattle.term_model.specs.declared.Head.{Head}
-use Rattle.term_model.specs.Tree.{head_eq}
-use Rattle.term_model.proofs.Equality.{head_eq_refl, head_eq_sound}
 use Rattle.term_model.proofs.Order.{both, both_hold}
-use Rattle.plain_store.specs.Slots.{Slot, Slots, slot_at, with_slot, kept_if, AreSwept}
+use Rattle.plain_store.specs.Slots.{Slots, slot_at, with_slot, kept_if, AreSwept}
 
 pub row_same : (r q : Row) → r.0 ≡ q.0 → r ≡ q
 row_same r q e = ap (λ (n : ℕ). let x : Row = record { 0 = n } in x) e

@@ -1,6 +1,6 @@
 -- Where the rows are: those in use stand in chains, one for each bucket of their hashes, and the
 -- free ones on a stack.
-use Rattle.std.specs.Prelude.{◌≡◌, ℕ, ◌+◌, ◌-◌, ◌/◌, ◌^◌, ◌<◌, ◌≤◌, List, [], ◌∷◌, ◌++◌, Option, Some, None, Contains, length, slice_index_or, slice_set, take}
+use Rattle.std.specs.Prelude.{◌≡◌, ℕ, ◌-◌, ◌/◌, ◌^◌, ◌<◌, ◌≤◌, List, [], ◌∷◌, ◌++◌, Option, Some, None, Contains, length, slice_index_or, slice_set, take}
 use Rattle.std.specs.Option.{option_map}
 use Rattle.term_model.specs.declared.Row.{Row}
 use Rattle.plain_store.specs.Slots.{Slot}

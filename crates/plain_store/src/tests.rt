@@ -127,10 +127,19 @@ fn random_trees_share_rows_as_their_texts_say(rt: HostRuntime) -> Result<(), Fai
     store.enter();
     for _ in 0..3000 {
         let number = drawn(&mut state);
-        let n = if number % 3 > store.depth() { 0 } else { number % 3 };
+        let n = if number % 3 > store.depth() {
+            0
+        } else {
+            number % 3
+        };
         let symbol = 3 * n + number / 3 % 3;
         assert_eq!(rt; build_symbol(&mut store, symbol, n), None);
-        write_text(rt.alloc(), &mut texts, (b'a' + symbol as u8) as char, n as usize)?;
+        write_text(
+            rt.alloc(),
+            &mut texts,
+            (b'a' + symbol as u8) as char,
+            n as usize,
+        )?;
         if let Some(text) = texts.last() {
             assert!(rt; store.depth() > 0);
             let row = store.at(store.depth() - 1);

@@ -1,5 +1,5 @@
-use Rattle.std.proofs.Common.{◌∙◌, None, get_or, sym, subst}
-use Rattle.plain_store.specs.Index.{Index, IsIndexed, bucket_of}
+use Rattle.std.proofs.Common.{None, get_or, sym, subst}
+use Rattle.plain_store.specs.Index.{Index, IsIndexed}
 use Rattle.std.proofs.Common.{take, ◌+◌}
 use Rattle.plain_store.proofs.Indexing.{slot_bucket, slot_free, added, added_empty}
 use Rattle.plain_store.proofs.nodes.add.Goals as goal

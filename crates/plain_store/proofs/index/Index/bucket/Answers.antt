@@ -1,4 +1,4 @@
-use Rattle.std.proofs.Common.{◌≡◌, ◌+◌, ◌-◌, ◌^◌, ◌<◌, ℕ, List, length, ap, sym, subst, arith}
+use Rattle.std.proofs.Common.{◌≡◌, ◌+◌, ◌-◌, ◌^◌, ◌<◌, ℕ, length, ap, subst, arith}
 use Rattle.std.proofs.lemmas.Nat.{shr_below}
 use Rattle.plain_store.specs.Index.{Index}
 use Rattle.plain_store.proofs.index.Index.bucket.Goals as goal

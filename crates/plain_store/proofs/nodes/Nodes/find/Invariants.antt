@@ -1,4 +1,4 @@
-use Rattle.std.proofs.Common.{◌≡◌, Some}
+use Rattle.std.proofs.Common.{Some}
 use Rattle.plain_store.proofs.Indexing.{Ahead}
 use Rattle.plain_store.proofs.nodes.Nodes.find.Given as goal
 

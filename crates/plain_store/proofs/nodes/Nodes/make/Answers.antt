@@ -1,8 +1,7 @@
-use Rattle.std.proofs.Common.{◌≡◌, ◌∙◌, ℕ, ◌<◌, ◌/◌, ◌^◌, ◌++◌, ◌∷◌, [], Some, None, length, get_or, List, refl, ap, sym, subst, arith}
+use Rattle.std.proofs.Common.{◌≡◌, ◌∙◌, ℕ, ◌<◌, ◌/◌, ◌^◌, ◌++◌, ◌∷◌, [], Some, None, length, get_or, ap, sym, subst, arith}
 use Rattle.std.proofs.Math.ListN.{set}
 use Rattle.std.proofs.lemmas.List.{length-set}
-use Rattle.term_model.specs.declared.Row.{Row}
-use Rattle.plain_store.specs.Slots.{Slots, Slot, with_slot}
+use Rattle.plain_store.specs.Slots.{Slots}
 use Rattle.plain_store.specs.Index.{Index, IsIndexed, first_of, linked, taken}
 use Rattle.plain_store.specs.Hash.{hash}
 use Rattle.plain_store.proofs.Placing.{node_of}
@@ -39,8 +38,7 @@ invariant_of-self-2 c =
     let is : b ≡ hash c.args.head c.args.arguments.now / 2 ^ x.shift = c.bucket-bucket.ensures.bucket ∙ ap (λ (n : ℕ). hash c.args.head c.args.arguments.now / 2 ^ n) shift in
     let last = c.in_ok-row.ensures.last ∙ ap (λ (i : Index). i.free ++ k ∷ []) c.in_ok-row.ensures.taken in
     let made = made_used slots x (taken x).free k s b (sym c.self.invariant.1) last (ap (λ (n : ℕ). Some n) (sym is)) (omega (arith, firsts, c.bucket-bucket.ensures.below)) c.self.invariant.0 in
-    let index = subst (λ (i : Index). IsIndexed (set slots k.0 s) i) (sym (c.link.ensures ∙ ap (λ (i : Index). linked i b k) c.in_ok-row.ensures.taken)) made in
-    (
+    let index = subst (λ (i : Index). IsIndexed (set slots k.0 s) i) (sym (c.link.ensures ∙ ap (λ (i : Index). linked i b k) c.in_ok-row.ensures.taken)) made in (
       subst (λ (t : Slots). IsIndexed t.slots c.link.new.self) (sym c.set.ensures) index,
       omega (arith, ap (λ (i : Index). length i.nexts) c.link.ensures, length-set y.nexts k.0 (first_of y b), nexts, c.self.invariant.1, ap (λ (t : Slots). length t.slots) c.set.ensures, length-set slots k.0 s),
     )

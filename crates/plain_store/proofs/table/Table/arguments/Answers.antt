@@ -1,7 +1,5 @@
-use Rattle.std.proofs.Common.{◌∙◌, ◌≡◌, ◌*◌, ◌<◌, None, length, take, drop, get_or, ap, sym, subst, List, arith}
-use Rattle.std.proofs.lemmas.List.{length-take}
+use Rattle.std.proofs.Common.{◌∙◌, ◌*◌, ◌<◌, None, length, take, drop, get_or, ap, sym, subst, List, arith}
 use Rattle.term_model.specs.declared.Row.{Row}
-use Rattle.plain_store.specs.declared.table.Entry.{Entry}
 use Rattle.plain_store.specs.Slots.{Slots}
 use Rattle.plain_store.specs.Flat.{IsEntry}
 use Rattle.plain_store.proofs.Flattened.{length-slots_of, slot_is, rows_of_slot, place_below}

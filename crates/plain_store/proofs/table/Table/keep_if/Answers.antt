@@ -1,4 +1,4 @@
-use Rattle.std.proofs.Common.{◌∙◌, ◌*◌, ◌<◌, ◌≡◌, None, false, Bool, List, length, drop, sym, ap, arith}
+use Rattle.std.proofs.Common.{◌∙◌, ◌<◌, None, false, Bool, List, length, sym, ap, arith}
 use Rattle.term_model.specs.declared.Head.TheVariants.{Nil}
 use Rattle.plain_store.specs.declared.table.Entry.{Entry}
 use Rattle.plain_store.specs.Slots.{Slots, Slot, slot_at, with_slot, kept_if}

@@ -1,4 +1,4 @@
-use Rattle.std.proofs.Common.{◌∙◌, ◌≡◌, List, None, false, ap, refl, rules}
+use Rattle.std.proofs.Common.{◌∙◌, ◌≡◌, List, false, ap, refl, rules}
 use Rattle.std.specs.Prelude.{replicate}
 use Rattle.term_model.specs.declared.Head.TheVariants.{Nil}
 use Rattle.plain_store.specs.declared.table.Entry.{Entry}

@@ -1,4 +1,4 @@
-use Rattle.std.proofs.Common.{◌∙◌, ◌*◌, ◌<◌, ◌≡◌, true, Bool, List, length, drop, sym, ap, refl, arith}
+use Rattle.std.proofs.Common.{◌∙◌, ◌*◌, ◌<◌, true, List, length, drop, ap, refl, arith}
 use Rattle.std.proofs.Math.ListN.{set}
 use Rattle.term_model.specs.declared.Row.{Row}
 use Rattle.plain_store.specs.declared.table.Entry.{Entry}
