@@ -9,6 +9,7 @@ use term_model::{Head, Symbol};
 use terms_api::Terms;
 
 const ROWS: u32 = 262_144;
+
 const UNARY: u32 = u32::MAX;
 
 // Builds a symbol over the last `n` places, if there are so many, and says whether it was built.
