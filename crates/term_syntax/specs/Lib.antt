@@ -5,4 +5,5 @@ pub mod TermGrammar
 pub mod Refusal
 pub mod Counts
 pub mod Parts
+pub mod Nodes
 pub mod Steps

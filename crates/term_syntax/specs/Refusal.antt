@@ -3,6 +3,8 @@ use Rattle.std.specs.Prelude.{◌≡◌, ℕ, List, [], ◌∷◌, ◌++◌, len
 use Rattle.term_syntax.specs.declared.token.Token.{Token}
 use Rattle.term_syntax.specs.declared.token.Token.TheVariants.{Word, Number, At}
 use Rattle.term_syntax.specs.declared.kinds.TheConstants.{UNEXPECTED, UNENDED}
+use Rattle.rec_reader.specs.declared.fail.ReadFail.{ReadFail}
+use Rattle.rec_reader.specs.declared.fail.ReadFail.TheVariants.{Refused, Memory}
 use Rattle.term_syntax.specs.TermGrammar.{BeginsInput, IsNoInput}
 
 -- the place of a token's first byte
@@ -32,3 +34,7 @@ abbrev pub AreRefused : ℕ → List Token → ℕ → ℕ → Type 0
 AreRefused size tokens kind offset =
     ((kind ≡ UNEXPECTED) × IsFirstUnexpected tokens offset)
     ⊎ ((kind ≡ UNENDED) × (offset ≡ size) × IsUnended tokens)
+
+abbrev pub IsSyntaxRefusal : ℕ → List Token → ReadFail → Type 0
+IsSyntaxRefusal size tokens (Refused kind offset) = AreRefused size tokens kind offset
+IsSyntaxRefusal size tokens Memory = Unit {0}

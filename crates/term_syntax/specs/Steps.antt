@@ -14,6 +14,14 @@ use Rattle.term_syntax.specs.declared.machine.Stop.{Stop}
 use Rattle.term_syntax.specs.declared.machine.Stop.TheVariants as stop
 use Rattle.term_syntax.specs.declared.machine.Machine.{Machine}
 use Rattle.term_syntax.specs.Counts.{with_count}
+use Rattle.term_syntax.specs.declared.kinds.TheConstants.{UNEXPECTED}
+use Rattle.rec_reader.specs.declared.fail.ReadFail.{ReadFail}
+use Rattle.rec_reader.specs.declared.fail.ReadFail.TheVariants.{Refused, Memory}
+use Rattle.term_syntax.specs.Written.{Written}
+use Rattle.term_syntax.specs.TermGrammar.{IsInput}
+use Rattle.term_syntax.specs.Refusal.{place_of}
+use Rattle.term_syntax.specs.Parts.{parts_of_input}
+use Rattle.term_syntax.specs.Nodes.{nodes_of_input}
 
 -- a step was taken, or there is none, or there was no memory
 abbrev pub Takes : Option Machine → Result (Unit {0}) Stop → Machine → Type 0
@@ -134,3 +142,22 @@ accepted_at (Headed part) gs m = None
 
 abbrev pub accepted : Machine → Option (List Part × List (List Node))
 accepted m = accepted_at m.place m.groups m
+
+-- there is no step at a token, which is at this place
+pub record StopsAt (tokens : List Token) (offset : ℕ) : Type 0 where
+  pub before : List Token
+  pub token : Token
+  pub after : List Token
+  pub is : tokens ≡ before ++ token ∷ after
+  pub machine : Machine
+  pub reached : run start before ≡ Some machine
+  pub stops : step machine token ≡ None
+  pub place : offset ≡ place_of token
+
+abbrev pub IsStopped : List Token → ReadFail → Type 0
+IsStopped tokens (Refused kind offset) = (kind ≡ UNEXPECTED) × StopsAt tokens offset
+IsStopped tokens Memory = Unit {0}
+
+-- the parts and the nodes of the terms that the tokens spell
+abbrev pub IsRead : List Token → List Part × List (List Node) → Type 0
+IsRead tokens read = (ws : List Written) × IsInput tokens ws × (read ≡ (parts_of_input ws, nodes_of_input 0 ws))

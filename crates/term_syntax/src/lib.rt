@@ -5,6 +5,7 @@ mod kinds;
 mod list;
 mod machine;
 mod name;
+mod parser;
 mod scanner;
 mod token;
 

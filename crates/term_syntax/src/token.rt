@@ -1,4 +1,7 @@
 //! What term text is cut into.
+ghost use Rattle.std.specs.Prelude.{◌≡◌};
+ghost use Rattle.term_syntax.specs.Refusal.{place_of};
+
 use crate::name::Name;
 
 /// What stands between names and numbers.
@@ -18,4 +21,15 @@ pub enum Token {
     Word(Name, usize),
     Number(Option<u64>, usize),
     At(Mark, usize),
+}
+
+impl Token {
+    /// The place of its first byte.
+    pub fn place(&self) -> usize
+        ensures { result ≡ place_of self.now }
+    {
+        match self {
+            Token::Word(_, place) | Token::Number(_, place) | Token::At(_, place) => *place,
+        }
+    }
 }
