@@ -79,7 +79,7 @@ settle [] k P N T (Number v p ∷ ts) h = h
 settle (g ∷ gs) k P N T (Number v p ∷ ts) h = h
 
 -- whether a term is the 17th argument doesn't change how many parts it has
-same_size : (b : Bool) (w : Written) → length (parts_of b w) ≡ size_of w
+pub same_size : (b : Bool) (w : Written) → length (parts_of b w) ≡ size_of w
 same_size b (Call p n ws) = refl
 same_size b (Digits p v) = refl
 same_size b (Listed p ws) = refl

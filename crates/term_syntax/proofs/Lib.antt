@@ -1,8 +1,12 @@
 pub mod Pieces
-pub mod Reading
+pub mod Cutting
 pub mod Counting
 pub mod Outcome
 pub mod Complete
 pub mod Ahead
 pub mod Viable
 pub mod Verdicts
+pub mod Pool
+pub mod TakingUp
+pub mod Spelling
+pub mod Readings

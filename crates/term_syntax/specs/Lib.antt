@@ -5,5 +5,8 @@ pub mod TermGrammar
 pub mod Refusal
 pub mod Counts
 pub mod Parts
+pub mod Named
 pub mod Nodes
 pub mod Steps
+pub mod Items
+pub mod Reading

@@ -1,15 +1,20 @@
 //! Term text: reads terms from bytes, and writes a term as its one canonical text.
 #![tactic(auto)]
 
+mod flats;
 mod kinds;
 mod list;
 mod machine;
 mod name;
 mod parser;
+mod reading;
 mod scanner;
+mod symbols;
 mod token;
 
 
+pub use flats::Flats;
 pub use name::Name;
+pub use reading::read_terms;
 pub use rec_reader::ReadFail;
 pub use token::{Mark, Token};

@@ -2,7 +2,7 @@ use Rattle.std.proofs.Common.{◌≡◌, ◌+◌, ◌<◌, ◌≤◌, length, dr
 use Rattle.term_syntax.specs.declared.scanner.Piece.{Piece}
 use Rattle.term_syntax.specs.declared.scanner.Piece.TheVariants.{Blank, Whole}
 use Rattle.term_syntax.specs.Tokens.{tokens_from, piece_at, next_of}
-use Rattle.term_syntax.proofs.Reading.{after_tokens, after_push, piece_read}
+use Rattle.term_syntax.proofs.Cutting.{after_tokens, after_push, piece_read}
 use Rattle.term_syntax.proofs.scanner.tokens.Goals as goal
 
 pub loop-at-preserved-in-Blank : goal.loop-at-preserved-in-Blank

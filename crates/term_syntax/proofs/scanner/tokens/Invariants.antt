@@ -1,6 +1,6 @@
 use Rattle.std.proofs.Common.{◌≡◌, ◌-◌, ◌≤◌, length, drop}
 use Rattle.term_syntax.specs.Tokens.{tokens_from, tokens_of}
-use Rattle.term_syntax.proofs.Reading.{after_tokens}
+use Rattle.term_syntax.proofs.Cutting.{after_tokens}
 use Rattle.term_syntax.proofs.scanner.tokens.Given as goal
 
 abbrev pub invariant-loop-at : goal.invariant-loop-at
