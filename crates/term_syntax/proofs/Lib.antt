@@ -10,3 +10,5 @@ pub mod Pool
 pub mod TakingUp
 pub mod Spelling
 pub mod Readings
+pub mod Arriving
+pub mod Writings

@@ -10,3 +10,6 @@ pub mod Nodes
 pub mod Steps
 pub mod Items
 pub mod Reading
+pub mod Text
+pub mod Canonical
+pub mod Writing

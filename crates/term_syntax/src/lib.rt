@@ -1,6 +1,8 @@
 //! Term text: reads terms from bytes, and writes a term as its one canonical text.
 #![tactic(auto)]
 
+mod backwards;
+mod canonical;
 mod flats;
 mod kinds;
 mod list;
@@ -11,8 +13,10 @@ mod reading;
 mod scanner;
 mod symbols;
 mod token;
+mod writer;
 
 
+pub use canonical::write_term;
 pub use flats::Flats;
 pub use name::Name;
 pub use reading::read_terms;

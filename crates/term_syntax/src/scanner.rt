@@ -25,13 +25,13 @@ fn is_space(byte: u8) -> bool
     byte == b' ' || byte == b'\t' || byte == b'\r' || byte == b'\n'
 }
 
-fn begins_name(byte: u8) -> bool
+pub(crate) fn begins_name(byte: u8) -> bool
     ensures { result ≡ spec.begins_name byte }
 {
     byte.is_ascii_alphabetic() || byte == b'_'
 }
 
-fn continues_name(byte: u8) -> bool
+pub(crate) fn continues_name(byte: u8) -> bool
     ensures { result ≡ spec.continues_name byte }
 {
     byte.is_ascii_alphanumeric() || b"_'.-".contains(&byte)
