@@ -1,9 +1,8 @@
 -- Each input is read to its end, as what it spells.
-use Rattle.std.proofs.Common.{◌≡◌, ◌∙◌, ℕ, suc, ◌+◌, List, [], ◌∷◌, ◌++◌, length, length-append, refl, ap, sym, subst, arith, append_assoc, append-nil, Bool, true, false, Option, Some, None}
-use Rattle.std.specs.Prelude.{option_and_then}
+use Rattle.std.proofs.Common.{◌≡◌, ◌∙◌, ℕ, ◌+◌, List, [], ◌∷◌, ◌++◌, length, length-append, refl, ap, sym, arith, append_assoc, append-nil, Bool, true, false, Option, Some}
 use Rattle.term_syntax.specs.declared.token.Token.{Token}
 use Rattle.term_syntax.specs.declared.token.Token.TheVariants.{Word, Number, At}
-use Rattle.term_syntax.specs.declared.token.Mark.TheVariants.{Open, Close, OpenList, CloseList, Comma}
+use Rattle.term_syntax.specs.declared.token.Mark.TheVariants.{Open, Close, OpenList, CloseList}
 use Rattle.term_syntax.specs.declared.machine.Kind.{Kind}
 use Rattle.term_syntax.specs.declared.machine.Kind.TheVariants.{Symbol, Integer, Brackets}
 use Rattle.term_syntax.specs.declared.machine.Part.{Part}
@@ -17,7 +16,7 @@ use Rattle.term_syntax.specs.Written.{Written, Call, Digits, Listed, Writtens, E
 use Rattle.term_syntax.specs.TermGrammar.{IsTerm, constant, call, number, empty, list, AreTerms, only, more, IsInput, none, next}
 use Rattle.term_syntax.specs.Parts.{parts_of, parts_of_all, parts_of_input}
 use Rattle.term_syntax.specs.Nodes.{node, size_of, nodes_of, nodes_of_all, nodes_of_input}
-use Rattle.term_syntax.specs.Steps.{step, start, is_over, end_under, after_term_under}
+use Rattle.term_syntax.specs.Steps.{step, start, is_over, end_under}
 use Rattle.term_syntax.proofs.Counting.{counted_behind}
 use Rattle.term_syntax.proofs.Outcome.{Read, outcome, go_on}
 

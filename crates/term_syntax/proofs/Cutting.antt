@@ -2,10 +2,9 @@
 use Rattle.std.proofs.Common.{◌≡◌, ◌≤◌, ◌<◌, ◌∙◌, ℕ, zero, suc, ◌+◌, ◌-◌, List, [], ◌∷◌, ◌++◌, length, length-drop, drop, refl, ap, sym, arith, append_assoc, Result, Ok, Err}
 use Rattle.rec_reader.specs.declared.fail.ReadFail.{ReadFail}
 use Rattle.rec_reader.specs.declared.fail.ReadFail.TheVariants.{Refused, Memory}
-use Rattle.term_syntax.specs.Fault.{Fault, fault, IsDue}
+use Rattle.term_syntax.specs.Fault.{Fault, IsDue}
 use Rattle.term_syntax.specs.declared.token.Token.{Token}
 use Rattle.term_syntax.specs.declared.scanner.Piece.{Piece}
-use Rattle.term_syntax.specs.declared.scanner.Piece.TheVariants.{Blank, Whole}
 use Rattle.term_syntax.specs.Tokens.{tokens_from, tokens_of, after_token, after_piece, next_of, piece_at, read_piece}
 use Rattle.std.proofs.lemmas.List.{drop_more, drop-drop}
 

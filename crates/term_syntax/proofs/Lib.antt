@@ -9,6 +9,7 @@ pub mod Verdicts
 pub mod Pool
 pub mod TakingUp
 pub mod Spelling
+pub mod Ground
 pub mod Readings
 pub mod Arriving
 pub mod Writings

@@ -1,5 +1,5 @@
 -- What begins at a place of the bytes.
-use Rattle.std.proofs.Common.{◌≡◌, ◌≤◌, ◌<◌, ◌∙◌, ℕ, ◌+◌, ◌-◌, List, [], ◌∷◌, length, drop, take, get_or, Bool, true, false, cond, eqb, refl, ap, sym, subst, arith, Result, Ok, Err, ◌++◌, append_assoc, leb}
+use Rattle.std.proofs.Common.{◌≡◌, ◌≤◌, ◌<◌, ◌∙◌, ℕ, ◌+◌, ◌-◌, List, [], ◌∷◌, length, drop, take, get_or, Bool, true, false, cond, refl, ap, sym, subst, arith, Result, Ok, Err, ◌++◌, append_assoc, leb}
 use Rattle.std.proofs.lemmas.List.{drop_more, drop_all}
 use Rattle.std.proofs.lemmas.Bool.{leb-true}
 use Rattle.std.specs.Cmp.{first_so, second_so}
@@ -9,11 +9,10 @@ use Rattle.std.specs.Str.Parse.{AllDigits}
 use Rattle.std.proofs.lemmas.Str.{digit_value_digit}
 use Rattle.term_syntax.specs.Fault.{Fault, fault}
 use Rattle.term_syntax.specs.declared.kinds.TheConstants.{UNENDED}
-use Rattle.term_syntax.specs.declared.token.Token.TheVariants.{Word, Number, At}
-use Rattle.term_syntax.specs.declared.scanner.Piece.{Piece}
-use Rattle.term_syntax.specs.declared.scanner.Piece.TheVariants.{Blank, Whole}
+use Rattle.term_syntax.specs.declared.token.Token.TheVariants.{Word, Number}
+use Rattle.term_syntax.specs.declared.scanner.Piece.TheVariants.{Whole}
 use Rattle.term_syntax.specs.declared.scanner.Role.{Role}
-use Rattle.term_syntax.specs.Tokens.{is_space, begins_name, continues_name, front_length, quoted, by_role, role_of, quoted_piece, plain_piece, number_piece, mark_piece, mark_of, piece_at, with_byte, integer_of}
+use Rattle.term_syntax.specs.Tokens.{continues_name, front_length, quoted, by_role, role_of, plain_piece, number_piece, with_byte, integer_of}
 
 front_one : (p : ℕ → Bool) (b : ℕ) (bs : List ℕ) → p b ≡ true → front_length p (b ∷ bs) ≡ front_length p bs + 1
 front_one p b bs h = ap (λ t. cond t (front_length p bs + 1) 0) h

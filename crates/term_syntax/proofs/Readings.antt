@@ -1,5 +1,5 @@
 -- What was read is the one reading of the bytes.
-use Rattle.std.proofs.Common.{◌≡◌, ◌∙◌, ℕ, List, [], ◌∷◌, ◌++◌, length, map, refl, ap, sym, subst, append_assoc, inl, inr, Option, Some, None, Result, Ok, Err, All, true, false}
+use Rattle.std.proofs.Common.{◌≡◌, ◌∙◌, ℕ, List, [], ◌∷◌, length, map, refl, ap, sym, subst, append_assoc, inl, inr, Option, Some, Ok, Err, All}
 use Rattle.std.specs.Option.{IsSome, is_some, unwrap_or}
 use Rattle.std.proofs.lemmas.List.Elements.{All-nil, All-cons}
 use Rattle.rec_reader.specs.declared.fail.ReadFail.{ReadFail}
@@ -11,16 +11,18 @@ use Rattle.symbol_pool.specs.Pool.{Named}
 use Rattle.term_syntax.specs.declared.token.Token.{Token}
 use Rattle.term_syntax.specs.declared.machine.Part.{Part}
 use Rattle.term_syntax.specs.declared.machine.Node.{Node}
-use Rattle.term_syntax.specs.Fault.{Fault, fault, IsDue}
+use Rattle.term_syntax.specs.Fault.{fault, IsDue}
 use Rattle.term_syntax.specs.Tokens.{tokens_of}
 use Rattle.term_syntax.specs.Written.{Written}
 use Rattle.term_syntax.specs.TermGrammar.{IsInput}
-use Rattle.term_syntax.specs.Refusal.{AreRefused, IsSyntaxRefusal, IsFirstUnexpected}
+use Rattle.term_syntax.specs.Refusal.{AreRefused, IsSyntaxRefusal}
 use Rattle.term_syntax.specs.Parts.{parts_of_input, taken_up, tree_in}
 use Rattle.term_syntax.specs.Nodes.{nodes_of_input}
 use Rattle.term_syntax.specs.Steps.{start, IsRead}
-use Rattle.term_syntax.specs.Items.{item_in, items_at, trees_at}
-use Rattle.term_syntax.specs.Reading.{Spells, IsReading, AreTokensRefused, IsPartRefused, IsRefusal}
+use Rattle.term_syntax.specs.Items.{item_in, items_at, trees_at, IsThere}
+use Rattle.term_syntax.specs.Text.{HasNames}
+use Rattle.term_syntax.proofs.Ground.{all_are_named}
+use Rattle.term_syntax.specs.Reading.{Spells, IsReading, IsRefusal}
 use Rattle.term_syntax.proofs.Outcome.{Read, outcome}
 use Rattle.term_syntax.proofs.Complete.{complete}
 use Rattle.term_syntax.proofs.Spelling.{spells_input}
@@ -83,6 +85,12 @@ module _ (tokens : List Token) (parts : List Part) (nodes : List (List Node)) (r
       trees_are = same_somes trees (map (tree_in new) r.0) (f ∙ trees_are new items e);
     }
 
+    -- the symbols of the trees are held
+    pub held : (new : List Named) (items : List Item) (trees : List Tree) → items ≡ map (item_in new) parts → map Some trees ≡ trees_at items nodes → All (IsThere new) parts → All (HasNames new) trees
+    held new items trees e f there =
+        subst (All (HasNames new)) (sym (same_somes trees (map (tree_in new) r.0) (f ∙ trees_are new items e)))
+        (all_are_named new r.0 (subst (All (IsThere new)) parts_are there))
+
     -- the parts are refused
     pub part_refusal : (old : List Named) (e : ReadFail) → IsDue (taken_up old parts) e → IsRefusal bytes old e
     part_refusal old (Refused kind offset) due = inr (inr (record { terms = r.0; spelled = spelled; refused = ap (taken_up old) (sym parts_are) ∙ due }))
@@ -114,9 +122,9 @@ only_one bytes old a b xs ys r s =
     let taken : Ok a ≡ Ok b = sym r.taken ∙ ap (taken_up old) same.0 ∙ s.taken in
     let pool : a ≡ b = cc in
     let trees : map Some (map (tree_in a) r.terms) ≡ map Some (map (tree_in b) s.terms) =
-        sym (spelled_trees a r.terms)
-        ∙ (λ i. trees_at (map (item_in (pool i)) (same.0 i)) (same.1 i))
-        ∙ spelled_trees b s.terms in
+    sym (spelled_trees a r.terms)
+    ∙ (λ i. trees_at (map (item_in (pool i)) (same.0 i)) (same.1 i))
+    ∙ spelled_trees b s.terms in
     (sym pool, s.trees_are ∙ sym (same_somes (map (tree_in a) r.terms) (map (tree_in b) s.terms) trees) ∙ sym r.trees_are)
 
 -- tokens that are refused spell nothing

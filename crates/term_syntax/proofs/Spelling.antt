@@ -1,13 +1,10 @@
 -- The nodes of written terms spell their trees.
-use Rattle.std.proofs.Common.{◌≡◌, ◌≤◌, ◌<◌, ◌∙◌, ℕ, zero, suc, ◌+◌, List, [], ◌∷◌, ◌++◌, length, length-append, map, replicate, slice_get, refl, ap, sym, subst, arith, append_assoc, append-nil, Bool, true, false, ◌&&◌, ◌==◌, Option, Some, None, All}
+use Rattle.std.proofs.Common.{◌≡◌, ◌∙◌, ℕ, ◌+◌, List, [], ◌∷◌, ◌++◌, length, length-append, map, replicate, slice_get, refl, ap, sym, arith, append_assoc, append-nil, Bool, true, false, ◌&&◌, ◌==◌, Some}
 use Rattle.std.specs.Prelude.{unwrap_or}
-use Rattle.std.specs.List.{flat_map}
-use Rattle.std.specs.Option.{IsSome, is_some}
 use Rattle.std.proofs.lemmas.List.{map-append, replicate_more, length-map}
-use Rattle.std.proofs.lemmas.List.Elements.{All-nil, All-cons}
 use Rattle.term_model.specs.Tree as tree
 use Rattle.term_model.specs.Tree.{Tree, Trees, IsWellFormed, is_well_formed, all_well_formed}
-use Rattle.term_model.specs.Postorder.{postorder, postorder_all, tree_of, item_of}
+use Rattle.term_model.specs.Postorder.{postorder, postorder_all, tree_of}
 use Rattle.term_model.specs.declared.Item.{Item}
 use Rattle.term_model.specs.declared.Item.TheVariants.{App, Int, Nil, Cons}
 use Rattle.term_model.proofs.Order.{tree_of-postorder, both}
@@ -131,8 +128,8 @@ module _ (pool : List Named) where
       let rest = parts_of_input ws in
       let none = append-nil (items_of rest) in
       let there : items ≡ (xs ++ items_of (parts_of false w)) ++ items_of rest =
-          e ∙ sym (append-nil (xs ++ items_of (parts_of false w ++ rest))) ∙ split xs (parts_of false w) rest [] ∙ ap (λ is. (xs ++ items_of (parts_of false w)) ++ is) none in
+      e ∙ sym (append-nil (xs ++ items_of (parts_of false w ++ rest))) ∙ split xs (parts_of false w) rest [] ∙ ap (λ is. (xs ++ items_of (parts_of false w)) ++ is) none in
       let one : tree_of (items_at items (nodes_of k w)) ≡ Some (tree_in pool w) =
-          ap tree_of (spells_term false w xs (items_of rest) items k there l) ∙ tree_of-postorder (tree_in pool w) (is_tree pool w) in
+      ap tree_of (spells_term false w xs (items_of rest) items k there l) ∙ tree_of-postorder (tree_in pool w) (is_tree pool w) in
       let others = spells_input ws (xs ++ items_of (parts_of false w)) items (k + size_of w) there (past xs false w k l) in
       λ i. one i ∷ others i

@@ -1,5 +1,5 @@
 -- The symbols of parts, taken up one after another.
-use Rattle.std.proofs.Common.{◌≡◌, ◌≤◌, ◌<◌, ◌∙◌, ℕ, ◌+◌, List, [], ◌∷◌, ◌++◌, length, take, drop, map, get_or, Bool, true, false, refl, ap, sym, subst, arith, Option, Some, None, Result, Ok, Err, All}
+use Rattle.std.proofs.Common.{◌≡◌, ◌≤◌, ◌<◌, ◌∙◌, ℕ, ◌+◌, List, [], ◌∷◌, ◌++◌, length, take, drop, map, get_or, true, refl, ap, sym, subst, Some, None, Ok, Err, All}
 use Rattle.std.proofs.lemmas.List.{take_more, drop_more, map_push, take_all, drop_all}
 use Rattle.std.proofs.lemmas.List.Elements.{All-head, All-tail, All-nil, All-cons, All-push}
 use Rattle.rec_reader.specs.declared.fail.ReadFail.{ReadFail}
@@ -11,18 +11,9 @@ use Rattle.term_syntax.specs.declared.machine.Kind.{Kind}
 use Rattle.term_syntax.specs.declared.machine.Kind.TheVariants.{Symbol, Integer, Brackets}
 use Rattle.term_syntax.specs.declared.machine.Part.{Part}
 use Rattle.term_syntax.specs.Fault.{Fault, fault, IsDue}
-use Rattle.term_syntax.specs.Parts.{has, with_symbol, pool_after, part_fault, unless_fault, taken_up}
-use Rattle.term_syntax.specs.Items.{item_of_kind, item_in, IsTakenUp, IsPartFault, GrowsPool}
+use Rattle.term_syntax.specs.Parts.{pool_after, part_fault, unless_fault, taken_up}
+use Rattle.term_syntax.specs.Items.{is_there, IsThere, item_of_kind, item_in, IsTakenUp, IsPartFault, GrowsPool}
 use Rattle.term_syntax.proofs.Pool.{with_symbol_grows, stays_in, has_taken, grows_itself, grows_on}
-
--- the symbol of a part is there
-abbrev pub is_there : List Named → Kind → ℕ → Bool
-is_there pool (Symbol n) count = has pool (named n count)
-is_there pool (Integer v) count = true
-is_there pool Brackets count = true
-
-abbrev pub IsThere : List Named → Part → Type 0
-IsThere pool p = is_there pool p.kind p.count ≡ true
 
 after_grows : (pool : List Named) (kind : Kind) (count : ℕ) → GrowsPool pool (pool_after pool kind count)
 after_grows pool (Symbol n) count = with_symbol_grows pool (named n count)
@@ -95,9 +86,9 @@ part_due old pool parts i items p (Refused kind offset) t l at h =
 part_due old pool parts i items p Memory t l at h = tt
 
 -- all parts were taken up
-pub taking_all : (old pool : List Named) (parts : List Part) (i : ℕ) (items : List Item) → Taking old pool parts i items → length parts ≤ i → (taken_up old parts ≡ Ok pool) × (items ≡ map (item_in pool) parts)
+pub taking_all : (old pool : List Named) (parts : List Part) (i : ℕ) (items : List Item) → Taking old pool parts i items → length parts ≤ i → (taken_up old parts ≡ Ok pool) × (items ≡ map (item_in pool) parts) × All (IsThere pool) parts
 taking_all old pool parts i items t l =
-    (sym t.rest ∙ ap (taken_up pool) (drop_all i parts l), t.items_are ∙ ap (map (item_in pool)) (take_all i parts l))
+    (sym t.rest ∙ ap (taken_up pool) (drop_all i parts l), t.items_are ∙ ap (map (item_in pool)) (take_all i parts l), subst (All (IsThere pool)) (take_all i parts l) t.there)
 
 pub part_grows : (pool new : List Named) (p : Part) (item : Item) → IsTakenUp pool p item new → GrowsPool pool new
 part_grows pool new p item u = subst (GrowsPool pool) (sym u.pool_is) (after_grows pool p.kind p.count)

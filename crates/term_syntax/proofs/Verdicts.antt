@@ -1,13 +1,12 @@
 -- What reading says of the tokens.
-use Rattle.std.proofs.Common.{◌≡◌, ◌∙◌, ℕ, List, [], ◌∷◌, ◌++◌, refl, ap, sym, subst, append_assoc, append-nil, length, inl, inr, Option, Some, None}
+use Rattle.std.proofs.Common.{◌≡◌, ◌∙◌, ℕ, List, [], ◌∷◌, ◌++◌, refl, ap, sym, append_assoc, append-nil, inl, inr, Some, None}
 use Rattle.std.specs.Prelude.{option_and_then}
 use Rattle.rec_reader.specs.declared.fail.ReadFail.{ReadFail}
 use Rattle.rec_reader.specs.declared.fail.ReadFail.TheVariants.{Refused, Memory}
 use Rattle.term_syntax.specs.declared.token.Token.{Token}
 use Rattle.term_syntax.specs.declared.machine.Machine.{Machine}
-use Rattle.term_syntax.specs.declared.kinds.TheConstants.{UNENDED, UNEXPECTED}
-use Rattle.term_syntax.specs.Written.{Written}
-use Rattle.term_syntax.specs.TermGrammar.{IsInput, BeginsInput, IsNoInput}
+use Rattle.term_syntax.specs.declared.kinds.TheConstants.{UNENDED}
+use Rattle.term_syntax.specs.TermGrammar.{BeginsInput}
 use Rattle.term_syntax.specs.Parts.{parts_of_input}
 use Rattle.term_syntax.specs.Nodes.{nodes_of_input}
 use Rattle.term_syntax.specs.Refusal.{IsFirstUnexpected, IsUnended, AreRefused, IsSyntaxRefusal}

@@ -1,20 +1,15 @@
 -- Each place of an input may be led to an end.
-use Rattle.std.proofs.Common.{◌≡◌, ◌∙◌, ◌+◌, ℕ, List, [], ◌∷◌, ◌++◌, length, refl, Bool, true, false, Option, Some, None}
-use Rattle.term_syntax.specs.declared.token.Token.{Token}
-use Rattle.term_syntax.specs.declared.token.Token.TheVariants.{Word, Number, At}
-use Rattle.term_syntax.specs.declared.token.Mark.TheVariants.{Open, Close, OpenList, CloseList, Comma}
-use Rattle.term_syntax.specs.declared.machine.Kind.TheVariants.{Symbol, Integer, Brackets}
+use Rattle.std.proofs.Common.{◌+◌, ℕ, List, [], ◌∷◌, refl, Bool, true, false, Some}
+use Rattle.term_syntax.specs.declared.token.Token.TheVariants.{Number, At}
+use Rattle.term_syntax.specs.declared.token.Mark.TheVariants.{Open, Close, CloseList}
 use Rattle.term_syntax.specs.declared.machine.Part.{Part}
 use Rattle.term_syntax.specs.declared.machine.Node.{Node}
 use Rattle.term_syntax.specs.declared.machine.Group.{Group}
 use Rattle.term_syntax.specs.declared.machine.Place.{Place}
 use Rattle.term_syntax.specs.declared.machine.Place.TheVariants.{Settled, Bracketed, Expected, Headed}
 use Rattle.term_syntax.specs.declared.machine.Machine.{Machine}
-use Rattle.term_syntax.specs.Counts.{with_count}
-use Rattle.term_syntax.specs.Nodes.{node}
-use Rattle.term_syntax.specs.Steps.{step, is_over}
-use Rattle.term_syntax.proofs.Outcome.{Read, outcome, go_on}
-use Rattle.term_syntax.proofs.Complete.{state, group, part, whole, closes, list_closes, expected_starts, bracket_starts, Starts}
+use Rattle.term_syntax.proofs.Outcome.{outcome}
+use Rattle.term_syntax.proofs.Complete.{state, group, whole, closes, list_closes, expected_starts, bracket_starts, Starts}
 use Rattle.term_syntax.proofs.Ahead.{Ends_somehow, then_token}
 
 -- after a whole term in a group, if a whole term under the other groups leads to an end

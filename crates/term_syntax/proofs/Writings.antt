@@ -1,5 +1,5 @@
 -- The items of a term, written from the last to the first, are its text.
-use Rattle.std.proofs.Common.{◌≡◌, ◌≤◌, ◌<◌, ◌∙◌, ℕ, zero, suc, ◌+◌, ◌-◌, List, [], ◌∷◌, ◌++◌, reverse, refl, ap, sym, arith, append_assoc, append-nil, Bool, true, false, ◌&&◌, codes, decimal, Option, Some, None, length, take, get_or, All}
+use Rattle.std.proofs.Common.{◌≡◌, ◌<◌, ◌∙◌, ℕ, suc, ◌+◌, ◌-◌, List, [], ◌∷◌, ◌++◌, reverse, refl, ap, sym, arith, append_assoc, append-nil, true, ◌&&◌, codes, Option, Some, None, length, take, get_or, All}
 use Rattle.std.proofs.lemmas.List.{reverse-append, take_more}
 use Rattle.std.proofs.lemmas.List.Elements.{All-nil, All-cons, All-push, All-append}
 use Rattle.std.proofs.lemmas.Bool.{ltb-true}
@@ -10,13 +10,13 @@ use Rattle.term_model.specs.declared.Head.{Head}
 use Rattle.term_model.specs.declared.Head.TheVariants.{App, Int, Nil, Cons}
 use Rattle.term_model.specs.declared.Item.{Item}
 use Rattle.term_model.specs.declared.Item.TheVariants as item
-use Rattle.term_model.specs.Tree.{Tree, Leaf, Node, Trees, End, More, count_of, is_ground, all_ground, is_well_formed, all_well_formed, may_stand_over, may_be_list}
+use Rattle.term_model.specs.Tree.{Tree, Leaf, Node, Trees, End, More, count_of, is_ground, all_ground, is_well_formed, all_well_formed, may_be_list}
 use Rattle.term_model.specs.Postorder.{postorder, postorder_all, item_of}
 use Rattle.term_model.proofs.Order.{both_hold}
 use Rattle.term_syntax.specs.declared.writer.Frame.{Frame}
 use Rattle.term_syntax.specs.declared.writer.Writer.{Writer}
-use Rattle.term_syntax.specs.Text.{text_by, in_parentheses, after_commas, elements, further_elements, has_names, all_have_names, is_named}
-use Rattle.term_syntax.specs.Writing.{opening, arrive, arrived, written, all_written, IsItemHeld}
+use Rattle.term_syntax.specs.Text.{text_by, after_commas, further_elements, has_names, all_have_names, is_named}
+use Rattle.term_syntax.specs.Writing.{arrive, written, all_written, IsItemHeld}
 use Rattle.term_syntax.proofs.Arriving.{other_frames, arrive_first, arrive_next}
 
 abbrev pub writer : List ℕ → List Frame → ℕ → Writer

@@ -1,5 +1,5 @@
 -- The items of terms that were read.
-use Rattle.std.specs.Prelude.{◌≡◌, ℕ, List, [], ◌∷◌, ◌++◌, map, replicate, slice_get, unwrap_or, Option, Some, None}
+use Rattle.std.specs.Prelude.{◌≡◌, ℕ, List, ◌∷◌, ◌++◌, map, replicate, slice_get, unwrap_or, Option, Some, None, Bool, true}
 use Rattle.std.specs.List.{flat_map}
 use Rattle.rec_reader.specs.declared.fail.ReadFail.{ReadFail}
 use Rattle.rec_reader.specs.declared.fail.ReadFail.TheVariants.{Refused, Memory}
@@ -12,8 +12,8 @@ use Rattle.term_syntax.specs.declared.machine.Kind.{Kind}
 use Rattle.term_syntax.specs.declared.machine.Kind.TheVariants.{Symbol, Integer, Brackets}
 use Rattle.term_syntax.specs.declared.machine.Part.{Part}
 use Rattle.term_syntax.specs.declared.machine.Node.{Node}
-use Rattle.term_syntax.specs.Fault.{Fault, fault}
-use Rattle.term_syntax.specs.Parts.{number_of, value_or_zero, part_fault, pool_after}
+use Rattle.term_syntax.specs.Fault.{fault}
+use Rattle.term_syntax.specs.Parts.{number_of, has, value_or_zero, part_fault, pool_after}
 
 -- the item of a part, of which a list has the empty list that ends it
 abbrev pub item_of_kind : List Named → Kind → ℕ → Item
@@ -38,6 +38,15 @@ IsPartFault pool p Memory = Unit {0}
 -- symbols only come last
 abbrev pub GrowsPool : List Named → List Named → Type 0
 GrowsPool old new = (more : List Named) × (new ≡ old ++ more)
+
+-- the symbol of a part is there
+abbrev pub is_there : List Named → Kind → ℕ → Bool
+is_there pool (Symbol n) count = has pool (named n count)
+is_there pool (Integer v) count = true
+is_there pool Brackets count = true
+
+abbrev pub IsThere : List Named → Part → Type 0
+IsThere pool p = is_there pool p.kind p.count ≡ true
 
 -- the items of a node, and of nodes
 abbrev pub node_items : List Item → Node → List Item

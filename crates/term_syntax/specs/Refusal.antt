@@ -1,5 +1,5 @@
 -- Where tokens that are no input are refused.
-use Rattle.std.specs.Prelude.{◌≡◌, ℕ, List, [], ◌∷◌, ◌++◌, length, ◌⊎◌}
+use Rattle.std.specs.Prelude.{◌≡◌, ℕ, List, [], ◌∷◌, ◌++◌, ◌⊎◌}
 use Rattle.term_syntax.specs.declared.token.Token.{Token}
 use Rattle.term_syntax.specs.declared.token.Token.TheVariants.{Word, Number, At}
 use Rattle.term_syntax.specs.declared.kinds.TheConstants.{UNEXPECTED, UNENDED}

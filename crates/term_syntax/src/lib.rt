@@ -12,9 +12,10 @@ mod parser;
 mod reading;
 mod scanner;
 mod symbols;
+#[cfg(test)]
+mod tests;
 mod token;
 mod writer;
-
 
 pub use canonical::write_term;
 pub use flats::Flats;

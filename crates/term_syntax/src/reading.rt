@@ -1,9 +1,10 @@
 //! Reads term text.
-ghost use Rattle.std.specs.Prelude.{◌≡◌, List, IfOk, IfErr};
+ghost use Rattle.std.specs.Prelude.{◌≡◌, List, IfOk, IfErr, All};
 ghost use Rattle.rec_reader.specs.declared.fail.ReadFail.TheVariants.{Memory};
-ghost use Rattle.term_model.specs.Tree.{Tree};
+ghost use Rattle.term_model.specs.Tree.{Tree, IsGround};
 ghost use Rattle.symbol_pool.specs.Pool.{Named};
 ghost use Rattle.term_syntax.specs.Items.{GrowsPool};
+ghost use Rattle.term_syntax.specs.Text.{HasNames};
 ghost use Rattle.term_syntax.specs.Reading.{IsReading, IsRefusal};
 
 use crate::flats::{Flats, flats};
@@ -23,12 +24,10 @@ use symbol_pool::Symbols;
 /// there, or kind 3, an input that ends within a term; else, at the least place, kind 13, a 17th argument, a
 /// name of more than 255 bytes or a symbol too many, or kind 17, a number that isn't such an integer. After a
 /// refusal some symbols may have been taken up.
-pub fn read_terms(
-    alloc: Global,
-    bytes: &[u8],
-    symbols: &mut Symbols,
-) -> Result<Flats, ReadFail>
+pub fn read_terms(alloc: Global, bytes: &[u8], symbols: &mut Symbols) -> Result<Flats, ReadFail>
     ensures read { IfOk result (IsReading bytes.now symbols.old symbols.new) }
+    ensures ground { IfOk result (All IsGround) }
+    ensures held { IfOk result (All (HasNames symbols.new)) }
     // The bytes spell no other terms.
     ensures only { IfOk result (λ trees. (new : List Named) (others : List Tree)
         → IsReading bytes.now symbols.old new others → (new ≡ symbols.new) × (others ≡ trees)) }

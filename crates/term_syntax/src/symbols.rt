@@ -1,9 +1,9 @@
 //! Takes up the symbols of parts in the order of the text.
-ghost use Rattle.std.specs.Prelude.{◌≡◌, map, Ok, IfOk, IfErr, OnErr};
+ghost use Rattle.std.specs.Prelude.{◌≡◌, map, Ok, IfOk, IfErr, OnOk, OnErr, All};
 ghost use Rattle.rec_reader.specs.declared.fail.ReadFail.TheVariants.{Refused};
 ghost use Rattle.term_syntax.specs.Fault.{IsDue};
 ghost use Rattle.term_syntax.specs.Parts.{taken_up};
-ghost use Rattle.term_syntax.specs.Items.{item_in, IsTakenUp, IsPartFault, GrowsPool};
+ghost use Rattle.term_syntax.specs.Items.{item_in, IsTakenUp, IsPartFault, IsThere, GrowsPool};
 ghost use Rattle.term_syntax.specs.Named.{IsSymbolTaken, IsSymbolRefused};
 
 use crate::kinds::{BAD_NUMBER, LIMIT};
@@ -72,8 +72,9 @@ pub(crate) fn items_of(
     parts: &[Part],
     symbols: &mut Symbols,
 ) -> Result<Vec<Item>, ReadFail>
-    ensures taken { IfOk result (λ i. taken_up symbols.old parts.now ≡ Ok symbols.new) }
+    ensures taken { OnOk result (taken_up symbols.old parts.now ≡ Ok symbols.new) }
     ensures items { IfOk result (λ i. i.items ≡ map (item_in symbols.new) parts.now) }
+    ensures there { OnOk result (All (IsThere symbols.new) parts.now) }
     ensures refused { IfErr result (IsDue (taken_up symbols.old parts.now)) }
     ensures grows { GrowsPool symbols.old symbols.new }
 {

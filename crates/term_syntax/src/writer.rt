@@ -77,7 +77,11 @@ fn put_name(text: &mut Backwards, symbols: &Symbols, symbol: Symbol) -> Result<(
     }
 }
 
-fn put_opening(text: &mut Backwards, symbols: &Symbols, symbol: Option<Symbol>) -> Result<(), Memory>
+fn put_opening(
+    text: &mut Backwards,
+    symbols: &Symbols,
+    symbol: Option<Symbol>,
+) -> Result<(), Memory>
     requires { IsHeld symbols.now symbol }
     ensures { OnOk result (text.new ≡ steps.opening (spelling symbols.now) symbol ++ text.old) }
 {

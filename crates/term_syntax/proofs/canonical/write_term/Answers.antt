@@ -1,7 +1,5 @@
-use Rattle.std.proofs.Common.{◌≡◌, ◌∙◌, ◌++◌, ◌-◌, ℕ, List, [], length, take, reverse, ap, sym, subst, arith, All}
-use Rattle.term_model.specs.declared.Item.{Item}
+use Rattle.std.proofs.Common.{◌≡◌, ◌∙◌, ◌++◌, ◌-◌, [], take, reverse, ap, sym, subst, arith, All}
 use Rattle.term_model.specs.declared.Item.TheVariants.{Var}
-use Rattle.term_model.specs.Postorder.{postorder}
 use Rattle.term_syntax.specs.declared.writer.Writer.{Writer}
 use Rattle.term_syntax.specs.Canonical.{spelling}
 use Rattle.term_syntax.specs.Writing.{all_written, IsItemHeld}

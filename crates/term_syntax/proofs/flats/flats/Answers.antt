@@ -1,4 +1,4 @@
-use Rattle.std.proofs.Common.{◌≡◌, ap, sym, subst, ◌∙◌, List}
+use Rattle.std.proofs.Common.{sym, subst, ◌∙◌, List}
 use Rattle.std.specs.Option.{IsSome}
 use Rattle.term_model.specs.Postorder.{tree_of}
 use Rattle.term_syntax.specs.declared.machine.Node.{Node}

@@ -1,4 +1,4 @@
-use Rattle.std.proofs.Common.{◌≡◌, refl, ◌∙◌, ◌++◌, ◌∷◌, [], ap, sym, append_assoc}
+use Rattle.std.proofs.Common.{refl, ◌∙◌, ◌++◌, ◌∷◌, [], ap, sym, append_assoc}
 use Rattle.std.specs.Vec.Iter.{into_iter_items}
 use Rattle.term_syntax.specs.Steps.{start}
 use Rattle.term_syntax.proofs.Outcome.{run_one}
@@ -14,14 +14,16 @@ loop-token-preserved c =
 
 pub returns-in-Err-Unexpected-clause-stopped : goal.returns-in-Err-Unexpected-clause-stopped
 returns-in-Err-Unexpected-clause-stopped c =
-    let l = c.loop-token in
-    (refl, record {
-      before = l.yielded;
-      token = c.in-Some.token;
-      after = into_iter_items c.next.new.self;
-      is = l.invariant.left ∙ ap (λ ts. l.yielded ++ ts) c.in-Some.ensures.steps.0;
-      machine = l.machine;
-      reached = l.invariant.ran;
-      stops = rw c.in-Err-Unexpected.field-0-is at c.in-Err-Unexpected.ensures;
-      place = c.place-place.ensures;
-    })
+    let l = c.loop-token in (
+      refl,
+      record {
+        before = l.yielded;
+        token = c.in-Some.token;
+        after = into_iter_items c.next.new.self;
+        is = l.invariant.left ∙ ap (λ ts. l.yielded ++ ts) c.in-Some.ensures.steps.0;
+        machine = l.machine;
+        reached = l.invariant.ran;
+        stops = rw c.in-Err-Unexpected.field-0-is at c.in-Err-Unexpected.ensures;
+        place = c.place-place.ensures;
+      },
+    )

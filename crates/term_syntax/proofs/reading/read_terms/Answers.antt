@@ -1,13 +1,15 @@
-use Rattle.std.proofs.Common.{◌≡◌, List, map, length, All, Ok, ap, sym, subst, ◌∙◌}
+use Rattle.std.proofs.Common.{List, map, All, ap, sym, subst, ◌∙◌}
 use Rattle.std.specs.Option.{IsSome}
 use Rattle.std.proofs.lemmas.Result.{err_from_is_err_and}
 use Rattle.term_model.specs.Postorder.{tree_of}
+use Rattle.term_model.specs.Tree.{IsGround}
+use Rattle.term_syntax.proofs.Ground.{all_are_ground}
 use Rattle.term_syntax.specs.declared.machine.Node.{Node}
 use Rattle.term_model.specs.declared.Item.{Item}
 use Rattle.term_syntax.specs.Fault.{IsDue}
 use Rattle.term_syntax.specs.Parts.{taken_up}
-use Rattle.term_syntax.specs.Items.{item_in, items_at, trees_at}
-use Rattle.term_syntax.proofs.Readings.{can_spell, reading, part_refusal, byte_refusal, token_refusal, only_one, no_refusal}
+use Rattle.term_syntax.specs.Items.{item_in, items_at, trees_at, IsThere}
+use Rattle.term_syntax.proofs.Readings.{held, can_spell, reading, part_refusal, token_refusal, only_one, no_refusal}
 use Rattle.term_syntax.proofs.reading.read_terms.Goals as goal
 
 pub returns-in_err-parts-clause-accepted : goal.returns-in_err-parts-clause-accepted
@@ -44,3 +46,14 @@ returns-clause-read c =
 
 pub returns-clause-only : goal.returns-clause-only
 returns-clause-only c new others r = only_one c.args.bytes.now c.args.symbols.now c.items_of.new.symbols new c.in_ok-flats.flats others (returns-clause-read c) r
+
+pub returns-clause-ground : goal.returns-clause-ground
+returns-clause-ground c = let r = returns-clause-read c in subst (All IsGround) (sym r.trees_are) (all_are_ground c.items_of.new.symbols r.terms)
+
+pub returns-clause-held : goal.returns-clause-held
+returns-clause-held c =
+    let new = c.items_of.new.symbols in
+    let items = c.in_ok-items.ensures.items ∙ ap (map (item_in new)) c.as_slice.ensures in
+    let spelled = c.in_ok-flats.ensures ∙ ap (λ is. trees_at is c.as_slice-3.result.now) c.as_slice-2.ensures.value ∙ ap (trees_at c.in_ok-items.items.items) c.as_slice-3.ensures in
+    let there = subst (All (IsThere new)) c.as_slice.ensures c.in_ok-items.ensures.there in
+    held c.in_ok-tokens.tokens.items c.in_ok-parts.parts c.in_ok-parts.terms c.in_ok-parts.ensures.read c.args.bytes.now c.in_ok-tokens.ensures.tokens new c.in_ok-items.items.items c.in_ok-flats.flats items spelled there

@@ -1,7 +1,7 @@
-use Rattle.std.proofs.Common.{◌≡◌, ◌+◌, ◌<◌, ◌≤◌, length, drop, refl, ap, sym, subst, ◌∙◌, arith, Ok}
+use Rattle.std.proofs.Common.{◌<◌, ◌≤◌, length, drop, ap, sym, subst, ◌∙◌, arith, Ok}
 use Rattle.term_syntax.specs.declared.scanner.Piece.{Piece}
 use Rattle.term_syntax.specs.declared.scanner.Piece.TheVariants.{Blank, Whole}
-use Rattle.term_syntax.specs.Tokens.{tokens_from, piece_at, next_of}
+use Rattle.term_syntax.specs.Tokens.{tokens_from, next_of}
 use Rattle.term_syntax.proofs.Cutting.{after_tokens, after_push, piece_read}
 use Rattle.term_syntax.proofs.scanner.tokens.Goals as goal
 

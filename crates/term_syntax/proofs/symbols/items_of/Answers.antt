@@ -1,6 +1,5 @@
-use Rattle.std.proofs.Common.{◌+◌, ◌++◌, ◌∷◌, [], refl, sym, subst}
+use Rattle.std.proofs.Common.{◌+◌, sym, subst}
 use Rattle.std.proofs.lemmas.Result.{err_from_is_err_and}
-use Rattle.term_syntax.specs.Items.{GrowsPool}
 use Rattle.term_syntax.proofs.Pool.{grows_on}
 use Rattle.term_syntax.proofs.TakingUp.{Taking, taking_more, part_due, part_grows}
 use Rattle.term_syntax.proofs.symbols.items_of.Goals as goal

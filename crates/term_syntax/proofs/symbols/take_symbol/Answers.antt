@@ -1,5 +1,4 @@
-use Rattle.std.proofs.Common.{◌≡◌, ◌∙◌, ap, sym, refl, Ok, Err}
-use Rattle.symbol_pool.specs.Pool.{named, IsFullFor}
+use Rattle.std.proofs.Common.{ap, refl, Err}
 use Rattle.term_syntax.proofs.Pool.{symbol_taken, symbol_refused}
 use Rattle.term_syntax.proofs.symbols.take_symbol.Goals as goal
 

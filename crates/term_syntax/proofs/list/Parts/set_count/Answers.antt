@@ -1,4 +1,4 @@
-use Rattle.std.proofs.Common.{◌≡◌, ap, sym, ◌∙◌, arith, set, length}
+use Rattle.std.proofs.Common.{ap, ◌∙◌, arith, set, length}
 use Rattle.term_syntax.specs.declared.machine.Part.{Part}
 use Rattle.term_syntax.specs.Counts.{with_count}
 use Rattle.term_syntax.proofs.Counting.{counted_at, counted_past}

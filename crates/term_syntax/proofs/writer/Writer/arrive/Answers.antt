@@ -1,8 +1,6 @@
-use Rattle.std.proofs.Common.{◌≡◌, ◌++◌, ◌∙◌, ap, sym, subst, List}
+use Rattle.std.proofs.Common.{◌++◌, ◌∙◌, ap, sym, subst}
 use Rattle.term_syntax.specs.Canonical.{spelling}
 use Rattle.term_syntax.specs.Writing.{arrive, opening, AreHeld}
-use Rattle.term_syntax.specs.declared.writer.Frame.{Frame}
-use Rattle.term_syntax.specs.declared.writer.Writer.{Writer}
 use Rattle.term_syntax.proofs.Arriving.{other_frames, arrive_first}
 use Rattle.term_syntax.proofs.writer.Writer.arrive.Goals as goal
 
