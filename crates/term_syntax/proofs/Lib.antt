@@ -1,0 +1,15 @@
+pub mod Pieces
+pub mod Cutting
+pub mod Counting
+pub mod Outcome
+pub mod Complete
+pub mod Ahead
+pub mod Viable
+pub mod Verdicts
+pub mod Pool
+pub mod TakingUp
+pub mod Spelling
+pub mod Ground
+pub mod Readings
+pub mod Arriving
+pub mod Writings

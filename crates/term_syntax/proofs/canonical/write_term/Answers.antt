@@ -1,0 +1,25 @@
+use Rattle.std.proofs.Common.{◌≡◌, ◌∙◌, ◌++◌, ◌-◌, [], take, reverse, ap, sym, subst, arith, All}
+use Rattle.term_model.specs.declared.Item.TheVariants.{Var}
+use Rattle.term_syntax.specs.declared.writer.Writer.{Writer}
+use Rattle.term_syntax.specs.Canonical.{spelling}
+use Rattle.term_syntax.specs.Writing.{all_written, IsItemHeld}
+use Rattle.term_syntax.proofs.Writings.{writer, items_held, term_is_written}
+use Rattle.term_syntax.proofs.canonical.write_term.Goals as goal
+
+pub write-requires-clause-item : goal.write-requires-clause-item
+write-requires-clause-item c =
+    let names = c.args.symbols.now in
+    let held : All (IsItemHeld names) c.items-items.result.now = subst (All (IsItemHeld names)) (sym c.items-items.ensures.items) (items_held names c.args.term.now c.requires.held) in
+    held (c.loop-at.at - 1) (Var 0) (omega (arith, c.loop-at-test.true, c.loop-at.invariant.within))
+
+pub returns-clause-written : goal.returns-clause-written
+returns-clause-written c =
+    let spell = spelling c.args.symbols.now in
+    let items = c.items-items.result.now in
+    let none : 0 ≡ c.loop-at.at = omega (arith, c.loop-at-test.false) in
+    let whole =
+    ap (λ n. all_written spell (reverse (take n items)) c.loop-at.writer) none
+    ∙ c.loop-at.invariant.written
+    ∙ ap (λ is. all_written spell (reverse is) (writer [] [] 0)) c.items-items.ensures.items
+    ∙ term_is_written spell c.args.term.now c.requires.ground c.items-items.ensures.well_formed in
+    c.in_ok-append_to.ensures.ok ∙ ap (λ (w : Writer). c.args.out.now.items ++ w.text) whole

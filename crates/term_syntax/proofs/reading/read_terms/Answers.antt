@@ -1,0 +1,59 @@
+use Rattle.std.proofs.Common.{List, map, All, ap, sym, subst, ◌∙◌}
+use Rattle.std.specs.Option.{IsSome}
+use Rattle.std.proofs.lemmas.Result.{err_from_is_err_and}
+use Rattle.term_model.specs.Postorder.{tree_of}
+use Rattle.term_model.specs.Tree.{IsGround}
+use Rattle.term_syntax.proofs.Ground.{all_are_ground}
+use Rattle.term_syntax.specs.declared.machine.Node.{Node}
+use Rattle.term_model.specs.declared.Item.{Item}
+use Rattle.term_syntax.specs.Fault.{IsDue}
+use Rattle.term_syntax.specs.Parts.{taken_up}
+use Rattle.term_syntax.specs.Items.{item_in, items_at, trees_at, IsThere}
+use Rattle.term_syntax.proofs.Readings.{held, can_spell, reading, part_refusal, token_refusal, only_one, no_refusal}
+use Rattle.term_syntax.proofs.reading.read_terms.Goals as goal
+
+pub returns-in_err-parts-clause-accepted : goal.returns-in_err-parts-clause-accepted
+returns-in_err-parts-clause-accepted c new trees r =
+    let p = err_from_is_err_and c.from_residual-in_err-parts.result c.from_residual-in_err-parts.ensures.1 in
+    let e = c.in_err-parts.field-0.0 in
+    let refusal = token_refusal c.args.bytes.now c.in_ok-tokens.tokens.items c.args.symbols.now e c.in_ok-tokens.ensures.tokens c.in_err-parts.ensures.refused in
+    rw (p.1, p.2) (no_refusal c.args.bytes.now c.args.symbols.now new trees e refusal r)
+
+pub returns-in_err-items-clause-accepted : goal.returns-in_err-items-clause-accepted
+returns-in_err-items-clause-accepted c new trees r =
+    let p = err_from_is_err_and c.from_residual-in_err-items.result c.from_residual-in_err-items.ensures.1 in
+    let e = c.in_err-items.field-0.0 in
+    let old = c.args.symbols.now in
+    let due : IsDue (taken_up old c.in_ok-parts.parts) e = subst (λ ps. IsDue (taken_up old ps) e) c.as_slice.ensures c.in_err-items.ensures.refused in
+    let refusal = part_refusal c.in_ok-tokens.tokens.items c.in_ok-parts.parts c.in_ok-parts.terms c.in_ok-parts.ensures.read c.args.bytes.now c.in_ok-tokens.ensures.tokens old e due in
+    rw (p.1, p.2) (no_refusal c.args.bytes.now old new trees e refusal r)
+
+pub flats-requires : goal.flats-requires
+flats-requires c =
+    let P : List Item → List (List Node) → Type 0 = λ is ns. All (λ n. IsSome (tree_of (items_at is n))) ns in
+    let items = c.in_ok-items.ensures.items ∙ ap (map (item_in c.items_of.new.symbols)) c.as_slice.ensures in
+    let can = can_spell c.in_ok-tokens.tokens.items c.in_ok-parts.parts c.in_ok-parts.terms c.in_ok-parts.ensures.read c.items_of.new.symbols c.in_ok-items.items.items items in
+    subst (λ is. P is c.as_slice-3.result.now) (sym c.as_slice-2.ensures.value) (subst (P c.in_ok-items.items.items) (sym c.as_slice-3.ensures) can)
+
+pub returns-clause-read : goal.returns-clause-read
+returns-clause-read c =
+    let old = c.args.symbols.now in
+    let new = c.items_of.new.symbols in
+    let taken = ap (taken_up old) (sym c.as_slice.ensures) ∙ c.in_ok-items.ensures.taken in
+    let items = c.in_ok-items.ensures.items ∙ ap (map (item_in new)) c.as_slice.ensures in
+    let spelled = c.in_ok-flats.ensures ∙ ap (λ is. trees_at is c.as_slice-3.result.now) c.as_slice-2.ensures.value ∙ ap (trees_at c.in_ok-items.items.items) c.as_slice-3.ensures in
+    reading c.in_ok-tokens.tokens.items c.in_ok-parts.parts c.in_ok-parts.terms c.in_ok-parts.ensures.read c.args.bytes.now c.in_ok-tokens.ensures.tokens old new c.in_ok-items.items.items c.in_ok-flats.flats taken items spelled
+
+pub returns-clause-only : goal.returns-clause-only
+returns-clause-only c new others r = only_one c.args.bytes.now c.args.symbols.now c.items_of.new.symbols new c.in_ok-flats.flats others (returns-clause-read c) r
+
+pub returns-clause-ground : goal.returns-clause-ground
+returns-clause-ground c = let r = returns-clause-read c in subst (All IsGround) (sym r.trees_are) (all_are_ground c.items_of.new.symbols r.terms)
+
+pub returns-clause-held : goal.returns-clause-held
+returns-clause-held c =
+    let new = c.items_of.new.symbols in
+    let items = c.in_ok-items.ensures.items ∙ ap (map (item_in new)) c.as_slice.ensures in
+    let spelled = c.in_ok-flats.ensures ∙ ap (λ is. trees_at is c.as_slice-3.result.now) c.as_slice-2.ensures.value ∙ ap (trees_at c.in_ok-items.items.items) c.as_slice-3.ensures in
+    let there = subst (All (IsThere new)) c.as_slice.ensures c.in_ok-items.ensures.there in
+    held c.in_ok-tokens.tokens.items c.in_ok-parts.parts c.in_ok-parts.terms c.in_ok-parts.ensures.read c.args.bytes.now c.in_ok-tokens.ensures.tokens new c.in_ok-items.items.items c.in_ok-flats.flats items spelled there

@@ -1,0 +1,13 @@
+use Rattle.std.proofs.Common.{ap, refl, Err}
+use Rattle.term_syntax.proofs.Pool.{symbol_taken, symbol_refused}
+use Rattle.term_syntax.proofs.symbols.take_symbol.Goals as goal
+
+pub returns-in-Ok-clause-taken : goal.returns-in-Ok-clause-taken
+returns-in-Ok-clause-taken c =
+    let e = c.in-Ok.ensures in
+    symbol_taken c.args.symbols.now c.intern.new.self c.args.name.now c.args.count c.in-Ok.symbol c.if-name-gt-LONGEST_NAME.false e.held e.added e.found (λ f. absurd (let bad = e.full.1 f in cc)) e.pool
+
+pub returns-in-Err-Full-clause-refused : goal.returns-in-Err-Full-clause-refused
+returns-in-Err-Full-clause-refused c =
+    let full = c.in-Err-Full.ensures.full.0 (ap Err c.in-Err-Full.field-0-is) in
+    rw c.refused-in-Err-Full.ensures (symbol_refused c.args.symbols.now c.args.name.now c.args.count full, refl, refl)

@@ -1,0 +1,17 @@
+-- Lists and stacks of the reader.
+use Rattle.std.specs.Prelude.{ℕ, zero, suc, List, [], ◌∷◌, Option, Some, None, Bool, true, false}
+use Rattle.term_syntax.specs.declared.machine.Part.{Part}
+
+-- the parts, where the one of this number has so many terms in it
+abbrev pub with_count : List Part → ℕ → ℕ → List Part
+with_count [] i count = []
+with_count (p ∷ ps) zero count = record p { count = count } ∷ ps
+with_count (p ∷ ps) (suc i) count = p ∷ with_count ps i count
+
+abbrev pub first_of : {A : Type 0} → List A → Option A
+first_of [] = None
+first_of (x ∷ xs) = Some x
+
+abbrev pub is_nil : {A : Type 0} → List A → Bool
+is_nil [] = true
+is_nil (x ∷ xs) = false

@@ -1,0 +1,15 @@
+pub mod Fault
+pub mod Tokens
+pub mod Written
+pub mod TermGrammar
+pub mod Refusal
+pub mod Counts
+pub mod Parts
+pub mod Named
+pub mod Nodes
+pub mod Steps
+pub mod Items
+pub mod Reading
+pub mod Text
+pub mod Canonical
+pub mod Writing

@@ -1,0 +1,62 @@
+//! Makes terms of their nodes.
+ghost use Rattle.std.specs.Prelude.{◌≡◌, ◌++◌, ◌∷◌, map, replicate, IfOk, OnOk, IsSome, Some, All, unwrap_or, slice_get};
+ghost use Rattle.term_model.specs.Postorder.{tree_of};
+ghost use Rattle.term_model.specs.declared.Item.TheVariants.{Nil, Cons};
+ghost use Rattle.term_syntax.specs.Items.{items_at, trees_at};
+
+use crate::machine::Node;
+use rec_reader::Sequence;
+use std::alloc::{AllocError, Global};
+use term_model::{Flat, Item};
+
+/// Terms in order.
+pub type Flats = Sequence<Flat>;
+
+// Puts an item at the end, and so many cells.
+fn push_items(items: &mut Vec<Item>, item: Item, cells: u32) -> Result<(), AllocError>
+    ensures { OnOk result (items.new.items ≡ items.old.items ++ item ∷ replicate cells Cons) }
+{
+    items.push(item)?;
+    for _cell in 0..cells {
+        items.push(Item::Cons)?;
+    }
+    Ok(())
+}
+
+// The item of the part with this number.
+fn item_at(items: &[Item], part: usize) -> Item
+    ensures { result ≡ unwrap_or (slice_get items.now part) Nil }
+{
+    items.get(part).copied().unwrap_or(Item::Nil)
+}
+
+// The term that nodes spell.
+fn flat_of(alloc: Global, items: &[Item], nodes: &[Node]) -> Result<Flat, AllocError>
+    requires { IsSome (tree_of (items_at items.now nodes.now)) }
+    ensures { IfOk result (λ t. tree_of (items_at items.now nodes.now) ≡ Some t) }
+{
+    let mut spelled = Vec::new(alloc);
+    for node in nodes {
+        push_items(&mut spelled, item_at(items, node.part), node.cells)?;
+    }
+    match Flat::of(spelled) {
+        Some(flat) => Ok(flat),
+        None => unreachable!(),
+    }
+}
+
+/// The terms that lists of nodes spell.
+pub(crate) fn flats(
+    alloc: Global,
+    items: &[Item],
+    terms: &[Sequence<Node>],
+) -> Result<Flats, AllocError>
+    requires { All (λ ns. IsSome (tree_of (items_at items.now ns))) terms.now }
+    ensures { IfOk result (λ f. map Some f ≡ trees_at items.now terms.now) }
+{
+    let mut flats = Sequence::new(alloc);
+    for nodes in terms {
+        flats.push(flat_of(alloc, items, nodes.as_slice())?)?;
+    }
+    Ok(flats)
+}

@@ -1,0 +1,25 @@
+//! Term text: reads terms from bytes, and writes a term as its one canonical text.
+#![tactic(auto)]
+
+mod backwards;
+mod canonical;
+mod flats;
+mod kinds;
+mod list;
+mod machine;
+mod name;
+mod parser;
+mod reading;
+mod scanner;
+mod symbols;
+#[cfg(test)]
+mod tests;
+mod token;
+mod writer;
+
+pub use canonical::write_term;
+pub use flats::Flats;
+pub use name::Name;
+pub use reading::read_terms;
+pub use rec_reader::ReadFail;
+pub use token::{Mark, Token};

@@ -1,0 +1,87 @@
+//! Takes up the symbols of parts in the order of the text.
+ghost use Rattle.std.specs.Prelude.{◌≡◌, map, Ok, IfOk, IfErr, OnOk, OnErr, All};
+ghost use Rattle.rec_reader.specs.declared.fail.ReadFail.TheVariants.{Refused};
+ghost use Rattle.term_syntax.specs.Fault.{IsDue};
+ghost use Rattle.term_syntax.specs.Parts.{taken_up};
+ghost use Rattle.term_syntax.specs.Items.{item_in, IsTakenUp, IsPartFault, IsThere, GrowsPool};
+ghost use Rattle.term_syntax.specs.Named.{IsSymbolTaken, IsSymbolRefused};
+
+use crate::kinds::{BAD_NUMBER, LIMIT};
+use crate::machine::{Kind, Part};
+use rec_reader::ReadFail;
+use std::alloc::Global;
+use symbol_pool::{PoolFault, Symbols};
+use term_model::Item;
+
+/// How many bytes a name may have.
+const LONGEST_NAME: usize = 255;
+
+fn refused(kind: u8, place: usize) -> ReadFail
+    ensures { result ≡ Refused kind place }
+{
+    ReadFail::Refused {
+        kind,
+        offset: place as u64,
+    }
+}
+
+// Takes up a name with a number of arguments.
+fn take_symbol(
+    name: &[u8],
+    count: u32,
+    place: usize,
+    symbols: &mut Symbols,
+) -> Result<Item, ReadFail>
+    ensures taken { IfOk result (λ i. IsSymbolTaken symbols.old name.now count i symbols.new) }
+    ensures refused { IfErr result (IsSymbolRefused symbols.old name.now count place) }
+    ensures unchanged { OnErr result (symbols.new ≡ symbols.old) }
+{
+    if name.len() > LONGEST_NAME {
+        return Err(refused(LIMIT, place));
+    }
+    match symbols.intern(name, count) {
+        Ok(symbol) => Ok(Item::App(symbol, count)),
+        Err(PoolFault::Full) => Err(refused(LIMIT, place)),
+        Err(PoolFault::Memory) => Err(ReadFail::Memory),
+    }
+}
+
+// Takes up the symbol of a part, if it is one.
+fn take_part(part: &Part, symbols: &mut Symbols) -> Result<Item, ReadFail>
+    ensures taken { IfOk result (λ i. IsTakenUp symbols.old part.now i symbols.new) }
+    ensures refused { IfErr result (IsPartFault symbols.old part.now) }
+    ensures unchanged { OnErr result (symbols.new ≡ symbols.old) }
+{
+    if part.over {
+        return Err(refused(LIMIT, part.place));
+    }
+    match &part.kind {
+        Kind::Symbol(name) => take_symbol(name.as_slice(), part.count, part.place, symbols),
+        Kind::Integer(Some(value)) => Ok(Item::Int(*value)),
+        Kind::Integer(None) => Err(refused(BAD_NUMBER, part.place)),
+        Kind::Brackets => Ok(Item::Nil),
+    }
+}
+
+/// The items of parts, whose symbols are taken up in order.
+///
+/// Refuses the first part with a fault at its place: with kind 13 a 17th argument, a name of more than 255
+/// bytes and a symbol too many, with kind 17 a number that isn't an integer.
+pub(crate) fn items_of(
+    alloc: Global,
+    parts: &[Part],
+    symbols: &mut Symbols,
+) -> Result<Vec<Item>, ReadFail>
+    ensures taken { OnOk result (taken_up symbols.old parts.now ≡ Ok symbols.new) }
+    ensures items { IfOk result (λ i. i.items ≡ map (item_in symbols.new) parts.now) }
+    ensures there { OnOk result (All (IsThere symbols.new) parts.now) }
+    ensures refused { IfErr result (IsDue (taken_up symbols.old parts.now)) }
+    ensures grows { GrowsPool symbols.old symbols.new }
+{
+    let mut items = Vec::new(alloc);
+    for part in parts {
+        let item = take_part(part, symbols)?;
+        items.push(item)?;
+    }
+    Ok(items)
+}
