@@ -1,0 +1,7 @@
+//! Terms as text, and how large they are.
+#![tactic(auto)]
+
+mod printing;
+
+pub use faults::Memory;
+pub use printing::Printed;
