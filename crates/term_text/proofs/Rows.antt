@@ -58,3 +58,6 @@ nodes_popped s stack rest row e = ap (nodes_of_rows s) e ∙ sum_by_push (nodes_
 
 pub nodes_of_one : (s : Store) (row : Row) → nodes_of_rows s (row ∷ []) ≡ nodes_at s row
 nodes_of_one s row = sum_by-cons (nodes_at s) row [] ∙ (let e : nodes_at s row + 0 ≡ nodes_at s row = omega arith in e)
+
+pub sound_there : (s t : Store) → t ≡ s → IsSound t → IsSound s
+sound_there s t e h = subst IsSound e h
