@@ -1,0 +1,7 @@
+pub mod Shapes
+pub mod Writing
+pub mod Rows
+pub mod Counts
+pub mod Paths
+pub mod Going
+pub mod Totals

@@ -1,0 +1,6 @@
+pub mod Text
+pub mod Nodes
+pub mod Works
+pub mod Sizes
+pub mod Tally
+pub mod Clear
