@@ -6,7 +6,7 @@ use Rattle.std.proofs.lemmas.List.{get_or_past, get_or-replicate, length-replica
 use Rattle.term_model.specs.Tree.{Tree}
 use Rattle.terms_api.specs.Terms.{IsSound}
 use Rattle.plain_store.specs.declared.store.PlainStore.TheInside.{Inside}
-use Rattle.plain_store.specs.Slots.{Slots, Slot}
+use Rattle.plain_store.specs.Slots.{Slots, Slot, free_slots}
 use Rattle.plain_store.specs.Agreement.{Agree}
 use Rattle.plain_store.specs.Contents.{Past, at_first, Contents, store_of, empty}
 use Rattle.plain_store.specs.View.{past_of, contents_of, IsRight}
@@ -22,10 +22,7 @@ none_at {A} n k =
 some_at : {A : Type 0} (n k : ℕ) (x : A) → get_or (replicate {A = Option A} n None) k None ≡ Some x → ⊥
 some_at {A} n k x e = let f : None ≡ Some x = sym (none_at {A = A} n k) ∙ e in absurd (cc)
 
-abbrev pub free_rows : ℕ → ℕ → Slots
-free_rows rows widest = record { slots = replicate rows None; widest = widest }
-
-agree_at_first : (rows widest : ℕ) → Agree (free_rows rows widest) (replicate rows None)
+agree_at_first : (rows widest : ℕ) → Agree (free_slots rows widest) (replicate rows None)
 agree_at_first rows widest =
     record {
       size = length-replicate {A = Slot} rows None ∙ sym (length-replicate {A = Option Tree} rows None);
@@ -47,14 +44,14 @@ sound_at_first rows room widest small =
       ground = λ r t e. absurd (some_at rows r.0 t e);
     }
 
-contents_at_first : (s : Inside) (rows widest : ℕ) → s.nodes ≡ free_rows rows widest → s.places.items ≡ [] → s.history.items ≡ [] → s.inside ≡ false → s.raised ≡ 0 → s.widest ≡ widest → contents_of s ≡ empty rows s.room widest
+contents_at_first : (s : Inside) (rows widest : ℕ) → s.nodes ≡ free_slots rows widest → s.places.items ≡ [] → s.history.items ≡ [] → s.inside ≡ false → s.raised ≡ 0 → s.widest ≡ widest → contents_of s ≡ empty rows s.room widest
 contents_at_first s rows widest nodes places history inside raised wide =
     let long : length s.nodes.slots ≡ rows = ap (λ (x : Slots). length x.slots) nodes ∙ length-replicate {A = Slot} rows None in
     let past : past_of s.history.items (λ v. v.items) (at_first (length s.nodes.slots)) ≡ at_first rows = ap (λ es. past_of es (λ v. v.items) (at_first (length s.nodes.slots))) history ∙ ap at_first long in
     ap (λ (p : Past). let c : Contents = record { stack = s.places.items; trees = p.trees; inside = s.inside; built = p.built; hand = p.hand; refusals = p.refusals; widest = s.widest; room = s.room; raised = s.raised } in c) past
     ∙ cc
 
-pub right_at_first : (s : Inside) (rows widest : ℕ) → s.nodes ≡ free_rows rows widest → s.places.items ≡ [] → s.history.items ≡ [] → s.inside ≡ false → s.raised ≡ 0 → s.widest ≡ widest → s.room < 2 ^ 32 → s.room ≤ vec_capacity s.places → length s.marks ≡ rows → IsRight s
+pub right_at_first : (s : Inside) (rows widest : ℕ) → s.nodes ≡ free_slots rows widest → s.places.items ≡ [] → s.history.items ≡ [] → s.inside ≡ false → s.raised ≡ 0 → s.widest ≡ widest → s.room < 2 ^ 32 → s.room ≤ vec_capacity s.places → length s.marks ≡ rows → IsRight s
 right_at_first s rows widest nodes places history inside raised wide small capacity marks =
     let long : length s.nodes.slots ≡ rows = ap (λ (x : Slots). length x.slots) nodes ∙ length-replicate {A = Slot} rows None in
     let agree : Agree s.nodes (replicate rows None) = subst (λ (x : Slots). Agree x (replicate rows None)) (sym nodes) (agree_at_first rows widest) in

@@ -1,5 +1,5 @@
 -- Rows: each is free, or has a head over the rows of its arguments.
-use Rattle.std.specs.Prelude.{◌≡◌, ℕ, Bool, true, false, List, [], Option, Some, None, length, slice_index_or, slice_set}
+use Rattle.std.specs.Prelude.{◌≡◌, ℕ, ◌<◌, Bool, true, false, List, [], Option, Some, None, length, slice_index_or, slice_set, replicate}
 use Rattle.term_model.specs.declared.Row.{Row}
 use Rattle.term_model.specs.declared.Head.{Head}
 
@@ -10,6 +10,10 @@ Slot = Option (Head × List Row)
 pub record Slots : Type 0 where
   pub slots : List Slot
   pub widest : ℕ
+
+-- so many free rows
+abbrev pub free_slots : ℕ → ℕ → Slots
+free_slots rows widest = record { slots = replicate rows None; widest = widest }
 
 abbrev pub slot_at : Slots → Row → Slot
 slot_at s r = slice_index_or s.slots r.0 None
@@ -24,6 +28,14 @@ children s r = arguments_of (slot_at s r)
 
 abbrev pub with_slot : Slots → Row → Slot → Slots
 with_slot s r n = record s { slots = slice_set s.slots r.0 n }
+
+-- no row has this
+abbrev pub HasNone : Slots → Slot → Type 0
+HasNone s slot = (k : ℕ) → slice_index_or s.slots k None ≡ slot → ⊥
+
+-- no row is free
+abbrev pub IsFull : Slots → Type 0
+IsFull s = (k : ℕ) → k < length s.slots → slice_index_or s.slots k None ≡ None → ⊥
 
 abbrev pub kept_if : Bool → Slot → Slot
 kept_if true n = n

@@ -1,9 +1,7 @@
 // Mark and sweep.
 ghost use Rattle.std.specs.Prelude.{◌≡◌, ◌<◌, ℕ, Contains, true, false, length};
-ghost use Rattle.mark_phase.specs.Reachable.{Reaches};
-ghost use Rattle.term_model.specs.declared.Row.{Row as RowOf};
 ghost use Rattle.plain_store.specs.Slots.{children, AreSwept};
-ghost use Rattle.plain_store.specs.Marked.{MarksFrom};
+ghost use Rattle.plain_store.specs.Marked.{MarksFrom, ReachesWithin};
 ghost use Rattle.plain_store.specs.Contents.{epoch_after};
 ghost use Rattle.terms_api.specs.Terms.{IsLater};
 
@@ -14,7 +12,7 @@ use term_model::Row;
 /// Marks the rows that can be reached from these.
 fn mark_all(nodes: &mut Nodes, places: &[Row], marks: &mut Marks)
     requires size { length marks.old ≡ length nodes.old.slots }
-    requires below { (p : RowOf) → Contains places.now p → (r : RowOf) → Reaches (children nodes.old) p r → r.0 < length nodes.old.slots }
+    requires below { ReachesWithin nodes.old places.now }
     ensures nodes { nodes.new ≡ nodes.old }
     ensures size { length marks.new ≡ length marks.old }
     ensures marked { MarksFrom (children nodes.old) places.now marks.new }
@@ -28,7 +26,7 @@ fn mark_all(nodes: &mut Nodes, places: &[Row], marks: &mut Marks)
 /// Frees the rows that can't be reached from these, and says whether there were any.
 pub(crate) fn keep_reachable(nodes: &mut Nodes, places: &[Row], marks: &mut Marks) -> bool
     requires size { length marks.old ≡ length nodes.old.slots }
-    requires below { (p : RowOf) → Contains places.now p → (r : RowOf) → Reaches (children nodes.old) p r → r.0 < length nodes.old.slots }
+    requires below { ReachesWithin nodes.old places.now }
     ensures size { length marks.new ≡ length marks.old }
     ensures marked { MarksFrom (children nodes.old) places.now marks.new }
     ensures swept { AreSwept marks.new nodes.old nodes.new }

@@ -22,14 +22,14 @@ pub(crate) struct Index {
 }
 
 impl Model for Index {
-    ghost use Rattle.std.specs.Prelude.{◌≡◌, ◌-◌, ◌<◌, ◌≤◌, ◌^◌, length, vec_capacity};
     ghost use Rattle.plain_store.specs.Index.{Index};
+    ghost use Rattle.plain_store.specs.Rooms.{index_of, IsIndex};
 
     ghost Value = { Index };
 
-    ghost view = { λ s. record { firsts = s.firsts.items; nexts = s.nexts.items; free = s.free.items; shift = s.shift } };
+    ghost view = { index_of };
 
-    ghost invariant = { λ s. (length s.nexts.items < 2 ^ 32) × (length s.nexts.items ≤ vec_capacity s.free) × (s.shift < 64) × (2 ^ (64 - s.shift) ≤ length s.firsts.items) };
+    ghost invariant = { IsIndex };
 }
 
 impl Index {

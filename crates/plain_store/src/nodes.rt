@@ -1,7 +1,7 @@
 // The rows of a store, each tree of which is found by its hash.
 ghost use Rattle.std.specs.Prelude.{◌≡◌, ◌+◌, ◌<◌, ◌≤◌, ◌^◌, ℕ, Option, Some, None, IfOk, IfSome, IfNone, IsSome, true, false, length, replicate, take, [], slice_get, slice_index_or};
 ghost use Rattle.std.specs.Option.{option_map};
-ghost use Rattle.plain_store.specs.Slots.{slot_at, children, with_slot, AreSwept};
+ghost use Rattle.plain_store.specs.Slots.{free_slots, slot_at, children, with_slot, HasNone, IsFull, AreSwept};
 ghost use Rattle.plain_store.specs.Index.{IsIndexed};
 
 use crate::index::{END, Index};
@@ -63,7 +63,7 @@ fn add_all(table: &Table, index: &mut Index)
 impl Nodes {
     /// So many free rows. All their memory is taken here.
     pub(crate) fn new(alloc: Global, rows: u32, widest: u32) -> Result<Nodes, Memory>
-        ensures { IfOk result (λ nodes. nodes ≡ record { slots = replicate rows None; widest = widest }) }
+        ensures { IfOk result (λ nodes. nodes ≡ free_slots rows widest) }
     {
         let table = Table::new(alloc, rows, widest)?;
         let mut index = Index::new(alloc, rows)?;
@@ -74,7 +74,7 @@ impl Nodes {
     /// The row that has this head over these rows.
     pub(crate) fn find(&self, head: Head, arguments: &[Row]) -> Option<Row>
         ensures found { IfSome result (λ row. slot_at self.now row ≡ Some (head, arguments.now)) }
-        ensures absent { IfNone result ((k : ℕ) → slice_index_or self.now.slots k None ≡ Some (head, arguments.now) → ⊥) }
+        ensures absent { IfNone result (HasNone self.now (Some (head, arguments.now))) }
     {
         let mut at = self.index.first(self.index.bucket(head, arguments));
         for passed in 0..self.table.len() {
@@ -96,8 +96,7 @@ impl Nodes {
         ensures free { IfSome result (λ row. slot_at self.old row ≡ None) }
         ensures below { IfSome result (λ row. row.0 < length self.old.slots) }
         ensures made { IfSome result (λ row. self.new ≡ with_slot self.old row (Some (head, arguments.now))) }
-        ensures full { IfNone result ((k : ℕ) → k < length self.old.slots
-            → slice_index_or self.old.slots k None ≡ None → ⊥) }
+        ensures full { IfNone result (IsFull self.old) }
         ensures unchanged { IfNone result (self.new ≡ self.old) }
     {
         let row = self.index.take_free()?;

@@ -3,7 +3,7 @@ ghost use Rattle.std.specs.Prelude.{◌≡◌, ◌+◌, ◌<◌, ◌≤◌, ◌*
 ghost use Rattle.std.specs.Option.{option_map};
 ghost use Rattle.term_model.specs.Tree.{head_eq};
 ghost use Rattle.plain_store.specs.Flat.{written};
-ghost use Rattle.plain_store.specs.Slots.{slot_at, children, with_slot, kept_if, AreSwept};
+ghost use Rattle.plain_store.specs.Slots.{free_slots, slot_at, children, with_slot, kept_if, AreSwept};
 
 use faults::Memory;
 use mark_phase::Marks;
@@ -34,15 +34,14 @@ pub(crate) struct Table {
 }
 
 impl Model for Table {
-    ghost use Rattle.std.specs.Prelude.{◌≡◌, ◌<◌, ◌*◌, ◌^◌, All, length};
     ghost use Rattle.plain_store.specs.Slots.{Slots};
-    ghost use Rattle.plain_store.specs.Flat.{slots_of, IsEntry};
+    ghost use Rattle.plain_store.specs.Rooms.{slots_in, IsTable};
 
     ghost Value = { Slots };
 
-    ghost view = { λ s. record { slots = slots_of s.widest s.entries.items s.places.items; widest = s.widest } };
+    ghost view = { slots_in };
 
-    ghost invariant = { λ s. (length s.entries.items < 2 ^ 32) × (s.widest < 2 ^ 32) × (length s.places.items ≡ length s.entries.items * s.widest) × All (IsEntry s.widest) s.entries.items };
+    ghost invariant = { IsTable };
 }
 
 fn same_head(one: Head, other: Head) -> bool
@@ -102,7 +101,7 @@ fn write(places: &mut [Row], from: usize, rows: &[Row])
 impl Table {
     /// So many free rows. All their memory is taken here.
     pub(crate) fn new(alloc: Global, rows: u32, widest: u32) -> Result<Table, Memory>
-        ensures { IfOk result (λ table. table ≡ record { slots = replicate rows None; widest = widest }) }
+        ensures { IfOk result (λ table. table ≡ free_slots rows widest) }
     {
         let entries = vec![in alloc; FREE; rows as usize]?;
         let places = vec![in alloc; Row(0); rows as usize * widest as usize]?;

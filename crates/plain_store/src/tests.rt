@@ -1,12 +1,12 @@
 //! Builds on a small store, and the small calls that any store is put through.
-ghost use Rattle.std.specs.Prelude.{◌≡◌, ◌≤◌, true};
+ghost use Rattle.std.specs.Prelude.{◌≡◌, ◌<◌, ◌≤◌, true, length};
 
 use crate::PlainStore;
 use std::alloc::Global;
 use std::collections::{BTreeMap, BTreeSet};
 use std::test::Fail;
 use term_model::{Head, Row, Symbol};
-use terms_api::{BuildFault, Deep, Terms, have_one_row};
+use terms_api::{BuildFault, Deep, Terms, have_one_row, read_back};
 
 // Builds a symbol over the last `n` places, if there are so many, and tells the fault.
 fn build_symbol<T: Terms>(terms: &mut T, symbol: u32, n: u32) -> Option<BuildFault>
@@ -168,6 +168,16 @@ fn build_list<T: Terms>(terms: &mut T, number: u64) -> Result<(), BuildFault>
     Ok(())
 }
 
+// The head of the lowest tree, read back from the top of the stack.
+fn read_lowest<T: Terms>(terms: &mut T) -> Result<Head, Deep>
+    requires inside { (T.store terms.old).inside ≡ true }
+    requires some { 0 < length (T.store terms.old).stack }
+    ensures { T.store terms.new ≡ T.store terms.old }
+{
+    let row = terms.at(0);
+    read_back(terms, row)
+}
+
 #[test]
 fn five_rows_serve_the_lists_of_two_integers(rt: HostRuntime) -> Result<(), Fail> {
     let mut store = PlainStore::new(rt.alloc(), 5, 6, 2)?;
@@ -179,6 +189,7 @@ fn five_rows_serve_the_lists_of_two_integers(rt: HostRuntime) -> Result<(), Fail
     assert_eq!(rt; store.at(0), store.at(2));
     assert_eq!(rt; store.at(1), store.at(3));
     assert!(rt; store.at(0) != store.at(1));
+    assert_eq!(rt; read_lowest(&mut store), Ok(Head::Cons));
     assert_eq!(rt; build_symbol(&mut store, 0, 0), Some(BuildFault::StoreFull));
     assert_eq!(rt; store.epoch(), Some(0));
     Ok(())

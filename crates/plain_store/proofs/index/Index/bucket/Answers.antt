@@ -7,8 +7,8 @@ pub returns-clause-below : goal.returns-clause-below
 returns-clause-below c =
     let n = c.hash_of.result in
     let k = c.self.inside.shift in
-    let whole : 64 ≡ (64 - k) + k = omega (arith, c.self.invariant.2) in
+    let whole : 64 ≡ (64 - k) + k = omega (arith, c.self.invariant.shift) in
     let below : n < 2 ^ ((64 - k) + k) = subst (λ (e : ℕ). n < 2 ^ e) whole c.hash_of.type_inv in
     let high = shr_below n (64 - k) k below in
     let long = ap (λ (x : Index). length x.firsts) c.self.view_is in
-    omega (arith, high, c.self.invariant.3, long)
+    omega (arith, high, c.self.invariant.buckets, long)

@@ -18,8 +18,8 @@ part-requires c =
     let e = c.index.result.now in
     let shown = ap (λ (x : Slots). length x.slots) c.self.view_is in
     let lt : k < length s.entries.items = omega (arith, shown, length-slots_of s.widest s.entries.items s.places.items, c.requires) in
-    let ok = subst (IsEntry s.widest) (sym c.index.ensures) (c.self.invariant.3 k e lt) in
-    omega (arith, place_below (length s.entries.items) k s.widest e.count lt ok.fits, c.self.invariant.2, ap (λ (xs : List Row). length xs) c.deref.ensures.value)
+    let ok = subst (IsEntry s.widest) (sym c.index.ensures) (c.self.invariant.entries k e lt) in
+    omega (arith, place_below (length s.entries.items) k s.widest e.count lt ok.fits, c.self.invariant.places, ap (λ (xs : List Row). length xs) c.deref.ensures.value)
 
 pub returns-clause-arguments : goal.returns-clause-arguments
 returns-clause-arguments c =
@@ -28,7 +28,7 @@ returns-clause-arguments c =
     let e = c.index.result.now in
     let shown = ap (λ (x : Slots). length x.slots) c.self.view_is in
     let lt : k < length s.entries.items = omega (arith, shown, length-slots_of s.widest s.entries.items s.places.items, c.requires) in
-    let ok = subst (IsEntry s.widest) (sym c.index.ensures) (c.self.invariant.3 k e lt) in
+    let ok = subst (IsEntry s.widest) (sym c.index.ensures) (c.self.invariant.entries k e lt) in
     let is = slot_is s.widest s.entries.items s.places.items c.args.self.now.slots k e (ap (λ (x : Slots). x.slots) c.self.view_is) c.requires c.index.ensures in
     c.part.ensures ∙ ap (λ (xs : List Row). take e.count (drop (k * s.widest) xs)) c.deref.ensures.value
     ∙ rows_of_slot s.widest e (drop (k * s.widest) s.places.items) (get_or c.args.self.now.slots k None) ok is

@@ -15,7 +15,7 @@ write-requires c =
     let shown = ap (λ (x : Slots). length x.slots) c.self.view_is in
     let wide = ap (λ (x : Slots). x.widest) c.self.view_is in
     let lt : k < length s.entries.items = omega (arith, shown, length-slots_of s.widest s.entries.items s.places.items, c.requires.below) in
-    omega (arith, place_below (length s.entries.items) k s.widest (length c.args.arguments.now) lt (omega (arith, wide, c.requires.room)), c.self.invariant.2, ap (λ (xs : List Row). length xs) c.deref_mut.ensures.value)
+    omega (arith, place_below (length s.entries.items) k s.widest (length c.args.arguments.now) lt (omega (arith, wide, c.requires.room)), c.self.invariant.places, ap (λ (xs : List Row). length xs) c.deref_mut.ensures.value)
 
 pub index_mut-requires : goal.index_mut-requires
 index_mut-requires c =
@@ -34,6 +34,6 @@ returns c =
     let lt : k < length s.entries.items = omega (arith, shown, length-slots_of s.widest s.entries.items s.places.items, c.requires.below) in
     let places = c.write.ensures.written ∙ ap (λ (xs : List Row). written xs (k * s.widest) vs) c.deref_mut.ensures.value in
     let whole = refilled s.places.len c.write.new.places (drop (length c.write.new.places) s.places.items) (omega (arith, c.write.ensures.size, s.places.ok.0, ap (λ (xs : List Row). length xs) c.deref_mut.ensures.value)) in
-    let done = set-row s.widest s.entries.items s.places.items k (k * s.widest) e vs refl lt c.self.invariant.2 c.self.invariant.3 refl (omega (arith, wide, c.requires.room)) in
+    let done = set-row s.widest s.entries.items s.places.items k (k * s.widest) e vs refl lt c.self.invariant.places c.self.invariant.entries refl (omega (arith, wide, c.requires.room)) in
     ap (λ (xs : List Slot). let x : Slots = record { slots = xs; widest = s.widest } in x) (ap (slots_of s.widest (set s.entries.items k e)) (whole ∙ places) ∙ done)
     ∙ ap (λ (x : Slots). with_slot x c.args.row (node_of c.args.head vs)) c.self.view_is

@@ -1,0 +1,28 @@
+-- What the arrays of an index and of a table show, and the room that they have.
+use Rattle.std.specs.Prelude.{◌≡◌, ◌-◌, ◌*◌, ◌^◌, ◌<◌, ◌≤◌, All, length, vec_capacity}
+use Rattle.plain_store.specs.declared.index.Index.TheInside.{Inside as IndexInside}
+use Rattle.plain_store.specs.declared.table.Table.TheInside.{Inside as TableInside}
+use Rattle.plain_store.specs.Slots.{Slots}
+use Rattle.plain_store.specs.Index.{Index}
+use Rattle.plain_store.specs.Flat.{slots_of, IsEntry}
+
+abbrev pub index_of : IndexInside → Index
+index_of s =
+    record { firsts = s.firsts.items; nexts = s.nexts.items; free = s.free.items; shift = s.shift }
+
+-- There is room for each row on the stack of free rows, and each hash has its bucket.
+pub record IsIndex (s : IndexInside) : Type 0 where
+  pub rows : length s.nexts.items < 2 ^ 32
+  pub free : length s.nexts.items ≤ vec_capacity s.free
+  pub shift : s.shift < 64
+  pub buckets : 2 ^ (64 - s.shift) ≤ length s.firsts.items
+
+abbrev pub slots_in : TableInside → Slots
+slots_in s = record { slots = slots_of s.widest s.entries.items s.places.items; widest = s.widest }
+
+-- Each row has as many places as the widest.
+pub record IsTable (s : TableInside) : Type 0 where
+  pub rows : length s.entries.items < 2 ^ 32
+  pub widest : s.widest < 2 ^ 32
+  pub places : length s.places.items ≡ length s.entries.items * s.widest
+  pub entries : All (IsEntry s.widest) s.entries.items
