@@ -60,6 +60,27 @@ fn add_all(table: &Table, index: &mut Index)
     }
 }
 
+// Frees the rows that aren't marked, puts the others where they are looked for, and says whether
+// there were any to free.
+fn sweep_rows(table: &mut Table, index: &mut Index, marks: &Marks) -> bool
+    requires marks { length marks.now ≡ length table.old.slots }
+    requires room { length index.old.nexts ≡ length table.old.slots }
+    requires none { IsIndexed [] index.old }
+    ensures swept { AreSwept marks.now table.old table.new }
+    ensures none { result ≡ false → table.new ≡ table.old }
+    ensures indexed { IsIndexed table.new.slots index.new }
+    ensures room { length index.new.nexts ≡ length index.old.nexts }
+{
+    let mut lost = false;
+    for i in 0..table.len() {
+        let kept = marks.has(Row(i));
+        let freed = table.keep_if(Row(i), kept);
+        add(table, index, Row(i));
+        lost = lost || freed;
+    }
+    lost
+}
+
 impl Nodes {
     /// So many free rows. All their memory is taken here.
     pub(crate) fn new(alloc: Global, rows: u32, widest: u32) -> Result<Nodes, Memory>
@@ -112,10 +133,8 @@ impl Nodes {
         ensures swept { AreSwept marks.now self.old self.new }
         ensures none { result ≡ false → self.new ≡ self.old }
     {
-        let lost = self.table.sweep(marks);
         self.index.clear();
-        add_all(&self.table, &mut self.index);
-        lost
+        sweep_rows(&mut self.table, &mut self.index, marks)
     }
 
     /// The head of a row, which a free row doesn't have.

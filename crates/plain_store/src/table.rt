@@ -3,10 +3,9 @@ ghost use Rattle.std.specs.Prelude.{◌≡◌, ◌+◌, ◌<◌, ◌≤◌, ◌*
 ghost use Rattle.std.specs.Option.{option_map};
 ghost use Rattle.term_model.specs.Tree.{head_eq};
 ghost use Rattle.plain_store.specs.Flat.{written};
-ghost use Rattle.plain_store.specs.Slots.{free_slots, slot_at, children, with_slot, kept_if, AreSwept};
+ghost use Rattle.plain_store.specs.Slots.{free_slots, slot_at, children, with_slot, kept_if};
 
 use faults::Memory;
-use mark_phase::Marks;
 use std::alloc::Global;
 use std::marker::Model;
 use term_model::{Head, Row};
@@ -138,23 +137,8 @@ impl Table {
         };
     }
 
-    /// Frees the rows that aren't marked, and says whether there were any.
-    pub(crate) fn sweep(&mut self, marks: &Marks) -> bool
-        requires { length marks.now ≡ length self.old.slots }
-        ensures swept { AreSwept marks.now self.old self.new }
-        ensures none { result ≡ false → self.new ≡ self.old }
-    {
-        let mut lost = false;
-        for i in 0..self.len() {
-            let kept = marks.has(Row(i));
-            let freed = self.keep_if(Row(i), kept);
-            lost = lost || freed;
-        }
-        lost
-    }
-
-    // Frees the row unless it is to be kept, and says whether it wasn't free.
-    fn keep_if(&mut self, row: Row, kept: bool) -> bool
+    /// Frees the row unless it is to be kept, and says whether it wasn't free.
+    pub(crate) fn keep_if(&mut self, row: Row, kept: bool) -> bool
         requires { row.0 < length self.old.slots }
         ensures kept { self.new ≡ with_slot self.old row (kept_if kept (slot_at self.old row)) }
         ensures none { result ≡ false → self.new ≡ self.old }

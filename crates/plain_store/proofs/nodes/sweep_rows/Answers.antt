@@ -1,0 +1,57 @@
+use Rattle.std.proofs.Common.{◌≡◌, ◌∙◌, ◌+◌, ◌<◌, ◌≤◌, false, sym, ap, length, take, arith, get_or, refl, subst, List}
+use Rattle.std.proofs.lemmas.List.{take-set, length-set, take_all}
+use Rattle.term_model.specs.declared.Row.{Row}
+use Rattle.term_model.proofs.Members.{same_test}
+use Rattle.plain_store.specs.Slots.{Slots, Slot, slot_at, kept_if}
+use Rattle.plain_store.specs.Index.{IsIndexed}
+use Rattle.plain_store.proofs.Rows.{Sweeping, sweeping_none, sweeping_more, sweeping_all}
+use Rattle.plain_store.proofs.nodes.sweep_rows.Goals as goal
+use Rattle.plain_store.proofs.nodes.sweep_rows.Goals.{then-lost, else-lost}
+
+pub loop-i-init : goal.loop-i-init
+loop-i-init c =
+    record { rows = sweeping_none c.args.marks.now c.args.table.now; none = λ h. refl; indexed = c.requires.none; room = refl }
+
+pub add-requires-clause-before : goal.add-requires-clause-before
+add-requires-clause-before c =
+    let was = c.loop-i.table in
+    let row : Row = record { 0 = c.loop-i.i } in
+    let v = kept_if c.has-kept.result (slot_at was row) in
+    let same = ap (λ (s : Slots). take c.loop-i.i s.slots) c.keep_if-freed.ensures.kept ∙ take-set was.slots c.loop-i.i v in
+    subst (λ (xs : List Slot). IsIndexed xs c.loop-i.index) (sym same) c.loop-i.invariant.indexed
+
+pub add-requires-clause-room : goal.add-requires-clause-room
+add-requires-clause-room c =
+    let was = c.loop-i.table in
+    let row : Row = record { 0 = c.loop-i.i } in
+    let v = kept_if c.has-kept.result (slot_at was row) in
+    let long = ap (λ (s : Slots). length s.slots) c.keep_if-freed.ensures.kept ∙ length-set was.slots c.loop-i.i v in
+    omega (arith, long, c.loop-i.invariant.rows.size, c.loop-i.invariant.room, c.requires.room)
+
+pub loop-i-preserved : goal.loop-i-preserved
+loop-i-preserved c =
+    let row : Row = record { 0 = c.loop-i.i } in
+    let told = same_test c.has-kept.result (get_or c.args.marks.now c.loop-i.i false) c.has-kept.ensures.0 c.has-kept.ensures.1 in
+    let below : c.loop-i.i < length c.loop-i.table.slots = omega (arith, c.loop-i.invariant.rows.size, c.len-i-end.ensures) in
+    record {
+      rows = subst (λ (s : Slots). Sweeping c.args.marks.now c.args.table.now s (c.loop-i.i + 1)) (sym c.keep_if-freed.ensures.kept)
+          (sweeping_more c.args.marks.now c.args.table.now c.loop-i.table row c.has-kept.result c.loop-i.invariant.rows below told);
+      none = elim c.if-lost.branch [
+        | then-lost w ↦ (λ h. absurd (cc))
+        | else-lost w ↦ (λ h. c.keep_if-freed.ensures.none (sym w.lost-is ∙ h) ∙ c.loop-i.invariant.none w.if-lost.false)
+      ];
+      indexed = c.add.ensures.indexed;
+      room = c.add.ensures.room ∙ c.loop-i.invariant.room;
+    }
+
+pub returns-clause-swept : goal.returns-clause-swept
+returns-clause-swept c = sweeping_all _ _ _ c.loop-i.i c.loop-i.invariant.rows (omega arith)
+
+pub returns-clause-none : goal.returns-clause-none
+returns-clause-none c = c.loop-i.invariant.none
+
+pub returns-clause-indexed : goal.returns-clause-indexed
+returns-clause-indexed c =
+    let slots = c.loop-i.table.slots in
+    let over : length slots ≤ c.loop-i.i = omega (arith, c.loop-i.invariant.rows.size, c.len-i-end.ensures) in
+    subst (λ (xs : List Slot). IsIndexed xs c.loop-i.index) (take_all c.loop-i.i slots over) c.loop-i.invariant.indexed
