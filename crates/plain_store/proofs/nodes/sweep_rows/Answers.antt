@@ -1,4 +1,4 @@
-use Rattle.std.proofs.Common.{◌≡◌, ◌∙◌, ◌+◌, ◌<◌, ◌≤◌, false, sym, ap, length, take, arith, get_or, refl, subst, List}
+use Rattle.std.proofs.Common.{◌∙◌, ◌+◌, ◌<◌, ◌≤◌, false, sym, ap, length, take, arith, get_or, refl, subst, List}
 use Rattle.std.proofs.lemmas.List.{take-set, length-set, take_all}
 use Rattle.term_model.specs.declared.Row.{Row}
 use Rattle.term_model.proofs.Members.{same_test}
