@@ -13,3 +13,6 @@ pub mod Ground
 pub mod Readings
 pub mod Arriving
 pub mod Writings
+pub mod TokensBack
+pub mod TermsBack
+pub mod LinesBack
