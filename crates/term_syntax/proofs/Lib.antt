@@ -9,6 +9,7 @@ pub mod Verdicts
 pub mod Pool
 pub mod TakingUp
 pub mod Spelling
+pub mod Numbering
 pub mod Ground
 pub mod Readings
 pub mod Arriving

@@ -1,7 +1,9 @@
 -- What was read is the one reading of the bytes.
-use Rattle.std.proofs.Common.{◌≡◌, ◌∙◌, ℕ, List, [], ◌∷◌, length, map, refl, ap, sym, subst, append_assoc, inl, inr, Option, Some, Ok, Err, All}
+use Rattle.std.proofs.Common.{◌≡◌, ◌∙◌, ℕ, ◌+◌, ◌≤◌, List, [], ◌∷◌, length, map, refl, ap, sym, subst, arith, append_assoc, inl, inr, Option, Some, Ok, Err, All}
 use Rattle.std.specs.Option.{IsSome, is_some, unwrap_or}
 use Rattle.std.proofs.lemmas.List.Elements.{All-nil, All-cons}
+use Rattle.std.proofs.lemmas.List.{length-map}
+use Rattle.term_syntax.proofs.Numbering.{input_within}
 use Rattle.rec_reader.specs.declared.fail.ReadFail.{ReadFail}
 use Rattle.rec_reader.specs.declared.fail.ReadFail.TheVariants.{Refused, Memory}
 use Rattle.term_model.specs.Tree.{Tree}
@@ -19,7 +21,7 @@ use Rattle.term_syntax.specs.Refusal.{AreRefused, IsSyntaxRefusal}
 use Rattle.term_syntax.specs.Parts.{parts_of_input, taken_up, tree_in}
 use Rattle.term_syntax.specs.Nodes.{nodes_of_input}
 use Rattle.term_syntax.specs.Steps.{start, IsRead}
-use Rattle.term_syntax.specs.Items.{item_in, items_at, trees_at, IsThere}
+use Rattle.term_syntax.specs.Items.{item_in, items_at, trees_at, IsThere, AreWithin}
 use Rattle.term_syntax.specs.Text.{HasNames}
 use Rattle.term_syntax.proofs.Ground.{all_are_named}
 use Rattle.term_syntax.specs.Reading.{Spells, IsReading, IsRefusal}
@@ -72,6 +74,12 @@ module _ (tokens : List Token) (parts : List Part) (nodes : List (List Node)) (r
 
   pub can_spell : (pool : List Named) (items : List Item) → items ≡ map (item_in pool) parts → All (λ n. IsSome (tree_of (items_at items n))) nodes
   can_spell pool items e = all_some items nodes (map (tree_in pool) r.0) (trees_are pool items e)
+
+  -- each node has the number of a part
+  pub within : (pool : List Named) (items : List Item) → items ≡ map (item_in pool) parts → All (AreWithin (length items)) nodes
+  within pool items e =
+      let n : length items ≡ length (parts_of_input r.0) = ap length e ∙ length-map parts (item_in pool) ∙ ap length parts_are in
+      subst (All (AreWithin (length items))) (sym nodes_are) (input_within (length items) r.0 0 (omega (arith, n)))
 
   module _ (bytes : List ℕ) (cut : tokens_of bytes ≡ Ok tokens) where
     spelled : Spells bytes r.0
