@@ -11,6 +11,8 @@ pub mod TakingUp
 pub mod Spelling
 pub mod Numbering
 pub mod Ground
+pub mod GoodTokens
+pub mod Writable
 pub mod Readings
 pub mod Arriving
 pub mod Writings

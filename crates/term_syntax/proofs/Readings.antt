@@ -23,6 +23,9 @@ use Rattle.term_syntax.specs.Nodes.{nodes_of_input}
 use Rattle.term_syntax.specs.Steps.{start, IsRead}
 use Rattle.term_syntax.specs.Items.{item_in, items_at, trees_at, IsThere, AreWithin}
 use Rattle.term_syntax.specs.Text.{HasNames}
+use Rattle.term_syntax.specs.Canonical.{IsWritable}
+use Rattle.term_syntax.proofs.GoodTokens.{tokens_good}
+use Rattle.term_syntax.proofs.Writable.{input_writable}
 use Rattle.term_syntax.proofs.Ground.{all_are_named}
 use Rattle.term_syntax.specs.Reading.{Spells, IsReading, IsRefusal}
 use Rattle.term_syntax.proofs.Outcome.{Read, outcome}
@@ -98,6 +101,12 @@ module _ (tokens : List Token) (parts : List Part) (nodes : List (List Node)) (r
     held new items trees e f there =
         subst (All (HasNames new)) (sym (same_somes trees (map (tree_in new) r.0) (f ∙ trees_are new items e)))
         (all_are_named new r.0 (subst (All (IsThere new)) parts_are there))
+
+    -- the trees can be written so that they are read back
+    pub can_be_written : (old new : List Named) (items : List Item) (trees : List Tree) → taken_up old parts ≡ Ok new → items ≡ map (item_in new) parts → map Some trees ≡ trees_at items nodes → All (IsThere new) parts → All (IsWritable new) trees
+    can_be_written old new items trees t e f there =
+        subst (All (IsWritable new)) (sym (same_somes trees (map (tree_in new) r.0) (f ∙ trees_are new items e)))
+        (input_writable old new r.1 (tokens_good bytes tokens cut) (ap (taken_up old) (sym parts_are) ∙ t) (subst (All (IsThere new)) parts_are there))
 
     -- the parts are refused
     pub part_refusal : (old : List Named) (e : ReadFail) → IsDue (taken_up old parts) e → IsRefusal bytes old e

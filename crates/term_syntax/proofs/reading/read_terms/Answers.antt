@@ -9,7 +9,7 @@ use Rattle.term_model.specs.declared.Item.{Item}
 use Rattle.term_syntax.specs.Fault.{IsDue}
 use Rattle.term_syntax.specs.Parts.{taken_up}
 use Rattle.term_syntax.specs.Items.{item_in, items_at, trees_at, IsThere, AreWithin}
-use Rattle.term_syntax.proofs.Readings.{held, within, can_spell, reading, part_refusal, token_refusal, only_one, no_refusal}
+use Rattle.term_syntax.proofs.Readings.{held, can_be_written, within, can_spell, reading, part_refusal, token_refusal, only_one, no_refusal}
 use Rattle.term_syntax.proofs.reading.read_terms.Goals as goal
 
 pub returns-in_err-parts-clause-accepted : goal.returns-in_err-parts-clause-accepted
@@ -63,3 +63,12 @@ flats-requires-clause-within c =
     let items = c.in_ok-items.ensures.items ∙ ap (map (item_in c.items_of.new.symbols)) c.as_slice.ensures in
     let can = within c.in_ok-tokens.tokens.items c.in_ok-parts.parts c.in_ok-parts.terms c.in_ok-parts.ensures.read c.items_of.new.symbols c.in_ok-items.items.items items in
     subst (λ is. All (AreWithin (length is)) c.as_slice-3.result.now) (sym c.as_slice-2.ensures.value) (subst (All (AreWithin (length c.in_ok-items.items.items))) (sym c.as_slice-3.ensures) can)
+
+pub returns-clause-writable : goal.returns-clause-writable
+returns-clause-writable c =
+    let new = c.items_of.new.symbols in
+    let taken = ap (taken_up c.args.symbols.now) (sym c.as_slice.ensures) ∙ c.in_ok-items.ensures.taken in
+    let items = c.in_ok-items.ensures.items ∙ ap (map (item_in new)) c.as_slice.ensures in
+    let spelled = c.in_ok-flats.ensures ∙ ap (λ is. trees_at is c.as_slice-3.result.now) c.as_slice-2.ensures.value ∙ ap (trees_at c.in_ok-items.items.items) c.as_slice-3.ensures in
+    let there = subst (All (IsThere new)) c.as_slice.ensures c.in_ok-items.ensures.there in
+    can_be_written c.in_ok-tokens.tokens.items c.in_ok-parts.parts c.in_ok-parts.terms c.in_ok-parts.ensures.read c.args.bytes.now c.in_ok-tokens.ensures.tokens c.args.symbols.now new c.in_ok-items.items.items c.in_ok-flats.flats taken items spelled there
