@@ -1,12 +1,12 @@
 -- The names of tokens are printable, and their integers have at most 64 bits.
-use Rattle.std.proofs.Common.{◌≡◌, ◌≤◌, ◌<◌, ◌∙◌, ℕ, zero, suc, ◌+◌, ◌-◌, List, [], ◌∷◌, ◌++◌, length, take, refl, ap, sym, subst, arith, Bool, true, false, ◌&&◌, ◌||◌, cond, eqb, leb, Option, Some, None, Result, Ok, Err}
+use Rattle.std.proofs.Common.{◌≡◌, ◌∙◌, ℕ, zero, suc, ◌+◌, ◌-◌, List, [], ◌∷◌, take, refl, ap, subst, arith, Bool, true, false, ◌&&◌, ◌||◌, cond, eqb, leb, Option, Some, None, Result, Ok, Err}
 use Rattle.std.specs.List.{list_all}
 use Rattle.std.specs.Char.{is_ascii_digit}
 use Rattle.std.specs.Str.Parse.{digits_value}
 use Rattle.std.proofs.lemmas.Bool.Decides.{nat_tests}
 use Rattle.std.proofs.Math.Numerals.{add-one}
-use Rattle.term_model.proofs.Order.{both_hold, both}
-use Rattle.term_syntax.specs.Fault.{Fault, fault}
+use Rattle.term_model.proofs.Order.{both}
+use Rattle.term_syntax.specs.Fault.{Fault}
 use Rattle.term_syntax.specs.declared.token.Token.{Token}
 use Rattle.term_syntax.specs.declared.token.Token.TheVariants.{Word, Number, At}
 use Rattle.term_syntax.specs.declared.token.Mark.{Mark}
@@ -14,7 +14,7 @@ use Rattle.term_syntax.specs.declared.scanner.Piece.{Piece}
 use Rattle.term_syntax.specs.declared.scanner.Piece.TheVariants.{Blank, Whole}
 use Rattle.term_syntax.specs.declared.scanner.Role.{Role}
 use Rattle.term_syntax.specs.declared.scanner.Role.TheVariants.{Closes, Escapes, Stands, Bad}
-use Rattle.term_syntax.specs.Tokens.{is_space, begins_name, continues_name, is_printable, front_length, integer_of, up_to_most, is_longer_than_one, begins_with_zero, quoted, by_role, role_of, with_byte, quoted_piece, plain_piece, number_piece, mark_piece, mark_of, piece_at, next_of, after_token, after_piece, read_piece, tokens_from, tokens_of}
+use Rattle.term_syntax.specs.Tokens.{is_space, begins_name, continues_name, is_printable, front_length, integer_of, up_to_most, is_longer_than_one, begins_with_zero, quoted, by_role, role_of, with_byte, quoted_piece, mark_piece, mark_of, piece_at, after_token, read_piece, tokens_from, tokens_of}
 
 abbrev pub is_good_number : Option ℕ → Bool
 is_good_number (Some v) = leb v 18446744073709551615

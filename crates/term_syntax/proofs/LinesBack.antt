@@ -7,12 +7,12 @@ use Rattle.term_syntax.specs.declared.token.Token.{Token}
 use Rattle.term_syntax.specs.Tokens.{tokens_from}
 use Rattle.term_syntax.specs.Written.{Written}
 use Rattle.term_syntax.specs.TermGrammar.{IsInput, none, next}
-use Rattle.term_syntax.specs.Parts.{parts_of, parts_of_input, taken_up, tree_in}
+use Rattle.term_syntax.specs.Parts.{parts_of_input, taken_up, tree_in}
 use Rattle.term_syntax.specs.Canonical.{canonical, canonical_lines, IsWritable}
 use Rattle.term_syntax.specs.Reading.{IsReading}
 use Rattle.term_syntax.proofs.Cutting.{after_tokens}
-use Rattle.term_syntax.proofs.TokensBack.{Stops, line_feed_back}
-use Rattle.term_syntax.proofs.TermsBack.{IsBack, tree_back}
+use Rattle.term_syntax.proofs.TokensBack.{line_feed_back}
+use Rattle.term_syntax.proofs.TermsBack.{tree_back}
 use Rattle.term_syntax.proofs.Readings.{only_one}
 
 module _ (names : List Named) (pool : IsPool names) where

@@ -1,5 +1,5 @@
 -- What was read is the one reading of the bytes.
-use Rattle.std.proofs.Common.{◌≡◌, ◌∙◌, ℕ, ◌+◌, ◌≤◌, List, [], ◌∷◌, length, map, refl, ap, sym, subst, arith, append_assoc, inl, inr, Option, Some, Ok, Err, All}
+use Rattle.std.proofs.Common.{◌≡◌, ◌∙◌, ℕ, List, [], ◌∷◌, length, map, refl, ap, sym, subst, arith, append_assoc, inl, inr, Option, Some, Ok, Err, All}
 use Rattle.std.specs.Option.{IsSome, is_some, unwrap_or}
 use Rattle.std.proofs.lemmas.List.Elements.{All-nil, All-cons}
 use Rattle.std.proofs.lemmas.List.{length-map}

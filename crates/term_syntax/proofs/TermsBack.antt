@@ -1,5 +1,5 @@
 -- The canonical text of a term is read back as that term.
-use Rattle.std.proofs.Common.{◌≡◌, ◌≢◌, ◌≤◌, ◌<◌, ◌∙◌, ℕ, zero, suc, ◌+◌, ◌-◌, List, [], ◌∷◌, ◌++◌, length, length-append, refl, ap, sym, subst, arith, append_assoc, append-nil, Bool, true, false, ◌&&◌, cond, eqb, leb, ◌||◌, not, Option, Some, None, Result, Ok, Err, decimal, codes, slice_get}
+use Rattle.std.proofs.Common.{◌≡◌, ◌≤◌, ◌<◌, ◌∙◌, ℕ, ◌+◌, List, [], ◌∷◌, ◌++◌, length, length-append, refl, ap, sym, subst, arith, append_assoc, append-nil, Bool, true, false, ◌&&◌, cond, eqb, leb, ◌||◌, not, Option, Some, None, Result, Ok, Err, decimal, codes, slice_get}
 use Rattle.std.specs.Prelude.{unwrap_or}
 use Rattle.std.specs.List.{list_all}
 use Rattle.std.specs.Option.{option_map}
@@ -9,12 +9,12 @@ use Rattle.term_model.specs.declared.Head.TheVariants.{App, Int, Nil, Cons}
 use Rattle.term_model.specs.Tree as tree
 use Rattle.term_model.specs.Tree.{Tree, Trees, Leaf, Node, is_well_formed, all_well_formed, may_be_list}
 use Rattle.term_model.proofs.Order.{both_hold}
-use Rattle.symbol_pool.specs.Pool.{Named, named, name_at, IsPool, most_symbols}
+use Rattle.symbol_pool.specs.Pool.{Named, named, IsPool, most_symbols}
 use Rattle.term_syntax.specs.declared.token.Token.{Token}
 use Rattle.term_syntax.specs.declared.token.Token.TheVariants.{Word, Number, At}
 use Rattle.term_syntax.specs.declared.token.Mark.{Mark}
 use Rattle.term_syntax.specs.declared.token.Mark.TheVariants.{Open, Close, OpenList, CloseList, Comma}
-use Rattle.term_syntax.specs.declared.machine.Kind.TheVariants.{Symbol, Integer, Brackets}
+use Rattle.term_syntax.specs.declared.machine.Kind.TheVariants.{Symbol}
 use Rattle.term_syntax.specs.declared.machine.Part.{Part}
 use Rattle.term_syntax.specs.declared.kinds.TheConstants.{LIMIT}
 use Rattle.term_syntax.specs.Fault.{Fault, fault}
@@ -22,13 +22,13 @@ use Rattle.term_syntax.specs.Tokens.{is_printable, tokens_from, after_token}
 use Rattle.term_syntax.specs.Written.{Written, Call, Digits, Listed, Writtens, End, More, count_of}
 use Rattle.term_syntax.specs.TermGrammar.{IsTerm, constant, call, number, empty, list, AreTerms, only, more}
 use Rattle.term_syntax.specs.Parts.{parts_of, parts_of_all, number_of, has, is_full_for, part_fault, taken_up, tree_in, trees_in, cells_in}
-use Rattle.term_syntax.specs.Text.{text_by, in_parentheses, after_commas, elements, further_elements}
+use Rattle.term_syntax.specs.Text.{text_by, after_commas, further_elements}
 use Rattle.term_syntax.specs.Canonical.{spelled_name, spelling, is_writable_symbol, is_writable, all_writable}
 use Rattle.term_syntax.proofs.Cutting.{after_tokens}
 use Rattle.term_syntax.proofs.Spelling.{counted as counted_in}
 use Rattle.term_syntax.proofs.Pool.{number_is, has_from, with_old}
 use Rattle.term_syntax.proofs.TakingUp.{taken_one}
-use Rattle.term_syntax.proofs.TokensBack.{Stops, name_back, number_back, mark_back, line_feed_back}
+use Rattle.term_syntax.proofs.TokensBack.{Stops, name_back, number_back, mark_back}
 
 -- reading goes on behind tokens
 abbrev Cut : ℕ → List ℕ → List Token → List ℕ → Type 0

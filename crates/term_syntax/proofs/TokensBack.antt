@@ -1,26 +1,20 @@
 -- What is written as a token is cut off as that token.
-use Rattle.std.proofs.Common.{◌≡◌, ◌≢◌, ◌≤◌, ◌<◌, ◌^◌, ◌∙◌, ℕ, zero, suc, ◌+◌, ◌-◌, List, [], ◌∷◌, ◌++◌, length, length-append, take, drop, get_or, refl, ap, sym, subst, arith, append_assoc, Bool, true, false, ◌&&◌, ◌||◌, cond, eqb, leb, Option, Some, None, Result, Ok, Err, decimal, inl, inr, codes}
+use Rattle.std.proofs.Common.{◌≡◌, ◌≤◌, ◌<◌, ◌^◌, ◌∙◌, ℕ, zero, suc, ◌+◌, ◌-◌, List, [], ◌∷◌, ◌++◌, length, length-append, take, get_or, refl, ap, sym, arith, Bool, true, false, ◌&&◌, ◌||◌, cond, eqb, leb, Some, None, Ok, decimal}
 use Rattle.std.specs.List.{list_all}
 use Rattle.std.specs.Char.{is_ascii_digit, digit_value}
 use Rattle.std.specs.Str.Parse.{AllDigits, digits_value}
-use Rattle.std.specs.Cmp.{first_so, second_so}
 use Rattle.std.proofs.lemmas.List.{take_at, drop_at}
-use Rattle.std.proofs.lemmas.Bool.{leb-true, le-leb, lt-leb, ne_eqb, eqb-true}
+use Rattle.std.proofs.lemmas.Bool.{le-leb, ne_eqb}
 use Rattle.std.proofs.lemmas.Bool.Decides.{nat_tests}
 use Rattle.std.proofs.lemmas.Str.Parse.{digit_from_value}
 use Rattle.std.proofs.lemmas.Fmt.{decimal_is_IsNumeral, first_decimal, decimal_digit}
-use Rattle.std.proofs.Math.Numerals.{add-one}
 use Rattle.term_model.proofs.Order.{both_hold, both}
-use Rattle.term_syntax.specs.Fault.{Fault, fault}
 use Rattle.term_syntax.specs.declared.token.Token.{Token}
 use Rattle.term_syntax.specs.declared.token.Token.TheVariants.{Word, Number, At}
 use Rattle.term_syntax.specs.declared.token.Mark.{Mark}
-use Rattle.term_syntax.specs.declared.token.Mark.TheVariants.{Open, Close, OpenList, CloseList, Comma}
-use Rattle.term_syntax.specs.declared.scanner.Piece.{Piece}
-use Rattle.term_syntax.specs.declared.scanner.Piece.TheVariants.{Blank, Whole}
-use Rattle.term_syntax.specs.declared.scanner.Role.{Role}
+use Rattle.term_syntax.specs.declared.scanner.Piece.TheVariants.{Whole}
 use Rattle.term_syntax.specs.declared.scanner.Role.TheVariants.{Closes, Escapes, Stands, Bad}
-use Rattle.term_syntax.specs.Tokens.{is_space, begins_name, continues_name, is_printable, front_length, integer_of, up_to_most, is_longer_than_one, begins_with_zero, quoted, by_role, role_of, with_byte, quoted_piece, plain_piece, number_piece, mark_piece, mark_of, piece_at, read_piece, tokens_from, after_token}
+use Rattle.term_syntax.specs.Tokens.{is_space, begins_name, continues_name, is_printable, front_length, integer_of, up_to_most, is_longer_than_one, begins_with_zero, quoted, by_role, role_of, with_byte, quoted_piece, plain_piece, number_piece, piece_at, read_piece, tokens_from, after_token}
 use Rattle.term_syntax.specs.Canonical.{is_plain, escaped, spelled_name}
 use Rattle.term_syntax.proofs.Cutting.{passed_over}
 

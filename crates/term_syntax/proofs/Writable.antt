@@ -1,15 +1,12 @@
 -- What was read can be written so that it is read back.
-use Rattle.std.proofs.Common.{◌≡◌, ◌≤◌, ◌<◌, ◌∙◌, ℕ, zero, suc, ◌+◌, List, [], ◌∷◌, ◌++◌, length, map, slice_get, refl, ap, sym, subst, arith, Bool, true, false, not, ◌&&◌, ◌||◌, ◌==◌, cond, eqb, leb, ltb, Option, Some, None, Result, Ok, Err, All}
+use Rattle.std.proofs.Common.{◌≡◌, ◌≤◌, ◌<◌, ◌∙◌, ℕ, ◌+◌, List, [], ◌∷◌, length, map, slice_get, refl, ap, sym, subst, arith, Bool, true, false, ◌&&◌, ◌||◌, ◌==◌, cond, eqb, leb, ltb, Option, Some, None, Ok, All}
 use Rattle.std.specs.List.{list_all}
 use Rattle.std.proofs.lemmas.Bool.{eq-eqb, eqb-false, le-leb, ltb-true, ltb-false}
 use Rattle.std.proofs.lemmas.List.Elements.{All-head, All-tail, All-nil, All-cons}
-use Rattle.term_model.specs.Tree as tree
-use Rattle.term_model.specs.Tree.{Tree, Trees}
 use Rattle.term_model.proofs.Order.{both_hold, both}
 use Rattle.symbol_pool.specs.Pool.{Named, named}
 use Rattle.term_syntax.specs.Fault.{Fault, fault}
 use Rattle.term_syntax.specs.declared.token.Token.{Token}
-use Rattle.term_syntax.specs.declared.token.Token.TheVariants.{Word, Number, At}
 use Rattle.term_syntax.specs.declared.machine.Kind.{Kind}
 use Rattle.term_syntax.specs.declared.machine.Kind.TheVariants.{Symbol, Integer, Brackets}
 use Rattle.term_syntax.specs.declared.machine.Part.{Part}
@@ -23,7 +20,7 @@ use Rattle.term_syntax.specs.Canonical.{is_writable_symbol, is_writable, all_wri
 use Rattle.term_syntax.proofs.Pool.{number_holds}
 use Rattle.term_syntax.proofs.Spelling.{counted, is_tree}
 use Rattle.term_syntax.proofs.Ground.{All-left, All-right}
-use Rattle.term_syntax.proofs.GoodTokens.{is_good_number, is_good, are_good}
+use Rattle.term_syntax.proofs.GoodTokens.{is_good_number, are_good}
 
 -- the names of a written term are printable, and its integers have at most 64 bits
 abbrev mutual
