@@ -12,10 +12,10 @@ use Rattle.term_syntax.specs.Parts.{parts_of, parts_of_all, parts_of_input, tree
 use Rattle.term_syntax.specs.Items.{IsThere}
 use Rattle.term_syntax.specs.Text.{has_names, all_have_names, HasNames}
 
-All-left : (P : Part → Type 0) (xs ys : List Part) → All P (xs ++ ys) → All P xs
+pub All-left : (P : Part → Type 0) (xs ys : List Part) → All P (xs ++ ys) → All P xs
 All-left P xs ys h = subst (All P) (take_at xs ys (length xs) refl) (All-take P (length xs) (xs ++ ys) h)
 
-All-right : (P : Part → Type 0) (xs ys : List Part) → All P (xs ++ ys) → All P ys
+pub All-right : (P : Part → Type 0) (xs ys : List Part) → All P (xs ++ ys) → All P ys
 All-right P xs ys h = subst (All P) (drop_at xs ys (length xs) refl) (All-drop P (length xs) (xs ++ ys) h)
 
 module _ (pool : List Named) where

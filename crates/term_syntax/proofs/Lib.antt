@@ -9,7 +9,13 @@ pub mod Verdicts
 pub mod Pool
 pub mod TakingUp
 pub mod Spelling
+pub mod Numbering
 pub mod Ground
+pub mod GoodTokens
+pub mod Writable
 pub mod Readings
 pub mod Arriving
 pub mod Writings
+pub mod TokensBack
+pub mod TermsBack
+pub mod LinesBack

@@ -1,7 +1,9 @@
 -- What was read is the one reading of the bytes.
-use Rattle.std.proofs.Common.{◌≡◌, ◌∙◌, ℕ, List, [], ◌∷◌, length, map, refl, ap, sym, subst, append_assoc, inl, inr, Option, Some, Ok, Err, All}
+use Rattle.std.proofs.Common.{◌≡◌, ◌∙◌, ℕ, List, [], ◌∷◌, length, map, refl, ap, sym, subst, arith, append_assoc, inl, inr, Option, Some, Ok, Err, All}
 use Rattle.std.specs.Option.{IsSome, is_some, unwrap_or}
 use Rattle.std.proofs.lemmas.List.Elements.{All-nil, All-cons}
+use Rattle.std.proofs.lemmas.List.{length-map}
+use Rattle.term_syntax.proofs.Numbering.{input_within}
 use Rattle.rec_reader.specs.declared.fail.ReadFail.{ReadFail}
 use Rattle.rec_reader.specs.declared.fail.ReadFail.TheVariants.{Refused, Memory}
 use Rattle.term_model.specs.Tree.{Tree}
@@ -19,8 +21,11 @@ use Rattle.term_syntax.specs.Refusal.{AreRefused, IsSyntaxRefusal}
 use Rattle.term_syntax.specs.Parts.{parts_of_input, taken_up, tree_in}
 use Rattle.term_syntax.specs.Nodes.{nodes_of_input}
 use Rattle.term_syntax.specs.Steps.{start, IsRead}
-use Rattle.term_syntax.specs.Items.{item_in, items_at, trees_at, IsThere}
+use Rattle.term_syntax.specs.Items.{item_in, items_at, trees_at, IsThere, AreWithin}
 use Rattle.term_syntax.specs.Text.{HasNames}
+use Rattle.term_syntax.specs.Canonical.{IsWritable}
+use Rattle.term_syntax.proofs.GoodTokens.{tokens_good}
+use Rattle.term_syntax.proofs.Writable.{input_writable}
 use Rattle.term_syntax.proofs.Ground.{all_are_named}
 use Rattle.term_syntax.specs.Reading.{Spells, IsReading, IsRefusal}
 use Rattle.term_syntax.proofs.Outcome.{Read, outcome}
@@ -73,6 +78,12 @@ module _ (tokens : List Token) (parts : List Part) (nodes : List (List Node)) (r
   pub can_spell : (pool : List Named) (items : List Item) → items ≡ map (item_in pool) parts → All (λ n. IsSome (tree_of (items_at items n))) nodes
   can_spell pool items e = all_some items nodes (map (tree_in pool) r.0) (trees_are pool items e)
 
+  -- each node has the number of a part
+  pub within : (pool : List Named) (items : List Item) → items ≡ map (item_in pool) parts → All (AreWithin (length items)) nodes
+  within pool items e =
+      let n : length items ≡ length (parts_of_input r.0) = ap length e ∙ length-map parts (item_in pool) ∙ ap length parts_are in
+      subst (All (AreWithin (length items))) (sym nodes_are) (input_within (length items) r.0 0 (omega (arith, n)))
+
   module _ (bytes : List ℕ) (cut : tokens_of bytes ≡ Ok tokens) where
     spelled : Spells bytes r.0
     spelled = record { tokens = tokens; cut = cut; spelled = r.1 }
@@ -90,6 +101,12 @@ module _ (tokens : List Token) (parts : List Part) (nodes : List (List Node)) (r
     held new items trees e f there =
         subst (All (HasNames new)) (sym (same_somes trees (map (tree_in new) r.0) (f ∙ trees_are new items e)))
         (all_are_named new r.0 (subst (All (IsThere new)) parts_are there))
+
+    -- the trees can be written so that they are read back
+    pub can_be_written : (old new : List Named) (items : List Item) (trees : List Tree) → taken_up old parts ≡ Ok new → items ≡ map (item_in new) parts → map Some trees ≡ trees_at items nodes → All (IsThere new) parts → All (IsWritable new) trees
+    can_be_written old new items trees t e f there =
+        subst (All (IsWritable new)) (sym (same_somes trees (map (tree_in new) r.0) (f ∙ trees_are new items e)))
+        (input_writable old new r.1 (tokens_good bytes tokens cut) (ap (taken_up old) (sym parts_are) ∙ t) (subst (All (IsThere new)) parts_are there))
 
     -- the parts are refused
     pub part_refusal : (old : List Named) (e : ReadFail) → IsDue (taken_up old parts) e → IsRefusal bytes old e

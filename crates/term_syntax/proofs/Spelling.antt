@@ -19,7 +19,7 @@ use Rattle.term_syntax.specs.Items.{item_in, node_items, items_at, trees_at}
 use Rattle.term_syntax.proofs.Complete.{same_size}
 
 -- as many trees as terms
-counted : (pool : List Named) (ws : Writtens) → tree.count_of (trees_in pool ws) ≡ count_of ws
+pub counted : (pool : List Named) (ws : Writtens) → tree.count_of (trees_in pool ws) ≡ count_of ws
 counted pool End = refl
 counted pool (More w ws) = ap (λ n. n + 1) (counted pool ws)
 

@@ -1,5 +1,5 @@
 -- The items of terms that were read.
-use Rattle.std.specs.Prelude.{◌≡◌, ℕ, List, ◌∷◌, ◌++◌, map, replicate, slice_get, unwrap_or, Option, Some, None, Bool, true}
+use Rattle.std.specs.Prelude.{◌≡◌, ℕ, List, ◌∷◌, ◌++◌, map, replicate, slice_get, unwrap_or, Option, Some, None, Bool, true, All, ◌<◌}
 use Rattle.std.specs.List.{flat_map}
 use Rattle.rec_reader.specs.declared.fail.ReadFail.{ReadFail}
 use Rattle.rec_reader.specs.declared.fail.ReadFail.TheVariants.{Refused, Memory}
@@ -58,3 +58,7 @@ items_at items nodes = flat_map (node_items items) nodes
 -- the trees of terms, where their nodes spell any
 abbrev pub trees_at : List Item → List (List Node) → List (Option Tree)
 trees_at items terms = map (λ ns. tree_of (items_at items ns)) terms
+
+-- the numbers of the nodes are those of parts
+abbrev pub AreWithin : ℕ → List Node → Type 0
+AreWithin size nodes = All (λ n. n.part < size) nodes

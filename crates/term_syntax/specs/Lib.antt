@@ -13,3 +13,4 @@ pub mod Reading
 pub mod Text
 pub mod Canonical
 pub mod Writing
+pub mod Laws

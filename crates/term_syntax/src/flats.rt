@@ -1,8 +1,8 @@
 //! Makes terms of their nodes.
-ghost use Rattle.std.specs.Prelude.{◌≡◌, ◌++◌, ◌∷◌, map, replicate, IfOk, OnOk, IsSome, Some, All, unwrap_or, slice_get};
+ghost use Rattle.std.specs.Prelude.{◌≡◌, ◌++◌, ◌∷◌, map, replicate, IfOk, OnOk, IsSome, Some, All, ◌<◌, length, unwrap_or, slice_get};
 ghost use Rattle.term_model.specs.Postorder.{tree_of};
 ghost use Rattle.term_model.specs.declared.Item.TheVariants.{Nil, Cons};
-ghost use Rattle.term_syntax.specs.Items.{items_at, trees_at};
+ghost use Rattle.term_syntax.specs.Items.{items_at, trees_at, AreWithin};
 
 use crate::machine::Node;
 use rec_reader::Sequence;
@@ -25,14 +25,16 @@ fn push_items(items: &mut Vec<Item>, item: Item, cells: u32) -> Result<(), Alloc
 
 // The item of the part with this number.
 fn item_at(items: &[Item], part: usize) -> Item
+    requires { part < length items.now }
     ensures { result ≡ unwrap_or (slice_get items.now part) Nil }
 {
-    items.get(part).copied().unwrap_or(Item::Nil)
+    items[part]
 }
 
 // The term that nodes spell.
 fn flat_of(alloc: Global, items: &[Item], nodes: &[Node]) -> Result<Flat, AllocError>
-    requires { IsSome (tree_of (items_at items.now nodes.now)) }
+    requires spelled { IsSome (tree_of (items_at items.now nodes.now)) }
+    requires within { AreWithin (length items.now) nodes.now }
     ensures { IfOk result (λ t. tree_of (items_at items.now nodes.now) ≡ Some t) }
 {
     let mut spelled = Vec::new(alloc);
@@ -51,7 +53,8 @@ pub(crate) fn flats(
     items: &[Item],
     terms: &[Sequence<Node>],
 ) -> Result<Flats, AllocError>
-    requires { All (λ ns. IsSome (tree_of (items_at items.now ns))) terms.now }
+    requires spelled { All (λ ns. IsSome (tree_of (items_at items.now ns))) terms.now }
+    requires within { All (AreWithin (length items.now)) terms.now }
     ensures { IfOk result (λ f. map Some f ≡ trees_at items.now terms.now) }
 {
     let mut flats = Sequence::new(alloc);

@@ -5,6 +5,7 @@ mod backwards;
 mod canonical;
 mod flats;
 mod kinds;
+mod laws;
 mod list;
 mod machine;
 mod name;
@@ -19,6 +20,7 @@ mod writer;
 
 pub use canonical::write_term;
 pub use flats::Flats;
+pub use laws::canonical_laws;
 pub use name::Name;
 pub use reading::read_terms;
 pub use rec_reader::ReadFail;

@@ -5,6 +5,7 @@ ghost use Rattle.term_model.specs.Tree.{Tree, IsGround};
 ghost use Rattle.symbol_pool.specs.Pool.{Named};
 ghost use Rattle.term_syntax.specs.Items.{GrowsPool};
 ghost use Rattle.term_syntax.specs.Text.{HasNames};
+ghost use Rattle.term_syntax.specs.Canonical.{IsWritable};
 ghost use Rattle.term_syntax.specs.Reading.{IsReading, IsRefusal};
 
 use crate::flats::{Flats, flats};
@@ -28,6 +29,7 @@ pub fn read_terms(alloc: Global, bytes: &[u8], symbols: &mut Symbols) -> Result<
     ensures read { IfOk result (IsReading bytes.now symbols.old symbols.new) }
     ensures ground { IfOk result (All IsGround) }
     ensures held { IfOk result (All (HasNames symbols.new)) }
+    ensures writable { IfOk result (All (IsWritable symbols.new)) }
     // The bytes spell no other terms.
     ensures only { IfOk result (λ trees. (new : List Named) (others : List Tree)
         → IsReading bytes.now symbols.old new others → (new ≡ symbols.new) × (others ≡ trees)) }

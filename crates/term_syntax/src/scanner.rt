@@ -2,11 +2,11 @@
 ghost use Rattle.std.specs.Prelude.{◌≡◌, ◌+◌, ◌≤◌, ◌<◌, length, drop, IfOk, IfErr, IfSome, Ok, Err, true, false, slice_index};
 ghost use Rattle.std.specs.Char.{is_ascii_digit};
 ghost use Rattle.std.specs.Str.Parse.{digits_value, AllDigits};
-ghost use Rattle.rec_reader.specs.declared.fail.ReadFail.TheVariants.{Refused, Memory};
+ghost use Rattle.rec_reader.specs.declared.fail.ReadFail.TheVariants.{Memory};
 ghost use Rattle.term_syntax.specs.Fault.{IsDue};
 ghost use Rattle.term_syntax.specs.Tokens as spec;
 
-use crate::kinds::{BAD_BYTE, UNENDED};
+use crate::kinds::{BAD_BYTE, UNENDED, refused};
 use crate::name::Name;
 use crate::token::{Mark, Token};
 use rec_reader::ReadFail;
@@ -148,15 +148,6 @@ fn role_of(behind: bool, byte: u8) -> Role
         (false, b'\\') => Role::Escapes,
         (false, b' '..=b'~') => Role::Stands,
         (false, _) => Role::Bad,
-    }
-}
-
-fn refused(kind: u8, at: usize) -> ReadFail
-    ensures { result ≡ Refused kind at }
-{
-    ReadFail::Refused {
-        kind,
-        offset: at as u64,
     }
 }
 

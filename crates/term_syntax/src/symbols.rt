@@ -1,12 +1,11 @@
 //! Takes up the symbols of parts in the order of the text.
 ghost use Rattle.std.specs.Prelude.{◌≡◌, map, Ok, IfOk, IfErr, OnOk, OnErr, All};
-ghost use Rattle.rec_reader.specs.declared.fail.ReadFail.TheVariants.{Refused};
 ghost use Rattle.term_syntax.specs.Fault.{IsDue};
 ghost use Rattle.term_syntax.specs.Parts.{taken_up};
 ghost use Rattle.term_syntax.specs.Items.{item_in, IsTakenUp, IsPartFault, IsThere, GrowsPool};
 ghost use Rattle.term_syntax.specs.Named.{IsSymbolTaken, IsSymbolRefused};
 
-use crate::kinds::{BAD_NUMBER, LIMIT};
+use crate::kinds::{BAD_NUMBER, LIMIT, refused};
 use crate::machine::{Kind, Part};
 use rec_reader::ReadFail;
 use std::alloc::Global;
@@ -15,15 +14,6 @@ use term_model::Item;
 
 /// How many bytes a name may have.
 const LONGEST_NAME: usize = 255;
-
-fn refused(kind: u8, place: usize) -> ReadFail
-    ensures { result ≡ Refused kind place }
-{
-    ReadFail::Refused {
-        kind,
-        offset: place as u64,
-    }
-}
 
 // Takes up a name with a number of arguments.
 fn take_symbol(

@@ -1,4 +1,4 @@
-use Rattle.std.proofs.Common.{List, map, All, ap, sym, subst, ◌∙◌}
+use Rattle.std.proofs.Common.{List, length, map, All, ap, sym, subst, ◌∙◌}
 use Rattle.std.specs.Option.{IsSome}
 use Rattle.std.proofs.lemmas.Result.{err_from_is_err_and}
 use Rattle.term_model.specs.Postorder.{tree_of}
@@ -8,8 +8,8 @@ use Rattle.term_syntax.specs.declared.machine.Node.{Node}
 use Rattle.term_model.specs.declared.Item.{Item}
 use Rattle.term_syntax.specs.Fault.{IsDue}
 use Rattle.term_syntax.specs.Parts.{taken_up}
-use Rattle.term_syntax.specs.Items.{item_in, items_at, trees_at, IsThere}
-use Rattle.term_syntax.proofs.Readings.{held, can_spell, reading, part_refusal, token_refusal, only_one, no_refusal}
+use Rattle.term_syntax.specs.Items.{item_in, items_at, trees_at, IsThere, AreWithin}
+use Rattle.term_syntax.proofs.Readings.{held, can_be_written, within, can_spell, reading, part_refusal, token_refusal, only_one, no_refusal}
 use Rattle.term_syntax.proofs.reading.read_terms.Goals as goal
 
 pub returns-in_err-parts-clause-accepted : goal.returns-in_err-parts-clause-accepted
@@ -28,8 +28,8 @@ returns-in_err-items-clause-accepted c new trees r =
     let refusal = part_refusal c.in_ok-tokens.tokens.items c.in_ok-parts.parts c.in_ok-parts.terms c.in_ok-parts.ensures.read c.args.bytes.now c.in_ok-tokens.ensures.tokens old e due in
     rw (p.1, p.2) (no_refusal c.args.bytes.now old new trees e refusal r)
 
-pub flats-requires : goal.flats-requires
-flats-requires c =
+pub flats-requires-clause-spelled : goal.flats-requires-clause-spelled
+flats-requires-clause-spelled c =
     let P : List Item → List (List Node) → Type 0 = λ is ns. All (λ n. IsSome (tree_of (items_at is n))) ns in
     let items = c.in_ok-items.ensures.items ∙ ap (map (item_in c.items_of.new.symbols)) c.as_slice.ensures in
     let can = can_spell c.in_ok-tokens.tokens.items c.in_ok-parts.parts c.in_ok-parts.terms c.in_ok-parts.ensures.read c.items_of.new.symbols c.in_ok-items.items.items items in
@@ -57,3 +57,18 @@ returns-clause-held c =
     let spelled = c.in_ok-flats.ensures ∙ ap (λ is. trees_at is c.as_slice-3.result.now) c.as_slice-2.ensures.value ∙ ap (trees_at c.in_ok-items.items.items) c.as_slice-3.ensures in
     let there = subst (All (IsThere new)) c.as_slice.ensures c.in_ok-items.ensures.there in
     held c.in_ok-tokens.tokens.items c.in_ok-parts.parts c.in_ok-parts.terms c.in_ok-parts.ensures.read c.args.bytes.now c.in_ok-tokens.ensures.tokens new c.in_ok-items.items.items c.in_ok-flats.flats items spelled there
+
+pub flats-requires-clause-within : goal.flats-requires-clause-within
+flats-requires-clause-within c =
+    let items = c.in_ok-items.ensures.items ∙ ap (map (item_in c.items_of.new.symbols)) c.as_slice.ensures in
+    let can = within c.in_ok-tokens.tokens.items c.in_ok-parts.parts c.in_ok-parts.terms c.in_ok-parts.ensures.read c.items_of.new.symbols c.in_ok-items.items.items items in
+    subst (λ is. All (AreWithin (length is)) c.as_slice-3.result.now) (sym c.as_slice-2.ensures.value) (subst (All (AreWithin (length c.in_ok-items.items.items))) (sym c.as_slice-3.ensures) can)
+
+pub returns-clause-writable : goal.returns-clause-writable
+returns-clause-writable c =
+    let new = c.items_of.new.symbols in
+    let taken = ap (taken_up c.args.symbols.now) (sym c.as_slice.ensures) ∙ c.in_ok-items.ensures.taken in
+    let items = c.in_ok-items.ensures.items ∙ ap (map (item_in new)) c.as_slice.ensures in
+    let spelled = c.in_ok-flats.ensures ∙ ap (λ is. trees_at is c.as_slice-3.result.now) c.as_slice-2.ensures.value ∙ ap (trees_at c.in_ok-items.items.items) c.as_slice-3.ensures in
+    let there = subst (All (IsThere new)) c.as_slice.ensures c.in_ok-items.ensures.there in
+    can_be_written c.in_ok-tokens.tokens.items c.in_ok-parts.parts c.in_ok-parts.terms c.in_ok-parts.ensures.read c.args.bytes.now c.in_ok-tokens.ensures.tokens c.args.symbols.now new c.in_ok-items.items.items c.in_ok-flats.flats taken items spelled there
