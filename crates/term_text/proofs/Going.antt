@@ -1,21 +1,21 @@
 -- What a visit, and a count, do to counting halfway.
-use Rattle.std.proofs.Common.{◌≡◌, ◌≢◌, ℕ, zero, suc, ◌+◌, ◌-◌, ◌*◌, ◌<◌, ◌≤◌, ◌⊎◌, inl, inr, Bool, true, false, List, [], ◌∷◌, ◌++◌, Some, length, map, get_or, refl, ap, sym, ◌∙◌, subst, arith}
+use Rattle.std.proofs.Common.{◌≡◌, ℕ, zero, suc, ◌+◌, ◌<◌, ◌≤◌, inl, inr, Bool, true, false, List, [], ◌∷◌, ◌++◌, Some, length, map, get_or, refl, ap, sym, ◌∙◌, subst, arith}
 use Rattle.std.proofs.Math.ListN.{set}
 use Rattle.std.specs.Prelude.{All, Contains, slice_get, if◌then◌else◌}
 use Rattle.std.proofs.lemmas.Option.{slice_get_within, get_or_from_slice_get}
 use Rattle.std.proofs.lemmas.List.{length-set, length-append, map-append}
 use Rattle.std.proofs.lemmas.List.Elements.{All-nil, All-push, All-weaker, Contains-push, Contains-push_cases, Contains-append_left}
 use Rattle.term_model.specs.declared.Row.{Row}
-use Rattle.term_model.specs.Tree.{Tree, arguments, nodes, subtrees, among, distinct}
-use Rattle.term_model.proofs.Equality.{among_from_contains, contains_from_among}
+use Rattle.term_model.specs.Tree.{Tree, arguments, nodes, among, distinct}
+use Rattle.term_model.proofs.Equality.{contains_from_among}
 use Rattle.term_model.proofs.Members.{distinct_of_part}
 use Rattle.term_model.proofs.Subtrees.{subtrees_nest, arguments_are_subtrees, arguments_have_fewer_nodes, some_nodes}
-use Rattle.terms_api.specs.Terms.{Store, HasTree, IsHeld, tree_at, IsSound}
+use Rattle.terms_api.specs.Terms.{Store, IsHeld, tree_at, IsSound}
 use Rattle.terms_api.proofs.Callers.{has-held, same_row}
 use Rattle.term_text.specs.Sizes.{saturated}
-use Rattle.term_text.specs.Tally.{count_at, IsCounted, HasCount, CountedBefore, IsTally, IsVisit, Narrows, IsHalfway, IsWithin, AreWithin, IsBegun, steps_left, Continues}
+use Rattle.term_text.specs.Tally.{count_at, IsCounted, CountedBefore, IsTally, IsVisit, IsHalfway, IsWithin, AreWithin, Continues}
 use Rattle.term_text.specs.declared.counting.Visit.{Visit}
-use Rattle.term_text.proofs.Counts.{row_same, count_here, count_else, counted_here, counted_kept, counted_cases, has_count_kept, before_kept, counted_more, some_saturated}
+use Rattle.term_text.proofs.Counts.{count_here, count_else, counted_here, counted_kept, counted_cases, before_kept, counted_more, some_saturated}
 use Rattle.term_text.proofs.Paths.{Narrower, all_front, all_last, narrows_front, narrows_last, narrows_push, rows_differ, path_fits}
 
 pub contains_at : {A : Type 0} (xs : List A) (k : ℕ) (x : A) → slice_get xs k ≡ Some x → Contains xs x
@@ -255,13 +255,6 @@ first_within s counts r ts w a =
 -- at the end none is visited
 pub none_visited : (s : Store) (counts : List ℕ) (path : List Visit) (ts : List Tree) → AreWithin s ts counts path → AreWithin s ts counts []
 none_visited s counts path ts a = record { counted = a.counted; visited = All-nil (λ (u : Visit). IsWithin ts (tree_at s u.row)) }
-
-pub all_counted : (counts : List ℕ) (path : List Visit) (r : Row) → path ≡ [] → IsBegun counts path r → IsCounted counts r
-all_counted counts path r e b =
-    elim b [
-      | inl k ↦ k
-      | inr x ↦ absurd (contains_none x.0 (subst (λ (p : List Visit). Contains p x.0) e x.1))
-    ]
 
 -- there is room for two more on a path that goes on
 pub two_fit : (s : Store) (counts : List ℕ) (rows : List Row) (path : List Visit) (v w : Visit) → IsSound s

@@ -5,3 +5,4 @@ pub mod Counts
 pub mod Paths
 pub mod Going
 pub mod Totals
+pub mod Trying

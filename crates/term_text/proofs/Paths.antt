@@ -1,14 +1,14 @@
 -- A path of visits: each row once, so there is room for it.
-use Rattle.std.proofs.Common.{◌≡◌, ◌≢◌, ℕ, zero, suc, ◌+◌, ◌<◌, ◌≤◌, List, [], ◌∷◌, ◌++◌, Some, length, get_or, refl, ap, sym, ◌∙◌, subst, arith}
+use Rattle.std.proofs.Common.{◌≡◌, ◌≢◌, ℕ, ◌+◌, ◌<◌, ◌≤◌, List, [], ◌∷◌, ◌++◌, Some, length, get_or, refl, ap, sym, ◌∙◌, arith}
 use Rattle.std.proofs.Math.ListN.{set}
 use Rattle.std.specs.Prelude.{All}
 use Rattle.std.proofs.lemmas.List.{length-set, get_or-set_other}
 use Rattle.std.proofs.lemmas.List.Elements.{All-nil, All-cons, All-head, All-tail, All-push, All-pop, All-weaker}
 use Rattle.term_model.specs.declared.Row.{Row}
-use Rattle.term_model.specs.Tree.{Tree, nodes}
-use Rattle.terms_api.specs.Terms.{Store, HasTree, IsHeld, tree_at, IsSound}
+use Rattle.term_model.specs.Tree.{nodes}
+use Rattle.terms_api.specs.Terms.{Store, tree_at, IsSound}
 use Rattle.terms_api.proofs.Callers.{has-held}
-use Rattle.term_text.specs.Tally.{count_at, IsVisit, Narrows, IsHalfway, IsTally, counted_rows}
+use Rattle.term_text.specs.Tally.{count_at, IsVisit, Narrows, IsHalfway, counted_rows}
 use Rattle.term_text.specs.declared.counting.Visit.{Visit}
 use Rattle.term_text.proofs.Counts.{counted_bound, counted_more}
 

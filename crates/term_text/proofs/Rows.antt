@@ -1,14 +1,12 @@
 -- Rows of a store that hasn't changed, and the nodes of the trees of rows on a stack.
-use Rattle.std.proofs.Common.{◌≡◌, ℕ, ◌+◌, ◌<◌, List, [], ◌∷◌, ◌++◌, Some, length, take, get_or, refl, ap, sym, ◌∙◌, subst, arith}
-use Rattle.std.specs.Prelude.{slice_get, sum_by, All}
+use Rattle.std.proofs.Common.{◌≡◌, ℕ, ◌+◌, ◌<◌, List, [], ◌∷◌, ◌++◌, Some, length, take, get_or, ap, ◌∙◌, subst, arith}
+use Rattle.std.specs.Prelude.{slice_get, sum_by}
 use Rattle.std.proofs.lemmas.Option.{slice_get_within, get_or_from_slice_get}
 use Rattle.std.proofs.lemmas.List.{take_more}
 use Rattle.std.proofs.Math.Seq.{take-length}
-use Rattle.std.proofs.lemmas.List.Sums.{sum_by_push, sum_by-append, sum_by-cons}
-use Rattle.std.proofs.lemmas.List.Elements.{All-push}
+use Rattle.std.proofs.lemmas.List.Sums.{sum_by_push}
 use Rattle.term_model.specs.declared.Row.{Row}
-use Rattle.term_model.specs.declared.Head.{Head}
-use Rattle.term_model.specs.Tree.{Tree, nodes, arguments, root, IsWellFormed}
+use Rattle.term_model.specs.Tree.{nodes, arguments, IsWellFormed}
 use Rattle.terms_api.specs.Terms.{Store, IsHeld, IsSound, tree_at}
 use Rattle.terms_api.proofs.Callers.{has-held}
 use Rattle.term_text.specs.Nodes.{nodes_at, nodes_of_rows}
@@ -20,9 +18,6 @@ child_there s t row child j e h = subst (λ (x : Store). slice_get (arguments (t
 
 pub held_there : (s t : Store) (row : Row) → t ≡ s → IsHeld t row → IsHeld s row
 held_there s t row e h = subst (λ (x : Store). IsHeld x row) e h
-
-pub root_there : (s t : Store) (row : Row) (h : Head) → t ≡ s → root (tree_at s row) ≡ Some h → root (tree_at t row) ≡ Some h
-root_there s t row h e r = subst (λ (x : Store). root (tree_at x row) ≡ Some h) (sym e) r
 
 pub well_formed_at : (s : Store) (row : Row) → IsSound s → IsHeld s row → IsWellFormed (tree_at s row)
 well_formed_at s row sound held = sound.well_formed row (tree_at s row) (has-held s row held)
@@ -55,9 +50,6 @@ arguments_counted s row j old stack sum e =
 -- the last row taken from the stack
 pub nodes_popped : (s : Store) (stack rest : List Row) (row : Row) → stack ≡ rest ++ row ∷ [] → nodes_of_rows s stack ≡ nodes_of_rows s rest + nodes_at s row
 nodes_popped s stack rest row e = ap (nodes_of_rows s) e ∙ sum_by_push (nodes_at s) rest row
-
-pub nodes_of_one : (s : Store) (row : Row) → nodes_of_rows s (row ∷ []) ≡ nodes_at s row
-nodes_of_one s row = sum_by-cons (nodes_at s) row [] ∙ (let e : nodes_at s row + 0 ≡ nodes_at s row = omega arith in e)
 
 pub sound_there : (s t : Store) → t ≡ s → IsSound t → IsSound s
 sound_there s t e h = subst IsSound e h

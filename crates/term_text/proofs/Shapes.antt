@@ -1,16 +1,15 @@
 -- What a tree is by its root, and its text then.
-use Rattle.std.proofs.Common.{◌≡◌, ℕ, zero, suc, ◌+◌, ◌<◌, List, [], ◌∷◌, ◌++◌, Some, true, false, length, drop, refl, ap, sym, ◌∙◌, subst, arith}
+use Rattle.std.proofs.Common.{◌≡◌, ℕ, zero, suc, ◌+◌, List, [], ◌∷◌, ◌++◌, Some, true, false, length, drop, refl, ap, sym, ◌∙◌, subst, arith}
 use Rattle.std.specs.Prelude.{slice_get, codes, decimal, sum_by, unwrap_or}
 use Rattle.std.proofs.lemmas.Option.{slice_get_within}
 use Rattle.std.proofs.lemmas.List.Sums.{sum_by-cons}
-use Rattle.std.proofs.lemmas.Bool.{ltb-true}
 use Rattle.term_model.specs.declared.Symbol.{Symbol}
 use Rattle.term_model.specs.declared.Head.{Head}
 use Rattle.term_model.specs.declared.Head.TheVariants.{App, Int, Nil, Cons}
 use Rattle.term_model.specs.Tree.{Tree, Leaf, Node, Trees, End, More, list_of, trees_of, arguments, root, nodes, nodes_all, may_stand_over, is_tree_and_list, all_well_formed, IsWellFormed}
 use Rattle.term_model.proofs.Order.{both_hold}
 use Rattle.symbol_pool.specs.Pool.{Named, name_at}
-use Rattle.term_text.specs.Text.{text_by, in_parentheses, after_commas, elements, further_elements, plain_name, is_named, has_names, all_have_names, HasNames}
+use Rattle.term_text.specs.Text.{text_by, in_parentheses, elements, further_elements, plain_name, is_named, has_names, all_have_names, HasNames}
 use Rattle.term_text.specs.Works.{is_cell}
 
 pub some_same : {A : Type 0} (x y : A) → Some x ≡ Some y → x ≡ y
@@ -46,12 +45,6 @@ all_named_at names (More t ts) (suc j) u n e =
 pub named_at : (names : List Named) (t : Tree) (j : ℕ) (u : Tree) → HasNames names t → slice_get (arguments t) j ≡ Some u → HasNames names u
 named_at names (Leaf x) j u n e = absurd (let h = slice_get_within (arguments (Leaf x)) j u e in omega arith)
 named_at names (Node h ts) j u n e = all_named_at names ts j u (both_hold (is_named names h) (all_have_names names ts) n).1 e
-
-pub symbol_named : (names : List Named) (t : Tree) (f : Symbol) → HasNames names t → root t ≡ Some (App f) → f.0 < length names
-symbol_named names (Leaf x) f n e = absurd (cc)
-symbol_named names (Node h ts) f n e =
-    let here = (both_hold (is_named names h) (all_have_names names ts) n).0 in
-    ltb-true f.0 (length names) (subst (λ (x : Head). is_named names x ≡ true) (some_same h (App f) e) here)
 
 pub spelled : (names : List Named) (f : Symbol) (name : List ℕ) → name_at names f ≡ Some name → plain_name names f ≡ name
 spelled names f name e = ap (λ o. unwrap_or o []) e
@@ -92,12 +85,6 @@ further_other spell (Node Nil ts) h e n = refl
 further_other spell (Node Cons ts) h e n =
     let here : is_cell h ≡ true = ap is_cell (some_same h Cons (sym e)) in
     absurd (cc)
-
-pub cell_head : (h : Head) → is_cell h ≡ true → h ≡ Cons
-cell_head (App f) e = absurd (cc)
-cell_head (Int v) e = absurd (cc)
-cell_head Nil e = absurd (cc)
-cell_head Cons e = refl
 
 -- a cell has two arguments
 record Pair (ts : List Tree) : Type 0 where

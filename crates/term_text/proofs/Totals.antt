@@ -1,17 +1,16 @@
 -- As many rows are counted as there are different subtrees.
 use Rattle.std.proofs.Common.{◌≡◌, ℕ, zero, suc, ◌+◌, ◌<◌, ◌≤◌, inl, inr, List, [], ◌∷◌, Some, length, map, take, refl, ap, sym, ◌∙◌, subst, arith}
 use Rattle.std.specs.Prelude.{Contains, slice_get, sum_by}
-use Rattle.std.proofs.Math.Seq.{take-length}
 use Rattle.std.proofs.lemmas.Option.{slice_get_within}
 use Rattle.std.proofs.lemmas.List.{length-map}
 use Rattle.std.proofs.lemmas.List.Elements.{All-nil}
 use Rattle.term_model.specs.declared.Row.{Row}
 use Rattle.term_model.specs.Tree.{Tree, arguments, subtrees, distinct, nodes}
-use Rattle.term_model.specs.Laws.{IsClosed, IsSubtree}
+use Rattle.term_model.specs.Laws.{IsClosed}
 use Rattle.term_model.proofs.Equality.{contains_from_among}
 use Rattle.term_model.proofs.Members.{distinct_of_part}
 use Rattle.term_model.proofs.Subtrees.{closed_holds_subtrees, itself}
-use Rattle.terms_api.specs.Terms.{Store, HasTree, IsHeld, tree_at, trees, reachable, IsSound}
+use Rattle.terms_api.specs.Terms.{Store, IsHeld, tree_at, trees, reachable, IsSound}
 use Rattle.terms_api.proofs.Callers.{tree_at-has, has-held, held-stack, trees-at}
 use Rattle.terms_api.proofs.Staying.{reached, reached_from}
 use Rattle.term_text.specs.declared.counting.Tally.{Tally}
@@ -136,8 +135,3 @@ place_added s place row now count new at a b e =
     let before = sum_by nodes (take place (trees s)) in
     e ∙ ap (λ m. saturated (m + count)) a ∙ ap (λ m. saturated (saturated before + m)) b
     ∙ saturated_sum before n ∙ ap saturated (sym (sum_more (trees s) place (tree_at s row) (trees-at s place row at)))
-
-pub stack_added : (s : Store) (place now : ℕ) → now ≡ saturated (sum_by nodes (take place (trees s))) → place ≡ length s.stack → now ≡ saturated (sum_by nodes (trees s))
-stack_added s place now a e =
-    let size : place ≡ length (trees s) = e ∙ sym (length-map s.stack (tree_at s)) in
-    a ∙ ap (λ n. saturated (sum_by nodes (take n (trees s)))) size ∙ ap (λ ys. saturated (sum_by nodes ys)) (take-length (trees s))

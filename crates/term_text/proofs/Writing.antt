@@ -1,5 +1,5 @@
 -- What each step of writing does.
-use Rattle.std.proofs.Common.{◌≡◌, ℕ, ◌+◌, ◌-◌, ◌*◌, ◌<◌, ◌≤◌, List, [], ◌∷◌, ◌++◌, Some, length, drop, refl, ap, sym, ◌∙◌, subst, arith, append_assoc, append-nil}
+use Rattle.std.proofs.Common.{◌≡◌, ℕ, ◌+◌, ◌<◌, ◌≤◌, List, [], ◌∷◌, ◌++◌, Some, length, drop, ap, sym, ◌∙◌, subst, arith, append_assoc, append-nil}
 use Rattle.std.specs.Prelude.{All, slice_get, codes, decimal, sum_by}
 use Rattle.std.proofs.lemmas.List.{nil_from_length, drop_all}
 use Rattle.std.proofs.lemmas.List.Sums.{sum_by_push, sum_by-append, sum_by-cons}
@@ -7,15 +7,15 @@ use Rattle.std.proofs.lemmas.List.Elements.{All-append, All-push, All-nil}
 use Rattle.term_model.specs.declared.Row.{Row}
 use Rattle.term_model.specs.declared.Symbol.{Symbol}
 use Rattle.term_model.specs.declared.Head.TheVariants.{App, Int, Nil, Cons}
-use Rattle.term_model.specs.Tree.{Tree, nodes, arguments, trees_of, root, IsWellFormed}
+use Rattle.term_model.specs.Tree.{nodes, arguments, trees_of, root, IsWellFormed}
 use Rattle.term_model.proofs.Subtrees.{some_nodes}
 use Rattle.terms_api.specs.Terms.{Store, IsHeld, tree_at}
 use Rattle.symbol_pool.specs.Pool.{Named, name_at}
 use Rattle.term_text.specs.Text.{text, text_by, in_parentheses, after_commas, elements, further_elements, plain_name, HasNames}
-use Rattle.term_text.specs.Works.{row_of, text_of, text_of_all, steps_of, steps_of_all, IsReady, Extends, Advances, PushesCell}
+use Rattle.term_text.specs.Works.{text_of, text_of_all, steps_of, steps_of_all, IsReady, Extends, Advances, PushesCell}
 use Rattle.term_text.specs.declared.works.Work.{Work}
 use Rattle.term_text.specs.declared.works.Work.TheVariants.{Term, Arguments, Elements}
-use Rattle.term_text.proofs.Shapes.{drop_at, nodes-arguments, named_at, spelled, text_symbol, text_integer, text_empty, text_cell, further_cell, cell_arguments}
+use Rattle.term_text.proofs.Shapes.{drop_at, nodes-arguments, named_at, spelled, text_symbol, text_integer, text_empty, cell_arguments}
 
 -- lists of work
 text_append : (names : List Named) (s : Store) (xs ys : List Work) → text_of_all names s (xs ++ ys) ≡ text_of_all names s ys ++ text_of_all names s xs
@@ -69,10 +69,6 @@ constant_written names s row f name works before after e named none out =
     ∙ ap (λ xs. spell f ++ in_parentheses spell (trees_of xs)) empty
     ∙ append-nil (spell f) ∙ spelled names f name named in
     all_written names s (Term row) works before after name out all (some_steps s row)
-
--- an argument, and those after it
-argument_text : (a b c : List ℕ) → codes "," ++ a ++ b ++ c ≡ codes "," ++ (a ++ (b ++ c))
-argument_text a b c = ap (λ xs. codes "," ++ xs) (append_assoc a b c)
 
 -- a symbol with arguments: the first is next
 pub symbol_written : (names : List Named) (s : Store) (row first : Row) (f : Symbol) (name : List ℕ) (works one two : List Work) (before middle after : List ℕ)
@@ -173,35 +169,6 @@ cell_pushed names s row list first works one two named held held' w e next at pu
       fewer = omega (arith, steps, sum, size, n);
     }
 
--- a list, and a list's elements after a comma, where there is a cell
-pub list_written : (names : List Named) (s : Store) (row : Row) (works new : List Work) (before after : List ℕ)
-    → root (tree_at s row) ≡ Some Cons → PushesCell names s row works new → after ≡ before ++ 91 ∷ [] → Advances names s (Term row) works new before after
-list_written names s row works new before after e cell out =
-    let few = cell.fewer in
-    record {
-      more = cell.more;
-      written = 91 ∷ [];
-      works = cell.works;
-      out = out;
-      text = text_cell (plain_name names) (tree_at s row) e ∙ ap (λ ys. 91 ∷ ys) cell.text;
-      ready = cell.ready;
-      fewer = omega (arith, few);
-    }
-
-pub element_written : (names : List Named) (s : Store) (row : Row) (works new : List Work) (before after : List ℕ)
-    → root (tree_at s row) ≡ Some Cons → PushesCell names s row works new → after ≡ before ++ 44 ∷ [] → Advances names s (Elements row) works new before after
-element_written names s row works new before after e cell out =
-    let few = cell.fewer in
-    record {
-      more = cell.more;
-      written = 44 ∷ [];
-      works = cell.works;
-      out = out;
-      text = ap (λ ys. ys ++ codes "]") (further_cell (plain_name names) (tree_at s row) e) ∙ ap (λ ys. 44 ∷ ys) cell.text;
-      ready = cell.ready;
-      fewer = omega (arith, few);
-    }
-
 -- where no element follows
 pub elements_closed : (names : List Named) (s : Store) (row : Row) (works : List Work) (before after : List ℕ)
     → further_elements (plain_name names) (tree_at s row) ≡ [] → after ≡ before ++ 93 ∷ [] → Advances names s (Elements row) works works before after
@@ -240,10 +207,6 @@ pub advances_there : (names : List Named) (s t : Store) (w : Work) (old new : Li
     → t ≡ s → Advances names t w old new before after → Advances names s w old new before after
 advances_there names s t w old new before after e step = subst (λ (x : Store). Advances names x w old new before after) e step
 
-pub cell_there : (names : List Named) (s t : Store) (row : Row) (old new : List Work)
-    → t ≡ s → PushesCell names t row old new → PushesCell names s row old new
-cell_there names s t row old new e cell = subst (λ (x : Store). PushesCell names x row old new) e cell
-
 pub steps_fall : (names : List Named) (s : Store) (w : Work) (works rest new : List Work) (before after : List ℕ)
     → works ≡ rest ++ w ∷ [] → Advances names s w rest new before after → steps_of_all s new < steps_of_all s works
 steps_fall names s w works rest new before after pop step =
@@ -259,6 +222,3 @@ ready_kept names s w rest new before after step all =
 
 pub extends_more : {A : Type 0} (xs ys zs : List A) → Extends xs ys → Extends ys zs → Extends xs zs
 extends_more xs ys zs a b = (a.0 ++ b.0, b.1 ∙ ap (λ l. l ++ b.0) a.1 ∙ append_assoc xs a.0 b.0)
-
-pub extends_itself : {A : Type 0} (xs : List A) → Extends xs xs
-extends_itself xs = ([], sym (append-nil xs))

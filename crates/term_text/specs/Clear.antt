@@ -1,5 +1,5 @@
 -- No row is counted, and there is room to count them.
-use Rattle.std.specs.Prelude.{◌≡◌, ℕ, ◌≤◌, [], Contains, length, vec_len}
+use Rattle.std.specs.Prelude.{◌≡◌, [], Contains}
 use Rattle.term_model.specs.declared.Row.{Row}
 use Rattle.term_text.specs.declared.counting.Tally.{Tally}
 use Rattle.term_text.specs.Tally.{IsCounted, HasRoom, count_at}

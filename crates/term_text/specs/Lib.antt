@@ -4,3 +4,4 @@ pub mod Works
 pub mod Sizes
 pub mod Tally
 pub mod Clear
+pub mod Trials

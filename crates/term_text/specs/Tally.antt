@@ -1,5 +1,5 @@
 -- Counting the nodes of trees by their rows. A row's count is 0 until its tree is counted.
-use Rattle.std.specs.Prelude.{◌≡◌, ℕ, zero, suc, ◌+◌, ◌-◌, ◌*◌, ◌<◌, ◌≤◌, ◌⊎◌, List, [], ◌∷◌, ◌++◌, Some, All, Contains, length, map, slice_get, slice_index_or, vec_len, vec_capacity}
+use Rattle.std.specs.Prelude.{◌≡◌, ℕ, zero, suc, ◌+◌, ◌-◌, ◌*◌, ◌<◌, ◌≤◌, ◌⊎◌, List, [], ◌∷◌, Some, All, Contains, length, map, slice_get, slice_index_or, vec_len, vec_capacity}
 use Rattle.term_model.specs.declared.Row.{Row}
 use Rattle.term_model.specs.Tree.{Tree, arguments, nodes, subtrees, distinct}
 use Rattle.terms_api.specs.Terms.{Store, HasTree, IsHeld, tree_at}

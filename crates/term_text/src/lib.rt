@@ -5,6 +5,8 @@ mod counting;
 mod measuring;
 mod nodes;
 mod printing;
+#[cfg(test)]
+mod tests;
 mod works;
 
 pub use faults::Memory;

@@ -1,7 +1,4 @@
-use Rattle.std.proofs.Common.{◌≡◌, ◌<◌, ◌∷◌, ◌++◌, [], inl, inr, List, length, refl, ap, sym, ◌∙◌, subst, arith}
-use Rattle.std.specs.Prelude.{Contains}
-use Rattle.std.proofs.lemmas.List.{nil_from_length}
-use Rattle.term_model.specs.declared.Row.{Row}
+use Rattle.std.proofs.Common.{◌≡◌, ◌<◌, ◌∷◌, ◌++◌, [], inr, List, length, refl, ap, sym, ◌∙◌, subst, arith}
 use Rattle.terms_api.specs.Terms.{tree_at}
 use Rattle.terms_api.proofs.Callers.{has-held}
 use Rattle.term_text.specs.Tally.{count_at, IsHalfway, IsBegun, AreWithin}

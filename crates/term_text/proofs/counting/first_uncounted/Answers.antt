@@ -1,5 +1,4 @@
-use Rattle.std.proofs.Common.{◌<◌, ◌∙◌, arith}
-use Rattle.terms_api.specs.Terms.{tree_at}
+use Rattle.std.proofs.Common.{◌∙◌, arith}
 use Rattle.terms_api.proofs.Callers.{has-held}
 use Rattle.term_text.specs.Tally.{IsCounted}
 use Rattle.term_text.proofs.Rows.{child_there, held_there}

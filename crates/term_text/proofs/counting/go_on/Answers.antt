@@ -1,6 +1,5 @@
-use Rattle.std.proofs.Common.{◌≡◌, ℕ, ◌++◌, ◌∷◌, [], List, length, ap, sym, ◌∙◌, subst, arith}
+use Rattle.std.proofs.Common.{ℕ, ◌++◌, ◌∷◌, [], List, length, ap, sym, ◌∙◌, subst, arith}
 use Rattle.std.proofs.Math.ListN.{set}
-use Rattle.std.proofs.lemmas.List.{length-append}
 use Rattle.term_model.specs.declared.Row.{Row}
 use Rattle.term_text.specs.Tally.{IsVisit, IsHalfway, Continues, IsNext, CountedBefore}
 use Rattle.term_model.specs.Tree.{arguments}

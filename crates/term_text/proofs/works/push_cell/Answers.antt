@@ -1,4 +1,4 @@
-use Rattle.std.proofs.Common.{◌∙◌, arith}
+use Rattle.std.proofs.Common.{arith}
 use Rattle.terms_api.specs.Terms.{tree_at}
 use Rattle.term_text.proofs.Shapes.{cell_size}
 use Rattle.term_text.proofs.Rows.{child_there, held_there, well_formed_at}

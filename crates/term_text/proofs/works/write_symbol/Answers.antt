@@ -1,4 +1,4 @@
-use Rattle.std.proofs.Common.{◌∙◌, sym, arith}
+use Rattle.std.proofs.Common.{arith}
 use Rattle.term_text.proofs.Rows.{child_there, held_there}
 use Rattle.term_text.proofs.Writing.{constant_written, symbol_written}
 use Rattle.term_text.proofs.works.write_symbol.Goals as goal
