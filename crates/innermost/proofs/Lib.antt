@@ -1,3 +1,8 @@
+pub mod Points
+pub mod Builds
+pub mod Moving
+pub mod Passing
+pub mod Simple
 pub mod Runs
 pub mod Following
 pub mod Choosing

@@ -1,6 +1,10 @@
+pub mod Building
 pub mod Code
+pub mod Fits
 pub mod Follow
 pub mod Laws
 pub mod Reducing
 pub mod Normalized
+pub mod Standing
 pub mod State
+pub mod Tasks

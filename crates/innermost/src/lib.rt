@@ -1,9 +1,13 @@
 //! Leftmost innermost normalization over any store of terms, with explicit stacks.
 #![tactic(auto)]
 
+mod building;
+mod compile;
+mod frames;
 mod laws;
 mod normal;
 mod step;
+mod stepping;
 
 pub use laws::{choice_laws, code_laws, step_laws};
 pub use normal::{Normal, RunFault};
