@@ -1,5 +1,6 @@
 pub mod Points
 pub mod Builds
+pub mod Fitting
 pub mod Moving
 pub mod Passing
 pub mod Simple
