@@ -1,6 +1,7 @@
 pub mod Points
 pub mod Builds
 pub mod Fitting
+pub mod Inside
 pub mod Moving
 pub mod Passing
 pub mod Simple
@@ -8,3 +9,4 @@ pub mod Runs
 pub mod Following
 pub mod Choosing
 pub mod States
+pub mod Using

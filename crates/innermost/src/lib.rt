@@ -5,8 +5,10 @@ mod building;
 mod compile;
 mod frames;
 mod laws;
+mod machine;
 mod normal;
 mod step;
+mod reducing;
 mod stepping;
 
 pub use laws::{choice_laws, code_laws, step_laws};
