@@ -10,3 +10,4 @@ pub mod Following
 pub mod Choosing
 pub mod States
 pub mod Using
+pub mod Ways

@@ -1,5 +1,6 @@
 pub mod Building
 pub mod Code
+pub mod Depths
 pub mod Fits
 pub mod Follow
 pub mod Laws

@@ -3,6 +3,7 @@
 
 mod building;
 mod compile;
+mod depths;
 mod frames;
 mod laws;
 mod machine;
