@@ -1,3 +1,4 @@
+pub mod Pendings
 pub mod Points
 pub mod Builds
 pub mod Fitting
