@@ -1,6 +1,8 @@
 pub mod Pendings
 pub mod Points
 pub mod Builds
+pub mod Endings
+pub mod Evaluations
 pub mod Fitting
 pub mod Inside
 pub mod Moving
@@ -9,6 +11,8 @@ pub mod Simple
 pub mod Runs
 pub mod Following
 pub mod Choosing
+pub mod Starts
+pub mod Spelling
 pub mod States
 pub mod Using
 pub mod Ways

@@ -2,15 +2,20 @@
 #![tactic(auto)]
 
 mod building;
+mod coding;
 mod compile;
 mod depths;
+mod evaluating;
 mod frames;
 mod laws;
 mod machine;
 mod normal;
+mod normalizing;
 mod step;
 mod reducing;
 mod stepping;
+mod windows;
 
 pub use laws::{choice_laws, code_laws, step_laws};
 pub use normal::{Normal, RunFault};
+pub use normalizing::Machine;
