@@ -11,8 +11,8 @@ mod laws;
 mod machine;
 mod normal;
 mod normalizing;
-mod step;
 mod reducing;
+mod step;
 mod stepping;
 mod windows;
 

@@ -44,13 +44,6 @@ fn show(term: &Flat, limit: u32, from: usize, window: &mut Window)
     ensures room { limit ≤ vec_capacity window.new.path }
     ensures shows { Shows limit term.now window.new.from window.new.depths.items }
 {
-    let _ = find_depths(
-        term,
-        0,
-        limit,
-        from,
-        &mut window.path,
-        &mut window.depths,
-    );
+    let _ = find_depths(term, 0, limit, from, &mut window.path, &mut window.depths);
     window.from = from;
 }

@@ -48,14 +48,15 @@ reduce-requires-clause-inside g c =
 
 pub reduce-requires-clause-state : goal.reduce-requires-clause-state
 reduce-requires-clause-state g c =
-    let s = c.requires.state in
-    (inner c.args.plan.now c.args.code.now s.0 c.args.term.now c.args.at c.args.left (g.T.Terms.store c.args.terms.now) s.1 c.item_at-item.result c.in-Some.head c.requires.plain c.requires.node (c.item_at-item.ensures ∙ ap (λ (is : List Item). get_or is c.args.at c.item_at-item.result) c.items.ensures.items) (sym c.head.ensures ∙ c.in-Some.is),
-    reduces_at c.args.plan.now c.args.code.now s.0 c.args.term.now c.args.at c.args.left (g.T.Terms.store c.args.terms.now) s.1 c.item_at-item.result c.in-Some.head c.requires.plain c.requires.node (c.item_at-item.ensures ∙ ap (λ (is : List Item). get_or is c.args.at c.item_at-item.result) c.items.ensures.items) (sym c.head.ensures ∙ c.in-Some.is) c.args.down c.requires.down (omega arith) (g.T.Terms.store c.build_at.new.terms) c.first.result
-    (let job' = s.0 in let e' = s.1 in c.in_ok-build_at.ensures.built job'.start e'.points
-    (floor c.args.plan.now c.args.code.now job' c.args.term.now c.args.at c.args.left (g.T.Terms.store c.args.terms.now) e' c.item_at-item.result c.in-Some.head c.requires.plain c.requires.node (c.item_at-item.ensures ∙ ap (λ (is : List Item). get_or is c.args.at c.item_at-item.result) c.items.ensures.items) (sym c.head.ensures ∙ c.in-Some.is)) _
-    (node_point c.args.plan.now c.args.code.now job' c.args.term.now c.args.at c.args.left (g.T.Terms.store c.args.terms.now) e' c.item_at-item.result c.in-Some.head c.requires.plain c.requires.node (c.item_at-item.ensures ∙ ap (λ (is : List Item). get_or is c.args.at c.item_at-item.result) c.items.ensures.items) (sym c.head.ensures ∙ c.in-Some.is))
-    (stands_at c.args.plan.now c.args.code.now job' c.args.term.now c.args.at c.args.left (g.T.Terms.store c.args.terms.now) e' c.item_at-item.result c.in-Some.head c.requires.plain c.requires.node (c.item_at-item.ensures ∙ ap (λ (is : List Item). get_or is c.args.at c.item_at-item.result) c.items.ensures.items) (sym c.head.ensures ∙ c.in-Some.is) c.arity.result c.arity.ensures)
-    (over_at c.args.plan.now c.args.code.now job' c.args.term.now c.args.at c.args.left (g.T.Terms.store c.args.terms.now) e' c.item_at-item.result c.in-Some.head c.requires.plain c.requires.node (c.item_at-item.ensures ∙ ap (λ (is : List Item). get_or is c.args.at c.item_at-item.result) c.items.ensures.items) (sym c.head.ensures ∙ c.in-Some.is) c.arity.result c.arity.ensures)) c.first.ensures.first c.first.ensures.none)
+    let s = c.requires.state in (
+      inner c.args.plan.now c.args.code.now s.0 c.args.term.now c.args.at c.args.left (g.T.Terms.store c.args.terms.now) s.1 c.item_at-item.result c.in-Some.head c.requires.plain c.requires.node (c.item_at-item.ensures ∙ ap (λ (is : List Item). get_or is c.args.at c.item_at-item.result) c.items.ensures.items) (sym c.head.ensures ∙ c.in-Some.is),
+      reduces_at c.args.plan.now c.args.code.now s.0 c.args.term.now c.args.at c.args.left (g.T.Terms.store c.args.terms.now) s.1 c.item_at-item.result c.in-Some.head c.requires.plain c.requires.node (c.item_at-item.ensures ∙ ap (λ (is : List Item). get_or is c.args.at c.item_at-item.result) c.items.ensures.items) (sym c.head.ensures ∙ c.in-Some.is) c.args.down c.requires.down (omega arith) (g.T.Terms.store c.build_at.new.terms) c.first.result
+          (let job' = s.0 in let e' = s.1 in c.in_ok-build_at.ensures.built job'.start e'.points
+          (floor c.args.plan.now c.args.code.now job' c.args.term.now c.args.at c.args.left (g.T.Terms.store c.args.terms.now) e' c.item_at-item.result c.in-Some.head c.requires.plain c.requires.node (c.item_at-item.ensures ∙ ap (λ (is : List Item). get_or is c.args.at c.item_at-item.result) c.items.ensures.items) (sym c.head.ensures ∙ c.in-Some.is)) _
+          (node_point c.args.plan.now c.args.code.now job' c.args.term.now c.args.at c.args.left (g.T.Terms.store c.args.terms.now) e' c.item_at-item.result c.in-Some.head c.requires.plain c.requires.node (c.item_at-item.ensures ∙ ap (λ (is : List Item). get_or is c.args.at c.item_at-item.result) c.items.ensures.items) (sym c.head.ensures ∙ c.in-Some.is))
+          (stands_at c.args.plan.now c.args.code.now job' c.args.term.now c.args.at c.args.left (g.T.Terms.store c.args.terms.now) e' c.item_at-item.result c.in-Some.head c.requires.plain c.requires.node (c.item_at-item.ensures ∙ ap (λ (is : List Item). get_or is c.args.at c.item_at-item.result) c.items.ensures.items) (sym c.head.ensures ∙ c.in-Some.is) c.arity.result c.arity.ensures)
+          (over_at c.args.plan.now c.args.code.now job' c.args.term.now c.args.at c.args.left (g.T.Terms.store c.args.terms.now) e' c.item_at-item.result c.in-Some.head c.requires.plain c.requires.node (c.item_at-item.ensures ∙ ap (λ (is : List Item). get_or is c.args.at c.item_at-item.result) c.items.ensures.items) (sym c.head.ensures ∙ c.in-Some.is) c.arity.result c.arity.ensures)) c.first.ensures.first c.first.ensures.none,
+    )
 
 pub returns-clause-state : goal.returns-clause-state
 returns-clause-state g c =
