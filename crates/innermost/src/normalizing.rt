@@ -78,7 +78,7 @@ impl Machine {
     ) -> Result<Normal, RunFault>
         requires inside { (T.store terms.old).inside ≡ true }
         requires machine { IsFor plan.now self.old }
-        requires ground { IsGround term.now }
+        requires no_variables { IsGround term.now }
         requires plain { IsPlain plan.now.widest term.now }
         requires wide { plan.now.widest ≤ (T.store terms.old).widest }
         requires free { length (T.store terms.old).stack + self.old.depth

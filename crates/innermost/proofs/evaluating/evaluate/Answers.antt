@@ -17,7 +17,7 @@ nodes-init g c =
       path_room = c.requires.path_room;
       window = c.requires.window;
       shows = λ i low high l. absurd (omega (arith, n, fits, low, high));
-      state = evaluation_begins c.args.plan.now c.args.code.now c.args.term.now c.args.fuel (g.T.Terms.store c.args.terms.now) c.requires.ready c.depth.ensures.sound c.requires.inside c.requires.ground c.requires.plain;
+      state = evaluation_begins c.args.plan.now c.args.code.now c.args.term.now c.args.fuel (g.T.Terms.store c.args.terms.now) c.requires.ready c.depth.ensures.sound c.requires.inside c.requires.no_variables c.requires.plain;
       same = g.met.T.Terms.same_as_itself _;
     }
 

@@ -10,11 +10,11 @@ item_at-item-requires g c = omega (arith, c.requires.node, ap length c.items.ens
 
 pub returns-then-down-code-clause-state : goal.returns-then-down-code-clause-state
 returns-then-down-code-clause-state g c = λ job e.
-    too_deep_at c.args.plan.now c.args.code.now job c.args.term.now c.args.at c.args.left (g.T.Terms.store c.args.terms.now) e c.requires.ground c.requires.plain c.requires.node (subst (λ d. c.args.code.now.depth ≤ d) c.requires.down c.if-down-code.true)
+    too_deep_at c.args.plan.now c.args.code.now job c.args.term.now c.args.at c.args.left (g.T.Terms.store c.args.terms.now) e c.requires.no_variables c.requires.plain c.requires.node (subst (λ d. c.args.code.now.depth ≤ d) c.requires.down c.if-down-code.true)
 
 pub unreachable-requires : goal.unreachable-requires
 unreachable-requires g c =
-    has_head_here c.args.term.now c.args.at c.item_at-item.result c.requires.ground c.requires.node (c.item_at-item.ensures ∙ ap (λ (is : List Item). get_or is c.args.at c.item_at-item.result) c.items.ensures.items) (sym c.head.ensures ∙ c.in_default.is)
+    has_head_here c.args.term.now c.args.at c.item_at-item.result c.requires.no_variables c.requires.node (c.item_at-item.ensures ∙ ap (λ (is : List Item). get_or is c.args.at c.item_at-item.result) c.items.ensures.items) (sym c.head.ensures ∙ c.in_default.is)
 
 pub build_at-requires-clause-may : goal.build_at-requires-clause-may
 build_at-requires-clause-may g c =
