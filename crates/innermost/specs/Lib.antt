@@ -1,6 +1,15 @@
+pub mod Building
 pub mod Code
+pub mod Depths
+pub mod Evaluating
+pub mod Fits
 pub mod Follow
 pub mod Laws
 pub mod Reducing
+pub mod Machines
 pub mod Normalized
+pub mod Shown
+pub mod Spelled
+pub mod Standing
 pub mod State
+pub mod Tasks

@@ -1,0 +1,136 @@
+//! The machine, and normalizing a term.
+
+ghost use Rattle.std.specs.Prelude.{◌≡◌, ◌+◌, ◌≤◌, length, IfOk, true};
+ghost use Rattle.term_model.specs.Tree.{IsGround};
+ghost use Rattle.terms_api.specs.Terms.{Store, IsSound};
+ghost use Rattle.rewrite_model.specs.Evaluation.{evaluation};
+ghost use Rattle.rewrite_model.specs.Built.{need};
+ghost use Rattle.rule_match.specs.Planned.{IsPlain};
+ghost use Rattle.innermost.specs.Normalized.{Answers, Builds, FaultOnlyWhereRefused, SweepsAtMost, LoadsNeedAtMost, KeepsNumbers};
+ghost use Rattle.innermost.specs.Machines.{IsFor, settled};
+
+use crate::coding::code_plan;
+use crate::compile::Code;
+use crate::evaluating::evaluate;
+use crate::frames::Frame;
+use crate::windows::Window;
+use crate::{Normal, RunFault};
+use faults::Memory;
+use rule_match::{Binds, Plan};
+use std::alloc::Global;
+use std::marker::Model;
+use term_model::Flat;
+use terms_api::Terms;
+
+/// How many nodes of a term have their depths at hand at a time.
+const SHOWN: usize = 4096;
+
+/// A machine that normalizes terms by the rules of one plan, with stacks of its own.
+#[derive(Drop)]
+pub struct Machine {
+    code: Code,
+    binds: Binds,
+    frames: Vec<Frame>,
+    window: Window,
+    builds: u32,
+}
+
+impl Model for Machine {
+    ghost use Rattle.std.specs.Prelude.{◌<◌, ◌≤◌, length, vec_capacity};
+    ghost use Rattle.innermost.specs.Machines.{Made};
+
+    ghost Value = { Made };
+
+    ghost view = { λ m. record { steps = m.code.steps.items; starts = m.code.starts.items; depth = m.code.depth; bindings = m.binds.room } };
+
+    ghost invariant = { λ m. (m.code.depth ≤ vec_capacity m.frames) × (m.code.depth ≤ vec_capacity m.window.path) × (0 < length m.window.depths.items) };
+}
+
+impl Machine {
+    /// A machine for a plan that evaluates terms in so much room. Each evaluation that is under way
+    /// at a time takes room, so there is a place for each. It takes memory here alone.
+    pub fn new(alloc: Global, plan: &Plan, depth: u32) -> Result<Self, Memory>
+        ensures plan { IfOk result (λ machine. IsFor plan.now machine) }
+        ensures depth { IfOk result (λ machine. machine.depth ≡ depth) }
+    {
+        let room = depth as usize;
+        Ok(Machine {
+            code: code_plan(alloc, plan, depth)?,
+            binds: Binds::of(alloc, plan)?,
+            frames: Vec::with_capacity(alloc, room)?,
+            window: Window {
+                depths: vec![in alloc; 0u32; SHOWN]?,
+                from: 0,
+                path: Vec::with_capacity(alloc, room)?,
+            },
+            builds: 0,
+        })
+    }
+
+    /// Normalizes a term by leftmost innermost rewriting. A value is on top of the stack, and after
+    /// any other answer the stack is as it was. It takes no memory.
+    pub fn normalize<T: Terms>(
+        &mut self,
+        plan: &Plan,
+        term: &Flat,
+        fuel: u64,
+        terms: &mut T,
+    ) -> Result<Normal, RunFault>
+        requires inside { (T.store terms.old).inside ≡ true }
+        requires machine { IsFor plan.now self.old }
+        requires no_variables { IsGround term.now }
+        requires plain { IsPlain plan.now.widest term.now }
+        requires wide { plan.now.widest ≤ (T.store terms.old).widest }
+        requires free { length (T.store terms.old).stack + self.old.depth
+            ≤ (T.store terms.old).room }
+        ensures answer { Answers (evaluation plan.now.rules term.now fuel self.old.depth).end
+            (T.store terms.old) (T.store terms.new) result }
+        ensures built { Builds (evaluation plan.now.rules term.now fuel self.old.depth).notes
+            (T.store terms.old) (T.store terms.new) result }
+        ensures faults { FaultOnlyWhereRefused (T.store terms.old) (T.store terms.new) result }
+        ensures sweeps { SweepsAtMost (T.store terms.old) (T.store terms.new) result }
+        ensures load { LoadsNeedAtMost (need plan.now.rules term.now fuel self.old.depth)
+            (T.store terms.old) (T.store terms.new) }
+        ensures numbers { KeepsNumbers (T.store terms.old) (T.store terms.new) }
+        ensures sound { IsSound (T.store terms.new) }
+        ensures machine { self.new ≡ self.old }
+        ensures same { T.same terms.old terms.new }
+    {
+        let base = terms.depth();
+        let _ = plan.rules();
+        let _ = self.code.steps.len();
+        let end = evaluate(
+            plan,
+            &self.code,
+            &mut self.binds,
+            &mut self.frames,
+            &mut self.window,
+            term,
+            fuel,
+            &mut self.builds,
+            terms,
+        );
+        settle(end, base, terms)
+    }
+}
+
+/// Leaves the stack as it was, with so many places, where there is no value.
+fn settle<T: Terms>(
+    end: Result<Normal, RunFault>,
+    base: u32,
+    terms: &mut T,
+) -> Result<Normal, RunFault>
+    requires inside { (T.store terms.old).inside ≡ true }
+    requires base { base ≤ length (T.store terms.old).stack }
+    requires sound { IsSound (T.store terms.old) }
+    ensures end { result ≡ end }
+    ensures settled { T.store terms.new ≡ settled (T.store terms.old) base end }
+    ensures sound { IsSound (T.store terms.new) }
+    ensures same { T.same terms.old terms.new }
+{
+    if let Ok(Normal::Value { left }) = end {
+        return Ok(Normal::Value { left });
+    }
+    terms.keep(base, 0);
+    end
+}
