@@ -1,2 +1,5 @@
 pub mod Names
 pub mod Material
+pub mod Scope
+pub mod Offences
+pub mod Faults

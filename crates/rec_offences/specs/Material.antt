@@ -49,13 +49,14 @@ abbrev pub brought : List ℕ → List Header → Name → List ℕ
 brought bytes [] entry = []
 brought bytes (h ∷ hs) entry = if same_text bytes h.name entry then h.material else brought bytes hs entry
 
--- one number more, at the end, unless it is there
-abbrev pub with_number : List ℕ → ℕ → List ℕ
-with_number numbers n = if list_any (nat_eq n) numbers then numbers else numbers ++ n ∷ []
+-- the numbers that aren't among these yet, each once at its first mention
+abbrev pub fresh : List ℕ → List ℕ → List ℕ
+fresh numbers [] = []
+fresh numbers (n ∷ ns) = if list_any (nat_eq n) numbers then fresh numbers ns else n ∷ fresh (numbers ++ n ∷ []) ns
 
 -- more numbers, each once at its first mention
 abbrev pub with_numbers : List ℕ → List ℕ → List ℕ
-with_numbers numbers more = fold with_number numbers more
+with_numbers numbers more = numbers ++ fresh numbers more
 
 -- what these entries bring
 abbrev pub included : List ℕ → List Header → List Name → List ℕ
