@@ -1,0 +1,13 @@
+//! From a syntax to the specification that it spells.
+#![tactic(auto)]
+
+mod names;
+mod rules;
+mod scope;
+mod spec;
+mod spelling;
+mod stop;
+mod table;
+mod terms;
+
+pub use spec::Spec;
