@@ -5,3 +5,4 @@ pub mod Kept
 pub mod Declaring
 pub mod Gathering
 pub mod Chains
+pub mod Including

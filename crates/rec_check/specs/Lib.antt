@@ -6,3 +6,5 @@ pub mod Rule
 pub mod Symbols
 pub mod Spelled
 pub mod Spec
+pub mod Headers
+pub mod Run

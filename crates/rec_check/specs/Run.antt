@@ -1,0 +1,29 @@
+-- The specification that a syntax spells: that of its last specification, with what it includes.
+use Rattle.std.specs.Prelude.{ℕ, ◌-◌, List, [], ◌∷◌, length, take, slice_get, Option, Some, None, unwrap_or, option_and_then}
+use Rattle.rec_reader.specs.Parsed.{Parsed}
+use Rattle.rec_reader.specs.declared.syntax_tree.Specification.{Specification}
+use Rattle.rec_offences.specs.Material.{headers_of, header_after}
+use Rattle.rec_check.specs.Spelled.{Specified, nothing, spelled_by}
+
+-- the material of a specification that comes after these others
+abbrev pub material_after : List ℕ → List Specification → Specification → List ℕ
+material_after text earlier last = (header_after text (headers_of text earlier) last).material
+
+-- the last specification, and those before it
+abbrev pub last_of : List Specification → Option Specification
+last_of specifications = slice_get specifications (length specifications - 1)
+
+abbrev pub before_last : List Specification → List Specification
+before_last specifications = take (length specifications - 1) specifications
+
+-- what the last specification spells: what its material has, and its own terms; nothing where there is none,
+-- or where a part of it spells nothing
+abbrev pub spelled_in : Parsed → Option Specified
+spelled_in s =
+    option_and_then
+    (λ last. spelled_by s.bytes s.specifications (material_after s.bytes (before_last s.specifications) last) last.terms)
+    (last_of s.specifications)
+
+-- the specification that a syntax spells. A syntax without offence never spells nothing by this default.
+abbrev pub spelled : Parsed → Specified
+spelled s = unwrap_or (spelled_in s) nothing
