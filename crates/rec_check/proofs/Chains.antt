@@ -1,6 +1,6 @@
 -- What is spelled of several parts, from what each part spells.
 use Rattle.std.proofs.Common.{◌≡◌, ℕ, ◌<◌, ◌≤◌, Bool, true, false, List, length, Option, Some, None, Result, is_some, refl, sym, ap, subst, ◌∙◌}
-use Rattle.std.specs.Prelude.{nat_le, if◌then◌else◌}
+use Rattle.std.specs.Prelude.{option_and_then}
 use Rattle.term_model.specs.Tree.{Tree, root}
 use Rattle.term_model.specs.declared.Head.{Head}
 use Rattle.rewrite_model.specs.Rule.{Rule, Condition}
@@ -10,6 +10,9 @@ use Rattle.rec_reader.specs.declared.syntax_tree.Rule as written
 use Rattle.rec_reader.specs.declared.syntax_tree.Specification.{Specification}
 use Rattle.rec_check.specs.declared.stop.Stop.{Stop}
 use Rattle.rec_check.specs.Gives.{Gives}
+use Rattle.rec_reader.specs.Parsed.{Parsed}
+use Rattle.rec_check.specs.Run.{before_last, last_of, material_after, spelled_in}
+use Rattle.rec_check.specs.Spelled.{Specified, spelled_by}
 use Rattle.rec_check.specs.Term.{Scope, all_of, tree_in}
 use Rattle.rec_check.specs.Rule.{◌>>=◌, condition_in, sides_in}
 
@@ -52,3 +55,18 @@ pub in_scope : (text : List ℕ) (symbols : List Named) (names vars : List (List
 in_scope text symbols names vars r result e h =
     let P : List (List ℕ) → Type 0 = λ vs. Gives (λ x. x) result (sides_in (record { text = text; symbols = symbols; variables = vs }) r) in
     subst P e h
+
+-- what the last specification spells, from its parts
+abbrev from_last : List ℕ → List Specification → Option Specification → Option Specified
+from_last text specifications o = option_and_then (λ last. spelled_by text specifications (material_after text (before_last specifications) last) last.terms) o
+
+pub last_gives : {X : Type 0} (view : X → Specified) (syntax : Parsed) (result : Result X Stop) (text : List ℕ) (specifications earlier : List Specification) (last : Specification) (material : List ℕ) (terms : List (List Node))
+    → text ≡ syntax.bytes → specifications ≡ syntax.specifications → earlier ≡ before_last specifications → Some last ≡ last_of specifications
+    → material ≡ material_after text earlier last → terms ≡ last.terms
+    → Gives view result (spelled_by text specifications material terms) → Gives view result (spelled_in syntax)
+last_gives view syntax result text specifications earlier last material terms t s e l m n h =
+    let P : Option Specified → Type 0 = λ o. Gives view result o in
+    let made : material ≡ material_after text (before_last specifications) last = m ∙ ap (λ x. material_after text x last) e in
+    let parts : spelled_by text specifications material terms ≡ from_last text specifications (Some last) = λ i. spelled_by text specifications (made i) (n i) in
+    let whole : from_last text specifications (last_of specifications) ≡ spelled_in syntax = λ i. from_last (t i) (s i) (last_of (s i)) in
+    subst P (parts ∙ ap (from_last text specifications) l ∙ whole) h

@@ -1,5 +1,5 @@
 -- What is spelled may be planned.
-use Rattle.std.proofs.Common.{◌≡◌, ℕ, ◌+◌, ◌<◌, ◌≤◌, ◌^◌, Bool, true, false, List, [], ◌∷◌, ◌++◌, length, Option, Some, None, All, refl, sym, ap, subst, ◌∙◌, arith}
+use Rattle.std.proofs.Common.{◌≡◌, ℕ, ◌+◌, ◌<◌, ◌≤◌, ◌^◌, Bool, true, false, ◌⊎◌, inl, inr, List, [], ◌∷◌, ◌++◌, length, Option, Some, None, All, refl, sym, ap, subst, ◌∙◌, arith, position}
 use Rattle.std.specs.Prelude.{option_and_then, nat_le, if◌then◌else◌}
 use Rattle.std.specs.List.{list_all}
 use Rattle.std.proofs.lemmas.Bool.Decides.{nat_tests}
@@ -18,11 +18,16 @@ use Rattle.rec_reader.specs.declared.syntax_tree.Node as written_node
 use Rattle.rec_reader.specs.declared.syntax_tree.Rule as written
 use Rattle.rec_reader.specs.declared.syntax_tree.Condition as written_condition
 use Rattle.rec_reader.specs.declared.syntax_tree.Specification.{Specification}
-use Rattle.rec_check.specs.Symbols.{widest_of}
+use Rattle.std.specs.Str.{bytes_eq}
+use Rattle.rec_reader.specs.Parsed.{Parsed}
+use Rattle.rec_offences.specs.Names.{text_of}
+use Rattle.rec_offences.specs.Material.{symbols_of, specifications_at}
+use Rattle.rec_check.specs.Symbols.{named_in, with_symbols, widest_of}
+use Rattle.rec_check.specs.Run.{MayBeRun, last_of, before_last, material_after, spelled_in}
 use Rattle.rec_check.specs.Term.{Scope, all_of, item_in, tree_in}
 use Rattle.rec_check.specs.Rule.{◌>>=◌, condition_in, sides_in, rule_in, variables_in}
-use Rattle.rec_check.specs.Spelled.{Specified, variables_of, rules_in, rules_of, terms_in, with_few_rules, most_rules, spelled_by}
-use Rattle.rec_check.proofs.Heads.{one_below, one_plain, all_pass, all_hold}
+use Rattle.rec_check.specs.Spelled.{Specified, nothing, variables_of, rules_in, rules_of, terms_in, with_few_rules, most_rules, spelled_by}
+use Rattle.rec_check.proofs.Heads.{IsVariable, IsSymbol, head_cases, one_below, one_plain, all_pass, all_hold}
 use Rattle.rec_check.proofs.Numbered.{left_numbered}
 
 -- what came before a step that gave something
@@ -154,3 +159,67 @@ rules_fit text symbols (s ∷ ss) rules h =
     let is : a.x ++ b.x ≡ rules = cc_some (a.x ++ b.x) rules b.gives in
     let here : All (IsFit (widest_of symbols)) a.x = all_hold (λ r. rule_in text symbols (variables_of text s) r) (IsFit (widest_of symbols)) (λ r made e. rule_fits text symbols (variables_of text s) r made e) s.rules a.x a.is in
     subst (All (IsFit (widest_of symbols))) is (All-append (IsFit (widest_of symbols)) a.x b.x here (rules_fit text symbols ss b.x b.is))
+
+-- a head without variables is a symbol
+one_head : (text : List ℕ) (symbols : List Named) (n : written_node.Node) (i : Item) → item_in (record { text = text; symbols = symbols; variables = [] }) n ≡ Some i → has_head i ≡ true
+one_head text symbols n i h = by (head_cases symbols (text_of text n.head) n.count (position (bytes_eq (text_of text n.head)) []) i h)
+  where
+    by : IsVariable (position (bytes_eq (text_of text n.head)) []) i ⊎ ((position (bytes_eq (text_of text n.head)) [] ≡ None) × IsSymbol symbols (text_of text n.head) n.count i) → has_head i ≡ true
+    by (inl v) = absurd (let bad : None ≡ Some v.number = v.at in cc)
+    by (inr s) = ap has_head s.1.is
+
+abbrev no_variables : List ℕ → List Named → Scope
+no_variables text symbols = record { text = text; symbols = symbols; variables = [] }
+
+term_ground : (text : List ℕ) (symbols : List Named) (t : List written_node.Node) (tree : Tree) → tree_in (no_variables text symbols) t ≡ Some tree → IsGround tree
+term_ground text symbols t tree h =
+    let s = spells (no_variables text symbols) t tree h in
+    sym (all_heads tree) ∙ ap (list_all has_head) (sym s.spell)
+    ∙ all_pass (λ n. item_in (no_variables text symbols) n) has_head (one_head text symbols) t s.items s.are
+
+within_limit : (s made : Specified) → with_few_rules s ≡ Some made → (length s.rules ≤ most_rules) × (s ≡ made)
+within_limit s made h = by (nat_le (length s.rules) most_rules) refl h
+  where
+    by : (b : Bool) → nat_le (length s.rules) most_rules ≡ b → (if b then Some s else None) ≡ Some made → (length s.rules ≤ most_rules) × (s ≡ made)
+    by true e h = (grind (arith, nat_tests), cc_some s made h)
+    by false e h = absurd cc
+
+-- what specifications spell with terms
+pub spelled_runs : (text : List ℕ) (specifications : List Specification) (material : List ℕ) (terms : List (List written_node.Node)) (made : Specified)
+    → spelled_by text specifications material terms ≡ Some made → MayBeRun made
+spelled_runs text specifications material terms made h =
+    let at = specifications_at specifications material in
+    let a = came (with_symbols [] (named_in text (symbols_of specifications material)))
+        (λ symbols. rules_of text symbols at >>= λ rules. terms_in text symbols terms >>= λ trees. with_few_rules (record { symbols = symbols; rules = rules; terms = trees })) made h in
+    let b = came (rules_of text a.x at) (λ rules. terms_in text a.x terms >>= λ trees. with_few_rules (record { symbols = a.x; rules = rules; terms = trees })) made a.gives in
+    let c = came (terms_in text a.x terms) (λ trees. with_few_rules (record { symbols = a.x; rules = b.x; terms = trees })) made b.gives in
+    let s : Specified = record { symbols = a.x; rules = b.x; terms = c.x } in
+    let few = within_limit s made c.gives in
+    let fit = rules_fit text a.x at b.x b.is in
+    let W = widest_of a.x in
+    let l : length b.x ≤ most_rules = few.0 in
+    subst MayBeRun few.1 (record {
+      plan = record {
+        rules = All-weaker (IsFit W) IsRule (λ r f. f.rule) b.x fit;
+        symbols = All-weaker (IsFit W) (HasSymbolsAlone W) (λ r f. f.symbols) b.x fit;
+        count = omega arith;
+      };
+      ground = all_hold (λ t. tree_in (no_variables text a.x) t) IsGround (term_ground text a.x) terms c.x c.is;
+      plain = all_hold (λ t. tree_in (no_variables text a.x) t) (IsPlain W) (λ t tree e. tree_plain (no_variables text a.x) t tree e) terms c.x c.is;
+    })
+
+pub nothing_runs : MayBeRun nothing
+nothing_runs = record {
+  plan = record { rules = λ k d l. absurd (omega arith); symbols = λ k d l. absurd (omega arith); count = omega arith };
+  ground = λ k d l. absurd (omega arith);
+  plain = λ k d l. absurd (omega arith);
+}
+
+-- what the last specification spells
+pub last_runs : (syntax : Parsed) (made : Specified) → spelled_in syntax ≡ Some made → MayBeRun made
+last_runs syntax made h = by (last_of syntax.specifications) h
+  where
+    by : (o : Option Specification)
+        → option_and_then (λ last. spelled_by syntax.bytes syntax.specifications (material_after syntax.bytes (before_last syntax.specifications) last) last.terms) o ≡ Some made → MayBeRun made
+    by None h = absurd cc
+    by (Some last) h = spelled_runs syntax.bytes syntax.specifications (material_after syntax.bytes (before_last syntax.specifications) last) last.terms made h

@@ -1,8 +1,11 @@
 -- The specification that a syntax spells: that of its last specification, with what it includes.
-use Rattle.std.specs.Prelude.{ℕ, ◌-◌, List, [], ◌∷◌, length, take, slice_get, Option, Some, None, unwrap_or, option_and_then}
+use Rattle.std.specs.Prelude.{ℕ, ◌-◌, List, length, take, slice_get, Option, unwrap_or, option_and_then, All}
+use Rattle.term_model.specs.Tree.{IsGround}
+use Rattle.rule_match.specs.Planned.{IsPlan, IsPlain, planned}
 use Rattle.rec_reader.specs.Parsed.{Parsed}
 use Rattle.rec_reader.specs.declared.syntax_tree.Specification.{Specification}
 use Rattle.rec_offences.specs.Material.{headers_of, header_after}
+use Rattle.rec_check.specs.Symbols.{widest_of}
 use Rattle.rec_check.specs.Spelled.{Specified, nothing, spelled_by}
 
 -- the material of a specification that comes after these others
@@ -27,3 +30,10 @@ spelled_in s =
 -- the specification that a syntax spells. A syntax without offence never spells nothing by this default.
 abbrev pub spelled : Parsed → Specified
 spelled s = unwrap_or (spelled_in s) nothing
+
+-- What is spelled may be run: its rules make a plan, and its terms have no variables and no symbol over more
+-- arguments than the greatest number.
+pub record MayBeRun (s : Specified) : Type 0 where
+  pub plan : IsPlan (planned s.rules (widest_of s.symbols))
+  pub ground : All IsGround s.terms
+  pub plain : All (IsPlain (widest_of s.symbols)) s.terms

@@ -1,6 +1,7 @@
 //! From a syntax to the specification that it spells.
 #![tactic(auto)]
 
+mod last;
 mod material;
 mod names;
 mod rules;
