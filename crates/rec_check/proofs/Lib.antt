@@ -9,3 +9,4 @@ pub mod Including
 pub mod Heads
 pub mod Numbered
 pub mod Plans
+pub mod Ifs

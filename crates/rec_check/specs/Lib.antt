@@ -8,3 +8,4 @@ pub mod Spelled
 pub mod Spec
 pub mod Headers
 pub mod Run
+pub mod Conditional

@@ -14,13 +14,13 @@ use faults::Memory;
 use rec_reader::{Specification, Syntax};
 use std::alloc::Global;
 
-fn last_of(specifications: &[Specification]) -> Option<&Specification>
+pub(crate) fn last_of(specifications: &[Specification]) -> Option<&Specification>
     ensures { option_copied result ≡ last_of specifications.now }
 {
     specifications.last()
 }
 
-fn before_last(specifications: &[Specification]) -> &[Specification]
+pub(crate) fn before_last(specifications: &[Specification]) -> &[Specification]
     ensures { result.now ≡ before_last specifications.now }
 {
     &specifications[..specifications.len().saturating_sub(1)]

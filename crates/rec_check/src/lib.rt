@@ -1,6 +1,7 @@
 //! From a syntax to the specification that it spells.
 #![tactic(auto)]
 
+mod conditions;
 mod last;
 mod material;
 mod names;
@@ -12,4 +13,5 @@ mod stop;
 mod table;
 mod terms;
 
+pub use conditions::{CONDITIONAL, unconditional};
 pub use spec::Spec;

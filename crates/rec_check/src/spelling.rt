@@ -24,7 +24,7 @@ use std::alloc::Global;
 use symbol_pool::Symbols;
 use term_model::Flat;
 
-fn specification_at(specifications: &[Specification], number: usize) -> Option<&Specification>
+pub(crate) fn specification_at(specifications: &[Specification], number: usize) -> Option<&Specification>
     ensures { option_copied result ≡ slice_get specifications.now number }
 {
     specifications.get(number)
