@@ -1,5 +1,5 @@
 -- Names and symbols added one after another.
-use Rattle.std.proofs.Common.{◌≡◌, ℕ, zero, suc, ◌+◌, ◌<◌, ◌≤◌, Bool, true, false, cond, not, ◌&&◌, ◌||◌, List, [], ◌∷◌, ◌++◌, length, map, filter, get_or, drop, slice_get, max, nat_lt, Option, Some, None, is_some, IfSome, refl, sym, ap, subst, ◌∙◌, arith, position, length-append}
+use Rattle.std.proofs.Common.{◌≡◌, ℕ, ◌+◌, ◌<◌, ◌≤◌, Bool, true, false, cond, not, ◌&&◌, List, [], ◌∷◌, ◌++◌, length, map, filter, get_or, drop, slice_get, max, nat_lt, Option, Some, None, is_some, IfSome, refl, sym, ap, subst, ◌∙◌, arith, position, length-append}
 use Rattle.std.specs.Prelude.{option_and_then, nat_le, if◌then◌else◌}
 use Rattle.std.specs.Option.{option_to_list}
 use Rattle.std.specs.List.{list_any, flat_map}

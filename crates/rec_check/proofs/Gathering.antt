@@ -1,6 +1,6 @@
 -- The rules of the specifications of a material, one after another, and the variables of one.
-use Rattle.std.proofs.Common.{◌≡◌, ℕ, ◌+◌, ◌<◌, ◌≤◌, List, [], ◌∷◌, ◌++◌, length, map, get_or, drop, slice_get, Option, Some, None, Result, refl, sym, ap, subst, ◌∙◌}
-use Rattle.std.specs.Option.{option_to_list, option_map}
+use Rattle.std.proofs.Common.{◌≡◌, ℕ, ◌+◌, ◌<◌, List, [], ◌∷◌, ◌++◌, length, map, get_or, drop, slice_get, Option, Some, None, Result, refl, sym, ap, subst, ◌∙◌}
+use Rattle.std.specs.Option.{option_to_list}
 use Rattle.std.specs.List.{flat_map}
 use Rattle.std.proofs.lemmas.List.{map-append, at_drop_more, append_assoc}
 use Rattle.rewrite_model.specs.Rule.{Rule}
@@ -33,12 +33,12 @@ writes text vs i v l is list same names new e =
     let rest = written text (drop (i + 1) vs) in
     let first : map (λ w. text_of text w.name) (map (λ n. variable n v.sort) v.names) ≡ map (λ n. text_of text n) list = names_by text v.sort v.names ∙ ap (λ ns. map (λ n. text_of text n) ns) (sym same) in
     let split : written text (v ∷ drop (i + 1) vs) ≡ map (λ n. text_of text n) list ++ rest =
-        map-append (λ w. text_of text w.name) (map (λ n. variable n v.sort) v.names) (flat_map (λ w. map (λ n. variable n w.sort) w.names) (drop (i + 1) vs))
-        ∙ ap (λ ns. ns ++ rest) first in
+    map-append (λ w. text_of text w.name) (map (λ n. variable n v.sort) v.names) (flat_map (λ w. map (λ n. variable n w.sort) w.names) (drop (i + 1) vs))
+    ∙ ap (λ ns. ns ++ rest) first in
     let now : with_names names (written text (drop i vs)) ≡ with_names names (map (λ n. text_of text n) list ++ rest) =
-        at_drop_more (λ ws. with_names names (written text ws)) vs i v l
-        ∙ ap (λ w. with_names names (written text (w ∷ drop (i + 1) vs))) (sym is)
-        ∙ ap (with_names names) split in
+    at_drop_more (λ ws. with_names names (written text ws)) vs i v l
+    ∙ ap (λ w. with_names names (written text (w ∷ drop (i + 1) vs))) (sym is)
+    ∙ ap (with_names names) split in
     ap (λ ns. with_names ns rest) e ∙ sym (with_names-append names (map (λ n. text_of text n) list) rest) ∙ sym now
 
 -- the rules of one more specification

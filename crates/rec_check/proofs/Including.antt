@@ -12,7 +12,7 @@ use Rattle.indexmap.specs.IndexSet.{insert_key}
 use Rattle.rec_reader.specs.declared.token.Name.{Name}
 use Rattle.rec_reader.specs.declared.syntax_tree.Specification.{Specification}
 use Rattle.rec_offences.specs.Names.{text_of}
-use Rattle.rec_offences.specs.Material.{Header, brought, fresh, with_numbers, included, header_after, headers_of}
+use Rattle.rec_offences.specs.Material.{Header, brought, fresh, with_numbers, header_after, headers_of}
 use Rattle.rec_check.specs.Headers.{find_material, kept_material, find_header, Agree}
 
 pub brought_by : (text : List ℕ) (hs : List Header) (n : Name) → brought text hs n ≡ unwrap_or (find_header text hs (text_of text n)) []

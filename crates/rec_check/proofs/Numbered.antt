@@ -1,5 +1,5 @@
 -- The variables of a left side are numbered in order of first occurrence.
-use Rattle.std.proofs.Common.{◌≡◌, ℕ, zero, suc, ◌+◌, ◌<◌, ◌≤◌, Bool, true, false, cond, not, ◌||◌, ◌⊎◌, inl, inr, List, [], ◌∷◌, ◌++◌, length, map, filter, nat_lt, Option, Some, None, is_some, refl, sym, ap, subst, ◌∙◌, arith, position, append_assoc, append-nil, length-append}
+use Rattle.std.proofs.Common.{◌≡◌, ℕ, ◌+◌, ◌<◌, Bool, true, false, cond, ◌||◌, ◌⊎◌, inl, inr, List, [], ◌∷◌, ◌++◌, length, map, filter, nat_lt, Option, Some, None, is_some, refl, sym, ap, subst, ◌∙◌, arith, position, append_assoc, append-nil, length-append}
 use Rattle.std.specs.Prelude.{option_and_then, if◌then◌else◌, ◌==◌}
 use Rattle.std.specs.Option.{option_map}
 use Rattle.std.specs.List.{list_any}
@@ -8,7 +8,7 @@ use Rattle.std.specs.Cmp.Lexicographic.{bytes_decides}
 use Rattle.std.proofs.lemmas.Bool.Decides.{nat_tests}
 use Rattle.std.proofs.lemmas.List.Quantifiers.{position-Some}
 use Rattle.term_model.specs.declared.Item.{Item}
-use Rattle.term_model.specs.declared.Item.TheVariants.{Var, App}
+use Rattle.term_model.specs.declared.Item.TheVariants.{Var}
 use Rattle.symbol_pool.specs.Pool.{Named}
 use Rattle.rec_reader.specs.declared.syntax_tree.Node.{Node}
 use Rattle.rule_match.proofs.Numbering.{count_in, count_with}

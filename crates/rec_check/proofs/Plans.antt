@@ -1,17 +1,17 @@
 -- What is spelled may be planned.
-use Rattle.std.proofs.Common.{◌≡◌, ℕ, ◌+◌, ◌<◌, ◌≤◌, ◌^◌, Bool, true, false, ◌⊎◌, inl, inr, List, [], ◌∷◌, ◌++◌, length, Option, Some, None, All, refl, sym, ap, subst, ◌∙◌, arith, position}
+use Rattle.std.proofs.Common.{◌≡◌, ℕ, ◌≤◌, Bool, true, false, ◌⊎◌, inl, inr, List, [], ◌∷◌, ◌++◌, length, Option, Some, None, All, refl, sym, ap, subst, ◌∙◌, arith, position}
 use Rattle.std.specs.Prelude.{option_and_then, nat_le, if◌then◌else◌}
 use Rattle.std.specs.List.{list_all}
 use Rattle.std.proofs.lemmas.Bool.Decides.{nat_tests}
 use Rattle.std.proofs.lemmas.List.Elements.{All-append, All-weaker}
-use Rattle.term_model.specs.Tree.{Tree, Leaf, Node, root, is_ground, IsGround}
+use Rattle.term_model.specs.Tree.{Tree, Leaf, Node, root, IsGround}
 use Rattle.term_model.specs.Postorder.{postorder, tree_of, has_head}
 use Rattle.term_model.specs.declared.Head.{Head}
 use Rattle.term_model.specs.declared.Item.{Item}
 use Rattle.term_model.proofs.Order.{only_postorder}
 use Rattle.term_model.proofs.Subtrees.{all_heads}
-use Rattle.rewrite_model.specs.Rule.{Rule, Condition, IsRule, IsNode, IsNumbered, IsBelow, is_below}
-use Rattle.rule_match.specs.Planned.{IsPlain, HasSymbolsAlone, HasSides, IsFit, IsPlan, planned, is_plain, is_item_below}
+use Rattle.rewrite_model.specs.Rule.{Rule, Condition, IsRule, IsNode, IsBelow}
+use Rattle.rule_match.specs.Planned.{IsPlain, HasSymbolsAlone, HasSides, IsFit, is_plain, is_item_below}
 use Rattle.rule_match.proofs.Numbering.{counted, below, count_in}
 use Rattle.symbol_pool.specs.Pool.{Named}
 use Rattle.rec_reader.specs.declared.syntax_tree.Node as written_node
@@ -25,7 +25,7 @@ use Rattle.rec_offences.specs.Material.{symbols_of, specifications_at}
 use Rattle.rec_check.specs.Symbols.{named_in, with_symbols, widest_of}
 use Rattle.rec_check.specs.Run.{MayBeRun, last_of, before_last, material_after, spelled_in}
 use Rattle.rec_check.specs.Term.{Scope, all_of, item_in, tree_in}
-use Rattle.rec_check.specs.Rule.{◌>>=◌, condition_in, sides_in, rule_in, variables_in}
+use Rattle.rec_check.specs.Rule.{◌>>=◌, condition_in, rule_in, variables_in}
 use Rattle.rec_check.specs.Spelled.{Specified, nothing, variables_of, rules_in, rules_of, terms_in, with_few_rules, most_rules, spelled_by}
 use Rattle.rec_check.proofs.Heads.{IsVariable, IsSymbol, head_cases, one_below, one_plain, all_pass, all_hold}
 use Rattle.rec_check.proofs.Numbered.{left_numbered}
@@ -190,7 +190,7 @@ pub spelled_runs : (text : List ℕ) (specifications : List Specification) (mate
 spelled_runs text specifications material terms made h =
     let at = specifications_at specifications material in
     let a = came (with_symbols [] (named_in text (symbols_of specifications material)))
-        (λ symbols. rules_of text symbols at >>= λ rules. terms_in text symbols terms >>= λ trees. with_few_rules (record { symbols = symbols; rules = rules; terms = trees })) made h in
+    (λ symbols. rules_of text symbols at >>= λ rules. terms_in text symbols terms >>= λ trees. with_few_rules (record { symbols = symbols; rules = rules; terms = trees })) made h in
     let b = came (rules_of text a.x at) (λ rules. terms_in text a.x terms >>= λ trees. with_few_rules (record { symbols = a.x; rules = rules; terms = trees })) made a.gives in
     let c = came (terms_in text a.x terms) (λ trees. with_few_rules (record { symbols = a.x; rules = b.x; terms = trees })) made b.gives in
     let s : Specified = record { symbols = a.x; rules = b.x; terms = c.x } in

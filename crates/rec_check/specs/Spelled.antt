@@ -9,7 +9,7 @@ use Rattle.rec_offences.specs.Names.{text_of}
 use Rattle.rec_offences.specs.Material.{variables_by, symbols_of, specifications_at}
 use Rattle.rec_check.specs.Named.{with_names}
 use Rattle.rec_check.specs.Symbols.{named_in, with_symbols}
-use Rattle.rec_check.specs.Term.{Scope, all_of, tree_in}
+use Rattle.rec_check.specs.Term.{all_of, tree_in}
 use Rattle.rec_check.specs.Rule.{◌>>=◌, rule_in}
 
 pub record Specified : Type 0 where

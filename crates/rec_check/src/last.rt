@@ -36,7 +36,13 @@ fn spell_last(alloc: Global, syntax: &Syntax) -> Result<Spec, Stop>
         Some(last) => {
             let text = syntax.text();
             let material = material_after(alloc, text, before_last(specifications), last)?;
-            spell(alloc, text, specifications, &material, last.terms.as_slice())
+            spell(
+                alloc,
+                text,
+                specifications,
+                &material,
+                last.terms.as_slice(),
+            )
         }
         None => Err(Stop::Unspelled),
     }

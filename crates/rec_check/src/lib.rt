@@ -15,3 +15,6 @@ mod terms;
 
 pub use conditions::{CONDITIONAL, unconditional};
 pub use spec::Spec;
+
+#[cfg(test)]
+mod tests;

@@ -44,11 +44,7 @@ fn condition_of(alloc: Global, scope: &Scope, written: &Written) -> Result<Condi
     Ok(Condition::new(first, second, written.equal))
 }
 
-fn conditions_of(
-    alloc: Global,
-    scope: &Scope,
-    written: &[Written],
-) -> Result<Vec<Condition>, Stop>
+fn conditions_of(alloc: Global, scope: &Scope, written: &[Written]) -> Result<Vec<Condition>, Stop>
     ensures { Gives (λ v. v.items) result (all_of (condition_in (seen scope.now)) written.now) }
 {
     let mut conditions = Vec::with_capacity(alloc, written.len())?;

@@ -24,7 +24,10 @@ use std::alloc::Global;
 use symbol_pool::Symbols;
 use term_model::Flat;
 
-pub(crate) fn specification_at(specifications: &[Specification], number: usize) -> Option<&Specification>
+pub(crate) fn specification_at(
+    specifications: &[Specification],
+    number: usize,
+) -> Option<&Specification>
     ensures { option_copied result ≡ slice_get specifications.now number }
 {
     specifications.get(number)
@@ -59,11 +62,7 @@ fn add_names(variables: &mut Names, text: &[u8], names: &[Name]) -> Result<(), M
 }
 
 /// The names that a specification declares as variables.
-fn variables_of(
-    alloc: Global,
-    text: &[u8],
-    specification: &Specification,
-) -> Result<Names, Memory>
+fn variables_of(alloc: Global, text: &[u8], specification: &Specification) -> Result<Names, Memory>
     ensures { IfOk result (λ names. names ≡ spelled.variables_of text.now specification.now) }
 {
     let mut variables = Names::new(alloc);

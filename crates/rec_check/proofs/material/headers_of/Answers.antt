@@ -1,4 +1,4 @@
-use Rattle.std.proofs.Common.{◌∙◌, sym, ap, get_or}
+use Rattle.std.proofs.Common.{◌∙◌, ap, get_or}
 use Rattle.rec_offences.specs.Material.{header_after}
 use Rattle.rec_offences.specs.Names.{text_of}
 use Rattle.rec_check.proofs.Including.{progressed}

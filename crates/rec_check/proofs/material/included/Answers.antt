@@ -1,5 +1,4 @@
-use Rattle.std.proofs.Common.{◌≡◌, ℕ, ◌+◌, ◌∙◌, sym, ap, fold, drop, List}
-use Rattle.rec_offences.specs.Material.{brought, with_numbers}
+use Rattle.std.proofs.Common.{◌∙◌}
 use Rattle.rec_check.proofs.Including.{entered}
 use Rattle.rec_check.proofs.material.included.Goals as goal
 

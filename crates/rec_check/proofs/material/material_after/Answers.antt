@@ -1,4 +1,4 @@
-use Rattle.std.proofs.Common.{◌∙◌, sym, ap}
+use Rattle.std.proofs.Common.{sym}
 use Rattle.rec_check.proofs.Including.{length-headers}
 use Rattle.rec_check.proofs.material.material_after.Goals as goal
 

@@ -1,4 +1,4 @@
-use Rattle.std.proofs.Common.{sym, ◌∙◌, ap}
+use Rattle.std.proofs.Common.{◌∙◌, ap}
 use Rattle.rec_check.specs.Rule.{variables_in}
 use Rattle.rec_check.proofs.Chains.{in_scope}
 use Rattle.rec_check.proofs.rules.rule_of.Goals as goal

@@ -22,7 +22,8 @@ pub loop-number-preserved : goal.loop-number-preserved
 loop-number-preserved c =
     let text = c.args.text.now in
     elim c.match-specification_at.branch [
-      in-Some+in_ok-declare w ↦
-        rw w.table-is (brings text c.args.specifications.now c.args.material.now c.loop-number.number-index 0 c.loop-number-test.true c.loop-number.table.symbols w.in-Some.specification.now w.as_slice.result.now _ w.in-Some.ensures w.as_slice.ensures w.in_ok-declare.ensures ∙ c.loop-number.invariant)
+      | in-Some+in_ok-declare w ↦
+          rw w.table-is (brings text c.args.specifications.now c.args.material.now c.loop-number.number-index 0 c.loop-number-test.true c.loop-number.table.symbols w.in-Some.specification.now w.as_slice.result.now _ w.in-Some.ensures w.as_slice.ensures w.in_ok-declare.ensures ∙ c.loop-number.invariant)
       | in_default w ↦
-        rw w.table-is (brings_nothing text c.args.specifications.now c.args.material.now c.loop-number.number-index 0 c.loop-number-test.true c.loop-number.table.symbols w.in_default.ensures ∙ c.loop-number.invariant) ]
+          rw w.table-is (brings_nothing text c.args.specifications.now c.args.material.now c.loop-number.number-index 0 c.loop-number-test.true c.loop-number.table.symbols w.in_default.ensures ∙ c.loop-number.invariant)
+    ]

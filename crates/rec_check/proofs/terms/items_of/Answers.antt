@@ -1,7 +1,4 @@
-use Rattle.std.proofs.Common.{◌≡◌, ◌++◌, ◌∷◌, [], sym, ap, subst, drop, ◌+◌}
-use Rattle.rec_check.specs.Gives.{after}
-use Rattle.rec_check.specs.Term.{all_of, item_in}
-use Rattle.rec_check.specs.Scope.{seen}
+use Rattle.std.proofs.Common.{sym}
 use Rattle.rec_check.proofs.OneByOne.{next, broken}
 use Rattle.rec_check.proofs.terms.items_of.Goals as goal
 
