@@ -23,3 +23,4 @@ pub mod TermsBack
 pub mod Sound
 pub mod Viable
 pub mod Verdicts
+pub mod Wholeness

@@ -9,3 +9,4 @@ pub mod Parsed
 pub mod Grammar
 pub mod Refusal
 pub mod Steps
+pub mod Whole

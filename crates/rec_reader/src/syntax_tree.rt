@@ -1,5 +1,6 @@
 //! What tokens spell: specifications with their declarations, rules and terms, and every name with its place.
-ghost use Rattle.std.specs.Prelude.{◌≡◌};
+ghost use Rattle.std.specs.Prelude.{◌≡◌, All};
+ghost use Rattle.rec_reader.specs.Whole.{HasWholeTerms};
 ghost use Rattle.rec_reader.specs.Syntax.{blank_specification, blank_rule};
 
 use crate::sequence::Sequence;
@@ -95,11 +96,15 @@ pub struct Syntax {
 }
 
 impl Model for Syntax {
+    ghost use Rattle.std.specs.Prelude.{All};
     ghost use Rattle.rec_reader.specs.Parsed.{Parsed};
+    ghost use Rattle.rec_reader.specs.Whole.{HasWholeTerms};
 
     ghost Value = { Parsed };
 
     ghost view = { λ s. record { bytes = s.text.items; specifications = s.items } };
+
+    ghost invariant = { λ s. All HasWholeTerms s.items };
 }
 
 impl Syntax {
@@ -110,9 +115,10 @@ impl Syntax {
         self.text.as_slice()
     }
 
-    /// The specifications in order.
+    /// The specifications in order. Each list of nodes in them is that of one whole term.
     pub fn as_slice(&self) -> &[Specification]
-        ensures { result.now ≡ self.now.specifications }
+        ensures specifications { result.now ≡ self.now.specifications }
+        ensures whole { All HasWholeTerms self.now.specifications }
     {
         self.items.as_slice()
     }

@@ -4,7 +4,12 @@ use Rattle.rec_reader.specs.declared.token.Token.{Token}
 use Rattle.rec_reader.specs.Steps.{run, start}
 use Rattle.rec_reader.specs.Grammar.{IsInput}
 use Rattle.rec_reader.proofs.Verdicts.{refusal, no_stop, end_refusal, sentence, only_these, unended}
+use Rattle.rec_reader.proofs.Wholeness.{input_whole}
 use Rattle.rec_reader.proofs.parser.syntax.Goals as goal
+
+pub invariant_of-result : goal.invariant_of-result
+invariant_of-result c =
+    input_whole c.args.tokens.now.tokens c.in-Some.items (sentence c.args.tokens.now.tokens c.in_ok-run.field-0 c.in-Some.items (sym (ap (run start) c.as_slice.ensures) ∙ c.in_ok-run.ensures.ran) (sym c.finish.ensures ∙ c.in-Some.is))
 
 pub returns-in_err-run-clause-accepted : goal.returns-in_err-run-clause-accepted
 returns-in_err-run-clause-accepted c specs h =
