@@ -1,6 +1,5 @@
 -- What is spelled of several parts, from what each part spells.
 use Rattle.std.proofs.Common.{◌≡◌, ℕ, true, false, List, length, Option, Some, None, Result, is_some, refl, sym, ap, subst, ◌∙◌}
-use Rattle.std.specs.Prelude.{option_and_then}
 use Rattle.term_model.specs.Tree.{Tree, root}
 use Rattle.term_model.specs.declared.Head.{Head}
 use Rattle.rewrite_model.specs.Rule.{Rule, Condition}
@@ -11,7 +10,7 @@ use Rattle.rec_reader.specs.declared.syntax_tree.Specification.{Specification}
 use Rattle.rec_check.specs.declared.stop.Stop.{Stop}
 use Rattle.rec_check.specs.Gives.{Gives}
 use Rattle.rec_reader.specs.Parsed.{Parsed}
-use Rattle.rec_check.specs.Run.{before_last, last_of, material_after, spelled_in}
+use Rattle.rec_check.specs.Run.{before_last, last_of, material_after, spelled_with, spelled_in}
 use Rattle.rec_check.specs.Spelled.{Specified, spelled_by}
 use Rattle.rec_check.specs.Term.{Scope, all_of, tree_in}
 use Rattle.rec_check.specs.Rule.{◌>>=◌, condition_in, sides_in}
@@ -58,7 +57,7 @@ in_scope text symbols names vars r result e h =
 
 -- what the last specification spells, from its parts
 abbrev from_last : List ℕ → List Specification → Option Specification → Option Specified
-from_last text specifications o = option_and_then (λ last. spelled_by text specifications (material_after text (before_last specifications) last) last.terms) o
+from_last text specifications o = spelled_with (record { bytes = text; specifications = specifications }) o
 
 pub last_gives : {X : Type 0} (view : X → Specified) (syntax : Parsed) (result : Result X Stop) (text : List ℕ) (specifications earlier : List Specification) (last : Specification) (material : List ℕ) (terms : List (List Node))
     → text ≡ syntax.bytes → specifications ≡ syntax.specifications → earlier ≡ before_last specifications → Some last ≡ last_of specifications

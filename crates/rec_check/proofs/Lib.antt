@@ -10,3 +10,6 @@ pub mod Heads
 pub mod Numbered
 pub mod Plans
 pub mod Ifs
+pub mod Faultless
+pub mod Repeating
+pub mod Whole

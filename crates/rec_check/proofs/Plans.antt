@@ -23,7 +23,7 @@ use Rattle.rec_reader.specs.Parsed.{Parsed}
 use Rattle.rec_offences.specs.Names.{text_of}
 use Rattle.rec_offences.specs.Material.{symbols_of, specifications_at}
 use Rattle.rec_check.specs.Symbols.{named_in, with_symbols, widest_of}
-use Rattle.rec_check.specs.Run.{MayBeRun, last_of, before_last, material_after, spelled_in}
+use Rattle.rec_check.specs.Run.{MayBeRun, last_of, before_last, material_after, spelled_with, spelled_in}
 use Rattle.rec_check.specs.Term.{Scope, all_of, item_in, tree_in}
 use Rattle.rec_check.specs.Rule.{◌>>=◌, condition_in, rule_in, variables_in}
 use Rattle.rec_check.specs.Spelled.{Specified, nothing, variables_of, rules_in, rules_of, terms_in, with_few_rules, most_rules, spelled_by}
@@ -219,7 +219,6 @@ nothing_runs = record {
 pub last_runs : (syntax : Parsed) (made : Specified) → spelled_in syntax ≡ Some made → MayBeRun made
 last_runs syntax made h = by (last_of syntax.specifications) h
   where
-    by : (o : Option Specification)
-        → option_and_then (λ last. spelled_by syntax.bytes syntax.specifications (material_after syntax.bytes (before_last syntax.specifications) last) last.terms) o ≡ Some made → MayBeRun made
-    by None h = absurd cc
+    by : (o : Option Specification) → spelled_with syntax o ≡ Some made → MayBeRun made
+    by None h = subst MayBeRun (cc_some nothing made h) nothing_runs
     by (Some last) h = spelled_runs syntax.bytes syntax.specifications (material_after syntax.bytes (before_last syntax.specifications) last) last.terms made h

@@ -1,5 +1,5 @@
 -- The specification that a syntax spells: that of its last specification, with what it includes.
-use Rattle.std.specs.Prelude.{ℕ, ◌-◌, List, length, take, slice_get, Option, unwrap_or, option_and_then, All}
+use Rattle.std.specs.Prelude.{ℕ, ◌-◌, List, length, take, slice_get, Option, Some, None, unwrap_or, All}
 use Rattle.term_model.specs.Tree.{IsGround}
 use Rattle.rule_match.specs.Planned.{IsPlan, IsPlain, planned}
 use Rattle.rec_reader.specs.Parsed.{Parsed}
@@ -19,15 +19,17 @@ last_of specifications = slice_get specifications (length specifications - 1)
 abbrev pub before_last : List Specification → List Specification
 before_last specifications = take (length specifications - 1) specifications
 
--- what the last specification spells: what its material has, and its own terms; nothing where there is none,
--- or where a part of it spells nothing
-abbrev pub spelled_in : Parsed → Option Specified
-spelled_in s =
-    option_and_then
-    (λ last. spelled_by s.bytes s.specifications (material_after s.bytes (before_last s.specifications) last) last.terms)
-    (last_of s.specifications)
+-- what a syntax spells with this last specification: what the last one's material has, and its own terms;
+-- nothing has no last specification
+abbrev pub spelled_with : Parsed → Option Specification → Option Specified
+spelled_with s None = Some nothing
+spelled_with s (Some last) = spelled_by s.bytes s.specifications (material_after s.bytes (before_last s.specifications) last) last.terms
 
--- the specification that a syntax spells. A syntax without offence never spells nothing by this default.
+-- the specification that a syntax spells; none where some part of it spells nothing
+abbrev pub spelled_in : Parsed → Option Specified
+spelled_in s = spelled_with s (last_of s.specifications)
+
+-- the same, and nothing where there is none
 abbrev pub spelled : Parsed → Specified
 spelled s = unwrap_or (spelled_in s) nothing
 

@@ -44,7 +44,7 @@ fn spell_last(alloc: Global, syntax: &Syntax) -> Result<Spec, Stop>
                 last.terms.as_slice(),
             )
         }
-        None => Err(Stop::Unspelled),
+        None => Ok(Spec::empty(alloc)),
     }
 }
 
