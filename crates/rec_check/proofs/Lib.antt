@@ -13,3 +13,4 @@ pub mod Ifs
 pub mod Faultless
 pub mod Repeating
 pub mod Whole
+pub mod Sound

@@ -22,6 +22,12 @@ or_false false b h = (refl, h)
 pub false_or : (a b : Bool) → a ≡ false → b ≡ false → (a || b) ≡ false
 false_or a b p q = (λ i. p i || q i)
 
+abbrev pub names_in : List Declared → List Name
+names_in ds = map (λ d. d.name) ds
+
+abbrev pub few_arguments : Declared → Bool
+few_arguments d = nat_le (length d.arguments) most_arguments
+
 pub both_true : (a b : Bool) → (a && b) ≡ true → (a ≡ true) × (b ≡ true)
 both_true true b h = (refl, h)
 both_true false b h = absurd cc
@@ -77,12 +83,6 @@ module _ (bytes : List ℕ) where
       (ap (λ f. repeated bytes f xs) (append_assoc a e (x ∷ [])) ∙ beside_others a (e ++ x ∷ []) xs q.1 r.1)
 
   -- ---- symbols
-
-  abbrev pub names_in : List Declared → List Name
-  names_in ds = map (λ d. d.name) ds
-
-  abbrev pub few_arguments : Declared → Bool
-  few_arguments d = nat_le (length d.arguments) most_arguments
 
   differs : (pool : List Declared) (n : Name) (arity : ℕ) → is_among bytes (names_in pool) n ≡ false → list_any (same_symbol (named (text_of bytes n) arity)) (named_in bytes pool) ≡ false
   differs [] n arity h = refl
