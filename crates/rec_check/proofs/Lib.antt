@@ -14,3 +14,6 @@ pub mod Faultless
 pub mod Repeating
 pub mod Whole
 pub mod Sound
+pub mod Readable
+pub mod Own
+pub mod Judged

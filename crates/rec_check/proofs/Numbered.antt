@@ -67,7 +67,7 @@ module _ (text : List ℕ) (declared : List (List ℕ)) where
           last true e h = ap is_declared ((bytes_decides w n).0 e) ∙ is
           last false e h = absurd cc
 
-  all_declared : (seen ns : List (List ℕ)) → AreDeclared seen → AreDeclared (with_names seen (filter is_declared ns))
+  pub all_declared : (seen ns : List (List ℕ)) → AreDeclared seen → AreDeclared (with_names seen (filter is_declared ns))
   all_declared seen [] are = are
   all_declared seen (n ∷ ns) are = by (is_declared n) refl (list_any (bytes_eq n) seen) refl (λ before h. all_declared before ns h)
     where

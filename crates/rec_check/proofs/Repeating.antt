@@ -50,7 +50,7 @@ module _ (bytes : List ℕ) where
   pub first_new : (e xs : List Name) (x : Name) → is_among bytes e x ≡ false → repeated bytes (e ++ x ∷ []) xs ≡ [] → repeated bytes e (x ∷ xs) ≡ []
   first_new e xs x p q = (λ i. (if p i then x ∷ [] else []) ++ repeated bytes (e ++ x ∷ []) xs) ∙ q
 
-  among-append : (a e : List Name) (x : Name) → is_among bytes (a ++ e) x ≡ (is_among bytes a x || is_among bytes e x)
+  pub among-append : (a e : List Name) (x : Name) → is_among bytes (a ++ e) x ≡ (is_among bytes a x || is_among bytes e x)
   among-append a e x = any_append (same_text bytes x) a e
 
   -- fewer earlier names
