@@ -24,16 +24,16 @@ kind_empty kind (n ∷ names) h = absurd cc
 
 -- a specification after these earlier ones has no offence
 module _ (bytes : List ℕ) (earlier : List Specification) (s : Specification) where
-  abbrev headers : List Header
+  abbrev pub headers : List Header
   headers = headers_of bytes earlier
 
-  abbrev material : List ℕ
+  abbrev pub material : List ℕ
   material = included bytes headers s.includes
 
-  abbrev known : List Entry
+  abbrev pub known : List Entry
   known = included_entries earlier material
 
-  abbrev entries : List Entry
+  abbrev pub entries : List Entry
   entries = known ++ own_entries s
 
   pub record Faultless : Type 0 where

@@ -40,7 +40,7 @@ use Rattle.rec_check.proofs.Own.{all_empty, all_flat, all_filtered, visited, Hea
 
 -- ---- limits
 
-option_empty : {A : Type 0} (o : Option A) → option_to_list o ≡ [] → o ≡ None
+pub option_empty : {A : Type 0} (o : Option A) → option_to_list o ≡ [] → o ≡ None
 option_empty None h = refl
 option_empty (Some x) h = absurd cc
 
@@ -73,10 +73,10 @@ few_declared (d ∷ ds) h =
     list_all-append few_arguments (symbols_of_declaration d) (flat_map symbols_of_declaration ds)
     ∙ (λ i. few_named d.names d.arguments d.sort few i && few_declared ds (right_empty (option_to_list (slice_get d.arguments 16)) (flat_map (λ d. option_to_list (slice_get d.arguments 16)) ds) h) i)
 
-all_pair : {A : Type 0} (P Q : A → Type 0) (xs : List A) → All P xs → All Q xs → All (λ x. P x × Q x) xs
+pub all_pair : {A : Type 0} (P Q : A → Type 0) (xs : List A) → All P xs → All Q xs → All (λ x. P x × Q x) xs
 all_pair P Q xs p q = λ k d l. (p k d l, q k d l)
 
-all_mapped : {A B : Type 0} (P : B → Type 0) (f : A → B) (xs : List A) → All P (map f xs) → All (λ x. P (f x)) xs
+pub all_mapped : {A B : Type 0} (P : B → Type 0) (f : A → B) (xs : List A) → All P (map f xs) → All (λ x. P (f x)) xs
 all_mapped P f [] h = All-nil (λ x. P (f x))
 all_mapped P f (x ∷ xs) h = All-cons (λ x. P (f x)) x xs (All-head P (f x) (map f xs) h) (all_mapped P f xs (All-tail P (f x) (map f xs) h))
 
@@ -95,7 +95,7 @@ module _ (bytes : List ℕ) where
       by false e h p on = on h p.1
 
   -- each node's head is among the heads
-  heads_among : (nodes : List Node) → All (λ n. is_among bytes (heads nodes) n.head ≡ true) nodes
+  pub heads_among : (nodes : List Node) → All (λ n. is_among bytes (heads nodes) n.head ≡ true) nodes
   heads_among [] = All-nil (λ n. is_among bytes [] n.head ≡ true)
   heads_among (m ∷ nodes) =
       All-cons (λ n. is_among bytes (heads (m ∷ nodes)) n.head ≡ true) m nodes
@@ -151,7 +151,7 @@ module _ (bytes : List ℕ) where
       abbrev vars_of : List (List ℕ)
       vars_of = variables_in bytes declared_by left
 
-      not_there : (n : Node) → list_any (bytes_eq (text_of bytes n.head)) declared_by ≡ false → list_any (bytes_eq (text_of bytes n.head)) vars_of ≡ false
+      pub not_there : (n : Node) → list_any (bytes_eq (text_of bytes n.head)) declared_by ≡ false → list_any (bytes_eq (text_of bytes n.head)) vars_of ≡ false
       not_there n h = by (list_any (bytes_eq (text_of bytes n.head)) vars_of) refl
         where
           by : (b : Bool) → list_any (bytes_eq (text_of bytes n.head)) vars_of ≡ b → b ≡ false

@@ -17,3 +17,4 @@ pub mod Sound
 pub mod Readable
 pub mod Own
 pub mod Judged
+pub mod Entire

@@ -189,7 +189,7 @@ module _ (bytes : List ℕ) where
   at_last x xs = (get_or (x ∷ xs) (length (x ∷ xs) - 1) x, slice_get-get_or (x ∷ xs) (length (x ∷ xs) - 1) x (omega arith))
 
   -- a whole term has a last node
-  last_node : (nodes : List node.Node) → IsWhole nodes → (n : node.Node) × (slice_get nodes (length nodes - 1) ≡ Some n)
+  pub last_node : (nodes : List node.Node) → IsWhole nodes → (n : node.Node) × (slice_get nodes (length nodes - 1) ≡ Some n)
   last_node [] w = absurd (not_one 0 refl w)
   last_node (n ∷ nodes) w = at_last n nodes
 
