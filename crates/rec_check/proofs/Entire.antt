@@ -301,7 +301,7 @@ module _ (bytes : List ℕ) (earlier : List Specification) (s : Specification) (
 
   -- ---- the whole material
 
-  abbrev more_symbols : flat_map symbols_by (ts ++ s ∷ []) ≡ all_symbols
+  abbrev pub more_symbols : flat_map symbols_by (ts ++ s ∷ []) ≡ all_symbols
   more_symbols = flat_map-append symbols_by ts (s ∷ []) ∙ ap (λ ds. before ++ ds) (append-nil (symbols_by s))
 
   abbrev more_rules : flat_map (λ t. t.rules) (ts ++ s ∷ []) ≡ rules_of earlier (material bytes earlier s) ++ s.rules
