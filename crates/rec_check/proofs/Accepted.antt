@@ -16,7 +16,7 @@ use Rattle.rec_reader.specs.Parsed.{Parsed}
 use Rattle.rec_reader.specs.Whole.{HasWholeTerms}
 use Rattle.rec_offences.specs.Material.{Header, symbols_by, specifications_at, included, headers_of, header_after}
 use Rattle.rec_offences.specs.Offences.{most}
-use Rattle.rec_offences.specs.Faults.{offences_after, offences_from}
+use Rattle.rec_offences.specs.Faults.{offences_after, offences_from, offences_of}
 use Rattle.rec_check.specs.Rule.{◌>>=◌}
 use Rattle.rec_check.specs.Symbols.{named_in, with_symbols}
 use Rattle.rec_check.specs.Spelled.{Specified, rules_of, terms_in, with_few_rules, most_rules}
@@ -65,7 +65,6 @@ fold_push f b [] x = refl
 fold_push f b (y ∷ xs) x = fold_push f (f b y) xs x
 
 module _ (bytes : List ℕ) where
-
   module _ (earlier : List Specification) (s : Specification) (f : Faultless bytes earlier s) (w : HasWholeTerms s) (all : All (λ h. IsSound bytes earlier h.material) (headers_of bytes earlier)) where
     abbrev now : List Specification
     now = earlier ++ s ∷ []
@@ -126,17 +125,17 @@ module _ (bytes : List ℕ) where
         let a : with_symbols [] symbols ≡ Some symbols = all_added bytes [] ds together.distinct together.few (omega arith) in
         let b = rules_spelled bytes symbols us together.reads in
         let terms : All (TermReads bytes symbols []) s.terms =
-          let P : List Named → Type 0 = λ ns. All (TermReads bytes ns []) s.terms in
-          subst P (ap (named_in bytes) (sym (more_symbols bytes earlier s f w))) (terms_of_last bytes earlier s f w (together_of bytes earlier (material bytes earlier s) inner)) in
+        let P : List Named → Type 0 = λ ns. All (TermReads bytes ns []) s.terms in
+        subst P (ap (named_in bytes) (sym (more_symbols bytes earlier s f w))) (terms_of_last bytes earlier s f w (together_of bytes earlier (material bytes earlier s) inner)) in
         let c = terms_spelled bytes symbols s.terms terms in
         let len : length b.0 ≡ length (flat_map (λ t. t.rules) us) = length-rules bytes symbols us b.0 b.1 in
         let few : nat_le (length b.0) most_rules ≡ true = grind (arith, nat_tests) in
         let made : Specified = record { symbols = symbols; rules = b.0; terms = c.0 } in
         let all_parts : parts us ≡ Some made =
-          goes (with_symbols [] symbols) symbols (λ symbols. rules_of bytes symbols us >>= λ rules. terms_in bytes symbols s.terms >>= λ trees. with_few_rules (record { symbols = symbols; rules = rules; terms = trees })) a
-          ∙ goes (rules_of bytes symbols us) b.0 (λ rules. terms_in bytes symbols s.terms >>= λ trees. with_few_rules (record { symbols = symbols; rules = rules; terms = trees })) b.1
-          ∙ goes (terms_in bytes symbols s.terms) c.0 (λ trees. with_few_rules (record { symbols = symbols; rules = b.0; terms = trees })) c.1
-          ∙ ap (λ t. if t then Some made else None) few in
+        goes (with_symbols [] symbols) symbols (λ symbols. rules_of bytes symbols us >>= λ rules. terms_in bytes symbols s.terms >>= λ trees. with_few_rules (record { symbols = symbols; rules = rules; terms = trees })) a
+        ∙ goes (rules_of bytes symbols us) b.0 (λ rules. terms_in bytes symbols s.terms >>= λ trees. with_few_rules (record { symbols = symbols; rules = rules; terms = trees })) b.1
+        ∙ goes (terms_in bytes symbols s.terms) c.0 (λ trees. with_few_rules (record { symbols = symbols; rules = b.0; terms = trees })) c.1
+        ∙ ap (λ t. if t then Some made else None) few in
         ap is_some all_parts
 
     last_spelled : is_some (spelled_in (record { bytes = bytes; specifications = now })) ≡ true
@@ -166,3 +165,9 @@ module _ (bytes : List ℕ) where
   pub accepted : (specs : List Specification) → offences_from bytes [] specs ≡ [] → All HasWholeTerms specs → is_some (spelled_in (record { bytes = bytes; specifications = specs })) ≡ true
   accepted [] h w = refl
   accepted (s ∷ ss) h w = accepted_from [] s ss (All-nil (λ h. IsSound bytes [] h.material)) h w
+
+-- nothing but an offence keeps an input from being spelled
+pub never_unspelled : (syntax : Parsed) → offences_of syntax ≡ [] → All HasWholeTerms syntax.specifications → spelled_in syntax ≡ None → ⊥
+never_unspelled syntax h w none =
+    let bad : false ≡ true = sym (ap is_some none) ∙ accepted syntax.bytes syntax.specifications h w in
+    cc

@@ -263,8 +263,8 @@ module _ (bytes : List ℕ) (earlier : List Specification) (s : Specification) (
         let right_heads = All-head H r.right sides (All-tail H r.left (r.right ∷ sides) heads_of) in
         let side_heads : All (λ c. All H (c.first ∷ c.second ∷ [])) r.conditions = all_flat H (λ c. c.first ∷ c.second ∷ []) r.conditions (All-tail H r.right sides (All-tail H r.left (r.right ∷ sides) heads_of)) in
         let bound : All (IsBound r) (nodes_but_left r) =
-          All-weaker (λ n. (is_var n.head && not (among_left r n.head)) ≡ false) (IsBound r) (λ n h k. implied (is_var n.head) (among_left r n.head) h k) (nodes_but_left r)
-          (all_mapped (λ n. (is_var n && not (among_left r n)) ≡ false) (λ n. n.head) (nodes_but_left r) free) in
+        All-weaker (λ n. (is_var n.head && not (among_left r n.head)) ≡ false) (IsBound r) (λ n h k. implied (is_var n.head) (among_left r n.head) h k) (nodes_but_left r)
+        (all_mapped (λ n. (is_var n && not (among_left r n)) ≡ false) (λ n. n.head) (nodes_but_left r) free) in
         let others = flat_map (λ c. c.first ++ c.second) r.conditions in
         let right_bound = all_front (IsBound r) r.right others bound in
         let side_bound : All (λ c. All (IsBound r) (c.first ++ c.second)) r.conditions = all_flat (IsBound r) (λ c. c.first ++ c.second) r.conditions (all_back (IsBound r) r.right others bound) in
@@ -273,19 +273,19 @@ module _ (bytes : List ℕ) (earlier : List Specification) (s : Specification) (
           left = term_read bytes all_symbols s few r.left r.left whole.left left_heads left_bound;
           right = term_read bytes all_symbols s few r.left r.right whole.right right_heads right_bound;
           conditions = λ k d l.
-            let c = get_or r.conditions k d in
-            let hs = side_heads k d l in
-            let bs = side_bound k d l in
-            let ws = whole.conditions k d l in
-            record {
-              first = term_read bytes all_symbols s few r.left c.first ws.first (All-head H c.first (c.second ∷ []) hs) (all_front (IsBound r) c.first c.second bs);
-              second = term_read bytes all_symbols s few r.left c.second ws.second (All-head H c.second [] (All-tail H c.first (c.second ∷ []) hs)) (all_back (IsBound r) c.first c.second bs);
-            };
+              let c = get_or r.conditions k d in
+              let hs = side_heads k d l in
+              let bs = side_bound k d l in
+              let ws = whole.conditions k d l in
+              record {
+                first = term_read bytes all_symbols s few r.left c.first ws.first (All-head H c.first (c.second ∷ []) hs) (all_front (IsBound r) c.first c.second bs);
+                second = term_read bytes all_symbols s few r.left c.second ws.second (All-head H c.second [] (All-tail H c.first (c.second ∷ []) hs)) (all_back (IsBound r) c.first c.second bs);
+              };
           head = λ n e.
-            let there : root r.left ≡ Some n.head = ap (option_map (λ n. n.head)) e in
-            let no : is_var n.head ≡ false = All-head (λ m. is_var m ≡ false) n.head [] (subst (λ o. All (λ m. is_var m ≡ false) (option_to_list o)) there bare) in
-            let absent = by_head r n (All-at bytes IsHead r.left (length r.left - 1) n left_heads e) no in
-            none_of (position (bytes_eq (text_of bytes n.head)) (variables_in bytes (variables_of bytes s) r.left)) (place_if_any (bytes_eq (text_of bytes n.head)) (variables_in bytes (variables_of bytes s) r.left) ∙ absent);
+              let there : root r.left ≡ Some n.head = ap (option_map (λ n. n.head)) e in
+              let no : is_var n.head ≡ false = All-head (λ m. is_var m ≡ false) n.head [] (subst (λ o. All (λ m. is_var m ≡ false) (option_to_list o)) there bare) in
+              let absent = by_head r n (All-at bytes IsHead r.left (length r.left - 1) n left_heads e) no in
+              none_of (position (bytes_eq (text_of bytes n.head)) (variables_in bytes (variables_of bytes s) r.left)) (place_if_any (bytes_eq (text_of bytes n.head)) (variables_in bytes (variables_of bytes s) r.left) ∙ absent);
         }
       where
         by_head : (r : Rule) (n : Node) → IsHead n → is_var n.head ≡ false → list_any (bytes_eq (text_of bytes n.head)) (variables_in bytes (variables_of bytes s) r.left) ≡ false
@@ -318,7 +318,7 @@ module _ (bytes : List ℕ) (earlier : List Specification) (s : Specification) (
       let few_s = within_most (length before) (symbols_by s) t.few_symbols no_symbol_past in
       let few_r = within_most (length (rules_of earlier (material bytes earlier s))) s.rules t.few_rules no_rule_past in
       let holds : Holds (named_in bytes before) own_symbols =
-        subst (Holds (named_in bytes before)) (sym (map-append (λ d. named (text_of bytes d.name) (length d.arguments)) before (symbols_by s))) (holds_first (named_in bytes before) (named_in bytes (symbols_by s))) in
+      subst (Holds (named_in bytes before)) (sym (map-append (λ d. named (text_of bytes d.name) (length d.arguments)) before (symbols_by s))) (holds_first (named_in bytes before) (named_in bytes (symbols_by s))) in
       record {
         distinct =
             ap (λ ds. repeated bytes [] (map (λ d. d.name) ds)) more_symbols

@@ -164,7 +164,7 @@ module _ (bytes : List ℕ) where
       head_read n (inl h) among = symbol_read vars_of n (not_there n h.not_declared) h
       head_read n (inr h) among =
           let there : list_any (bytes_eq (text_of bytes n.head)) vars_of ≡ true =
-            any_with_names bytes (text_of bytes n.head) [] (filter (λ name. list_any (bytes_eq name) declared_by) (map (λ m. text_of bytes m.head) left)) ∙ among_variables declared_by left n.head (among h.a_variable) h.declared in
+          any_with_names bytes (text_of bytes n.head) [] (filter (λ name. list_any (bytes_eq name) declared_by) (map (λ m. text_of bytes m.head) left)) ∙ among_variables declared_by left n.head (among h.a_variable) h.declared in
           let x = some_of (position (bytes_eq (text_of bytes n.head)) vars_of) (place_if_any (bytes_eq (text_of bytes n.head)) vars_of ∙ there) in
           ap (λ o. is_some (item_by (named_in bytes symbols) (text_of bytes n.head) n.count o)) x.1
           ∙ ap (λ c. is_some (variable_item x.0 c)) h.alone

@@ -128,9 +128,10 @@ module _ (bytes : List ℕ) where
   all_spelled f [] a = ([], refl)
   all_spelled {X} {Y} f (x ∷ xs) a =
       let y = some_of (f x) (All-head (λ z. is_some (f z) ≡ true) x xs a) in
-      let ys = all_spelled f xs (All-tail (λ z. is_some (f z) ≡ true) x xs a) in
-      (y.0 ∷ ys.0,
-      ap (λ o. option_and_then (λ z. option_map (λ more. z ∷ more) (all_of f xs)) o) y.1 ∙ ap (option_map (λ more. y.0 ∷ more)) ys.1)
+      let ys = all_spelled f xs (All-tail (λ z. is_some (f z) ≡ true) x xs a) in (
+        y.0 ∷ ys.0,
+        ap (λ o. option_and_then (λ z. option_map (λ more. z ∷ more) (all_of f xs)) o) y.1 ∙ ap (option_map (λ more. y.0 ∷ more)) ys.1,
+      )
 
   -- what stands at a place is spelled there
   spelled_at : {X Y : Type 0} (f : X → Option Y) (xs : List X) (ys : List Y) (k : ℕ) (x : X) (y : Y) → all_of f xs ≡ Some ys → slice_get xs k ≡ Some x → f x ≡ Some y → slice_get ys k ≡ Some y
@@ -219,17 +220,17 @@ module _ (bytes : List ℕ) where
       let made : Rule = record { left = a.tree; right = b.tree; conditions = c.0; vars = length vars } in
       ap is_some (sides s r a.tree b.tree c.0 (Some h.0) made (length vars) a.spelled b.spelled c.1 (sym h.1) (λ e. absurd cc) refl refl)
 
-
   -- all rules of a specification, and of a list of specifications
   pub rules_spelled : (symbols : List Named) (ts : List Specification) → All (Reads symbols) ts → (rules : List Rule) × (rules_of bytes symbols ts ≡ Some rules)
   rules_spelled symbols [] a = ([], refl)
   rules_spelled symbols (t ∷ ts) a =
       let declared = variables_of bytes t in
       let one = all_spelled (λ r. rule_in bytes symbols declared r) t.rules (All-weaker (RuleReads symbols declared) (λ r. is_some (rule_in bytes symbols declared r) ≡ true) (λ r x. rule_spelled symbols declared r x) t.rules (All-head (Reads symbols) t ts a)) in
-      let rest = rules_spelled symbols ts (All-tail (Reads symbols) t ts a) in
-      (one.0 ++ rest.0,
-      goes (rules_in bytes symbols t) one.0 (λ rules. rules_of bytes symbols ts >>= λ more. Some (rules ++ more)) one.1
-      ∙ goes (rules_of bytes symbols ts) rest.0 (λ more. Some (one.0 ++ more)) rest.1)
+      let rest = rules_spelled symbols ts (All-tail (Reads symbols) t ts a) in (
+        one.0 ++ rest.0,
+        goes (rules_in bytes symbols t) one.0 (λ rules. rules_of bytes symbols ts >>= λ more. Some (rules ++ more)) one.1
+            ∙ goes (rules_of bytes symbols ts) rest.0 (λ more. Some (one.0 ++ more)) rest.1,
+      )
 
   -- how many rules are spelled
   pub length-rules : (symbols : List Named) (ts : List Specification) (rules : List Rule) → rules_of bytes symbols ts ≡ Some rules → length rules ≡ length (flat_map (λ t. t.rules) ts)

@@ -60,8 +60,8 @@ module _ (bytes : List ℕ) where
   pub within_more : (e f more : List Name) → Within e f → Within (e ++ more) (f ++ more)
   within_more e f more w = record {
     each = λ n h.
-      let p = or_false (is_among bytes f n) (is_among bytes more n) (sym (among-append f more n) ∙ h) in
-      among-append e more n ∙ false_or (is_among bytes e n) (is_among bytes more n) (w.each n p.0) p.1;
+        let p = or_false (is_among bytes f n) (is_among bytes more n) (sym (among-append f more n) ∙ h) in
+        among-append e more n ∙ false_or (is_among bytes e n) (is_among bytes more n) (w.each n p.0) p.1;
   }
 
   pub within_after : (e f more : List Name) → Within e f → Within e (f ++ more)

@@ -125,10 +125,10 @@ module _ (bytes : List ℕ) (Reads : List Named → Specification → Type 0) (k
       by false p q =
           let new = fresh (a ++ n ∷ []) ns in
           let first : repeated bytes e (symbol_names specs (n ∷ [])) ≡ [] =
-            fewer bytes e f (symbol_names specs (n ∷ [])) w (left_empty (repeated bytes f (symbol_names specs (n ∷ []))) (repeated bytes (f ++ symbol_names specs (n ∷ [])) (symbol_names specs ns)) both) in
+          fewer bytes e f (symbol_names specs (n ∷ [])) w (left_empty (repeated bytes f (symbol_names specs (n ∷ []))) (repeated bytes (f ++ symbol_names specs (n ∷ [])) (symbol_names specs ns)) both) in
           let rest : repeated bytes (e ++ symbol_names specs (n ∷ [])) (symbol_names specs new) ≡ [] =
-            q (e ++ symbol_names specs (n ∷ [])) (f ++ symbol_names specs (n ∷ [])) (within_more bytes e f (symbol_names specs (n ∷ [])) w)
-            (right_empty (repeated bytes f (symbol_names specs (n ∷ []))) (repeated bytes (f ++ symbol_names specs (n ∷ [])) (symbol_names specs ns)) both) in
+          q (e ++ symbol_names specs (n ∷ [])) (f ++ symbol_names specs (n ∷ [])) (within_more bytes e f (symbol_names specs (n ∷ [])) w)
+          (right_empty (repeated bytes f (symbol_names specs (n ∷ []))) (repeated bytes (f ++ symbol_names specs (n ∷ [])) (symbol_names specs ns)) both) in
           ap (repeated bytes e) (names-append specs (n ∷ []) new) ∙ repeated-append bytes e (symbol_names specs (n ∷ [])) (symbol_names specs new) ∙ (λ i. first i ++ rest i)
 
   few_append : (specs : List Specification) (a b : List ℕ) → list_all few_arguments (symbols_of specs (a ++ b)) ≡ (list_all few_arguments (symbols_of specs a) && list_all few_arguments (symbols_of specs b))
@@ -195,7 +195,7 @@ module _ (bytes : List ℕ) (Reads : List Named → Specification → Type 0) (k
           let regroup : (a ++ n ∷ []) ++ new ≡ a ++ n ∷ new = append_assoc a (n ∷ []) new in
           or_cases (any_at s specs (n ∷ [])) (any_at s specs ns) (sym (any_at-append s specs (n ∷ []) ns) ∙ h)
           (λ k. any_at-append s specs a (n ∷ new) ∙ or_right (any_at s specs a) (any_at s specs (n ∷ new))
-            (any_at-append s specs (n ∷ []) new ∙ or_left (any_at s specs (n ∷ [])) (any_at s specs new) k))
+          (any_at-append s specs (n ∷ []) new ∙ or_left (any_at s specs (n ∷ [])) (any_at s specs new) k))
           (λ k. ap (any_at s specs) (sym regroup) ∙ q k)
 
   pub holds_brought : (specs : List Specification) (a b : List ℕ) → Holds (symbols_at specs b) (symbols_at specs (with_numbers a b))
@@ -223,7 +223,7 @@ module _ (bytes : List ℕ) (Reads : List Named → Specification → Type 0) (k
       let none : Within bytes [] [] = record { each = λ n h. h } in
       let alone : repeated bytes [] (symbol_names specs new) ≡ [] = distinct_fresh specs i.before brings [] [] none b.distinct in
       let beside : repeated bytes (symbol_names specs i.before) (symbol_names specs new) ≡ [] =
-        ap (λ f. repeated bytes f (symbol_names specs new)) (sym (append-nil (symbol_names specs i.before))) ∙ beside_others bytes (symbol_names specs i.before) [] (symbol_names specs new) clash' alone in
+      ap (λ f. repeated bytes f (symbol_names specs new)) (sym (append-nil (symbol_names specs i.before))) ∙ beside_others bytes (symbol_names specs i.before) [] (symbol_names specs new) clash' alone in
       record {
         within = list_all-append (λ n. nat_lt n (length specs)) i.before new ∙ (λ j. a.within j && pass_fresh (λ n. nat_lt n (length specs)) i.before brings b.within j);
         distinct = ap (repeated bytes []) (names-append specs i.before new) ∙ repeated-append bytes [] (symbol_names specs i.before) (symbol_names specs new) ∙ (λ j. a.distinct j ++ beside j);

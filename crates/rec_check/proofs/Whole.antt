@@ -40,9 +40,9 @@ variable_over x = record { push = λ stack l. (Leaf x ∷ stack, refl, omega ari
 pub symbol_over : (f n : ℕ) → IsOver (App (record { 0 = f }) n) n
 symbol_over f n = record {
   push = λ stack l.
-    let r = takes n stack End l in
-    let c = r.count in
-    (Node (head.App (record { 0 = f })) r.args ∷ r.left, ap (push_over (head.App (record { 0 = f }))) r.is, omega arith);
+      let r = takes n stack End l in
+      let c = r.count in
+      (Node (head.App (record { 0 = f })) r.args ∷ r.left, ap (push_over (head.App (record { 0 = f }))) r.is, omega arith);
 }
 
 module _ (f : written.Node → Option Item) (over : (n : written.Node) (i : Item) → f n ≡ Some i → IsOver i n.count) where

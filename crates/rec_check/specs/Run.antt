@@ -1,5 +1,5 @@
 -- The specification that a syntax spells: that of its last specification, with what it includes.
-use Rattle.std.specs.Prelude.{ℕ, ◌-◌, List, length, take, slice_get, Option, Some, None, unwrap_or, All}
+use Rattle.std.specs.Prelude.{ℕ, ◌-◌, List, length, take, slice_get, Option, Some, None, All}
 use Rattle.term_model.specs.Tree.{IsGround}
 use Rattle.rule_match.specs.Planned.{IsPlan, IsPlain, planned}
 use Rattle.rec_reader.specs.Parsed.{Parsed}
@@ -28,10 +28,6 @@ spelled_with s (Some last) = spelled_by s.bytes s.specifications (material_after
 -- the specification that a syntax spells; none where some part of it spells nothing
 abbrev pub spelled_in : Parsed → Option Specified
 spelled_in s = spelled_with s (last_of s.specifications)
-
--- the same, and nothing where there is none
-abbrev pub spelled : Parsed → Specified
-spelled s = unwrap_or (spelled_in s) nothing
 
 -- What is spelled may be run: its rules make a plan, and its terms have no variables and no symbol over more
 -- arguments than the greatest number.

@@ -1,6 +1,6 @@
 //! Inputs, and the specifications that they spell.
 
-use crate::last::spelled;
+use crate::last::spell_last;
 use crate::{Spec, unconditional};
 use rec_reader::{ReadFail, Syntax, syntax, tokens};
 use rewrite_model::Rule;
@@ -141,7 +141,7 @@ fn items_of(alloc: Global, spec: &Spec) -> Result<Vec<Item>, ReadFail> {
 #[test]
 fn a_syntax_spells_its_last_specification(rt: HostRuntime) -> Result<(), Fail> {
     for row in &ROWS {
-        let spec = spelled(rt.alloc(), &read(rt.alloc(), row.input)?)?;
+        let spec = spell_last(rt.alloc(), &read(rt.alloc(), row.input)?)?;
         assert_eq!(rt; items_of(rt.alloc(), &spec)?.as_slice(), row.items);
         for (number, (name, arity)) in row.symbols.iter().enumerate() {
             assert_eq!(rt;
@@ -164,7 +164,7 @@ fn the_greatest_arity_is_known(rt: HostRuntime) -> Result<(), Fail> {
         ),
     ];
     for (input, widest) in rows {
-        let spec = spelled(rt.alloc(), &read(rt.alloc(), input)?)?;
+        let spec = spell_last(rt.alloc(), &read(rt.alloc(), input)?)?;
         assert_eq!(rt; spec.widest, widest);
     }
     Ok(())
