@@ -1,2 +1,4 @@
+pub mod Gathered
+pub mod Including
 pub mod Noted
 pub mod Places

@@ -113,10 +113,22 @@ looks_more bytes names es new n k i absent text place is looks q =
     ∙ (λ j. or_else (place_in (λ m. bytes_eq q (text_of bytes m)) names) (cond (pointwise nat_eq q (text j)) (Some (place j)) None))
     ∙ sym (place_more (λ m. bytes_eq q (text_of bytes m)) names n)
 
+-- two texts are the same in either order
+pub same_either_way : (a b : List ℕ) → bytes_eq a b ≡ bytes_eq b a
+same_either_way a b = by (bytes_eq a b) (bytes_eq b a) refl refl
+  where
+    by : (p q : Bool) → bytes_eq a b ≡ p → bytes_eq b a ≡ q → p ≡ q
+    by true true e f = refl
+    by false false e f = refl
+    by true false e f = absurd (true≢false (sym ((bytes_decides b a).1 (sym ((bytes_decides a b).0 e))) ∙ f))
+    by false true e f = absurd (true≢false (sym ((bytes_decides a b).1 (sym ((bytes_decides b a).0 f))) ∙ e))
+
 -- what an entry brings stands at the place of its name
 pub brought_at : (bytes : List ℕ) (headers : List Header) (n : Name) → brought bytes headers n ≡ option_map_or (material_at headers) (place_in (same_text bytes n) (map (λ h. h.name) headers)) []
 brought_at bytes [] n = refl
-brought_at bytes (h ∷ hs) n = by (same_text bytes n h.name) (place_in (same_text bytes n) (map (λ x. x.name) hs)) (brought_at bytes hs n)
+brought_at bytes (h ∷ hs) n =
+    ap (λ b. cond b h.material (brought bytes hs n)) (same_either_way (text_of bytes h.name) (text_of bytes n))
+    ∙ by (same_text bytes n h.name) (place_in (same_text bytes n) (map (λ x. x.name) hs)) (brought_at bytes hs n)
   where
     by : (b : Bool) (o : Option ℕ) → brought bytes hs n ≡ option_map_or (material_at hs) o [] → cond b h.material (brought bytes hs n) ≡ option_map_or (material_at (h ∷ hs)) (cond b (Some 0) (option_map suc o)) []
     by true o e = refl

@@ -53,7 +53,7 @@ header name material = record { name = name; material = material }
 -- what an entry of a list of includes brings: the material of the first header with its name, or nothing
 abbrev pub brought : List ℕ → List Header → Name → List ℕ
 brought bytes [] entry = []
-brought bytes (h ∷ hs) entry = if same_text bytes entry h.name then h.material else brought bytes hs entry
+brought bytes (h ∷ hs) entry = if same_text bytes h.name entry then h.material else brought bytes hs entry
 
 -- the numbers that aren't among these yet, each once at its first mention
 abbrev pub fresh : List ℕ → List ℕ → List ℕ

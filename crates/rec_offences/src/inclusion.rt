@@ -1,6 +1,7 @@
 //! What the entries of a list of includes bring.
-ghost use Rattle.std.specs.Prelude.{◌≡◌, ℕ, ◌+◌, ◌++◌, ◌∷◌, [], IfOk, OnOk, length, map};
+ghost use Rattle.std.specs.Prelude.{◌≡◌, ℕ, ◌+◌, ◌++◌, ◌∷◌, [], ◌||◌, IfOk, OnOk, length, map, slice_get};
 ghost use Rattle.std.specs.List.{list_any};
+ghost use Rattle.std.specs.Option.{option_copied};
 ghost use Rattle.rec_offences.specs.Names.{is_among};
 ghost use Rattle.rec_offences.specs.Material.{brought, fresh, with_numbers, included, sorts_of, rules_of};
 ghost use Rattle.rec_offences.specs.Scope.{names_of};
@@ -57,6 +58,27 @@ fn add_fresh(
     Ok(added)
 }
 
+fn specification_at(earlier: &[Specification], number: usize) -> Option<&Specification>
+    ensures { option_copied result ≡ slice_get earlier.now number }
+{
+    earlier.get(number)
+}
+
+/// Adds the symbols of the specification with this number.
+fn add_symbols_at<'a>(
+    earlier: &'a [Specification],
+    number: usize,
+    signatures: &mut Vec<Signature<'a>>,
+) -> Result<(), Memory>
+    ensures { OnOk result (entries_of signatures.new.items
+        ≡ entries_of signatures.old.items ++ included_entries earlier.now (number ∷ [])) }
+{
+    match specification_at(earlier, number) {
+        Some(specification) => add_symbols(specification, signatures),
+        None => Ok(()),
+    }
+}
+
 /// The symbols of the specifications with these numbers.
 fn symbols_at<'a>(
     alloc: Global,
@@ -67,11 +89,19 @@ fn symbols_at<'a>(
 {
     let mut signatures = Vec::new(alloc);
     for number in numbers {
-        if let Some(specification) = earlier.get(*number) {
-            add_symbols(specification, &mut signatures)?;
-        }
+        add_symbols_at(earlier, *number, &mut signatures)?;
     }
     Ok(signatures)
+}
+
+/// The sorts of the specification with this number.
+fn sorts_at(earlier: &[Specification], number: usize) -> &[Name]
+    ensures { result.now ≡ sorts_of earlier.now (number ∷ []) }
+{
+    match specification_at(earlier, number) {
+        Some(specification) => specification.sorts.as_slice(),
+        None => &[],
+    }
 }
 
 /// Adds the sorts of the specifications with these numbers.
@@ -83,22 +113,28 @@ fn add_sorts(
     ensures { OnOk result (sorts.new ≡ listing sorts.old.bytes (sorts.old.names ++ sorts_of earlier.now numbers.now)) }
 {
     for number in numbers {
-        if let Some(specification) = earlier.get(*number) {
-            sorts.add_all(specification.sorts.as_slice())?;
-        }
+        sorts.add_all(sorts_at(earlier, *number))?;
     }
     Ok(())
 }
 
+/// How many rules the specification with this number has.
+fn rules_at(earlier: &[Specification], number: usize) -> usize
+    ensures { result ≡ length (rules_of earlier.now (number ∷ [])) }
+{
+    match specification_at(earlier, number) {
+        Some(specification) => specification.rules.as_slice().len(),
+        None => 0,
+    }
+}
+
 /// How many rules there are with those of the specifications with these numbers.
 fn count_rules(earlier: &[Specification], numbers: &[usize], before: usize) -> usize
-    ensures { (n : ℕ) → before ≡ counted n → result ≡ counted (n + length (rules_of earlier.now numbers.now)) }
+    ensures { result ≡ counted (before + length (rules_of earlier.now numbers.now)) }
 {
     let mut rules = before;
     for number in numbers {
-        if let Some(specification) = earlier.get(*number) {
-            rules = rules.saturating_add(specification.rules.as_slice().len());
-        }
+        rules = rules.saturating_add(rules_at(earlier, *number));
     }
     rules
 }
@@ -120,6 +156,13 @@ fn passes(before: usize, after: usize) -> bool
     ensures { result ≡ passes before after }
 {
     before <= MOST && after > MOST
+}
+
+/// Whether the symbols pass the limit in between, or the rules do.
+fn one_passes(symbols: (usize, usize), rules: (usize, usize)) -> bool
+    ensures { result ≡ (passes symbols.0 symbols.1 || passes rules.0 rules.1) }
+{
+    passes(symbols.0, symbols.1) || passes(rules.0, rules.1)
 }
 
 impl<'a> Inclusion<'a> {
@@ -163,7 +206,7 @@ impl<'a> Inclusion<'a> {
         self.scope.add_all(&signatures)?;
         add_sorts(&mut self.sorts, earlier, &added)?;
         self.rules = count_rules(earlier, &added, rules);
-        let is_passing = passes(symbols, self.scope.len()) || passes(rules, self.rules);
+        let is_passing = one_passes((symbols, self.scope.len()), (rules, self.rules));
         self.verdicts.push(Verdict {
             entry,
             is_clashing,

@@ -93,12 +93,22 @@ fn note_long_names(found: &mut Option<Offence>, text: &[u8], specification: &Spe
     }
 }
 
+/// The 17th sort of arguments.
+fn past_arguments(arguments: &[Name]) -> Option<Name>
+    ensures { result ≡ slice_get arguments.now 16 }
+{
+    match arguments.get(16) {
+        Some(sort) => Some(*sort),
+        None => None,
+    }
+}
+
 /// Notes the 17th sorts of arguments.
 fn note_many_arguments(found: &mut Option<Offence>, declarations: &[Declaration])
     ensures { found.new ≡ least_with found.old (of_kind LIMIT (flat_map (λ d. option_to_list (slice_get d.arguments 16)) declarations.now)) }
 {
     for declaration in declarations {
-        note_some(found, LIMIT, declaration.arguments.as_slice().get(16).copied());
+        note_some(found, LIMIT, past_arguments(declaration.arguments.as_slice()));
     }
 }
 
