@@ -1,9 +1,13 @@
 -- Offences that are noted one after another.
-use Rattle.std.proofs.Common.{◌≡◌, ℕ, suc, ◌+◌, ◌<◌, Bool, true, false, cond, List, [], ◌∷◌, ◌++◌, length, map, drop, get_or, Option, refl, sym, ap, ◌∙◌, add-one, arith, drop-cons}
+use Rattle.std.proofs.Common.{◌≡◌, ℕ, suc, ◌+◌, ◌<◌, ◌≤◌, min, length-drop, Bool, true, false, cond, List, [], ◌∷◌, ◌++◌, length, map, drop, get_or, Option, refl, sym, ap, ◌∙◌, add-one, arith, drop-cons}
 use Rattle.std.specs.List.{filter, flat_map}
 use Rattle.rec_reader.specs.declared.token.Name.{Name}
+use Rattle.rec_reader.specs.declared.syntax_tree.Node.{Node}
 use Rattle.rec_offences.specs.declared.offence.Offence.{Offence}
-use Rattle.rec_offences.specs.Faults.{lesser, least_with, of_kind}
+use Rattle.rec_offences.specs.Scope.{Entry, heads}
+use Rattle.rec_offences.specs.Offences.{clashing}
+use Rattle.rec_offences.specs.Faults.{lesser, least_with, of_kind, offence_at}
+use Rattle.rec_offences.proofs.Gathered.{drop_all}
 
 pub least_append : (found : Option Offence) (xs ys : List Offence) → least_with found (xs ++ ys) ≡ least_with (least_with found xs) ys
 least_append found [] ys = refl
@@ -31,3 +35,30 @@ module _ {X : Type 0} (all : List X → List Offence) (one : X → List Offence)
     where
       drop_at : (ys : List X) (j : ℕ) (y : X) → j < length ys → y ≡ get_or ys j y → drop j ys ≡ y ∷ drop (j + 1) ys
       drop_at ys j y l e = drop-cons ys j y l ∙ ap (λ z. z ∷ drop (suc j) ys) (sym e) ∙ ap (λ k. y ∷ drop k ys) (sym (add-one j))
+
+-- after all items
+pub noted_end : {X : Type 0} (all : List X → List Offence) → all [] ≡ [] → (xs : List X) (i : ℕ) (found start : Option Offence) → length xs ≤ i →
+    least_with found (all (drop i xs)) ≡ start → found ≡ start
+noted_end all empty xs i found start l was = sym (ap (λ ys. least_with found (all ys)) (drop_all xs i l) ∙ ap (least_with found) empty) ∙ was
+
+-- what is noted of the heads of nodes is noted of one part and then of the other
+pub marks_append : (kind : ℕ) (test : Name → Bool) (xs ys : List Node) →
+    of_kind kind (filter test (heads (xs ++ ys))) ≡ of_kind kind (filter test (heads xs)) ++ of_kind kind (filter test (heads ys))
+marks_append kind test [] ys = refl
+marks_append kind test (x ∷ xs) ys = by (test x.head) (marks_append kind test xs ys)
+  where
+    by : (b : Bool) → of_kind kind (filter test (heads (xs ++ ys))) ≡ of_kind kind (filter test (heads xs)) ++ of_kind kind (filter test (heads ys)) →
+        of_kind kind (cond b (x.head ∷ filter test (heads (xs ++ ys))) (filter test (heads (xs ++ ys))))
+        ≡ of_kind kind (cond b (x.head ∷ filter test (heads xs)) (filter test (heads xs))) ++ of_kind kind (filter test (heads ys))
+    by true e = ap (λ os. offence_at kind x.head ∷ os) e
+    by false e = e
+
+-- no argument is left, or no sort
+pub clashing_end : (bytes : List ℕ) (entries : List Entry) (wanted arguments : List Name) (k : ℕ) → min (length wanted) (length arguments) ≤ k →
+    clashing bytes entries (drop k wanted) (drop k arguments) ≡ []
+clashing_end bytes entries wanted arguments k h = by (drop k wanted) (drop k arguments) (omega (arith, length-drop k wanted, length-drop k arguments))
+  where
+    by : (ws xs : List Name) → min (length ws) (length xs) ≡ 0 → clashing bytes entries ws xs ≡ []
+    by [] xs e = refl
+    by (w ∷ ws) [] e = refl
+    by (w ∷ ws) (x ∷ xs) e = absurd (omega arith)

@@ -1,10 +1,11 @@
 //! Offences of variables.
-ghost use Rattle.std.specs.Prelude.{◌≡◌, ◌∷◌, [], OnOk, not, ◌&&◌};
+ghost use Rattle.std.specs.Prelude.{◌≡◌, ◌++◌, ◌∷◌, [], OnOk, not, ◌&&◌};
 ghost use Rattle.std.specs.List.{filter, flat_map};
 ghost use Rattle.std.specs.Option.{option_to_list};
 ghost use Rattle.rec_offences.specs.Names.{is_among};
 ghost use Rattle.rec_offences.specs.Scope.{is_variable, heads, root};
-ghost use Rattle.rec_offences.specs.Offences.{bare_variables, free_variables, not_ground, nodes_but_left};
+ghost use Rattle.rec_offences.specs.Offences.{nodes_but_left};
+ghost use Rattle.rec_offences.specs.Visited.{free_variables_of};
 ghost use Rattle.rec_offences.specs.Faults.{of_kind, least_with};
 
 use crate::directory::Directory;
@@ -12,7 +13,7 @@ use crate::limits::root;
 use crate::offence::{Offence, note_if};
 use crate::scope::Scope;
 use faults::Memory;
-use rec_reader::{Node, Rule, Sequence};
+use rec_reader::{Condition, Node, Rule, Sequence};
 use std::alloc::Global;
 
 const BARE_VARIABLE: u8 = 9;
@@ -50,6 +51,27 @@ fn note_free(found: &mut Option<Offence>, scope: &Scope, left: &Directory, nodes
     }
 }
 
+fn note_free_in_condition(found: &mut Option<Offence>, scope: &Scope, left: &Directory, condition: &Condition)
+    ensures { found.new ≡ least_with found.old (of_kind FREE_VARIABLE (filter
+        (λ n. is_variable scope.now.bytes scope.now.entries n && not (is_among left.now.bytes left.now.names n))
+        (heads (condition.now.first ++ condition.now.second)))) }
+{
+    note_free(found, scope, left, condition.first.as_slice());
+    note_free(found, scope, left, condition.second.as_slice());
+}
+
+/// Notes the variables after the left side that aren't among these.
+fn note_free_but(found: &mut Option<Offence>, scope: &Scope, left: &Directory, rule: &Rule)
+    ensures { found.new ≡ least_with found.old (of_kind FREE_VARIABLE (filter
+        (λ n. is_variable scope.now.bytes scope.now.entries n && not (is_among left.now.bytes left.now.names n))
+        (heads (nodes_but_left rule.now)))) }
+{
+    note_free(found, scope, left, rule.right.as_slice());
+    for condition in rule.conditions.as_slice() {
+        note_free_in_condition(found, scope, left, condition);
+    }
+}
+
 fn note_free_in_rule(
     alloc: Global,
     found: &mut Option<Offence>,
@@ -57,17 +79,12 @@ fn note_free_in_rule(
     scope: &Scope,
     rule: &Rule,
 ) -> Result<(), Memory>
-    ensures { OnOk result (found.new ≡ least_with found.old (of_kind FREE_VARIABLE (filter
-        (λ n. is_variable scope.now.bytes scope.now.entries n && not (is_among text.now (heads rule.now.left) n))
-        (heads (nodes_but_left rule.now))))) }
+    ensures { OnOk result (found.new ≡ least_with found.old (of_kind FREE_VARIABLE
+        (free_variables_of text.now scope.now.bytes scope.now.entries rule.now))) }
 {
     let mut left = Directory::new(alloc, text);
     left.add_heads(rule.left.as_slice())?;
-    note_free(found, scope, &left, rule.right.as_slice());
-    for condition in rule.conditions.as_slice() {
-        note_free(found, scope, &left, condition.first.as_slice());
-        note_free(found, scope, &left, condition.second.as_slice());
-    }
+    note_free_but(found, scope, &left, rule);
     Ok(())
 }
 
@@ -79,11 +96,8 @@ pub(crate) fn note_free_variables(
     scope: &Scope,
     rules: &[Rule],
 ) -> Result<(), Memory>
-    ensures { OnOk result (found.new ≡ least_with found.old (of_kind FREE_VARIABLE (flat_map
-        (λ r. filter
-            (λ n. is_variable scope.now.bytes scope.now.entries n && not (is_among text.now (heads r.left) n))
-            (heads (nodes_but_left r)))
-        rules.now))) }
+    ensures { OnOk result (found.new ≡ least_with found.old (of_kind FREE_VARIABLE
+        (flat_map (free_variables_of text.now scope.now.bytes scope.now.entries) rules.now))) }
 {
     for rule in rules {
         note_free_in_rule(alloc, found, text, scope, rule)?;

@@ -3,7 +3,7 @@ use Rattle.std.specs.List.{filter, flat_map}
 use Rattle.rec_offences.specs.Names.{is_among}
 use Rattle.rec_offences.specs.Scope.{is_variable, heads}
 use Rattle.rec_offences.specs.Faults.{least_with, of_kind}
-use Rattle.rec_offences.proofs.variables.note_free_in_rule.Given as goal
+use Rattle.rec_offences.proofs.variables.note_free_but.Given as goal
 
 abbrev pub invariant-loop-condition : goal.invariant-loop-condition
 invariant-loop-condition l =
