@@ -39,7 +39,7 @@ min_more a b m = omega arith
 le_min : (a m n : ℕ) → n < m → nat_le (min a m) n ≡ nat_le a n
 le_min a m n h = elim (leb_tells a n) [ inl t ↦ le-leb (min a m) n (omega (arith, t.1)) ∙ sym t.0 | inr f ↦ lt-leb (min a m) n (omega (arith, f.1)) ∙ sym f.0 ]
 
-le_counted : (n : ℕ) → nat_le (counted n) most ≡ nat_le n most
+pub le_counted : (n : ℕ) → nat_le (counted n) most ≡ nat_le n most
 le_counted n = le_min n (2 ^ 64 - 1) most (lit< tt)
 
 passes_counted : (a b : ℕ) → passes (counted a) (counted b) ≡ passes a b

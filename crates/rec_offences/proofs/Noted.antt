@@ -62,3 +62,23 @@ clashing_end bytes entries wanted arguments k h = by (drop k wanted) (drop k arg
     by [] xs e = refl
     by (w ∷ ws) [] e = refl
     by (w ∷ ws) (x ∷ xs) e = absurd (omega arith)
+
+-- one list after another
+pub noted_after : (found one two : Option Offence) (xs ys : List Offence) → one ≡ least_with found xs → two ≡ least_with one ys → two ≡ least_with found (xs ++ ys)
+noted_after found one two xs ys a b = b ∙ ap (λ o. least_with o ys) a ∙ sym (least_append found xs ys)
+
+pub three_noted : (found one two three : Option Offence) (xs ys zs : List Offence) →
+    one ≡ least_with found xs → two ≡ least_with one ys → three ≡ least_with two zs → three ≡ least_with found (xs ++ ys ++ zs)
+three_noted found one two three xs ys zs a b c = noted_after found two three (xs ++ ys) zs (noted_after found one two xs ys a b) c
+
+-- three lists after another
+pub three_after : (found one two : Option Offence) (ws xs ys zs : List Offence) →
+    one ≡ least_with found ws → two ≡ least_with one (xs ++ ys ++ zs) → two ≡ least_with found (ws ++ xs ++ ys ++ zs)
+three_after found one two ws xs ys zs a b =
+    b
+    ∙ least_append one (xs ++ ys) zs
+    ∙ ap (λ o. least_with o zs) (least_append one xs ys)
+    ∙ ap (λ o. least_with (least_with (least_with o xs) ys) zs) a
+    ∙ ap (λ o. least_with (least_with o ys) zs) (sym (least_append found ws xs))
+    ∙ ap (λ o. least_with o zs) (sym (least_append found (ws ++ xs) ys))
+    ∙ sym (least_append found (ws ++ xs ++ ys) zs)

@@ -20,22 +20,29 @@ of_kind kind names = map (offence_at kind) names
 abbrev pub included_entries : List Specification → List ℕ → List Entry
 included_entries earlier material = map symbol_entry (symbols_of earlier material)
 
--- the offences of a specification after these earlier ones, where this is the included material
-abbrev pub offences_over : List ℕ → List Specification → List Header → (material : List ℕ) → Specification → List Offence
-offences_over bytes earlier headers material s =
-    let known = included_entries earlier material in
-    let entries = known ++ own_entries s in
-    let includes = includes_from bytes headers [] s.includes in
+-- the offences of a specification's declarations after these earlier ones, where this is the included material
+abbrev pub offences_declared : List ℕ → List Specification → List Header → (material : List ℕ) → Specification → List Offence
+offences_declared bytes earlier headers material s =
     of_kind 4 (unknown_sorts bytes (sorts_of earlier material ++ s.sorts) s)
-    ++ of_kind 6 (repeated_names bytes earlier headers (names_of known) includes s)
-    ++ of_kind 9 (bare_variables bytes entries s)
+    ++ of_kind 6 (repeated_names bytes earlier headers (names_of (included_entries earlier material)) (includes_from bytes headers [] s.includes) s)
+
+-- its other offences, where names are declared so
+abbrev pub offences_used : List ℕ → List Specification → List Header → (material : List ℕ) → List Entry → Specification → List Offence
+offences_used bytes earlier headers material entries s =
+    of_kind 9 (bare_variables bytes entries s)
     ++ of_kind 10 (free_variables bytes entries s)
     ++ of_kind 11 (not_ground bytes entries s)
     ++ of_kind 12 (unknown_includes bytes headers s)
-    ++ of_kind 13 (past_limits bytes earlier material includes s)
+    ++ of_kind 13 (past_limits bytes earlier material (includes_from bytes headers [] s.includes) s)
     ++ of_kind 5 (unknown_names bytes entries s)
     ++ of_kind 7 (wrong_counts bytes entries s)
     ++ of_kind 8 (sort_clashes bytes entries s)
+
+-- the offences of a specification after these earlier ones, where this is the included material
+unfoldable pub offences_over : List ℕ → List Specification → List Header → (material : List ℕ) → Specification → List Offence
+offences_over bytes earlier headers material s =
+    offences_declared bytes earlier headers material s
+    ++ offences_used bytes earlier headers material (included_entries earlier material ++ own_entries s) s
 
 -- the offences of a specification after these earlier ones
 abbrev pub offences_after : List ℕ → List Specification → Specification → List Offence

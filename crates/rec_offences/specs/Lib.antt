@@ -9,3 +9,4 @@ pub mod KnownKept
 pub mod HeadersKept
 pub mod Inclusion
 pub mod Visited
+pub mod Grouped

@@ -1,20 +1,66 @@
 //! The fault of an input.
-ghost use Rattle.std.specs.Prelude.{◌≡◌, IfOk, OnOk};
+ghost use Rattle.std.specs.Prelude.{◌≡◌, ◌++◌, IfOk, OnOk};
 ghost use Rattle.rec_offences.specs.Material.{included};
+ghost use Rattle.rec_offences.specs.Listing.{known, entries_of};
+ghost use Rattle.rec_offences.specs.Grouped.{declared_group, used_group};
 ghost use Rattle.rec_offences.specs.Faults.{offences_over, least_with, fault_of};
 
 use crate::declarations::{note_repeated_names, note_unknown_includes, note_unknown_sorts};
+use crate::directory::Directory;
 use crate::headers::Headers;
-use crate::inclusion::{Inclusion, included};
+use crate::inclusion::{Inclusion, Verdict, included};
 use crate::limits::note_past_limits;
 use crate::offence::Offence;
 use crate::scope::Scope;
-use crate::signatures::{add_symbols, add_variables};
-use crate::terms::{note_clashing_sides, note_terms};
-use crate::variables::{note_bare_variables, note_free_variables, note_not_ground};
+use crate::signatures::{Signature, own_signatures, own_symbols};
+use crate::terms::note_heads;
+use crate::variables::note_misplaced_variables;
 use faults::Memory;
 use rec_reader::{Specification, Syntax};
 use std::alloc::Global;
+
+/// Declares a specification's own names, and notes what is wrong with its declarations.
+fn note_declared<'a>(
+    alloc: Global,
+    found: &mut Option<Offence>,
+    headers: &Headers,
+    verdicts: &[Verdict],
+    sorts: &mut Directory,
+    scope: &mut Scope<'a>,
+    own: &[Signature<'a>],
+    specification: &Specification,
+) -> Result<(), Memory>
+    requires sorts { sorts.old.bytes ≡ headers.now.bytes }
+    requires scope { scope.old.bytes ≡ headers.now.bytes }
+    ensures declared { OnOk result (scope.new ≡ known scope.old.bytes (scope.old.entries ++ entries_of own.now)) }
+    ensures noted { OnOk result (found.new ≡ least_with found.old (declared_group headers.now.bytes headers.now.headers verdicts.now sorts.old.names scope.old.entries (entries_of own.now) specification.now)) }
+{
+    sorts.add_all(specification.sorts.as_slice())?;
+    note_unknown_sorts(alloc, found, sorts, specification)?;
+    note_repeated_names(alloc, found, headers, verdicts, scope, own, specification)?;
+    Ok(())
+}
+
+/// Notes what else is wrong with a specification, where names are declared so.
+fn note_used(
+    alloc: Global,
+    found: &mut Option<Offence>,
+    headers: &Headers,
+    before: (usize, usize),
+    verdicts: &[Verdict],
+    symbols: &[Signature],
+    scope: &Scope,
+    specification: &Specification,
+) -> Result<(), Memory>
+    requires { scope.now.bytes ≡ headers.now.bytes }
+    ensures { OnOk result (found.new ≡ least_with found.old (used_group headers.now.bytes headers.now.headers before.0 before.1 verdicts.now (entries_of symbols.now) scope.now.entries specification.now)) }
+{
+    note_misplaced_variables(alloc, found, scope, specification)?;
+    note_unknown_includes(found, headers, specification);
+    note_past_limits(found, headers.text(), before, verdicts, symbols, specification);
+    note_heads(alloc, found, scope, specification)?;
+    Ok(())
+}
 
 /// Notes the offences of a specification, and gives what it includes.
 fn note_offences<'a>(
@@ -28,25 +74,18 @@ fn note_offences<'a>(
     ensures noted { OnOk result (found.new ≡ least_with found.old (offences_over headers.now.bytes earlier.now headers.now.headers
         (included headers.now.bytes headers.now.headers specification.now.includes) specification.now)) }
 {
-    let text = headers.text();
-    let Inclusion { mut scope, mut sorts, rules: rules_before, material, verdicts } =
-        included(alloc, earlier, headers, specification.includes.as_slice())?;
-    let before = (scope.len(), rules_before);
-    let mut own = Vec::new(alloc);
-    add_symbols(specification, &mut own)?;
-    let symbols = own.len();
-    add_variables(specification, &mut own)?;
-    sorts.add_all(specification.sorts.as_slice())?;
-    note_unknown_sorts(alloc, found, &sorts, specification)?;
-    note_repeated_names(alloc, found, headers, &verdicts, &mut scope, &own, specification)?;
-    let rules = specification.rules.as_slice();
-    note_bare_variables(found, &scope, rules);
-    note_free_variables(alloc, found, text, &scope, rules)?;
-    note_not_ground(found, &scope, specification.terms.as_slice());
-    note_unknown_includes(found, headers, specification);
-    note_past_limits(found, text, before, &verdicts, &own[..symbols], specification);
-    note_terms(alloc, found, &scope, specification)?;
-    note_clashing_sides(found, &scope, rules);
+    let Inclusion {
+        mut scope,
+        mut sorts,
+        rules,
+        material,
+        verdicts,
+    } = included(alloc, earlier, headers, specification.includes.as_slice())?;
+    let before = (scope.len(), rules);
+    let symbols = own_symbols(alloc, specification)?;
+    let own = own_signatures(alloc, specification)?;
+    note_declared(alloc, found, headers, &verdicts, &mut sorts, &mut scope, &own, specification)?;
+    note_used(alloc, found, headers, before, &verdicts, &symbols, &scope, specification)?;
     Ok(Vec::from_slice(alloc, material.as_slice())?)
 }
 

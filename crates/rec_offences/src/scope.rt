@@ -43,6 +43,13 @@ impl<'a> Scope<'a> {
         }
     }
 
+    /// The bytes in which the names stand.
+    pub(crate) fn text(&self) -> &'a [u8]
+        ensures { result.now ≡ self.now.bytes }
+    {
+        self.names.text()
+    }
+
     /// Whether two names have different texts.
     pub(crate) fn differ(&self, first: Name, second: Name) -> bool
         ensures { result ≡ not (same_text self.now.bytes first second) }

@@ -1,11 +1,12 @@
 //! What names are declared as.
-ghost use Rattle.std.specs.Prelude.{◌≡◌, ◌++◌, map, OnOk};
+ghost use Rattle.std.specs.Prelude.{◌≡◌, ◌++◌, map, IfOk, OnOk};
 ghost use Rattle.rec_offences.specs.Material.{symbols_by, symbols_of_declaration, variables_by, variables_of};
-ghost use Rattle.rec_offences.specs.Scope.{symbol_entry, variable_entry};
+ghost use Rattle.rec_offences.specs.Scope.{symbol_entry, variable_entry, own_entries};
 ghost use Rattle.rec_offences.specs.Listing.{entries_of};
 
 use faults::Memory;
 use rec_reader::{Declaration, Name, Specification, Variables};
+use std::alloc::Global;
 
 /// A symbol with the sorts of its arguments and its own, or a variable with its sort.
 #[derive(Clone, Copy)]
@@ -67,7 +68,7 @@ pub(crate) fn add_symbols<'a>(
 }
 
 /// Adds the variables that a specification declares.
-pub(crate) fn add_variables<'a>(
+fn add_variables<'a>(
     specification: &'a Specification,
     signatures: &mut Vec<Signature<'a>>,
 ) -> Result<(), Memory>
@@ -78,4 +79,23 @@ pub(crate) fn add_variables<'a>(
         add_listed(variables, signatures)?;
     }
     Ok(())
+}
+
+/// The symbols that a specification declares.
+pub(crate) fn own_symbols<'a>(alloc: Global, specification: &'a Specification) -> Result<Vec<Signature<'a>>, Memory>
+    ensures { IfOk result (λ v. entries_of v.items ≡ map symbol_entry (symbols_by specification.now)) }
+{
+    let mut signatures = Vec::new(alloc);
+    add_symbols(specification, &mut signatures)?;
+    Ok(signatures)
+}
+
+/// What a specification declares: symbols, and then variables.
+pub(crate) fn own_signatures<'a>(alloc: Global, specification: &'a Specification) -> Result<Vec<Signature<'a>>, Memory>
+    ensures { IfOk result (λ v. entries_of v.items ≡ own_entries specification.now) }
+{
+    let mut signatures = Vec::new(alloc);
+    add_symbols(specification, &mut signatures)?;
+    add_variables(specification, &mut signatures)?;
+    Ok(signatures)
 }

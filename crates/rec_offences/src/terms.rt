@@ -3,7 +3,7 @@ ghost use Rattle.std.specs.Prelude.{◌≡◌, ◌++◌, ◌∷◌, [], OnOk, Op
 ghost use Rattle.std.specs.List.{flat_map};
 ghost use Rattle.std.specs.Option.{option_map, option_map_or, option_to_list};
 ghost use Rattle.rec_offences.specs.Scope.{Visit, visits, visit};
-ghost use Rattle.rec_offences.specs.Offences.{has_other_sort, clashing, clashing_side, clashing_sides, terms_of, all_visits};
+ghost use Rattle.rec_offences.specs.Offences.{has_other_sort, clashing, clashing_side, clashing_sides, terms_of, all_visits, unknown_names, wrong_counts, sort_clashes};
 ghost use Rattle.rec_offences.specs.Faults.{of_kind, least_with};
 ghost use Rattle.rec_offences.specs.Visited.{at_visit};
 
@@ -87,7 +87,7 @@ fn note_terms_of(
 }
 
 /// Notes what is wrong at the heads of all terms.
-pub(crate) fn note_terms(
+fn note_terms(
     alloc: Global,
     found: &mut Option<Offence>,
     scope: &Scope,
@@ -125,10 +125,27 @@ fn note_clashing_in_rule(found: &mut Option<Offence>, scope: &Scope, rule: &Rule
 }
 
 /// Notes the sides of rules and conditions that have another sort than the first side.
-pub(crate) fn note_clashing_sides(found: &mut Option<Offence>, scope: &Scope, rules: &[Rule])
+fn note_clashing_sides(found: &mut Option<Offence>, scope: &Scope, rules: &[Rule])
     ensures { found.new ≡ least_with found.old (of_kind SORT_CLASH (flat_map (clashing_sides scope.now.bytes scope.now.entries) rules.now)) }
 {
     for rule in rules {
         note_clashing_in_rule(found, scope, rule);
     }
+}
+
+/// Notes what is wrong at heads: the unknown, those with another number of arguments and those of another sort.
+pub(crate) fn note_heads(
+    alloc: Global,
+    found: &mut Option<Offence>,
+    scope: &Scope,
+    specification: &Specification,
+) -> Result<(), Memory>
+    ensures { OnOk result (found.new ≡ least_with found.old
+        (of_kind UNKNOWN_NAME (unknown_names scope.now.bytes scope.now.entries specification.now)
+        ++ of_kind ARITY (wrong_counts scope.now.bytes scope.now.entries specification.now)
+        ++ of_kind SORT_CLASH (sort_clashes scope.now.bytes scope.now.entries specification.now))) }
+{
+    note_terms(alloc, found, scope, specification)?;
+    note_clashing_sides(found, scope, specification.rules.as_slice());
+    Ok(())
 }

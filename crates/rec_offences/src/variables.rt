@@ -4,7 +4,7 @@ ghost use Rattle.std.specs.List.{filter, flat_map};
 ghost use Rattle.std.specs.Option.{option_to_list};
 ghost use Rattle.rec_offences.specs.Names.{is_among};
 ghost use Rattle.rec_offences.specs.Scope.{is_variable, heads, root};
-ghost use Rattle.rec_offences.specs.Offences.{nodes_but_left};
+ghost use Rattle.rec_offences.specs.Offences.{nodes_but_left, bare_variables, free_variables, not_ground};
 ghost use Rattle.rec_offences.specs.Visited.{free_variables_of};
 ghost use Rattle.rec_offences.specs.Faults.{of_kind, least_with};
 
@@ -13,7 +13,7 @@ use crate::limits::root;
 use crate::offence::{Offence, note_if};
 use crate::scope::Scope;
 use faults::Memory;
-use rec_reader::{Condition, Node, Rule, Sequence};
+use rec_reader::{Condition, Node, Rule, Sequence, Specification};
 use std::alloc::Global;
 
 const BARE_VARIABLE: u8 = 9;
@@ -30,7 +30,7 @@ fn note_bare_variable(found: &mut Option<Offence>, scope: &Scope, left: &[Node])
 }
 
 /// Notes the left sides that are a variable.
-pub(crate) fn note_bare_variables(found: &mut Option<Offence>, scope: &Scope, rules: &[Rule])
+fn note_bare_variables(found: &mut Option<Offence>, scope: &Scope, rules: &[Rule])
     ensures { found.new ≡ least_with found.old (of_kind BARE_VARIABLE (flat_map
         (λ r. filter (is_variable scope.now.bytes scope.now.entries) (option_to_list (root r.left))) rules.now)) }
 {
@@ -89,7 +89,7 @@ fn note_free_in_rule(
 }
 
 /// Notes the variables of right sides and conditions that don't occur on the left.
-pub(crate) fn note_free_variables(
+fn note_free_variables(
     alloc: Global,
     found: &mut Option<Offence>,
     text: &[u8],
@@ -115,11 +115,30 @@ fn note_variables(found: &mut Option<Offence>, scope: &Scope, nodes: &[Node])
 }
 
 /// Notes the variables of the terms to be rewritten.
-pub(crate) fn note_not_ground(found: &mut Option<Offence>, scope: &Scope, terms: &[Sequence<Node>])
+fn note_not_ground(found: &mut Option<Offence>, scope: &Scope, terms: &[Sequence<Node>])
     ensures { found.new ≡ least_with found.old (of_kind NOT_GROUND
         (filter (is_variable scope.now.bytes scope.now.entries) (flat_map heads terms.now))) }
 {
     for term in terms {
         note_variables(found, scope, term.as_slice());
     }
+}
+
+/// Notes the variables that stand where they may not.
+pub(crate) fn note_misplaced_variables(
+    alloc: Global,
+    found: &mut Option<Offence>,
+    scope: &Scope,
+    specification: &Specification,
+) -> Result<(), Memory>
+    ensures { OnOk result (found.new ≡ least_with found.old
+        (of_kind BARE_VARIABLE (bare_variables scope.now.bytes scope.now.entries specification.now)
+        ++ of_kind FREE_VARIABLE (free_variables scope.now.bytes scope.now.entries specification.now)
+        ++ of_kind NOT_GROUND (not_ground scope.now.bytes scope.now.entries specification.now))) }
+{
+    let rules = specification.rules.as_slice();
+    note_bare_variables(found, scope, rules);
+    note_free_variables(alloc, found, scope.text(), scope, rules)?;
+    note_not_ground(found, scope, specification.terms.as_slice());
+    Ok(())
 }
