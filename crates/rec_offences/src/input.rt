@@ -1,6 +1,7 @@
 //! The fault of an input.
-ghost use Rattle.std.specs.Prelude.{◌≡◌, ◌++◌, IfOk, OnOk};
-ghost use Rattle.rec_offences.specs.Material.{included};
+ghost use Rattle.std.specs.Prelude.{◌≡◌, ◌++◌, IfOk, OnOk, length, map};
+ghost use Rattle.rec_offences.specs.Material.{included, symbols_by};
+ghost use Rattle.rec_offences.specs.Scope.{symbol_entry, own_entries};
 ghost use Rattle.rec_offences.specs.Listing.{known, entries_of};
 ghost use Rattle.rec_offences.specs.Grouped.{declared_group, used_group};
 ghost use Rattle.rec_offences.specs.Faults.{offences_over, least_with, fault_of};
@@ -62,6 +63,30 @@ fn note_used(
     Ok(())
 }
 
+/// Notes the offences of a specification, where this is included.
+fn note_included<'a>(
+    alloc: Global,
+    found: &mut Option<Offence>,
+    headers: &Headers,
+    included: &mut Inclusion<'a>,
+    specification: &'a Specification,
+) -> Result<(), Memory>
+    requires sorts { included.old.sorts.bytes ≡ headers.now.bytes }
+    requires scope { included.old.scope.bytes ≡ headers.now.bytes }
+    ensures material { OnOk result (included.new.material.keys ≡ included.old.material.keys) }
+    ensures noted { OnOk result (found.new ≡ least_with found.old
+        (declared_group headers.now.bytes headers.now.headers included.old.verdicts.items included.old.sorts.names included.old.scope.entries (own_entries specification.now) specification.now
+        ++ used_group headers.now.bytes headers.now.headers (length included.old.scope.entries) included.old.rules included.old.verdicts.items
+            (map symbol_entry (symbols_by specification.now)) (included.old.scope.entries ++ own_entries specification.now) specification.now)) }
+{
+    let before = (included.scope.len(), included.rules);
+    let symbols = own_symbols(alloc, specification)?;
+    let own = own_signatures(alloc, specification)?;
+    note_declared(alloc, found, headers, &included.verdicts, &mut included.sorts, &mut included.scope, &own, specification)?;
+    note_used(alloc, found, headers, before, &included.verdicts, &symbols, &included.scope, specification)?;
+    Ok(())
+}
+
 /// Notes the offences of a specification, and gives what it includes.
 fn note_offences<'a>(
     alloc: Global,
@@ -74,19 +99,9 @@ fn note_offences<'a>(
     ensures noted { OnOk result (found.new ≡ least_with found.old (offences_over headers.now.bytes earlier.now headers.now.headers
         (included headers.now.bytes headers.now.headers specification.now.includes) specification.now)) }
 {
-    let Inclusion {
-        mut scope,
-        mut sorts,
-        rules,
-        material,
-        verdicts,
-    } = included(alloc, earlier, headers, specification.includes.as_slice())?;
-    let before = (scope.len(), rules);
-    let symbols = own_symbols(alloc, specification)?;
-    let own = own_signatures(alloc, specification)?;
-    note_declared(alloc, found, headers, &verdicts, &mut sorts, &mut scope, &own, specification)?;
-    note_used(alloc, found, headers, before, &verdicts, &symbols, &scope, specification)?;
-    Ok(Vec::from_slice(alloc, material.as_slice())?)
+    let mut included = included(alloc, earlier, headers, specification.includes.as_slice())?;
+    note_included(alloc, found, headers, &mut included, specification)?;
+    Ok(Vec::from_slice(alloc, included.material.as_slice())?)
 }
 
 /// The fault of specifications: of all their offences the one with the least offset, and of those the one
