@@ -24,9 +24,9 @@ module _ (bytes : List ℕ) (earlier : List Specification) (headers : List Heade
   declared_is verdicts sorts entries own v so en ow =
       (λ i. declared_group bytes headers (v i) (so i) (en i) (ow i) s)
       ∙ ap
-        (λ ns. of_kind 4 (unknown_sorts bytes (sorts_of earlier material ++ s.sorts) s)
-            ++ of_kind 6 (filter (is_among bytes (map (λ h. h.name) headers)) (s.name ∷ []) ++ repeated bytes [] s.sorts ++ repeated bytes (names_of (included_entries earlier material)) (names_of (own_entries s)) ++ ns))
-        (clashing_entries bytes earlier (includes_from bytes headers [] s.includes))
+      (λ ns. of_kind 4 (unknown_sorts bytes (sorts_of earlier material ++ s.sorts) s)
+      ++ of_kind 6 (filter (is_among bytes (map (λ h. h.name) headers)) (s.name ∷ []) ++ repeated bytes [] s.sorts ++ repeated bytes (names_of (included_entries earlier material)) (names_of (own_entries s)) ++ ns))
+      (clashing_entries bytes earlier (includes_from bytes headers [] s.includes))
 
   limits_are : (n m : ℕ) (verdicts : List Verdict) (symbols : List Entry) →
       n ≡ length (symbols_of earlier material) → m ≡ counted (length (rules_of earlier material)) →
@@ -35,11 +35,11 @@ module _ (bytes : List ℕ) (earlier : List Specification) (headers : List Heade
   limits_are n m verdicts symbols en em v sy =
       (λ i. limits_group bytes (en i) (em i) (v i) (sy i) s)
       ∙ (λ i. filter (is_long bytes) (names_in s)
-          ++ flat_map (λ d. option_to_list (slice_get d.arguments 16)) s.declarations
-          ++ past_named (length (symbols_of earlier material)) (symbols_by s) i
-          ++ option_to_list (option_and_then (λ r. root r.left) (past_counted (length (rules_of earlier material)) s.rules i))
-          ++ option_to_list (option_and_then root (first_past 0 s.terms))
-          ++ passing_entries bytes earlier (includes_from bytes headers [] s.includes) i)
+      ++ flat_map (λ d. option_to_list (slice_get d.arguments 16)) s.declarations
+      ++ past_named (length (symbols_of earlier material)) (symbols_by s) i
+      ++ option_to_list (option_and_then (λ r. root r.left) (past_counted (length (rules_of earlier material)) s.rules i))
+      ++ option_to_list (option_and_then root (first_past 0 s.terms))
+      ++ passing_entries bytes earlier (includes_from bytes headers [] s.includes) i)
 
   pub used_is : (n m : ℕ) (verdicts : List Verdict) (symbols entries all : List Entry) →
       n ≡ length (symbols_of earlier material) → m ≡ counted (length (rules_of earlier material)) →
@@ -48,10 +48,10 @@ module _ (bytes : List ℕ) (earlier : List Specification) (headers : List Heade
   unfolding used_group
   used_is n m verdicts symbols entries all en em v sy e =
       (λ i. of_kind 9 (bare_variables bytes (e i) s)
-          ++ of_kind 10 (free_variables bytes (e i) s)
-          ++ of_kind 11 (not_ground bytes (e i) s)
-          ++ of_kind 12 (unknown_includes bytes headers s)
-          ++ of_kind 13 (limits_are n m verdicts symbols en em v sy i)
-          ++ of_kind 5 (unknown_names bytes (e i) s)
-          ++ of_kind 7 (wrong_counts bytes (e i) s)
-          ++ of_kind 8 (sort_clashes bytes (e i) s))
+      ++ of_kind 10 (free_variables bytes (e i) s)
+      ++ of_kind 11 (not_ground bytes (e i) s)
+      ++ of_kind 12 (unknown_includes bytes headers s)
+      ++ of_kind 13 (limits_are n m verdicts symbols en em v sy i)
+      ++ of_kind 5 (unknown_names bytes (e i) s)
+      ++ of_kind 7 (wrong_counts bytes (e i) s)
+      ++ of_kind 8 (sort_clashes bytes (e i) s))

@@ -5,3 +5,4 @@ pub mod Order
 pub mod Places
 pub mod Verdicts
 pub mod Groups
+pub mod Inputs

@@ -98,10 +98,10 @@ three_kinds i j k a b c more found after now vs visited is =
     let fc = of_kind k (flat_map c vs) in
     is
     ∙ ap (λ o. least_with o (of_kind k more))
-      (visited
-      ∙ together (λ v. of_kind i (a v) ++ of_kind j (b v)) (λ v. of_kind k (c v)) found vs
-      ∙ ap (λ o. least_with o (flat_map (λ v. of_kind k (c v)) vs)) (together (λ v. of_kind i (a v)) (λ v. of_kind j (b v)) found vs)
-      ∙ (λ t. least_with (least_with (least_with found (kinds_flat i a vs t)) (kinds_flat j b vs t)) (kinds_flat k c vs t)))
+    (visited
+    ∙ together (λ v. of_kind i (a v) ++ of_kind j (b v)) (λ v. of_kind k (c v)) found vs
+    ∙ ap (λ o. least_with o (flat_map (λ v. of_kind k (c v)) vs)) (together (λ v. of_kind i (a v)) (λ v. of_kind j (b v)) found vs)
+    ∙ (λ t. least_with (least_with (least_with found (kinds_flat i a vs t)) (kinds_flat j b vs t)) (kinds_flat k c vs t)))
     ∙ sym (least_append (least_with (least_with found fa) fb) fc (of_kind k more))
     ∙ ap (least_with (least_with (least_with found fa) fb)) (sym (kinds_append k (flat_map c vs) more))
     ∙ ap (λ o. least_with o (of_kind k (flat_map c vs ++ more))) (sym (least_append found fa fb))

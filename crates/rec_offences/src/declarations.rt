@@ -19,7 +19,9 @@ use rec_reader::{Name, Specification};
 use std::alloc::Global;
 
 const UNKNOWN_SORT: u8 = 4;
+
 const REPEATED: u8 = 6;
+
 const INCLUDE: u8 = 12;
 
 /// The sorts of arguments, symbols and variables.

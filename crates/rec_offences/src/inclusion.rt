@@ -196,7 +196,7 @@ impl<'a> Inclusion<'a> {
             ≡ with_numbers self.old.material.keys (brought headers.now.bytes headers.now.headers entry)) }
         ensures verdict { OnOk result (self.new.verdicts.items ≡ self.old.verdicts.items
             ++ verdict_of headers.now.bytes earlier.now
-                (include entry self.old.material.keys (brought headers.now.bytes headers.now.headers entry)) ∷ []) }
+            (include entry self.old.material.keys (brought headers.now.bytes headers.now.headers entry)) ∷ []) }
     {
         let added = add_fresh(alloc, &mut self.material, headers.brought(entry))?;
         let signatures = symbols_at(alloc, earlier, &added)?;

@@ -58,7 +58,14 @@ fn note_used(
 {
     note_misplaced_variables(alloc, found, scope, specification)?;
     note_unknown_includes(found, headers, specification);
-    note_past_limits(found, headers.text(), before, verdicts, symbols, specification);
+    note_past_limits(
+        found,
+        headers.text(),
+        before,
+        verdicts,
+        symbols,
+        specification,
+    );
     note_heads(alloc, found, scope, specification)?;
     Ok(())
 }
@@ -77,13 +84,31 @@ fn note_included<'a>(
     ensures noted { OnOk result (found.new ≡ least_with found.old
         (declared_group headers.now.bytes headers.now.headers included.old.verdicts.items included.old.sorts.names included.old.scope.entries (own_entries specification.now) specification.now
         ++ used_group headers.now.bytes headers.now.headers (length included.old.scope.entries) included.old.rules included.old.verdicts.items
-            (map symbol_entry (symbols_by specification.now)) (included.old.scope.entries ++ own_entries specification.now) specification.now)) }
+        (map symbol_entry (symbols_by specification.now)) (included.old.scope.entries ++ own_entries specification.now) specification.now)) }
 {
     let before = (included.scope.len(), included.rules);
     let symbols = own_symbols(alloc, specification)?;
     let own = own_signatures(alloc, specification)?;
-    note_declared(alloc, found, headers, &included.verdicts, &mut included.sorts, &mut included.scope, &own, specification)?;
-    note_used(alloc, found, headers, before, &included.verdicts, &symbols, &included.scope, specification)?;
+    note_declared(
+        alloc,
+        found,
+        headers,
+        &included.verdicts,
+        &mut included.sorts,
+        &mut included.scope,
+        &own,
+        specification,
+    )?;
+    note_used(
+        alloc,
+        found,
+        headers,
+        before,
+        &included.verdicts,
+        &symbols,
+        &included.scope,
+        specification,
+    )?;
     Ok(())
 }
 
@@ -118,7 +143,13 @@ pub fn fault(alloc: Global, syntax: &Syntax) -> Result<Option<Offence>, Memory>
     let mut found = None;
     let mut headers = Headers::new(alloc, syntax.text());
     for (number, specification) in specifications.iter().enumerate() {
-        let mut material = note_offences(alloc, &mut found, &specifications[..number], &headers, specification)?;
+        let mut material = note_offences(
+            alloc,
+            &mut found,
+            &specifications[..number],
+            &headers,
+            specification,
+        )?;
         material.push(number)?;
         headers.add(specification.name, material)?;
     }

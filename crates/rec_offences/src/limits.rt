@@ -14,6 +14,7 @@ use crate::signatures::Signature;
 use rec_reader::{Declaration, Name, Node, Rule, Sequence, Specification, Variables};
 
 const LIMIT: u8 = 13;
+
 const LONGEST_NAME: usize = 255;
 
 /// The first token of a term, which is its head.
@@ -108,7 +109,11 @@ fn note_many_arguments(found: &mut Option<Offence>, declarations: &[Declaration]
     ensures { found.new ≡ least_with found.old (of_kind LIMIT (flat_map (λ d. option_to_list (slice_get d.arguments 16)) declarations.now)) }
 {
     for declaration in declarations {
-        note_some(found, LIMIT, past_arguments(declaration.arguments.as_slice()));
+        note_some(
+            found,
+            LIMIT,
+            past_arguments(declaration.arguments.as_slice()),
+        );
     }
 }
 
@@ -174,7 +179,11 @@ pub(crate) fn note_past_limits(
     note_long_names(found, text, specification);
     note_many_arguments(found, specification.declarations.as_slice());
     note_some(found, LIMIT, past_symbol(before_symbols, symbols));
-    note_some(found, LIMIT, past_rule(before_rules, specification.rules.as_slice()));
+    note_some(
+        found,
+        LIMIT,
+        past_rule(before_rules, specification.rules.as_slice()),
+    );
     note_some(found, LIMIT, past_term(specification.terms.as_slice()));
     note_passing_entries(found, verdicts);
 }

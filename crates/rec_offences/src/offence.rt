@@ -24,7 +24,10 @@ impl Offence {
 pub(crate) fn note(found: &mut Option<Offence>, kind: u8, name: Name)
     ensures { found.new ≡ lesser found.old (offence_at kind name) }
 {
-    let offence = Offence { kind, offset: name.start as u64 };
+    let offence = Offence {
+        kind,
+        offset: name.start as u64,
+    };
     match found {
         Some(least) => {
             if offence.goes_before(least) {

@@ -82,7 +82,10 @@ fn add_variables<'a>(
 }
 
 /// The symbols that a specification declares.
-pub(crate) fn own_symbols<'a>(alloc: Global, specification: &'a Specification) -> Result<Vec<Signature<'a>>, Memory>
+pub(crate) fn own_symbols<'a>(
+    alloc: Global,
+    specification: &'a Specification,
+) -> Result<Vec<Signature<'a>>, Memory>
     ensures { IfOk result (λ v. entries_of v.items ≡ map symbol_entry (symbols_by specification.now)) }
 {
     let mut signatures = Vec::new(alloc);
@@ -91,7 +94,10 @@ pub(crate) fn own_symbols<'a>(alloc: Global, specification: &'a Specification) -
 }
 
 /// What a specification declares: symbols, and then variables.
-pub(crate) fn own_signatures<'a>(alloc: Global, specification: &'a Specification) -> Result<Vec<Signature<'a>>, Memory>
+pub(crate) fn own_signatures<'a>(
+    alloc: Global,
+    specification: &'a Specification,
+) -> Result<Vec<Signature<'a>>, Memory>
     ensures { IfOk result (λ v. entries_of v.items ≡ own_entries specification.now) }
 {
     let mut signatures = Vec::new(alloc);

@@ -15,7 +15,9 @@ use rec_reader::{Name, Node, Rule, Sequence, Specification};
 use std::alloc::Global;
 
 const UNKNOWN_NAME: u8 = 5;
+
 const ARITY: u8 = 7;
+
 const SORT_CLASH: u8 = 8;
 
 /// Whether a head is declared with another sort than is wanted.
@@ -32,7 +34,12 @@ fn note_clashing(found: &mut Option<Offence>, scope: &Scope, wanted: &[Name], ar
     ensures { found.new ≡ least_with found.old (of_kind SORT_CLASH (clashing scope.now.bytes scope.now.entries wanted.now arguments.now)) }
 {
     for (sort, argument) in wanted.iter().zip(arguments) {
-        note_if(found, SORT_CLASH, *argument, has_other_sort(scope, *sort, *argument));
+        note_if(
+            found,
+            SORT_CLASH,
+            *argument,
+            has_other_sort(scope, *sort, *argument),
+        );
     }
 }
 
@@ -42,7 +49,12 @@ fn note_visit(found: &mut Option<Offence>, scope: &Scope, node: Node, arguments:
 {
     match scope.find(node.head) {
         Some(signature) => {
-            note_if(found, ARITY, node.head, node.count != signature.arguments.len());
+            note_if(
+                found,
+                ARITY,
+                node.head,
+                node.count != signature.arguments.len(),
+            );
             note_clashing(found, scope, signature.arguments, arguments);
         }
         None => note(found, UNKNOWN_NAME, node.head),
@@ -110,7 +122,12 @@ fn note_clashing_side(found: &mut Option<Offence>, scope: &Scope, first: &[Node]
 {
     if let (Some(first), Some(second)) = (root(first), root(second)) {
         if let Some(signature) = scope.find(first) {
-            note_if(found, SORT_CLASH, second, has_other_sort(scope, signature.sort, second));
+            note_if(
+                found,
+                SORT_CLASH,
+                second,
+                has_other_sort(scope, signature.sort, second),
+            );
         }
     }
 }
@@ -120,7 +137,12 @@ fn note_clashing_in_rule(found: &mut Option<Offence>, scope: &Scope, rule: &Rule
 {
     note_clashing_side(found, scope, rule.left.as_slice(), rule.right.as_slice());
     for condition in rule.conditions.as_slice() {
-        note_clashing_side(found, scope, condition.first.as_slice(), condition.second.as_slice());
+        note_clashing_side(
+            found,
+            scope,
+            condition.first.as_slice(),
+            condition.second.as_slice(),
+        );
     }
 }
 

@@ -17,7 +17,9 @@ use rec_reader::{Condition, Node, Rule, Sequence, Specification};
 use std::alloc::Global;
 
 const BARE_VARIABLE: u8 = 9;
+
 const FREE_VARIABLE: u8 = 10;
+
 const NOT_GROUND: u8 = 11;
 
 fn note_bare_variable(found: &mut Option<Offence>, scope: &Scope, left: &[Node])
@@ -51,7 +53,12 @@ fn note_free(found: &mut Option<Offence>, scope: &Scope, left: &Directory, nodes
     }
 }
 
-fn note_free_in_condition(found: &mut Option<Offence>, scope: &Scope, left: &Directory, condition: &Condition)
+fn note_free_in_condition(
+    found: &mut Option<Offence>,
+    scope: &Scope,
+    left: &Directory,
+    condition: &Condition,
+)
     ensures { found.new ≡ least_with found.old (of_kind FREE_VARIABLE (filter
         (λ n. is_variable scope.now.bytes scope.now.entries n && not (is_among left.now.bytes left.now.names n))
         (heads (condition.now.first ++ condition.now.second)))) }

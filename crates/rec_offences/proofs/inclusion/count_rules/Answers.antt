@@ -17,14 +17,14 @@ loop-number-preserved c =
     let n = get_or ns l.number-index 0 in
     let rest = drop (l.number-index + 1) ns in
     let split : rules_of e (drop l.number-index ns) ≡ rules_of e (n ∷ []) ++ rules_of e rest =
-        ap (rules_of e) (drop_at ns l.number-index n c.loop-number-test.true (default_in ns l.number-index 0 n c.loop-number-test.true)) ∙ at_append (λ s. s.rules) e (n ∷ []) rest in
+    ap (rules_of e) (drop_at ns l.number-index n c.loop-number-test.true (default_in ns l.number-index 0 n c.loop-number-test.true)) ∙ at_append (λ s. s.rules) e (n ∷ []) rest in
     let sizes : length (rules_of e (n ∷ [])) + length (rules_of e rest) ≡ length (rules_of e (drop l.number-index ns)) =
-        sym (length-append (rules_of e (n ∷ [])) (rules_of e rest)) ∙ ap length (sym split) in
+    sym (length-append (rules_of e (n ∷ [])) (rules_of e rest)) ∙ ap length (sym split) in
     record {
       fits = omega (arith, c.saturating_add-rules.ensures);
       sum = counted_on (2 ^ 64 - 1) l.rules c.saturating_add-rules.result (length (rules_of e (n ∷ []))) (length (rules_of e rest)) _
-      (c.saturating_add-rules.ensures ∙ ap (λ k. min (l.rules + k) (2 ^ 64 - 1)) c.rules_at.ensures)
-      (ap (λ k. counted (l.rules + k)) sizes ∙ l.invariant.sum);
+          (c.saturating_add-rules.ensures ∙ ap (λ k. min (l.rules + k) (2 ^ 64 - 1)) c.rules_at.ensures)
+          (ap (λ k. counted (l.rules + k)) sizes ∙ l.invariant.sum);
     }
 
 -- nothing is left to count

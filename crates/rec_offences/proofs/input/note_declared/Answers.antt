@@ -25,6 +25,6 @@ returns-clause-noted c =
     (c.in_ok-note_unknown_sorts.ensures ∙ ap (λ d. least_with f (of_kind 4 (unknown_sorts d.bytes d.names s))) listed)
     (c.in_ok-note_repeated_names.ensures.noted
     ∙ ap
-      (λ b. least_with c.note_unknown_sorts.new.found (of_kind 6 (filter (is_among h.bytes (map (λ x. x.name) h.headers)) (s.name ∷ []) ++ repeated h.bytes [] s.sorts ++ repeated b (names_of scope.entries) (names_of own)
-          ++ map (λ v. v.entry) (filter (λ v. v.is_clashing) c.args.verdicts.now))))
-      c.requires.scope)
+    (λ b. least_with c.note_unknown_sorts.new.found (of_kind 6 (filter (is_among h.bytes (map (λ x. x.name) h.headers)) (s.name ∷ []) ++ repeated h.bytes [] s.sorts ++ repeated b (names_of scope.entries) (names_of own)
+    ++ map (λ v. v.entry) (filter (λ v. v.is_clashing) c.args.verdicts.now))))
+    c.requires.scope)

@@ -27,6 +27,6 @@ returns-clause-noted c =
     let count = ap length entries ∙ length-map (symbols_of e k) symbol_entry in
     c.in_ok-note_included.ensures.noted
     ∙ (λ j. least_with c.args.found.now
-        (declared_is h.bytes e h.headers k s i.verdicts.items i.sorts.names i.scope.entries (own_entries s) verdicts sorts entries refl j
-        ++ used_is h.bytes e h.headers k s (length i.scope.entries) i.rules i.verdicts.items (map symbol_entry (symbols_by s)) (i.scope.entries ++ own_entries s)
-          (included_entries e k ++ own_entries s) count rules verdicts refl (ap (λ x. x ++ own_entries s) entries) j))
+    (declared_is h.bytes e h.headers k s i.verdicts.items i.sorts.names i.scope.entries (own_entries s) verdicts sorts entries refl j
+    ++ used_is h.bytes e h.headers k s (length i.scope.entries) i.rules i.verdicts.items (map symbol_entry (symbols_by s)) (i.scope.entries ++ own_entries s)
+    (included_entries e k ++ own_entries s) count rules verdicts refl (ap (λ x. x ++ own_entries s) entries) j))

@@ -22,11 +22,11 @@ returns c =
     three_after f three c.note_heads.new.found (misplaced ++ missing ++ limits)
     (of_kind 5 (unknown_names h.bytes e s)) (of_kind 7 (wrong_counts h.bytes e s)) (of_kind 8 (sort_clashes h.bytes e s))
     (noted_after f two three (misplaced ++ missing) limits
-      (noted_after f one two misplaced missing
-        (c.in_ok-note_misplaced_variables.ensures
-        ∙ ap (λ b. least_with f (of_kind 9 (bare_variables b e s) ++ of_kind 10 (free_variables b e s) ++ of_kind 11 (not_ground b e s))) c.requires)
-        c.note_unknown_includes.ensures)
-      (c.note_past_limits.ensures
-      ∙ ap (λ b. least_with two (of_kind 13 (limits_group b c.args.before.0 c.args.before.1 c.args.verdicts.now (entries_of c.args.symbols.now) s))) c.text.ensures))
+    (noted_after f one two misplaced missing
+    (c.in_ok-note_misplaced_variables.ensures
+    ∙ ap (λ b. least_with f (of_kind 9 (bare_variables b e s) ++ of_kind 10 (free_variables b e s) ++ of_kind 11 (not_ground b e s))) c.requires)
+    c.note_unknown_includes.ensures)
+    (c.note_past_limits.ensures
+    ∙ ap (λ b. least_with two (of_kind 13 (limits_group b c.args.before.0 c.args.before.1 c.args.verdicts.now (entries_of c.args.symbols.now) s))) c.text.ensures))
     (c.in_ok-note_heads.ensures
     ∙ ap (λ b. least_with three (of_kind 5 (unknown_names b e s) ++ of_kind 7 (wrong_counts b e s) ++ of_kind 8 (sort_clashes b e s))) c.requires)

@@ -52,11 +52,11 @@ returns-clause-verdict c =
     let e = c.args.earlier.now in
     let k = c.args.self.now.material.keys in
     let clash =
-        c.clashes-is_clashing.ensures
-        ∙ clashing_more bytes e k (added c) c.args.self.now.scope (entries_of c.deref-2.result.now) c.requires.scope (ap entries_of c.deref-2.ensures.value ∙ symbols_are c) in
+    c.clashes-is_clashing.ensures
+    ∙ clashing_more bytes e k (added c) c.args.self.now.scope (entries_of c.deref-2.result.now) c.requires.scope (ap entries_of c.deref-2.ensures.value ∙ symbols_are c) in
     let pass =
-        c.one_passes-is_passing.ensures
-        ∙ passing_more bytes e k (added c) c.args.self.now.scope c.add_all.new.self c.len-symbols.result c.len.result c.args.self.now.rules c.count_rules-self.result
-        c.requires.scope c.len-symbols.ensures (scope_is c) c.len.ensures c.requires.rules (rules_are c) in
+    c.one_passes-is_passing.ensures
+    ∙ passing_more bytes e k (added c) c.args.self.now.scope c.add_all.new.self c.len-symbols.result c.len.result c.args.self.now.rules c.count_rules-self.result
+    c.requires.scope c.len-symbols.ensures (scope_is c) c.len.ensures c.requires.rules (rules_are c) in
     let verdict : (clashing passing : Bool) → Verdict = λ clashing passing. record { entry = c.args.entry; is_clashing = clashing; is_passing = passing } in
     c.in_ok-push.ensures.items ∙ (λ i. c.args.self.now.verdicts.items ++ verdict (clash i) (pass i) ∷ [])
