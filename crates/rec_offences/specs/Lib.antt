@@ -3,3 +3,10 @@ pub mod Material
 pub mod Scope
 pub mod Offences
 pub mod Faults
+pub mod Listing
+pub mod Indexed
+pub mod KnownKept
+pub mod HeadersKept
+pub mod Inclusion
+pub mod Visited
+pub mod Grouped

@@ -35,14 +35,20 @@ symbols_of_declaration d = map (λ n. declared n d.arguments d.sort) d.names
 abbrev pub symbols_by : Specification → List Declared
 symbols_by s = flat_map symbols_of_declaration s.declarations
 
+abbrev pub variables_of : Variables → List Variable
+variables_of v = map (λ n. variable n v.sort) v.names
+
 -- the variables that a specification declares, in order
 abbrev pub variables_by : Specification → List Variable
-variables_by s = flat_map (λ v. map (λ n. variable n v.sort) v.names) s.variables
+variables_by s = flat_map variables_of s.variables
 
 -- a specification as those after it see it: its header's name, and its material
 pub record Header : Type 0 where
   pub name : Name
   pub material : List ℕ
+
+abbrev pub header : Name → List ℕ → Header
+header name material = record { name = name; material = material }
 
 -- what an entry of a list of includes brings: the material of the first header with its name, or nothing
 abbrev pub brought : List ℕ → List Header → Name → List ℕ
@@ -64,7 +70,7 @@ included bytes headers entries = fold (λ numbers entry. with_numbers numbers (b
 
 -- the header of the specification that comes after these: it includes what its entries bring, and comes last itself
 abbrev pub header_after : List ℕ → List Header → Specification → Header
-header_after bytes headers s = record { name = s.name; material = included bytes headers s.includes ++ length headers ∷ [] }
+header_after bytes headers s = header s.name (included bytes headers s.includes ++ length headers ∷ [])
 
 -- the headers of all specifications, in order
 abbrev pub headers_of : List ℕ → List Specification → List Header

@@ -48,10 +48,14 @@ pub record Include : Type 0 where
   pub before : List ℕ
   pub added : List ℕ
 
+abbrev pub include : (entry : Name) (before brought : List ℕ) → Include
+include entry before brought = record { entry = entry; before = before; added = fresh before brought }
+
+-- the entries of a list of includes, after those that brought this material
 abbrev pub includes_from : List ℕ → List Header → List ℕ → List Name → List Include
 includes_from bytes headers so_far [] = []
 includes_from bytes headers so_far (n ∷ ns) =
-    record { entry = n; before = so_far; added = fresh so_far (brought bytes headers n) }
+    include n so_far (brought bytes headers n)
     ∷ includes_from bytes headers (with_numbers so_far (brought bytes headers n)) ns
 
 abbrev pub symbol_names : List Specification → List ℕ → List Name
@@ -140,12 +144,18 @@ unknown_includes bytes headers s = filter (λ n. not (is_among bytes (map (λ h.
 abbrev pub most : ℕ
 most = 65535
 
+abbrev pub names_in_declaration : Declaration → List Name
+names_in_declaration d = d.names ++ d.arguments ++ d.sort ∷ []
+
+abbrev pub names_in_variables : Variables → List Name
+names_in_variables v = v.names ++ v.sort ∷ []
+
 -- every name of a specification
 abbrev pub names_in : Specification → List Name
 names_in s =
     s.name ∷ s.includes ++ s.sorts
-    ++ flat_map (λ d. d.names ++ d.arguments ++ d.sort ∷ []) s.declarations
-    ++ flat_map (λ v. v.names ++ v.sort ∷ []) s.variables
+    ++ flat_map names_in_declaration s.declarations
+    ++ flat_map names_in_variables s.variables
     ++ flat_map heads (flat_map terms_of s.rules ++ s.terms)
 
 abbrev pub is_long : List ℕ → Name → Bool

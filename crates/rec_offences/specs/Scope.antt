@@ -45,10 +45,13 @@ pub record Visit : Type 0 where
   pub node : Node
   pub arguments : List Name
 
+abbrev pub visit : Node → List Name → Visit
+visit node arguments = record { node = node; arguments = arguments }
+
 -- the nodes of a term with the heads of their arguments; on the stack are the heads of the terms that are
 -- no argument yet, the newest last
 abbrev pub visits : List Name → List Node → List Visit
 visits stack [] = []
 visits stack (n ∷ ns) =
-    record { node = n; arguments = drop (length stack - n.count) stack }
+    visit n (drop (length stack - n.count) stack)
     ∷ visits (take (length stack - n.count) stack ++ n.head ∷ []) ns
