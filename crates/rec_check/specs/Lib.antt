@@ -9,3 +9,4 @@ pub mod Spec
 pub mod Headers
 pub mod Run
 pub mod Conditional
+pub mod Checked

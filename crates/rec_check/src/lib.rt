@@ -1,6 +1,7 @@
 //! From a syntax to the specification that it spells.
 #![tactic(auto)]
 
+mod checking;
 mod conditions;
 mod last;
 mod material;
@@ -13,6 +14,7 @@ mod stop;
 mod table;
 mod terms;
 
+pub use checking::check;
 pub use conditions::{CONDITIONAL, unconditional};
 pub use spec::Spec;
 

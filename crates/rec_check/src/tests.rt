@@ -1,7 +1,6 @@
 //! Inputs, and the specifications that they spell.
 
-use crate::last::spell_last;
-use crate::{Spec, unconditional};
+use crate::{Spec, check, unconditional};
 use rec_reader::{ReadFail, Syntax, syntax, tokens};
 use rewrite_model::Rule;
 use std::alloc::Global;
@@ -141,7 +140,7 @@ fn items_of(alloc: Global, spec: &Spec) -> Result<Vec<Item>, ReadFail> {
 #[test]
 fn a_syntax_spells_its_last_specification(rt: HostRuntime) -> Result<(), Fail> {
     for row in &ROWS {
-        let spec = spell_last(rt.alloc(), &read(rt.alloc(), row.input)?)?;
+        let spec = check(rt.alloc(), &read(rt.alloc(), row.input)?)?;
         assert_eq!(rt; items_of(rt.alloc(), &spec)?.as_slice(), row.items);
         for (number, (name, arity)) in row.symbols.iter().enumerate() {
             assert_eq!(rt;
@@ -164,8 +163,38 @@ fn the_greatest_arity_is_known(rt: HostRuntime) -> Result<(), Fail> {
         ),
     ];
     for (input, widest) in rows {
-        let spec = spell_last(rt.alloc(), &read(rt.alloc(), input)?)?;
+        let spec = check(rt.alloc(), &read(rt.alloc(), input)?)?;
         assert_eq!(rt; spec.widest, widest);
+    }
+    Ok(())
+}
+
+// Inputs, with the kind and the place of their fault.
+static FAULTS: [(&[u8], u8, u64); 4] = [
+    (b"REC-SPEC A END-SPEC REC-SPEC A END-SPEC", 6, 29),
+    (
+        b"REC-SPEC A SORTS S CONS a : -> S END-SPEC REC-SPEC B SORTS S CONS a : -> S END-SPEC REC-SPEC C : A B EVAL a END-SPEC",
+        6,
+        99,
+    ),
+    (
+        b"REC-SPEC A SORTS S T CONS a : -> S b : -> T f : S -> S EVAL f(b) END-SPEC",
+        8,
+        62,
+    ),
+    // A fault of a specification that isn't run.
+    (b"REC-SPEC A EVAL x END-SPEC REC-SPEC B END-SPEC", 5, 16),
+];
+
+#[test]
+fn a_syntax_with_offences_is_refused_at_its_fault(rt: HostRuntime) -> Result<(), Fail> {
+    for (input, kind, offset) in &FAULTS {
+        let wanted = ReadFail::Refused {
+            kind: *kind,
+            offset: *offset,
+        };
+        let refused = check(rt.alloc(), &read(rt.alloc(), input)?).err();
+        assert_eq!(rt; refused, Some(wanted));
     }
     Ok(())
 }
