@@ -1,0 +1,173 @@
+-- An input without offence is spelled.
+use Rattle.std.proofs.Common.{◌≡◌, ℕ, zero, suc, ◌+◌, ◌-◌, ◌<◌, ◌≤◌, Bool, true, false, ◌&&◌, List, [], ◌∷◌, ◌++◌, length, map, fold, take, slice_get, Option, Some, None, is_some, All, refl, sym, ap, subst, ◌∙◌, arith, length-append}
+use Rattle.std.specs.Prelude.{nat_lt, nat_le, if◌then◌else◌}
+use Rattle.std.specs.Option.{option_to_list}
+use Rattle.std.specs.List.{list_all, flat_map}
+use Rattle.std.proofs.lemmas.Bool.Decides.{nat_tests}
+use Rattle.std.proofs.lemmas.List.{append_assoc, append-nil}
+use Rattle.std.proofs.lemmas.List.Elements.{All-nil, All-cons, All-head, All-tail, All-weaker, All-append}
+use Rattle.std.proofs.lemmas.List.Folds.{list_all-append}
+use Rattle.std.proofs.lemmas.Grind.{flat_map-append}
+use Rattle.symbol_pool.specs.Pool.{Named}
+use Rattle.symbol_pool.proofs.Places.{slice_get-append}
+use Rattle.rec_reader.specs.declared.syntax_tree.Specification.{Specification}
+use Rattle.rec_reader.specs.declared.syntax_tree.Node.{Node}
+use Rattle.rec_reader.specs.Parsed.{Parsed}
+use Rattle.rec_reader.specs.Whole.{HasWholeTerms}
+use Rattle.rec_offences.specs.Material.{Header, symbols_by, specifications_at, included, headers_of, header_after}
+use Rattle.rec_offences.specs.Offences.{most}
+use Rattle.rec_offences.specs.Faults.{offences_after, offences_from, offences_of}
+use Rattle.rec_check.specs.Rule.{◌>>=◌}
+use Rattle.rec_check.specs.Symbols.{named_in, with_symbols}
+use Rattle.rec_check.specs.Spelled.{Specified, rules_of, terms_in, with_few_rules, most_rules}
+use Rattle.rec_check.specs.Run.{last_of, before_last, material_after, spelled_with, spelled_in}
+use Rattle.rec_check.proofs.Chains.{goes}
+use Rattle.rec_check.proofs.Faultless.{left_empty, right_empty, Faultless, faultless, material}
+use Rattle.rec_check.proofs.Including.{length-headers}
+use Rattle.rec_check.proofs.Repeating.{all_added}
+use Rattle.rec_check.proofs.Readable.{rules_spelled, length-rules, terms_spelled, TermReads}
+use Rattle.rec_check.proofs.Entire.{Together, IsSound, together_of, sound_of, together_more, included_sound, terms_of_last, all_symbols, more_symbols}
+
+-- numbers of earlier specifications mean the same where more follow
+still_at : (earlier more : List Specification) (ms : List ℕ) → list_all (λ n. nat_lt n (length earlier)) ms ≡ true → specifications_at (earlier ++ more) ms ≡ specifications_at earlier ms
+still_at earlier more [] h = refl
+still_at earlier more (n ∷ ms) h = by (nat_lt n (length earlier)) refl h (λ k. still_at earlier more ms k)
+  where
+    by : (b : Bool) → nat_lt n (length earlier) ≡ b → (b && list_all (λ n. nat_lt n (length earlier)) ms) ≡ true
+        → (list_all (λ n. nat_lt n (length earlier)) ms ≡ true → specifications_at (earlier ++ more) ms ≡ specifications_at earlier ms)
+        → option_to_list (slice_get (earlier ++ more) n) ++ specifications_at (earlier ++ more) ms ≡ option_to_list (slice_get earlier n) ++ specifications_at earlier ms
+    by false e h on = absurd cc
+    by true e h on =
+        let l : n < length earlier = grind (arith, nat_tests) in
+        (λ i. option_to_list (slice_get-append earlier more n l i) ++ on h i)
+
+still_within : (k m : ℕ) (ms : List ℕ) → k ≤ m → list_all (λ n. nat_lt n k) ms ≡ true → list_all (λ n. nat_lt n m) ms ≡ true
+still_within k m [] l h = refl
+still_within k m (n ∷ ms) l h = by (nat_lt n k) refl h (λ g. still_within k m ms l g)
+  where
+    by : (b : Bool) → nat_lt n k ≡ b → (b && list_all (λ n. nat_lt n k) ms) ≡ true → (list_all (λ n. nat_lt n k) ms ≡ true → list_all (λ n. nat_lt n m) ms ≡ true) → (nat_lt n m && list_all (λ n. nat_lt n m) ms) ≡ true
+    by false e h on = absurd cc
+    by true e h on =
+        let a : n < k = grind (arith, nat_tests) in
+        let e2 : nat_lt n m ≡ true = grind (arith, nat_tests) in
+        λ i. e2 i && on h i
+
+at_end : (earlier : List Specification) (s : Specification) → slice_get (earlier ++ s ∷ []) (length earlier) ≡ Some s
+at_end [] s = refl
+at_end (t ∷ earlier) s = at_end earlier s
+
+all_before : (earlier : List Specification) (s : Specification) → take (length earlier) (earlier ++ s ∷ []) ≡ earlier
+all_before [] s = refl
+all_before (t ∷ earlier) s = ap (λ ts. t ∷ ts) (all_before earlier s)
+
+fold_push : {A B : Type 0} (f : B → A → B) (b : B) (xs : List A) (x : A) → fold f b (xs ++ x ∷ []) ≡ f (fold f b xs) x
+fold_push f b [] x = refl
+fold_push f b (y ∷ xs) x = fold_push f (f b y) xs x
+
+module _ (bytes : List ℕ) where
+  module _ (earlier : List Specification) (s : Specification) (f : Faultless bytes earlier s) (w : HasWholeTerms s) (all : All (λ h. IsSound bytes earlier h.material) (headers_of bytes earlier)) where
+    abbrev now : List Specification
+    now = earlier ++ s ∷ []
+
+    inner : IsSound bytes earlier (material bytes earlier s)
+    inner = included_sound bytes earlier s f w all
+
+    kept : (h : Header) → IsSound bytes earlier h.material → IsSound bytes now h.material
+    kept h x =
+        let e = length-append earlier (s ∷ []) in
+        let l : length earlier ≤ length now = omega arith in
+        sound_of bytes now h.material (specifications_at earlier h.material) (still_within (length earlier) (length now) h.material l x.within) (still_at earlier (s ∷ []) h.material x.within) (together_of bytes earlier h.material x)
+
+    abbrev run_material : List ℕ
+    run_material = material_after bytes earlier s
+
+    whole_material : specifications_at now run_material ≡ specifications_at earlier (material bytes earlier s) ++ s ∷ []
+    whole_material =
+        flat_map-append (λ n. option_to_list (slice_get now n)) (material bytes earlier s) (length (headers_of bytes earlier) ∷ [])
+        ∙ (λ i. still_at earlier (s ∷ []) (material bytes earlier s) inner.within i ++ (option_to_list (slice_get now (length-headers bytes earlier i)) ++ []))
+        ∙ ap (λ o. specifications_at earlier (material bytes earlier s) ++ (option_to_list o ++ [])) (at_end earlier s)
+
+    together : Together bytes (specifications_at earlier (material bytes earlier s) ++ s ∷ [])
+    together = together_more bytes earlier s f w (together_of bytes earlier (material bytes earlier s) inner)
+
+    own_sound : IsSound bytes now run_material
+    own_sound =
+        let e = length-append earlier (s ∷ []) in
+        let l : length earlier ≤ length now = omega arith in
+        let k : length (headers_of bytes earlier) < length now = let h = length-headers bytes earlier in omega arith in
+        let e2 : nat_lt (length (headers_of bytes earlier)) (length now) ≡ true = grind (arith, nat_tests) in
+        sound_of bytes now run_material (specifications_at earlier (material bytes earlier s) ++ s ∷ [])
+        (list_all-append (λ n. nat_lt n (length now)) (material bytes earlier s) (length (headers_of bytes earlier) ∷ [])
+        ∙ (λ i. still_within (length earlier) (length now) (material bytes earlier s) l inner.within i && (e2 i && true)))
+        whole_material together
+
+    next_stands : All (λ h. IsSound bytes now h.material) (headers_of bytes now)
+    next_stands =
+        let e : headers_of bytes now ≡ headers_of bytes earlier ++ header_after bytes (headers_of bytes earlier) s ∷ [] = fold_push (λ hs t. hs ++ header_after bytes hs t ∷ []) [] earlier s in
+        subst (All (λ h. IsSound bytes now h.material)) (sym e)
+        (All-append (λ h. IsSound bytes now h.material) (headers_of bytes earlier) (header_after bytes (headers_of bytes earlier) s ∷ [])
+        (All-weaker (λ h. IsSound bytes earlier h.material) (λ h. IsSound bytes now h.material) kept (headers_of bytes earlier) all)
+        (All-cons (λ h. IsSound bytes now h.material) (header_after bytes (headers_of bytes earlier) s) [] own_sound (All-nil (λ h. IsSound bytes now h.material))))
+
+    -- what the last specification spells
+    abbrev parts : List Specification → Option Specified
+    parts us =
+        with_symbols [] (named_in bytes (flat_map symbols_by us)) >>= λ symbols. rules_of bytes symbols us >>= λ rules. terms_in bytes symbols s.terms >>= λ trees.
+        with_few_rules (record { symbols = symbols; rules = rules; terms = trees })
+
+    parts_spelled : is_some (parts (specifications_at earlier (material bytes earlier s) ++ s ∷ [])) ≡ true
+    parts_spelled =
+        let us = specifications_at earlier (material bytes earlier s) ++ s ∷ [] in
+        let ds = flat_map symbols_by us in
+        let symbols = named_in bytes ds in
+        let few_symbols = together.few_symbols in
+        let few_rules = together.few_rules in
+        let a : with_symbols [] symbols ≡ Some symbols = all_added bytes [] ds together.distinct together.few (omega arith) in
+        let b = rules_spelled bytes symbols us together.reads in
+        let terms : All (TermReads bytes symbols []) s.terms =
+        let P : List Named → Type 0 = λ ns. All (TermReads bytes ns []) s.terms in
+        subst P (ap (named_in bytes) (sym (more_symbols bytes earlier s f w))) (terms_of_last bytes earlier s f w (together_of bytes earlier (material bytes earlier s) inner)) in
+        let c = terms_spelled bytes symbols s.terms terms in
+        let len : length b.0 ≡ length (flat_map (λ t. t.rules) us) = length-rules bytes symbols us b.0 b.1 in
+        let few : nat_le (length b.0) most_rules ≡ true = grind (arith, nat_tests) in
+        let made : Specified = record { symbols = symbols; rules = b.0; terms = c.0 } in
+        let all_parts : parts us ≡ Some made =
+        goes (with_symbols [] symbols) symbols (λ symbols. rules_of bytes symbols us >>= λ rules. terms_in bytes symbols s.terms >>= λ trees. with_few_rules (record { symbols = symbols; rules = rules; terms = trees })) a
+        ∙ goes (rules_of bytes symbols us) b.0 (λ rules. terms_in bytes symbols s.terms >>= λ trees. with_few_rules (record { symbols = symbols; rules = rules; terms = trees })) b.1
+        ∙ goes (terms_in bytes symbols s.terms) c.0 (λ trees. with_few_rules (record { symbols = symbols; rules = b.0; terms = trees })) c.1
+        ∙ ap (λ t. if t then Some made else None) few in
+        ap is_some all_parts
+
+    last_spelled : is_some (spelled_in (record { bytes = bytes; specifications = now })) ≡ true
+    last_spelled =
+        let S : Parsed = record { bytes = bytes; specifications = now } in
+        let e = length-append earlier (s ∷ []) in
+        let k : length now - 1 ≡ length earlier = omega arith in
+        let at : last_of now ≡ Some s = ap (slice_get now) k ∙ at_end earlier s in
+        let before : before_last now ≡ earlier = ap (λ n. take n now) k ∙ all_before earlier s in
+        ap (λ o. is_some (spelled_with S o)) at
+        ∙ ap (λ e. is_some (parts (specifications_at now (material_after bytes e s)))) before
+        ∙ ap (λ us. is_some (parts us)) whole_material
+        ∙ parts_spelled
+
+  accepted_from : (earlier : List Specification) (s : Specification) (ss : List Specification) → All (λ h. IsSound bytes earlier h.material) (headers_of bytes earlier) → offences_from bytes earlier (s ∷ ss) ≡ []
+      → All HasWholeTerms (s ∷ ss) → is_some (spelled_in (record { bytes = bytes; specifications = earlier ++ s ∷ ss })) ≡ true
+  accepted_from earlier s [] all h w =
+      last_spelled earlier s (faultless bytes earlier s (left_empty (offences_after bytes earlier s) [] h)) (All-head HasWholeTerms s [] w) all
+  accepted_from earlier s (t ∷ ss) all h w =
+      let f = faultless bytes earlier s (left_empty (offences_after bytes earlier s) (offences_from bytes (earlier ++ s ∷ []) (t ∷ ss)) h) in
+      let regroup : (earlier ++ s ∷ []) ++ t ∷ ss ≡ earlier ++ s ∷ t ∷ ss = append_assoc earlier (s ∷ []) (t ∷ ss) in
+      ap (λ specs. is_some (spelled_in (record { bytes = bytes; specifications = specs }))) (sym regroup)
+      ∙ accepted_from (earlier ++ s ∷ []) t ss (next_stands earlier s f (All-head HasWholeTerms s (t ∷ ss) w) all)
+      (right_empty (offences_after bytes earlier s) (offences_from bytes (earlier ++ s ∷ []) (t ∷ ss)) h) (All-tail HasWholeTerms s (t ∷ ss) w)
+
+  -- an input without offence, whose terms are whole
+  pub accepted : (specs : List Specification) → offences_from bytes [] specs ≡ [] → All HasWholeTerms specs → is_some (spelled_in (record { bytes = bytes; specifications = specs })) ≡ true
+  accepted [] h w = refl
+  accepted (s ∷ ss) h w = accepted_from [] s ss (All-nil (λ h. IsSound bytes [] h.material)) h w
+
+-- nothing but an offence keeps an input from being spelled
+pub never_unspelled : (syntax : Parsed) → offences_of syntax ≡ [] → All HasWholeTerms syntax.specifications → spelled_in syntax ≡ None → ⊥
+never_unspelled syntax h w none =
+    let bad : false ≡ true = sym (ap is_some none) ∙ accepted syntax.bytes syntax.specifications h w in
+    cc

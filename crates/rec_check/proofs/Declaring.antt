@@ -1,0 +1,180 @@
+-- Names and symbols added one after another.
+use Rattle.std.proofs.Common.{◌≡◌, ℕ, ◌+◌, ◌<◌, ◌≤◌, Bool, true, false, cond, not, ◌&&◌, List, [], ◌∷◌, ◌++◌, length, map, filter, get_or, drop, slice_get, max, nat_lt, Option, Some, None, is_some, IfSome, refl, sym, ap, subst, ◌∙◌, arith, position, length-append}
+use Rattle.std.specs.Prelude.{option_and_then, nat_le, if◌then◌else◌}
+use Rattle.std.specs.Option.{option_to_list}
+use Rattle.std.specs.List.{list_any, flat_map}
+use Rattle.std.specs.Str.{bytes_eq}
+use Rattle.std.proofs.lemmas.Bool.Decides.{nat_tests}
+use Rattle.std.proofs.lemmas.List.{map-append, at_drop_more, append-nil}
+use Rattle.std.proofs.lemmas.Grind.{flat_map-append}
+use Rattle.term_model.specs.declared.Symbol.{Symbol}
+use Rattle.symbol_pool.specs.Pool.{Named, named, most_symbols, Holds, Lacks, IsPool}
+use Rattle.rec_reader.specs.declared.token.Name.{Name}
+use Rattle.rec_reader.specs.declared.syntax_tree.Node.{Node}
+use Rattle.rec_reader.specs.declared.syntax_tree.Declaration.{Declaration}
+use Rattle.rec_reader.specs.declared.syntax_tree.Specification.{Specification}
+use Rattle.rec_offences.specs.Names.{text_of}
+use Rattle.rec_offences.specs.Material.{Declared, declared, symbols_of_declaration, symbols_by, specifications_at}
+use Rattle.rec_check.specs.Named.{with_name, with_names}
+use Rattle.rec_check.specs.Term.{same_symbol, most_arguments}
+use Rattle.rec_check.specs.Symbols.{named_in, may_be_added, with_symbol, with_symbols, widest_of}
+use Rattle.rec_check.proofs.Found.{held_at, lacking}
+use Rattle.rec_check.proofs.Positions.{place_if_any}
+
+-- ---- the variables of a left side
+
+module _ (text : List ℕ) (variables : List (List ℕ)) (left : List Node) (i : ℕ) (d : Node) (l : i < length left) (names : List (List ℕ)) where
+  abbrev ahead : List (List ℕ) → List Node → List (List ℕ)
+  ahead ns nodes = with_names ns (filter (λ name. list_any (bytes_eq name) variables) (map (λ n. text_of text n.head) nodes))
+
+  module _ (name : List ℕ) (o : Option ℕ) (is : name ≡ text_of text (get_or left i d).head) (at : o ≡ position (bytes_eq name) variables) where
+    any : list_any (bytes_eq (text_of text (get_or left i d).head)) variables ≡ is_some o
+    any = ap (λ n. list_any (bytes_eq n) variables) (sym is) ∙ sym (place_if_any (bytes_eq name) variables) ∙ ap is_some (sym at)
+
+    abbrev rest : List (List ℕ)
+    rest = filter (λ n. list_any (bytes_eq n) variables) (map (λ n. text_of text n.head) (drop (i + 1) left))
+
+    step : ahead names (drop i left) ≡ with_names names (cond (is_some o) (text_of text (get_or left i d).head ∷ rest) rest)
+    step = at_drop_more (ahead names) left i d l ∙ ap (λ (b : Bool). with_names names (cond b (text_of text (get_or left i d).head ∷ rest) rest)) any
+
+    pub takes : (more : List (List ℕ)) → is_some o ≡ true → more ≡ with_name names name → ahead more (drop (i + 1) left) ≡ ahead names (drop i left)
+    takes more passes e =
+        ap (λ ns. with_names ns rest) (e ∙ ap (with_name names) is)
+        ∙ sym (step ∙ ap (λ (b : Bool). with_names names (cond b (text_of text (get_or left i d).head ∷ rest) rest)) passes)
+
+    pub passes_over : is_some o ≡ false → ahead names (drop (i + 1) left) ≡ ahead names (drop i left)
+    passes_over fails = sym (step ∙ ap (λ (b : Bool). with_names names (cond b (text_of text (get_or left i d).head ∷ rest) rest)) fails)
+
+-- names added to names, in two lists
+pub with_names-append : (names xs ys : List (List ℕ)) → with_names names (xs ++ ys) ≡ with_names (with_names names xs) ys
+with_names-append names [] ys = refl
+with_names-append names (x ∷ xs) ys = with_names-append (with_name names x) xs ys
+
+-- ---- one more symbol
+
+pub already : (pool : List Named) (s : Named) (o : Option Symbol) → IsPool pool → IfSome o (λ f. Holds pool f s) → is_some o ≡ true → with_symbol pool s ≡ None
+already pool s None is h e = absurd cc
+already pool s (Some f) is h e =
+    let there : list_any (same_symbol s) pool ≡ true = sym (place_if_any (same_symbol s) pool) ∙ ap is_some (held_at pool f s is h) in
+    let refused : may_be_added pool s ≡ false = ap (λ (b : Bool). nat_le s.arity most_arguments && (not b && nat_lt (length pool) most_symbols)) there ∙ by (nat_le s.arity most_arguments) in
+    ap (λ b. if b then Some (pool ++ s ∷ []) else None) refused
+  where
+    by : (b : Bool) → (b && false) ≡ false
+    by true = refl
+    by false = refl
+
+pub comes_last : (pool new : List Named) (s : Named) → IsPool new → s.arity ≤ most_arguments → Lacks pool s → new ≡ pool ++ s ∷ [] → with_symbol pool s ≡ Some new
+comes_last pool new s is few lacks e =
+    let none : list_any (same_symbol s) pool ≡ false = sym (place_if_any (same_symbol s) pool) ∙ ap is_some (lacking pool s lacks) in
+    let room : length (pool ++ s ∷ []) ≤ most_symbols = subst (λ p. length p ≤ most_symbols) e is.room in
+    let longer = length-append pool (s ∷ []) in
+    let a : nat_le s.arity most_arguments ≡ true = grind (arith, nat_tests) in
+    let l : length pool < most_symbols = omega arith in
+    let b : nat_lt (length pool) most_symbols ≡ true = grind (arith, nat_tests) in
+    (λ i. if (a i && (not (none i) && b i)) then Some (pool ++ s ∷ []) else None) ∙ ap Some (sym e)
+
+pub widest_of-push : (ss : List Named) (s : Named) → widest_of (ss ++ s ∷ []) ≡ max (widest_of ss) s.arity
+widest_of-push [] s = omega arith
+widest_of-push (t ∷ ss) s = let r = widest_of-push ss s in omega arith
+
+-- ---- symbols in two lists
+
+pub with_symbols-append : (pool xs ys : List Named) → with_symbols pool (xs ++ ys) ≡ option_and_then (λ p. with_symbols p ys) (with_symbols pool xs)
+with_symbols-append pool [] ys = refl
+with_symbols-append pool (x ∷ xs) ys = by (with_symbol pool x) (λ p. with_symbols-append p xs ys)
+  where
+    by : (o : Option (List Named)) → ((p : List Named) → with_symbols p (xs ++ ys) ≡ option_and_then (λ q. with_symbols q ys) (with_symbols p xs))
+        → option_and_then (λ more. with_symbols more (xs ++ ys)) o ≡ option_and_then (λ p. with_symbols p ys) (option_and_then (λ more. with_symbols more xs) o)
+    by None h = refl
+    by (Some p) h = h p
+
+named-flat : {X : Type 0} (text : List ℕ) (f : X → List Declared) (xs : List X) → named_in text (flat_map f xs) ≡ flat_map (λ x. named_in text (f x)) xs
+named-flat text f [] = refl
+named-flat text f (x ∷ xs) =
+    map-append (λ d. named (text_of text d.name) (length d.arguments)) (f x) (flat_map f xs)
+    ∙ ap (λ more. named_in text (f x) ++ more) (named-flat text f xs)
+
+-- what adding the symbols of each of a list, from a place on, comes to
+module _ {X : Type 0} (f : X → List Named) (xs : List X) (i : ℕ) (d : X) (l : i < length xs) (pool : List Named) where
+  step_on : with_symbols pool (flat_map f (drop i xs)) ≡ option_and_then (λ p. with_symbols p (flat_map f (drop (i + 1) xs))) (with_symbols pool (f (get_or xs i d)))
+  step_on = at_drop_more (λ rest. with_symbols pool (flat_map f rest)) xs i d l ∙ with_symbols-append pool (f (get_or xs i d)) (flat_map f (drop (i + 1) xs))
+
+  pub adds : (new : List Named) → with_symbols pool (f (get_or xs i d)) ≡ Some new → with_symbols new (flat_map f (drop (i + 1) xs)) ≡ with_symbols pool (flat_map f (drop i xs))
+  adds new e = sym (step_on ∙ ap (λ o. option_and_then (λ p. with_symbols p (flat_map f (drop (i + 1) xs))) o) e)
+
+  pub adds_not : with_symbols pool (f (get_or xs i d)) ≡ None → with_symbols pool (flat_map f (drop i xs)) ≡ None
+  adds_not e = step_on ∙ ap (λ o. option_and_then (λ p. with_symbols p (flat_map f (drop (i + 1) xs))) o) e
+
+names_by : (text : List ℕ) (arguments : List Name) (sort : Name) (names : List Name) → named_in text (map (λ n. declared n arguments sort) names) ≡ map (λ n. named (text_of text n) (length arguments)) names
+names_by text arguments sort [] = refl
+names_by text arguments sort (n ∷ names) = ap (λ more. named (text_of text n) (length arguments) ∷ more) (names_by text arguments sort names)
+
+-- the names of a declaration
+abbrev pub symbols_at : List ℕ → Declaration → List Named
+symbols_at text d = named_in text (symbols_of_declaration d)
+
+pub names_named : (text : List ℕ) (d : Declaration) → symbols_at text d ≡ map (λ n. named (text_of text n) (length d.arguments)) d.names
+names_named text d = names_by text d.arguments d.sort d.names
+
+-- adding declarations, from a place on
+module _ (text : List ℕ) (ds : List Declaration) where
+  abbrev from : List Named → ℕ → Option (List Named)
+  from pool i = with_symbols pool (named_in text (flat_map symbols_of_declaration (drop i ds)))
+
+  apart : (pool : List Named) (i : ℕ) → from pool i ≡ with_symbols pool (flat_map (symbols_at text) (drop i ds))
+  apart pool i = ap (with_symbols pool) (named-flat text symbols_of_declaration (drop i ds))
+
+  module _ (i : ℕ) (l : i < length ds) (pool : List Named) (d : Declaration) (is : d ≡ get_or ds i d) (names : List Name) (named_so : names ≡ d.names) (arity : ℕ) (many : arity ≡ length d.arguments) where
+    here : with_symbols pool (map (λ n. named (text_of text n) arity) names) ≡ with_symbols pool (symbols_at text (get_or ds i d))
+    here =
+        (λ j. with_symbols pool (map (λ n. named (text_of text n) (many j)) (named_so j)))
+        ∙ ap (with_symbols pool) (sym (names_named text d))
+        ∙ ap (λ x. with_symbols pool (symbols_at text x)) is
+
+    pub declares : (new : List Named) → with_symbols pool (map (λ n. named (text_of text n) arity) names) ≡ Some new → from new (i + 1) ≡ from pool i
+    declares new e = apart new (i + 1) ∙ adds (symbols_at text) ds i d l pool new (sym here ∙ e) ∙ sym (apart pool i)
+
+    pub declares_not : with_symbols pool (map (λ n. named (text_of text n) arity) names) ≡ None → from pool i ≡ None
+    declares_not e = apart pool i ∙ adds_not (symbols_at text) ds i d l pool (sym here ∙ e)
+
+-- adding the symbols of the specifications of a material, from a place on
+module _ (text : List ℕ) (specifications : List Specification) (material : List ℕ) where
+  abbrev from_material : List Named → ℕ → Option (List Named)
+  from_material pool i = with_symbols pool (named_in text (flat_map symbols_by (specifications_at specifications (drop i material))))
+
+  abbrev symbols_number : ℕ → List Named
+  symbols_number n = named_in text (flat_map symbols_by (option_to_list (slice_get specifications n)))
+
+  flat-flat : (ns : List ℕ) → named_in text (flat_map symbols_by (specifications_at specifications ns)) ≡ flat_map symbols_number ns
+  flat-flat [] = refl
+  flat-flat (n ∷ ns) =
+      ap (named_in text) (flat_map-append symbols_by (option_to_list (slice_get specifications n)) (specifications_at specifications ns))
+      ∙ map-append (λ d. named (text_of text d.name) (length d.arguments)) (flat_map symbols_by (option_to_list (slice_get specifications n))) (flat_map symbols_by (specifications_at specifications ns))
+      ∙ ap (λ more. symbols_number n ++ more) (flat-flat ns)
+
+  split : (pool : List Named) (i : ℕ) → from_material pool i ≡ with_symbols pool (flat_map symbols_number (drop i material))
+  split pool i = ap (with_symbols pool) (flat-flat (drop i material))
+
+  module _ (i : ℕ) (d : ℕ) (l : i < length material) (pool : List Named) where
+    found : (s : Specification) (ds : List Declaration) → Some s ≡ slice_get specifications (get_or material i d) → ds ≡ s.declarations → symbols_number (get_or material i d) ≡ named_in text (flat_map symbols_of_declaration ds)
+    found s ds e same =
+        ap (λ o. named_in text (flat_map symbols_by (option_to_list o))) (sym e)
+        ∙ ap (named_in text) (append-nil (symbols_by s))
+        ∙ ap (λ xs. named_in text (flat_map symbols_of_declaration xs)) (sym same)
+
+    pub brings : (s : Specification) (ds : List Declaration) (new : List Named) → Some s ≡ slice_get specifications (get_or material i d) → ds ≡ s.declarations
+        → with_symbols pool (named_in text (flat_map symbols_of_declaration ds)) ≡ Some new → from_material new (i + 1) ≡ from_material pool i
+    brings s ds new e same h =
+        split new (i + 1)
+        ∙ adds symbols_number material i d l pool new (ap (with_symbols pool) (found s ds e same) ∙ h)
+        ∙ sym (split pool i)
+
+    pub brings_not : (s : Specification) (ds : List Declaration) → Some s ≡ slice_get specifications (get_or material i d) → ds ≡ s.declarations
+        → with_symbols pool (named_in text (flat_map symbols_of_declaration ds)) ≡ None → from_material pool i ≡ None
+    brings_not s ds e same h = split pool i ∙ adds_not symbols_number material i d l pool (ap (with_symbols pool) (found s ds e same) ∙ h)
+
+    pub brings_nothing : None ≡ slice_get specifications (get_or material i d) → from_material pool (i + 1) ≡ from_material pool i
+    brings_nothing e =
+        split pool (i + 1)
+        ∙ adds symbols_number material i d l pool pool (ap (λ o. with_symbols pool (named_in text (flat_map symbols_by (option_to_list o)))) (sym e))
+        ∙ sym (split pool i)

@@ -1,0 +1,344 @@
+-- A specification without offence, after others whose materials are sound: its own material is sound.
+use Rattle.std.proofs.Common.{◌≡◌, ℕ, zero, suc, ◌+◌, ◌-◌, ◌<◌, ◌≤◌, Bool, true, false, cond, eqb, not, ◌&&◌, ◌||◌, ◌⊎◌, inl, inr, List, [], ◌∷◌, ◌++◌, length, map, fold, slice_get, get_or, Option, Some, None, is_some, All, refl, sym, ap, subst, ◌∙◌, arith, position, length-append}
+use Rattle.std.specs.Prelude.{nat_le, nat_lt, if◌then◌else◌, option_and_then}
+use Rattle.std.specs.Option.{option_map, option_map_or, option_to_list}
+use Rattle.std.specs.List.{list_any, list_all, flat_map, filter}
+use Rattle.std.specs.Str.{bytes_eq}
+use Rattle.std.proofs.lemmas.Bool.Decides.{nat_tests}
+use Rattle.std.proofs.lemmas.List.{append_assoc, append-nil, map-append}
+use Rattle.std.proofs.lemmas.List.Elements.{All-nil, All-cons, All-head, All-tail, All-weaker, All-append}
+use Rattle.std.proofs.lemmas.List.Folds.{list_all-append}
+use Rattle.std.proofs.lemmas.Grind.{flat_map-append}
+use Rattle.symbol_pool.specs.Pool.{Named, named}
+use Rattle.symbol_pool.proofs.Places.{slice_get-append}
+use Rattle.rec_reader.specs.declared.token.Name.{Name}
+use Rattle.rec_reader.specs.declared.syntax_tree.Node.{Node}
+use Rattle.rec_reader.specs.declared.syntax_tree.Rule.{Rule}
+use Rattle.rec_reader.specs.declared.syntax_tree.Condition.{Condition}
+use Rattle.rec_reader.specs.declared.syntax_tree.Specification.{Specification}
+use Rattle.rec_reader.specs.Whole.{IsWhole, IsWholeRule, HasWholeSides, HasWholeTerms}
+use Rattle.rec_offences.specs.Names.{text_of, same_text, is_among}
+use Rattle.rec_offences.specs.Material.{Declared, Header, brought, with_numbers, symbols_by, variables_by, symbols_of, rules_of, specifications_at, included, headers_of, header_after}
+use Rattle.rec_offences.specs.Scope.{Entry, symbol_entry, variable_entry, own_entries, names_of, look_up, is_variable, heads, root, Visit, visits}
+use Rattle.rec_offences.specs.Offences.{includes_from, symbol_names, is_clashing, is_passing, is_long, names_in as all_names_in, repeated, first_past, most, terms_of, nodes_but_left, all_visits, unknown_name, wrong_count, unknown_names, wrong_counts, bare_variables, free_variables, not_ground}
+use Rattle.rec_check.specs.Term.{same_symbol}
+use Rattle.rec_check.specs.Rule.{variables_in}
+use Rattle.rec_check.specs.Symbols.{named_in}
+use Rattle.rec_check.specs.Spelled.{variables_of}
+use Rattle.rec_check.proofs.Faultless.{left_empty, right_empty, Faultless, headers, material, known, entries}
+use Rattle.rec_check.proofs.Positions.{place_if_any}
+use Rattle.rec_check.proofs.Repeating.{repeated-append, few_arguments}
+use Rattle.rec_check.proofs.Sound.{Holds, Sound, sound_none, sound_entries, all_front, all_back, holds_first}
+use Rattle.rec_check.proofs.Readable.{TermReads, SidesRead, RuleReads, Reads, reads_more, All-at, last_node, none_of}
+use Rattle.rec_check.proofs.Own.{all_empty, all_flat, all_filtered, visited, HeadSymbol, HeadVariable, classify, entries_of}
+use Rattle.rec_check.proofs.Judged.{option_empty, within_most, few_declared, all_pair, all_mapped, term_read, ground_read, heads_among, not_there}
+
+-- what a list of specifications has together
+pub record Together (bytes : List ℕ) (ts : List Specification) : Type 0 where
+  pub distinct : repeated bytes [] (map (λ d. d.name) (flat_map symbols_by ts)) ≡ []
+  pub few_symbols : length (flat_map symbols_by ts) ≤ most
+  pub few_rules : length (flat_map (λ t. t.rules) ts) ≤ most
+  pub few : list_all few_arguments (flat_map symbols_by ts) ≡ true
+  pub reads : All (Reads bytes (named_in bytes (flat_map symbols_by ts))) ts
+
+abbrev pub IsSound : List ℕ → List Specification → List ℕ → Type 0
+IsSound bytes = Sound bytes (Reads bytes) (reads_more bytes)
+
+pub together_of : (bytes : List ℕ) (specs : List Specification) (ms : List ℕ) → IsSound bytes specs ms → Together bytes (specifications_at specs ms)
+together_of bytes specs ms s = record { distinct = s.distinct; few_symbols = s.few_symbols; few_rules = s.few_rules; few = s.few; reads = s.reads }
+
+pub sound_of : (bytes : List ℕ) (specs : List Specification) (ms : List ℕ) (ts : List Specification) → list_all (λ n. nat_lt n (length specs)) ms ≡ true → specifications_at specs ms ≡ ts → Together bytes ts → IsSound bytes specs ms
+sound_of bytes specs ms ts w e t =
+    let u = subst (Together bytes) (sym e) t in
+    record { within = w; distinct = u.distinct; few_symbols = u.few_symbols; few_rules = u.few_rules; few = u.few; reads = u.reads }
+
+names_symbols : (ds : List Declared) → names_of (map symbol_entry ds) ≡ map (λ d. d.name) ds
+names_symbols [] = refl
+names_symbols (d ∷ ds) = ap (λ ns. d.name ∷ ns) (names_symbols ds)
+
+implied : (a b : Bool) → (a && not b) ≡ false → a ≡ true → b ≡ true
+implied true true h k = refl
+implied true false h k = absurd cc
+implied false b h k = absurd cc
+
+module _ (bytes : List ℕ) (earlier : List Specification) (s : Specification) (f : Faultless bytes earlier s) (w : HasWholeTerms s) where
+  abbrev ms : List ℕ
+  ms = material bytes earlier s
+
+  abbrev ts : List Specification
+  ts = specifications_at earlier (material bytes earlier s)
+
+  abbrev before : List Declared
+  before = symbols_of earlier (material bytes earlier s)
+
+  abbrev pub all_symbols : List Declared
+  all_symbols = before ++ symbols_by s
+
+  -- the entries are those of all symbols and of the variables
+  regroup : entries bytes earlier s ≡ entries_of bytes all_symbols s
+  regroup =
+      sym (append_assoc (map symbol_entry before) (map symbol_entry (symbols_by s)) (map variable_entry (variables_by s)))
+      ∙ ap (λ es. es ++ map variable_entry (variables_by s)) (sym (map-append symbol_entry before (symbols_by s)))
+
+  -- own names are repeated nowhere
+  own_new : repeated bytes (names_of (known bytes earlier s)) (names_of (own_entries s)) ≡ []
+  own_new =
+      let includes = includes_from bytes (headers bytes earlier s) [] s.includes in
+      let a = filter (is_among bytes (map (λ h. h.name) (headers bytes earlier s))) (s.name ∷ []) in
+      let b = repeated bytes [] s.sorts in
+      let c = repeated bytes (names_of (known bytes earlier s)) (names_of (own_entries s)) in
+      let d = map (λ i. i.entry) (filter (is_clashing bytes earlier) includes) in
+      right_empty (a ++ b) c (left_empty (a ++ b ++ c) d f.repeated_none)
+
+  clashing_none : map (λ i. i.entry) (filter (is_clashing bytes earlier) (includes_from bytes (headers bytes earlier s) [] s.includes)) ≡ []
+  clashing_none =
+      let includes = includes_from bytes (headers bytes earlier s) [] s.includes in
+      let a = filter (is_among bytes (map (λ h. h.name) (headers bytes earlier s))) (s.name ∷ []) in
+      let b = repeated bytes [] s.sorts in
+      let c = repeated bytes (names_of (known bytes earlier s)) (names_of (own_entries s)) in
+      right_empty (a ++ b ++ c) (map (λ i. i.entry) (filter (is_clashing bytes earlier) includes)) f.repeated_none
+
+  split_new : repeated bytes (names_of (known bytes earlier s)) (names_of (map symbol_entry (symbols_by s))) ++ repeated bytes (names_of (known bytes earlier s) ++ names_of (map symbol_entry (symbols_by s))) (names_of (map variable_entry (variables_by s))) ≡ []
+  split_new =
+      sym (repeated-append bytes (names_of (known bytes earlier s)) (names_of (map symbol_entry (symbols_by s))) (names_of (map variable_entry (variables_by s))))
+      ∙ ap (repeated bytes (names_of (known bytes earlier s))) (sym (map-append (λ e. e.declared.name) (map symbol_entry (symbols_by s)) (map variable_entry (variables_by s))))
+      ∙ own_new
+
+  symbols_new : repeated bytes (map (λ d. d.name) before) (map (λ d. d.name) (symbols_by s)) ≡ []
+  symbols_new =
+      (λ i. repeated bytes (sym (names_symbols before) i) (sym (names_symbols (symbols_by s)) i))
+      ∙ left_empty (repeated bytes (names_of (known bytes earlier s)) (names_of (map symbol_entry (symbols_by s)))) (repeated bytes (names_of (known bytes earlier s) ++ names_of (map symbol_entry (symbols_by s))) (names_of (map variable_entry (variables_by s)))) split_new
+
+  variables_apart : repeated bytes (map (λ d. d.name) all_symbols) (names_of (map variable_entry (variables_by s))) ≡ []
+  variables_apart =
+      ap (λ e. repeated bytes e (names_of (map variable_entry (variables_by s)))) (map-append (λ d. d.name) before (symbols_by s))
+      ∙ (λ i. repeated bytes (sym (names_symbols before) i ++ sym (names_symbols (symbols_by s)) i) (names_of (map variable_entry (variables_by s))))
+      ∙ right_empty (repeated bytes (names_of (known bytes earlier s)) (names_of (map symbol_entry (symbols_by s)))) (repeated bytes (names_of (known bytes earlier s) ++ names_of (map symbol_entry (symbols_by s))) (names_of (map variable_entry (variables_by s)))) split_new
+
+  -- ---- the limits
+
+  abbrev l_long : List Name
+  l_long = filter (is_long bytes) (all_names_in s)
+
+  abbrev l_arguments : List Name
+  l_arguments = flat_map (λ d. option_to_list (slice_get d.arguments 16)) s.declarations
+
+  abbrev l_symbols : List Name
+  l_symbols = map (λ d. d.name) (option_to_list (first_past (length before) (symbols_by s)))
+
+  abbrev l_rules : List Name
+  l_rules = option_to_list (option_and_then (λ r. root r.left) (first_past (length (rules_of earlier (material bytes earlier s))) s.rules))
+
+  abbrev l_terms : List Name
+  l_terms = option_to_list (option_and_then root (first_past 0 s.terms))
+
+  abbrev l_entries : List Name
+  l_entries = map (λ i. i.entry) (filter (is_passing earlier) (includes_from bytes (headers bytes earlier s) [] s.includes))
+
+  passing_none : l_entries ≡ []
+  passing_none = right_empty (l_long ++ l_arguments ++ l_symbols ++ l_rules ++ l_terms) l_entries f.past_none
+
+  to_rules : l_long ++ l_arguments ++ l_symbols ++ l_rules ≡ []
+  to_rules = left_empty (l_long ++ l_arguments ++ l_symbols ++ l_rules) l_terms (left_empty (l_long ++ l_arguments ++ l_symbols ++ l_rules ++ l_terms) l_entries f.past_none)
+
+  rules_none : l_rules ≡ []
+  rules_none = right_empty (l_long ++ l_arguments ++ l_symbols) l_rules to_rules
+
+  to_symbols : l_long ++ l_arguments ++ l_symbols ≡ []
+  to_symbols = left_empty (l_long ++ l_arguments ++ l_symbols) l_rules to_rules
+
+  symbols_none : l_symbols ≡ []
+  symbols_none = right_empty (l_long ++ l_arguments) l_symbols to_symbols
+
+  arguments_none : l_arguments ≡ []
+  arguments_none = right_empty l_long l_arguments (left_empty (l_long ++ l_arguments) l_symbols to_symbols)
+
+  no_symbol_past : first_past (length before) (symbols_by s) ≡ None
+  no_symbol_past = by (first_past (length before) (symbols_by s)) symbols_none
+    where
+      by : (o : Option Declared) → map (λ d. d.name) (option_to_list o) ≡ [] → o ≡ None
+      by None h = refl
+      by (Some d) h = absurd cc
+
+  -- a rule of a whole left side has a root
+  rooted : (r : Rule) → IsWhole r.left → root r.left ≡ None → ⊥
+  rooted r h e =
+      let n = last_node bytes r.left h in
+      let there : root r.left ≡ Some n.0.head = ap (option_map (λ n. n.head)) n.1 in
+      let bad : Some n.0.head ≡ None = sym there ∙ e in
+      cc
+
+  no_rule_past : first_past (length (rules_of earlier (material bytes earlier s))) s.rules ≡ None
+  no_rule_past = by (nat_le (length (rules_of earlier (material bytes earlier s))) most) refl
+    where
+      k : ℕ
+      k = most - length (rules_of earlier (material bytes earlier s))
+
+      at : (o : Option Rule) → slice_get s.rules (most - length (rules_of earlier (material bytes earlier s))) ≡ o → option_and_then (λ r. root r.left) o ≡ None → o ≡ None
+      at None e h = refl
+      at (Some r) e h = absurd (rooted r (All-at bytes IsWholeRule s.rules (most - length (rules_of earlier (material bytes earlier s))) r w.rules e).left h)
+
+      by : (b : Bool) → nat_le (length (rules_of earlier (material bytes earlier s))) most ≡ b → first_past (length (rules_of earlier (material bytes earlier s))) s.rules ≡ None
+      by false e = ap (λ b. if b then slice_get s.rules (most - length (rules_of earlier (material bytes earlier s))) else None) e
+      by true e =
+          let here : first_past (length (rules_of earlier (material bytes earlier s))) s.rules ≡ slice_get s.rules (most - length (rules_of earlier (material bytes earlier s))) = ap (λ b. if b then slice_get s.rules (most - length (rules_of earlier (material bytes earlier s))) else None) e in
+          here ∙ at (slice_get s.rules (most - length (rules_of earlier (material bytes earlier s)))) refl
+          (ap (option_and_then (λ r. root r.left)) (sym here) ∙ option_empty (option_and_then (λ r. root r.left) (first_past (length (rules_of earlier (material bytes earlier s))) s.rules)) rules_none)
+
+  -- ---- the heads
+
+  abbrev IsHead : Node → Type 0
+  IsHead n = HeadSymbol bytes all_symbols s n ⊎ HeadVariable bytes all_symbols s n
+
+  abbrev all_terms : List (List Node)
+  all_terms = flat_map terms_of s.rules ++ s.terms
+
+  known_at : All (λ v. unknown_name bytes (entries_of bytes all_symbols s) v ≡ []) (all_visits s)
+  known_at = all_empty (unknown_name bytes (entries_of bytes all_symbols s)) (all_visits s) (ap (λ es. unknown_names bytes es s) (sym regroup) ∙ f.unknown_none)
+
+  counted_at : All (λ v. wrong_count bytes (entries_of bytes all_symbols s) v ≡ []) (all_visits s)
+  counted_at = all_empty (wrong_count bytes (entries_of bytes all_symbols s)) (all_visits s) (ap (λ es. wrong_counts bytes es s) (sym regroup) ∙ f.counts_none)
+
+  abbrev IsKnown : Node → Type 0
+  IsKnown n = (if is_some (look_up bytes (entries_of bytes all_symbols s) n.head) then (let none : List Name = [] in none) else n.head ∷ []) ≡ []
+
+  abbrev IsCounted : Node → Type 0
+  IsCounted n = option_map_or (λ e. if eqb n.count (length e.declared.arguments) then (let none : List Name = [] in none) else n.head ∷ []) (look_up bytes (entries_of bytes all_symbols s) n.head) [] ≡ []
+
+  both_at : All (λ v. IsKnown v.node × IsCounted v.node) (all_visits s)
+  both_at = all_pair (λ v. IsKnown v.node) (λ v. IsCounted v.node) (all_visits s) known_at counted_at
+
+  heads_at : All (λ t. All IsHead t) all_terms
+  heads_at =
+      All-weaker (λ t. All (λ v. IsKnown v.node × IsCounted v.node) (visits [] t)) (λ t. All IsHead t)
+      (λ t h. All-weaker (λ n. IsKnown n × IsCounted n) IsHead (λ n p. classify bytes all_symbols s variables_apart n p.0 p.1) t (visited (λ n. IsKnown n × IsCounted n) [] t h))
+      all_terms (all_flat (λ v. IsKnown v.node × IsCounted v.node) (visits []) all_terms both_at)
+
+  rule_heads : All (λ r. All (λ t. All IsHead t) (terms_of r)) s.rules
+  rule_heads = all_flat (λ t. All IsHead t) terms_of s.rules (all_front (λ t. All IsHead t) (flat_map terms_of s.rules) s.terms heads_at)
+
+  term_heads : All (λ t. All IsHead t) s.terms
+  term_heads = all_back (λ t. All IsHead t) (flat_map terms_of s.rules) s.terms heads_at
+
+  -- ---- variables
+
+  abbrev is_var : Name → Bool
+  is_var n = is_variable bytes (entries_of bytes all_symbols s) n
+
+  abbrev among_left : Rule → Name → Bool
+  among_left r n = is_among bytes (heads r.left) n
+
+  rule_free : All (λ r. All (λ n. (is_var n && not (among_left r n)) ≡ false) (heads (nodes_but_left r))) s.rules
+  rule_free =
+      All-weaker (λ r. filter (λ n. is_var n && not (among_left r n)) (heads (nodes_but_left r)) ≡ []) (λ r. All (λ n. (is_var n && not (among_left r n)) ≡ false) (heads (nodes_but_left r)))
+      (λ r h. all_filtered (λ n. is_var n && not (among_left r n)) (heads (nodes_but_left r)) h) s.rules
+      (all_empty (λ r. filter (λ n. is_var n && not (among_left r n)) (heads (nodes_but_left r))) s.rules (ap (λ es. free_variables bytes es s) (sym regroup) ∙ f.free_none))
+
+  rule_bare : All (λ r. All (λ n. is_var n ≡ false) (option_to_list (root r.left))) s.rules
+  rule_bare =
+      All-weaker (λ r. filter is_var (option_to_list (root r.left)) ≡ []) (λ r. All (λ n. is_var n ≡ false) (option_to_list (root r.left)))
+      (λ r h. all_filtered is_var (option_to_list (root r.left)) h) s.rules
+      (all_empty (λ r. filter is_var (option_to_list (root r.left))) s.rules (ap (λ es. bare_variables bytes es s) (sym regroup) ∙ f.bare_none))
+
+  term_ground : All (λ t. All (λ n. is_var n.head ≡ false) t) s.terms
+  term_ground =
+      All-weaker (λ t. All (λ n. is_var n ≡ false) (heads t)) (λ t. All (λ n. is_var n.head ≡ false) t) (λ t h. all_mapped (λ n. is_var n ≡ false) (λ n. n.head) t h) s.terms
+      (all_flat (λ n. is_var n ≡ false) heads s.terms (all_filtered is_var (flat_map heads s.terms) (ap (λ es. not_ground bytes es s) (sym regroup) ∙ f.not_ground_none)))
+
+  -- ---- its rules are read
+
+  abbrev own_symbols : List Named
+  own_symbols = named_in bytes all_symbols
+
+  abbrev IsBound : Rule → Node → Type 0
+  IsBound r n = is_var n.head ≡ true → among_left r n.head ≡ true
+
+  module _ (few : list_all few_arguments all_symbols ≡ true) where
+    rule_read : (r : Rule) → IsWholeRule r → All (λ t. All IsHead t) (terms_of r) → All (λ n. (is_var n && not (among_left r n)) ≡ false) (heads (nodes_but_left r)) → All (λ n. is_var n ≡ false) (option_to_list (root r.left))
+        → RuleReads bytes own_symbols (variables_of bytes s) r
+    rule_read r whole heads_of free bare =
+        let H : List Node → Type 0 = λ t. All IsHead t in
+        let sides = flat_map (λ c. c.first ∷ c.second ∷ []) r.conditions in
+        let left_heads = All-head H r.left (r.right ∷ sides) heads_of in
+        let right_heads = All-head H r.right sides (All-tail H r.left (r.right ∷ sides) heads_of) in
+        let side_heads : All (λ c. All H (c.first ∷ c.second ∷ [])) r.conditions = all_flat H (λ c. c.first ∷ c.second ∷ []) r.conditions (All-tail H r.right sides (All-tail H r.left (r.right ∷ sides) heads_of)) in
+        let bound : All (IsBound r) (nodes_but_left r) =
+        All-weaker (λ n. (is_var n.head && not (among_left r n.head)) ≡ false) (IsBound r) (λ n h k. implied (is_var n.head) (among_left r n.head) h k) (nodes_but_left r)
+        (all_mapped (λ n. (is_var n && not (among_left r n)) ≡ false) (λ n. n.head) (nodes_but_left r) free) in
+        let others = flat_map (λ c. c.first ++ c.second) r.conditions in
+        let right_bound = all_front (IsBound r) r.right others bound in
+        let side_bound : All (λ c. All (IsBound r) (c.first ++ c.second)) r.conditions = all_flat (IsBound r) (λ c. c.first ++ c.second) r.conditions (all_back (IsBound r) r.right others bound) in
+        let left_bound : All (IsBound r) r.left = All-weaker (λ n. among_left r n.head ≡ true) (IsBound r) (λ n h k. h) r.left (heads_among bytes r.left) in
+        record {
+          left = term_read bytes all_symbols s few r.left r.left whole.left left_heads left_bound;
+          right = term_read bytes all_symbols s few r.left r.right whole.right right_heads right_bound;
+          conditions = λ k d l.
+              let c = get_or r.conditions k d in
+              let hs = side_heads k d l in
+              let bs = side_bound k d l in
+              let ws = whole.conditions k d l in
+              record {
+                first = term_read bytes all_symbols s few r.left c.first ws.first (All-head H c.first (c.second ∷ []) hs) (all_front (IsBound r) c.first c.second bs);
+                second = term_read bytes all_symbols s few r.left c.second ws.second (All-head H c.second [] (All-tail H c.first (c.second ∷ []) hs)) (all_back (IsBound r) c.first c.second bs);
+              };
+          head = λ n e.
+              let there : root r.left ≡ Some n.head = ap (option_map (λ n. n.head)) e in
+              let no : is_var n.head ≡ false = All-head (λ m. is_var m ≡ false) n.head [] (subst (λ o. All (λ m. is_var m ≡ false) (option_to_list o)) there bare) in
+              let absent = by_head r n (All-at bytes IsHead r.left (length r.left - 1) n left_heads e) no in
+              none_of (position (bytes_eq (text_of bytes n.head)) (variables_in bytes (variables_of bytes s) r.left)) (place_if_any (bytes_eq (text_of bytes n.head)) (variables_in bytes (variables_of bytes s) r.left) ∙ absent);
+        }
+      where
+        by_head : (r : Rule) (n : Node) → IsHead n → is_var n.head ≡ false → list_any (bytes_eq (text_of bytes n.head)) (variables_in bytes (variables_of bytes s) r.left) ≡ false
+        by_head r n (inl h) e = not_there bytes all_symbols s few r.left n h.not_declared
+        by_head r n (inr h) e = absurd (let bad : true ≡ false = sym h.a_variable ∙ e in cc)
+
+    pub own_reads : Reads bytes own_symbols s
+    own_reads = λ k d l. rule_read (get_or s.rules k d) (w.rules k d l) (rule_heads k d l) (rule_free k d l) (rule_bare k d l)
+
+    -- its terms are read without variables
+    pub terms_read : All (TermReads bytes own_symbols []) s.terms
+    terms_read = λ k d l. ground_read bytes all_symbols s few (get_or s.terms k d) (w.terms k d l) (term_heads k d l) (term_ground k d l)
+
+  -- ---- the whole material
+
+  abbrev pub more_symbols : flat_map symbols_by (ts ++ s ∷ []) ≡ all_symbols
+  more_symbols = flat_map-append symbols_by ts (s ∷ []) ∙ ap (λ ds. before ++ ds) (append-nil (symbols_by s))
+
+  abbrev more_rules : flat_map (λ t. t.rules) (ts ++ s ∷ []) ≡ rules_of earlier (material bytes earlier s) ++ s.rules
+  more_rules = flat_map-append (λ t. t.rules) ts (s ∷ []) ∙ ap (λ rs. rules_of earlier (material bytes earlier s) ++ rs) (append-nil s.rules)
+
+  own_few : Together bytes ts → list_all few_arguments all_symbols ≡ true
+  own_few t = list_all-append few_arguments before (symbols_by s) ∙ (λ i. t.few i && few_declared s.declarations arguments_none i)
+
+  pub together_more : Together bytes ts → Together bytes (ts ++ s ∷ [])
+  together_more t =
+      let P : List Named → Type 0 = λ ns. All (Reads bytes ns) (ts ++ s ∷ []) in
+      let lengths : length (flat_map symbols_by (ts ++ s ∷ [])) ≡ length before + length (symbols_by s) = ap length more_symbols ∙ length-append before (symbols_by s) in
+      let rule_lengths : length (flat_map (λ t. t.rules) (ts ++ s ∷ [])) ≡ length (rules_of earlier (material bytes earlier s)) + length s.rules = ap length more_rules ∙ length-append (rules_of earlier (material bytes earlier s)) s.rules in
+      let few_s = within_most (length before) (symbols_by s) t.few_symbols no_symbol_past in
+      let few_r = within_most (length (rules_of earlier (material bytes earlier s))) s.rules t.few_rules no_rule_past in
+      let holds : Holds (named_in bytes before) own_symbols =
+      subst (Holds (named_in bytes before)) (sym (map-append (λ d. named (text_of bytes d.name) (length d.arguments)) before (symbols_by s))) (holds_first (named_in bytes before) (named_in bytes (symbols_by s))) in
+      record {
+        distinct =
+            ap (λ ds. repeated bytes [] (map (λ d. d.name) ds)) more_symbols
+            ∙ ap (repeated bytes []) (map-append (λ d. d.name) before (symbols_by s))
+            ∙ repeated-append bytes [] (map (λ d. d.name) before) (map (λ d. d.name) (symbols_by s))
+            ∙ (λ i. t.distinct i ++ symbols_new i);
+        few_symbols = omega arith;
+        few_rules = omega arith;
+        few = ap (list_all few_arguments) more_symbols ∙ own_few t;
+        reads =
+            subst P (ap (named_in bytes) (sym more_symbols))
+            (All-append (Reads bytes own_symbols) ts (s ∷ [])
+            (All-weaker (Reads bytes (named_in bytes before)) (Reads bytes own_symbols) (λ u r. reads_more bytes (named_in bytes before) own_symbols u holds r) ts t.reads)
+            (All-cons (Reads bytes own_symbols) s [] (own_reads (own_few t)) (All-nil (Reads bytes own_symbols))));
+      }
+
+  -- the included material, where earlier materials are sound
+  pub included_sound : All (λ h. IsSound bytes earlier h.material) (headers_of bytes earlier) → IsSound bytes earlier (material bytes earlier s)
+  included_sound all =
+      sound_entries bytes (Reads bytes) (reads_more bytes) earlier (headers_of bytes earlier) all s.includes [] (sound_none bytes (Reads bytes) (reads_more bytes) earlier) clashing_none passing_none
+
+  pub terms_of_last : Together bytes ts → All (TermReads bytes own_symbols []) s.terms
+  terms_of_last t = terms_read (own_few t)

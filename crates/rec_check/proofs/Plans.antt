@@ -1,0 +1,224 @@
+-- What is spelled may be planned.
+use Rattle.std.proofs.Common.{◌≡◌, ℕ, ◌≤◌, Bool, true, false, ◌⊎◌, inl, inr, List, [], ◌∷◌, ◌++◌, length, Option, Some, None, All, refl, sym, ap, subst, ◌∙◌, arith, position}
+use Rattle.std.specs.Prelude.{option_and_then, nat_le, if◌then◌else◌}
+use Rattle.std.specs.List.{list_all}
+use Rattle.std.proofs.lemmas.Bool.Decides.{nat_tests}
+use Rattle.std.proofs.lemmas.List.Elements.{All-append, All-weaker}
+use Rattle.term_model.specs.Tree.{Tree, Leaf, Node, root, IsGround}
+use Rattle.term_model.specs.Postorder.{postorder, tree_of, has_head}
+use Rattle.term_model.specs.declared.Head.{Head}
+use Rattle.term_model.specs.declared.Item.{Item}
+use Rattle.term_model.proofs.Order.{only_postorder}
+use Rattle.term_model.proofs.Subtrees.{all_heads}
+use Rattle.rewrite_model.specs.Rule.{Rule, Condition, IsRule, IsNode, IsBelow}
+use Rattle.rule_match.specs.Planned.{IsPlain, HasSymbolsAlone, HasSides, IsFit, is_plain, is_item_below}
+use Rattle.rule_match.proofs.Numbering.{counted, below, count_in}
+use Rattle.symbol_pool.specs.Pool.{Named}
+use Rattle.rec_reader.specs.declared.syntax_tree.Node as written_node
+use Rattle.rec_reader.specs.declared.syntax_tree.Rule as written
+use Rattle.rec_reader.specs.declared.syntax_tree.Condition as written_condition
+use Rattle.rec_reader.specs.declared.syntax_tree.Specification.{Specification}
+use Rattle.std.specs.Str.{bytes_eq}
+use Rattle.rec_reader.specs.Parsed.{Parsed}
+use Rattle.rec_offences.specs.Names.{text_of}
+use Rattle.rec_offences.specs.Material.{symbols_of, specifications_at}
+use Rattle.rec_check.specs.Symbols.{named_in, with_symbols, widest_of}
+use Rattle.rec_check.specs.Run.{MayBeRun, last_of, before_last, material_after, spelled_with, spelled_in}
+use Rattle.rec_check.specs.Term.{Scope, all_of, item_in, tree_in}
+use Rattle.rec_check.specs.Rule.{◌>>=◌, condition_in, rule_in, variables_in}
+use Rattle.rec_check.specs.Spelled.{Specified, nothing, variables_of, rules_in, rules_of, terms_in, with_few_rules, most_rules, spelled_by}
+use Rattle.rec_check.proofs.Heads.{IsVariable, IsSymbol, head_cases, one_below, one_plain, all_pass, all_hold}
+use Rattle.rec_check.proofs.Numbered.{left_numbered}
+
+-- what came before a step that gave something
+record Came {A B : Type 0} (o : Option A) (f : A → Option B) (y : B) : Type 0 where
+  x : A
+  is : o ≡ Some x
+  gives : f x ≡ Some y
+
+came : {A B : Type 0} (o : Option A) (f : A → Option B) (y : B) → (o >>= f) ≡ Some y → Came o f y
+came None f y h = absurd cc
+came (Some x) f y h = record { x = x; is = refl; gives = h }
+
+cc_some : {A : Type 0} (x y : A) → Some x ≡ Some y → x ≡ y
+cc_some x y e = cc
+
+-- ---- a term
+
+record Spells (scope : Scope) (nodes : List written_node.Node) (t : Tree) : Type 0 where
+  items : List Item
+  are : all_of (λ n. item_in scope n) nodes ≡ Some items
+  spell : items ≡ postorder t
+
+spells : (scope : Scope) (nodes : List written_node.Node) (t : Tree) → tree_in scope nodes ≡ Some t → Spells scope nodes t
+spells scope nodes t h = by (all_of (λ n. item_in scope n) nodes) refl h
+  where
+    by : (o : Option (List Item)) → all_of (λ n. item_in scope n) nodes ≡ o → option_and_then (λ items. tree_of items) o ≡ Some t → Spells scope nodes t
+    by None e h = absurd cc
+    by (Some items) e h = record { items = items; are = e; spell = only_postorder items t h }
+
+module _ (scope : Scope) (nodes : List written_node.Node) (t : Tree) (h : tree_in scope nodes ≡ Some t) where
+  abbrev s : Spells scope nodes t
+  s = spells scope nodes t h
+
+  pub tree_below : IsBelow (length scope.variables) t
+  tree_below =
+      sym (below (length scope.variables) t) ∙ ap (list_all (is_item_below (length scope.variables))) (sym s.spell)
+      ∙ all_pass (λ n. item_in scope n) (is_item_below (length scope.variables)) (one_below scope) nodes s.items s.are
+
+  pub tree_plain : IsPlain (widest_of scope.symbols) t
+  tree_plain =
+      ap (list_all (λ (i : Item). is_plain (widest_of scope.symbols) i)) (sym s.spell)
+      ∙ all_pass (λ n. item_in scope n) (λ i. is_plain (widest_of scope.symbols) i) (one_plain scope) nodes s.items s.are
+
+has_root : (t : Tree) (h : Head) → root t ≡ Some h → IsNode t
+has_root (Leaf x) h e = absurd cc
+has_root (Node g ts) h e = tt
+
+-- ---- a rule
+
+condition_fits : (scope : Scope) (c : written_condition.Condition) (d : Condition) → condition_in scope c ≡ Some d → HasSides (length scope.variables) (widest_of scope.symbols) d
+condition_fits scope c d h =
+    let a = came (tree_in scope c.first) (λ first. tree_in scope c.second >>= λ second. Some (record { first = first; second = second; equal = c.equal })) d h in
+    let b = came (tree_in scope c.second) (λ second. let made : Condition = record { first = a.x; second = second; equal = c.equal } in Some made) d a.gives in
+    let made : Condition = record { first = a.x; second = b.x; equal = c.equal } in
+    let is : made ≡ d = cc_some made d b.gives in
+    subst (HasSides (length scope.variables) (widest_of scope.symbols)) is
+    (record { first_below = tree_below scope c.first a.x a.is; first = tree_plain scope c.first a.x a.is; second_below = tree_below scope c.second b.x b.is; second = tree_plain scope c.second b.x b.is })
+
+module _ (text : List ℕ) (symbols : List Named) (declared : List (List ℕ)) (r : written.Rule) (made : Rule) (h : rule_in text symbols declared r ≡ Some made) where
+  abbrev vars : List (List ℕ)
+  vars = variables_in text declared r.left
+
+  abbrev scope : Scope
+  scope = record { text = text; symbols = symbols; variables = vars }
+
+  abbrev with_head : Tree → Tree → List Condition → Head → Option Rule
+  with_head left right conditions head = Some (record { left = left; right = right; conditions = conditions; vars = length vars })
+
+  abbrev with_conditions : Tree → Tree → List Condition → Option Rule
+  with_conditions left right conditions = root left >>= with_head left right conditions
+
+  abbrev with_right : Tree → Tree → Option Rule
+  with_right left right = all_of (λ c. condition_in scope c) r.conditions >>= with_conditions left right
+
+  abbrev with_left : Tree → Option Rule
+  with_left left = tree_in scope r.right >>= with_right left
+
+  abbrev a : Came (tree_in scope r.left) with_left made
+  a = came (tree_in scope r.left) with_left made h
+
+  abbrev b : Came (tree_in scope r.right) (with_right a.x) made
+  b = came (tree_in scope r.right) (with_right a.x) made a.gives
+
+  abbrev c : Came (all_of (λ d. condition_in scope d) r.conditions) (with_conditions a.x b.x) made
+  c = came (all_of (λ d. condition_in scope d) r.conditions) (with_conditions a.x b.x) made b.gives
+
+  abbrev d : Came (root a.x) (with_head a.x b.x c.x) made
+  d = came (root a.x) (with_head a.x b.x c.x) made c.gives
+
+  abbrev rule : Rule
+  rule = record { left = a.x; right = b.x; conditions = c.x; vars = length vars }
+
+  is_made : rule ≡ made
+  is_made = cc_some rule made d.gives
+
+  sides : All (HasSides (length vars) (widest_of symbols)) c.x
+  sides = all_hold (λ e. condition_in scope e) (HasSides (length vars) (widest_of symbols)) (λ e f. condition_fits scope e f) r.conditions c.x c.is
+
+  left : Spells scope r.left a.x
+  left = spells scope r.left a.x a.is
+
+  fits : IsFit (widest_of symbols) rule
+  fits = record {
+    rule = record {
+      node = has_root a.x d.x d.is;
+      numbered = sym (counted a.x 0) ∙ ap (λ items. count_in items 0) (sym left.spell) ∙ left_numbered text symbols declared r.left left.items left.are;
+      right = tree_below scope r.right b.x b.is;
+      firsts = All-weaker (HasSides (length vars) (widest_of symbols)) (λ e. IsBelow (length vars) e.first) (λ e f. f.first_below) c.x sides;
+      seconds = All-weaker (HasSides (length vars) (widest_of symbols)) (λ e. IsBelow (length vars) e.second) (λ e f. f.second_below) c.x sides;
+    };
+    symbols = record {
+      left = tree_plain scope r.left a.x a.is;
+      right = tree_plain scope r.right b.x b.is;
+      firsts = All-weaker (HasSides (length vars) (widest_of symbols)) (λ e. IsPlain (widest_of symbols) e.first) (λ e f. f.first) c.x sides;
+      seconds = All-weaker (HasSides (length vars) (widest_of symbols)) (λ e. IsPlain (widest_of symbols) e.second) (λ e f. f.second) c.x sides;
+    };
+  }
+
+  pub rule_fits : IsFit (widest_of symbols) made
+  rule_fits = subst (IsFit (widest_of symbols)) is_made fits
+
+-- ---- all rules, and the terms
+
+pub rules_fit : (text : List ℕ) (symbols : List Named) (ss : List Specification) (rules : List Rule) → rules_of text symbols ss ≡ Some rules → All (IsFit (widest_of symbols)) rules
+rules_fit text symbols [] rules h = let e : [] ≡ rules = cc in subst (All (IsFit (widest_of symbols))) e (λ k d l. absurd (omega arith))
+rules_fit text symbols (s ∷ ss) rules h =
+    let a = came (rules_in text symbols s) (λ first. rules_of text symbols ss >>= λ more. Some (first ++ more)) rules h in
+    let b = came (rules_of text symbols ss) (λ more. Some (a.x ++ more)) rules a.gives in
+    let is : a.x ++ b.x ≡ rules = cc_some (a.x ++ b.x) rules b.gives in
+    let here : All (IsFit (widest_of symbols)) a.x = all_hold (λ r. rule_in text symbols (variables_of text s) r) (IsFit (widest_of symbols)) (λ r made e. rule_fits text symbols (variables_of text s) r made e) s.rules a.x a.is in
+    subst (All (IsFit (widest_of symbols))) is (All-append (IsFit (widest_of symbols)) a.x b.x here (rules_fit text symbols ss b.x b.is))
+
+-- a head without variables is a symbol
+one_head : (text : List ℕ) (symbols : List Named) (n : written_node.Node) (i : Item) → item_in (record { text = text; symbols = symbols; variables = [] }) n ≡ Some i → has_head i ≡ true
+one_head text symbols n i h = by (head_cases symbols (text_of text n.head) n.count (position (bytes_eq (text_of text n.head)) []) i h)
+  where
+    by : IsVariable (position (bytes_eq (text_of text n.head)) []) i ⊎ ((position (bytes_eq (text_of text n.head)) [] ≡ None) × IsSymbol symbols (text_of text n.head) n.count i) → has_head i ≡ true
+    by (inl v) = absurd (let bad : None ≡ Some v.number = v.at in cc)
+    by (inr s) = ap has_head s.1.is
+
+abbrev no_variables : List ℕ → List Named → Scope
+no_variables text symbols = record { text = text; symbols = symbols; variables = [] }
+
+term_ground : (text : List ℕ) (symbols : List Named) (t : List written_node.Node) (tree : Tree) → tree_in (no_variables text symbols) t ≡ Some tree → IsGround tree
+term_ground text symbols t tree h =
+    let s = spells (no_variables text symbols) t tree h in
+    sym (all_heads tree) ∙ ap (list_all has_head) (sym s.spell)
+    ∙ all_pass (λ n. item_in (no_variables text symbols) n) has_head (one_head text symbols) t s.items s.are
+
+within_limit : (s made : Specified) → with_few_rules s ≡ Some made → (length s.rules ≤ most_rules) × (s ≡ made)
+within_limit s made h = by (nat_le (length s.rules) most_rules) refl h
+  where
+    by : (b : Bool) → nat_le (length s.rules) most_rules ≡ b → (if b then Some s else None) ≡ Some made → (length s.rules ≤ most_rules) × (s ≡ made)
+    by true e h = (grind (arith, nat_tests), cc_some s made h)
+    by false e h = absurd cc
+
+-- what specifications spell with terms
+pub spelled_runs : (text : List ℕ) (specifications : List Specification) (material : List ℕ) (terms : List (List written_node.Node)) (made : Specified)
+    → spelled_by text specifications material terms ≡ Some made → MayBeRun made
+spelled_runs text specifications material terms made h =
+    let at = specifications_at specifications material in
+    let a = came (with_symbols [] (named_in text (symbols_of specifications material)))
+    (λ symbols. rules_of text symbols at >>= λ rules. terms_in text symbols terms >>= λ trees. with_few_rules (record { symbols = symbols; rules = rules; terms = trees })) made h in
+    let b = came (rules_of text a.x at) (λ rules. terms_in text a.x terms >>= λ trees. with_few_rules (record { symbols = a.x; rules = rules; terms = trees })) made a.gives in
+    let c = came (terms_in text a.x terms) (λ trees. with_few_rules (record { symbols = a.x; rules = b.x; terms = trees })) made b.gives in
+    let s : Specified = record { symbols = a.x; rules = b.x; terms = c.x } in
+    let few = within_limit s made c.gives in
+    let fit = rules_fit text a.x at b.x b.is in
+    let W = widest_of a.x in
+    let l : length b.x ≤ most_rules = few.0 in
+    subst MayBeRun few.1 (record {
+      plan = record {
+        rules = All-weaker (IsFit W) IsRule (λ r f. f.rule) b.x fit;
+        symbols = All-weaker (IsFit W) (HasSymbolsAlone W) (λ r f. f.symbols) b.x fit;
+        count = omega arith;
+      };
+      ground = all_hold (λ t. tree_in (no_variables text a.x) t) IsGround (term_ground text a.x) terms c.x c.is;
+      plain = all_hold (λ t. tree_in (no_variables text a.x) t) (IsPlain W) (λ t tree e. tree_plain (no_variables text a.x) t tree e) terms c.x c.is;
+    })
+
+pub nothing_runs : MayBeRun nothing
+nothing_runs = record {
+  plan = record { rules = λ k d l. absurd (omega arith); symbols = λ k d l. absurd (omega arith); count = omega arith };
+  ground = λ k d l. absurd (omega arith);
+  plain = λ k d l. absurd (omega arith);
+}
+
+-- what the last specification spells
+pub last_runs : (syntax : Parsed) (made : Specified) → spelled_in syntax ≡ Some made → MayBeRun made
+last_runs syntax made h = by (last_of syntax.specifications) h
+  where
+    by : (o : Option Specification) → spelled_with syntax o ≡ Some made → MayBeRun made
+    by None h = subst MayBeRun (cc_some nothing made h) nothing_runs
+    by (Some last) h = spelled_runs syntax.bytes syntax.specifications (material_after syntax.bytes (before_last syntax.specifications) last) last.terms made h

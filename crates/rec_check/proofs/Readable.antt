@@ -1,0 +1,254 @@
+-- What terms and rules are read by: symbols and variables for all their heads.
+use Rattle.std.proofs.Common.{◌≡◌, ℕ, zero, suc, ◌+◌, ◌-◌, ◌<◌, ◌≤◌, Bool, true, false, cond, ◌&&◌, ◌⊎◌, inl, inr, List, [], ◌∷◌, ◌++◌, length, map, slice_get, get_or, Option, Some, None, is_some, All, refl, sym, ap, subst, ◌∙◌, arith, position, length-append}
+use Rattle.std.specs.Prelude.{option_and_then, nat_le, if◌then◌else◌}
+use Rattle.std.specs.Option.{option_map}
+use Rattle.std.specs.List.{list_any, flat_map}
+use Rattle.std.specs.Str.{bytes_eq}
+use Rattle.std.proofs.lemmas.List.Elements.{All-weaker, All-head, All-tail, All-nil, All-cons}
+use Rattle.std.proofs.lemmas.Option.{slice_get_within, slice_get-get_or, get_or_from_slice_get}
+use Rattle.term_model.specs.Tree.{Tree, root}
+use Rattle.term_model.specs.Postorder.{postorder, tree_of, head_of}
+use Rattle.term_model.specs.declared.Head.{Head}
+use Rattle.term_model.specs.declared.Item.{Item}
+use Rattle.term_model.specs.declared.Item.TheVariants.{Var, App}
+use Rattle.term_model.proofs.Order.{only_postorder}
+use Rattle.term_model.proofs.Subtrees.{root_is_last}
+use Rattle.rewrite_model.specs.Rule.{Rule, Condition}
+use Rattle.symbol_pool.specs.Pool.{Named, named}
+use Rattle.rec_reader.specs.declared.syntax_tree.Node as node
+use Rattle.rec_reader.specs.declared.syntax_tree.Rule as written
+use Rattle.rec_reader.specs.declared.syntax_tree.Condition as condition
+use Rattle.rec_reader.specs.declared.syntax_tree.Specification.{Specification}
+use Rattle.rec_reader.specs.Whole.{terms_after, IsWhole}
+use Rattle.rec_offences.specs.Names.{text_of}
+use Rattle.rec_check.specs.Term.{Scope, all_of, item_in, item_by, symbol_item, variable_item, tree_in, same_symbol, most_arguments}
+use Rattle.rec_check.specs.Rule.{◌>>=◌, condition_in, sides_in, rule_in, variables_in}
+use Rattle.rec_check.specs.Spelled.{variables_of, rules_in, rules_of, terms_in}
+use Rattle.rec_check.proofs.Positions.{place_if_any}
+use Rattle.rec_check.proofs.Heads.{IsSymbol, symbol_cases}
+use Rattle.rec_check.proofs.Chains.{goes, sides}
+use Rattle.rec_check.proofs.Sound.{Holds}
+use Rattle.rec_check.proofs.Whole.{IsOver, variable_over, symbol_over, whole_spells}
+
+pub some_of : {A : Type 0} (o : Option A) → is_some o ≡ true → (x : A) × (o ≡ Some x)
+some_of None h = absurd cc
+some_of (Some x) h = (x, refl)
+
+pub none_of : {A : Type 0} (o : Option A) → is_some o ≡ false → o ≡ None
+none_of None h = refl
+none_of (Some x) h = absurd cc
+
+is_some-map : {A B : Type 0} (f : A → B) (o : Option A) → is_some (option_map f o) ≡ is_some o
+is_some-map f None = refl
+is_some-map f (Some x) = refl
+
+-- whether a symbol stands for a head
+pub symbol_known : (symbols : List Named) (name : List ℕ) (count : ℕ) → is_some (symbol_item symbols name count) ≡ (nat_le count most_arguments && list_any (same_symbol (named name count)) symbols)
+symbol_known symbols name count = by (nat_le count most_arguments)
+  where
+    by : (b : Bool) → is_some (if b then option_map (λ f. App (record { 0 = f }) count) (position (same_symbol (named name count)) symbols) else None) ≡ (b && list_any (same_symbol (named name count)) symbols)
+    by true = is_some-map (λ f. App (record { 0 = f }) count) (position (same_symbol (named name count)) symbols) ∙ place_if_any (same_symbol (named name count)) symbols
+    by false = refl
+
+not_one : (m : ℕ) → m ≡ 0 → Some m ≡ Some 1 → ⊥
+not_one m z h = let e : m ≡ 1 = cc in omega arith
+
+and_more : (a b c : Bool) → (b ≡ true → c ≡ true) → (a && b) ≡ true → (a && c) ≡ true
+and_more true b c f h = f h
+and_more false b c f h = absurd cc
+
+module _ (bytes : List ℕ) where
+  abbrev pub scope : List Named → List (List ℕ) → Scope
+  scope symbols vars = record { text = bytes; symbols = symbols; variables = vars }
+
+  abbrev pub IsRead : List Named → List (List ℕ) → node.Node → Type 0
+  IsRead symbols vars n = is_some (item_in (scope symbols vars) n) ≡ true
+
+  read_more : (a b : List Named) (vars : List (List ℕ)) → Holds a b → (n : node.Node) → IsRead a vars n → IsRead b vars n
+  read_more a b vars h n r = by (position (bytes_eq (text_of bytes n.head)) vars) r
+    where
+      name : List ℕ
+      name = text_of bytes n.head
+
+      by : (o : Option ℕ) → is_some (item_by a (text_of bytes n.head) n.count o) ≡ true → is_some (item_by b (text_of bytes n.head) n.count o) ≡ true
+      by (Some x) r = r
+      by None r =
+          symbol_known b (text_of bytes n.head) n.count
+          ∙ and_more (nat_le n.count most_arguments) (list_any (same_symbol (named (text_of bytes n.head) n.count)) a) (list_any (same_symbol (named (text_of bytes n.head) n.count)) b)
+          (h.each (named (text_of bytes n.head) n.count)) (sym (symbol_known a (text_of bytes n.head) n.count) ∙ r)
+
+  pub record TermReads (symbols : List Named) (vars : List (List ℕ)) (nodes : List node.Node) : Type 0 where
+    pub heads : All (IsRead symbols vars) nodes
+    pub whole : IsWhole nodes
+
+  term_more : (a b : List Named) (vars : List (List ℕ)) (nodes : List node.Node) → Holds a b → TermReads a vars nodes → TermReads b vars nodes
+  term_more a b vars nodes h r = record { heads = All-weaker (IsRead a vars) (IsRead b vars) (read_more a b vars h) nodes r.heads; whole = r.whole }
+
+  pub record SidesRead (symbols : List Named) (vars : List (List ℕ)) (c : condition.Condition) : Type 0 where
+    pub first : TermReads symbols vars c.first
+    pub second : TermReads symbols vars c.second
+
+  pub record RuleReads (symbols : List Named) (declared : List (List ℕ)) (r : written.Rule) : Type 0 where
+    pub left : TermReads symbols (variables_in bytes declared r.left) r.left
+    pub right : TermReads symbols (variables_in bytes declared r.left) r.right
+    pub conditions : All (SidesRead symbols (variables_in bytes declared r.left)) r.conditions
+    pub head : (n : node.Node) → slice_get r.left (length r.left - 1) ≡ Some n → position (bytes_eq (text_of bytes n.head)) (variables_in bytes declared r.left) ≡ None
+
+  abbrev pub Reads : List Named → Specification → Type 0
+  Reads symbols t = All (RuleReads symbols (variables_of bytes t)) t.rules
+
+  rule_more : (a b : List Named) (declared : List (List ℕ)) → Holds a b → (r : written.Rule) → RuleReads a declared r → RuleReads b declared r
+  rule_more a b declared h r x = record {
+    left = term_more a b (variables_in bytes declared r.left) r.left h x.left;
+    right = term_more a b (variables_in bytes declared r.left) r.right h x.right;
+    conditions = All-weaker (SidesRead a (variables_in bytes declared r.left)) (SidesRead b (variables_in bytes declared r.left))
+        (λ c y. record { first = term_more a b (variables_in bytes declared r.left) c.first h y.first; second = term_more a b (variables_in bytes declared r.left) c.second h y.second }) r.conditions x.conditions;
+    head = x.head;
+  }
+
+  -- more symbols read what fewer do
+  pub reads_more : (a b : List Named) (t : Specification) → Holds a b → Reads a t → Reads b t
+  reads_more a b t h r = All-weaker (RuleReads a (variables_of bytes t)) (RuleReads b (variables_of bytes t)) (rule_more a b (variables_of bytes t) h) t.rules r
+
+  -- ---- what is read is spelled
+
+  variable_at_zero : (x count : ℕ) (i : Item) → variable_item x count ≡ Some i → IsOver i count
+  variable_at_zero x zero i h = let e : Var x ≡ i = cc in subst (λ j. IsOver j zero) e (variable_over x)
+  variable_at_zero x (suc count) i h = absurd cc
+
+  over : (s : Scope) (n : node.Node) (i : Item) → item_in s n ≡ Some i → IsOver i n.count
+  over s n i h = by (position (bytes_eq (text_of s.text n.head)) s.variables) h
+    where
+      by : (o : Option ℕ) → item_by s.symbols (text_of s.text n.head) n.count o ≡ Some i → IsOver i n.count
+      by (Some x) h = variable_at_zero x n.count i h
+      by None h = let k = symbol_cases s.symbols (text_of s.text n.head) n.count i h in subst (λ j. IsOver j n.count) (sym k.is) (symbol_over k.number n.count)
+
+  -- each of a list is spelled
+  all_spelled : {X Y : Type 0} (f : X → Option Y) (xs : List X) → All (λ x. is_some (f x) ≡ true) xs → (ys : List Y) × (all_of f xs ≡ Some ys)
+  all_spelled f [] a = ([], refl)
+  all_spelled {X} {Y} f (x ∷ xs) a =
+      let y = some_of (f x) (All-head (λ z. is_some (f z) ≡ true) x xs a) in
+      let ys = all_spelled f xs (All-tail (λ z. is_some (f z) ≡ true) x xs a) in (
+        y.0 ∷ ys.0,
+        ap (λ o. option_and_then (λ z. option_map (λ more. z ∷ more) (all_of f xs)) o) y.1 ∙ ap (option_map (λ more. y.0 ∷ more)) ys.1,
+      )
+
+  -- what stands at a place is spelled there
+  spelled_at : {X Y : Type 0} (f : X → Option Y) (xs : List X) (ys : List Y) (k : ℕ) (x : X) (y : Y) → all_of f xs ≡ Some ys → slice_get xs k ≡ Some x → f x ≡ Some y → slice_get ys k ≡ Some y
+  spelled_at f [] ys k x y h e g = absurd (let bad : None ≡ Some x = e in cc)
+  spelled_at {X} {Y} f (z ∷ xs) ys k x y h e g = by k (f z) (all_of f xs) refl refl h e (λ j more r i. spelled_at f xs more j x y r i g)
+    where
+      by : (k : ℕ) (o : Option Y) (rest : Option (List Y)) → f z ≡ o → all_of f xs ≡ rest → option_and_then (λ w. option_map (λ more. w ∷ more) rest) o ≡ Some ys → slice_get (z ∷ xs) k ≡ Some x
+          → ((j : ℕ) (more : List Y) → all_of f xs ≡ Some more → slice_get xs j ≡ Some x → slice_get more j ≡ Some y) → slice_get ys k ≡ Some y
+      by k None rest p q h e on = absurd cc
+      by k (Some w) None p q h e on = absurd cc
+      by zero (Some w) (Some more) p q h e on =
+          let is : ys ≡ w ∷ more = cc in
+          let same : z ≡ x = cc in
+          let both : Some w ≡ Some y = sym p ∙ ap f same ∙ g in
+          ap (λ l. slice_get l 0) is ∙ both
+      by (suc k) (Some w) (Some more) p q h e on =
+          let is : ys ≡ w ∷ more = cc in
+          ap (λ l. slice_get l (suc k)) is ∙ on k more q e
+
+  same_length : {X Y : Type 0} (f : X → Option Y) (xs : List X) (ys : List Y) → all_of f xs ≡ Some ys → length ys ≡ length xs
+  same_length f [] ys h = let e : ys ≡ [] = cc in ap length e
+  same_length {X} {Y} f (x ∷ xs) ys h = by (f x) (all_of f xs) refl h (λ more r. same_length f xs more r)
+    where
+      by : (o : Option Y) (rest : Option (List Y)) → all_of f xs ≡ rest → option_and_then (λ w. option_map (λ more. w ∷ more) rest) o ≡ Some ys
+          → ((more : List Y) → all_of f xs ≡ Some more → length more ≡ length xs) → length ys ≡ length (x ∷ xs)
+      by None rest q h on = absurd cc
+      by (Some w) None q h on = absurd cc
+      by (Some w) (Some more) q h on = let is : ys ≡ w ∷ more = cc in ap length is ∙ ap suc (on more q)
+
+  pub record Spelled (s : Scope) (nodes : List node.Node) : Type 0 where
+    pub items : List Item
+    pub tree : Tree
+    pub are : all_of (λ n. item_in s n) nodes ≡ Some items
+    pub is : tree_of items ≡ Some tree
+    pub spelled : tree_in s nodes ≡ Some tree
+
+  pub term_spelled : (symbols : List Named) (vars : List (List ℕ)) (nodes : List node.Node) → TermReads symbols vars nodes → Spelled (scope symbols vars) nodes
+  term_spelled symbols vars nodes r =
+      let s = scope symbols vars in
+      let a = all_spelled (λ n. item_in s n) nodes r.heads in
+      let t = whole_spells (λ n. item_in s n) (over s) nodes a.0 a.1 r.whole in
+      record { items = a.0; tree = t.0; are = a.1; is = t.1; spelled = ap (λ o. option_and_then (λ items. tree_of items) o) a.1 ∙ t.1 }
+
+  condition_spelled : (symbols : List Named) (vars : List (List ℕ)) (c : condition.Condition) → SidesRead symbols vars c → is_some (condition_in (scope symbols vars) c) ≡ true
+  condition_spelled symbols vars c r =
+      let s = scope symbols vars in
+      let a = term_spelled symbols vars c.first r.first in
+      let b = term_spelled symbols vars c.second r.second in
+      ap is_some (goes (tree_in s c.first) a.tree (λ first. tree_in s c.second >>= λ second. let made : Condition = record { first = first; second = second; equal = c.equal } in Some made) a.spelled
+      ∙ goes (tree_in s c.second) b.tree (λ second. let made : Condition = record { first = a.tree; second = second; equal = c.equal } in Some made) b.spelled)
+
+  pub All-at : {A : Type 0} (P : A → Type 0) (xs : List A) (k : ℕ) (x : A) → All P xs → slice_get xs k ≡ Some x → P x
+  All-at P xs k x a e = subst P (get_or_from_slice_get xs k x x e) (a k x (slice_get_within xs k x e))
+
+  at_last : {A : Type 0} (x : A) (xs : List A) → (y : A) × (slice_get (x ∷ xs) (length (x ∷ xs) - 1) ≡ Some y)
+  at_last x xs = (get_or (x ∷ xs) (length (x ∷ xs) - 1) x, slice_get-get_or (x ∷ xs) (length (x ∷ xs) - 1) x (omega arith))
+
+  -- a whole term has a last node
+  pub last_node : (nodes : List node.Node) → IsWhole nodes → (n : node.Node) × (slice_get nodes (length nodes - 1) ≡ Some n)
+  last_node [] w = absurd (not_one 0 refl w)
+  last_node (n ∷ nodes) w = at_last n nodes
+
+  -- its tree has the head that the last node stands for
+  has_root : (symbols : List Named) (vars : List (List ℕ)) (nodes : List node.Node) (t : Spelled (scope symbols vars) nodes) (n : node.Node) → slice_get nodes (length nodes - 1) ≡ Some n
+      → position (bytes_eq (text_of bytes n.head)) vars ≡ None → is_some (item_in (scope symbols vars) n) ≡ true → is_some (root t.tree) ≡ true
+  has_root symbols vars nodes t n e none read =
+      let s = scope symbols vars in
+      let i = some_of (item_in s n) read in
+      let sy = symbol_cases symbols (text_of bytes n.head) n.count i.0 (ap (item_by symbols (text_of bytes n.head) n.count) (sym none) ∙ i.1) in
+      let at : slice_get t.items (length nodes - 1) ≡ Some i.0 = spelled_at (λ m. item_in s m) nodes t.items (length nodes - 1) n i.0 t.are e i.1 in
+      let post : t.items ≡ postorder t.tree = only_postorder t.items t.tree t.is in
+      let len : length nodes ≡ length (postorder t.tree) = sym (same_length (λ m. item_in s m) nodes t.items t.are) ∙ ap length post in
+      let last : slice_get (postorder t.tree) (length (postorder t.tree) - 1) ≡ Some i.0 = (λ j. slice_get (sym post j) (sym len j - 1)) ∙ at in
+      ap is_some (sym (root_is_last t.tree i.0 last)) ∙ ap (λ j. is_some (head_of j)) sy.is
+
+  pub rule_spelled : (symbols : List Named) (declared : List (List ℕ)) (r : written.Rule) → RuleReads symbols declared r → is_some (rule_in bytes symbols declared r) ≡ true
+  rule_spelled symbols declared r x =
+      let vars = variables_in bytes declared r.left in
+      let s = scope symbols vars in
+      let a = term_spelled symbols vars r.left x.left in
+      let b = term_spelled symbols vars r.right x.right in
+      let c = all_spelled (λ d. condition_in s d) r.conditions (All-weaker (SidesRead symbols vars) (λ d. is_some (condition_in s d) ≡ true) (λ d y. condition_spelled symbols vars d y) r.conditions x.conditions) in
+      let n = last_node r.left x.left.whole in
+      let read : IsRead symbols vars n.0 = All-at (IsRead symbols vars) r.left (length r.left - 1) n.0 x.left.heads n.1 in
+      let h = some_of (root a.tree) (has_root symbols vars r.left a n.0 n.1 (x.head n.0 n.1) read) in
+      let made : Rule = record { left = a.tree; right = b.tree; conditions = c.0; vars = length vars } in
+      ap is_some (sides s r a.tree b.tree c.0 (Some h.0) made (length vars) a.spelled b.spelled c.1 (sym h.1) (λ e. absurd cc) refl refl)
+
+  -- all rules of a specification, and of a list of specifications
+  pub rules_spelled : (symbols : List Named) (ts : List Specification) → All (Reads symbols) ts → (rules : List Rule) × (rules_of bytes symbols ts ≡ Some rules)
+  rules_spelled symbols [] a = ([], refl)
+  rules_spelled symbols (t ∷ ts) a =
+      let declared = variables_of bytes t in
+      let one = all_spelled (λ r. rule_in bytes symbols declared r) t.rules (All-weaker (RuleReads symbols declared) (λ r. is_some (rule_in bytes symbols declared r) ≡ true) (λ r x. rule_spelled symbols declared r x) t.rules (All-head (Reads symbols) t ts a)) in
+      let rest = rules_spelled symbols ts (All-tail (Reads symbols) t ts a) in (
+        one.0 ++ rest.0,
+        goes (rules_in bytes symbols t) one.0 (λ rules. rules_of bytes symbols ts >>= λ more. Some (rules ++ more)) one.1
+            ∙ goes (rules_of bytes symbols ts) rest.0 (λ more. Some (one.0 ++ more)) rest.1,
+      )
+
+  -- how many rules are spelled
+  pub length-rules : (symbols : List Named) (ts : List Specification) (rules : List Rule) → rules_of bytes symbols ts ≡ Some rules → length rules ≡ length (flat_map (λ t. t.rules) ts)
+  length-rules symbols [] rules h = let e : [] ≡ rules = cc in ap length (sym e)
+  length-rules symbols (t ∷ ts) rules h = by (rules_in bytes symbols t) (rules_of bytes symbols ts) refl refl h (λ more r. length-rules symbols ts more r)
+    where
+      by : (one rest : Option (List Rule)) → rules_in bytes symbols t ≡ one → rules_of bytes symbols ts ≡ rest → (one >>= λ rules. rest >>= λ more. Some (rules ++ more)) ≡ Some rules
+          → ((more : List Rule) → rules_of bytes symbols ts ≡ Some more → length more ≡ length (flat_map (λ t. t.rules) ts)) → length rules ≡ length (t.rules ++ flat_map (λ t. t.rules) ts)
+      by None rest p q h on = absurd cc
+      by (Some one) None p q h on = absurd cc
+      by (Some one) (Some more) p q h on =
+          let is : one ++ more ≡ rules = cc in
+          let a : length one ≡ length t.rules = same_length (λ r. rule_in bytes symbols (variables_of bytes t) r) t.rules one p in
+          let b : length more ≡ length (flat_map (λ t. t.rules) ts) = on more q in
+          ap length (sym is) ∙ length-append one more ∙ (λ j. a j + b j) ∙ sym (length-append t.rules (flat_map (λ t. t.rules) ts))
+
+  -- terms without variables
+  pub terms_spelled : (symbols : List Named) (terms : List (List node.Node)) → All (TermReads symbols []) terms → (trees : List Tree) × (terms_in bytes symbols terms ≡ Some trees)
+  terms_spelled symbols terms a =
+      all_spelled (λ t. tree_in (scope symbols []) t) terms
+      (All-weaker (TermReads symbols []) (λ t. is_some (tree_in (scope symbols []) t) ≡ true) (λ t r. ap is_some (term_spelled symbols [] t r).spelled) terms a)

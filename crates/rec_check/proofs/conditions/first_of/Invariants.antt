@@ -1,0 +1,7 @@
+use Rattle.std.proofs.Common.{◌≡◌, drop, None}
+use Rattle.rec_offences.specs.Material.{rules_of}
+use Rattle.rec_check.specs.Conditional.{ifs_of, least_with}
+use Rattle.rec_check.proofs.conditions.first_of.Given as goal
+
+abbrev pub invariant-loop-number : goal.invariant-loop-number
+invariant-loop-number l = least_with l.first (ifs_of (rules_of l.specifications (drop l.number-index l.material))) ≡ least_with None (ifs_of (rules_of l.specifications l.material))

@@ -1,0 +1,9 @@
+use Rattle.std.proofs.Common.{◌≡◌, drop}
+use Rattle.rec_check.specs.Gives.{after}
+use Rattle.rec_check.specs.Scope.{seen}
+use Rattle.rec_check.specs.Term.{all_of}
+use Rattle.rec_check.specs.Rule.{condition_in}
+use Rattle.rec_check.proofs.rules.conditions_of.Given as goal
+
+abbrev pub invariant-loop-condition : goal.invariant-loop-condition
+invariant-loop-condition l = after l.conditions.items (all_of (condition_in (seen l.scope)) (drop l.condition-index l.written)) ≡ all_of (condition_in (seen l.scope)) l.written

@@ -1,0 +1,10 @@
+use Rattle.std.proofs.Common.{◌≡◌, drop}
+use Rattle.rec_offences.specs.Material.{specifications_at}
+use Rattle.rec_check.specs.Gives.{after}
+use Rattle.rec_check.specs.Spelled as spelled
+use Rattle.rec_check.proofs.spelling.rules_of.Given as goal
+
+abbrev pub invariant-loop-number : goal.invariant-loop-number
+invariant-loop-number l =
+    after l.rules.items (spelled.rules_of l.text l.symbols (specifications_at l.specifications (drop l.number-index l.material)))
+    ≡ spelled.rules_of l.text l.symbols (specifications_at l.specifications l.material)

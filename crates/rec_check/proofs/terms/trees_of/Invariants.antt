@@ -1,0 +1,8 @@
+use Rattle.std.proofs.Common.{◌≡◌, drop}
+use Rattle.rec_check.specs.Gives.{after}
+use Rattle.rec_check.specs.Scope.{seen}
+use Rattle.rec_check.specs.Term.{all_of, tree_in}
+use Rattle.rec_check.proofs.terms.trees_of.Given as goal
+
+abbrev pub invariant-loop-nodes : goal.invariant-loop-nodes
+invariant-loop-nodes l = after l.trees.items (all_of (tree_in (seen l.scope)) (drop l.nodes-index l.terms)) ≡ all_of (tree_in (seen l.scope)) l.terms

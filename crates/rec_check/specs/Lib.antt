@@ -1,0 +1,12 @@
+pub mod Named
+pub mod Gives
+pub mod Term
+pub mod Scope
+pub mod Rule
+pub mod Symbols
+pub mod Spelled
+pub mod Spec
+pub mod Headers
+pub mod Run
+pub mod Conditional
+pub mod Checked

@@ -1,0 +1,6 @@
+-- A scope as it is read.
+use Rattle.rec_check.specs.Term as term
+use Rattle.rec_check.specs.declared.scope.Scope.{Scope}
+
+abbrev pub seen : Scope → term.Scope
+seen s = record { text = s.text.now; symbols = s.symbols.now; variables = s.variables.now }

@@ -1,0 +1,40 @@
+//! Checks a syntax.
+
+ghost use Rattle.std.specs.Prelude.{◌≡◌, None, Some, IfErr, IfOk, OnOk};
+ghost use Rattle.rec_offences.specs.Faults.{fault_of};
+ghost use Rattle.rec_check.specs.Checked.{IsFault};
+ghost use Rattle.rec_check.specs.Run.{MayBeRun, spelled_in};
+ghost use Rattle.rec_check.specs.Spec.{specified};
+ghost use Rattle.rec_check.specs.Symbols.{widest_of};
+
+use crate::last::spell_last;
+use crate::spec::Spec;
+use crate::stop::Stop;
+use rec_offences::fault;
+use rec_reader::{ReadFail, Syntax};
+use std::alloc::Global;
+
+/// The specification that a syntax spells: the symbols and the rules of its last specification, those
+/// that it includes first, and the terms of the last one. All specifications are checked.
+///
+/// Refuses the fault of a syntax with offences, kinds 4 to 13: the offence with the least place, and of
+/// those the least kind.
+pub fn check(alloc: Global, syntax: &Syntax) -> Result<Spec, ReadFail>
+    ensures accepted_only_without_offence { OnOk result (fault_of syntax.now ≡ None) }
+    ensures refused_only_with_the_fault { IfErr result (IsFault (fault_of syntax.now)) }
+    ensures spelled { IfOk result (λ s. spelled_in syntax.now ≡ Some (specified s)) }
+    ensures widest { IfOk result (λ s. s.widest ≡ widest_of s.symbols) }
+    ensures may_be_run { IfOk result (λ s. MayBeRun (specified s)) }
+{
+    if let Some(fault) = fault(alloc, syntax)? {
+        return Err(ReadFail::Refused {
+            kind: fault.kind,
+            offset: fault.offset,
+        });
+    }
+    match spell_last(alloc, syntax) {
+        Ok(spec) => Ok(spec),
+        Err(Stop::Unspelled) => unreachable!(),
+        Err(Stop::Memory) => Err(ReadFail::Memory),
+    }
+}

@@ -1,0 +1,22 @@
+//! From a syntax to the specification that it spells.
+#![tactic(auto)]
+
+mod checking;
+mod conditions;
+mod last;
+mod material;
+mod names;
+mod rules;
+mod scope;
+mod spec;
+mod spelling;
+mod stop;
+mod table;
+mod terms;
+
+pub use checking::check;
+pub use conditions::{CONDITIONAL, unconditional};
+pub use spec::Spec;
+
+#[cfg(test)]
+mod tests;

@@ -1,0 +1,145 @@
+//! What specifications spell together.
+
+ghost use Rattle.std.specs.Prelude.{◌≡◌, [], map, slice_get, IfOk, OnOk};
+ghost use Rattle.std.specs.Option.{option_copied};
+ghost use Rattle.rec_check.specs.Gives.{Gives, after};
+ghost use Rattle.rec_check.specs.Named.{with_names};
+ghost use Rattle.rec_check.specs.Symbols.{named_in, with_symbols};
+ghost use Rattle.rec_check.specs.Rule.{rule_in};
+ghost use Rattle.rec_check.specs.Spelled as spelled;
+ghost use Rattle.rec_check.specs.Term.{all_of};
+ghost use Rattle.rec_offences.specs.Material.{symbols_of, specifications_at};
+ghost use Rattle.rec_offences.specs.Names.{text_of};
+
+use crate::names::Names;
+use crate::rules::rule_of;
+use crate::scope::{Scope, text_of};
+use crate::stop::Stop;
+use crate::table::Table;
+use crate::terms::trees_of;
+use faults::Memory;
+use rec_reader::{Name, Node, Rule as WrittenRule, Sequence, Specification};
+use rewrite_model::Rule;
+use std::alloc::Global;
+use symbol_pool::Symbols;
+use term_model::Flat;
+
+pub(crate) fn specification_at(
+    specifications: &[Specification],
+    number: usize,
+) -> Option<&Specification>
+    ensures { option_copied result ≡ slice_get specifications.now number }
+{
+    specifications.get(number)
+}
+
+/// The symbols that these of the specifications declare, in order.
+pub(crate) fn table_of(
+    alloc: Global,
+    text: &[u8],
+    specifications: &[Specification],
+    material: &[usize],
+) -> Result<Table, Stop>
+    ensures { Gives (λ t. t.symbols) result
+        (with_symbols [] (named_in text.now (symbols_of specifications.now material.now))) }
+{
+    let mut table = Table::new(alloc);
+    for number in material {
+        if let Some(specification) = specification_at(specifications, *number) {
+            table.declare(text, specification.declarations.as_slice())?;
+        }
+    }
+    Ok(table)
+}
+
+fn add_names(variables: &mut Names, text: &[u8], names: &[Name]) -> Result<(), Memory>
+    ensures { OnOk result (variables.new ≡ with_names variables.old (map (λ n. text_of text.now n) names.now)) }
+{
+    for name in names {
+        variables.add(text_of(text, *name))?;
+    }
+    Ok(())
+}
+
+/// The names that a specification declares as variables.
+fn variables_of(alloc: Global, text: &[u8], specification: &Specification) -> Result<Names, Memory>
+    ensures { IfOk result (λ names. names ≡ spelled.variables_of text.now specification.now) }
+{
+    let mut variables = Names::new(alloc);
+    for declared in specification.variables.as_slice() {
+        add_names(&mut variables, text, declared.names.as_slice())?;
+    }
+    Ok(variables)
+}
+
+/// Adds rules, which have these variables.
+fn push_rules(
+    alloc: Global,
+    text: &[u8],
+    symbols: &Symbols,
+    declared: &Names,
+    written: &[WrittenRule],
+    rules: &mut Vec<Rule>,
+) -> Result<(), Stop>
+    ensures { Gives (λ _. rules.new.items) result
+        (after rules.old.items (all_of (rule_in text.now symbols.now declared.now) written.now)) }
+{
+    for rule in written {
+        rules.push(rule_of(alloc, text, symbols, declared, rule)?)?;
+    }
+    Ok(())
+}
+
+/// Adds the rules of a specification.
+fn add_rules(
+    alloc: Global,
+    text: &[u8],
+    symbols: &Symbols,
+    specification: &Specification,
+    rules: &mut Vec<Rule>,
+) -> Result<(), Stop>
+    ensures { Gives (λ _. rules.new.items) result
+        (after rules.old.items (spelled.rules_in text.now symbols.now specification.now)) }
+{
+    let declared = variables_of(alloc, text, specification)?;
+    let written = specification.rules.as_slice();
+    push_rules(alloc, text, symbols, &declared, written, rules)
+}
+
+/// The rules of these of the specifications, in order.
+pub(crate) fn rules_of(
+    alloc: Global,
+    text: &[u8],
+    symbols: &Symbols,
+    specifications: &[Specification],
+    material: &[usize],
+) -> Result<Vec<Rule>, Stop>
+    ensures { Gives (λ v. v.items) result
+        (spelled.rules_of text.now symbols.now (specifications_at specifications.now material.now)) }
+{
+    let mut rules = Vec::new(alloc);
+    for number in material {
+        if let Some(specification) = specification_at(specifications, *number) {
+            add_rules(alloc, text, symbols, specification, &mut rules)?;
+        }
+    }
+    Ok(rules)
+}
+
+/// The trees of terms without variables, in order.
+pub(crate) fn terms_of(
+    alloc: Global,
+    text: &[u8],
+    symbols: &Symbols,
+    terms: &[Sequence<Node>],
+) -> Result<Vec<Flat>, Stop>
+    ensures { Gives (λ v. v.items) result (spelled.terms_in text.now symbols.now terms.now) }
+{
+    let variables = Names::new(alloc);
+    let scope = Scope {
+        text,
+        symbols,
+        variables: &variables,
+    };
+    trees_of(alloc, &scope, terms)
+}

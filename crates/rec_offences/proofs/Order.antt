@@ -1,0 +1,108 @@
+-- The least of offences doesn't depend on their order.
+use Rattle.std.proofs.Common.{◌≡◌, ℕ, Bool, true, false, ◌||◌, ◌&&◌, ◌==◌, nat_lt, cond, List, [], ◌∷◌, ◌++◌, map, Option, Some, None, refl, sym, ap, ◌∙◌, true≢false, arith}
+use Rattle.std.specs.List.{flat_map}
+use Rattle.std.proofs.lemmas.Bool.Decides.{nat_tests}
+use Rattle.rec_reader.specs.declared.token.Name.{Name}
+use Rattle.rec_offences.specs.declared.offence.Offence.{Offence}
+use Rattle.rec_offences.specs.Faults.{goes_before, lesser, least_with, of_kind}
+use Rattle.rec_offences.proofs.Noted.{least_append}
+
+first_before : (a b c d : ℕ) → (nat_lt a b || (a == b && nat_lt c d)) ≡ true → (nat_lt b a || (b == a && nat_lt d c)) ≡ false
+first_before a b c d h = grind (arith, nat_tests)
+
+same_offset : (a b c d : ℕ) → (nat_lt a b || (a == b && nat_lt c d)) ≡ false → (nat_lt b a || (b == a && nat_lt d c)) ≡ false → a ≡ b
+same_offset a b c d h k = grind (arith, nat_tests)
+
+same_kind : (a b c d : ℕ) → (nat_lt a b || (a == b && nat_lt c d)) ≡ false → (nat_lt b a || (b == a && nat_lt d c)) ≡ false → c ≡ d
+same_kind a b c d h k = grind (arith, nat_tests)
+
+not_before : (a b c d e f : ℕ) → (nat_lt a b || (a == b && nat_lt d e)) ≡ false → (nat_lt b c || (b == c && nat_lt e f)) ≡ false → (nat_lt a c || (a == c && nat_lt d f)) ≡ false
+not_before a b c d e f h k = grind (arith, nat_tests)
+
+one_way : (x y : Offence) → goes_before x y ≡ true → goes_before y x ≡ false
+one_way x y h = first_before x.offset y.offset x.kind y.kind h
+
+only_same : (x y : Offence) → goes_before x y ≡ false → goes_before y x ≡ false → x ≡ y
+only_same x y h k = λ i. record { kind = same_kind x.offset y.offset x.kind y.kind h k i; offset = same_offset x.offset y.offset x.kind y.kind h k i }
+
+along : (x y z : Offence) → goes_before x y ≡ false → goes_before y z ≡ false → goes_before x z ≡ false
+along x y z h k = not_before x.offset y.offset z.offset x.kind y.kind z.kind h k
+
+-- the lesser of two is the same in either order
+lesser_two : (x y : Offence) → lesser (Some x) y ≡ lesser (Some y) x
+lesser_two x y = by (goes_before y x) (goes_before x y) refl refl
+  where
+    by : (p q : Bool) → goes_before y x ≡ p → goes_before x y ≡ q → cond p (Some y) (Some x) ≡ cond q (Some x) (Some y)
+    by true true e f = absurd (true≢false (sym f ∙ one_way y x e))
+    by true false e f = refl
+    by false true e f = refl
+    by false false e f = ap Some (only_same x y f e)
+
+taken : (g x : Offence) → goes_before x g ≡ true → lesser (Some g) x ≡ Some x
+taken g x e = ap (λ b. cond b (Some x) (Some g)) e
+
+kept : (g x : Offence) → goes_before x g ≡ false → lesser (Some g) x ≡ Some g
+kept g x e = ap (λ b. cond b (Some x) (Some g)) e
+
+lesser_swap : (found : Option Offence) (x y : Offence) → lesser (lesser found x) y ≡ lesser (lesser found y) x
+lesser_swap None x y = lesser_two x y
+lesser_swap (Some g) x y = by (goes_before x g) (goes_before y g) refl refl
+  where
+    by : (p q : Bool) → goes_before x g ≡ p → goes_before y g ≡ q → lesser (lesser (Some g) x) y ≡ lesser (lesser (Some g) y) x
+    by true true e f = ap (λ o. lesser o y) (taken g x e) ∙ lesser_two x y ∙ sym (ap (λ o. lesser o x) (taken g y f))
+    by true false e f =
+        ap (λ o. lesser o y) (taken g x e) ∙ kept x y (along y g x f (one_way x g e)) ∙ sym (taken g x e) ∙ sym (ap (λ o. lesser o x) (kept g y f))
+    by false true e f =
+        ap (λ o. lesser o y) (kept g x e) ∙ taken g y f ∙ sym (kept y x (along x g y e (one_way y g f))) ∙ sym (ap (λ o. lesser o x) (taken g y f))
+    by false false e f =
+        ap (λ o. lesser o y) (kept g x e) ∙ kept g y f ∙ sym (kept g x e) ∙ sym (ap (λ o. lesser o x) (kept g y f))
+
+swap_one : (found : Option Offence) (y : Offence) (xs : List Offence) → least_with (lesser found y) xs ≡ lesser (least_with found xs) y
+swap_one found y [] = refl
+swap_one found y (x ∷ xs) = ap (λ o. least_with o xs) (lesser_swap found y x) ∙ swap_one (lesser found x) y xs
+
+swap_all : (found : Option Offence) (xs ys : List Offence) → least_with (least_with found ys) xs ≡ least_with (least_with found xs) ys
+swap_all found xs [] = refl
+swap_all found xs (y ∷ ys) = swap_all (lesser found y) xs ys ∙ ap (λ o. least_with o ys) (swap_one found y xs)
+
+-- what is found at each of many together is found by one kind after another
+pub together : {V : Type 0} (first others : V → List Offence) (found : Option Offence) (vs : List V) →
+    least_with found (flat_map (λ v. first v ++ others v) vs) ≡ least_with (least_with found (flat_map first vs)) (flat_map others vs)
+together first others found [] = refl
+together first others found (v ∷ vs) =
+    let a = flat_map first vs in
+    let r = flat_map others vs in
+    let here = least_with found (first v) in
+    least_append found (first v ++ others v) (flat_map (λ w. first w ++ others w) vs)
+    ∙ together first others (least_with found (first v ++ others v)) vs
+    ∙ ap (λ o. least_with (least_with o a) r) (least_append found (first v) (others v))
+    ∙ ap (λ o. least_with o r) (swap_all here a (others v))
+    ∙ sym (least_append (least_with here a) (others v) r)
+    ∙ ap (λ o. least_with o (others v ++ r)) (sym (least_append found (first v) a))
+
+kinds_append : (kind : ℕ) (xs ys : List Name) → of_kind kind (xs ++ ys) ≡ of_kind kind xs ++ of_kind kind ys
+kinds_append kind [] ys = refl
+kinds_append kind (x ∷ xs) ys = ap (λ os. record { kind = kind; offset = x.start } ∷ os) (kinds_append kind xs ys)
+
+pub kinds_flat : {V : Type 0} (kind : ℕ) (names : V → List Name) (vs : List V) → flat_map (λ v. of_kind kind (names v)) vs ≡ of_kind kind (flat_map names vs)
+kinds_flat kind names [] = refl
+kinds_flat kind names (v ∷ vs) = ap (λ os. of_kind kind (names v) ++ os) (kinds_flat kind names vs) ∙ sym (kinds_append kind (names v) (flat_map names vs))
+
+-- three kinds at each of many, and more of the last kind
+pub three_kinds : {V : Type 0} (i j k : ℕ) (a b c : V → List Name) (more : List Name) (found after now : Option Offence) (vs : List V) →
+    after ≡ least_with found (flat_map (λ v. of_kind i (a v) ++ of_kind j (b v) ++ of_kind k (c v)) vs) → now ≡ least_with after (of_kind k more) →
+    now ≡ least_with found (of_kind i (flat_map a vs) ++ of_kind j (flat_map b vs) ++ of_kind k (flat_map c vs ++ more))
+three_kinds i j k a b c more found after now vs visited is =
+    let fa = of_kind i (flat_map a vs) in
+    let fb = of_kind j (flat_map b vs) in
+    let fc = of_kind k (flat_map c vs) in
+    is
+    ∙ ap (λ o. least_with o (of_kind k more))
+    (visited
+    ∙ together (λ v. of_kind i (a v) ++ of_kind j (b v)) (λ v. of_kind k (c v)) found vs
+    ∙ ap (λ o. least_with o (flat_map (λ v. of_kind k (c v)) vs)) (together (λ v. of_kind i (a v)) (λ v. of_kind j (b v)) found vs)
+    ∙ (λ t. least_with (least_with (least_with found (kinds_flat i a vs t)) (kinds_flat j b vs t)) (kinds_flat k c vs t)))
+    ∙ sym (least_append (least_with (least_with found fa) fb) fc (of_kind k more))
+    ∙ ap (least_with (least_with (least_with found fa) fb)) (sym (kinds_append k (flat_map c vs) more))
+    ∙ ap (λ o. least_with o (of_kind k (flat_map c vs ++ more))) (sym (least_append found fa fb))
+    ∙ sym (least_append found (fa ++ fb) (of_kind k (flat_map c vs ++ more)))

@@ -1,0 +1,10 @@
+use Rattle.std.proofs.Common.{◌≡◌, ◌-◌, drop}
+use Rattle.std.specs.List.{list_any}
+use Rattle.rec_offences.specs.Names.{is_among}
+use Rattle.rec_offences.specs.Scope.{names_of}
+use Rattle.rec_offences.specs.Listing.{entries_of}
+use Rattle.rec_offences.proofs.inclusion.clashes.Given as goal
+
+abbrev pub invariant-loop-signature : goal.invariant-loop-signature
+invariant-loop-signature l =
+    list_any (is_among l.scope.bytes (names_of l.scope.entries)) (names_of (entries_of (drop l.signature-index l.signatures))) ≡ list_any (is_among l.scope.bytes (names_of l.scope.entries)) (names_of (entries_of l.signatures))

@@ -1,0 +1,28 @@
+use Rattle.std.proofs.Common.{◌≡◌, ℕ, ◌∷◌, [], ◌++◌, map, get_or, ap, ◌∙◌}
+use Rattle.rec_offences.specs.Material.{symbols_by, symbols_of}
+use Rattle.rec_offences.specs.Scope.{symbol_entry}
+use Rattle.rec_offences.specs.Faults.{included_entries}
+use Rattle.rec_offences.specs.Listing.{entries_of}
+use Rattle.rec_offences.proofs.Gathered.{gathered_turn, default_in}
+use Rattle.rec_offences.proofs.Including.{entries_append}
+use Rattle.rec_offences.proofs.inclusion.symbols_at.Goals as goal
+
+pub loop-number-preserved : goal.loop-number-preserved
+loop-number-preserved c =
+    let e = c.args.earlier.now in
+    let l = c.loop-number in
+    let n = get_or c.args.numbers.now l.number-index 0 in
+    gathered_turn
+    (included_entries e)
+    (λ n. included_entries e (n ∷ []))
+    (λ n ns. entries_append e (n ∷ []) ns)
+    c.args.numbers.now
+    l.number-index
+    n
+    (entries_of l.signatures.items)
+    (entries_of c.add_symbols_at.new.signatures.items)
+    (included_entries e c.args.numbers.now)
+    c.loop-number-test.true
+    (default_in c.args.numbers.now l.number-index 0 n c.loop-number-test.true)
+    c.in_ok-add_symbols_at.ensures
+    l.invariant

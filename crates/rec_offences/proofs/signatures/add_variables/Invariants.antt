@@ -1,0 +1,10 @@
+use Rattle.std.proofs.Common.{◌≡◌, ◌+◌, ◌-◌, ◌++◌, drop, map}
+use Rattle.std.specs.List.{flat_map}
+use Rattle.rec_offences.specs.Material.{variables_of}
+use Rattle.rec_offences.specs.Scope.{variable_entry}
+use Rattle.rec_offences.specs.Listing.{entries_of}
+use Rattle.rec_offences.proofs.signatures.add_variables.Given as goal
+
+abbrev pub invariant-loop-variables : goal.invariant-loop-variables
+invariant-loop-variables l =
+    entries_of l.signatures.items ++ map variable_entry (flat_map variables_of (drop l.variables-index l.variables-items)) ≡ entries_of l.initial.signatures.items ++ map variable_entry (flat_map variables_of l.variables-items)

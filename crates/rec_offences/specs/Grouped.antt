@@ -1,0 +1,44 @@
+-- The offences of a specification as they are noted, from what is at hand.
+use Rattle.std.specs.Prelude.{ℕ, List, [], ◌∷◌, ◌++◌, map, slice_get}
+use Rattle.std.specs.List.{filter, flat_map}
+use Rattle.std.specs.Option.{option_map, option_to_list, option_and_then}
+use Rattle.rec_reader.specs.declared.token.Name.{Name}
+use Rattle.rec_reader.specs.declared.syntax_tree.Specification.{Specification}
+use Rattle.rec_offences.specs.declared.inclusion.Verdict.{Verdict}
+use Rattle.rec_offences.specs.declared.offence.Offence.{Offence}
+use Rattle.rec_offences.specs.Names.{is_among}
+use Rattle.rec_offences.specs.Material.{Header}
+use Rattle.rec_offences.specs.Scope.{Entry, names_of, root}
+use Rattle.rec_offences.specs.Offences.{unknown_sorts, repeated, bare_variables, free_variables, not_ground, unknown_includes, is_long, names_in, first_past, unknown_names, wrong_counts, sort_clashes}
+use Rattle.rec_offences.specs.Faults.{of_kind}
+
+abbrev pub repeated_group : List ℕ → List Header → List Verdict → (entries own : List Entry) → Specification → List Name
+repeated_group bytes headers verdicts entries own s =
+    filter (is_among bytes (map (λ h. h.name) headers)) (s.name ∷ [])
+    ++ repeated bytes [] s.sorts
+    ++ repeated bytes (names_of entries) (names_of own)
+    ++ map (λ v. v.entry) (filter (λ v. v.is_clashing) verdicts)
+
+unfoldable pub declared_group : List ℕ → List Header → List Verdict → (sorts : List Name) → (entries own : List Entry) → Specification → List Offence
+declared_group bytes headers verdicts sorts entries own s =
+    of_kind 4 (unknown_sorts bytes (sorts ++ s.sorts) s) ++ of_kind 6 (repeated_group bytes headers verdicts entries own s)
+
+abbrev pub limits_group : List ℕ → (symbols_before rules_before : ℕ) → List Verdict → (symbols : List Entry) → Specification → List Name
+limits_group bytes symbols_before rules_before verdicts symbols s =
+    filter (is_long bytes) (names_in s)
+    ++ flat_map (λ d. option_to_list (slice_get d.arguments 16)) s.declarations
+    ++ option_to_list (option_map (λ e. e.declared.name) (first_past symbols_before symbols))
+    ++ option_to_list (option_and_then (λ r. root r.left) (first_past rules_before s.rules))
+    ++ option_to_list (option_and_then root (first_past 0 s.terms))
+    ++ map (λ v. v.entry) (filter (λ v. v.is_passing) verdicts)
+
+unfoldable pub used_group : List ℕ → List Header → (symbols_before rules_before : ℕ) → List Verdict → (symbols entries : List Entry) → Specification → List Offence
+used_group bytes headers symbols_before rules_before verdicts symbols entries s =
+    of_kind 9 (bare_variables bytes entries s)
+    ++ of_kind 10 (free_variables bytes entries s)
+    ++ of_kind 11 (not_ground bytes entries s)
+    ++ of_kind 12 (unknown_includes bytes headers s)
+    ++ of_kind 13 (limits_group bytes symbols_before rules_before verdicts symbols s)
+    ++ of_kind 5 (unknown_names bytes entries s)
+    ++ of_kind 7 (wrong_counts bytes entries s)
+    ++ of_kind 8 (sort_clashes bytes entries s)

@@ -1,0 +1,12 @@
+pub mod Names
+pub mod Material
+pub mod Scope
+pub mod Offences
+pub mod Faults
+pub mod Listing
+pub mod Indexed
+pub mod KnownKept
+pub mod HeadersKept
+pub mod Inclusion
+pub mod Visited
+pub mod Grouped

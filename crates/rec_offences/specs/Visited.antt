@@ -1,0 +1,18 @@
+-- What is wrong at a node, of all kinds at once, and the free variables of a rule.
+use Rattle.std.specs.Prelude.{ℕ, List, ◌++◌, ◌&&◌, not}
+use Rattle.std.specs.List.{filter}
+use Rattle.rec_reader.specs.declared.token.Name.{Name}
+use Rattle.rec_reader.specs.declared.syntax_tree.Rule.{Rule}
+use Rattle.rec_offences.specs.declared.offence.Offence.{Offence}
+use Rattle.rec_offences.specs.Names.{is_among}
+use Rattle.rec_offences.specs.Scope.{Entry, Visit, is_variable, heads}
+use Rattle.rec_offences.specs.Offences.{unknown_name, wrong_count, clashing_arguments, nodes_but_left}
+use Rattle.rec_offences.specs.Faults.{of_kind}
+
+abbrev pub at_visit : List ℕ → List Entry → Visit → List Offence
+at_visit bytes entries v =
+    of_kind 5 (unknown_name bytes entries v) ++ of_kind 7 (wrong_count bytes entries v) ++ of_kind 8 (clashing_arguments bytes entries v)
+
+abbrev pub free_variables_of : (text bytes : List ℕ) → List Entry → Rule → List Name
+free_variables_of text bytes entries r =
+    filter (λ n. is_variable bytes entries n && not (is_among text (heads r.left) n)) (heads (nodes_but_left r))

@@ -1,0 +1,105 @@
+//! Names in order, found by their text.
+ghost use Rattle.std.specs.Prelude.{◌≡◌, ◌++◌, ◌∷◌, [], OnOk, OnErr};
+ghost use Rattle.rec_offences.specs.Names.{is_among};
+ghost use Rattle.rec_offences.specs.Scope.{heads};
+ghost use Rattle.rec_offences.specs.Listing.{listing, place_of};
+
+use crate::names::text_of;
+use faults::Memory;
+use indexmap::IndexMap;
+use rec_reader::{Name, Node};
+use std::alloc::Global;
+use std::marker::Model;
+
+/// Names in the order in which they were added. The first with a text is looked up by hashing.
+#[derive(Drop)]
+pub(crate) struct Directory<'a> {
+    text: &'a [u8],
+    names: Vec<Name>,
+    places: IndexMap<Vec<u8>, usize>,
+}
+
+impl<'a> Model for Directory<'a> {
+    ghost use Rattle.rec_offences.specs.Listing.{Listing};
+
+    ghost Value = { Listing };
+
+    ghost use Rattle.rec_offences.specs.Indexed.{shown, IsIndexed};
+
+    ghost view = { λ d. shown d };
+
+    ghost invariant = { λ d. IsIndexed d };
+}
+
+impl<'a> Directory<'a> {
+    pub(crate) fn new(alloc: Global, text: &'a [u8]) -> Self
+        ensures { result ≡ listing text.now [] }
+    {
+        Directory {
+            text,
+            names: Vec::new(alloc),
+            places: IndexMap::new(alloc),
+        }
+    }
+
+    /// The bytes in which the names stand.
+    pub(crate) fn text(&self) -> &'a [u8]
+        ensures { result.now ≡ self.now.bytes }
+    {
+        self.text
+    }
+
+    /// The place of the first name with the same text.
+    pub(crate) fn place(&self, name: Name) -> Option<usize>
+        ensures { result ≡ place_of self.now name }
+    {
+        self.places.get(text_of(self.text, name)).copied()
+    }
+
+    /// Whether a name has the same text.
+    pub(crate) fn has(&self, name: Name) -> bool
+        ensures { result ≡ is_among self.now.bytes self.now.names name }
+    {
+        self.place(name).is_some()
+    }
+
+    /// Puts a name at the end. An `Err` changes nothing.
+    pub(crate) fn add(&mut self, name: Name) -> Result<(), Memory>
+        ensures ok { OnOk result (self.new ≡ listing self.old.bytes (self.old.names ++ name ∷ [])) }
+        ensures err { OnErr result (self.new ≡ self.old) }
+    {
+        if self.has(name) {
+            self.names.push(name)?;
+            return Ok(());
+        }
+        let key = Vec::from_slice(*self.names.allocator(), text_of(self.text, name))?;
+        self.names.push(name)?;
+        match self.places.insert(key, self.names.len() - 1) {
+            Ok(_) => Ok(()),
+            Err(_) => {
+                self.names.pop();
+                Err(Memory)
+            }
+        }
+    }
+
+    /// Puts names at the end.
+    pub(crate) fn add_all(&mut self, names: &[Name]) -> Result<(), Memory>
+        ensures { OnOk result (self.new ≡ listing self.old.bytes (self.old.names ++ names.now)) }
+    {
+        for name in names {
+            self.add(*name)?;
+        }
+        Ok(())
+    }
+
+    /// Puts the heads of nodes at the end.
+    pub(crate) fn add_heads(&mut self, nodes: &[Node]) -> Result<(), Memory>
+        ensures { OnOk result (self.new ≡ listing self.old.bytes (self.old.names ++ heads nodes.now)) }
+    {
+        for node in nodes {
+            self.add(node.head)?;
+        }
+        Ok(())
+    }
+}

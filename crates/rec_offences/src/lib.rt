@@ -1,0 +1,21 @@
+//! What is wrong with specifications: the offences at their names, and the fault, the least of them.
+#![tactic(auto)]
+
+mod declarations;
+mod directory;
+mod headers;
+mod inclusion;
+mod input;
+mod limits;
+mod names;
+mod offence;
+mod scope;
+mod signatures;
+mod terms;
+#[cfg(test)]
+mod tests;
+mod variables;
+
+pub use faults::Memory;
+pub use input::fault;
+pub use offence::Offence;

@@ -1,0 +1,317 @@
+//! Inputs, and their faults.
+
+use crate::{Offence, fault};
+use rec_reader::{syntax, tokens};
+use std::alloc::Global;
+use std::test::Fail;
+
+/// The fault of an input as a kind and a place, or twice 0.
+fn fault_of(alloc: Global, text: &[u8]) -> Result<(u8, u64), Fail> {
+    let syntax = syntax(alloc, &tokens(alloc, text)?)?;
+    match fault(alloc, &syntax)? {
+        Some(Offence { kind, offset }) => Ok((kind, offset)),
+        None => Ok((0, 0)),
+    }
+}
+
+// Inputs of one specification, with the kind and the place of the fault, or twice 0.
+static SINGLE: [(&[u8], u8, u64); 34] = [
+    (b"REC-SPEC A END-SPEC", 0, 0),
+    (
+        b"REC-SPEC A SORTS S CONS a : -> S OPNS f : S -> S VARS X : S RULES f(X) -> X EVAL f(a) END-SPEC",
+        0,
+        0,
+    ),
+    // a sort of CONS, of OPNS and of VARS that isn't listed
+    (b"REC-SPEC A CONS a : -> S END-SPEC", 4, 23),
+    (b"REC-SPEC A SORTS S OPNS f : S T -> S END-SPEC", 4, 30),
+    (b"REC-SPEC A SORTS S VARS X : T END-SPEC", 4, 28),
+    (
+        b"REC-SPEC A SORTS S T CONS a : -> S f : T -> S END-SPEC",
+        0,
+        0,
+    ),
+    // a head that isn't declared
+    (b"REC-SPEC A EVAL a END-SPEC", 5, 16),
+    (
+        b"REC-SPEC A SORTS S CONS f : S -> S EVAL f(b) END-SPEC",
+        5,
+        42,
+    ),
+    // a sort that is listed twice, and names that are declared twice
+    (b"REC-SPEC A SORTS S T S END-SPEC", 6, 21),
+    (b"REC-SPEC A SORTS S CONS a a : -> S END-SPEC", 6, 26),
+    (
+        b"REC-SPEC A SORTS S CONS a : -> S OPNS a : S -> S END-SPEC",
+        6,
+        38,
+    ),
+    (
+        b"REC-SPEC A SORTS S CONS a : -> S VARS a : S END-SPEC",
+        6,
+        38,
+    ),
+    (b"REC-SPEC A SORTS S VARS X X : S END-SPEC", 6, 26),
+    (b"REC-SPEC A SORTS A CONS A : -> A EVAL A END-SPEC", 0, 0),
+    // another number of arguments, and a variable with arguments
+    (
+        b"REC-SPEC A SORTS S CONS a : -> S EVAL a(a) END-SPEC",
+        7,
+        38,
+    ),
+    (
+        b"REC-SPEC A SORTS S CONS a : -> S f : S S -> S EVAL f(a) END-SPEC",
+        7,
+        51,
+    ),
+    (
+        b"REC-SPEC A SORTS S OPNS f : S -> S VARS X : S RULES f(X(X)) -> X END-SPEC",
+        7,
+        54,
+    ),
+    // a name that is declared twice counts as first declared
+    (
+        b"REC-SPEC A SORTS S CONS a : -> S a : S -> S EVAL a(a) END-SPEC",
+        6,
+        33,
+    ),
+    // an argument, a right side and the second side of a condition with another sort
+    (
+        b"REC-SPEC A SORTS S T CONS a : -> S b : -> T f : S -> S EVAL f(b) END-SPEC",
+        8,
+        62,
+    ),
+    (
+        b"REC-SPEC A SORTS S T CONS a : -> S b : -> T f : S T -> S EVAL f(a,a) END-SPEC",
+        8,
+        66,
+    ),
+    (
+        b"REC-SPEC A SORTS S T CONS a : -> S b : -> T f : S T -> S EVAL f(a,b) END-SPEC",
+        0,
+        0,
+    ),
+    (
+        b"REC-SPEC A SORTS S T CONS a : -> S b : -> T RULES a -> b END-SPEC",
+        8,
+        55,
+    ),
+    (
+        b"REC-SPEC A SORTS S T CONS a : -> S b : -> T RULES a -> a if a = b END-SPEC",
+        8,
+        64,
+    ),
+    (
+        b"REC-SPEC A SORTS S T CONS a : -> S b : -> T RULES a -> a if b <> b END-SPEC",
+        0,
+        0,
+    ),
+    // a head that isn't declared has no sort
+    (
+        b"REC-SPEC A SORTS S CONS f : S -> S RULES f(b) -> f(b) END-SPEC",
+        5,
+        43,
+    ),
+    // surplus arguments have no sort to clash with
+    (
+        b"REC-SPEC A SORTS S T CONS a : -> S b : -> T f : S -> S EVAL f(a,b) END-SPEC",
+        7,
+        60,
+    ),
+    // a left side that is a variable
+    (
+        b"REC-SPEC A SORTS S VARS X : S RULES X -> X END-SPEC",
+        9,
+        36,
+    ),
+    // variables of a right side and of both sides of a condition that aren't on the left
+    (
+        b"REC-SPEC A SORTS S OPNS f : S -> S VARS X Y : S RULES f(X) -> Y END-SPEC",
+        10,
+        62,
+    ),
+    (
+        b"REC-SPEC A SORTS S OPNS f : S -> S VARS X Y : S RULES f(X) -> X if Y = X END-SPEC",
+        10,
+        67,
+    ),
+    (
+        b"REC-SPEC A SORTS S OPNS f : S -> S VARS X Y : S RULES f(X) -> X if X = f(Y) END-SPEC",
+        10,
+        73,
+    ),
+    // a variable in EVAL
+    (
+        b"REC-SPEC A SORTS S OPNS f : S -> S VARS X : S EVAL f(X) END-SPEC",
+        11,
+        53,
+    ),
+    // two offences at one place: the least kind
+    (b"REC-SPEC A SORTS S VARS X : S EVAL X(X) END-SPEC", 7, 35),
+    // two offences at different places: the least place, of whatever kind
+    (
+        b"REC-SPEC A SORTS S VARS X : S RULES X -> b EVAL c END-SPEC",
+        9,
+        36,
+    ),
+    (b"REC-SPEC A : A SORTS S S END-SPEC", 12, 13),
+];
+
+// Inputs of several specifications, with the kind and the place of the fault, or twice 0.
+static SEVERAL: [(&[u8], u8, u64); 13] = [
+    (
+        b"REC-SPEC A SORTS S CONS a : -> S OPNS f : S -> S VARS X : S RULES f(X) -> X EVAL f(a) END-SPEC REC-SPEC B : A EVAL f(f(a)) END-SPEC",
+        0,
+        0,
+    ),
+    (b"REC-SPEC A END-SPEC REC-SPEC A END-SPEC", 6, 29),
+    (
+        b"REC-SPEC A SORTS S CONS a : -> S END-SPEC REC-SPEC B SORTS S CONS a : -> S END-SPEC REC-SPEC C : A B EVAL a END-SPEC",
+        6,
+        99,
+    ),
+    // two specifications that don't include each other may declare one name
+    (
+        b"REC-SPEC A SORTS S CONS a : -> S END-SPEC REC-SPEC B SORTS S CONS a : -> S END-SPEC",
+        0,
+        0,
+    ),
+    // specifications before the last are checked
+    (b"REC-SPEC A EVAL a END-SPEC REC-SPEC B END-SPEC", 5, 16),
+    // an entry that no earlier header has: its own, a later one's, and none's
+    (b"REC-SPEC A : B END-SPEC REC-SPEC B END-SPEC", 12, 13),
+    (b"REC-SPEC A END-SPEC REC-SPEC B : C A END-SPEC", 12, 33),
+    // what isn't included isn't declared
+    (
+        b"REC-SPEC A SORTS S CONS a : -> S END-SPEC REC-SPEC B EVAL a END-SPEC",
+        5,
+        58,
+    ),
+    // an entry twice, and one specification by two ways
+    (
+        b"REC-SPEC A SORTS S CONS a : -> S END-SPEC REC-SPEC B : A A EVAL a END-SPEC",
+        0,
+        0,
+    ),
+    (
+        b"REC-SPEC A SORTS S CONS a : -> S END-SPEC REC-SPEC B : A END-SPEC REC-SPEC C : A END-SPEC REC-SPEC D : B C EVAL a END-SPEC",
+        0,
+        0,
+    ),
+    // a variable, and a symbol, named as an included symbol
+    (
+        b"REC-SPEC A SORTS S CONS a : -> S END-SPEC REC-SPEC B : A VARS a : S END-SPEC",
+        6,
+        62,
+    ),
+    (
+        b"REC-SPEC A SORTS S CONS a : -> S END-SPEC REC-SPEC B : A SORTS S OPNS a : -> S END-SPEC",
+        6,
+        70,
+    ),
+    // variables aren't included
+    (
+        b"REC-SPEC A SORTS S VARS X : S END-SPEC REC-SPEC B : A VARS X : S END-SPEC",
+        0,
+        0,
+    ),
+];
+
+#[test]
+fn single_specifications_have_their_faults(rt: HostRuntime) -> Result<(), Fail> {
+    for (text, kind, offset) in SINGLE {
+        assert_eq!(rt; fault_of(rt.alloc(), text)?, (kind, offset), "at {text:?}");
+    }
+    Ok(())
+}
+
+#[test]
+fn several_specifications_have_their_fault(rt: HostRuntime) -> Result<(), Fail> {
+    for (text, kind, offset) in SEVERAL {
+        assert_eq!(rt; fault_of(rt.alloc(), text)?, (kind, offset), "at {text:?}");
+    }
+    Ok(())
+}
+
+/// The front, so many times the middle, and the back.
+fn repeat(
+    alloc: Global,
+    front: &[u8],
+    middle: &[u8],
+    count: usize,
+    back: &[u8],
+) -> Result<Vec<u8>, Fail> {
+    let mut text = Vec::from_slice(alloc, front)?;
+    for _ in 0..count {
+        text.extend_from_slice(middle)?;
+    }
+    text.extend_from_slice(back)?;
+    Ok(text)
+}
+
+// A front, a middle with how often it stands, a back, and the kind and the place of the fault, or twice 0.
+static LIMITS: [(&[u8], &[u8], usize, &[u8], u8, u64); 8] = [
+    (b"REC-SPEC ", b"a", 255, b" END-SPEC", 0, 0),
+    (b"REC-SPEC ", b"a", 256, b" END-SPEC", 13, 9),
+    (
+        b"REC-SPEC A SORTS S CONS f :",
+        b" S",
+        16,
+        b" -> S END-SPEC",
+        0,
+        0,
+    ),
+    (
+        b"REC-SPEC A SORTS S CONS f :",
+        b" S",
+        17,
+        b" -> S END-SPEC",
+        13,
+        60,
+    ),
+    (
+        b"REC-SPEC A SORTS S CONS a : -> S EVAL",
+        b" a",
+        65_535,
+        b" END-SPEC",
+        0,
+        0,
+    ),
+    (
+        b"REC-SPEC A SORTS S CONS a : -> S EVAL",
+        b" a",
+        65_536,
+        b" END-SPEC",
+        13,
+        131_108,
+    ),
+    (
+        b"REC-SPEC A SORTS S CONS a : -> S RULES",
+        b" a -> a",
+        65_535,
+        b" END-SPEC",
+        0,
+        0,
+    ),
+    (
+        b"REC-SPEC A SORTS S CONS a : -> S RULES",
+        b" a -> a",
+        65_536,
+        b" END-SPEC",
+        13,
+        458_784,
+    ),
+];
+
+#[test]
+fn limits_are_taken_and_no_more(rt: HostRuntime) -> Result<(), Fail> {
+    for (front, middle, count, back, kind, offset) in LIMITS {
+        let text = repeat(rt.alloc(), front, middle, count, back)?;
+        assert_eq!(rt;
+            fault_of(rt.alloc(), &text)?,
+            (kind, offset),
+            "at {front:?}"
+        );
+    }
+    Ok(())
+}

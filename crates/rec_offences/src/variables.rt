@@ -1,0 +1,151 @@
+//! Offences of variables.
+ghost use Rattle.std.specs.Prelude.{◌≡◌, ◌++◌, ◌∷◌, [], OnOk, not, ◌&&◌};
+ghost use Rattle.std.specs.List.{filter, flat_map};
+ghost use Rattle.std.specs.Option.{option_to_list};
+ghost use Rattle.rec_offences.specs.Names.{is_among};
+ghost use Rattle.rec_offences.specs.Scope.{is_variable, heads, root};
+ghost use Rattle.rec_offences.specs.Offences.{nodes_but_left, bare_variables, free_variables, not_ground};
+ghost use Rattle.rec_offences.specs.Visited.{free_variables_of};
+ghost use Rattle.rec_offences.specs.Faults.{of_kind, least_with};
+
+use crate::directory::Directory;
+use crate::limits::root;
+use crate::offence::{Offence, note_if};
+use crate::scope::Scope;
+use faults::Memory;
+use rec_reader::{Condition, Node, Rule, Sequence, Specification};
+use std::alloc::Global;
+
+const BARE_VARIABLE: u8 = 9;
+
+const FREE_VARIABLE: u8 = 10;
+
+const NOT_GROUND: u8 = 11;
+
+fn note_bare_variable(found: &mut Option<Offence>, scope: &Scope, left: &[Node])
+    ensures { found.new ≡ least_with found.old (of_kind BARE_VARIABLE
+        (filter (is_variable scope.now.bytes scope.now.entries) (option_to_list (root left.now)))) }
+{
+    if let Some(head) = root(left) {
+        note_if(found, BARE_VARIABLE, head, scope.is_variable(head));
+    }
+}
+
+/// Notes the left sides that are a variable.
+fn note_bare_variables(found: &mut Option<Offence>, scope: &Scope, rules: &[Rule])
+    ensures { found.new ≡ least_with found.old (of_kind BARE_VARIABLE (flat_map
+        (λ r. filter (is_variable scope.now.bytes scope.now.entries) (option_to_list (root r.left))) rules.now)) }
+{
+    for rule in rules {
+        note_bare_variable(found, scope, rule.left.as_slice());
+    }
+}
+
+/// Notes the variables that aren't among those of the left side.
+fn note_free(found: &mut Option<Offence>, scope: &Scope, left: &Directory, nodes: &[Node])
+    ensures { found.new ≡ least_with found.old (of_kind FREE_VARIABLE (filter
+        (λ n. is_variable scope.now.bytes scope.now.entries n && not (is_among left.now.bytes left.now.names n))
+        (heads nodes.now))) }
+{
+    for node in nodes {
+        let is_free = scope.is_variable(node.head) && !left.has(node.head);
+        note_if(found, FREE_VARIABLE, node.head, is_free);
+    }
+}
+
+fn note_free_in_condition(
+    found: &mut Option<Offence>,
+    scope: &Scope,
+    left: &Directory,
+    condition: &Condition,
+)
+    ensures { found.new ≡ least_with found.old (of_kind FREE_VARIABLE (filter
+        (λ n. is_variable scope.now.bytes scope.now.entries n && not (is_among left.now.bytes left.now.names n))
+        (heads (condition.now.first ++ condition.now.second)))) }
+{
+    note_free(found, scope, left, condition.first.as_slice());
+    note_free(found, scope, left, condition.second.as_slice());
+}
+
+/// Notes the variables after the left side that aren't among these.
+fn note_free_but(found: &mut Option<Offence>, scope: &Scope, left: &Directory, rule: &Rule)
+    ensures { found.new ≡ least_with found.old (of_kind FREE_VARIABLE (filter
+        (λ n. is_variable scope.now.bytes scope.now.entries n && not (is_among left.now.bytes left.now.names n))
+        (heads (nodes_but_left rule.now)))) }
+{
+    note_free(found, scope, left, rule.right.as_slice());
+    for condition in rule.conditions.as_slice() {
+        note_free_in_condition(found, scope, left, condition);
+    }
+}
+
+fn note_free_in_rule(
+    alloc: Global,
+    found: &mut Option<Offence>,
+    text: &[u8],
+    scope: &Scope,
+    rule: &Rule,
+) -> Result<(), Memory>
+    ensures { OnOk result (found.new ≡ least_with found.old (of_kind FREE_VARIABLE
+        (free_variables_of text.now scope.now.bytes scope.now.entries rule.now))) }
+{
+    let mut left = Directory::new(alloc, text);
+    left.add_heads(rule.left.as_slice())?;
+    note_free_but(found, scope, &left, rule);
+    Ok(())
+}
+
+/// Notes the variables of right sides and conditions that don't occur on the left.
+fn note_free_variables(
+    alloc: Global,
+    found: &mut Option<Offence>,
+    text: &[u8],
+    scope: &Scope,
+    rules: &[Rule],
+) -> Result<(), Memory>
+    ensures { OnOk result (found.new ≡ least_with found.old (of_kind FREE_VARIABLE
+        (flat_map (free_variables_of text.now scope.now.bytes scope.now.entries) rules.now))) }
+{
+    for rule in rules {
+        note_free_in_rule(alloc, found, text, scope, rule)?;
+    }
+    Ok(())
+}
+
+fn note_variables(found: &mut Option<Offence>, scope: &Scope, nodes: &[Node])
+    ensures { found.new ≡ least_with found.old (of_kind NOT_GROUND
+        (filter (is_variable scope.now.bytes scope.now.entries) (heads nodes.now))) }
+{
+    for node in nodes {
+        note_if(found, NOT_GROUND, node.head, scope.is_variable(node.head));
+    }
+}
+
+/// Notes the variables of the terms to be rewritten.
+fn note_not_ground(found: &mut Option<Offence>, scope: &Scope, terms: &[Sequence<Node>])
+    ensures { found.new ≡ least_with found.old (of_kind NOT_GROUND
+        (filter (is_variable scope.now.bytes scope.now.entries) (flat_map heads terms.now))) }
+{
+    for term in terms {
+        note_variables(found, scope, term.as_slice());
+    }
+}
+
+/// Notes the variables that stand where they may not.
+pub(crate) fn note_misplaced_variables(
+    alloc: Global,
+    found: &mut Option<Offence>,
+    scope: &Scope,
+    specification: &Specification,
+) -> Result<(), Memory>
+    ensures { OnOk result (found.new ≡ least_with found.old
+        (of_kind BARE_VARIABLE (bare_variables scope.now.bytes scope.now.entries specification.now)
+        ++ of_kind FREE_VARIABLE (free_variables scope.now.bytes scope.now.entries specification.now)
+        ++ of_kind NOT_GROUND (not_ground scope.now.bytes scope.now.entries specification.now))) }
+{
+    let rules = specification.rules.as_slice();
+    note_bare_variables(found, scope, rules);
+    note_free_variables(alloc, found, scope.text(), scope, rules)?;
+    note_not_ground(found, scope, specification.terms.as_slice());
+    Ok(())
+}
