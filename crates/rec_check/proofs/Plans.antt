@@ -31,26 +31,26 @@ use Rattle.rec_check.proofs.Heads.{IsVariable, IsSymbol, head_cases, one_below, 
 use Rattle.rec_check.proofs.Numbered.{left_numbered}
 
 -- what came before a step that gave something
-record Came {A B : Type 0} (o : Option A) (f : A → Option B) (y : B) : Type 0 where
-  x : A
-  is : o ≡ Some x
-  gives : f x ≡ Some y
+pub record Came {A B : Type 0} (o : Option A) (f : A → Option B) (y : B) : Type 0 where
+  pub x : A
+  pub is : o ≡ Some x
+  pub gives : f x ≡ Some y
 
-came : {A B : Type 0} (o : Option A) (f : A → Option B) (y : B) → (o >>= f) ≡ Some y → Came o f y
+pub came : {A B : Type 0} (o : Option A) (f : A → Option B) (y : B) → (o >>= f) ≡ Some y → Came o f y
 came None f y h = absurd cc
 came (Some x) f y h = record { x = x; is = refl; gives = h }
 
-cc_some : {A : Type 0} (x y : A) → Some x ≡ Some y → x ≡ y
+pub cc_some : {A : Type 0} (x y : A) → Some x ≡ Some y → x ≡ y
 cc_some x y e = cc
 
 -- ---- a term
 
-record Spells (scope : Scope) (nodes : List written_node.Node) (t : Tree) : Type 0 where
-  items : List Item
-  are : all_of (λ n. item_in scope n) nodes ≡ Some items
-  spell : items ≡ postorder t
+pub record Spells (scope : Scope) (nodes : List written_node.Node) (t : Tree) : Type 0 where
+  pub items : List Item
+  pub are : all_of (λ n. item_in scope n) nodes ≡ Some items
+  pub spell : items ≡ postorder t
 
-spells : (scope : Scope) (nodes : List written_node.Node) (t : Tree) → tree_in scope nodes ≡ Some t → Spells scope nodes t
+pub spells : (scope : Scope) (nodes : List written_node.Node) (t : Tree) → tree_in scope nodes ≡ Some t → Spells scope nodes t
 spells scope nodes t h = by (all_of (λ n. item_in scope n) nodes) refl h
   where
     by : (o : Option (List Item)) → all_of (λ n. item_in scope n) nodes ≡ o → option_and_then (λ items. tree_of items) o ≡ Some t → Spells scope nodes t
@@ -87,40 +87,40 @@ condition_fits scope c d h =
     (record { first_below = tree_below scope c.first a.x a.is; first = tree_plain scope c.first a.x a.is; second_below = tree_below scope c.second b.x b.is; second = tree_plain scope c.second b.x b.is })
 
 module _ (text : List ℕ) (symbols : List Named) (declared : List (List ℕ)) (r : written.Rule) (made : Rule) (h : rule_in text symbols declared r ≡ Some made) where
-  abbrev vars : List (List ℕ)
+  abbrev pub vars : List (List ℕ)
   vars = variables_in text declared r.left
 
-  abbrev scope : Scope
+  abbrev pub scope : Scope
   scope = record { text = text; symbols = symbols; variables = vars }
 
-  abbrev with_head : Tree → Tree → List Condition → Head → Option Rule
+  abbrev pub with_head : Tree → Tree → List Condition → Head → Option Rule
   with_head left right conditions head = Some (record { left = left; right = right; conditions = conditions; vars = length vars })
 
-  abbrev with_conditions : Tree → Tree → List Condition → Option Rule
+  abbrev pub with_conditions : Tree → Tree → List Condition → Option Rule
   with_conditions left right conditions = root left >>= with_head left right conditions
 
-  abbrev with_right : Tree → Tree → Option Rule
+  abbrev pub with_right : Tree → Tree → Option Rule
   with_right left right = all_of (λ c. condition_in scope c) r.conditions >>= with_conditions left right
 
-  abbrev with_left : Tree → Option Rule
+  abbrev pub with_left : Tree → Option Rule
   with_left left = tree_in scope r.right >>= with_right left
 
-  abbrev a : Came (tree_in scope r.left) with_left made
+  abbrev pub a : Came (tree_in scope r.left) with_left made
   a = came (tree_in scope r.left) with_left made h
 
-  abbrev b : Came (tree_in scope r.right) (with_right a.x) made
+  abbrev pub b : Came (tree_in scope r.right) (with_right a.x) made
   b = came (tree_in scope r.right) (with_right a.x) made a.gives
 
-  abbrev c : Came (all_of (λ d. condition_in scope d) r.conditions) (with_conditions a.x b.x) made
+  abbrev pub c : Came (all_of (λ d. condition_in scope d) r.conditions) (with_conditions a.x b.x) made
   c = came (all_of (λ d. condition_in scope d) r.conditions) (with_conditions a.x b.x) made b.gives
 
-  abbrev d : Came (root a.x) (with_head a.x b.x c.x) made
+  abbrev pub d : Came (root a.x) (with_head a.x b.x c.x) made
   d = came (root a.x) (with_head a.x b.x c.x) made c.gives
 
-  abbrev rule : Rule
+  abbrev pub rule : Rule
   rule = record { left = a.x; right = b.x; conditions = c.x; vars = length vars }
 
-  is_made : rule ≡ made
+  pub is_made : rule ≡ made
   is_made = cc_some rule made d.gives
 
   sides : All (HasSides (length vars) (widest_of symbols)) c.x
@@ -177,7 +177,7 @@ term_ground text symbols t tree h =
     sym (all_heads tree) ∙ ap (list_all has_head) (sym s.spell)
     ∙ all_pass (λ n. item_in (no_variables text symbols) n) has_head (one_head text symbols) t s.items s.are
 
-within_limit : (s made : Specified) → with_few_rules s ≡ Some made → (length s.rules ≤ most_rules) × (s ≡ made)
+pub within_limit : (s made : Specified) → with_few_rules s ≡ Some made → (length s.rules ≤ most_rules) × (s ≡ made)
 within_limit s made h = by (nat_le (length s.rules) most_rules) refl h
   where
     by : (b : Bool) → nat_le (length s.rules) most_rules ≡ b → (if b then Some s else None) ≡ Some made → (length s.rules ≤ most_rules) × (s ≡ made)

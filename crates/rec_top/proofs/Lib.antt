@@ -1,2 +1,6 @@
-pub mod Chains
-pub mod Answering
+pub mod OneOutcome
+pub mod Ending
+pub mod OneFault
+pub mod Named
+pub mod Sufficing
+pub mod Fullness

@@ -1,34 +1,79 @@
 -- What a command answers before anything is written: its output, or why it stops.
-use Rattle.std.specs.Prelude.{◌≡◌, ◌⊎◌, ℕ, List, Option, Result, Ok, Err}
+use Rattle.std.specs.Prelude.{◌≡◌, ◌⊎◌, ℕ, List, Option, Result, Ok, Err, replicate}
 use Rattle.faults.specs.Count.{Rose}
 use Rattle.ends.specs.Bytes.{GaveMoreThan}
-use Rattle.rec_top.specs.Output.{IsNotFirstAt, length_limit, too_long}
-use Rattle.rec_top.specs.Run.{GaveFault}
-use Rattle.rec_top.specs.declared.words.Settings.{Settings}
+use Rattle.settings.specs.declared.parts.Settings.{Settings}
+use Rattle.rec_top.specs.Written.{Output}
+use Rattle.rec_top.specs.Rewritten.{IsSpecificationFault, RowsAreFew}
+use Rattle.rec_top.specs.Output.{IsFaultWithin, IsScheduleFault, LacksRows, length_limit, too_long}
+use Rattle.rec_top.specs.Run.{GaveFault, GaveTooMuch}
+use Rattle.rec_top.specs.declared.answers.Answer.{Answer}
+use Rattle.rec_reader.specs.declared.fail.ReadFail.{ReadFail}
+use Rattle.rec_reader.specs.declared.fail.ReadFail.TheVariants as fail
 use Rattle.rec_top.specs.declared.stops.Fault.{Fault}
 use Rattle.rec_top.specs.declared.stops.Stop.{Stop}
-use Rattle.rec_top.specs.declared.stops.Stop.TheVariants.{Usage, Refused, ReadFault, WriteFault, Memory}
+use Rattle.rec_top.specs.declared.stops.Stop.TheVariants.{Usage, Refused, StoreFull, ReadFault, WriteFault, Memory}
+
+-- the answer is this output, and each term has the first worker
+pub record IsAnswer (answer : Answer) (output : Output) : Type 0 where
+  pub bytes : answer.output.items ≡ output.bytes
+  pub values : answer.values ≡ output.values
+  pub workers : answer.workers ≡ replicate output.terms 0
 
 -- why reading the whole input may stop
 abbrev pub StopsReading : {S : Type 0} (left : S → Option (List ℕ)) (faults : S → ℕ) (old new : S) → Stop → Type 0
 StopsReading left faults old new Usage = ⊥
 StopsReading left faults old new (Refused fault) = (fault ≡ too_long) × GaveMoreThan (left old) (left new) length_limit
+StopsReading left faults old new StoreFull = ⊥
 StopsReading left faults old new ReadFault = Rose (faults old) (faults new)
 StopsReading left faults old new WriteFault = ⊥
 StopsReading left faults old new Memory = Unit {0}
 
--- why making the line of an input's term may stop
-abbrev pub StopsMaking : List ℕ → Stop → Type 0
-StopsMaking input Usage = ⊥
-StopsMaking input (Refused fault) = IsNotFirstAt input fault
-StopsMaking input ReadFault = ⊥
-StopsMaking input WriteFault = ⊥
-StopsMaking input Memory = Unit {0}
+-- why making the output for an input may stop
+abbrev pub StopsMaking : Settings → List ℕ → Stop → Type 0
+StopsMaking settings input Usage = ⊥
+StopsMaking settings input (Refused fault) = IsFaultWithin settings input fault
+StopsMaking settings input StoreFull = LacksRows settings input
+StopsMaking settings input ReadFault = ⊥
+StopsMaking settings input WriteFault = ⊥
+StopsMaking settings input Memory = Unit {0}
+
+-- why reading a specification may fail, and why a command stops then
+abbrev pub FailsSpelling : List ℕ → ReadFail → Type 0
+FailsSpelling input (fail.Refused kind offset) = IsSpecificationFault input (record { kind = kind; offset = offset })
+FailsSpelling input fail.Memory = Unit {0}
+
+abbrev pub StopsSpelling : List ℕ → Stop → Type 0
+StopsSpelling input Usage = ⊥
+StopsSpelling input (Refused fault) = IsSpecificationFault input fault
+StopsSpelling input StoreFull = ⊥
+StopsSpelling input ReadFault = ⊥
+StopsSpelling input WriteFault = ⊥
+StopsSpelling input Memory = Unit {0}
+
+-- why rewriting the terms of an input may stop
+abbrev pub StopsRewriting : Settings → List ℕ → Stop → Type 0
+StopsRewriting settings input Usage = ⊥
+StopsRewriting settings input (Refused fault) = IsSpecificationFault input fault
+StopsRewriting settings input StoreFull = RowsAreFew settings input
+StopsRewriting settings input ReadFault = ⊥
+StopsRewriting settings input WriteFault = ⊥
+StopsRewriting settings input Memory = Unit {0}
+
+-- why running a schedule may stop
+abbrev pub StopsScheduling : ℕ → List ℕ → Stop → Type 0
+StopsScheduling seats input Usage = ⊥
+StopsScheduling seats input (Refused fault) = IsScheduleFault seats input fault
+StopsScheduling seats input StoreFull = ⊥
+StopsScheduling seats input ReadFault = ⊥
+StopsScheduling seats input WriteFault = ⊥
+StopsScheduling seats input Memory = Unit {0}
 
 -- why a command may stop before it writes
 abbrev pub StopsAnswering : {S : Type 0} (settings : Settings) (left : S → Option (List ℕ)) (faults : S → ℕ) (old new : S) → Stop → Type 0
 StopsAnswering settings left faults old new Usage = ⊥
 StopsAnswering settings left faults old new (Refused fault) = GaveFault settings left old new fault
+StopsAnswering settings left faults old new StoreFull = GaveTooMuch settings left old new
 StopsAnswering settings left faults old new ReadFault = Rose (faults old) (faults new)
 StopsAnswering settings left faults old new WriteFault = ⊥
 StopsAnswering settings left faults old new Memory = Unit {0}

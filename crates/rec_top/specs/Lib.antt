@@ -1,6 +1,7 @@
-pub mod Words
+pub mod Answered
 pub mod Lines
 pub mod Output
-pub mod Printed
+pub mod Rewritten
 pub mod Run
-pub mod Answered
+pub mod Sequence
+pub mod Written

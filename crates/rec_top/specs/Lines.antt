@@ -6,7 +6,7 @@ use Rattle.faults.specs.Count.{Rose}
 use Rattle.ends.specs.Bytes.{TookFront}
 use Rattle.rec_top.specs.declared.stops.Fault.{Fault}
 use Rattle.rec_top.specs.declared.stops.Stop.{Stop}
-use Rattle.rec_top.specs.declared.stops.Stop.TheVariants.{Usage, Refused, ReadFault, WriteFault, Memory}
+use Rattle.rec_top.specs.declared.stops.Stop.TheVariants.{Usage, Refused, StoreFull, ReadFault, WriteFault, Memory}
 
 -- a text, and the end of its line
 abbrev pub line : List ℕ → List ℕ
@@ -19,6 +19,7 @@ fault_line fault = line (codes "fault " ++ decimal fault.kind ++ codes " at " ++
 abbrev pub stop_line : Stop → List ℕ
 stop_line Usage = line (codes "usage: rec COMMAND [OPTIONS]")
 stop_line (Refused fault) = fault_line fault
+stop_line StoreFull = line (codes "store full")
 stop_line ReadFault = line (codes "read fault")
 stop_line WriteFault = line (codes "write fault")
 stop_line Memory = line (codes "out of memory")
@@ -27,6 +28,7 @@ stop_line Memory = line (codes "out of memory")
 abbrev pub stop_status : Stop → ℕ
 stop_status Usage = 2
 stop_status (Refused fault) = 3
+stop_status StoreFull = 4
 stop_status ReadFault = 5
 stop_status WriteFault = 6
 stop_status Memory = 7
@@ -35,6 +37,7 @@ stop_status Memory = 7
 abbrev pub status_line : ℕ → List ℕ
 status_line status =
     if status == 2 then stop_line Usage
+    else if status == 4 then stop_line StoreFull
     else if status == 5 then stop_line ReadFault
     else if status == 6 then stop_line WriteFault
     else if status == 7 then stop_line Memory

@@ -1,54 +1,74 @@
 -- What a command writes for an input, and why it refuses one. Each command has a case of its own.
-use Rattle.std.specs.Prelude.{◌≡◌, ◌⊎◌, ℕ, ◌≤◌, ◌<◌, List, length}
-use Rattle.term_model.specs.Tree.{Tree}
-use Rattle.rec_reader.specs.Text.{text}
-use Rattle.rec_reader.specs.FirstForm.{Declared, IsFirst, names_of}
-use Rattle.rec_top.specs.Lines.{line}
-use Rattle.rec_top.specs.declared.words.Command.{Command}
-use Rattle.rec_top.specs.declared.words.Command.TheVariants.{Rewrite}
-use Rattle.rec_top.specs.declared.words.Settings.{Settings}
+use Rattle.std.specs.Prelude.{◌≡◌, ◌⊎◌, ℕ, ◌≤◌, ◌<◌, List, [], length, Bool, true, if◌then◌else◌, Ok, Err}
+use Rattle.lock_core.specs.Lock.{Lock, at_start}
+use Rattle.lock_core.specs.Schedule.{ComesTo, lines}
+use Rattle.lock_core.specs.StateText.{state_text}
+use Rattle.lock_core.specs.declared.reading.LineFault.{LineFault}
+use Rattle.settings.specs.declared.parts.Command.{Command}
+use Rattle.settings.specs.declared.parts.Command.TheVariants.{Rewrite, Schedule}
+use Rattle.settings.specs.declared.parts.Settings.{Settings}
+use Rattle.rec_top.specs.Written.{Output}
+use Rattle.rec_top.specs.Rewritten.{IsRewritten, IsSpecificationFault, RowsAreFew, RowsSuffice}
 use Rattle.rec_top.specs.declared.stops.Fault.{Fault}
 
 -- how many bytes an input may have
 abbrev pub length_limit : ℕ
 length_limit = 16777216
 
--- the input is a specification of the first form, and this is the line of its term
-pub record IsTermLine (input output : List ℕ) : Type 0 where
-  pub declared : List Declared
-  pub term : Tree
-  pub within : length input ≤ length_limit
-  pub spelled : IsFirst input declared term
-  pub line_is : output ≡ line (text (names_of declared) term)
+-- the lines of the input are a schedule, and this is the lock that it comes to
+pub record IsScheduled (seats : ℕ) (input : List ℕ) (output : Output) : Type 0 where
+  pub lock : Lock
+  pub comes : ComesTo seats (at_start seats) 1 (lines input) (Ok lock)
+  pub output_is : output ≡ record { bytes = state_text lock; values = true; terms = 0 }
 
-abbrev pub IsOutputOf : Command → List ℕ → List ℕ → Type 0
-IsOutputOf Rewrite input output = IsTermLine input output
+-- a line of the input is no line of a schedule, or its step is out of place
+pub record IsScheduleFault (seats : ℕ) (input : List ℕ) (fault : Fault) : Type 0 where
+  pub at : LineFault
+  pub comes : ComesTo seats (at_start seats) 1 (lines input) (Err at)
+  pub fault_is : fault ≡ record { kind = at.kind; offset = at.line }
+
+abbrev pub IsOutputOf : Command → Settings → List ℕ → Output → Type 0
+IsOutputOf Rewrite s input output = IsRewritten s input output
+IsOutputOf Schedule s input output = IsScheduled s.seats input output
 
 -- the input is accepted under the settings, and this is what is written for it
-abbrev pub IsOutput : Settings → List ℕ → List ℕ → Type 0
-IsOutput settings input output = IsOutputOf settings.command input output
+pub record IsOutput (s : Settings) (input : List ℕ) (output : Output) : Type 0 where
+  pub within : length input ≤ length_limit
+  pub output_is : IsOutputOf s.command s input output
+
+abbrev pub IsFaultOf : Command → Settings → List ℕ → Fault → Type 0
+IsFaultOf Rewrite s input fault = IsSpecificationFault input fault
+IsFaultOf Schedule s input fault = IsScheduleFault s.seats input fault
 
 -- the fault of an input that is too long
 abbrev pub too_long : Fault
 too_long = record { kind = 14; offset = length_limit }
 
--- the fault of an input that isn't of the first form
-abbrev pub not_first : Fault
-not_first = record { kind = 0; offset = 0 }
-
 -- the input is too long, and this is its fault
 abbrev pub IsTooLongAt : List ℕ → Fault → Type 0
 IsTooLongAt input fault = (length_limit < length input) × (fault ≡ too_long)
 
--- the input isn't of the first form, and this is its fault
-abbrev pub IsNotFirstAt : List ℕ → Fault → Type 0
-IsNotFirstAt input fault =
-    (length input ≤ length_limit) × ((declared : List Declared) (term : Tree) → IsFirst input declared term → ⊥)
-    × (fault ≡ not_first)
-
-abbrev pub IsFaultOf : Command → List ℕ → Fault → Type 0
-IsFaultOf Rewrite input fault = IsTooLongAt input fault ⊎ IsNotFirstAt input fault
+-- the input isn't too long, and this is the command's fault of it
+pub record IsFaultWithin (s : Settings) (input : List ℕ) (fault : Fault) : Type 0 where
+  pub within : length input ≤ length_limit
+  pub fault_is : IsFaultOf s.command s input fault
 
 -- the input is refused under the settings, and this is its fault
 abbrev pub IsFault : Settings → List ℕ → Fault → Type 0
-IsFault settings input fault = IsFaultOf settings.command input fault
+IsFault s input fault = IsTooLongAt input fault ⊎ IsFaultWithin s input fault
+
+-- the rows are too few for what the command builds of the input
+abbrev pub LacksRowsFor : Command → Settings → List ℕ → Type 0
+LacksRowsFor Rewrite s input = RowsAreFew s input
+LacksRowsFor Schedule s input = ⊥
+
+abbrev pub LacksRows : Settings → List ℕ → Type 0
+LacksRows s input = LacksRowsFor s.command s input
+
+-- the rows suffice for what the command builds of the input
+abbrev pub HasRowsFor : Command → Settings → List ℕ → Type 0
+HasRowsFor Rewrite s input = RowsSuffice s input
+HasRowsFor Schedule s input = Unit {0}
+
+abbrev pub HasRows : Settings → List ℕ → Type 0
+HasRows s input = HasRowsFor s.command s input

@@ -1,16 +1,22 @@
 //! The top call: from the words and the bytes that come in to the bytes and the status that go out.
 #![tactic(auto)]
 
-mod printing;
+mod answering;
+mod answers;
 mod results;
 mod rewriting;
+mod scheduling;
+mod specification;
 mod stops;
 mod top;
-mod words;
 
 pub use results::{Chronicle, Outcome, Workers};
 pub use stops::out_of_memory;
 pub use top::run;
 
 #[cfg(test)]
-mod tests;
+mod large_tests;
+#[cfg(test)]
+mod row_tests;
+#[cfg(test)]
+mod trial;

@@ -1,5 +1,5 @@
 // What a run answers.
-ghost use Rattle.std.specs.Prelude.{◌≡◌, [], ◌∷◌, IfOk};
+ghost use Rattle.std.specs.Prelude.{◌≡◌, [], IfOk, replicate};
 
 use std::alloc::{AllocError, Global};
 use std::marker::Model;
@@ -33,12 +33,12 @@ impl Workers {
         }
     }
 
-    /// One term was rewritten, by the first worker.
-    pub fn first_alone(alloc: Global) -> Result<Self, AllocError>
-        ensures { IfOk result (λ w. w ≡ 0 ∷ []) }
+    /// So many terms were rewritten, all by the first worker.
+    pub fn first_alone(alloc: Global, terms: usize) -> Result<Self, AllocError>
+        ensures { IfOk result (λ w. w ≡ replicate terms 0) }
     {
         Ok(Workers {
-            numbers: vec![in alloc; 0]?,
+            numbers: vec![in alloc; 0; terms]?,
         })
     }
 

@@ -1,106 +1,164 @@
-// The command `rewrite`: from a source to its output.
-ghost use Rattle.std.specs.Prelude.{◌≡◌, ◌≤◌, ◌⊎◌, [], ◌∷◌, ℕ, List, Some, IfOk, IfErr, IsErrOf, length, vec_len};
-ghost use Rattle.ends.specs.Bytes.{GaveAll};
-ghost use Rattle.rec_top.specs.Output.{IsOutput, IsFault, IsTermLine, IsNotFirstAt, IsTooLongAt, length_limit};
-ghost use Rattle.rec_top.specs.Run.{GaveOutput, HasNoFault};
-ghost use Rattle.rec_top.specs.Answered.{StopsReading, StopsMaking, StopsAnswering, Answers, StopsWith};
+// The command `rewrite`: from a specification to the lines of its terms.
+ghost use Rattle.std.specs.Prelude.{◌≡◌, ◌++◌, [], All, IfOk, IfErr, OnOk};
+ghost use Rattle.plain_store.specs.Contents.{store_of};
+ghost use Rattle.term_lines.specs.Line.{line_text, is_value};
+ghost use Rattle.term_lines.specs.Written.{ended};
+ghost use Rattle.rec_top.specs.Lines.{line};
+ghost use Rattle.rec_top.specs.Written.{Output};
+ghost use Rattle.rec_top.specs.Rewritten.{IsRewritten, IsSpecificationFault, RowsSuffice, IsNamed, output_of};
+ghost use Rattle.rec_top.specs.Sequence.{IsReadyStore, IsRewriterOf, IsTermFor, WriteNames, StopsTerm, StopsTerms, lines_of, all_values};
+ghost use Rattle.rec_check.specs.Spec.{specified};
+ghost use Rattle.rec_check.specs.Run.{MayBeRun};
+ghost use Rattle.rec_check.specs.Symbols.{widest_of};
+ghost use Rattle.rec_top.specs.Answered.{IsAnswer, StopsRewriting, Answers, StopsWith};
 ghost use Rattle.rec_top.specs.declared.stops.Fault.{Fault};
 
-use crate::printing::line_of;
+use crate::answers::Answer;
 use crate::results::Workers;
-use crate::stops::{Fault, Stop};
-use crate::words::{Command, Settings};
-use ends::{Gate, ReadAllFault, Source, read_all};
-use rec_reader::{FirstFail, first_form};
+use crate::specification::specification_of;
+use crate::stops::Stop;
+use ends::Gate;
+use faults::Memory;
+use innermost::Machine;
+use plain_store::PlainStore;
+use rec_check::Spec;
+use rule_match::Plan;
+use settings::Settings;
 use std::alloc::Global;
+use symbol_pool::Symbols;
+use term_lines::{LineStop, Rewriter};
+use term_model::Flat;
+use term_text::SizeMarks;
+use terms_api::Terms;
 
-// How many bytes an input may have.
-const LENGTH_LIMIT: u64 = 16_777_216;
-
-const TOO_LONG: Fault = Fault {
-    kind: 14,
-    offset: LENGTH_LIMIT,
-};
-
-const NOT_FIRST: Fault = Fault { kind: 0, offset: 0 };
-
-/// The output of a command, before it is written.
-#[derive(Drop)]
-pub struct Answer {
-    pub output: Vec<u8>,
-    pub workers: Workers,
+// What rewrites by a plan, under the settings.
+fn rewriter_of(alloc: Global, settings: Settings, plan: &Plan) -> Result<Rewriter, Memory>
+    ensures { IfOk result (IsRewriterOf settings plan.now) }
+{
+    Ok(Rewriter {
+        machine: Machine::new(alloc, plan, settings.depth)?,
+        marks: SizeMarks::new(alloc, settings.rows)?,
+        fuel: settings.fuel,
+        sizes: settings.sizes,
+    })
 }
 
-// All bytes that the source has left.
-fn input_of<S: Source>(alloc: Global, source: &mut S) -> Result<Vec<u8>, Stop>
-    ensures whole { IfOk result (λ input. GaveAll (S.left source.old) (S.left source.new) input.items) }
-    ensures within { IfOk result (λ input. vec_len input ≤ length_limit) }
-    ensures stopped { IfErr result (StopsReading S.left S.faults source.old source.new) }
-    ensures unfailed { IsErrOf result Stop.ReadFault ⊎ (S.faults source.new ≡ S.faults source.old) }
-    ensures read { (input : List ℕ) → S.left source.old ≡ Some input → length input ≤ length_limit
-        → HasNoFault S.faults source.old source.new → Answers result (λ all. all.items ≡ input) }
-    ensures refused { (input : List ℕ) (fault : Fault)
-        → S.left source.old ≡ Some input → IsTooLongAt input fault
-        → HasNoFault S.faults source.old source.new → StopsWith result fault }
-    ensures later { S.faults source.old ≤ S.faults source.new }
+// Appends the line of a term, and says whether it is a value.
+fn add_line(
+    settings: Settings,
+    plan: &Plan,
+    symbols: &Symbols,
+    term: &Flat,
+    rewriter: &mut Rewriter,
+    store: &mut PlainStore,
+    output: &mut Vec<u8>,
+) -> Result<bool, Stop>
+    requires rewriter { IsRewriterOf settings plan.now rewriter.old }
+    requires ready { IsReadyStore settings plan.now (store_of store.old) }
+    requires term { IsTermFor plan.now symbols.now term.now }
+    requires names { WriteNames symbols.now plan.now.rules }
+    ensures text { OnOk result (output.new.items ≡ output.old.items
+        ++ line (line_text settings.sizes symbols.now
+        (ended plan.now.rules term.now settings.fuel settings.depth))) }
+    ensures value { IfOk result (λ value. value
+        ≡ is_value settings.sizes (ended plan.now.rules term.now settings.fuel settings.depth)) }
+    ensures stopped { IfErr result (StopsTerm settings plan.now.rules term.now) }
+    ensures rewriter { rewriter.new ≡ rewriter.old }
+    ensures ready { IsReadyStore settings plan.now (store_of store.new) }
 {
-    match read_all(alloc, source, LENGTH_LIMIT) {
-        Ok(input) => Ok(input),
-        Err(ReadAllFault::ReadFault) => Err(Stop::ReadFault),
-        Err(ReadAllFault::TooLong) => Err(Stop::Refused(TOO_LONG)),
-        Err(ReadAllFault::Memory) => Err(Stop::Memory),
+    store.enter();
+    let made = rewriter.write_line(plan, symbols, term, store, output);
+    store.leave();
+    match made {
+        Ok(value) => match output.push(b'\n') {
+            Ok(()) => Ok(value),
+            Err(_) => Err(Stop::Memory),
+        },
+        Err(LineStop::StoreFull) => Err(Stop::StoreFull),
+        Err(LineStop::Memory) => Err(Stop::Memory),
+        Err(LineStop::Worn) => unreachable!(),
     }
 }
 
-// The line of an input's term. The gate is told of the work on it.
-fn term_line<G: Gate>(alloc: Global, input: &[u8], gate: &G) -> Result<Vec<u8>, Stop>
-    requires { length input.now ≤ length_limit }
-    ensures made { IfOk result (λ line. IsTermLine input.now line.items) }
-    ensures stopped { IfErr result (StopsMaking input.now) }
-    ensures accepted { (line : List ℕ) → IsTermLine input.now line → Answers result (λ made. made.items ≡ line) }
-    ensures refused { (fault : Fault) → IsNotFirstAt input.now fault → StopsWith result fault }
+// Appends the lines of terms in order, and says whether each is a value. The gate is told of the work
+// on each.
+fn add_lines<G: Gate>(
+    settings: Settings,
+    plan: &Plan,
+    symbols: &Symbols,
+    terms: &[Flat],
+    rewriter: &mut Rewriter,
+    store: &mut PlainStore,
+    output: &mut Vec<u8>,
+    gate: &G,
+) -> Result<bool, Stop>
+    requires rewriter { IsRewriterOf settings plan.now rewriter.old }
+    requires ready { IsReadyStore settings plan.now (store_of store.old) }
+    requires terms { All (IsTermFor plan.now symbols.now) terms.now }
+    requires names { WriteNames symbols.now plan.now.rules }
+    requires empty { output.old.items ≡ [] }
+    ensures lines { OnOk result (output.new.items
+        ≡ lines_of settings symbols.now plan.now.rules terms.now) }
+    ensures values { IfOk result (λ values. values ≡ all_values settings plan.now.rules terms.now) }
+    ensures stopped { IfErr result (StopsTerms settings plan.now.rules terms.now) }
 {
-    match first_form(alloc, input) {
-        Ok(first) => {
-            gate.before(0);
-            let line = line_of(alloc, &first);
-            gate.after(0);
-            match line {
-                Ok(line) => Ok(line),
-                Err(_) => Err(Stop::Memory),
-            }
-        }
-        Err(FirstFail::NotYet) => Err(Stop::Refused(NOT_FIRST)),
-        Err(FirstFail::Memory) => Err(Stop::Memory),
+    let mut values = true;
+    let mut number: u32 = 0;
+    for term in terms {
+        gate.before(number);
+        let made = add_line(settings, plan, symbols, term, rewriter, store, output);
+        gate.after(number);
+        let value = made?;
+        values = values && value;
+        number = number.saturating_add(1);
     }
+    Ok(values)
 }
 
-/// The output of the command for all that the source has left.
-pub fn answer_of<S: Source, G: Gate>(
+// Rewrites the terms of a specification on a store of their own.
+fn rewrite<G: Gate>(alloc: Global, settings: Settings, spec: Spec, gate: &G) -> Result<Answer, Stop>
+    requires may_be_run { MayBeRun (specified spec) }
+    requires named { IsNamed (specified spec) }
+    requires widest { spec.widest ≡ widest_of spec.symbols }
+    ensures made { IfOk result (λ answer. IsAnswer answer (output_of settings (specified spec))) }
+    ensures stopped { IfErr result (StopsTerms settings spec.rules.items spec.terms.items) }
+{
+    let plan = Plan::of(alloc, spec.rules, spec.widest)?;
+    let mut rewriter = rewriter_of(alloc, settings, &plan)?;
+    let mut store = PlainStore::new(alloc, settings.rows, settings.depth, spec.widest)?;
+    let mut output = Vec::new(alloc);
+    let values = add_lines(
+        settings,
+        &plan,
+        &spec.symbols,
+        &spec.terms,
+        &mut rewriter,
+        &mut store,
+        &mut output,
+        gate,
+    )?;
+    let workers = Workers::first_alone(alloc, spec.terms.len())?;
+    Ok(Answer {
+        output,
+        values,
+        workers,
+    })
+}
+
+/// Reads a specification, and answers the lines of its terms.
+pub fn rewritten<G: Gate>(
     alloc: Global,
     settings: Settings,
-    source: &mut S,
+    input: &[u8],
     gate: &G,
 ) -> Result<Answer, Stop>
-    ensures made { IfOk result (λ answer.
-        GaveOutput settings S.left source.old source.new answer.output.items) }
-    ensures stopped { IfErr result (StopsAnswering settings S.left S.faults source.old source.new) }
-    ensures unfailed { IsErrOf result Stop.ReadFault ⊎ (S.faults source.new ≡ S.faults source.old) }
-    ensures accepted { (input output : List ℕ)
-        → S.left source.old ≡ Some input → IsOutput settings input output
-        → HasNoFault S.faults source.old source.new → Answers result (λ answer. answer.output.items ≡ output) }
-    ensures refused { (input : List ℕ) (fault : Fault)
-        → S.left source.old ≡ Some input → IsFault settings input fault
-        → HasNoFault S.faults source.old source.new → StopsWith result fault }
-    ensures workers { IfOk result (λ answer. answer.workers ≡ 0 ∷ []) }
-    ensures later { S.faults source.old ≤ S.faults source.new }
+    ensures made { IfOk result (λ answer. (output : Output)
+        × IsRewritten settings input.now output × IsAnswer answer output) }
+    ensures stopped { IfErr result (StopsRewriting settings input.now) }
+    ensures accepted { (output : Output) → IsRewritten settings input.now output → RowsSuffice settings input.now
+        → Answers result (λ answer. IsAnswer answer output) }
+    ensures refused { (fault : Fault) → IsSpecificationFault input.now fault → StopsWith result fault }
 {
-    let input = input_of(alloc, source)?;
-    let output = match settings.command {
-        Command::Rewrite => term_line(alloc, &input, gate)?,
-    };
-    match Workers::first_alone(alloc) {
-        Ok(workers) => Ok(Answer { output, workers }),
-        Err(_) => Err(Stop::Memory),
-    }
+    let spec = specification_of(alloc, input)?;
+    rewrite(alloc, settings, spec, gate)
 }

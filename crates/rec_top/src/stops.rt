@@ -1,12 +1,14 @@
 // Why a run stops without its output, and the line that `err` gets then.
 ghost use Rattle.std.specs.Prelude.{◌≡◌, ◌≤◌, []};
 ghost use Rattle.rec_top.specs.Lines.{fault_line, stop_line, stop_status, status_line, TookLine};
+ghost use Rattle.rec_top.specs.declared.stops.Stop.TheVariants as stop;
 
 use crate::results::{Chronicle, Outcome, Workers};
 use arrayvec::ArrayString;
 use ends::{Sink, write_all};
+use faults::Memory;
 use itoa::Buffer;
-use std::alloc::Global;
+use std::alloc::{AllocError, Global};
 
 // `fault `, a kind of 3 digits, ` at `, an offset of 20, and the end of the line fit.
 const LONGEST_LINE: usize = 34;
@@ -25,12 +27,30 @@ pub enum Stop {
     Usage,
     /// The input is refused.
     Refused(Fault),
+    /// The rows are too few.
+    StoreFull,
     /// A read failed.
     ReadFault,
     /// A write failed.
     WriteFault,
     /// There is no memory.
     Memory,
+}
+
+impl From<AllocError> for Stop {
+    ghost from_gives = { λ _ e. e ≡ stop.Memory };
+
+    fn from(_: AllocError) -> Self {
+        Stop::Memory
+    }
+}
+
+impl From<Memory> for Stop {
+    ghost from_gives = { λ _ e. e ≡ stop.Memory };
+
+    fn from(_: Memory) -> Self {
+        Stop::Memory
+    }
 }
 
 // The line of the fault. It takes no memory.
@@ -61,6 +81,7 @@ fn write_stop_line<E: Sink>(err: &mut E, stop: Stop)
     match stop {
         Stop::Usage => write_line(err, b"usage: rec COMMAND [OPTIONS]\n"),
         Stop::Refused(fault) => write_line(err, fault_line(fault).as_str().as_bytes()),
+        Stop::StoreFull => write_line(err, b"store full\n"),
         Stop::ReadFault => write_line(err, b"read fault\n"),
         Stop::WriteFault => write_line(err, b"write fault\n"),
         Stop::Memory => write_line(err, b"out of memory\n"),
@@ -78,6 +99,7 @@ pub fn stopped<E: Sink>(err: &mut E, stop: Stop, workers: Workers) -> Outcome
     let status = match stop {
         Stop::Usage => 2,
         Stop::Refused(_) => 3,
+        Stop::StoreFull => 4,
         Stop::ReadFault => 5,
         Stop::WriteFault => 6,
         Stop::Memory => 7,

@@ -2,3 +2,4 @@ pub mod Numbers
 pub mod Signs
 pub mod FirstWord
 pub mod Once
+pub mod Ranges

@@ -3,7 +3,7 @@
 -- The words are the program's name, a command, and options of that command in any order. An option is `--name value` or
 -- `--name=value`, and stands at most once; `--sizes` has no value. A number is an optional `+` and one or more digits,
 -- within the option's range. Nothing else is accepted.
-use Rattle.std.specs.Prelude.{ℕ, ◌==◌, ◌&&◌, Bool, true, false, not, List, [], ◌∷◌, length, map, codes, find, Option, Some, None, option_and_then, option_map, if◌then◌else◌, nat_lt, nat_le, String}
+use Rattle.std.specs.Prelude.{◌≡◌, ℕ, ◌==◌, ◌&&◌, Bool, true, false, not, List, [], ◌∷◌, length, map, codes, find, Option, Some, None, option_and_then, option_map, if◌then◌else◌, nat_lt, nat_le, String}
 use Rattle.std.specs.Global.{Global}
 use Rattle.std.specs.String.{string_bytes}
 use Rattle.std.specs.List.{list_any, before_first, after_first}
@@ -164,3 +164,10 @@ abbrev pub settings_of : List Text → Option Settings
 settings_of [] = None
 settings_of (program ∷ []) = None
 settings_of (program ∷ command ∷ rest) = option_and_then (λ c. settings_after c rest) (command_named command)
+
+-- the numbers of settings are in the ranges of their options
+pub record AreInRange (s : Settings) : Type 0 where
+  pub fuel : is_in_range Fuel s.fuel ≡ true
+  pub rows : is_in_range Rows s.rows ≡ true
+  pub depth : is_in_range Depth s.depth ≡ true
+  pub seats : is_in_range Seats s.seats ≡ true

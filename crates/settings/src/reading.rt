@@ -1,9 +1,9 @@
 // The words of a command line, read one option after another.
-ghost use Rattle.std.specs.Prelude.{◌≡◌, ◌≤◌, ◌∷◌, Some, None, MatchOption};
+ghost use Rattle.std.specs.Prelude.{◌≡◌, ◌≤◌, ◌∷◌, Some, None, IfOk, MatchOption};
 ghost use Rattle.std.specs.Option.{option_copied, ok_or};
 ghost use Rattle.std.specs.String.{string_bytes};
 ghost use Rattle.settings.specs.declared.parts.Command.{Command};
-ghost use Rattle.settings.specs.Words.{texts, given_options, settings_after, settings_of, before_equals_sign, after_equals_sign};
+ghost use Rattle.settings.specs.Words.{texts, given_options, settings_after, settings_of, AreInRange, before_equals_sign, after_equals_sign};
 ghost use Rattle.settings.specs.Reading.{IsRead, given_from};
 
 use crate::given::Given;
@@ -88,7 +88,8 @@ fn read_words(words: &[String]) -> Option<Settings>
 /// optional `+` and one or more digits, within the option's range. All other words are `Usage`, among them `--`,
 /// `--help` and the beginning of a name. Nothing is allocated, so that `Memory` is never the answer.
 pub fn settings(words: &[String]) -> Result<Settings, WordsFault>
-    ensures { result ≡ ok_or (settings_of (texts words.now)) WordsFault.Usage }
+    ensures settings { result ≡ ok_or (settings_of (texts words.now)) WordsFault.Usage }
+    ensures in_range { IfOk result AreInRange }
 {
     read_words(words).ok_or(WordsFault::Usage)
 }

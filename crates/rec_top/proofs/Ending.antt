@@ -1,0 +1,58 @@
+-- What the end of a run says of why it stopped.
+use Rattle.std.proofs.Common.{◌≡◌, ◌⊎◌, inl, inr, ℕ, ◌≤◌, List, [], Option, Some, None, Bool, true, false, refl, sym, ap, subst, ◌∙◌, arith}
+use Rattle.std.specs.Prelude.{nat_le, ◌&&◌, if◌then◌else◌, replicate, Result, Ok, Err}
+use Rattle.std.specs.Option.{ok_or}
+use Rattle.settings.specs.Words.{AreInRange, settings_of, is_in_range}
+use Rattle.settings.specs.declared.options.OptionName.TheVariants.{Seats}
+use Rattle.settings.specs.declared.parts.Settings.{Settings}
+use Rattle.settings.specs.declared.parts.WordsFault.{WordsFault}
+use Rattle.rec_top.specs.declared.stops.Fault.{Fault}
+use Rattle.std.proofs.KnownBytes.{Appends-nil}
+use Rattle.rec_top.specs.Written.{status_for}
+use Rattle.rec_top.specs.Lines.{stop_status, stop_line, status_line, fault_line, TookLine}
+use Rattle.std.proofs.lemmas.Option.{same_Some}
+use Rattle.rec_top.specs.Output.{IsFault}
+use Rattle.rec_top.specs.Run.{HasFault, GaveFault}
+use Rattle.rec_top.specs.Answered.{StopsAnswering, StopsWith}
+use Rattle.rec_top.specs.declared.stops.Stop.{Stop}
+use Rattle.rec_top.specs.declared.stops.Stop.TheVariants.{Usage, Refused, StoreFull, ReadFault, WriteFault, Memory}
+
+-- the settings that words were read as
+pub given_settings : (o : Option Settings) (fault : WordsFault) (s : Settings) → ok_or o fault ≡ Ok s → o ≡ Some s
+given_settings None fault s e = cc
+given_settings (Some t) fault s e = cc
+
+pub has_seats : (s : Settings) → AreInRange s → (1 ≤ s.seats) × (s.seats ≤ 16)
+has_seats s r = let h = r.seats in grind (arith, h)
+
+-- a run that stops with status 3 has a fault
+pub refused : {S E : Type 0} (words : List (List ℕ)) (s : Settings) (left : S → Option (List ℕ)) (faults : S → ℕ) (old new : S) (taken : E → Option (List ℕ)) (count : E → ℕ) (before after : E) (stop : Stop) → settings_of words ≡ Some s → StopsAnswering s left faults old new stop → TookLine taken count before after (stop_line stop) → stop_status stop ≡ 3 → (fault : Fault) × HasFault words left old new fault × TookLine taken count before after (fault_line fault)
+refused words s left faults old new taken count before after Usage e why line is = cc
+refused words s left faults old new taken count before after (Refused fault) e why line is = (fault, (s, e, why), line)
+refused words s left faults old new taken count before after StoreFull e why line is = cc
+refused words s left faults old new taken count before after ReadFault e why line is = cc
+refused words s left faults old new taken count before after WriteFault e why line is = cc
+refused words s left faults old new taken count before after Memory e why line is = cc
+
+-- one that stops with a fault, memory aside, has status 3 and the line of the fault
+pub stops_with : {A E : Type 0} (taken : E → Option (List ℕ)) (count : E → ℕ) (before after : E) (r : Result A Stop) (stop : Stop) (fault : Fault) (status : ℕ) → r ≡ Err stop → StopsWith r fault → status ≡ stop_status stop → TookLine taken count before after (stop_line stop) → ((status ≡ 3) × TookLine taken count before after (fault_line fault)) ⊎ (status ≡ 7)
+stops_with taken count before after (Ok a) stop fault status is h ends line = absurd h
+stops_with taken count before after (Err other) stop fault status is h ends line =
+    elim h [
+      | inl e ↦ (let same : stop ≡ Refused fault = cc in inl (ends ∙ ap stop_status same, subst (λ s. TookLine taken count before after (stop_line s)) same line))
+      | inr e ↦ (let same : stop ≡ Memory = cc in inr (ends ∙ ap stop_status same))
+    ]
+
+-- an input has its fault under the settings that were read
+pub fault_under : (words : List (List ℕ)) (s t : Settings) (input : List ℕ) (fault : Fault) → settings_of words ≡ Some s → settings_of words ≡ Some t → IsFault t input fault → IsFault s input fault
+fault_under words s t input fault e f h = subst (λ u. IsFault u input fault) (same_Some t s (sym f ∙ e)) h
+
+-- where the whole output was written nothing is to be told
+line_for : (values : Bool) → status_line (status_for values) ≡ []
+line_for true = refl
+line_for false = refl
+
+pub told_nothing : {E : Type 0} (taken : E → Option (List ℕ)) (count : E → ℕ) (err : E) (status : ℕ) (values : Bool) → status ≡ status_for values → TookLine taken count err err (status_line status)
+told_nothing taken count err status values is =
+    let none : TookLine taken count err err [] = record { front = (0, omega arith, Appends-nil (taken err)); whole = inr (Appends-nil (taken err)) } in
+    subst (λ line. TookLine taken count err err line) (sym (ap status_line is ∙ line_for values)) none

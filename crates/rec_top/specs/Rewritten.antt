@@ -1,0 +1,85 @@
+-- Rewriting the terms of a specification: what is written, how many rows it needs, and what is wrong with an input.
+use Rattle.std.specs.Prelude.{◌≡◌, ◌⊎◌, ℕ, ◌≤◌, ◌<◌, List, [], ◌++◌, length, Bool, Option, Some, None, Ok, Err, All}
+use Rattle.rec_reader.specs.declared.token.Token.{Token}
+use Rattle.rec_reader.specs.Parsed.{Parsed}
+use Rattle.rec_reader.specs.declared.fail.ReadFail.TheVariants.{Refused}
+use Rattle.rec_reader.specs.declared.fail.TheConstants.{BAD_BYTE}
+use Rattle.rec_reader.specs.Tokens.{tokens_of}
+use Rattle.rec_reader.specs.Grammar.{IsInput}
+use Rattle.rec_reader.specs.Refusal.{IsRefusal}
+use Rattle.rec_offences.specs.Faults.{fault_of}
+use Rattle.rec_top.specs.declared.stops.Fault.{Fault}
+use Rattle.rec_check.specs.Spelled.{Specified}
+use Rattle.rec_check.specs.Run.{spelled_in}
+use Rattle.rewrite_model.specs.Built.{distinct_built, need_of_all}
+use Rattle.settings.specs.declared.parts.Settings.{Settings}
+use Rattle.rec_top.specs.Sequence.{WriteNames, lines_of, all_values}
+use Rattle.term_text.specs.Text.{HasNames}
+use Rattle.rec_top.specs.Written.{Output}
+
+-- the tokens of the input are a sentence, of which this is the syntax
+pub record IsRead (input : List ℕ) (syntax : Parsed) : Type 0 where
+  pub bytes : syntax.bytes ≡ input
+  pub tokens : List Token
+  pub cut : tokens_of input ≡ Ok tokens
+  pub sentence : IsInput tokens syntax.specifications
+
+-- the input spells this specification, and there is no offence in it
+pub record Spells (input : List ℕ) (spec : Specified) : Type 0 where
+  pub syntax : Parsed
+  pub read : IsRead input syntax
+  pub faultless : fault_of syntax ≡ None
+  pub spec_is : spelled_in syntax ≡ Some spec
+
+-- all symbols of the terms, and those that the rules write, are among its symbols
+pub record IsNamed (spec : Specified) : Type 0 where
+  pub rules : WriteNames spec.symbols spec.rules
+  pub terms : All (HasNames spec.symbols) spec.terms
+
+-- the lines of the terms in order
+abbrev pub output_of : Settings → Specified → Output
+output_of s spec = record {
+  bytes = lines_of s spec.symbols spec.rules spec.terms;
+  values = all_values s spec.rules spec.terms;
+  terms = length spec.terms;
+}
+
+-- the input spells a specification, and this is what comes of its terms
+pub record IsRewritten (s : Settings) (input : List ℕ) (output : Output) : Type 0 where
+  pub spec : Specified
+  pub spelled : Spells input spec
+  pub output_is : output ≡ output_of s spec
+
+-- a byte where nothing begins
+pub record IsByteFault (input : List ℕ) (fault : Fault) : Type 0 where
+  pub kind : fault.kind ≡ BAD_BYTE
+  pub offset : tokens_of input ≡ Err fault.offset
+
+-- tokens that are no sentence
+pub record IsTokenFault (input : List ℕ) (fault : Fault) : Type 0 where
+  pub tokens : List Token
+  pub cut : tokens_of input ≡ Ok tokens
+  pub refusal : IsRefusal (record { bytes = input; tokens = tokens }) (Refused fault.kind fault.offset)
+
+-- a sentence with an offence, of which this is the first
+pub record IsOffenceFault (input : List ℕ) (fault : Fault) : Type 0 where
+  pub syntax : Parsed
+  pub read : IsRead input syntax
+  pub first : fault_of syntax ≡ Some (record { kind = fault.kind; offset = fault.offset })
+
+-- the input spells no specification, or one with an offence, and this is its fault
+abbrev pub IsSpecificationFault : List ℕ → Fault → Type 0
+IsSpecificationFault input fault = IsByteFault input fault ⊎ IsTokenFault input fault ⊎ IsOffenceFault input fault
+
+-- Both the different trees that the terms build, and the most that they have in hand at once, are more than the rows.
+pub record RowsAreFew (s : Settings) (input : List ℕ) : Type 0 where
+  pub spec : Specified
+  pub spelled : Spells input spec
+  pub built : s.rows < distinct_built spec.rules spec.terms s.fuel s.depth
+  pub need : s.rows < need_of_all spec.rules spec.terms s.fuel s.depth
+
+-- the different trees that the terms build, or the most that they have in hand at once, aren't more than the rows
+abbrev pub RowsSuffice : Settings → List ℕ → Type 0
+RowsSuffice s input = (spec : Specified) → Spells input spec →
+    (distinct_built spec.rules spec.terms s.fuel s.depth ≤ s.rows)
+    ⊎ (need_of_all spec.rules spec.terms s.fuel s.depth ≤ s.rows)

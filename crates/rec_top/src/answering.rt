@@ -1,0 +1,91 @@
+// From a source to the output of a command.
+ghost use Rattle.std.specs.Prelude.{◌≡◌, ◌≤◌, ◌⊎◌, ℕ, List, Some, IfOk, IfErr, IsErrOf, length, vec_len};
+ghost use Rattle.ends.specs.Bytes.{GaveAll};
+ghost use Rattle.rec_top.specs.Written.{Output};
+ghost use Rattle.rec_top.specs.Output.{IsOutput, IsFault, IsFaultWithin, IsTooLongAt, HasRows, length_limit};
+ghost use Rattle.rec_top.specs.Run.{GaveOutput, HasNoFault};
+ghost use Rattle.rec_top.specs.Answered.{IsAnswer, StopsReading, StopsMaking, StopsAnswering, Answers, StopsWith};
+ghost use Rattle.rec_top.specs.declared.stops.Fault.{Fault};
+
+use crate::answers::Answer;
+use crate::rewriting::rewritten;
+use crate::scheduling::scheduled;
+use crate::stops::{Fault, Stop};
+use ends::{Gate, ReadAllFault, Source, read_all};
+use settings::{Command, Settings};
+use std::alloc::Global;
+
+// How many bytes an input may have.
+const LENGTH_LIMIT: u64 = 16_777_216;
+
+const TOO_LONG: Fault = Fault {
+    kind: 14,
+    offset: LENGTH_LIMIT,
+};
+
+// All bytes that the source has left.
+fn input_of<S: Source>(alloc: Global, source: &mut S) -> Result<Vec<u8>, Stop>
+    ensures whole { IfOk result (λ input. GaveAll (S.left source.old) (S.left source.new) input.items) }
+    ensures within { IfOk result (λ input. vec_len input ≤ length_limit) }
+    ensures stopped { IfErr result (StopsReading S.left S.faults source.old source.new) }
+    ensures unfailed { IsErrOf result Stop.ReadFault ⊎ (S.faults source.new ≡ S.faults source.old) }
+    ensures read { (input : List ℕ) → S.left source.old ≡ Some input → length input ≤ length_limit
+        → HasNoFault S.faults source.old source.new → Answers result (λ all. all.items ≡ input) }
+    ensures refused { (input : List ℕ) (fault : Fault)
+        → S.left source.old ≡ Some input → IsTooLongAt input fault
+        → HasNoFault S.faults source.old source.new → StopsWith result fault }
+    ensures later { S.faults source.old ≤ S.faults source.new }
+{
+    match read_all(alloc, source, LENGTH_LIMIT) {
+        Ok(input) => Ok(input),
+        Err(ReadAllFault::ReadFault) => Err(Stop::ReadFault),
+        Err(ReadAllFault::TooLong) => Err(Stop::Refused(TOO_LONG)),
+        Err(ReadAllFault::Memory) => Err(Stop::Memory),
+    }
+}
+
+// The output of the command for an input.
+fn output_for<G: Gate>(
+    alloc: Global,
+    settings: Settings,
+    input: &[u8],
+    gate: &G,
+) -> Result<Answer, Stop>
+    requires limit { length input.now ≤ length_limit }
+    requires seats { (1 ≤ settings.seats) × (settings.seats ≤ 16) }
+    ensures made { IfOk result (λ answer. (output : Output)
+        × IsOutput settings input.now output × IsAnswer answer output) }
+    ensures stopped { IfErr result (StopsMaking settings input.now) }
+    ensures accepted { (output : Output) → IsOutput settings input.now output → HasRows settings input.now
+        → Answers result (λ answer. IsAnswer answer output) }
+    ensures refused { (fault : Fault) → IsFaultWithin settings input.now fault → StopsWith result fault }
+{
+    match settings.command {
+        Command::Rewrite => rewritten(alloc, settings, input, gate),
+        Command::Schedule => scheduled(alloc, settings.seats, input),
+    }
+}
+
+/// The output of the command for all that the source has left.
+pub fn answer_of<S: Source, G: Gate>(
+    alloc: Global,
+    settings: Settings,
+    source: &mut S,
+    gate: &G,
+) -> Result<Answer, Stop>
+    requires seats { (1 ≤ settings.seats) × (settings.seats ≤ 16) }
+    ensures made { IfOk result (λ answer. (output : Output)
+        × GaveOutput settings S.left source.old source.new output × IsAnswer answer output) }
+    ensures stopped { IfErr result (StopsAnswering settings S.left S.faults source.old source.new) }
+    ensures unfailed { IsErrOf result Stop.ReadFault ⊎ (S.faults source.new ≡ S.faults source.old) }
+    ensures accepted { (input : List ℕ) (output : Output)
+        → S.left source.old ≡ Some input → IsOutput settings input output → HasRows settings input
+        → HasNoFault S.faults source.old source.new → Answers result (λ answer. IsAnswer answer output) }
+    ensures refused { (input : List ℕ) (fault : Fault)
+        → S.left source.old ≡ Some input → IsFault settings input fault
+        → HasNoFault S.faults source.old source.new → StopsWith result fault }
+    ensures later { S.faults source.old ≤ S.faults source.new }
+{
+    let input = input_of(alloc, source)?;
+    output_for(alloc, settings, &input, gate)
+}

@@ -1,0 +1,41 @@
+// The command `schedule`: from the lines of a schedule to the lock that it comes to.
+ghost use Rattle.std.specs.Prelude.{◌≡◌, ◌≤◌, [], List, IfOk, IfErr, length};
+ghost use Rattle.settings.specs.declared.parts.Settings.{Settings};
+ghost use Rattle.rec_top.specs.Written.{Output};
+ghost use Rattle.rec_top.specs.Output.{IsScheduled, IsScheduleFault};
+ghost use Rattle.rec_top.specs.Answered.{IsAnswer, Answers, StopsWith, StopsScheduling};
+ghost use Rattle.rec_top.specs.declared.stops.Fault.{Fault};
+
+use crate::answers::Answer;
+use crate::results::Workers;
+use crate::stops::{Fault, Stop};
+use lock_core::{schedule, write_state};
+use std::alloc::Global;
+
+/// Runs a schedule, and answers the lines of the lock that it comes to.
+pub fn scheduled(alloc: Global, seats: u32, input: &[u8]) -> Result<Answer, Stop>
+    requires { (1 ≤ seats) × (seats ≤ 16) }
+    ensures made { IfOk result (λ answer. (output : Output) × IsScheduled seats input.now output × IsAnswer answer output) }
+    ensures stopped { IfErr result (StopsScheduling seats input.now) }
+    ensures accepted { (output : Output) → IsScheduled seats input.now output → Answers result (λ answer. IsAnswer answer output) }
+    ensures refused { (fault : Fault) → IsScheduleFault seats input.now fault → StopsWith result fault }
+{
+    let state = match schedule(input, seats) {
+        Ok(state) => state,
+        Err(at) => {
+            return Err(Stop::Refused(Fault {
+                kind: at.kind,
+                offset: at.line,
+            }));
+        }
+    };
+    let mut output = Vec::new(alloc);
+    match write_state(&state, &mut output) {
+        Ok(()) => Ok(Answer {
+            output,
+            values: true,
+            workers: Workers::none(alloc),
+        }),
+        Err(_) => Err(Stop::Memory),
+    }
+}

@@ -1,0 +1,12 @@
+//! The lines of terms: each term is rewritten on a store of terms, and the text or the sizes of its
+//! value are written, or why it has none.
+#![tactic(auto)]
+
+mod laws;
+mod rewriter;
+mod stop;
+mod value;
+
+pub use laws::name_laws;
+pub use rewriter::Rewriter;
+pub use stop::LineStop;

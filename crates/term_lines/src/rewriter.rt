@@ -1,0 +1,106 @@
+// From a term to its line.
+ghost use Rattle.std.specs.Prelude.{◌≡◌, ◌++◌, ◌≤◌, [], All, IfOk, IfErr, OnOk, true};
+ghost use Rattle.term_model.specs.Tree.{IsGround};
+ghost use Rattle.rule_match.specs.Planned.{IsPlain};
+ghost use Rattle.innermost.specs.Machines.{IsFor};
+ghost use Rattle.innermost.specs.Normalized.{KeepsNumbers};
+ghost use Rattle.term_text.specs.Text.{HasNames};
+ghost use Rattle.term_lines.specs.Laws.{WritesNames};
+ghost use Rattle.terms_api.specs.Terms.{kept};
+ghost use Rattle.term_lines.specs.Line.{line_text, value_text, is_written, is_value};
+ghost use Rattle.term_lines.specs.Written.{ended, points_of, top_tree, HasValueAlone, StopsLine};
+
+use crate::LineStop;
+use crate::value::write_value;
+use faults::Memory;
+use innermost::{Machine, Normal, RunFault};
+use rule_match::Plan;
+use symbol_pool::Symbols;
+use term_model::Flat;
+use term_text::SizeMarks;
+use terms_api::Terms;
+
+/// What rewriting terms to lines needs beside a store: a machine, room for counting, and what is asked.
+#[derive(Drop)]
+pub struct Rewriter {
+    pub machine: Machine,
+    pub marks: SizeMarks,
+    /// The fuel of each term.
+    pub fuel: u64,
+    /// Whether a value's sizes are written in place of its text.
+    pub sizes: bool,
+}
+
+impl Rewriter {
+    // Appends the line of the value on top of an otherwise empty stack.
+    fn write_top<T: Terms>(
+        &mut self,
+        symbols: &Symbols,
+        terms: &mut T,
+        out: &mut Vec<u8>,
+    ) -> Result<bool, Memory>
+        requires inside { (T.store terms.old).inside ≡ true }
+        requires room { (T.store terms.old).rows ≤ self.old.marks }
+        requires value { HasValueAlone (T.store terms.old) symbols.now }
+        ensures text { OnOk result (out.new.items
+            ≡ out.old.items ++ value_text self.old.sizes symbols.now (top_tree (T.store terms.old))) }
+        ensures value { IfOk result (λ value. value ≡ is_written self.old.sizes (top_tree (T.store terms.old))) }
+        ensures emptied { T.store terms.new ≡ kept (T.store terms.old) 0 0 }
+        ensures rewriter { self.new ≡ self.old }
+        ensures same { T.same terms.old terms.new }
+    {
+        let row = terms.at(0);
+        let written = write_value(terms, symbols, row, self.sizes, &mut self.marks, out);
+        terms.keep(0, 0);
+        written
+    }
+
+    /// Rewrites a term on a store and appends the line of its end to `out`, without the end of the line:
+    /// the text of the value or its sizes, `too large`, `out of fuel` or `too deep`. Says whether the line
+    /// is a value. The stack, which must be empty, is empty again.
+    pub fn write_line<T: Terms>(
+        &mut self,
+        plan: &Plan,
+        symbols: &Symbols,
+        term: &Flat,
+        terms: &mut T,
+        out: &mut Vec<u8>,
+    ) -> Result<bool, LineStop>
+        requires inside { (T.store terms.old).inside ≡ true }
+        requires empty { (T.store terms.old).stack ≡ [] }
+        requires machine { IsFor plan.now self.old.machine }
+        requires no_variables { IsGround term.now }
+        requires plain { IsPlain plan.now.widest term.now }
+        requires width { plan.now.widest ≤ (T.store terms.old).widest }
+        requires free { self.old.machine.depth ≤ (T.store terms.old).room }
+        requires marks { (T.store terms.old).rows ≤ self.old.marks }
+        requires named { HasNames symbols.now term.now }
+        requires names { All (WritesNames symbols.now) plan.now.rules }
+        ensures text { OnOk result (out.new.items ≡ out.old.items
+            ++ line_text self.old.sizes symbols.now
+            (ended plan.now.rules term.now self.old.fuel self.old.machine.depth)) }
+        ensures value { IfOk result (λ value. value
+            ≡ is_value self.old.sizes (ended plan.now.rules term.now self.old.fuel self.old.machine.depth)) }
+        ensures stopped { IfErr result (StopsLine
+            (points_of plan.now.rules term.now self.old.fuel self.old.machine.depth)
+            (T.store terms.old) (T.store terms.new)) }
+        ensures empty { (T.store terms.new).stack ≡ [] }
+        ensures numbers { KeepsNumbers (T.store terms.old) (T.store terms.new) }
+        ensures rewriter { self.new ≡ self.old }
+        ensures same { T.same terms.old terms.new }
+    {
+        match self.machine.normalize(plan, term, self.fuel, terms) {
+            Ok(Normal::Value { .. }) => Ok(self.write_top(symbols, terms, out)?),
+            Ok(Normal::OutOfFuel) => {
+                out.extend_from_slice(b"out of fuel")?;
+                Ok(false)
+            }
+            Ok(Normal::TooDeep) => {
+                out.extend_from_slice(b"too deep")?;
+                Ok(false)
+            }
+            Err(RunFault::StoreFull) => Err(LineStop::StoreFull),
+            Err(RunFault::Worn) => Err(LineStop::Worn),
+        }
+    }
+}
