@@ -1,7 +1,7 @@
 -- Each sentence is read to its end, as what it spells.
-use Rattle.std.proofs.Common.{◌≡◌, ◌∙◌, ℕ, List, [], ◌∷◌, ◌++◌, refl, ap, sym, append_assoc, append-nil, Option, Some, None}
+use Rattle.std.proofs.Common.{◌≡◌, ◌∙◌, ℕ, List, [], ◌∷◌, ◌++◌, refl, ap, sym, append_assoc, append-nil, Some}
 use Rattle.rec_reader.specs.declared.token.Token.{Token}
-use Rattle.rec_reader.specs.declared.token.Token.TheVariants.{Named, At}
+use Rattle.rec_reader.specs.declared.token.Token.TheVariants.{At}
 use Rattle.rec_reader.specs.declared.token.Sign.TheVariants.{RecSpec}
 use Rattle.rec_reader.specs.declared.syntax_tree.Specification.{Specification}
 use Rattle.rec_reader.specs.declared.machine.Place.TheVariants.{Between, Heading, AfterHeading}

@@ -3,18 +3,18 @@ use Rattle.std.proofs.Common.{◌≡◌, ℕ, List, [], ◌∷◌, ◌++◌, ref
 use Rattle.std.specs.Prelude.{option_and_then}
 use Rattle.rec_reader.specs.declared.token.Token.{Token}
 use Rattle.rec_reader.specs.declared.token.Token.TheVariants.{Named, At}
-use Rattle.rec_reader.specs.declared.token.Sign.TheVariants.{RecSpec, Sorts, Cons, Opns, Vars, Rules, Eval, EndSpec, If, AndIf, Joins, Parts, Arrow, Colon, Comma, Open, Close, Equal, Unequal}
+use Rattle.rec_reader.specs.declared.token.Sign.TheVariants.{Sorts, Cons, Opns, Vars, Rules, Eval, If, AndIf, Colon, Comma, Open}
 use Rattle.rec_reader.specs.declared.syntax_tree.Node.{Node}
 use Rattle.rec_reader.specs.declared.syntax_tree.Specification.{Specification}
 use Rattle.rec_reader.specs.declared.machine.Group.{Group}
 use Rattle.rec_reader.specs.declared.machine.Group.TheVariants.{Constructors, Operations}
-use Rattle.rec_reader.specs.declared.machine.NameList.TheVariants.{IncludeNames, SortNames, DeclaredNames, ArgumentSorts, VariableNames}
+use Rattle.rec_reader.specs.declared.machine.NameList.TheVariants.{IncludeNames, SortNames, DeclaredNames, VariableNames}
 use Rattle.rec_reader.specs.declared.machine.Purpose.{Purpose}
 use Rattle.rec_reader.specs.declared.machine.Purpose.TheVariants.{Left, Right, First, Second, Value}
-use Rattle.rec_reader.specs.declared.machine.Part.TheVariants.{Expected, Headed, Whole}
-use Rattle.rec_reader.specs.declared.machine.Place.TheVariants.{Start, Between, Heading, AfterHeading, BeforeNames, AfterName, AfterComma, DeclarationSort, VariableSort, BeforeRule, BeforeTerms, Within}
+use Rattle.rec_reader.specs.declared.machine.Part.TheVariants.{Headed, Whole}
+use Rattle.rec_reader.specs.declared.machine.Place.TheVariants.{AfterHeading, BeforeNames, AfterName, BeforeRule, BeforeTerms, Within}
 use Rattle.rec_reader.specs.declared.machine.Machine.{Machine}
-use Rattle.rec_reader.specs.Steps.{on_end, after_rules, after_variables, after_operations, after_constructors, after_declarations, after_sorts, after_header, after_heading, before_rule, after_whole_under}
+use Rattle.rec_reader.specs.Steps.{on_end, after_rules, after_variables, after_operations, after_constructors, after_declarations, after_sorts, after_header, after_heading, after_whole_under}
 use Rattle.rec_reader.specs.Syntax.{blank_rule}
 use Rattle.rec_reader.proofs.Outcome.{outcome, by_step}
 

@@ -1,10 +1,3 @@
-pub mod FirstWords
-pub mod FirstLoops
-pub mod FirstNames
-pub mod FirstDeclarations
-pub mod FirstHeads
-pub mod FirstTerm
-pub mod FirstLaws
 pub mod Reading
 pub mod Pieces
 pub mod Runs

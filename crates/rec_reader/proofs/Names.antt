@@ -1,9 +1,8 @@
 -- Lists of names are read to their end.
-use Rattle.std.proofs.Common.{◌≡◌, ◌∙◌, ℕ, List, [], ◌∷◌, ◌++◌, refl, ap, sym, subst, append_assoc, append-nil, Option, Some, None}
+use Rattle.std.proofs.Common.{◌≡◌, ◌∙◌, List, [], ◌∷◌, refl, ap, append_assoc, Some}
 use Rattle.rec_reader.specs.declared.token.Name.{Name}
 use Rattle.rec_reader.specs.declared.token.Token.{Token}
-use Rattle.rec_reader.specs.declared.token.Token.TheVariants.{Named, At}
-use Rattle.rec_reader.specs.declared.token.Sign.TheVariants.{Comma}
+use Rattle.rec_reader.specs.declared.token.Token.TheVariants.{Named}
 use Rattle.rec_reader.specs.declared.syntax_tree.Specification.{Specification}
 use Rattle.rec_reader.specs.declared.machine.NameList.{NameList}
 use Rattle.rec_reader.specs.declared.machine.NameList.TheVariants.{IncludeNames, SortNames, DeclaredNames, ArgumentSorts, VariableNames}

@@ -1,31 +1,19 @@
 -- A step in names leads from what must still come to what must still come after it.
-use Rattle.std.proofs.Common.{◌≡◌, ◌∙◌, ℕ, ◌+◌, List, [], ◌∷◌, ◌++◌, refl, ap, sym, subst, append_assoc, append-nil, Option, Some, None}
-use Rattle.std.specs.Prelude.{IfSome}
+use Rattle.std.proofs.Common.{ℕ, List, [], ◌∷◌, sym, subst, append_assoc, append-nil}
 use Rattle.rec_reader.specs.declared.token.Name.{Name}
 use Rattle.rec_reader.specs.declared.token.Token.{Token}
 use Rattle.rec_reader.specs.declared.token.Token.TheVariants.{Named, At}
-use Rattle.rec_reader.specs.declared.token.Sign.TheVariants.{RecSpec, Sorts, Cons, Opns, Vars, Rules, Eval, EndSpec, If, AndIf, Joins, Parts, Arrow, Colon, Comma, Open, Close, Equal, Unequal}
-use Rattle.rec_reader.specs.declared.syntax_tree.Node.{Node}
-use Rattle.rec_reader.specs.declared.syntax_tree.Declaration.{Declaration}
-use Rattle.rec_reader.specs.declared.syntax_tree.Variables.{Variables}
-use Rattle.rec_reader.specs.declared.syntax_tree.Condition.{Condition}
-use Rattle.rec_reader.specs.declared.syntax_tree.Rule.{Rule}
+use Rattle.rec_reader.specs.declared.token.Sign.TheVariants.{Arrow, Colon, Comma}
 use Rattle.rec_reader.specs.declared.syntax_tree.Specification.{Specification}
 use Rattle.rec_reader.specs.declared.machine.Group.{Group}
-use Rattle.rec_reader.specs.declared.machine.Group.TheVariants.{Constructors, Operations}
 use Rattle.rec_reader.specs.declared.machine.NameList.{NameList}
 use Rattle.rec_reader.specs.declared.machine.NameList.TheVariants.{IncludeNames, SortNames, DeclaredNames, ArgumentSorts, VariableNames}
-use Rattle.rec_reader.specs.declared.machine.Purpose.{Purpose}
-use Rattle.rec_reader.specs.declared.machine.Purpose.TheVariants.{Left, Right, First, Second, Value}
-use Rattle.rec_reader.specs.declared.machine.Part.{Part}
-use Rattle.rec_reader.specs.declared.machine.Part.TheVariants.{Expected, Headed, Whole}
-use Rattle.rec_reader.specs.declared.machine.Place.{Place}
-use Rattle.rec_reader.specs.declared.machine.Place.TheVariants.{Start, Between, Heading, AfterHeading, BeforeNames, AfterName, AfterComma, DeclarationSort, VariableSort, BeforeRule, BeforeTerms, Within}
+use Rattle.rec_reader.specs.declared.machine.Place.TheVariants.{AfterName}
 use Rattle.rec_reader.specs.declared.machine.Machine.{Machine}
-use Rattle.rec_reader.specs.Grammar.{Any, none, next, Maybe, without, with, Listed, IsName, named, IsNames, declaration, variables}
-use Rattle.rec_reader.specs.Steps.{filled, take_name, take_first_name, on_arrow, on_colon, on_variable_colon, without_names, before_names, after_names, after_name, after_comma, on_declaration_sort, on_variable_sort}
-use Rattle.rec_reader.proofs.Values.{with_includes, with_sorts, with_declarations, with_variables, no_includes_more, no_sorts_more, no_declarations_more, no_variables_more, one_declaration, one_variables}
-use Rattle.rec_reader.proofs.Ahead.{Then, then, Sign_then, sign, Name_then, name, Others, stop, others, behind_comma, After_variables, After_declarations, After_sorts, After_header, Declarations, Variables_ahead, Declaration_sort, Variable_sort, After_names, Before_names, Ahead}
+use Rattle.rec_reader.specs.Grammar.{none, next, Maybe, without, with, IsName, named, IsNames, declaration, variables}
+use Rattle.rec_reader.specs.Steps.{filled, take_first_name, on_arrow, on_colon, on_variable_colon, without_names, before_names, after_names, after_name, after_comma, on_declaration_sort, on_variable_sort}
+use Rattle.rec_reader.proofs.Values.{no_includes_more, no_sorts_more, no_declarations_more, no_variables_more, one_declaration, one_variables}
+use Rattle.rec_reader.proofs.Ahead.{Then, then, Sign_then, sign, name, Others, stop, others, behind_comma, After_variables, After_declarations, After_sorts, After_header, Declarations, Variables_ahead, Declaration_sort, Variable_sort, After_names, Before_names, Ahead}
 use Rattle.rec_reader.proofs.SectionsBack.{Backs, weaken, listed_more, header_backs, sorts_backs, declarations_backs, variables_backs}
 
 -- what follows the names of the machine's list

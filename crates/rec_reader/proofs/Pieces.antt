@@ -1,12 +1,10 @@
 -- What begins at a place of the bytes.
-use Rattle.std.proofs.Common.{◌≡◌, ◌≤◌, ◌<◌, ◌∙◌, ℕ, ◌+◌, List, [], ◌∷◌, length, drop, take, get_or, Bool, true, false, cond, eqb, refl, ap, sym, arith, Option, Some, None}
+use Rattle.std.proofs.Common.{◌≡◌, ◌<◌, ◌∙◌, ℕ, ◌+◌, List, ◌∷◌, length, drop, take, get_or, Bool, true, false, cond, eqb, ap, sym, Option}
 use Rattle.std.proofs.lemmas.List.{drop_more}
 use Rattle.std.proofs.Math.Numerals.{add-one}
 use Rattle.rec_reader.specs.declared.token.Sign.{Sign}
-use Rattle.rec_reader.specs.declared.token.Token.TheVariants.{Named, At}
-use Rattle.rec_reader.specs.declared.scanner.Piece.{Piece}
-use Rattle.rec_reader.specs.declared.scanner.Piece.TheVariants.{Blank, Whole, Bad}
-use Rattle.rec_reader.specs.Tokens.{is_space, is_name_byte, run_length, comment_length, word_of, mark_of, mark_or_bad, token_of_run, word_or_name, piece_at}
+use Rattle.rec_reader.specs.declared.scanner.Piece.TheVariants.{Whole}
+use Rattle.rec_reader.specs.Tokens.{is_space, is_name_byte, run_length, word_of, mark_of, mark_or_bad, token_of_run, word_or_name, piece_at}
 
 run_front : (b : ℕ) (bs : List ℕ) → is_name_byte (b ∷ bs) ≡ true → run_length (b ∷ bs) ≡ run_length bs + 1
 run_front b bs n = ap (λ t. cond t (run_length bs + 1) 0) n

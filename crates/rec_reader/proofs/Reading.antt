@@ -1,9 +1,8 @@
 -- Reading on, piece by piece.
 use Rattle.std.proofs.Common.{◌≡◌, ◌≤◌, ◌<◌, ◌∙◌, ℕ, zero, suc, ◌+◌, List, [], ◌∷◌, ◌++◌, length, length-drop, drop, refl, ap, sym, arith, append_assoc, Result, Ok, Err}
 use Rattle.rec_reader.specs.declared.token.Token.{Token}
-use Rattle.rec_reader.specs.declared.scanner.Piece.{Piece}
 use Rattle.rec_reader.specs.declared.scanner.Piece.TheVariants.{Blank, Whole, Bad}
-use Rattle.rec_reader.specs.Tokens.{tokens_from, tokens_of, after_token, piece_at, read_piece}
+use Rattle.rec_reader.specs.Tokens.{tokens_from, after_token, piece_at, read_piece}
 use Rattle.std.proofs.lemmas.List.{drop_more, drop-drop}
 
 -- what reading gives, with tokens before it

@@ -1,5 +1,5 @@
 -- Rules and terms to be evaluated are read to their end.
-use Rattle.std.proofs.Common.{◌≡◌, ◌∙◌, ℕ, List, [], ◌∷◌, ◌++◌, refl, ap, sym, append_assoc, Bool, true, false, Option, Some, None}
+use Rattle.std.proofs.Common.{◌≡◌, ◌∙◌, ℕ, List, [], ◌∷◌, ◌++◌, refl, ap, sym, append_assoc, Bool, Some, None}
 use Rattle.rec_reader.specs.declared.token.Name.{Name}
 use Rattle.rec_reader.specs.declared.token.Token.{Token}
 use Rattle.rec_reader.specs.declared.token.Token.TheVariants.{Named, At}
@@ -13,7 +13,7 @@ use Rattle.rec_reader.specs.declared.machine.Purpose.TheVariants.{Left, Right, F
 use Rattle.rec_reader.specs.declared.machine.Part.TheVariants.{Expected, Headed, Whole}
 use Rattle.rec_reader.specs.declared.machine.Place.TheVariants.{BeforeRule, BeforeTerms, Within}
 use Rattle.rec_reader.specs.declared.machine.Machine.{Machine}
-use Rattle.rec_reader.specs.Grammar.{Any, none, next, Maybe, without, with, Section, absent, present, Listed, last, beside, with_comma, IsTerm, IsTerms, IsRelation, joins, equal, parts, unequal, IsCondition, condition, IsSeparator, by_comma, by_and_if, IsConditions, one, and, IsRule, plain, conditional}
+use Rattle.rec_reader.specs.Grammar.{Any, none, next, Maybe, without, with, Section, absent, present, Listed, last, beside, with_comma, IsTerm, IsTerms, IsRelation, joins, equal, parts, unequal, condition, IsSeparator, by_comma, by_and_if, IsConditions, one, and, IsRule, plain, conditional}
 use Rattle.rec_reader.specs.Steps.{step, at, on_end, after_rules, after_variables, after_first, begin_second, after_second, with_condition}
 use Rattle.rec_reader.specs.Syntax.{blank_rule}
 use Rattle.rec_reader.proofs.Outcome.{outcome, go_on}

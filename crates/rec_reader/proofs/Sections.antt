@@ -1,19 +1,18 @@
 -- Sections are read to their end.
-use Rattle.std.proofs.Common.{◌≡◌, ◌∙◌, ℕ, List, [], ◌∷◌, ◌++◌, refl, ap, sym, append_assoc, Option, Some, None}
+use Rattle.std.proofs.Common.{◌≡◌, ◌∙◌, List, [], ◌∷◌, refl, ap, sym, Option, Some}
 use Rattle.rec_reader.specs.declared.token.Name.{Name}
 use Rattle.rec_reader.specs.declared.token.Token.{Token}
-use Rattle.rec_reader.specs.declared.token.Token.TheVariants.{Named, At}
-use Rattle.rec_reader.specs.declared.token.Sign.TheVariants.{Sorts, Cons, Opns, Vars, Rules, Eval, Colon, Arrow}
+use Rattle.rec_reader.specs.declared.token.Sign.TheVariants.{Sorts, Cons, Opns, Vars, Colon}
 use Rattle.rec_reader.specs.declared.syntax_tree.Declaration.{Declaration}
 use Rattle.rec_reader.specs.declared.syntax_tree.Variables.{Variables}
 use Rattle.rec_reader.specs.declared.syntax_tree.Specification.{Specification}
 use Rattle.rec_reader.specs.declared.machine.Group.{Group}
 use Rattle.rec_reader.specs.declared.machine.Group.TheVariants.{Constructors, Operations}
 use Rattle.rec_reader.specs.declared.machine.NameList.TheVariants.{IncludeNames, SortNames, DeclaredNames, ArgumentSorts, VariableNames}
-use Rattle.rec_reader.specs.declared.machine.Place.TheVariants.{BeforeNames, AfterName, DeclarationSort, VariableSort}
+use Rattle.rec_reader.specs.declared.machine.Place.TheVariants.{BeforeNames, DeclarationSort, VariableSort}
 use Rattle.rec_reader.specs.declared.machine.Machine.{Machine}
 use Rattle.rec_reader.specs.Grammar.{Any, none, next, Maybe, without, with, Section, absent, present, IsNames, IsDeclaration, declaration, IsVariables, variables}
-use Rattle.rec_reader.specs.Steps.{after_variables, after_operations, after_constructors, after_declarations, after_sorts, after_header, after_heading, after_rules}
+use Rattle.rec_reader.specs.Steps.{after_variables, after_operations, after_constructors, after_declarations, after_sorts, after_header, after_heading}
 use Rattle.rec_reader.proofs.Outcome.{outcome, go_on, by_step}
 use Rattle.rec_reader.proofs.Leaving.{skip_colon, skip_sorts, skip_constructors, skip_operations, skip_variables, no_includes, leave_includes, no_sorts, leave_sorts, leave_declarations, leave_variables}
 use Rattle.rec_reader.proofs.Names.{names_read}

@@ -1,31 +1,17 @@
 -- A step in sections and names leads from what must still come to what must still come after it.
-use Rattle.std.proofs.Common.{◌≡◌, ◌∙◌, ℕ, ◌+◌, List, [], ◌∷◌, ◌++◌, refl, ap, sym, subst, append_assoc, append-nil, Option, Some, None}
+use Rattle.std.proofs.Common.{ℕ, List, [], ◌∷◌, ◌++◌, sym, subst, append_assoc, Option, Some, None}
 use Rattle.std.specs.Prelude.{IfSome}
-use Rattle.rec_reader.specs.declared.token.Name.{Name}
 use Rattle.rec_reader.specs.declared.token.Token.{Token}
 use Rattle.rec_reader.specs.declared.token.Token.TheVariants.{Named, At}
-use Rattle.rec_reader.specs.declared.token.Sign.TheVariants.{RecSpec, Sorts, Cons, Opns, Vars, Rules, Eval, EndSpec, If, AndIf, Joins, Parts, Arrow, Colon, Comma, Open, Close, Equal, Unequal}
-use Rattle.rec_reader.specs.declared.syntax_tree.Node.{Node}
-use Rattle.rec_reader.specs.declared.syntax_tree.Declaration.{Declaration}
-use Rattle.rec_reader.specs.declared.syntax_tree.Variables.{Variables}
-use Rattle.rec_reader.specs.declared.syntax_tree.Condition.{Condition}
-use Rattle.rec_reader.specs.declared.syntax_tree.Rule.{Rule}
+use Rattle.rec_reader.specs.declared.token.Sign.TheVariants.{RecSpec, Sorts, Cons, Opns, Vars, Rules, Eval, EndSpec, Colon}
 use Rattle.rec_reader.specs.declared.syntax_tree.Specification.{Specification}
 use Rattle.rec_reader.specs.declared.machine.Group.{Group}
 use Rattle.rec_reader.specs.declared.machine.Group.TheVariants.{Constructors, Operations}
-use Rattle.rec_reader.specs.declared.machine.NameList.{NameList}
-use Rattle.rec_reader.specs.declared.machine.NameList.TheVariants.{IncludeNames, SortNames, DeclaredNames, ArgumentSorts, VariableNames}
-use Rattle.rec_reader.specs.declared.machine.Purpose.{Purpose}
-use Rattle.rec_reader.specs.declared.machine.Purpose.TheVariants.{Left, Right, First, Second, Value}
-use Rattle.rec_reader.specs.declared.machine.Part.{Part}
-use Rattle.rec_reader.specs.declared.machine.Part.TheVariants.{Expected, Headed, Whole}
-use Rattle.rec_reader.specs.declared.machine.Place.{Place}
-use Rattle.rec_reader.specs.declared.machine.Place.TheVariants.{Start, Between, Heading, AfterHeading, BeforeNames, AfterName, AfterComma, DeclarationSort, VariableSort, BeforeRule, BeforeTerms, Within}
 use Rattle.rec_reader.specs.declared.machine.Machine.{Machine}
-use Rattle.rec_reader.specs.Grammar.{Any, none, next, Maybe, without, with, Section, absent, present, Listed, last, beside, with_comma, IsName, named, IsNames, IsDeclaration, declaration, IsVariables, variables, IsTerms, IsRule, specification, input}
-use Rattle.rec_reader.specs.Steps.{on_end, after_rules, after_variables, after_operations, after_constructors, after_declarations, after_sorts, after_header, after_heading, on_start, on_heading, take_name, take_first_name, filled, on_arrow, on_colon, on_variable_colon, without_names, before_names, after_names, after_name, after_comma, on_declaration_sort, on_variable_sort}
-use Rattle.rec_reader.proofs.Values.{with_includes, with_sorts, with_declarations, with_variables, with_rules, with_terms, no_includes_more, no_sorts_more, no_declarations_more, no_variables_more, no_rules_more, no_terms_more, one_declaration, one_variables}
-use Rattle.rec_reader.proofs.Ahead.{Then, then, Sign_then, sign, Name_then, name, Others, stop, others, behind_comma, Ends, ends, After_rules, After_variables, After_operations, After_constructors, After_declarations, After_sorts, After_header, After_heading, Declarations, Variables_ahead, Declaration_sort, Variable_sort, After_names, Before_names, At_start, at_start, At_between, at_between, At_heading, Ahead}
+use Rattle.rec_reader.specs.Grammar.{Any, next, Maybe, absent, present, Listed, last, beside, with_comma, IsNames, IsTerms, IsRule, specification, input}
+use Rattle.rec_reader.specs.Steps.{on_end, after_rules, after_variables, after_operations, after_constructors, after_declarations, after_sorts, after_header, after_heading, on_start, on_heading}
+use Rattle.rec_reader.proofs.Values.{with_includes, with_sorts, with_rules, with_terms, no_includes_more, no_sorts_more, no_declarations_more, no_variables_more, no_rules_more, no_terms_more}
+use Rattle.rec_reader.proofs.Ahead.{Then, then, name, Others, stop, others, behind_comma, Ends, ends, After_rules, After_variables, After_operations, After_constructors, After_declarations, After_sorts, After_header, After_heading, Declarations, Variables_ahead, At_start, at_start, At_between, at_between, At_heading, Ahead}
 
 -- what is ahead after the step is, with the token before it, ahead before the step
 abbrev pub Backs : Option Machine → Token → (List Token → List Specification → Type 0) → Type 0

@@ -1,29 +1,13 @@
 -- What is read to its end is a sentence that spells what was read.
-use Rattle.std.proofs.Common.{◌≡◌, ◌∙◌, ℕ, List, [], ◌∷◌, ◌++◌, refl, ap, sym, subst, append-nil, Option, Some, None}
-use Rattle.std.specs.Prelude.{IfSome, option_and_then}
-use Rattle.rec_reader.specs.declared.token.Name.{Name}
+use Rattle.std.proofs.Common.{◌≡◌, ◌∙◌, List, [], ◌∷◌, subst, append-nil, Option, Some, None}
+use Rattle.std.specs.Prelude.{option_and_then}
 use Rattle.rec_reader.specs.declared.token.Token.{Token}
-use Rattle.rec_reader.specs.declared.token.Token.TheVariants.{Named, At}
-use Rattle.rec_reader.specs.declared.token.Sign.TheVariants.{RecSpec, Sorts, Cons, Opns, Vars, Rules, Eval, EndSpec, If, AndIf, Joins, Parts, Arrow, Colon, Comma, Open, Close, Equal, Unequal}
-use Rattle.rec_reader.specs.declared.syntax_tree.Node.{Node}
-use Rattle.rec_reader.specs.declared.syntax_tree.Declaration.{Declaration}
-use Rattle.rec_reader.specs.declared.syntax_tree.Variables.{Variables}
-use Rattle.rec_reader.specs.declared.syntax_tree.Condition.{Condition}
-use Rattle.rec_reader.specs.declared.syntax_tree.Rule.{Rule}
 use Rattle.rec_reader.specs.declared.syntax_tree.Specification.{Specification}
-use Rattle.rec_reader.specs.declared.machine.Group.{Group}
-use Rattle.rec_reader.specs.declared.machine.Group.TheVariants.{Constructors, Operations}
-use Rattle.rec_reader.specs.declared.machine.NameList.{NameList}
-use Rattle.rec_reader.specs.declared.machine.NameList.TheVariants.{IncludeNames, SortNames, DeclaredNames, ArgumentSorts, VariableNames}
-use Rattle.rec_reader.specs.declared.machine.Purpose.{Purpose}
-use Rattle.rec_reader.specs.declared.machine.Purpose.TheVariants.{Left, Right, First, Second, Value}
-use Rattle.rec_reader.specs.declared.machine.Part.{Part}
-use Rattle.rec_reader.specs.declared.machine.Part.TheVariants.{Expected, Headed, Whole}
 use Rattle.rec_reader.specs.declared.machine.Place.{Place}
 use Rattle.rec_reader.specs.declared.machine.Place.TheVariants.{Start, Between, Heading, AfterHeading, BeforeNames, AfterName, AfterComma, DeclarationSort, VariableSort, BeforeRule, BeforeTerms, Within}
 use Rattle.rec_reader.specs.declared.machine.Machine.{Machine}
 use Rattle.rec_reader.specs.Grammar.{none, IsInput}
-use Rattle.rec_reader.specs.Steps.{step, step_at, start, accepted, accepted_at}
+use Rattle.rec_reader.specs.Steps.{step, step_at, start, accepted_at}
 use Rattle.rec_reader.proofs.Outcome.{outcome}
 use Rattle.rec_reader.proofs.Ahead.{ahead_at, Ahead, At_start, at_start, At_between, at_between}
 use Rattle.rec_reader.proofs.SectionsBack.{Backs, start_backs, between_backs, on_heading_backs, heading_backs}

@@ -1,32 +1,24 @@
 -- A step in rules and terms leads from what must still come to what must still come after it.
-use Rattle.std.proofs.Common.{◌≡◌, ◌∙◌, ℕ, suc, ◌+◌, List, [], ◌∷◌, ◌++◌, refl, ap, sym, subst, arith, append_assoc, append-nil, Bool, true, false, Option, Some, None}
-use Rattle.std.specs.Prelude.{IfSome}
+use Rattle.std.proofs.Common.{◌≡◌, ◌∙◌, ℕ, suc, ◌+◌, List, [], ◌∷◌, ◌++◌, ap, sym, subst, arith, append_assoc, true, false, Some, None}
 use Rattle.rec_reader.specs.declared.token.Name.{Name}
 use Rattle.rec_reader.specs.declared.token.Token.{Token}
 use Rattle.rec_reader.specs.declared.token.Token.TheVariants.{Named, At}
-use Rattle.rec_reader.specs.declared.token.Sign.TheVariants.{RecSpec, Sorts, Cons, Opns, Vars, Rules, Eval, EndSpec, If, AndIf, Joins, Parts, Arrow, Colon, Comma, Open, Close, Equal, Unequal}
+use Rattle.rec_reader.specs.declared.token.Sign.TheVariants.{If, AndIf, Joins, Parts, Arrow, Comma, Open, Close, Equal, Unequal}
 use Rattle.rec_reader.specs.declared.syntax_tree.Node.{Node}
-use Rattle.rec_reader.specs.declared.syntax_tree.Declaration.{Declaration}
-use Rattle.rec_reader.specs.declared.syntax_tree.Variables.{Variables}
 use Rattle.rec_reader.specs.declared.syntax_tree.Condition.{Condition}
 use Rattle.rec_reader.specs.declared.syntax_tree.Rule.{Rule}
 use Rattle.rec_reader.specs.declared.syntax_tree.Specification.{Specification}
-use Rattle.rec_reader.specs.declared.machine.Group.{Group}
-use Rattle.rec_reader.specs.declared.machine.Group.TheVariants.{Constructors, Operations}
-use Rattle.rec_reader.specs.declared.machine.NameList.{NameList}
-use Rattle.rec_reader.specs.declared.machine.NameList.TheVariants.{IncludeNames, SortNames, DeclaredNames, ArgumentSorts, VariableNames}
 use Rattle.rec_reader.specs.declared.machine.Purpose.{Purpose}
 use Rattle.rec_reader.specs.declared.machine.Purpose.TheVariants.{Left, Right, First, Second, Value}
 use Rattle.rec_reader.specs.declared.machine.Part.{Part}
 use Rattle.rec_reader.specs.declared.machine.Part.TheVariants.{Expected, Headed, Whole}
-use Rattle.rec_reader.specs.declared.machine.Place.{Place}
-use Rattle.rec_reader.specs.declared.machine.Place.TheVariants.{Start, Between, Heading, AfterHeading, BeforeNames, AfterName, AfterComma, DeclarationSort, VariableSort, BeforeRule, BeforeTerms, Within}
+use Rattle.rec_reader.specs.declared.machine.Place.TheVariants.{Within}
 use Rattle.rec_reader.specs.declared.machine.Machine.{Machine}
-use Rattle.rec_reader.specs.Grammar.{Any, none, next, Maybe, without, with, Arguments, IsTerm, constant, call, IsArguments, only, more, IsTerms, joins, equal, parts, unequal, condition, by_comma, by_and_if, IsConditions, one, and, IsRule, plain, conditional}
+use Rattle.rec_reader.specs.Grammar.{none, next, without, with, IsTerm, constant, call, only, more, IsTerms, joins, equal, parts, unequal, condition, by_comma, by_and_if, IsConditions, one, and, plain, conditional}
 use Rattle.rec_reader.specs.Steps.{on_end, after_rules, before_rule, before_terms, after_left, after_rule, with_right, after_right, after_first, with_condition, after_second, with_term, after_value, after_term, after_argument, after_whole_under, after_whole, after_head, on_term, within_term}
 use Rattle.rec_reader.specs.Syntax.{blank_rule}
 use Rattle.rec_reader.proofs.Values.{with_rules, with_terms, no_rules_more, no_terms_more, one_rule, one_term}
-use Rattle.rec_reader.proofs.Ahead.{Then, then, Sign_then, sign, Others, stop, others, behind_comma, Ends, After_rules, Rules_ahead, Terms_ahead, more_conditions, After_rule, After_right, no_if, if_comes, After_condition, no_other, other, After_first, relation, After_value, fresh_rule, After_term, After_argument, close, argument, After_whole, After_head, alone, called, After_term_of, Within_term, Ahead}
+use Rattle.rec_reader.proofs.Ahead.{Then, then, Sign_then, sign, stop, others, behind_comma, Ends, After_rules, Rules_ahead, Terms_ahead, more_conditions, After_rule, After_right, no_if, if_comes, After_condition, no_other, other, After_first, relation, After_value, fresh_rule, After_term, After_argument, close, argument, After_whole, After_head, alone, called, After_term_of, Within_term}
 use Rattle.rec_reader.proofs.SectionsBack.{Backs, weaken, listed_more, end_backs, rules_backs}
 
 -- a head, and what must still come after it

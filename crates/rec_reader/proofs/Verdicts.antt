@@ -1,5 +1,5 @@
 -- What reading says of the tokens.
-use Rattle.std.proofs.Common.{◌≡◌, ◌∙◌, ℕ, List, [], ◌∷◌, ◌++◌, refl, ap, sym, subst, append_assoc, append-nil, length, inl, inr, Option, Some, None}
+use Rattle.std.proofs.Common.{◌≡◌, ◌∙◌, ℕ, List, [], ◌∷◌, ◌++◌, refl, ap, sym, subst, append_assoc, append-nil, length, inl, inr, Some, None}
 use Rattle.std.specs.Prelude.{option_and_then}
 use Rattle.rec_reader.specs.declared.token.Token.{Token}
 use Rattle.rec_reader.specs.declared.syntax_tree.Specification.{Specification}
@@ -8,7 +8,7 @@ use Rattle.rec_reader.specs.Scanned.{Scanned}
 use Rattle.rec_reader.specs.declared.fail.ReadFail.{ReadFail}
 use Rattle.rec_reader.specs.declared.fail.ReadFail.TheVariants.{Refused, Memory}
 use Rattle.rec_reader.specs.declared.fail.TheConstants.{UNENDED}
-use Rattle.rec_reader.specs.Grammar.{IsInput, BeginsSentence, IsNoSentence}
+use Rattle.rec_reader.specs.Grammar.{IsInput, BeginsSentence}
 use Rattle.rec_reader.specs.Refusal.{IsFirstUnexpected, IsUnended, IsRefusal}
 use Rattle.rec_reader.specs.Steps.{run, start, step, accepted, StopsAt, IsStopped}
 use Rattle.rec_reader.proofs.Outcome.{outcome, outcome_more}

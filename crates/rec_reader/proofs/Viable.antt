@@ -1,15 +1,12 @@
 -- Each place of a sentence may be led to an end.
-use Rattle.std.proofs.Common.{◌≡◌, ◌∙◌, ℕ, ◌+◌, List, [], ◌∷◌, ◌++◌, refl, Option, Some, None}
-use Rattle.std.specs.Prelude.{option_and_then}
+use Rattle.std.proofs.Common.{◌≡◌, ◌+◌, List, [], ◌∷◌, ◌++◌, refl, Some}
 use Rattle.rec_reader.specs.declared.token.Name.{Name}
 use Rattle.rec_reader.specs.declared.token.Token.{Token}
 use Rattle.rec_reader.specs.declared.token.Token.TheVariants.{Named, At}
-use Rattle.rec_reader.specs.declared.token.Sign.TheVariants.{RecSpec, Sorts, Cons, Opns, Vars, Rules, Eval, EndSpec, If, AndIf, Joins, Parts, Arrow, Colon, Comma, Open, Close, Equal, Unequal}
+use Rattle.rec_reader.specs.declared.token.Sign.TheVariants.{RecSpec, EndSpec, Arrow, Colon, Close, Equal}
 use Rattle.rec_reader.specs.declared.syntax_tree.Node.{Node}
 use Rattle.rec_reader.specs.declared.syntax_tree.Declaration.{Declaration}
 use Rattle.rec_reader.specs.declared.syntax_tree.Variables.{Variables}
-use Rattle.rec_reader.specs.declared.syntax_tree.Condition.{Condition}
-use Rattle.rec_reader.specs.declared.syntax_tree.Rule.{Rule}
 use Rattle.rec_reader.specs.declared.syntax_tree.Specification.{Specification}
 use Rattle.rec_reader.specs.declared.machine.Group.{Group}
 use Rattle.rec_reader.specs.declared.machine.Group.TheVariants.{Constructors, Operations}

@@ -1,5 +1,5 @@
 -- A sentence has whole terms.
-use Rattle.std.proofs.Common.{◌≡◌, ℕ, ◌+◌, ◌-◌, ◌<◌, ◌≤◌, List, [], ◌∷◌, ◌++◌, Option, Some, None, suc, true, false, refl, sym, ◌∙◌, ap, subst, arith, append_assoc, append-nil}
+use Rattle.std.proofs.Common.{◌≡◌, ℕ, ◌+◌, ◌-◌, List, [], ◌∷◌, ◌++◌, None, suc, false, sym, ◌∙◌, ap, arith, append_assoc, append-nil}
 use Rattle.std.specs.Prelude.{nat_lt, if◌then◌else◌, All}
 use Rattle.std.proofs.lemmas.List.Elements.{All-nil, All-cons}
 use Rattle.rec_reader.specs.declared.token.Name.{Name}
@@ -9,7 +9,7 @@ use Rattle.rec_reader.specs.declared.syntax_tree.Node.{Node}
 use Rattle.rec_reader.specs.declared.syntax_tree.Condition.{Condition}
 use Rattle.rec_reader.specs.declared.syntax_tree.Rule.{Rule}
 use Rattle.rec_reader.specs.declared.syntax_tree.Specification.{Specification}
-use Rattle.rec_reader.specs.Grammar.{Any, Maybe, Section, Listed, IsTerm, IsArguments, Arguments, IsTerms, IsCondition, IsConditions, IsRule, IsSpecification, IsInput, none, next, without, with, absent, present, last, beside, with_comma, constant, call, only, more, condition, one, and, plain, conditional, specification, input}
+use Rattle.rec_reader.specs.Grammar.{Any, Maybe, Section, IsTerm, IsArguments, Arguments, IsTerms, IsCondition, IsConditions, IsRule, IsSpecification, IsInput, none, next, without, with, absent, present, last, beside, with_comma, constant, call, only, more, condition, one, and, plain, conditional, specification, input}
 use Rattle.rec_reader.specs.Whole.{terms_after, IsWhole, HasWholeSides, IsWholeRule, HasWholeTerms}
 
 -- a head takes its arguments

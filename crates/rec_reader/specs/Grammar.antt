@@ -1,6 +1,6 @@
 -- The grammar of specifications, a definition for each production. A production relates tokens, the value
 -- that they spell, and the tokens that follow.
-use Rattle.std.specs.Prelude.{◌≡◌, ℕ, suc, List, [], ◌∷◌, ◌++◌, Option, Some, None, Bool, true, false}
+use Rattle.std.specs.Prelude.{ℕ, suc, List, [], ◌∷◌, ◌++◌, Some, None, Bool, true, false}
 use Rattle.rec_reader.specs.declared.token.Name.{Name}
 use Rattle.rec_reader.specs.declared.token.Token.{Token}
 use Rattle.rec_reader.specs.declared.token.Token.TheVariants.{Named, At}

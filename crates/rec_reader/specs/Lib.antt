@@ -1,7 +1,3 @@
-pub mod Text
-pub mod FirstForm
-pub mod FirstRead
-pub mod FirstReading
 pub mod Scanned
 pub mod Tokens
 pub mod Syntax

@@ -6,7 +6,6 @@ mod machine;
 mod parser;
 mod scanner;
 mod sequence;
-mod simple_form;
 mod syntax_tree;
 mod token;
 
@@ -15,11 +14,8 @@ pub use faults::Memory;
 pub use parser::syntax;
 pub use scanner::tokens;
 pub use sequence::Sequence;
-pub use simple_form::{First, FirstFail, first_form};
 pub use syntax_tree::{Condition, Declaration, Node, Rule, Specification, Syntax, Variables};
 pub use token::{Name, Sign, Token, Tokens};
 
 #[cfg(test)]
 mod reading_tests;
-#[cfg(test)]
-mod tests;

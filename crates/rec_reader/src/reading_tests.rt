@@ -15,8 +15,16 @@ EVAL plus(s(z), s(z))
 END-SPEC";
 
 // Inputs, with the kind and the place of the refusal, or twice 0.
-static ROWS: [(&[u8], u8, u64); 43] = [
+static ROWS: [(&[u8], u8, u64); 47] = [
     (NATURALS, 0, 0),
+    (b"REC-SPEC A SORTS A CONS A : -> A EVAL A END-SPEC\n", 0, 0),
+    (
+        b"REC-SPEC A SORTS S CONS  a : -> S EVAL a( a) END-SPEC",
+        0,
+        0,
+    ),
+    (b"REC-SPEC A SORTS S CONS a : -> S EVAL a END-SPE", 3, 47),
+    (b"REC-SPEC A SORTS S CONS \xc3\xa9 : -> S END-SPEC", 1, 24),
     (b"REC-SPEC A EVAL", 3, 15),
     (b"", 3, 0),
     (b"REC-SPEC A EVAL ( END-SPEC", 2, 16),
@@ -122,6 +130,31 @@ fn read(alloc: Global, bytes: &[u8]) -> Result<(u8, u64), ReadFail> {
 fn inputs_are_read_or_refused_at_their_places(rt: HostRuntime) -> Result<(), Fail> {
     for (bytes, kind, offset) in &ROWS {
         assert_eq!(rt; read(rt.alloc(), bytes)?, (*kind, *offset));
+    }
+    Ok(())
+}
+
+/// A term with so many letters in its names and so many heads over one another.
+fn text_of(alloc: Global, letters: usize, depth: usize) -> Result<Vec<u8>, Fail> {
+    let mut text = Vec::from_slice(alloc, b"REC-SPEC A EVAL ")?;
+    for _ in 0..depth {
+        text.extend_from_slice(b"f(")?;
+    }
+    for _ in 0..letters {
+        text.push(b'a')?;
+    }
+    for _ in 0..depth {
+        text.push(b')')?;
+    }
+    text.extend_from_slice(b" END-SPEC")?;
+    Ok(text)
+}
+
+#[test]
+fn long_names_and_deep_terms_are_read(rt: HostRuntime) -> Result<(), Fail> {
+    for (letters, depth) in [(256, 1), (65_536, 0), (1, 4096), (1, 100_000)] {
+        let text = text_of(rt.alloc(), letters, depth)?;
+        assert_eq!(rt; read(rt.alloc(), &text)?, (0, 0));
     }
     Ok(())
 }

@@ -1,4 +1,4 @@
-use Rattle.std.proofs.Common.{refl, ◌∙◌}
+use Rattle.std.proofs.Common.{refl}
 use Rattle.rec_reader.proofs.Runs.{run_one, stops_at}
 use Rattle.rec_reader.proofs.parser.run.Goals as goal
 

@@ -1,8 +1,6 @@
-use Rattle.std.proofs.Common.{◌∙◌, List, length, refl, ap, sym, subst}
+use Rattle.std.proofs.Common.{◌∙◌, length, ap, sym}
 use Rattle.std.proofs.lemmas.Result.{err_from_is_err_and}
-use Rattle.rec_reader.specs.declared.token.Token.{Token}
 use Rattle.rec_reader.specs.Steps.{run, start}
-use Rattle.rec_reader.specs.Grammar.{IsInput}
 use Rattle.rec_reader.proofs.Verdicts.{refusal, no_stop, end_refusal, sentence, only_these, unended}
 use Rattle.rec_reader.proofs.Wholeness.{input_whole}
 use Rattle.rec_reader.proofs.parser.syntax.Goals as goal

@@ -1,8 +1,7 @@
-use Rattle.std.proofs.Common.{◌≡◌, ◌+◌, ◌-◌, length, take, drop, get_or, eqb, false, arith, rules, ap, sym, ◌∙◌, Some, None, ℕ, List}
+use Rattle.std.proofs.Common.{◌+◌, take, drop, get_or, ap, sym, ◌∙◌}
 use Rattle.std.proofs.lemmas.List.{take_rest}
 use Rattle.std.proofs.lemmas.Bool.{ne_eqb}
-use Rattle.rec_reader.specs.declared.token.Sign.{Sign}
-use Rattle.rec_reader.specs.declared.scanner.Piece.TheVariants.{Blank, Whole, Bad}
+use Rattle.rec_reader.specs.declared.scanner.Piece.TheVariants.{Whole}
 use Rattle.rec_reader.specs.Tokens.{run_length, mark_of, mark_or_bad, token_of_run}
 use Rattle.rec_reader.proofs.Pieces.{piece_run, piece_mark}
 use Rattle.rec_reader.proofs.scanner.piece_at.Goals as goal

@@ -1,4 +1,4 @@
-use Rattle.std.proofs.Common.{◌≡◌, ◌+◌, ◌-◌, length, take, drop, arith, rules, ap, sym, ◌∙◌, length-take-le, length-drop, Some, ℕ, List}
+use Rattle.std.proofs.Common.{◌≡◌, ◌+◌, ◌-◌, length, take, drop, arith, ap, sym, ◌∙◌, length-take-le, length-drop, Some, ℕ, List}
 use Rattle.rec_reader.specs.Tokens.{word_of}
 use Rattle.rec_reader.proofs.Pieces.{run_token}
 use Rattle.rec_reader.proofs.scanner.token_of_run.Goals as goal

@@ -1,4 +1,4 @@
-use Rattle.std.proofs.Common.{◌≡◌, ◌+◌, ◌-◌, ◌≤◌, length, drop}
+use Rattle.std.proofs.Common.{◌≡◌, ◌-◌, ◌≤◌, length, drop}
 use Rattle.rec_reader.specs.Tokens.{tokens_from, tokens_of}
 use Rattle.rec_reader.proofs.Reading.{after_tokens}
 use Rattle.rec_reader.proofs.scanner.tokens.Given as goal
