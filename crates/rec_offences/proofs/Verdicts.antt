@@ -1,13 +1,12 @@
 -- What is wrong at the entries of a list of includes, and past the limits.
-use Rattle.std.proofs.Common.{◌≡◌, ℕ, ◌+◌, ◌-◌, ◌≤◌, ◌<◌, ◌^◌, min, nat_le, Bool, true, false, cond, List, [], ◌∷◌, ◌++◌, length, map, slice_get, Option, Some, None, refl, sym, ap, ◌∙◌, arith, inl, inr, lit<}
+use Rattle.std.proofs.Common.{◌≡◌, ℕ, ◌-◌, ◌≤◌, ◌<◌, ◌^◌, min, nat_le, Bool, true, false, cond, List, [], ◌∷◌, map, slice_get, Option, Some, None, refl, sym, ap, ◌∙◌, arith, inl, inr, lit<}
 use Rattle.std.specs.List.{filter}
 use Rattle.std.specs.Option.{option_map, option_to_list}
 use Rattle.std.proofs.lemmas.Option.{slice_get-map}
 use Rattle.std.proofs.lemmas.Bool.Decides.{leb_tells}
-use Rattle.rec_reader.specs.declared.token.Name.{Name}
 use Rattle.rec_reader.specs.declared.syntax_tree.Specification.{Specification}
 use Rattle.rec_offences.specs.Material.{Declared}
-use Rattle.rec_offences.specs.Scope.{Entry, symbol_entry}
+use Rattle.rec_offences.specs.Scope.{symbol_entry}
 use Rattle.rec_offences.specs.Offences.{Include, most, first_past, is_clashing, is_passing}
 use Rattle.rec_offences.specs.Inclusion.{counted, verdict_of}
 use Rattle.rec_offences.proofs.Including.{le_counted}

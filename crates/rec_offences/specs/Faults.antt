@@ -1,13 +1,12 @@
 -- All offences of an input, and its fault, the least of them.
 use Rattle.std.specs.Prelude.{ℕ, List, [], ◌∷◌, ◌++◌, Bool, ◌&&◌, ◌||◌, ◌==◌, Option, Some, None, nat_lt, map, fold, if◌then◌else◌}
-use Rattle.std.specs.List.{flat_map}
 use Rattle.rec_reader.specs.declared.token.Name.{Name}
 use Rattle.rec_reader.specs.declared.syntax_tree.Specification.{Specification}
 use Rattle.rec_reader.specs.Parsed.{Parsed}
 use Rattle.rec_offences.specs.declared.offence.Offence.{Offence}
 use Rattle.rec_offences.specs.Material.{Header, headers_of, included, symbols_of, sorts_of}
 use Rattle.rec_offences.specs.Scope.{Entry, symbol_entry, own_entries, names_of}
-use Rattle.rec_offences.specs.Offences.{Include, includes_from, unknown_sorts, unknown_names, repeated_names, wrong_counts, sort_clashes, bare_variables, free_variables, not_ground, unknown_includes, past_limits}
+use Rattle.rec_offences.specs.Offences.{includes_from, unknown_sorts, unknown_names, repeated_names, wrong_counts, sort_clashes, bare_variables, free_variables, not_ground, unknown_includes, past_limits}
 
 abbrev pub offence_at : ℕ → Name → Offence
 offence_at kind n = record { kind = kind; offset = n.start }

@@ -12,12 +12,19 @@ use Rattle.rec_offences.specs.Scope.{Entry, names_of, root}
 use Rattle.rec_offences.specs.Offences.{unknown_sorts, repeated, bare_variables, free_variables, not_ground, unknown_includes, is_long, names_in, first_past, unknown_names, wrong_counts, sort_clashes}
 use Rattle.rec_offences.specs.Faults.{of_kind}
 
+-- the entries that bring a name from another declaration, and those with which the limit is passed
+abbrev pub clashing_entries : List Verdict → List Name
+clashing_entries verdicts = map (λ v. v.entry) (filter (λ v. v.is_clashing) verdicts)
+
+abbrev pub passing_entries : List Verdict → List Name
+passing_entries verdicts = map (λ v. v.entry) (filter (λ v. v.is_passing) verdicts)
+
 abbrev pub repeated_group : List ℕ → List Header → List Verdict → (entries own : List Entry) → Specification → List Name
 repeated_group bytes headers verdicts entries own s =
     filter (is_among bytes (map (λ h. h.name) headers)) (s.name ∷ [])
     ++ repeated bytes [] s.sorts
     ++ repeated bytes (names_of entries) (names_of own)
-    ++ map (λ v. v.entry) (filter (λ v. v.is_clashing) verdicts)
+    ++ clashing_entries verdicts
 
 unfoldable pub declared_group : List ℕ → List Header → List Verdict → (sorts : List Name) → (entries own : List Entry) → Specification → List Offence
 declared_group bytes headers verdicts sorts entries own s =
@@ -30,7 +37,7 @@ limits_group bytes symbols_before rules_before verdicts symbols s =
     ++ option_to_list (option_map (λ e. e.declared.name) (first_past symbols_before symbols))
     ++ option_to_list (option_and_then (λ r. root r.left) (first_past rules_before s.rules))
     ++ option_to_list (option_and_then root (first_past 0 s.terms))
-    ++ map (λ v. v.entry) (filter (λ v. v.is_passing) verdicts)
+    ++ passing_entries verdicts
 
 unfoldable pub used_group : List ℕ → List Header → (symbols_before rules_before : ℕ) → List Verdict → (symbols entries : List Entry) → Specification → List Offence
 used_group bytes headers symbols_before rules_before verdicts symbols entries s =

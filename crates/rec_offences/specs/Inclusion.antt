@@ -1,7 +1,7 @@
 -- What the entries of a list of includes bring, as it is gathered.
-use Rattle.std.specs.Prelude.{◌≡◌, ℕ, ◌-◌, ◌^◌, List, Bool, length, min, ◌++◌}
+use Rattle.std.specs.Prelude.{◌≡◌, ℕ, ◌-◌, ◌^◌, List, length, min}
 use Rattle.rec_reader.specs.declared.syntax_tree.Specification.{Specification}
-use Rattle.rec_offences.specs.Material.{symbols_of, sorts_of, rules_of}
+use Rattle.rec_offences.specs.Material.{sorts_of, rules_of}
 use Rattle.rec_offences.specs.Listing.{listing, known}
 use Rattle.rec_offences.specs.Offences.{Include, is_clashing, is_passing}
 use Rattle.rec_offences.specs.Faults.{included_entries}

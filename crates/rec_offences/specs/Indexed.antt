@@ -3,7 +3,6 @@ use Rattle.std.specs.Prelude.{◌≡◌, ℕ, List, nat_eq}
 use Rattle.std.specs.Str.{bytes_eq}
 use Rattle.std.specs.Map.{lookup}
 use Rattle.std.specs.Cmp.Lexicographic.{pointwise}
-use Rattle.rec_reader.specs.declared.token.Name.{Name}
 use Rattle.rec_offences.specs.Names.{text_of}
 use Rattle.rec_offences.specs.Listing.{Listing, listing, place_in}
 use Rattle.rec_offences.specs.declared.directory.Directory.TheInside.{Inside}

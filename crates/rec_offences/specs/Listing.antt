@@ -1,12 +1,8 @@
 -- What the parts of a check show: names in order, declared names in order, and headers in order.
-use Rattle.std.specs.Prelude.{◌≡◌, ℕ, suc, List, [], ◌∷◌, Bool, Option, Some, None, map, slice_get, if◌then◌else◌}
+use Rattle.std.specs.Prelude.{ℕ, suc, List, [], ◌∷◌, Bool, Option, Some, None, map, slice_get, if◌then◌else◌}
 use Rattle.std.specs.Option.{option_map, option_map_or}
-use Rattle.std.specs.Str.{bytes_eq}
-use Rattle.std.specs.Map.{lookup}
-use Rattle.std.specs.Global.{Vec}
-use Rattle.indexmap.specs.IndexMap.{IndexMap}
 use Rattle.rec_reader.specs.declared.token.Name.{Name}
-use Rattle.rec_offences.specs.Names.{text_of, same_text}
+use Rattle.rec_offences.specs.Names.{same_text}
 use Rattle.rec_offences.specs.Material.{Header, declared}
 use Rattle.rec_offences.specs.Scope.{Entry}
 use Rattle.rec_offences.specs.declared.signatures.Signature.{Signature}
@@ -49,6 +45,9 @@ pub record Headed : Type 0 where
 
 abbrev pub headed : List ℕ → List Header → Headed
 headed bytes headers = record { bytes = bytes; headers = headers }
+
+abbrev pub names_in_headers : Headed → List Name
+names_in_headers h = map (λ header. header.name) h.headers
 
 -- the material of the header at this place, or nothing
 abbrev pub material_at : List Header → ℕ → List ℕ

@@ -1,16 +1,15 @@
 -- What is wrong with a specification, a definition for each kind: the names at which it is.
-use Rattle.std.specs.Prelude.{ℕ, ◌-◌, List, [], ◌∷◌, ◌++◌, Bool, true, false, not, ◌&&◌, ◌||◌, ◌==◌, Option, None, nat_le, length, map, slice_get, if◌then◌else◌}
+use Rattle.std.specs.Prelude.{ℕ, ◌-◌, List, [], ◌∷◌, ◌++◌, Bool, false, not, ◌&&◌, ◌||◌, ◌==◌, Option, None, nat_le, length, map, slice_get, if◌then◌else◌}
 use Rattle.std.specs.List.{flat_map, list_any, filter}
 use Rattle.std.specs.Option.{option_map_or, option_to_list, option_and_then, is_some}
 use Rattle.rec_reader.specs.declared.token.Name.{Name}
 use Rattle.rec_reader.specs.declared.syntax_tree.Node.{Node}
 use Rattle.rec_reader.specs.declared.syntax_tree.Declaration.{Declaration}
 use Rattle.rec_reader.specs.declared.syntax_tree.Variables.{Variables}
-use Rattle.rec_reader.specs.declared.syntax_tree.Condition.{Condition}
 use Rattle.rec_reader.specs.declared.syntax_tree.Rule.{Rule}
 use Rattle.rec_reader.specs.declared.syntax_tree.Specification.{Specification}
 use Rattle.rec_offences.specs.Names.{text_of, same_text, is_among}
-use Rattle.rec_offences.specs.Material.{Declared, Header, brought, fresh, with_numbers, symbols_by, symbols_of, rules_of}
+use Rattle.rec_offences.specs.Material.{Header, brought, fresh, with_numbers, symbols_by, symbols_of, rules_of}
 use Rattle.rec_offences.specs.Scope.{Entry, names_of, own_entries, look_up, is_variable, root, heads, Visit, visits}
 
 -- ---- Unknown sort: a sort of a declaration that isn't among the known ones

@@ -5,7 +5,8 @@ ghost use Rattle.rec_offences.specs.Names.{is_among};
 ghost use Rattle.rec_offences.specs.Scope.{names_of};
 ghost use Rattle.rec_offences.specs.Offences.{used_sorts, repeated, unknown_sorts, unknown_includes, repeated_names};
 ghost use Rattle.rec_offences.specs.Faults.{of_kind, least_with};
-ghost use Rattle.rec_offences.specs.Listing.{listing, known, entries_of};
+ghost use Rattle.rec_offences.specs.Listing.{listing, known, entries_of, names_in_headers};
+ghost use Rattle.rec_offences.specs.Grouped.{clashing_entries};
 ghost use Rattle.rec_offences.specs.Inclusion.{verdict_of};
 
 use crate::directory::Directory;
@@ -46,7 +47,8 @@ pub(crate) fn note_unknown_sorts(
     sorts: &Directory,
     specification: &Specification,
 ) -> Result<(), Memory>
-    ensures { OnOk result (found.new ≡ least_with found.old (of_kind UNKNOWN_SORT (unknown_sorts sorts.now.bytes sorts.now.names specification.now))) }
+    ensures { OnOk result (found.new ≡ least_with found.old
+        (of_kind UNKNOWN_SORT (unknown_sorts sorts.now.bytes sorts.now.names specification.now))) }
 {
     let used = used_sorts(alloc, specification)?;
     for sort in &used {
@@ -61,7 +63,8 @@ pub(crate) fn note_unknown_includes(
     headers: &Headers,
     specification: &Specification,
 )
-    ensures { found.new ≡ least_with found.old (of_kind INCLUDE (unknown_includes headers.now.bytes headers.now.headers specification.now)) }
+    ensures { found.new ≡ least_with found.old (of_kind INCLUDE
+        (unknown_includes headers.now.bytes headers.now.headers specification.now)) }
 {
     for entry in specification.includes.as_slice() {
         note_if(found, INCLUDE, *entry, !headers.has(*entry));
@@ -74,7 +77,8 @@ fn note_repeated(
     earlier: &mut Directory,
     names: &[Name],
 ) -> Result<(), Memory>
-    ensures noted { OnOk result (found.new ≡ least_with found.old (of_kind REPEATED (repeated earlier.old.bytes earlier.old.names names.now))) }
+    ensures noted { OnOk result (found.new ≡ least_with found.old
+        (of_kind REPEATED (repeated earlier.old.bytes earlier.old.names names.now))) }
 {
     for name in names {
         note_if(found, REPEATED, *name, earlier.has(*name));
@@ -89,8 +93,10 @@ fn declare<'a>(
     scope: &mut Scope<'a>,
     own: &[Signature<'a>],
 ) -> Result<(), Memory>
-    ensures declared { OnOk result (scope.new ≡ known scope.old.bytes (scope.old.entries ++ entries_of own.now)) }
-    ensures noted { OnOk result (found.new ≡ least_with found.old (of_kind REPEATED (repeated scope.old.bytes (names_of scope.old.entries) (names_of (entries_of own.now))))) }
+    ensures declared { OnOk result (scope.new
+        ≡ known scope.old.bytes (scope.old.entries ++ entries_of own.now)) }
+    ensures noted { OnOk result (found.new ≡ least_with found.old (of_kind REPEATED
+        (repeated scope.old.bytes (names_of scope.old.entries) (names_of (entries_of own.now))))) }
 {
     for signature in own {
         note_if(found, REPEATED, signature.name, scope.has(signature.name));
@@ -102,13 +108,13 @@ fn declare<'a>(
 /// Notes a header's name that an earlier header has.
 fn note_repeated_header(found: &mut Option<Offence>, headers: &Headers, name: Name)
     ensures { found.new ≡ least_with found.old (of_kind REPEATED
-        (filter (is_among headers.now.bytes (map (λ h. h.name) headers.now.headers)) (name ∷ []))) }
+        (filter (is_among headers.now.bytes (names_in_headers headers.now)) (name ∷ []))) }
 {
     note_if(found, REPEATED, name, headers.has(name));
 }
 
 fn note_clashing_entries(found: &mut Option<Offence>, verdicts: &[Verdict])
-    ensures { found.new ≡ least_with found.old (of_kind REPEATED (map (λ v. v.entry) (filter (λ v. v.is_clashing) verdicts.now))) }
+    ensures { found.new ≡ least_with found.old (of_kind REPEATED (clashing_entries verdicts.now)) }
 {
     for verdict in verdicts {
         note_if(found, REPEATED, verdict.entry, verdict.is_clashing);
@@ -125,12 +131,14 @@ pub(crate) fn note_repeated_names<'a>(
     own: &[Signature<'a>],
     specification: &Specification,
 ) -> Result<(), Memory>
-    ensures declared { OnOk result (scope.new ≡ known scope.old.bytes (scope.old.entries ++ entries_of own.now)) }
+    ensures declared { OnOk result (scope.new
+        ≡ known scope.old.bytes (scope.old.entries ++ entries_of own.now)) }
     ensures noted { OnOk result (found.new ≡ least_with found.old (of_kind REPEATED
-        (filter (is_among headers.now.bytes (map (λ h. h.name) headers.now.headers)) (specification.now.name ∷ [])
+        (filter (is_among headers.now.bytes (names_in_headers headers.now))
+        (specification.now.name ∷ [])
         ++ repeated headers.now.bytes [] specification.now.sorts
         ++ repeated scope.old.bytes (names_of scope.old.entries) (names_of (entries_of own.now))
-        ++ map (λ v. v.entry) (filter (λ v. v.is_clashing) verdicts.now)))) }
+        ++ clashing_entries verdicts.now))) }
 {
     note_repeated_header(found, headers, specification.name);
     let mut sorts = Directory::new(alloc, headers.text());

@@ -95,7 +95,8 @@ impl<'a> Directory<'a> {
 
     /// Puts the heads of nodes at the end.
     pub(crate) fn add_heads(&mut self, nodes: &[Node]) -> Result<(), Memory>
-        ensures { OnOk result (self.new ≡ listing self.old.bytes (self.old.names ++ heads nodes.now)) }
+        ensures { OnOk result (self.new
+            ≡ listing self.old.bytes (self.old.names ++ heads nodes.now)) }
     {
         for node in nodes {
             self.add(node.head)?;

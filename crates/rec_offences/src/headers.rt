@@ -2,7 +2,7 @@
 ghost use Rattle.std.specs.Prelude.{◌≡◌, ◌++◌, ◌∷◌, [], OnOk, map, length};
 ghost use Rattle.rec_offences.specs.Names.{is_among};
 ghost use Rattle.rec_offences.specs.Material.{brought, header};
-ghost use Rattle.rec_offences.specs.Listing.{headed, material_at};
+ghost use Rattle.rec_offences.specs.Listing.{headed, material_at, names_in_headers};
 
 use crate::directory::Directory;
 use faults::Memory;
@@ -54,7 +54,7 @@ impl<'a> Headers<'a> {
 
     /// Whether a header has this name.
     pub(crate) fn has(&self, name: Name) -> bool
-        ensures { result ≡ is_among self.now.bytes (map (λ h. h.name) self.now.headers) name }
+        ensures { result ≡ is_among self.now.bytes (names_in_headers self.now) name }
     {
         self.names.has(name)
     }
@@ -80,7 +80,8 @@ impl<'a> Headers<'a> {
 
     /// Puts a header at the end.
     pub(crate) fn add(&mut self, name: Name, material: Vec<usize>) -> Result<(), Memory>
-        ensures { OnOk result (self.new ≡ headed self.old.bytes (self.old.headers ++ header name material.items ∷ [])) }
+        ensures { OnOk result (self.new
+            ≡ headed self.old.bytes (self.old.headers ++ header name material.items ∷ [])) }
     {
         self.rows.push(HeaderRow { name, material })?;
         match self.names.add(name) {

@@ -46,7 +46,8 @@ fn add_fresh(
     material: &mut IndexSet<usize>,
     brought: &[usize],
 ) -> Result<Vec<usize>, Memory>
-    ensures material { OnOk result (material.new.keys ≡ with_numbers material.old.keys brought.now) }
+    ensures material { OnOk result (material.new.keys
+        ≡ with_numbers material.old.keys brought.now) }
     ensures added { IfOk result (λ v. v.items ≡ fresh material.old.keys brought.now) }
 {
     let mut added = Vec::new(alloc);
@@ -110,7 +111,8 @@ fn add_sorts(
     earlier: &[Specification],
     numbers: &[usize],
 ) -> Result<(), Memory>
-    ensures { OnOk result (sorts.new ≡ listing sorts.old.bytes (sorts.old.names ++ sorts_of earlier.now numbers.now)) }
+    ensures { OnOk result (sorts.new
+        ≡ listing sorts.old.bytes (sorts.old.names ++ sorts_of earlier.now numbers.now)) }
 {
     for number in numbers {
         sorts.add_all(sorts_at(earlier, *number))?;
@@ -141,7 +143,8 @@ fn count_rules(earlier: &[Specification], numbers: &[usize], before: usize) -> u
 
 /// Whether one of these is declared.
 fn clashes(scope: &Scope, signatures: &[Signature]) -> bool
-    ensures { result ≡ list_any (is_among scope.now.bytes (names_of scope.now.entries)) (names_of (entries_of signatures.now)) }
+    ensures { result ≡ list_any (is_among scope.now.bytes (names_of scope.now.entries))
+        (names_of (entries_of signatures.now)) }
 {
     for signature in signatures {
         if scope.has(signature.name) {
@@ -193,10 +196,12 @@ impl<'a> Inclusion<'a> {
         requires { IsInclusion headers.now.bytes earlier.now self.old }
         ensures kept { OnOk result (IsInclusion headers.now.bytes earlier.now self.new) }
         ensures material { OnOk result (self.new.material.keys
-            ≡ with_numbers self.old.material.keys (brought headers.now.bytes headers.now.headers entry)) }
+            ≡ with_numbers self.old.material.keys
+            (brought headers.now.bytes headers.now.headers entry)) }
         ensures verdict { OnOk result (self.new.verdicts.items ≡ self.old.verdicts.items
             ++ verdict_of headers.now.bytes earlier.now
-            (include entry self.old.material.keys (brought headers.now.bytes headers.now.headers entry)) ∷ []) }
+            (include entry self.old.material.keys
+            (brought headers.now.bytes headers.now.headers entry)) ∷ []) }
     {
         let added = add_fresh(alloc, &mut self.material, headers.brought(entry))?;
         let signatures = symbols_at(alloc, earlier, &added)?;
@@ -224,9 +229,11 @@ pub(crate) fn included<'a>(
     entries: &[Name],
 ) -> Result<Inclusion<'a>, Memory>
     ensures kept { IfOk result (λ i. IsInclusion headers.now.bytes earlier.now i) }
-    ensures material { IfOk result (λ i. i.material.keys ≡ included headers.now.bytes headers.now.headers entries.now) }
+    ensures material { IfOk result (λ i. i.material.keys
+        ≡ included headers.now.bytes headers.now.headers entries.now) }
     ensures verdicts { IfOk result (λ i. i.verdicts.items
-        ≡ map (verdict_of headers.now.bytes earlier.now) (includes_from headers.now.bytes headers.now.headers [] entries.now)) }
+        ≡ map (verdict_of headers.now.bytes earlier.now)
+        (includes_from headers.now.bytes headers.now.headers [] entries.now)) }
 {
     let mut inclusion = Inclusion::new(alloc, headers.text());
     for entry in entries {

@@ -33,8 +33,11 @@ fn note_declared<'a>(
 ) -> Result<(), Memory>
     requires sorts { sorts.old.bytes ≡ headers.now.bytes }
     requires scope { scope.old.bytes ≡ headers.now.bytes }
-    ensures declared { OnOk result (scope.new ≡ known scope.old.bytes (scope.old.entries ++ entries_of own.now)) }
-    ensures noted { OnOk result (found.new ≡ least_with found.old (declared_group headers.now.bytes headers.now.headers verdicts.now sorts.old.names scope.old.entries (entries_of own.now) specification.now)) }
+    ensures declared { OnOk result (scope.new
+        ≡ known scope.old.bytes (scope.old.entries ++ entries_of own.now)) }
+    ensures noted { OnOk result (found.new ≡ least_with found.old
+        (declared_group headers.now.bytes headers.now.headers verdicts.now
+        sorts.old.names scope.old.entries (entries_of own.now) specification.now)) }
 {
     sorts.add_all(specification.sorts.as_slice())?;
     note_unknown_sorts(alloc, found, sorts, specification)?;
@@ -54,7 +57,9 @@ fn note_used(
     specification: &Specification,
 ) -> Result<(), Memory>
     requires { scope.now.bytes ≡ headers.now.bytes }
-    ensures { OnOk result (found.new ≡ least_with found.old (used_group headers.now.bytes headers.now.headers before.0 before.1 verdicts.now (entries_of symbols.now) scope.now.entries specification.now)) }
+    ensures { OnOk result (found.new ≡ least_with found.old
+        (used_group headers.now.bytes headers.now.headers before.0 before.1 verdicts.now
+        (entries_of symbols.now) scope.now.entries specification.now)) }
 {
     note_misplaced_variables(alloc, found, scope, specification)?;
     note_unknown_includes(found, headers, specification);
@@ -82,9 +87,13 @@ fn note_included<'a>(
     requires scope { included.old.scope.bytes ≡ headers.now.bytes }
     ensures material { OnOk result (included.new.material.keys ≡ included.old.material.keys) }
     ensures noted { OnOk result (found.new ≡ least_with found.old
-        (declared_group headers.now.bytes headers.now.headers included.old.verdicts.items included.old.sorts.names included.old.scope.entries (own_entries specification.now) specification.now
-        ++ used_group headers.now.bytes headers.now.headers (length included.old.scope.entries) included.old.rules included.old.verdicts.items
-        (map symbol_entry (symbols_by specification.now)) (included.old.scope.entries ++ own_entries specification.now) specification.now)) }
+        (declared_group headers.now.bytes headers.now.headers included.old.verdicts.items
+        included.old.sorts.names included.old.scope.entries
+        (own_entries specification.now) specification.now
+        ++ used_group headers.now.bytes headers.now.headers
+        (length included.old.scope.entries) included.old.rules included.old.verdicts.items
+        (map symbol_entry (symbols_by specification.now))
+        (included.old.scope.entries ++ own_entries specification.now) specification.now)) }
 {
     let before = (included.scope.len(), included.rules);
     let symbols = own_symbols(alloc, specification)?;
@@ -120,22 +129,25 @@ fn note_offences<'a>(
     headers: &Headers<'a>,
     specification: &'a Specification,
 ) -> Result<Vec<usize>, Memory>
-    ensures material { IfOk result (λ m. m.items ≡ included headers.now.bytes headers.now.headers specification.now.includes) }
-    ensures noted { OnOk result (found.new ≡ least_with found.old (offences_over headers.now.bytes earlier.now headers.now.headers
-        (included headers.now.bytes headers.now.headers specification.now.includes) specification.now)) }
+    ensures material { IfOk result (λ m. m.items
+        ≡ included headers.now.bytes headers.now.headers specification.now.includes) }
+    ensures noted { OnOk result (found.new ≡ least_with found.old
+        (offences_over headers.now.bytes earlier.now headers.now.headers
+        (included headers.now.bytes headers.now.headers specification.now.includes)
+        specification.now)) }
 {
     let mut included = included(alloc, earlier, headers, specification.includes.as_slice())?;
     note_included(alloc, found, headers, &mut included, specification)?;
     Ok(Vec::from_slice(alloc, included.material.as_slice())?)
 }
 
-/// The fault of specifications: of all their offences the one with the least offset, and of those the one
-/// of the least kind. None exactly where there is no offence.
+/// The fault of specifications: of all their offences the one with the least offset, and of those
+/// the one of the least kind. None exactly where there is no offence.
 ///
-/// The kinds: 4 an unknown sort, 5 an unknown name, 6 a repeated name, 7 another number of arguments than
-/// declared, 8 another sort than declared, 9 a variable as a left side, 10 a variable that doesn't occur on the
-/// left, 11 a variable in a term to be rewritten, 12 an include that no earlier header has, 13 more than the
-/// limits allow.
+/// The kinds: 4 an unknown sort, 5 an unknown name, 6 a repeated name, 7 another number of
+/// arguments than declared, 8 another sort than declared, 9 a variable as a left side, 10 a variable
+/// that doesn't occur on the left, 11 a variable in a term to be rewritten, 12 an include that no
+/// earlier header has, 13 more than the limits allow.
 pub fn fault(alloc: Global, syntax: &Syntax) -> Result<Option<Offence>, Memory>
     ensures { IfOk result (λ f. f ≡ fault_of syntax.now) }
 {

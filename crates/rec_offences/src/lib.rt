@@ -1,4 +1,5 @@
-//! What is wrong with specifications: the offences at their names, and the fault, the least of them.
+//! What is wrong with specifications: the offences at their names, and the fault, the least of
+//! them.
 #![tactic(auto)]
 
 mod declarations;
@@ -6,6 +7,8 @@ mod directory;
 mod headers;
 mod inclusion;
 mod input;
+#[cfg(test)]
+mod limit_tests;
 mod limits;
 mod names;
 mod offence;

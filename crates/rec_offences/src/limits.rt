@@ -6,6 +6,7 @@ ghost use Rattle.rec_offences.specs.Scope.{root, heads};
 ghost use Rattle.rec_offences.specs.Offences.{is_long, names_in, names_in_declaration, names_in_variables, terms_of, first_past};
 ghost use Rattle.rec_offences.specs.Faults.{of_kind, least_with};
 ghost use Rattle.rec_offences.specs.Listing.{entries_of};
+ghost use Rattle.rec_offences.specs.Grouped.{passing_entries};
 
 use crate::inclusion::{MOST, Verdict};
 use crate::names::text_of;
@@ -26,13 +27,15 @@ pub(crate) fn root(nodes: &[Node]) -> Option<Name>
 }
 
 fn note_long_name(found: &mut Option<Offence>, text: &[u8], name: Name)
-    ensures { found.new ≡ least_with found.old (of_kind LIMIT (filter (is_long text.now) (name ∷ []))) }
+    ensures { found.new ≡ least_with found.old
+        (of_kind LIMIT (filter (is_long text.now) (name ∷ []))) }
 {
     note_if(found, LIMIT, name, text_of(text, name).len() > LONGEST_NAME);
 }
 
 fn note_long(found: &mut Option<Offence>, text: &[u8], names: &[Name])
-    ensures { found.new ≡ least_with found.old (of_kind LIMIT (filter (is_long text.now) names.now)) }
+    ensures { found.new ≡ least_with found.old
+        (of_kind LIMIT (filter (is_long text.now) names.now)) }
 {
     for name in names {
         note_long_name(found, text, *name);
@@ -40,7 +43,8 @@ fn note_long(found: &mut Option<Offence>, text: &[u8], names: &[Name])
 }
 
 fn note_long_heads(found: &mut Option<Offence>, text: &[u8], nodes: &[Node])
-    ensures { found.new ≡ least_with found.old (of_kind LIMIT (filter (is_long text.now) (heads nodes.now))) }
+    ensures { found.new ≡ least_with found.old
+        (of_kind LIMIT (filter (is_long text.now) (heads nodes.now))) }
 {
     for node in nodes {
         note_long_name(found, text, node.head);
@@ -48,7 +52,8 @@ fn note_long_heads(found: &mut Option<Offence>, text: &[u8], nodes: &[Node])
 }
 
 fn note_long_in_declaration(found: &mut Option<Offence>, text: &[u8], declaration: &Declaration)
-    ensures { found.new ≡ least_with found.old (of_kind LIMIT (filter (is_long text.now) (names_in_declaration declaration.now))) }
+    ensures { found.new ≡ least_with found.old
+        (of_kind LIMIT (filter (is_long text.now) (names_in_declaration declaration.now))) }
 {
     note_long(found, text, declaration.names.as_slice());
     note_long(found, text, declaration.arguments.as_slice());
@@ -56,14 +61,16 @@ fn note_long_in_declaration(found: &mut Option<Offence>, text: &[u8], declaratio
 }
 
 fn note_long_in_variables(found: &mut Option<Offence>, text: &[u8], variables: &Variables)
-    ensures { found.new ≡ least_with found.old (of_kind LIMIT (filter (is_long text.now) (names_in_variables variables.now))) }
+    ensures { found.new ≡ least_with found.old
+        (of_kind LIMIT (filter (is_long text.now) (names_in_variables variables.now))) }
 {
     note_long(found, text, variables.names.as_slice());
     note_long_name(found, text, variables.sort);
 }
 
 fn note_long_in_rule(found: &mut Option<Offence>, text: &[u8], rule: &Rule)
-    ensures { found.new ≡ least_with found.old (of_kind LIMIT (filter (is_long text.now) (flat_map heads (terms_of rule.now)))) }
+    ensures { found.new ≡ least_with found.old
+        (of_kind LIMIT (filter (is_long text.now) (flat_map heads (terms_of rule.now)))) }
 {
     note_long_heads(found, text, rule.left.as_slice());
     note_long_heads(found, text, rule.right.as_slice());
@@ -75,7 +82,8 @@ fn note_long_in_rule(found: &mut Option<Offence>, text: &[u8], rule: &Rule)
 
 /// Notes the names that are too long.
 fn note_long_names(found: &mut Option<Offence>, text: &[u8], specification: &Specification)
-    ensures { found.new ≡ least_with found.old (of_kind LIMIT (filter (is_long text.now) (names_in specification.now))) }
+    ensures { found.new ≡ least_with found.old
+        (of_kind LIMIT (filter (is_long text.now) (names_in specification.now))) }
 {
     note_long_name(found, text, specification.name);
     note_long(found, text, specification.includes.as_slice());
@@ -106,7 +114,8 @@ fn past_arguments(arguments: &[Name]) -> Option<Name>
 
 /// Notes the 17th sorts of arguments.
 fn note_many_arguments(found: &mut Option<Offence>, declarations: &[Declaration])
-    ensures { found.new ≡ least_with found.old (of_kind LIMIT (flat_map (λ d. option_to_list (slice_get d.arguments 16)) declarations.now)) }
+    ensures { found.new ≡ least_with found.old (of_kind LIMIT
+        (flat_map (λ d. option_to_list (slice_get d.arguments 16)) declarations.now)) }
 {
     for declaration in declarations {
         note_some(
@@ -129,7 +138,8 @@ fn past<T>(before: usize, items: &[T]) -> Option<&T>
 
 /// The name of the symbol with which there are too many.
 fn past_symbol(before: usize, symbols: &[Signature]) -> Option<Name>
-    ensures { result ≡ option_map (λ e. e.declared.name) (first_past before (entries_of symbols.now)) }
+    ensures { result ≡ option_map (λ e. e.declared.name)
+        (first_past before (entries_of symbols.now)) }
 {
     let symbol = past(before, symbols)?;
     Some(symbol.name)
@@ -150,15 +160,15 @@ fn past_term(terms: &[Sequence<Node>]) -> Option<Name>
 }
 
 fn note_passing_entries(found: &mut Option<Offence>, verdicts: &[Verdict])
-    ensures { found.new ≡ least_with found.old (of_kind LIMIT (map (λ v. v.entry) (filter (λ v. v.is_passing) verdicts.now))) }
+    ensures { found.new ≡ least_with found.old (of_kind LIMIT (passing_entries verdicts.now)) }
 {
     for verdict in verdicts {
         note_if(found, LIMIT, verdict.entry, verdict.is_passing);
     }
 }
 
-/// Notes what is past the limits; `symbols` are the specification's own, and so many symbols and rules are
-/// included.
+/// Notes what is past the limits; `symbols` are the specification's own, and so many symbols and
+/// rules are included.
 pub(crate) fn note_past_limits(
     found: &mut Option<Offence>,
     text: &[u8],
@@ -170,10 +180,12 @@ pub(crate) fn note_past_limits(
     ensures { found.new ≡ least_with found.old (of_kind LIMIT
         (filter (is_long text.now) (names_in specification.now)
         ++ flat_map (λ d. option_to_list (slice_get d.arguments 16)) specification.now.declarations
-        ++ option_to_list (option_map (λ e. e.declared.name) (first_past included.0 (entries_of symbols.now)))
-        ++ option_to_list (option_and_then (λ r. root r.left) (first_past included.1 specification.now.rules))
+        ++ option_to_list (option_map (λ e. e.declared.name)
+        (first_past included.0 (entries_of symbols.now)))
+        ++ option_to_list (option_and_then (λ r. root r.left)
+        (first_past included.1 specification.now.rules))
         ++ option_to_list (option_and_then root (first_past 0 specification.now.terms))
-        ++ map (λ v. v.entry) (filter (λ v. v.is_passing) verdicts.now))) }
+        ++ passing_entries verdicts.now)) }
 {
     let (before_symbols, before_rules) = included;
     note_long_names(found, text, specification);

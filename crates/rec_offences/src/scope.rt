@@ -93,7 +93,8 @@ impl<'a> Scope<'a> {
 
     /// Declares a name, after the others.
     pub(crate) fn add(&mut self, signature: Signature<'a>) -> Result<(), Memory>
-        ensures { OnOk result (self.new ≡ known self.old.bytes (self.old.entries ++ entry_of signature.entry ∷ [])) }
+        ensures { OnOk result (self.new
+            ≡ known self.old.bytes (self.old.entries ++ entry_of signature.entry ∷ [])) }
     {
         self.signatures.push(signature)?;
         match self.names.add(signature.name) {
@@ -107,7 +108,8 @@ impl<'a> Scope<'a> {
 
     /// Declares names, after the others.
     pub(crate) fn add_all(&mut self, signatures: &[Signature<'a>]) -> Result<(), Memory>
-        ensures { OnOk result (self.new ≡ known self.old.bytes (self.old.entries ++ entries_of signatures.now)) }
+        ensures { OnOk result (self.new
+            ≡ known self.old.bytes (self.old.entries ++ entries_of signatures.now)) }
     {
         for signature in signatures {
             self.add(*signature)?;

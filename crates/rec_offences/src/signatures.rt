@@ -22,7 +22,8 @@ fn add_declaration<'a>(
     signatures: &mut Vec<Signature<'a>>,
 ) -> Result<(), Memory>
     ensures { OnOk result (entries_of signatures.new.items
-        ≡ entries_of signatures.old.items ++ map symbol_entry (symbols_of_declaration declaration.now)) }
+        ≡ entries_of signatures.old.items
+        ++ map symbol_entry (symbols_of_declaration declaration.now)) }
 {
     for name in declaration.names.as_slice() {
         signatures.push(Signature {
@@ -86,7 +87,8 @@ pub(crate) fn own_symbols<'a>(
     alloc: Global,
     specification: &'a Specification,
 ) -> Result<Vec<Signature<'a>>, Memory>
-    ensures { IfOk result (λ v. entries_of v.items ≡ map symbol_entry (symbols_by specification.now)) }
+    ensures { IfOk result (λ v. entries_of v.items
+        ≡ map symbol_entry (symbols_by specification.now)) }
 {
     let mut signatures = Vec::new(alloc);
     add_symbols(specification, &mut signatures)?;

@@ -31,7 +31,8 @@ fn has_other_sort(scope: &Scope, wanted: Name, head: Name) -> bool
 }
 
 fn note_clashing(found: &mut Option<Offence>, scope: &Scope, wanted: &[Name], arguments: &[Name])
-    ensures { found.new ≡ least_with found.old (of_kind SORT_CLASH (clashing scope.now.bytes scope.now.entries wanted.now arguments.now)) }
+    ensures { found.new ≡ least_with found.old (of_kind SORT_CLASH
+        (clashing scope.now.bytes scope.now.entries wanted.now arguments.now)) }
 {
     for (sort, argument) in wanted.iter().zip(arguments) {
         note_if(
@@ -45,7 +46,8 @@ fn note_clashing(found: &mut Option<Offence>, scope: &Scope, wanted: &[Name], ar
 
 /// Notes what is wrong at a node.
 fn note_visit(found: &mut Option<Offence>, scope: &Scope, node: Node, arguments: &[Name])
-    ensures { found.new ≡ least_with found.old (at_visit scope.now.bytes scope.now.entries (visit node arguments.now)) }
+    ensures { found.new ≡ least_with found.old
+        (at_visit scope.now.bytes scope.now.entries (visit node arguments.now)) }
 {
     match scope.find(node.head) {
         Some(signature) => {
@@ -68,7 +70,8 @@ fn note_term(
     scope: &Scope,
     nodes: &[Node],
 ) -> Result<(), Memory>
-    ensures { OnOk result (found.new ≡ least_with found.old (flat_map (at_visit scope.now.bytes scope.now.entries) (visits [] nodes.now))) }
+    ensures { OnOk result (found.new ≡ least_with found.old
+        (flat_map (at_visit scope.now.bytes scope.now.entries) (visits [] nodes.now))) }
 {
     let mut stack = Vec::new(alloc);
     for node in nodes {
@@ -86,7 +89,8 @@ fn note_terms_of(
     scope: &Scope,
     rule: &Rule,
 ) -> Result<(), Memory>
-    ensures { OnOk result (found.new ≡ least_with found.old (flat_map (at_visit scope.now.bytes scope.now.entries)
+    ensures { OnOk result (found.new ≡ least_with found.old
+        (flat_map (at_visit scope.now.bytes scope.now.entries)
         (flat_map (visits []) (terms_of rule.now)))) }
 {
     note_term(alloc, found, scope, rule.left.as_slice())?;
@@ -105,7 +109,8 @@ fn note_terms(
     scope: &Scope,
     specification: &Specification,
 ) -> Result<(), Memory>
-    ensures { OnOk result (found.new ≡ least_with found.old (flat_map (at_visit scope.now.bytes scope.now.entries) (all_visits specification.now))) }
+    ensures { OnOk result (found.new ≡ least_with found.old
+        (flat_map (at_visit scope.now.bytes scope.now.entries) (all_visits specification.now))) }
 {
     for rule in specification.rules.as_slice() {
         note_terms_of(alloc, found, scope, rule)?;
@@ -118,7 +123,8 @@ fn note_terms(
 
 /// Notes a second side whose head has another sort than the first side's.
 fn note_clashing_side(found: &mut Option<Offence>, scope: &Scope, first: &[Node], second: &[Node])
-    ensures { found.new ≡ least_with found.old (of_kind SORT_CLASH (clashing_side scope.now.bytes scope.now.entries first.now second.now)) }
+    ensures { found.new ≡ least_with found.old (of_kind SORT_CLASH
+        (clashing_side scope.now.bytes scope.now.entries first.now second.now)) }
 {
     if let (Some(first), Some(second)) = (root(first), root(second)) {
         if let Some(signature) = scope.find(first) {
@@ -133,7 +139,8 @@ fn note_clashing_side(found: &mut Option<Offence>, scope: &Scope, first: &[Node]
 }
 
 fn note_clashing_in_rule(found: &mut Option<Offence>, scope: &Scope, rule: &Rule)
-    ensures { found.new ≡ least_with found.old (of_kind SORT_CLASH (clashing_sides scope.now.bytes scope.now.entries rule.now)) }
+    ensures { found.new ≡ least_with found.old
+        (of_kind SORT_CLASH (clashing_sides scope.now.bytes scope.now.entries rule.now)) }
 {
     note_clashing_side(found, scope, rule.left.as_slice(), rule.right.as_slice());
     for condition in rule.conditions.as_slice() {
@@ -148,14 +155,16 @@ fn note_clashing_in_rule(found: &mut Option<Offence>, scope: &Scope, rule: &Rule
 
 /// Notes the sides of rules and conditions that have another sort than the first side.
 fn note_clashing_sides(found: &mut Option<Offence>, scope: &Scope, rules: &[Rule])
-    ensures { found.new ≡ least_with found.old (of_kind SORT_CLASH (flat_map (clashing_sides scope.now.bytes scope.now.entries) rules.now)) }
+    ensures { found.new ≡ least_with found.old (of_kind SORT_CLASH
+        (flat_map (clashing_sides scope.now.bytes scope.now.entries) rules.now)) }
 {
     for rule in rules {
         note_clashing_in_rule(found, scope, rule);
     }
 }
 
-/// Notes what is wrong at heads: the unknown, those with another number of arguments and those of another sort.
+/// Notes what is wrong at heads: the unknown, those with another number of arguments and those of
+/// another sort.
 pub(crate) fn note_heads(
     alloc: Global,
     found: &mut Option<Offence>,

@@ -6,7 +6,7 @@ use std::alloc::Global;
 use std::test::Fail;
 
 /// The fault of an input as a kind and a place, or twice 0.
-fn fault_of(alloc: Global, text: &[u8]) -> Result<(u8, u64), Fail> {
+pub(crate) fn fault_of(alloc: Global, text: &[u8]) -> Result<(u8, u64), Fail> {
     let syntax = syntax(alloc, &tokens(alloc, text)?)?;
     match fault(alloc, &syntax)? {
         Some(Offence { kind, offset }) => Ok((kind, offset)),
@@ -15,7 +15,7 @@ fn fault_of(alloc: Global, text: &[u8]) -> Result<(u8, u64), Fail> {
 }
 
 // Inputs of one specification, with the kind and the place of the fault, or twice 0.
-static SINGLE: [(&[u8], u8, u64); 34] = [
+static SINGLE: [(&[u8], u8, u64); 41] = [
     (b"REC-SPEC A END-SPEC", 0, 0),
     (
         b"REC-SPEC A SORTS S CONS a : -> S OPNS f : S -> S VARS X : S RULES f(X) -> X EVAL f(a) END-SPEC",
@@ -155,10 +155,45 @@ static SINGLE: [(&[u8], u8, u64); 34] = [
         36,
     ),
     (b"REC-SPEC A : A SORTS S S END-SPEC", 12, 13),
+    // an entry where no header comes before
+    (b"REC-SPEC A : B END-SPEC", 12, 13),
+    // heads of a condition and of a right side that aren't declared
+    (
+        b"REC-SPEC A SORTS S CONS a : -> S RULES a -> a if a = b END-SPEC",
+        5,
+        53,
+    ),
+    (
+        b"REC-SPEC A SORTS S CONS a : -> S RULES a -> b END-SPEC",
+        5,
+        44,
+    ),
+    // variables have sorts too: of an argument, a right side and a second side
+    (
+        b"REC-SPEC A SORTS S T OPNS f : S -> S VARS X : T RULES f(X) -> f(X) END-SPEC",
+        8,
+        56,
+    ),
+    (
+        b"REC-SPEC A SORTS S T OPNS f : T -> S VARS X : T RULES f(X) -> X END-SPEC",
+        8,
+        62,
+    ),
+    (
+        b"REC-SPEC A SORTS S T OPNS f : T -> S VARS X : T RULES f(X) -> f(X) if f(X) <> X END-SPEC",
+        8,
+        78,
+    ),
+    // a constructor at the head of a rule
+    (
+        b"REC-SPEC A SORTS S CONS a b : -> S RULES a -> b END-SPEC",
+        0,
+        0,
+    ),
 ];
 
 // Inputs of several specifications, with the kind and the place of the fault, or twice 0.
-static SEVERAL: [(&[u8], u8, u64); 13] = [
+static SEVERAL: [(&[u8], u8, u64); 22] = [
     (
         b"REC-SPEC A SORTS S CONS a : -> S OPNS f : S -> S VARS X : S RULES f(X) -> X EVAL f(a) END-SPEC REC-SPEC B : A EVAL f(f(a)) END-SPEC",
         0,
@@ -215,6 +250,54 @@ static SEVERAL: [(&[u8], u8, u64); 13] = [
         0,
         0,
     ),
+    // a cycle of includes isn't possible
+    (b"REC-SPEC A : B END-SPEC REC-SPEC B : A END-SPEC", 12, 13),
+    // what is included by what is included counts as declared
+    (
+        b"REC-SPEC A SORTS S CONS a : -> S END-SPEC REC-SPEC B : A END-SPEC REC-SPEC C : B CONS b : -> S RULES a -> b EVAL a END-SPEC",
+        0,
+        0,
+    ),
+    // a sort that isn't included, and one that is listed again
+    (
+        b"REC-SPEC A SORTS S END-SPEC REC-SPEC B VARS X : S END-SPEC",
+        4,
+        48,
+    ),
+    (
+        b"REC-SPEC A SORTS S END-SPEC REC-SPEC B : A SORTS S END-SPEC",
+        0,
+        0,
+    ),
+    // included symbols have their arguments and their sorts
+    (
+        b"REC-SPEC A SORTS S CONS a : -> S END-SPEC REC-SPEC B : A EVAL a(a) END-SPEC",
+        7,
+        62,
+    ),
+    (
+        b"REC-SPEC A SORTS S T CONS a : -> S f : T -> S END-SPEC REC-SPEC B : A EVAL f(a) END-SPEC",
+        8,
+        77,
+    ),
+    // an included specification's variable isn't declared
+    (
+        b"REC-SPEC A SORTS S VARS X : S END-SPEC REC-SPEC B : A EVAL X END-SPEC",
+        5,
+        59,
+    ),
+    // a symbol with another number of arguments has the name of an included one
+    (
+        b"REC-SPEC A SORTS S CONS a : -> S END-SPEC REC-SPEC B : A CONS a : S -> S END-SPEC",
+        6,
+        62,
+    ),
+    // a name from two declarations, one of them included by an entry
+    (
+        b"REC-SPEC A SORTS S CONS a : -> S END-SPEC REC-SPEC B SORTS S CONS a : -> S END-SPEC REC-SPEC C : A END-SPEC REC-SPEC D : C B END-SPEC",
+        6,
+        123,
+    ),
 ];
 
 #[test]
@@ -229,89 +312,6 @@ fn single_specifications_have_their_faults(rt: HostRuntime) -> Result<(), Fail> 
 fn several_specifications_have_their_fault(rt: HostRuntime) -> Result<(), Fail> {
     for (text, kind, offset) in SEVERAL {
         assert_eq!(rt; fault_of(rt.alloc(), text)?, (kind, offset), "at {text:?}");
-    }
-    Ok(())
-}
-
-/// The front, so many times the middle, and the back.
-fn repeat(
-    alloc: Global,
-    front: &[u8],
-    middle: &[u8],
-    count: usize,
-    back: &[u8],
-) -> Result<Vec<u8>, Fail> {
-    let mut text = Vec::from_slice(alloc, front)?;
-    for _ in 0..count {
-        text.extend_from_slice(middle)?;
-    }
-    text.extend_from_slice(back)?;
-    Ok(text)
-}
-
-// A front, a middle with how often it stands, a back, and the kind and the place of the fault, or twice 0.
-static LIMITS: [(&[u8], &[u8], usize, &[u8], u8, u64); 8] = [
-    (b"REC-SPEC ", b"a", 255, b" END-SPEC", 0, 0),
-    (b"REC-SPEC ", b"a", 256, b" END-SPEC", 13, 9),
-    (
-        b"REC-SPEC A SORTS S CONS f :",
-        b" S",
-        16,
-        b" -> S END-SPEC",
-        0,
-        0,
-    ),
-    (
-        b"REC-SPEC A SORTS S CONS f :",
-        b" S",
-        17,
-        b" -> S END-SPEC",
-        13,
-        60,
-    ),
-    (
-        b"REC-SPEC A SORTS S CONS a : -> S EVAL",
-        b" a",
-        65_535,
-        b" END-SPEC",
-        0,
-        0,
-    ),
-    (
-        b"REC-SPEC A SORTS S CONS a : -> S EVAL",
-        b" a",
-        65_536,
-        b" END-SPEC",
-        13,
-        131_108,
-    ),
-    (
-        b"REC-SPEC A SORTS S CONS a : -> S RULES",
-        b" a -> a",
-        65_535,
-        b" END-SPEC",
-        0,
-        0,
-    ),
-    (
-        b"REC-SPEC A SORTS S CONS a : -> S RULES",
-        b" a -> a",
-        65_536,
-        b" END-SPEC",
-        13,
-        458_784,
-    ),
-];
-
-#[test]
-fn limits_are_taken_and_no_more(rt: HostRuntime) -> Result<(), Fail> {
-    for (front, middle, count, back, kind, offset) in LIMITS {
-        let text = repeat(rt.alloc(), front, middle, count, back)?;
-        assert_eq!(rt;
-            fault_of(rt.alloc(), &text)?,
-            (kind, offset),
-            "at {front:?}"
-        );
     }
     Ok(())
 }

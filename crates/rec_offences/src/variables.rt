@@ -1,11 +1,10 @@
 //! Offences of variables.
-ghost use Rattle.std.specs.Prelude.{◌≡◌, ◌++◌, ◌∷◌, [], OnOk, not, ◌&&◌};
+ghost use Rattle.std.specs.Prelude.{◌≡◌, ◌++◌, ◌∷◌, [], OnOk};
 ghost use Rattle.std.specs.List.{filter, flat_map};
 ghost use Rattle.std.specs.Option.{option_to_list};
-ghost use Rattle.rec_offences.specs.Names.{is_among};
 ghost use Rattle.rec_offences.specs.Scope.{is_variable, heads, root};
 ghost use Rattle.rec_offences.specs.Offences.{nodes_but_left, bare_variables, free_variables, not_ground};
-ghost use Rattle.rec_offences.specs.Visited.{free_variables_of};
+ghost use Rattle.rec_offences.specs.Visited.{is_free, free_variables_of};
 ghost use Rattle.rec_offences.specs.Faults.{of_kind, least_with};
 
 use crate::directory::Directory;
@@ -34,7 +33,8 @@ fn note_bare_variable(found: &mut Option<Offence>, scope: &Scope, left: &[Node])
 /// Notes the left sides that are a variable.
 fn note_bare_variables(found: &mut Option<Offence>, scope: &Scope, rules: &[Rule])
     ensures { found.new ≡ least_with found.old (of_kind BARE_VARIABLE (flat_map
-        (λ r. filter (is_variable scope.now.bytes scope.now.entries) (option_to_list (root r.left))) rules.now)) }
+        (λ r. filter (is_variable scope.now.bytes scope.now.entries) (option_to_list (root r.left)))
+        rules.now)) }
 {
     for rule in rules {
         note_bare_variable(found, scope, rule.left.as_slice());
@@ -43,9 +43,8 @@ fn note_bare_variables(found: &mut Option<Offence>, scope: &Scope, rules: &[Rule
 
 /// Notes the variables that aren't among those of the left side.
 fn note_free(found: &mut Option<Offence>, scope: &Scope, left: &Directory, nodes: &[Node])
-    ensures { found.new ≡ least_with found.old (of_kind FREE_VARIABLE (filter
-        (λ n. is_variable scope.now.bytes scope.now.entries n && not (is_among left.now.bytes left.now.names n))
-        (heads nodes.now))) }
+    ensures { found.new ≡ least_with found.old (of_kind FREE_VARIABLE
+        (filter (is_free scope.now left.now) (heads nodes.now))) }
 {
     for node in nodes {
         let is_free = scope.is_variable(node.head) && !left.has(node.head);
@@ -59,9 +58,8 @@ fn note_free_in_condition(
     left: &Directory,
     condition: &Condition,
 )
-    ensures { found.new ≡ least_with found.old (of_kind FREE_VARIABLE (filter
-        (λ n. is_variable scope.now.bytes scope.now.entries n && not (is_among left.now.bytes left.now.names n))
-        (heads (condition.now.first ++ condition.now.second)))) }
+    ensures { found.new ≡ least_with found.old (of_kind FREE_VARIABLE
+        (filter (is_free scope.now left.now) (heads (condition.now.first ++ condition.now.second)))) }
 {
     note_free(found, scope, left, condition.first.as_slice());
     note_free(found, scope, left, condition.second.as_slice());
@@ -69,9 +67,8 @@ fn note_free_in_condition(
 
 /// Notes the variables after the left side that aren't among these.
 fn note_free_but(found: &mut Option<Offence>, scope: &Scope, left: &Directory, rule: &Rule)
-    ensures { found.new ≡ least_with found.old (of_kind FREE_VARIABLE (filter
-        (λ n. is_variable scope.now.bytes scope.now.entries n && not (is_among left.now.bytes left.now.names n))
-        (heads (nodes_but_left rule.now)))) }
+    ensures { found.new ≡ least_with found.old (of_kind FREE_VARIABLE
+        (filter (is_free scope.now left.now) (heads (nodes_but_left rule.now)))) }
 {
     note_free(found, scope, left, rule.right.as_slice());
     for condition in rule.conditions.as_slice() {
@@ -140,7 +137,8 @@ pub(crate) fn note_misplaced_variables(
 ) -> Result<(), Memory>
     ensures { OnOk result (found.new ≡ least_with found.old
         (of_kind BARE_VARIABLE (bare_variables scope.now.bytes scope.now.entries specification.now)
-        ++ of_kind FREE_VARIABLE (free_variables scope.now.bytes scope.now.entries specification.now)
+        ++ of_kind FREE_VARIABLE
+        (free_variables scope.now.bytes scope.now.entries specification.now)
         ++ of_kind NOT_GROUND (not_ground scope.now.bytes scope.now.entries specification.now))) }
 {
     let rules = specification.rules.as_slice();

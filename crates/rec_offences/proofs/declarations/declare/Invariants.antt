@@ -1,4 +1,4 @@
-use Rattle.std.proofs.Common.{◌≡◌, ◌+◌, ◌-◌, ◌++◌, drop}
+use Rattle.std.proofs.Common.{◌≡◌, ◌++◌, drop}
 use Rattle.rec_offences.specs.Scope.{names_of}
 use Rattle.rec_offences.specs.Offences.{repeated}
 use Rattle.rec_offences.specs.Faults.{least_with, of_kind}

@@ -1,4 +1,4 @@
-use Rattle.std.proofs.Common.{◌≡◌, ◌-◌, drop}
+use Rattle.std.proofs.Common.{◌≡◌, drop}
 use Rattle.rec_offences.specs.Offences.{repeated}
 use Rattle.rec_offences.specs.Faults.{least_with, of_kind}
 use Rattle.rec_offences.proofs.declarations.note_repeated.Given as goal

@@ -1,4 +1,4 @@
-use Rattle.std.proofs.Common.{◌≡◌, ◌-◌, drop, map, not}
+use Rattle.std.proofs.Common.{◌≡◌, drop, map, not}
 use Rattle.std.specs.List.{filter}
 use Rattle.rec_offences.specs.Names.{is_among}
 use Rattle.rec_offences.specs.Faults.{least_with, of_kind}

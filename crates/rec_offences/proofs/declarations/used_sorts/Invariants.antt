@@ -1,4 +1,4 @@
-use Rattle.std.proofs.Common.{◌≡◌, ◌+◌, ◌-◌, ◌∷◌, [], ◌++◌, drop, map}
+use Rattle.std.proofs.Common.{◌≡◌, ◌∷◌, [], ◌++◌, drop, map}
 use Rattle.std.specs.List.{flat_map}
 use Rattle.rec_offences.proofs.declarations.used_sorts.Given as goal
 

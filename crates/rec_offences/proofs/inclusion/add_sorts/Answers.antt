@@ -1,4 +1,4 @@
-use Rattle.std.proofs.Common.{◌≡◌, ℕ, ◌∷◌, [], ◌++◌, get_or, ap, ◌∙◌}
+use Rattle.std.proofs.Common.{◌∷◌, [], ◌++◌, get_or, ap, ◌∙◌}
 use Rattle.rec_offences.specs.Material.{sorts_of}
 use Rattle.rec_offences.proofs.Gathered.{gathered_turn, default_in}
 use Rattle.rec_offences.proofs.Including.{at_append}

@@ -1,4 +1,4 @@
-use Rattle.std.proofs.Common.{◌≡◌, ◌+◌, ◌-◌, ◌++◌, drop}
+use Rattle.std.proofs.Common.{◌≡◌, ◌++◌, drop}
 use Rattle.rec_offences.specs.Material.{sorts_of}
 use Rattle.rec_offences.proofs.inclusion.add_sorts.Given as goal
 

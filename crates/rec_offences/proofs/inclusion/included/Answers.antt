@@ -1,8 +1,8 @@
-use Rattle.std.proofs.Common.{◌≡◌, ℕ, ◌+◌, List, ◌∷◌, [], ◌++◌, append_assoc, drop, map, fold, get_or, ap, sym, ◌∙◌}
+use Rattle.std.proofs.Common.{ℕ, ◌+◌, List, ◌∷◌, [], ◌++◌, append_assoc, drop, map, fold, get_or, ap, sym, ◌∙◌}
 use Rattle.rec_reader.specs.declared.token.Name.{Name}
 use Rattle.rec_offences.specs.Material.{brought, with_numbers}
 use Rattle.rec_offences.specs.Offences.{include, includes_from}
-use Rattle.rec_offences.specs.Inclusion.{IsInclusion, verdict_of}
+use Rattle.rec_offences.specs.Inclusion.{verdict_of}
 use Rattle.rec_offences.proofs.Gathered.{drop_at, default_in}
 use Rattle.rec_offences.proofs.inclusion.included.Goals as goal
 

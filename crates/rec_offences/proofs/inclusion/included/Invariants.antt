@@ -1,4 +1,4 @@
-use Rattle.std.proofs.Common.{◌≡◌, ◌+◌, ◌-◌, [], ◌++◌, drop, map, fold}
+use Rattle.std.proofs.Common.{◌≡◌, [], ◌++◌, drop, map, fold}
 use Rattle.rec_offences.specs.Material.{included, brought, with_numbers}
 use Rattle.rec_offences.specs.Offences.{includes_from}
 use Rattle.rec_offences.specs.Inclusion.{IsInclusion, verdict_of}

@@ -1,6 +1,4 @@
-use Rattle.std.proofs.Common.{◌≡◌, ℕ, ◌∷◌, [], ◌++◌, map, get_or, ap, ◌∙◌}
-use Rattle.rec_offences.specs.Material.{symbols_by, symbols_of}
-use Rattle.rec_offences.specs.Scope.{symbol_entry}
+use Rattle.std.proofs.Common.{◌∷◌, [], get_or}
 use Rattle.rec_offences.specs.Faults.{included_entries}
 use Rattle.rec_offences.specs.Listing.{entries_of}
 use Rattle.rec_offences.proofs.Gathered.{gathered_turn, default_in}

@@ -1,8 +1,8 @@
-use Rattle.std.proofs.Common.{◌≡◌, [], ◌∷◌, ◌++◌, None, take, refl, ap, ◌∙◌}
+use Rattle.std.proofs.Common.{[], ◌∷◌, ◌++◌, None, take, refl, ap, ◌∙◌}
 use Rattle.rec_offences.specs.Material.{header}
 use Rattle.rec_offences.specs.Faults.{least_with, offences_from}
 use Rattle.rec_offences.specs.Listing.{headed}
-use Rattle.rec_offences.proofs.Inputs.{Turn, turn}
+use Rattle.rec_offences.proofs.Inputs.{turn}
 use Rattle.rec_offences.proofs.input.fault.Goals as goal
 
 pub loop-number-preserved : goal.loop-number-preserved

@@ -1,4 +1,4 @@
-use Rattle.std.proofs.Common.{◌≡◌, List, ◌∷◌, [], ◌++◌, map, ap, ◌∙◌}
+use Rattle.std.proofs.Common.{◌∷◌, [], ◌++◌, map, ap, ◌∙◌}
 use Rattle.std.specs.List.{filter}
 use Rattle.rec_offences.specs.Names.{is_among}
 use Rattle.rec_offences.specs.Scope.{names_of}

@@ -1,4 +1,4 @@
-use Rattle.std.proofs.Common.{◌≡◌, ◌++◌, length, map, ap, ◌∙◌}
+use Rattle.std.proofs.Common.{◌++◌, length, map, ap, ◌∙◌}
 use Rattle.rec_offences.specs.Material.{symbols_by}
 use Rattle.rec_offences.specs.Scope.{symbol_entry, own_entries}
 use Rattle.rec_offences.specs.Faults.{least_with}

@@ -1,4 +1,4 @@
-use Rattle.std.proofs.Common.{◌≡◌, [], ◌++◌, length, map, refl, ap, ◌∙◌}
+use Rattle.std.proofs.Common.{[], ◌++◌, length, map, refl, ap, ◌∙◌}
 use Rattle.std.proofs.lemmas.List.{length-map}
 use Rattle.rec_offences.specs.Material.{included, symbols_by, symbols_of, sorts_of, rules_of}
 use Rattle.rec_offences.specs.Scope.{symbol_entry, own_entries}

@@ -1,4 +1,4 @@
-use Rattle.std.proofs.Common.{◌≡◌, ◌++◌, ap, ◌∙◌}
+use Rattle.std.proofs.Common.{◌++◌, ap, ◌∙◌}
 use Rattle.rec_offences.specs.Offences.{bare_variables, free_variables, not_ground, unknown_includes, unknown_names, wrong_counts, sort_clashes}
 use Rattle.rec_offences.specs.Faults.{of_kind, least_with}
 use Rattle.rec_offences.specs.Listing.{entries_of}

@@ -1,4 +1,4 @@
-use Rattle.std.proofs.Common.{◌≡◌, ◌-◌, drop}
+use Rattle.std.proofs.Common.{◌≡◌, drop}
 use Rattle.std.specs.List.{filter}
 use Rattle.rec_offences.specs.Offences.{is_long}
 use Rattle.rec_offences.specs.Faults.{least_with, of_kind}

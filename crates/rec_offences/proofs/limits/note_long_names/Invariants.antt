@@ -1,4 +1,4 @@
-use Rattle.std.proofs.Common.{◌≡◌, ◌-◌, drop}
+use Rattle.std.proofs.Common.{◌≡◌, drop}
 use Rattle.std.specs.List.{filter, flat_map}
 use Rattle.rec_offences.specs.Scope.{heads}
 use Rattle.rec_offences.specs.Offences.{is_long, names_in_declaration, names_in_variables, terms_of}

@@ -1,4 +1,4 @@
-use Rattle.std.proofs.Common.{◌≡◌, ◌+◌, ◌-◌, ◌++◌, drop, map}
+use Rattle.std.proofs.Common.{◌≡◌, ◌++◌, drop, map}
 use Rattle.rec_offences.specs.Material.{variable}
 use Rattle.rec_offences.specs.Scope.{variable_entry}
 use Rattle.rec_offences.specs.Listing.{entries_of}

@@ -1,4 +1,4 @@
-use Rattle.std.proofs.Common.{◌≡◌, ◌-◌, drop, length}
+use Rattle.std.proofs.Common.{◌≡◌, drop, length}
 use Rattle.rec_offences.specs.Offences.{clashing}
 use Rattle.rec_offences.specs.Faults.{least_with, of_kind}
 use Rattle.rec_offences.proofs.terms.note_clashing.Given as goal

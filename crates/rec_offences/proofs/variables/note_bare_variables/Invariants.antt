@@ -1,4 +1,4 @@
-use Rattle.std.proofs.Common.{◌≡◌, ◌-◌, drop}
+use Rattle.std.proofs.Common.{◌≡◌, drop}
 use Rattle.std.specs.List.{filter, flat_map}
 use Rattle.std.specs.Option.{option_to_list}
 use Rattle.rec_offences.specs.Scope.{is_variable, root}

@@ -1,4 +1,4 @@
-use Rattle.std.proofs.Common.{◌≡◌, ℕ, Bool, ◌&&◌, not, List, [], ◌++◌, refl, ap, sym, ◌∙◌, arith}
+use Rattle.std.proofs.Common.{Bool, ◌&&◌, not, List, ◌++◌, refl, ap, sym, ◌∙◌, arith}
 use Rattle.std.specs.List.{filter, flat_map}
 use Rattle.rec_reader.specs.declared.syntax_tree.Condition.{Condition}
 use Rattle.rec_reader.specs.declared.syntax_tree.Node.{Node}

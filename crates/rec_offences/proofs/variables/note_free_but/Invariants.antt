@@ -1,4 +1,4 @@
-use Rattle.std.proofs.Common.{◌≡◌, ◌+◌, ◌-◌, ◌++◌, drop, not, ◌&&◌}
+use Rattle.std.proofs.Common.{◌≡◌, ◌++◌, drop, not, ◌&&◌}
 use Rattle.std.specs.List.{filter, flat_map}
 use Rattle.rec_offences.specs.Names.{is_among}
 use Rattle.rec_offences.specs.Scope.{is_variable, heads}

@@ -1,4 +1,4 @@
-use Rattle.std.proofs.Common.{◌≡◌, ℕ, Bool, ◌&&◌, not, List, ◌++◌, ap, sym, ◌∙◌}
+use Rattle.std.proofs.Common.{Bool, ◌&&◌, not, List, ap, sym, ◌∙◌}
 use Rattle.std.specs.List.{filter}
 use Rattle.rec_reader.specs.declared.syntax_tree.Node.{Node}
 use Rattle.rec_reader.specs.declared.token.Name.{Name}

@@ -1,4 +1,4 @@
-use Rattle.std.proofs.Common.{◌≡◌, ◌-◌, drop}
+use Rattle.std.proofs.Common.{◌≡◌, drop}
 use Rattle.std.specs.List.{flat_map}
 use Rattle.rec_offences.specs.Faults.{least_with, of_kind}
 use Rattle.rec_offences.specs.Visited.{free_variables_of}

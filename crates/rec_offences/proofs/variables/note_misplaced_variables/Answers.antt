@@ -1,4 +1,4 @@
-use Rattle.std.proofs.Common.{◌≡◌, ap, ◌∙◌, sym}
+use Rattle.std.proofs.Common.{ap, ◌∙◌}
 use Rattle.std.specs.List.{flat_map, filter}
 use Rattle.std.specs.Option.{option_to_list}
 use Rattle.rec_offences.specs.Scope.{is_variable, heads, root}

@@ -1,4 +1,4 @@
-use Rattle.std.proofs.Common.{◌≡◌, ◌-◌, ◌∷◌, [], ◌++◌, Bool, true, false, length, ◌∙◌, ap, sym, subst, arith}
+use Rattle.std.proofs.Common.{◌≡◌, ◌-◌, length, ◌∙◌, ap, sym, subst, arith}
 use Rattle.rec_offences.specs.Names.{is_among}
 use Rattle.rec_offences.proofs.Places.{Looks, looks_again, looks_more}
 use Rattle.rec_offences.proofs.directory.Directory.add.Goals as goal

@@ -1,4 +1,4 @@
-use Rattle.std.proofs.Common.{◌≡◌, ◌+◌, ◌-◌, ◌++◌, drop}
+use Rattle.std.proofs.Common.{◌≡◌, ◌++◌, drop}
 use Rattle.rec_offences.specs.Scope.{heads}
 use Rattle.rec_offences.proofs.directory.Directory.add_heads.Given as goal
 

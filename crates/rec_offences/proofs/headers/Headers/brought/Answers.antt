@@ -1,4 +1,4 @@
-use Rattle.std.proofs.Common.{◌≡◌, [], Some, None, map, ◌∙◌, ap, sym}
+use Rattle.std.proofs.Common.{[], map, ◌∙◌, ap, sym}
 use Rattle.std.specs.Option.{option_map_or}
 use Rattle.rec_offences.specs.Names.{same_text}
 use Rattle.rec_offences.specs.Listing.{place_in, material_at}

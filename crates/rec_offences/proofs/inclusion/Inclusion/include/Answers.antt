@@ -2,7 +2,7 @@ use Rattle.std.proofs.Common.{◌≡◌, ℕ, ◌+◌, Bool, List, ◌∷◌, []
 use Rattle.rec_offences.specs.declared.inclusion.Verdict.{Verdict}
 use Rattle.rec_offences.specs.Material.{brought, fresh, with_numbers, sorts_of, rules_of}
 use Rattle.rec_offences.specs.Faults.{included_entries}
-use Rattle.rec_offences.specs.Inclusion.{IsInclusion, counted}
+use Rattle.rec_offences.specs.Inclusion.{counted}
 use Rattle.rec_offences.specs.Listing.{listing, known, entries_of}
 use Rattle.rec_offences.proofs.Including.{scope_more, sorts_more, rules_more, clashing_more, passing_more}
 use Rattle.rec_offences.proofs.inclusion.Inclusion.include.Goals as goal

@@ -1,4 +1,4 @@
-use Rattle.std.proofs.Common.{◌≡◌, ◌+◌, ◌-◌, ◌++◌, drop}
+use Rattle.std.proofs.Common.{◌≡◌, ◌++◌, drop}
 use Rattle.rec_offences.specs.Listing.{entries_of}
 use Rattle.rec_offences.proofs.scope.Scope.add_all.Given as goal
 

@@ -1,7 +1,7 @@
-use Rattle.std.proofs.Common.{◌≡◌, [], Some, None, map, slice_get, ◌∙◌, ap, sym}
-use Rattle.std.specs.Option.{option_map, option_and_then}
+use Rattle.std.proofs.Common.{slice_get, ◌∙◌, ap, sym}
+use Rattle.std.specs.Option.{option_and_then}
 use Rattle.rec_offences.specs.Names.{same_text}
-use Rattle.rec_offences.specs.Listing.{place_in, entry_of, entries_of}
+use Rattle.rec_offences.specs.Listing.{place_in, entries_of}
 use Rattle.rec_offences.proofs.Places.{found_at}
 use Rattle.rec_offences.proofs.scope.Scope.find.Goals as goal
 
