@@ -65,8 +65,8 @@ fn material_of(
     number: usize,
     specification: &Specification,
 ) -> Result<Vec<usize>, Memory>
-    ensures { (hs : List Header) → Agree text.now hs headers.now.materials.entries → number ≡ length hs
-        → IfOk result (λ v. v.items ≡ (header_after text.now hs specification.now).material) }
+    ensures { (hs : List Header) → Agree text.now hs headers.now.materials.entries
+        → number ≡ length hs → IfOk result (λ v. v.items ≡ (header_after text.now hs specification.now).material) }
 {
     let included = included(alloc, text, headers, specification.includes.as_slice())?;
     let mut material = Vec::from_slice(alloc, included.as_slice())?;
@@ -76,8 +76,8 @@ fn material_of(
 
 /// Keeps the material of a specification, unless one with its name came before.
 fn add(headers: &mut Headers, name: &[u8], material: Vec<usize>) -> Result<(), Memory>
-    ensures { (text : List ℕ) (hs : List Header) (h : Header) → Agree text hs headers.old.materials.entries
-        → name.now ≡ text_of text h.name → material.items ≡ h.material
+    ensures { (text : List ℕ) (hs : List Header) (h : Header)
+        → Agree text hs headers.old.materials.entries → name.now ≡ text_of text h.name → material.items ≡ h.material
         → OnOk result (Agree text (hs ++ h ∷ []) headers.new.materials.entries) }
 {
     if headers.materials.contains_key(name) {

@@ -53,7 +53,8 @@ pub(crate) fn table_of(
 }
 
 fn add_names(variables: &mut Names, text: &[u8], names: &[Name]) -> Result<(), Memory>
-    ensures { OnOk result (variables.new ≡ with_names variables.old (map (λ n. text_of text.now n) names.now)) }
+    ensures { OnOk result (variables.new
+        ≡ with_names variables.old (map (λ n. text_of text.now n) names.now)) }
 {
     for name in names {
         variables.add(text_of(text, *name))?;
@@ -115,7 +116,8 @@ pub(crate) fn rules_of(
     material: &[usize],
 ) -> Result<Vec<Rule>, Stop>
     ensures { Gives (λ v. v.items) result
-        (spelled.rules_of text.now symbols.now (specifications_at specifications.now material.now)) }
+        (spelled.rules_of text.now symbols.now
+        (specifications_at specifications.now material.now)) }
 {
     let mut rules = Vec::new(alloc);
     for number in material {

@@ -38,7 +38,8 @@ impl Table {
 
     /// Adds a symbol that isn't there, with at most 16 arguments.
     fn add(&mut self, name: &[u8], arity: usize) -> Result<(), Stop>
-        ensures { Gives (λ _. self.new.symbols) result (with_symbol self.old.symbols (named name.now arity)) }
+        ensures { Gives (λ _. self.new.symbols) result
+            (with_symbol self.old.symbols (named name.now arity)) }
     {
         if arity > MOST_ARGUMENTS {
             return Err(Stop::Unspelled);
@@ -59,7 +60,8 @@ impl Table {
 
     fn add_names(&mut self, text: &[u8], names: &[Name], arity: usize) -> Result<(), Stop>
         ensures { Gives (λ _. self.new.symbols) result
-            (with_symbols self.old.symbols (map (λ n. named (text_of text.now n) arity) names.now)) }
+            (with_symbols self.old.symbols
+            (map (λ n. named (text_of text.now n) arity) names.now)) }
     {
         for name in names {
             self.add(text_of(text, *name), arity)?;
@@ -70,7 +72,8 @@ impl Table {
     /// Adds the symbols of declarations, in order.
     pub(crate) fn declare(&mut self, text: &[u8], declarations: &[Declaration]) -> Result<(), Stop>
         ensures { Gives (λ _. self.new.symbols) result
-            (with_symbols self.old.symbols (named_in text.now (flat_map symbols_of_declaration declarations.now))) }
+            (with_symbols self.old.symbols
+            (named_in text.now (flat_map symbols_of_declaration declarations.now))) }
     {
         for declaration in declarations {
             let arity = declaration.arguments.as_slice().len();
