@@ -16,3 +16,4 @@ pub mod Spelling
 pub mod States
 pub mod Using
 pub mod Ways
+pub mod Skipping

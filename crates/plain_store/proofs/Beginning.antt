@@ -1,6 +1,6 @@
 -- A store at first: every row is free.
 use Rattle.std.proofs.Common.{◌≡◌, ℕ, ◌^◌, ◌<◌, ◌≤◌, inl, inr, false, [], Some, None, Option, length, get_or, ap, sym, ◌∙◌, subst, arith}
-use Rattle.std.specs.Prelude.{replicate, vec_capacity}
+use Rattle.std.specs.Prelude.{replicate}
 use Rattle.std.proofs.lemmas.Bool.{cases_lt}
 use Rattle.std.proofs.lemmas.List.{get_or_past, get_or-replicate, length-replicate}
 use Rattle.term_model.specs.Tree.{Tree}
@@ -51,7 +51,7 @@ contents_at_first s rows widest nodes places history inside raised wide =
     ap (λ (p : Past). let c : Contents = record { stack = s.places.items; trees = p.trees; inside = s.inside; built = p.built; hand = p.hand; refusals = p.refusals; widest = s.widest; room = s.room; raised = s.raised } in c) past
     ∙ cc
 
-pub right_at_first : (s : Inside) (rows widest : ℕ) → s.nodes ≡ free_slots rows widest → s.places.items ≡ [] → s.history.items ≡ [] → s.inside ≡ false → s.raised ≡ 0 → s.widest ≡ widest → s.room < 2 ^ 32 → s.room ≤ vec_capacity s.places → length s.marks ≡ rows → IsRight s
+pub right_at_first : (s : Inside) (rows widest : ℕ) → s.nodes ≡ free_slots rows widest → s.places.items ≡ [] → s.history.items ≡ [] → s.inside ≡ false → s.raised ≡ 0 → s.widest ≡ widest → s.room < 2 ^ 32 → s.room ≤ s.places.room → length s.marks ≡ rows → IsRight s
 right_at_first s rows widest nodes places history inside raised wide small capacity marks =
     let long : length s.nodes.slots ≡ rows = ap (λ (x : Slots). length x.slots) nodes ∙ length-replicate {A = Slot} rows None in
     let agree : Agree s.nodes (replicate rows None) = subst (λ (x : Slots). Agree x (replicate rows None)) (sym nodes) (agree_at_first rows widest) in

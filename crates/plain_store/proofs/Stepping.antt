@@ -1,6 +1,6 @@
 -- What each thing that happens to a store does to what contracts see of it.
 use Rattle.std.proofs.Common.{◌≡◌, ℕ, ◌-◌, ◌<◌, ◌≤◌, Bool, true, false, List, [], ◌∷◌, ◌++◌, Option, Some, None, length, take, drop, get_or, refl, ap, sym, ◌∙◌, subst, arith}
-use Rattle.std.specs.Prelude.{Contains, IfSome, IfNone, vec_capacity, if◌then◌else◌}
+use Rattle.std.specs.Prelude.{Contains, IfSome, IfNone, if◌then◌else◌}
 use Rattle.std.proofs.lemmas.List.{length-map, length-drop, ext_get_or}
 use Rattle.std.proofs.Math.Seq.{take-length}
 use Rattle.term_model.specs.declared.Row.{Row}
@@ -32,25 +32,15 @@ shape stack p inside widest room raised =
     record { stack = stack; trees = p.trees; inside = inside; built = p.built; hand = p.hand; refusals = p.refusals; widest = widest; room = room; raised = raised }
 
 -- a store is right by what contracts see
-pub right_from : (s : Inside) (c : Contents) → contents_of s ≡ c → Agree s.nodes c.trees → IsSound (store_of c) → s.room ≤ vec_capacity s.places → length s.marks ≡ length s.nodes.slots → s.nodes.widest ≡ s.widest → IsRight s
+pub right_from : (s : Inside) (c : Contents) → contents_of s ≡ c → Agree s.nodes c.trees → IsSound (store_of c) → s.room ≤ s.places.room → length s.marks ≡ length s.nodes.slots → s.nodes.widest ≡ s.widest → IsRight s
 right_from s c e agree sound capacity marks widest =
     record {
       agree = subst (λ (x : Contents). Agree s.nodes x.trees) (sym e) agree;
       sound = subst (λ (x : Contents). IsSound (store_of x)) (sym e) sound;
-      capacity = capacity;
+      places = capacity;
       marks = marks;
       widest = widest;
     }
-
--- a slice from a place to the end
-abbrev pub sliced : ℕ → List Row → List Row
-sliced k xs = take (length xs - k) (drop k xs)
-
--- the last of a list as a slice
-pub slice_last : (xs ys : List Row) (k m n : ℕ) → xs ≡ ys → length xs ≡ m → k ≡ m - n → sliced k xs ≡ last n ys
-slice_last xs ys k m n e f g =
-    let h : k ≡ length xs - n = omega arith in
-    ap (λ j. take j (drop k xs)) (sym (length-drop k xs)) ∙ take-length (drop k xs) ∙ ap (λ j. drop j xs) h ∙ ap (last n) e
 
 pub if_some : (o : Option Row) (P Q : Row → Type 0) → ((r : Row) → P r → Q r) → IfSome o P → IfSome o Q
 if_some None P Q f h = h

@@ -1,5 +1,5 @@
 -- What contracts see of a store: its fields, and what its history comes to.
-use Rattle.std.specs.Prelude.{◌≡◌, ◌≤◌, List, [], ◌∷◌, length, vec_capacity}
+use Rattle.std.specs.Prelude.{◌≡◌, ◌≤◌, List, [], ◌∷◌, length}
 use Rattle.term_model.specs.declared.Row.{Row}
 use Rattle.terms_api.specs.Terms.{IsSound}
 use Rattle.plain_store.specs.declared.event.Event.{Event}
@@ -33,6 +33,6 @@ contents_of s =
 pub record IsRight (s : Inside) : Type 0 where
   pub agree : Agree s.nodes (past s).trees
   pub sound : IsSound (store_of (contents_of s))
-  pub capacity : s.room ≤ vec_capacity s.places
+  pub places : s.room ≤ s.places.room
   pub marks : length s.marks ≡ length s.nodes.slots
   pub widest : s.nodes.widest ≡ s.widest

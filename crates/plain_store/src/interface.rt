@@ -4,7 +4,6 @@ ghost use Rattle.terms_api.specs.Terms.{IsSound, MayBuild, Built as BuiltOf, Not
 ghost use Rattle.plain_store.specs.Contents.{store_of, IsFilled, IsSame};
 
 use crate::PlainStore;
-use crate::places::{keep_ends, put};
 use term_model::{Head, Row};
 use terms_api::{BuildFault, Deep, Terms};
 
@@ -43,7 +42,7 @@ impl Terms for PlainStore {
     }
 
     fn at(&mut self, i: u32) -> Row {
-        self.places[i as usize]
+        self.places.at(i as usize)
     }
 
     fn head(&mut self, row: Row) -> Head {
@@ -62,7 +61,7 @@ impl Terms for PlainStore {
         if self.is_full() {
             return Err(Deep);
         }
-        put(&mut self.places, 0, row);
+        self.places.put(0, row);
         Ok(())
     }
 
@@ -97,7 +96,7 @@ impl Terms for PlainStore {
     }
 
     fn keep(&mut self, from: u32, top: u32) {
-        keep_ends(&mut self.places, from as usize, top as usize);
+        self.places.keep_ends(from as usize, top as usize);
     }
 
     fn epoch(&self) -> Option<u64> {

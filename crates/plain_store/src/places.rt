@@ -1,27 +1,110 @@
-// A stack of rows with room that was taken before.
-ghost use Rattle.std.specs.Prelude.{◌≡◌, ◌+◌, ◌-◌, ◌<◌, ◌≤◌, ◌++◌, [], ◌∷◌, take, vec_len, vec_capacity};
+// A stack of rows whose places were all taken before.
+ghost use Rattle.std.specs.Prelude.{◌≡◌, ◌+◌, ◌-◌, ◌<◌, ◌≤◌, ◌++◌, [], ◌∷◌, Some, IfOk, length, slice_get, take};
 ghost use Rattle.terms_api.specs.Terms.{last, but_last};
 
+use faults::Memory;
+use std::alloc::Global;
+use std::marker::Model;
 use term_model::Row;
 
-/// Puts a row in the place of the last `n`.
-pub(crate) fn put(places: &mut Vec<Row>, n: usize, row: Row)
-    requires some { n ≤ vec_len places.old }
-    requires room { vec_len places.old - n < vec_capacity places.old }
-    ensures items { places.new.items ≡ but_last n places.old.items ++ row ∷ [] }
-    ensures capacity { vec_capacity places.old ≤ vec_capacity places.new }
-{
-    places.truncate(places.len() - n);
-    let _ = places.push(row);
+/// A stack of rows with so many places. Contracts see the rows of those in use.
+#[derive(Drop)]
+pub(crate) struct Stack {
+    rows: Vec<Row>,
+    used: usize,
 }
 
-/// Leaves the lowest `from` places and the last `top`.
-pub(crate) fn keep_ends(places: &mut Vec<Row>, from: usize, top: usize)
-    requires { from + top ≤ vec_len places.old }
-    ensures items { places.new.items ≡ take from places.old.items ++ last top places.old.items }
-    ensures capacity { vec_capacity places.new ≡ vec_capacity places.old }
-{
-    let last = places.len() - top;
-    places.copy_within(last.., from);
-    places.truncate(from + top);
+impl Model for Stack {
+    ghost use Rattle.std.specs.Prelude.{◌≤◌, length, take};
+    ghost use Rattle.plain_store.specs.Places.{Places};
+
+    ghost Value = { Places };
+
+    ghost view = { λ s. record { items = take s.used s.rows.items; room = length s.rows.items } };
+
+    ghost invariant = { λ s. s.used ≤ length s.rows.items };
+}
+
+impl Stack {
+    /// So many places, none of them in use.
+    pub(crate) fn new(alloc: Global, room: u32) -> Result<Stack, Memory>
+        ensures empty { IfOk result (λ stack. stack.items ≡ []) }
+        ensures room { IfOk result (λ stack. stack.room ≡ room) }
+    {
+        Ok(Stack {
+            rows: vec![in alloc; Row(0); room as usize]?,
+            used: 0,
+        })
+    }
+
+    /// How many places are in use.
+    pub(crate) fn len(&self) -> usize
+        ensures length { result ≡ length self.now.items }
+        ensures room { result ≤ self.now.room }
+    {
+        self.used
+    }
+
+    /// The row at a place, the lowest being 0.
+    pub(crate) fn at(&self, place: usize) -> Row
+        requires { place < length self.now.items }
+        ensures { slice_get self.now.items place ≡ Some result }
+    {
+        self.rows[place]
+    }
+
+    /// The rows of the places in use.
+    pub(crate) fn rows(&self) -> &[Row]
+        ensures { result.now ≡ self.now.items }
+    {
+        &self.rows[..self.used]
+    }
+
+    /// The rows of the last `n`.
+    pub(crate) fn last(&self, n: usize) -> &[Row]
+        requires { n ≤ length self.now.items }
+        ensures { result.now ≡ last n self.now.items }
+    {
+        &self.rows[self.used - n..self.used]
+    }
+
+    /// Puts a row in the place of the last `n`.
+    pub(crate) fn put(&mut self, n: usize, row: Row)
+        requires some { n ≤ length self.old.items }
+        requires room { length self.old.items - n < self.old.room }
+        ensures items { self.new.items ≡ but_last n self.old.items ++ row ∷ [] }
+        ensures room { self.new.room ≡ self.old.room }
+    {
+        let at = self.used - n;
+        self.rows[at] = row;
+        self.used = at + 1;
+    }
+
+    /// Leaves the lowest `from` places and the last `top`.
+    pub(crate) fn keep_ends(&mut self, from: usize, top: usize)
+        requires { from + top ≤ length self.old.items }
+        ensures items { self.new.items ≡ take from self.old.items ++ last top self.old.items }
+        ensures room { self.new.room ≡ self.old.room }
+    {
+        self.used = self.move_last(from, top);
+    }
+
+    /// Writes the last `top` rows from a place on, and says which place is behind them.
+    fn move_last(&mut self, from: usize, top: usize) -> usize
+        requires { from + top ≤ length self.old.items }
+        ensures items { take (from + top) self.new.items
+            ≡ take from self.old.items ++ last top self.old.items }
+        ensures behind { result ≡ from + top }
+        ensures len { length self.new.items ≡ length self.old.items }
+        ensures room { self.new.room ≡ self.old.room }
+    {
+        let last = self.used - top;
+        let behind = from + top;
+        match top {
+            0 => {}
+            1 => self.rows[from] = self.rows[last],
+            _ => self.rows.copy_within(last..self.used, from),
+        }
+        behind
+    }
 }

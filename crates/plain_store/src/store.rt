@@ -8,7 +8,7 @@ use crate::collecting::{keep_reachable, raised_once};
 use crate::event::Event;
 use crate::history::History;
 use crate::nodes::Nodes;
-use crate::places::put;
+use crate::places::Stack;
 use faults::Memory;
 use mark_phase::Marks;
 use std::alloc::Global;
@@ -21,13 +21,13 @@ use terms_api::BuildFault;
 #[derive(Drop)]
 pub struct PlainStore {
     pub(crate) nodes: Nodes,
-    pub(crate) places: Vec<Row>,
+    pub(crate) places: Stack,
     pub(crate) marks: Marks,
     pub(crate) room: u32,
     pub(crate) widest: u32,
     pub(crate) inside: bool,
     pub(crate) raised: u64,
-    pub(crate) history: History<Vec<Row>, Event>,
+    pub(crate) history: History<Stack, Event>,
 }
 
 impl Model for PlainStore {
@@ -53,7 +53,7 @@ impl PlainStore {
     {
         let widest = widest.max(2);
         let nodes = Nodes::new(alloc, rows, widest)?;
-        let places = Vec::with_capacity(alloc, depth as usize)?;
+        let places = Stack::new(alloc, depth)?;
         let marks = Marks::new(alloc, rows)?;
         Ok(PlainStore {
             nodes,
@@ -75,8 +75,7 @@ impl PlainStore {
         ensures sound { IsSound (store_of self.now) }
         ensures holds { HoldsReachable self.now }
     {
-        let from = self.places.len() - n as usize;
-        self.nodes.find(head, &self.places[from..])
+        self.nodes.find(head, self.places.last(n as usize))
     }
 
     /// Puts a row that has the asked tree in the place of the last `n`.
@@ -87,7 +86,7 @@ impl PlainStore {
         ensures { self.new ≡ placed self.old head n row }
     {
         self.history = self.history.and(&self.places, &Event::Built(head, n, row));
-        put(&mut self.places, n as usize, row);
+        self.places.put(n as usize, row);
     }
 
     /// Gives a free row the asked tree, if there is one, and puts it in the place of the last `n`.
@@ -100,10 +99,9 @@ impl PlainStore {
         ensures full { IfNone result (HasNoFree self.old) }
         ensures unchanged { IfNone result (self.new ≡ self.old) }
     {
-        let from = self.places.len() - n as usize;
-        let row = self.nodes.make(head, &self.places[from..])?;
+        let row = self.nodes.make(head, self.places.last(n as usize))?;
         self.history = self.history.and(&self.places, &Event::Built(head, n, row));
-        put(&mut self.places, n as usize, row);
+        self.places.put(n as usize, row);
         Some(row)
     }
 
@@ -111,7 +109,7 @@ impl PlainStore {
     pub(crate) fn collect(&mut self)
         ensures { Collected self.old self.new }
     {
-        let lost = keep_reachable(&mut self.nodes, &self.places, &mut self.marks);
+        let lost = keep_reachable(&mut self.nodes, self.places.rows(), &mut self.marks);
         self.history = self.history.and(&self.places, &Event::Swept);
         if lost {
             self.raised = raised_once(self.raised);

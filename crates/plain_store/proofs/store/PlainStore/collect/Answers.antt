@@ -16,34 +16,34 @@ use Rattle.plain_store.proofs.store.PlainStore.collect.Goals as goal
 pub keep_reachable-lost-requires-clause-below : goal.keep_reachable-lost-requires-clause-below
 keep_reachable-lost-requires-clause-below c = λ p k r reaches.
     let s = c.self.inside in
-    reach_below s.nodes (contents_of s) c.self.invariant.agree c.self.invariant.sound p (subst (λ (xs : List Row). Contains xs p) c.deref.ensures.value k) r reaches
+    reach_below s.nodes (contents_of s) c.self.invariant.agree c.self.invariant.sound p (subst (λ (xs : List Row). Contains xs p) c.rows.ensures k) r reaches
 
 pub invariant_of-self : goal.invariant_of-self
 invariant_of-self c =
     let s = c.self.inside in
     let was = contents_of s in
     let e = c.keep_reachable-lost.ensures in
-    let marked = subst (λ (xs : List Row). MarksFrom (children s.nodes) xs c.keep_reachable-lost.new.marks) c.deref.ensures.value e.marked in
+    let marked = subst (λ (xs : List Row). MarksFrom (children s.nodes) xs c.keep_reachable-lost.new.marks) c.rows.ensures e.marked in
     let raised = c.raised_once-self-inside.result in
     let step = past_step s.history.items c.and-self-inside.result.items (λ v. v.items) (length s.nodes.slots) (length c.keep_reachable-lost.new.nodes.slots) s.places Swept c.and-self-inside.ensures e.swept.size in
     let is = ap (λ (p : Past). shape s.places.items p s.inside s.widest s.room raised) step in
     right_from _ (collected was raised) is
     (agree_collected s.nodes c.keep_reachable-lost.new.nodes was c.keep_reachable-lost.new.marks c.self.invariant.agree c.self.invariant.sound marked e.swept)
     (sound_collected was raised c.self.invariant.sound)
-    c.self.invariant.capacity (e.size ∙ c.self.invariant.marks ∙ sym e.swept.size) (e.swept.widest ∙ c.self.invariant.widest)
+    c.self.invariant.places (e.size ∙ c.self.invariant.marks ∙ sym e.swept.size) (e.swept.widest ∙ c.self.invariant.widest)
 
 pub invariant_of-self-else-lost : goal.invariant_of-self-else-lost
 invariant_of-self-else-lost c =
     let s = c.self.inside in
     let was = contents_of s in
     let e = c.keep_reachable-lost.ensures in
-    let marked = subst (λ (xs : List Row). MarksFrom (children s.nodes) xs c.keep_reachable-lost.new.marks) c.deref.ensures.value e.marked in
+    let marked = subst (λ (xs : List Row). MarksFrom (children s.nodes) xs c.keep_reachable-lost.new.marks) c.rows.ensures e.marked in
     let step = past_step s.history.items c.and-self-inside.result.items (λ v. v.items) (length s.nodes.slots) (length c.keep_reachable-lost.new.nodes.slots) s.places Swept c.and-self-inside.ensures e.swept.size in
     let is = ap (λ (p : Past). shape s.places.items p s.inside s.widest s.room s.raised) step in
     right_from _ (collected was s.raised) is
     (agree_collected s.nodes c.keep_reachable-lost.new.nodes was c.keep_reachable-lost.new.marks c.self.invariant.agree c.self.invariant.sound marked e.swept)
     (sound_collected was s.raised c.self.invariant.sound)
-    c.self.invariant.capacity (e.size ∙ c.self.invariant.marks ∙ sym e.swept.size) (e.swept.widest ∙ c.self.invariant.widest)
+    c.self.invariant.places (e.size ∙ c.self.invariant.marks ∙ sym e.swept.size) (e.swept.widest ∙ c.self.invariant.widest)
 
 pub returns-then-lost : goal.returns-then-lost
 returns-then-lost c =
@@ -61,7 +61,7 @@ returns-else-lost c =
     let s = c.self.inside in
     let was = contents_of s in
     let e = c.keep_reachable-lost.ensures in
-    let marked = subst (λ (xs : List Row). MarksFrom (children s.nodes) xs c.keep_reachable-lost.new.marks) c.deref.ensures.value e.marked in
+    let marked = subst (λ (xs : List Row). MarksFrom (children s.nodes) xs c.keep_reachable-lost.new.marks) c.rows.ensures e.marked in
     let step = past_step s.history.items c.and-self-inside.result.items (λ v. v.items) (length s.nodes.slots) (length c.keep_reachable-lost.new.nodes.slots) s.places Swept c.and-self-inside.ensures e.swept.size in
     let is = ap (λ (p : Past). shape s.places.items p s.inside s.widest s.room s.raised) step in
     let now = agree_collected s.nodes c.keep_reachable-lost.new.nodes was c.keep_reachable-lost.new.marks c.self.invariant.agree c.self.invariant.sound marked e.swept in

@@ -1,4 +1,4 @@
-use Rattle.std.proofs.Common.{◌∙◌, ◌-◌, ◌<◌, List, ap, sym, subst, length, arith}
+use Rattle.std.proofs.Common.{◌∙◌, ◌<◌, List, ap, sym, subst, length, arith}
 use Rattle.std.proofs.lemmas.List.{length-set}
 use Rattle.term_model.specs.declared.Row.{Row}
 use Rattle.terms_api.specs.Terms.{asked, MayBuild, NeedsPlace, last}
@@ -8,7 +8,7 @@ use Rattle.plain_store.specs.Agreement.{Agree}
 use Rattle.plain_store.specs.Contents.{Contents, Past, store_of, placed, after, IsAbsent, HasNoFree}
 use Rattle.plain_store.specs.View.{contents_of, past}
 use Rattle.plain_store.proofs.Placing.{node_of, place_free, sound_placed, agree_made}
-use Rattle.plain_store.proofs.Stepping.{past_step, shape, right_from, sliced, slice_last, no_free, if_none_any}
+use Rattle.plain_store.proofs.Stepping.{past_step, shape, right_from, no_free, if_none_any}
 use Rattle.plain_store.proofs.store.PlainStore.make.Goals as goal
 
 pub returns-in_err-row-clause-full : goal.returns-in_err-row-clause-full
@@ -28,18 +28,18 @@ invariant_of-self-2 c =
     let may = subst (λ (x : Contents). MayBuild (store_of x) h n) back c.requires.may in
     let room = subst (λ (x : Contents). (NeedsPlace (store_of x) n → ⊥)) back c.requires.room in
     let absent = subst (λ (x : Contents). IsAbsent x (asked (store_of x) h n)) back c.requires.absent in
-    let args = slice_last c.deref.result.now s.places.items (c.len.result - n) _ n c.deref.ensures.value c.deref.ensures.len (ap (λ j. j - n) c.len.ensures) in
+    let args = c.last.ensures in
     let made = c.in_ok-row.ensures.made ∙ ap (λ (xs : List Row). with_slot s.nodes r (node_of h xs)) args in
     let size = ap (λ (x : Slots). length x.slots) made ∙ length-set s.nodes.slots r.0 (node_of h (last n s.places.items)) in
     let step = past_step s.history.items c.and-self-inside.result.items (λ v. v.items) (length s.nodes.slots) (length c.make.new.self.slots) s.places e c.and-self-inside.ensures size in
-    let is = ap (λ (p : Past). shape c.put.new.places.items p s.inside s.widest s.room s.raised) step
+    let is = ap (λ (p : Past). shape c.put.new.self.items p s.inside s.widest s.room s.raised) step
     ∙ ap (λ (xs : List Row). shape xs (after (past s) s.places.items e) s.inside s.widest s.room s.raised) c.put.ensures.items in
     let free = c.self.invariant.agree.free r c.in_ok-row.ensures.free in
     let below : r.0 < length was.trees = omega (arith, c.in_ok-row.ensures.below, c.self.invariant.agree.size) in
     right_from _ (placed was h n r) is
     (subst (λ (x : Slots). Agree x (placed was h n r).trees) (sym made) (agree_made s.nodes was h n r c.self.invariant.agree c.self.invariant.sound below free))
     (sound_placed was h n r c.self.invariant.sound may room (place_free was h n r below free absent))
-    (omega (arith, c.self.invariant.capacity, c.put.ensures.capacity))
+    (omega (arith, c.self.invariant.places, c.put.ensures.room))
     (c.self.invariant.marks ∙ sym size)
     (ap (λ (x : Slots). x.widest) made ∙ c.self.invariant.widest)
 
@@ -50,8 +50,8 @@ returns-clause-made c =
     let n = c.args.n in
     let r = c.in_ok-row.row in
     let e = Built h n r in
-    let size = ap (λ (x : Slots). length x.slots) c.in_ok-row.ensures.made ∙ length-set s.nodes.slots r.0 (node_of h (sliced (c.len.result - n) c.deref.result.now)) in
+    let size = ap (λ (x : Slots). length x.slots) c.in_ok-row.ensures.made ∙ length-set s.nodes.slots r.0 (node_of h c.last.result.now) in
     let step = past_step s.history.items c.and-self-inside.result.items (λ v. v.items) (length s.nodes.slots) (length c.make.new.self.slots) s.places e c.and-self-inside.ensures size in
-    ap (λ (p : Past). shape c.put.new.places.items p s.inside s.widest s.room s.raised) step
+    ap (λ (p : Past). shape c.put.new.self.items p s.inside s.widest s.room s.raised) step
     ∙ ap (λ (xs : List Row). shape xs (after (past s) s.places.items e) s.inside s.widest s.room s.raised) c.put.ensures.items
     ∙ ap (λ (x : Contents). placed x h n r) c.self.view_is

@@ -7,6 +7,6 @@ use Rattle.plain_store.proofs.store.PlainStore.new.Goals as goal
 
 pub invariant_of-result : goal.invariant_of-result
 invariant_of-result c =
-    let s : Inside = record { nodes = c.in_ok-nodes.nodes; places = c.in_ok-places.places; marks = c.in_ok-marks.marks; room = c.args.depth; widest = c.max-widest.result; inside = false; raised = 0; history = c.new-3.result } in
+    let s : Inside = record { nodes = c.in_ok-nodes.nodes; places = c.in_ok-places.places; marks = c.in_ok-marks.marks; room = c.args.depth; widest = c.max-widest.result; inside = false; raised = 0; history = c.new-4.result } in
     let marks = ap (λ (xs : List Bool). length xs) c.in_ok-marks.ensures ∙ length-replicate {A = Bool} c.args.rows false in
-    right_at_first s c.args.rows c.max-widest.result c.in_ok-nodes.ensures c.in_ok-places.ensures.items c.new-3.ensures refl refl refl c.ranges.depth.fits (omega (arith, c.in_ok-places.ensures.exact)) marks
+    right_at_first s c.args.rows c.max-widest.result c.in_ok-nodes.ensures c.in_ok-places.ensures.empty c.new-4.ensures refl refl refl c.ranges.depth.fits (omega (arith, c.in_ok-places.ensures.room)) marks

@@ -23,12 +23,12 @@ invariant_of-self c =
     let room = subst (λ (x : Contents). (NeedsPlace (store_of x) n → ⊥)) back c.requires.room in
     let has = subst (λ (x : Contents). HasTree (store_of x) r (asked (store_of x) h n)) back c.requires.has in
     let step = past_step s.history.items c.and-self-inside.result.items (λ v. v.items) (length s.nodes.slots) (length s.nodes.slots) s.places e c.and-self-inside.ensures refl in
-    let is = ap (λ (p : Past). shape c.put.new.places.items p s.inside s.widest s.room s.raised) step
+    let is = ap (λ (p : Past). shape c.put.new.self.items p s.inside s.widest s.room s.raised) step
     ∙ ap (λ (xs : List Row). shape xs (after (past s) s.places.items e) s.inside s.widest s.room s.raised) c.put.ensures.items in
     right_from _ (placed was h n r) is
     (subst (λ (xs : List (Option Tree)). Agree s.nodes xs) (sym (trees_found was h n r has)) c.self.invariant.agree)
     (sound_placed was h n r c.self.invariant.sound may room (place_found was h n r c.self.invariant.sound has))
-    (omega (arith, c.self.invariant.capacity, c.put.ensures.capacity)) c.self.invariant.marks c.self.invariant.widest
+    (omega (arith, c.self.invariant.places, c.put.ensures.room)) c.self.invariant.marks c.self.invariant.widest
 
 pub returns : goal.returns
 returns c =
@@ -38,6 +38,6 @@ returns c =
     let r = c.args.row in
     let e = Built h n r in
     let step = past_step s.history.items c.and-self-inside.result.items (λ v. v.items) (length s.nodes.slots) (length s.nodes.slots) s.places e c.and-self-inside.ensures refl in
-    ap (λ (p : Past). shape c.put.new.places.items p s.inside s.widest s.room s.raised) step
+    ap (λ (p : Past). shape c.put.new.self.items p s.inside s.widest s.room s.raised) step
     ∙ ap (λ (xs : List Row). shape xs (after (past s) s.places.items e) s.inside s.widest s.room s.raised) c.put.ensures.items
     ∙ ap (λ (x : Contents). placed x h n r) c.self.view_is

@@ -10,7 +10,7 @@ invariant_of-self c =
     let s = c.self.inside in
     let step = past_step s.history.items c.and-self-inside.result.items (λ v. v.items) (length s.nodes.slots) (length s.nodes.slots) s.places Refused c.and-self-inside.ensures refl in
     let is = ap (λ (p : Past). shape s.places.items p s.inside s.widest s.room s.raised) step in
-    right_from _ (refused (contents_of s)) is c.self.invariant.agree (sound_refused (contents_of s) c.self.invariant.sound) c.self.invariant.capacity c.self.invariant.marks c.self.invariant.widest
+    right_from _ (refused (contents_of s)) is c.self.invariant.agree (sound_refused (contents_of s) c.self.invariant.sound) c.self.invariant.places c.self.invariant.marks c.self.invariant.widest
 
 pub returns : goal.returns
 returns c =
