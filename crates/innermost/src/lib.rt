@@ -6,6 +6,7 @@ mod coding;
 mod compile;
 mod depths;
 mod evaluating;
+mod fitness;
 mod frames;
 mod laws;
 mod machine;
@@ -16,6 +17,7 @@ mod step;
 mod stepping;
 mod windows;
 
+pub use fitness::may_be_normalized;
 pub use laws::{choice_laws, code_laws, step_laws};
 pub use normal::{Normal, RunFault};
 pub use normalizing::Machine;
