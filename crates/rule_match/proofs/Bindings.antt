@@ -1,8 +1,8 @@
 -- Binding a variable to a row, by its place among the bound rows.
 use Rattle.std.proofs.Common.{◌≡◌, ℕ, zero, suc, ◌<◌, List, [], ◌∷◌, ◌++◌, length, get_or, map, Option, Some, None, Bool, true, false, refl, sym, ◌∙◌, ap, arith, subst, eqb-true, eq-eqb}
-use Rattle.std.specs.Prelude.{◌==◌, if◌then◌else◌, option_and_then, All, reverse}
+use Rattle.std.specs.Prelude.{◌==◌, if◌then◌else◌, All}
 use Rattle.std.specs.Option.{option_map}
-use Rattle.std.proofs.lemmas.List.{map_push, length-map, get_or-map, reverse-append}
+use Rattle.std.proofs.lemmas.List.{map_push, length-map, get_or-map}
 use Rattle.std.proofs.lemmas.List.Elements.{All-get_or}
 use Rattle.term_model.specs.Tree.{Tree, Leaf, tree_eq}
 use Rattle.term_model.specs.declared.Row.{Row}
@@ -10,7 +10,6 @@ use Rattle.term_model.proofs.Equality.{tree_eq_sound, tree_eq_same}
 use Rattle.terms_api.specs.Terms.{Store, IsHeld, IsSound, tree_at}
 use Rattle.terms_api.proofs.Callers.{same_row}
 use Rattle.rewrite_model.specs.Matching.{bind}
-use Rattle.rule_match.specs.Binding.{bind_all}
 
 -- a test of the tree at a place
 abbrev tested : Bool → List Tree → Option (List Tree)
@@ -72,38 +71,9 @@ newly s rows new x r l e =
     ∙ ap Some (sym (map_push (tree_at s) rows r))
     ∙ ap (λ rs. Some (map (tree_at s) rs)) (sym e)
 
--- the last row found is for the next variable
-last_found : (s : Store) (found rest : List Row) (r : Row) → found ≡ rest ++ r ∷ [] → reverse (map (tree_at s) found) ≡ tree_at s r ∷ reverse (map (tree_at s) rest)
-last_found s found rest r e =
-    ap (λ rs. reverse (map (tree_at s) rs)) e
-    ∙ ap reverse (map_push (tree_at s) rest r)
-    ∙ reverse-append (map (tree_at s) rest) (tree_at s r ∷ [])
-
-pub binds_more : (s : Store) (found rest rows new : List Row) (r : Row) (x : ℕ) (xs : List ℕ) → found ≡ rest ++ r ∷ [] → bind x (tree_at s r) (map (tree_at s) rows) ≡ Some (map (tree_at s) new) → bind_all (x ∷ xs) (reverse (map (tree_at s) found)) (map (tree_at s) rows) ≡ bind_all xs (reverse (map (tree_at s) rest)) (map (tree_at s) new)
-binds_more s found rest rows new r x xs e b =
-    ap (λ ts. bind_all (x ∷ xs) ts (map (tree_at s) rows)) (last_found s found rest r e)
-    ∙ ap (λ o. option_and_then (λ more. bind_all xs (reverse (map (tree_at s) rest)) more) o) b
-
-pub binds_none : (s : Store) (found rest rows : List Row) (r : Row) (x : ℕ) (xs : List ℕ) → found ≡ rest ++ r ∷ [] → bind x (tree_at s r) (map (tree_at s) rows) ≡ None → bind_all (x ∷ xs) (reverse (map (tree_at s) found)) (map (tree_at s) rows) ≡ None
-binds_none s found rest rows r x xs e b =
-    ap (λ ts. bind_all (x ∷ xs) ts (map (tree_at s) rows)) (last_found s found rest r e)
-    ∙ ap (λ o. option_and_then (λ more. bind_all xs (reverse (map (tree_at s) rest)) more) o) b
-
-pub binds_short : (s : Store) (found : List Row) (x : ℕ) (xs : List ℕ) (bound : List Tree) → found ≡ [] → bind_all (x ∷ xs) (reverse (map (tree_at s) found)) bound ≡ None
-binds_short s found x xs bound e = ap (λ rs. bind_all (x ∷ xs) (reverse (map (tree_at s) rs)) bound) e
-
 -- rows are told apart by their numbers
 pub same_number : (q r : Row) → (q.0 == r.0) ≡ true → q ≡ r
 same_number q r e = let f : ℕ → Row = λ n. record { 0 = n } in ap f (eqb-true q.0 r.0 e)
 
 pub other_number : (q r : Row) → (q.0 == r.0) ≡ false → q ≡ r → ⊥
 other_number q r e i = let f : (q.0 == r.0) ≡ true = eq-eqb q.0 r.0 (ap (λ v. v.0) i) in let z : true ≡ false = sym f ∙ e in absurd (cc)
-
--- a match in rows, when the store is as it was
-pub matched : (s late : Store) (m : Option (List Tree)) (xs : List ℕ) (found rows : List Row) → late ≡ s → m ≡ bind_all xs (reverse (map (tree_at s) found)) [] → bind_all xs (reverse (map (tree_at late) found)) [] ≡ Some (map (tree_at late) rows) → m ≡ Some (map (tree_at s) rows)
-matched s late m xs found rows e is bound =
-    is ∙ subst (λ (v : Store). bind_all xs (reverse (map (tree_at v) found)) [] ≡ Some (map (tree_at v) rows)) e bound
-
-pub unmatched : (s late : Store) (m : Option (List Tree)) (xs : List ℕ) (found : List Row) → late ≡ s → m ≡ bind_all xs (reverse (map (tree_at s) found)) [] → bind_all xs (reverse (map (tree_at late) found)) [] ≡ None → m ≡ None
-unmatched s late m xs found e is none =
-    is ∙ subst (λ (v : Store). bind_all xs (reverse (map (tree_at v) found)) [] ≡ None) e none

@@ -1,5 +1,7 @@
+pub mod Items
+pub mod Laying
+pub mod Compiled
 pub mod Pending
-pub mod Finding
 pub mod Bindings
 pub mod Pushing
 pub mod Skipping

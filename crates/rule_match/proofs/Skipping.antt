@@ -1,8 +1,8 @@
 -- Rules of another head match no tree of a head.
 use Rattle.std.proofs.Common.{◌≡◌, ℕ, zero, suc, ◌+◌, ◌<◌, ◌≤◌, List, [], ◌∷◌, length, get_or, Option, Some, None, Bool, true, false, refl, sym, ◌∙◌, ap, arith, subst}
 use Rattle.std.specs.Prelude.{All, if◌then◌else◌}
-use Rattle.std.proofs.lemmas.List.Elements.{All-get_or, All-head, All-tail}
-use Rattle.term_model.specs.Tree.{Tree, Leaf, Node, root, head_eq, nodes}
+use Rattle.std.proofs.lemmas.List.Elements.{All-head, All-tail}
+use Rattle.term_model.specs.Tree.{Tree, Leaf, Node, root, head_eq}
 use Rattle.term_model.specs.declared.Head.{Head}
 use Rattle.term_model.specs.declared.Head.TheVariants.{App, Int, Nil, Cons}
 use Rattle.term_model.specs.declared.Symbol.{Symbol}
@@ -10,7 +10,7 @@ use Rattle.std.proofs.lemmas.List.{get_or_default}
 use Rattle.term_model.proofs.Equality.{head_eq_sound}
 use Rattle.rewrite_model.specs.Rule.{Rule, IsRule, IsNode}
 use Rattle.rewrite_model.specs.Matching.{match_of, match_all}
-use Rattle.rule_match.specs.Planned.{Planned, planned, IsPlan, match_at, HasRoom}
+use Rattle.rule_match.specs.Planned.{Planned, planned, IsPlan, match_at}
 use Rattle.rule_match.specs.Groups.{head_at, IsNext, MatchNone, IsBelow, HeadsAreBelow, IsIndexed}
 
 -- a pattern with another head doesn't match
@@ -41,16 +41,6 @@ pub head_at-get : (rules : List Rule) (k : ℕ) (r : Rule) → k < length rules 
 head_at-get [] k r l e = absurd (omega arith)
 head_at-get (q ∷ qs) zero r l e = ap (λ (v : Rule). root v.left) (sym e)
 head_at-get (q ∷ qs) (suc k) r l e = head_at-get qs k r (omega arith) e
-
-pub room_at : (room : ℕ) (rules : List Rule) (k : ℕ) (r : Rule) → k < length rules → r ≡ get_or rules k r → HasRoom room rules → nodes r.left ≤ room
-room_at room rules k r l e all =
-    let P : Rule → Type 0 = λ q. nodes q.left ≤ room in
-    subst P (sym e) (All-get_or P rules k r l all)
-
--- the rule at a place, read from a slice of the rules
-pub at_rule : (rules shown : List Rule) (k : ℕ) (r : Rule) (left t : Tree) → shown ≡ rules → k < length rules → r ≡ get_or shown k r → left ≡ r.left → match_at rules k t ≡ match_of left t
-at_rule rules shown k r left t same l e is =
-    match_at-get rules k r t l (e ∙ ap (λ rs. get_or rs k r) same) ∙ ap (λ p. match_of p t) (sym is)
 
 pub head_at_rule : (rules : List Rule) (k : ℕ) (r : Rule) (left : Tree) → k < length rules → r ≡ get_or rules k r → left ≡ r.left → head_at rules k ≡ root left
 head_at_rule rules k r left l e is = head_at-get rules k r l e ∙ ap root (sym is)

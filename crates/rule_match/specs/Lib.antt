@@ -2,3 +2,4 @@ pub mod Planned
 pub mod Groups
 pub mod Binding
 pub mod Stands
+pub mod Preorder

@@ -14,7 +14,6 @@ use term_model::Row;
 #[derive(Drop)]
 pub struct Binds {
     pub(crate) rows: Vec<Row>,
-    pub(crate) found: Vec<Row>,
     pub(crate) stack: Vec<Row>,
     room: usize,
 }
@@ -29,7 +28,7 @@ impl Model for Binds {
 
     ghost view = { λ b. record { rows = b.rows.items; room = b.room } };
 
-    ghost invariant = { λ b. (b.room ≤ vec_capacity b.rows) × (b.room ≤ vec_capacity b.found) × (b.room ≤ vec_capacity b.stack) };
+    ghost invariant = { λ b. (b.room ≤ vec_capacity b.rows) × (b.room ≤ vec_capacity b.stack) };
 }
 
 impl Binds {
@@ -44,7 +43,6 @@ impl Binds {
         }
         Ok(Binds {
             rows: Vec::with_capacity(alloc, room)?,
-            found: Vec::with_capacity(alloc, room)?,
             stack: Vec::with_capacity(alloc, room)?,
             room,
         })

@@ -2,18 +2,17 @@
 
 ghost use Rattle.std.specs.Prelude.{◌≡◌};
 ghost use Rattle.term_model.specs.Tree.{head_eq, root};
+ghost use Rattle.term_model.specs.declared.Head.TheVariants.{App};
 ghost use Rattle.rule_match.specs.Groups.{symbol_of};
 
 use term_model::{Flat, Head, Symbol};
 
-/// Whether two heads are equal.
-pub(crate) fn heads_are_equal(head: Head, other: Head) -> bool
-    ensures { result ≡ head_eq head other }
+/// Whether a head is this symbol.
+pub(crate) fn is_symbol(head: Head, symbol: Symbol) -> bool
+    ensures { result ≡ head_eq (App symbol) head }
 {
-    match (head, other) {
-        (Head::App(symbol), Head::App(other)) => symbol.0 == other.0,
-        (Head::Int(value), Head::Int(other)) => value == other,
-        (Head::Nil, Head::Nil) | (Head::Cons, Head::Cons) => true,
+    match head {
+        Head::App(other) => symbol.0 == other.0,
         _ => false,
     }
 }

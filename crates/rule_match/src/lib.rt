@@ -4,6 +4,7 @@
 
 mod binding;
 mod checking;
+mod compiling;
 mod heads;
 mod linking;
 mod matching;

@@ -1,16 +1,18 @@
 //! Rules, grouped by the head of their left side.
 
-ghost use Rattle.std.specs.Prelude.{◌≡◌, ℕ, ◌+◌, ◌^◌, ◌<◌, ◌≤◌, List, length, Some, IfOk};
+ghost use Rattle.std.specs.Prelude.{◌≡◌, ℕ, ◌+◌, ◌-◌, ◌^◌, ◌<◌, ◌≤◌, List, length, take, drop, Some, IfOk};
 ghost use Rattle.term_model.specs.Tree.{Tree};
 ghost use Rattle.rule_match.specs.Planned.{planned, IsPlan, HasRoom};
 ghost use Rattle.rule_match.specs.Groups.{head_at, IsNext, MatchNone};
+ghost use Rattle.rule_match.specs.Preorder.{left_at, preorder};
 
+use crate::compiling::{Compiled, compile};
 use crate::linking::{link, symbol_count};
 use faults::Memory;
 use rewrite_model::Rule;
 use std::alloc::Global;
 use std::marker::Model;
-use term_model::Head;
+use term_model::{Head, Item};
 
 /// The rules of a specification in written order, ready for matching: those whose left side has
 /// one head are found one after another.
@@ -22,11 +24,14 @@ pub struct Plan {
     firsts: Vec<Option<u32>>,
     // after each rule the next of the same symbol
     nexts: Vec<Option<u32>>,
+    // the left sides for matching
+    compiled: Compiled,
 }
 
 impl Model for Plan {
     ghost use Rattle.rule_match.specs.Planned.{Planned, planned_code, planned};
     ghost use Rattle.rule_match.specs.Groups.{IsIndexed};
+    ghost use Rattle.rule_match.specs.Preorder.{IsCompiled};
 
     ghost Value = { Planned };
 
@@ -34,7 +39,8 @@ impl Model for Plan {
 
     ghost view = { λ p. planned p.rules.items p.widest };
 
-    ghost invariant = { λ p. IsIndexed p.rules.items p.widest p.firsts.items p.nexts.items };
+    ghost invariant = { λ p. IsIndexed p.rules.items p.widest p.firsts.items p.nexts.items
+        × IsCompiled p.rules.items p.compiled.items.items p.compiled.starts.items };
 }
 
 impl Plan {
@@ -44,6 +50,7 @@ impl Plan {
         requires { IsPlan (planned rules.items widest) }
         ensures { IfOk result (λ plan. plan ≡ planned rules.items widest) }
     {
+        let compiled = compile(alloc, &rules)?;
         let mut firsts = vec![in alloc; None; symbol_count(&rules)]?;
         let mut nexts = vec![in alloc; None; rules.len()]?;
         link(&rules, &mut firsts, &mut nexts);
@@ -52,6 +59,7 @@ impl Plan {
             widest,
             firsts,
             nexts,
+            compiled,
         })
     }
 
@@ -69,6 +77,17 @@ impl Plan {
         ensures plan { IsPlan self.now }
     {
         &self.rules
+    }
+
+    /// The left side of a rule in preorder.
+    pub(crate) fn program(&self, rule: u32) -> &[Item]
+        requires { rule < length self.now.rules }
+        ensures program { result.now ≡ preorder (left_at self.now.rules rule) }
+        ensures plan { IsPlan self.now }
+    {
+        let from = self.compiled.starts[rule as usize];
+        let to = self.compiled.starts[rule as usize + 1];
+        part(&self.compiled.items, from, to)
     }
 
     /// The first rule whose left side has this head; None where there is none.
@@ -94,4 +113,13 @@ impl Plan {
     {
         self.nexts[rule as usize]
     }
+}
+
+/// The items from one place up to another.
+fn part(items: &[Item], from: usize, to: usize) -> &[Item]
+    requires order { from ≤ to }
+    requires within { to ≤ length items.now }
+    ensures { result.now ≡ take (to - from) (drop from items.now) }
+{
+    &items[from..to]
 }

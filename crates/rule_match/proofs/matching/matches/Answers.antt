@@ -1,26 +1,26 @@
-use Rattle.std.proofs.Common.{◌∙◌}
+use Rattle.std.proofs.Common.{◌∙◌, ap, arith}
 use Rattle.std.proofs.lemmas.Bool.{OnTrue_at, OnFalse_at, OnTrue_from, OnFalse_from}
-use Rattle.term_model.specs.Postorder.{postorder}
-use Rattle.rule_match.specs.Binding.{variables}
 use Rattle.terms_api.specs.Terms.{tree_at}
-use Rattle.rule_match.proofs.Bindings.{matched, unmatched}
-use Rattle.rule_match.proofs.Skipping.{at_rule}
+use Rattle.rule_match.specs.Binding.{Bound}
+use Rattle.rule_match.proofs.Compiled.{match_at-left, room_at}
 use Rattle.rule_match.proofs.matching.matches.Goals as goal
 
-pub returns-then-find-clause-bound : goal.returns-then-find-clause-bound
-returns-then-find-clause-bound g c =
-    let s = g.T.Terms.store c.args.terms.now in
-    let left = at_rule c.args.plan.now.rules c.rules.result.now c.args.rule c.index-rules-rule.result c.left-left.result.now (tree_at s c.args.row) c.rules.ensures.rules c.requires.rule c.index-rules-rule.is c.left-left.ensures in
-    OnTrue_from _ _ (λ e. matched s _ _ (variables (postorder c.left-left.result.now)) c.find.new.found.items c.bind.new.rows.items c.find.ensures.unchanged (left ∙ c.if-find.ensures.found) (OnTrue_at e c.bind.ensures.bound))
+pub run-matched-requires-clause-stack_room : goal.run-matched-requires-clause-stack_room
+run-matched-requires-clause-stack_room g c =
+    let n = room_at c.args.binds.now.room c.args.plan.now.rules c.args.rule c.requires.rule c.requires.room in
+    omega (arith, n, ap (λ (b : Bound). b.room) c.binds.view_is, c.binds.invariant, c.clear-2.ensures.capacity)
 
-pub returns-then-find-clause-none : goal.returns-then-find-clause-none
-returns-then-find-clause-none g c =
-    let s = g.T.Terms.store c.args.terms.now in
-    let left = at_rule c.args.plan.now.rules c.rules.result.now c.args.rule c.index-rules-rule.result c.left-left.result.now (tree_at s c.args.row) c.rules.ensures.rules c.requires.rule c.index-rules-rule.is c.left-left.ensures in
-    OnFalse_from _ _ (λ e. unmatched s _ _ (variables (postorder c.left-left.result.now)) c.find.new.found.items c.find.ensures.unchanged (left ∙ c.if-find.ensures.found) (OnFalse_at e c.bind.ensures.none))
+pub run-matched-requires-clause-rows_room : goal.run-matched-requires-clause-rows_room
+run-matched-requires-clause-rows_room g c =
+    let n = room_at c.args.binds.now.room c.args.plan.now.rules c.args.rule c.requires.rule c.requires.room in
+    omega (arith, n, ap (λ (b : Bound). b.room) c.binds.view_is, c.binds.invariant, c.clear.ensures.capacity)
 
-pub returns-else-find-clause-none : goal.returns-else-find-clause-none
-returns-else-find-clause-none g c =
-    let s = g.T.Terms.store c.args.terms.now in
-    let left = at_rule c.args.plan.now.rules c.rules.result.now c.args.rule c.index-rules-rule.result c.left-left.result.now (tree_at s c.args.row) c.rules.ensures.rules c.requires.rule c.index-rules-rule.is c.left-left.ensures in
-    OnFalse_from _ _ (λ e. left ∙ OnFalse_at e c.find.ensures.none)
+pub returns-then-not-matched-clause-none : goal.returns-then-not-matched-clause-none
+returns-then-not-matched-clause-none g c =
+    let same = match_at-left c.args.plan.now.rules c.args.rule (tree_at (g.T.Terms.store c.args.terms.now) c.args.row) c.requires.rule in
+    OnFalse_from _ _ (λ e. same ∙ OnFalse_at e c.run-matched.ensures.none)
+
+pub returns-else-not-matched-clause-bound : goal.returns-else-not-matched-clause-bound
+returns-else-not-matched-clause-bound g c =
+    let same = match_at-left c.args.plan.now.rules c.args.rule (tree_at (g.T.Terms.store c.args.terms.now) c.args.row) c.requires.rule in
+    OnTrue_from _ _ (λ e. same ∙ OnTrue_at e c.run-matched.ensures.bound)

@@ -5,4 +5,4 @@ use Rattle.rule_match.proofs.planning.Plan.of.Goals as goal
 
 pub symbol_count-requires : goal.symbol_count-requires
 symbol_count-requires c =
-    subst (λ rules. HaveSymbols rules) (sym c.deref.ensures.value) (plan_symbols c.args.widest c.args.rules.items c.requires.rules c.requires.symbols)
+    subst (λ rules. HaveSymbols rules) (sym c.deref-2.ensures.value) (plan_symbols c.args.widest c.args.rules.items c.requires.rules c.requires.symbols)
