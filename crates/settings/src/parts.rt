@@ -28,7 +28,7 @@ pub struct Settings {
     pub seats: u32,
 }
 
-/// Why words give no settings. The text of each is the line that the program writes of it.
+/// Why words give no settings, each with a text. The top call's lines for such words are its own.
 #[derive(Clone, Copy, Debug, PartialEq, Eq, Error)]
 pub enum WordsFault {
     /// The words are not accepted.
