@@ -30,10 +30,11 @@ spelling names f = spelled_name (unwrap_or (name_at names f) [])
 abbrev pub canonical : List Named → Tree → List ℕ
 canonical names t = text_by (spelling names) t
 
--- a symbol with so many arguments can be written so that it is read back: it has as many, at most 16, and a name
--- of at most 255 printable bytes
+-- a symbol with so many arguments can be written so that it is read back: it has as many, at most
+-- 16, and a name of at most 255 printable bytes
 abbrev pub is_writable_symbol : Option Named → ℕ → Bool
-is_writable_symbol (Some s) n = s.arity == n && (nat_le n 16 && (nat_le (length s.name) 255 && list_all is_printable s.name))
+is_writable_symbol (Some s) n =
+    s.arity == n && (nat_le n 16 && (nat_le (length s.name) 255 && list_all is_printable s.name))
 is_writable_symbol None n = false
 
 abbrev pub is_writable_head : List Named → Head → ℕ → Bool

@@ -7,15 +7,18 @@ use Rattle.term_syntax.specs.Reading.{IsReading}
 
 -- The canonical texts of terms are read back as these terms, and no symbol is taken up.
 abbrev pub CanonicalTextIsReadBack : Type 0
-CanonicalTextIsReadBack = (names : List Named) (ts : List Tree) → IsPool names → All (IsWritable names) ts →
+CanonicalTextIsReadBack =
+    (names : List Named) (ts : List Tree) → IsPool names → All (IsWritable names) ts →
     IsReading (canonical_lines names ts) names names ts
 
 -- They are read back as no other terms.
 abbrev pub NothingElseIsReadBack : Type 0
-NothingElseIsReadBack = (names new : List Named) (ts us : List Tree) → IsPool names → All (IsWritable names) ts →
+NothingElseIsReadBack =
+    (names new : List Named) (ts us : List Tree) → IsPool names → All (IsWritable names) ts →
     IsReading (canonical_lines names ts) names new us → (new ≡ names) × (us ≡ ts)
 
 -- Different terms have different canonical texts.
 abbrev pub CanonicalTextIsOneTerms : Type 0
-CanonicalTextIsOneTerms = (names : List Named) (t u : Tree) → IsPool names → IsWritable names t → IsWritable names u →
+CanonicalTextIsOneTerms =
+    (names : List Named) (t u : Tree) → IsPool names → IsWritable names t → IsWritable names u →
     canonical names t ≡ canonical names u → t ≡ u

@@ -8,7 +8,8 @@ use Rattle.symbol_pool.specs.Pool.{Named, named}
 use Rattle.term_syntax.specs.declared.kinds.TheConstants.{LIMIT}
 use Rattle.term_syntax.specs.Parts.{number_of, with_symbol, is_full_for}
 
-pub record IsSymbolTaken (old : List Named) (name : List ℕ) (count : ℕ) (item : Item) (new : List Named) : Type 0 where
+pub record IsSymbolTaken (old : List Named) (name : List ℕ) (count : ℕ) (item : Item)
+    (new : List Named) : Type 0 where
   pub short : nat_lt 255 (length name) ≡ false
   pub room : is_full_for old (named name count) ≡ false
   pub pool_is : new ≡ with_symbol old (named name count)
@@ -16,5 +17,6 @@ pub record IsSymbolTaken (old : List Named) (name : List ℕ) (count : ℕ) (ite
 
 abbrev pub IsSymbolRefused : List Named → List ℕ → ℕ → ℕ → ReadFail → Type 0
 IsSymbolRefused pool name count place (Refused kind offset) =
-    ((nat_lt 255 (length name) || is_full_for pool (named name count)) ≡ true) × (kind ≡ LIMIT) × (offset ≡ place)
+    ((nat_lt 255 (length name) || is_full_for pool (named name count)) ≡ true)
+    × (kind ≡ LIMIT) × (offset ≡ place)
 IsSymbolRefused pool name count place Memory = Unit {0}

@@ -15,13 +15,18 @@ use Rattle.term_syntax.specs.Written.{Written, Call, Digits, Listed, Writtens, E
 -- the parts of a term, and of terms of which so many came before; of a name's arguments the 17th is marked
 abbrev mutual
   pub parts_of : Bool → Written → List Part
-  parts_of over (Call p n ws) = record { place = p; over = over; kind = Symbol n; count = count_of ws } ∷ parts_of_all true 0 ws
+  parts_of over (Call p n ws) =
+      record { place = p; over = over; kind = Symbol n; count = count_of ws }
+      ∷ parts_of_all true 0 ws
   parts_of over (Digits p v) = record { place = p; over = over; kind = Integer v; count = 0 } ∷ []
-  parts_of over (Listed p ws) = record { place = p; over = over; kind = Brackets; count = count_of ws } ∷ parts_of_all false 0 ws
+  parts_of over (Listed p ws) =
+      record { place = p; over = over; kind = Brackets; count = count_of ws }
+      ∷ parts_of_all false 0 ws
 
   pub parts_of_all : Bool → ℕ → Writtens → List Part
   parts_of_all called n End = []
-  parts_of_all called n (More w ws) = parts_of (called && n == 16) w ++ parts_of_all called (n + 1) ws
+  parts_of_all called n (More w ws) =
+      parts_of (called && n == 16) w ++ parts_of_all called (n + 1) ws
 
 abbrev pub parts_of_input : List Written → List Part
 parts_of_input [] = []
@@ -77,7 +82,8 @@ unless_fault None r = r
 -- the symbols after parts, taken up in the order of the text, or the fault of the first part that has one
 abbrev pub taken_up : List Named → List Part → Result (List Named) Fault
 taken_up pool [] = Ok pool
-taken_up pool (p ∷ ps) = unless_fault (part_fault pool p) (taken_up (pool_after pool p.kind p.count) ps)
+taken_up pool (p ∷ ps) =
+    unless_fault (part_fault pool p) (taken_up (pool_after pool p.kind p.count) ps)
 
 abbrev pub value_or_zero : Option ℕ → ℕ
 value_or_zero (Some v) = v
@@ -87,7 +93,8 @@ value_or_zero None = 0
 -- is cells that end in the empty list
 abbrev mutual
   pub tree_in : List Named → Written → Tree
-  tree_in pool (Call p n ws) = Node (App (record { 0 = number_of pool (named n (count_of ws)) })) (trees_in pool ws)
+  tree_in pool (Call p n ws) =
+      Node (App (record { 0 = number_of pool (named n (count_of ws)) })) (trees_in pool ws)
   tree_in pool (Digits p v) = Node (Int (value_or_zero v)) tree.End
   tree_in pool (Listed p ws) = cells_in pool ws
 
@@ -97,4 +104,5 @@ abbrev mutual
 
   pub cells_in : List Named → Writtens → Tree
   cells_in pool End = Node Nil tree.End
-  cells_in pool (More w ws) = Node Cons (tree.More (tree_in pool w) (tree.More (cells_in pool ws) tree.End))
+  cells_in pool (More w ws) =
+      Node Cons (tree.More (tree_in pool w) (tree.More (cells_in pool ws) tree.End))

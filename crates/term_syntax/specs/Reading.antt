@@ -40,5 +40,6 @@ pub record IsPartRefused (bytes : List ℕ) (symbols : List Named) (kind offset 
 -- first a byte or an open quote is refused, else a token or the end, else a part of the terms
 abbrev pub IsRefusal : List ℕ → List Named → ReadFail → Type 0
 IsRefusal bytes symbols (Refused kind offset) =
-    (tokens_of bytes ≡ Err (fault kind offset)) ⊎ (AreTokensRefused bytes kind offset ⊎ IsPartRefused bytes symbols kind offset)
+    (tokens_of bytes ≡ Err (fault kind offset))
+    ⊎ (AreTokensRefused bytes kind offset ⊎ IsPartRefused bytes symbols kind offset)
 IsRefusal bytes symbols Memory = Unit {0}

@@ -39,7 +39,11 @@ is_over (g ∷ gs) = g.called && g.count == 16
 
 -- a term begins
 abbrev pub begin : ℕ → Kind → Machine → Machine
-begin place kind m = record m { parts = m.parts ++ record { place = place; over = is_over m.groups; kind = kind; count = 0 } ∷ [] }
+begin place kind m =
+    record m {
+      parts = m.parts
+          ++ record { place = place; over = is_over m.groups; kind = kind; count = 0 } ∷ [];
+    }
 
 -- a term began, with this number, or there was no memory
 abbrev pub Begins : Machine → ℕ → Kind → Result ℕ Stop → Machine → Type 0
@@ -48,15 +52,18 @@ Begins old place kind (Err stop.Unexpected) new = ⊥
 Begins old place kind (Err stop.Memory) new = Unit {0}
 
 abbrev pub open_group : Bool → ℕ → Place → Machine → Option Machine
-open_group called part place m = at (record m { groups = record { called = called; part = part; count = 0 } ∷ m.groups }) place
+open_group called part place m =
+    at (record m { groups = record { called = called; part = part; count = 0 } ∷ m.groups }) place
 
 -- a term is whole: no argument and no element, or one more in its group
 abbrev pub end_under : List Group → Machine → Machine
-end_under [] m = record m { place = Settled; groups = []; nodes = []; terms = m.terms ++ m.nodes ∷ [] }
+end_under [] m =
+    record m { place = Settled; groups = []; nodes = []; terms = m.terms ++ m.nodes ∷ [] }
 end_under (g ∷ gs) m = record m { place = Settled; groups = record g { count = g.count + 1 } ∷ gs }
 
 abbrev pub ended : ℕ → ℕ → Machine → Machine
-ended part cells m = end_under m.groups (record m { nodes = m.nodes ++ record { part = part; cells = cells } ∷ [] })
+ended part cells m =
+    end_under m.groups (record m { nodes = m.nodes ++ record { part = part; cells = cells } ∷ [] })
 
 abbrev pub end : ℕ → ℕ → Machine → Option Machine
 end part cells m = Some (ended part cells m)
@@ -160,4 +167,5 @@ IsStopped tokens Memory = Unit {0}
 
 -- the parts and the nodes of the terms that the tokens spell
 abbrev pub IsRead : List Token → List Part × List (List Node) → Type 0
-IsRead tokens read = (ws : List Written) × IsInput tokens ws × (read ≡ (parts_of_input ws, nodes_of_input 0 ws))
+IsRead tokens read =
+    (ws : List Written) × IsInput tokens ws × (read ≡ (parts_of_input ws, nodes_of_input 0 ws))

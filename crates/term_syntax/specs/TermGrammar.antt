@@ -9,11 +9,14 @@ use Rattle.term_syntax.specs.Written.{Written, Call, Digits, Listed, Writtens, E
 -- term = name [ ( term { , term } ) ]  or  number  or  '[' [ term { , term } ] ']'
 mutual
   pub data IsTerm : List Token → Written → List Token → Type 0 where
-    constant : {n : List ℕ} {p : ℕ} {rest : List Token} → IsTerm (Word n p ∷ rest) (Call p n End) rest
+    constant : {n : List ℕ} {p : ℕ} {rest : List Token} →
+        IsTerm (Word n p ∷ rest) (Call p n End) rest
     call : {n : List ℕ} {p q r : ℕ} {ts rest : List Token} {ws : Writtens} →
         AreTerms ts ws (At Close r ∷ rest) → IsTerm (Word n p ∷ At Open q ∷ ts) (Call p n ws) rest
-    number : {v : Option ℕ} {p : ℕ} {rest : List Token} → IsTerm (Number v p ∷ rest) (Digits p v) rest
-    empty : {p q : ℕ} {rest : List Token} → IsTerm (At OpenList p ∷ At CloseList q ∷ rest) (Listed p End) rest
+    number : {v : Option ℕ} {p : ℕ} {rest : List Token} →
+        IsTerm (Number v p ∷ rest) (Digits p v) rest
+    empty : {p q : ℕ} {rest : List Token} →
+        IsTerm (At OpenList p ∷ At CloseList q ∷ rest) (Listed p End) rest
     list : {p q : ℕ} {ts rest : List Token} {ws : Writtens} →
         AreTerms ts ws (At CloseList q ∷ rest) → IsTerm (At OpenList p ∷ ts) (Listed p ws) rest
 
@@ -26,7 +29,8 @@ mutual
 -- input = { term }
 pub data IsInput : List Token → List Written → Type 0 where
   none : IsInput [] []
-  next : {ts us : List Token} {w : Written} {ws : List Written} → IsTerm ts w us → IsInput us ws → IsInput ts (w ∷ ws)
+  next : {ts us : List Token} {w : Written} {ws : List Written} →
+      IsTerm ts w us → IsInput us ws → IsInput ts (w ∷ ws)
 
 -- an input goes on from these tokens
 abbrev pub BeginsInput : List Token → Type 0

@@ -19,7 +19,8 @@ abbrev mutual
   -- the arguments of a symbol in parentheses, which no arguments don't have
   pub in_parentheses : (Symbol → List ℕ) → Trees → List ℕ
   in_parentheses spell End = []
-  in_parentheses spell (More t ts) = codes "(" ++ text_by spell t ++ after_commas spell ts ++ codes ")"
+  in_parentheses spell (More t ts) =
+      codes "(" ++ text_by spell t ++ after_commas spell ts ++ codes ")"
 
   -- each tree after a comma
   pub after_commas : (Symbol → List ℕ) → Trees → List ℕ

@@ -100,11 +100,15 @@ mark_piece at None = Err (fault BAD_BYTE at)
 -- a plain name, and a number, at the front of bytes that stand at this place
 abbrev pub plain_piece : ℕ → List ℕ → Piece
 plain_piece at [] = Blank
-plain_piece at (b ∷ bs) = Whole (Word (b ∷ take (front_length continues_name bs) bs) at) (at + 1 + front_length continues_name bs)
+plain_piece at (b ∷ bs) =
+    Whole (Word (b ∷ take (front_length continues_name bs) bs) at)
+    (at + 1 + front_length continues_name bs)
 
 abbrev pub number_piece : ℕ → List ℕ → Piece
 number_piece at [] = Blank
-number_piece at (b ∷ bs) = Whole (Number (integer_of (b ∷ take (front_length is_ascii_digit bs) bs)) at) (at + 1 + front_length is_ascii_digit bs)
+number_piece at (b ∷ bs) =
+    Whole (Number (integer_of (b ∷ take (front_length is_ascii_digit bs) bs)) at)
+    (at + 1 + front_length is_ascii_digit bs)
 
 -- what begins at the front of bytes that stand at this place: white space, a plain name, a quoted name, a
 -- number or a mark
@@ -132,7 +136,8 @@ after_piece Blank r = r
 after_piece (Whole token next) r = after_token token r
 
 -- what reading gives, from a piece at this place and what is read from the place after it
-abbrev pub read_piece : ℕ → Result Piece Fault → (ℕ → Result (List Token) Fault) → Result (List Token) Fault
+abbrev pub read_piece : ℕ → Result Piece Fault → (ℕ → Result (List Token) Fault)
+    → Result (List Token) Fault
 read_piece at (Ok p) after = after_piece p (after (next_of at p))
 read_piece at (Err f) after = Err f
 
@@ -141,7 +146,8 @@ read_piece at (Err f) after = Err f
 abbrev pub tokens_from : ℕ → ℕ → List ℕ → Result (List Token) Fault
 tokens_from at within [] = Ok []
 tokens_from at (suc within) (b ∷ bs) = tokens_from (at + 1) within bs
-tokens_from at zero (b ∷ bs) = read_piece at (piece_at at (b ∷ bs)) (λ next. tokens_from (at + 1) (next - (at + 1)) bs)
+tokens_from at zero (b ∷ bs) =
+    read_piece at (piece_at at (b ∷ bs)) (λ next. tokens_from (at + 1) (next - (at + 1)) bs)
 
 abbrev pub tokens_of : List ℕ → Result (List Token) Fault
 tokens_of bytes = tokens_from 0 0 bytes

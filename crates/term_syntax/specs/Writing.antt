@@ -17,7 +17,8 @@ opening spell None = codes "["
 abbrev pub arrive : (Symbol → List ℕ) → List Frame → Writer → Writer
 arrive spell [] w = record w { frames = [] }
 arrive spell (f ∷ fs) w =
-    if nat_lt 1 f.left then record w { text = 44 ∷ w.text; frames = record f { left = f.left - 1 } ∷ fs }
+    if nat_lt 1 f.left
+    then record w { text = 44 ∷ w.text; frames = record f { left = f.left - 1 } ∷ fs }
     else arrive spell fs (record w { text = opening spell f.symbol ++ w.text })
 
 abbrev pub arrived : (Symbol → List ℕ) → List ℕ → Writer → Writer
@@ -25,7 +26,11 @@ arrived spell text w = arrive spell w.frames (record w { text = text ++ w.text }
 
 -- a group of so many terms closes
 abbrev pub close_group : Option Symbol → ℕ → ℕ → Writer → Writer
-close_group symbol left mark w = record w { text = mark ∷ w.text; frames = record { symbol = symbol; left = left } ∷ w.frames; cells = 0 }
+close_group symbol left mark w = record w {
+  text = mark ∷ w.text;
+  frames = record { symbol = symbol; left = left } ∷ w.frames;
+  cells = 0;
+}
 
 abbrev pub call_written : (Symbol → List ℕ) → Symbol → ℕ → Writer → Writer
 call_written spell f zero w = arrived spell (spell f) w

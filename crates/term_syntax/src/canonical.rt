@@ -17,7 +17,8 @@ use term_model::Flat;
 pub fn write_term(term: &Flat, symbols: &Symbols, out: &mut Vec<u8>) -> Result<(), Memory>
     requires ground { IsGround term.now }
     requires held { HasNames symbols.now term.now }
-    ensures written { OnOk result (out.new.items ≡ out.old.items ++ canonical symbols.now term.now) }
+    ensures written { OnOk result
+        (out.new.items ≡ out.old.items ++ canonical symbols.now term.now) }
     ensures unchanged { OnErr result (out.new.items ≡ out.old.items) }
 {
     let mut writer = Writer::new(*out.allocator());

@@ -164,10 +164,12 @@ fn plain_name(alloc: Global, bytes: &[u8], at: usize) -> Result<Piece, ReadFail>
 
 fn quoted_name(alloc: Global, bytes: &[u8], at: usize) -> Result<Piece, ReadFail>
     requires { at < length bytes.now }
-    ensures name { IfOk result (λ p. spec.quoted_piece at (spec.quoted (at + 1) false (drop (at + 1) bytes.now)) ≡ Ok p) }
+    ensures name { IfOk result (λ p.
+        spec.quoted_piece at (spec.quoted (at + 1) false (drop (at + 1) bytes.now)) ≡ Ok p) }
     ensures after { IfOk result (λ p. at < spec.next_of at p) }
     ensures fits { IfOk result (λ p. spec.next_of at p ≤ length bytes.now) }
-    ensures refused { IfErr result (IsDue (spec.quoted_piece at (spec.quoted (at + 1) false (drop (at + 1) bytes.now)))) }
+    ensures refused { IfErr result
+        (IsDue (spec.quoted_piece at (spec.quoted (at + 1) false (drop (at + 1) bytes.now)))) }
 {
     let (name, end) = quoted(alloc, bytes, at + 1)?;
     Ok(Piece::Whole(Token::Word(name, at), end))

@@ -111,7 +111,8 @@ impl Writer {
     // A term was written.
     fn arrive(&mut self, symbols: &Symbols) -> Result<(), Memory>
         requires { AreHeld symbols.now self.old.frames }
-        ensures arrived { OnOk result (self.new ≡ steps.arrive (spelling symbols.now) self.old.frames self.old) }
+        ensures arrived { OnOk result
+            (self.new ≡ steps.arrive (spelling symbols.now) self.old.frames self.old) }
         ensures held { AreHeld symbols.now self.new.frames }
     {
         while let Some(frame) = self.frames.pop() {
@@ -130,7 +131,8 @@ impl Writer {
 
     fn arrive_with(&mut self, symbols: &Symbols, text: &[u8]) -> Result<(), Memory>
         requires { AreHeld symbols.now self.old.frames }
-        ensures arrived { OnOk result (self.new ≡ steps.arrived (spelling symbols.now) text.now self.old) }
+        ensures arrived { OnOk result
+            (self.new ≡ steps.arrived (spelling symbols.now) text.now self.old) }
         ensures held { AreHeld symbols.now self.new.frames }
     {
         self.text.put(text)?;
@@ -152,7 +154,8 @@ impl Writer {
     fn write_term(&mut self, symbols: &Symbols, item: Item) -> Result<(), Memory>
         requires held { AreHeld symbols.now self.old.frames }
         requires item { IsItemHeld symbols.now item }
-        ensures written { OnOk result (self.new ≡ steps.term_written (spelling symbols.now) item self.old) }
+        ensures written { OnOk result
+            (self.new ≡ steps.term_written (spelling symbols.now) item self.old) }
         ensures held { OnOk result (AreHeld symbols.now self.new.frames) }
     {
         match item {
@@ -174,7 +177,8 @@ impl Writer {
     fn write_constant(&mut self, symbols: &Symbols, symbol: Symbol) -> Result<(), Memory>
         requires held { AreHeld symbols.now self.old.frames }
         requires symbol { symbol.0 < length symbols.now }
-        ensures written { OnOk result (self.new ≡ steps.arrived (spelling symbols.now) (spelling symbols.now symbol) self.old) }
+        ensures written { OnOk result (self.new
+            ≡ steps.arrived (spelling symbols.now) (spelling symbols.now symbol) self.old) }
         ensures held { OnOk result (AreHeld symbols.now self.new.frames) }
     {
         put_name(&mut self.text, symbols, symbol)?;
@@ -198,7 +202,8 @@ impl Writer {
     pub(crate) fn write(&mut self, symbols: &Symbols, item: Item) -> Result<(), Memory>
         requires held { AreHeld symbols.now self.old.frames }
         requires item { IsItemHeld symbols.now item }
-        ensures written { OnOk result (self.new ≡ steps.written (spelling symbols.now) item self.old) }
+        ensures written { OnOk result
+            (self.new ≡ steps.written (spelling symbols.now) item self.old) }
         ensures held { OnOk result (AreHeld symbols.now self.new.frames) }
     {
         if self.cells == 0 {

@@ -19,7 +19,8 @@ HasCount s counts t = (r : Row) × HasTree s r t × IsCounted counts r
 
 -- the arguments of a row's tree before a place are counted
 abbrev pub CountedBefore : Store → List ℕ → Row → ℕ → Type 0
-CountedBefore s counts r n = (j : ℕ) (t : Tree) → j < n → slice_get (arguments (tree_at s r)) j ≡ Some t → HasCount s counts t
+CountedBefore s counts r n =
+    (j : ℕ) (t : Tree) → j < n → slice_get (arguments (tree_at s r)) j ≡ Some t → HasCount s counts t
 
 -- how many rows are counted
 abbrev pub counted_rows : List ℕ → ℕ
@@ -50,7 +51,8 @@ abbrev pub Narrows : Store → List Visit → Type 0
 Narrows s [] = Unit {0}
 Narrows s (v ∷ vs) = All (λ w. nodes (tree_at s w.row) < nodes (tree_at s v.row)) vs × Narrows s vs
 
-pub record IsHalfway (s : Store) (counts : List ℕ) (rows : List Row) (path : List Visit) : Type 0 where
+pub record IsHalfway (s : Store) (counts : List ℕ) (rows : List Row) (path : List Visit)
+    : Type 0 where
   pub tally : IsTally s counts rows
   pub visits : All (IsVisit s counts) path
   pub narrows : Narrows s path
@@ -65,7 +67,8 @@ abbrev pub IsWithin : List Tree → Tree → Type 0
 IsWithin ts u = (t : Tree) × Contains ts t × Contains (subtrees t) u
 
 -- what is counted or visited are subtrees of these trees
-pub record AreWithin (s : Store) (ts : List Tree) (counts : List ℕ) (path : List Visit) : Type 0 where
+pub record AreWithin (s : Store) (ts : List Tree) (counts : List ℕ) (path : List Visit)
+    : Type 0 where
   pub counted : (r : Row) → IsCounted counts r → IsWithin ts (tree_at s r)
   pub visited : All (λ v. IsWithin ts (tree_at s v.row)) path
 
@@ -78,7 +81,8 @@ abbrev pub steps_left : List ℕ → List Row → List Visit → ℕ
 steps_left counts rows path = 2 * (length counts - length rows) - length path
 
 -- Counting goes on: nothing counted is lost, and no other trees are counted.
-pub record Continues (s : Store) (counts counts' : List ℕ) (rows rows' : List Row) (path path' : List Visit) : Type 0 where
+pub record Continues (s : Store) (counts counts' : List ℕ) (rows rows' : List Row)
+    (path path' : List Visit) : Type 0 where
   pub size : length counts' ≡ length counts
   pub kept : (r : Row) → IsCounted counts r → IsCounted counts' r
   pub begun : (r : Row) → IsBegun counts path r → IsBegun counts' path' r

@@ -6,7 +6,8 @@ use Rattle.term_model.specs.declared.Head.TheVariants.{App, Int, Nil, Cons}
 use Rattle.term_model.specs.Tree.{arguments, trees_of, nodes}
 use Rattle.terms_api.specs.Terms.{Store, IsHeld, tree_at}
 use Rattle.symbol_pool.specs.Pool.{Named}
-use Rattle.term_text.specs.Text.{text, after_commas, elements, further_elements, plain_name, HasNames}
+use Rattle.term_syntax.specs.Text.{after_commas, elements, further_elements, HasNames}
+use Rattle.term_text.specs.Text.{text, plain_name}
 use Rattle.term_text.specs.declared.works.Work.{Work}
 use Rattle.term_text.specs.declared.works.Work.TheVariants.{Term, Arguments, Elements}
 
@@ -25,7 +26,8 @@ row_of (Elements r) = r
 -- the text of a piece of work
 abbrev pub text_of : List Named → Store → Work → List ℕ
 text_of names s (Term r) = text names (tree_at s r)
-text_of names s (Arguments r j) = after_commas (plain_name names) (trees_of (drop j (arguments (tree_at s r)))) ++ codes ")"
+text_of names s (Arguments r j) =
+    after_commas (plain_name names) (trees_of (drop j (arguments (tree_at s r)))) ++ codes ")"
 text_of names s (Elements r) = further_elements (plain_name names) (tree_at s r) ++ codes "]"
 
 -- the text of all that is to be written
@@ -52,7 +54,8 @@ abbrev pub Extends : {A : Type 0} → List A → List A → Type 0
 Extends {A} old new = (more : List A) × (new ≡ old ++ more)
 
 -- Some of the text is written, and the rest of it is to be written by fewer steps.
-pub record Advances (names : List Named) (s : Store) (w : Work) (old new : List Work) (before after : List ℕ) : Type 0 where
+pub record Advances (names : List Named) (s : Store) (w : Work) (old new : List Work)
+    (before after : List ℕ) : Type 0 where
   pub more : List Work
   pub written : List ℕ
   pub works : new ≡ old ++ more
@@ -62,9 +65,11 @@ pub record Advances (names : List Named) (s : Store) (w : Work) (old new : List 
   pub fewer : steps_of_all s more < steps_of s w
 
 -- The elements of a cell, and the bracket after them, are to be written.
-pub record PushesCell (names : List Named) (s : Store) (row : Row) (old new : List Work) : Type 0 where
+pub record PushesCell (names : List Named) (s : Store) (row : Row) (old new : List Work)
+    : Type 0 where
   pub more : List Work
   pub works : new ≡ old ++ more
-  pub text : elements (plain_name names) (trees_of (arguments (tree_at s row))) ++ codes "]" ≡ text_of_all names s more
+  pub text : elements (plain_name names) (trees_of (arguments (tree_at s row))) ++ codes "]"
+      ≡ text_of_all names s more
   pub ready : All (IsReady names s) more
   pub fewer : steps_of_all s more + 3 ≤ 2 * nodes (tree_at s row)

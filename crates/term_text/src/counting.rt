@@ -19,7 +19,7 @@ pub(crate) struct Visit {
 }
 
 /// The count of nodes of each row, 0 where it isn't counted yet; the rows that are counted; and the
-/// rows from a root down to where counting is, each with the first argument that may not be counted.
+/// rows from a root down to where counting is, each with the first argument that may be uncounted.
 #[derive(Drop)]
 pub(crate) struct Tally {
     pub(crate) counts: Vec<u64>,
@@ -40,7 +40,8 @@ pub(crate) fn count_from<T: Terms>(terms: &mut T, row: Row, tally: &mut Tally)
     ensures room { HasRoom tally.new }
     ensures idle { tally.new.path.items ≡ [] }
     ensures counted { IsCounted tally.new.counts.items row }
-    ensures kept { (r : Row) → IsCounted tally.old.counts.items r → IsCounted tally.new.counts.items r }
+    ensures kept { (r : Row) → IsCounted tally.old.counts.items r
+        → IsCounted tally.new.counts.items r }
     ensures within { (ts : List Tree) → IsWithin ts (tree_at (T.store terms.old) row)
         → AreWithin (T.store terms.old) ts tally.old.counts.items []
         → AreWithin (T.store terms.old) ts tally.new.counts.items [] }

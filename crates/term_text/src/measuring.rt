@@ -54,8 +54,8 @@ impl SizeMarks {
     }
 }
 
-/// How large the tree of a held row is. It takes no memory and doesn't recurse, and it looks at each
-/// different subtree once, however often it stands in the tree.
+/// How large the tree of a held row is. It takes no memory and doesn't recurse, and it looks at
+/// each different subtree once, however often it stands in the tree.
 pub fn sizes<T: Terms>(terms: &mut T, row: Row, marks: &mut SizeMarks) -> TermSizes
     requires inside { (T.store terms.old).inside ≡ true }
     requires held { IsHeld (T.store terms.old) row }

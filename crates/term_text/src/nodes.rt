@@ -20,7 +20,8 @@ pub(crate) fn has_at_most<T: Terms>(
 ) -> Result<bool, Memory>
     requires inside { (T.store terms.old).inside ≡ true }
     requires held { IsHeld (T.store terms.old) row }
-    ensures exact { IfOk result (λ few. IsTrue few ↔ (nodes (tree_at (T.store terms.old) row) ≤ most)) }
+    ensures exact { IfOk result (λ few. IsTrue few
+        ↔ (nodes (tree_at (T.store terms.old) row) ≤ most)) }
     ensures unchanged { T.store terms.new ≡ T.store terms.old }
     ensures same { T.same terms.old terms.new }
 {

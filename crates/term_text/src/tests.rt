@@ -26,7 +26,7 @@ enum Step {
 }
 
 /// Goes inside with an empty stack.
-fn begin<T: Terms>(terms: &mut T, symbols: &Symbols)
+pub(crate) fn begin<T: Terms>(terms: &mut T, symbols: &Symbols)
     requires outside { (T.store terms.old).inside ≡ false }
     requires widest { 3 ≤ (T.store terms.old).widest }
     requires rows { (T.store terms.old).rows ≤ 100 }
@@ -37,7 +37,12 @@ fn begin<T: Terms>(terms: &mut T, symbols: &Symbols)
 }
 
 /// Builds a symbol over the last trees, if there are so many.
-fn build_symbol<T: Terms>(terms: &mut T, symbols: &Symbols, symbol: Symbol, n: u32) -> bool
+pub(crate) fn build_symbol<T: Terms>(
+    terms: &mut T,
+    symbols: &Symbols,
+    symbol: Symbol,
+    n: u32,
+) -> bool
     requires tried { IsTried symbols.now (T.store terms.old) }
     requires held { symbol.0 < length symbols.now }
     ensures { IsTried symbols.now (T.store terms.new) }
@@ -58,14 +63,14 @@ fn build_name<T: Terms>(terms: &mut T, symbols: &Symbols, name: &[u8], n: u32) -
     }
 }
 
-fn build_integer<T: Terms>(terms: &mut T, symbols: &Symbols, value: u64) -> bool
+pub(crate) fn build_integer<T: Terms>(terms: &mut T, symbols: &Symbols, value: u64) -> bool
     requires { IsTried symbols.now (T.store terms.old) }
     ensures { IsTried symbols.now (T.store terms.new) }
 {
     terms.build(Head::Int(value), 0).is_ok()
 }
 
-fn build_empty<T: Terms>(terms: &mut T, symbols: &Symbols) -> bool
+pub(crate) fn build_empty<T: Terms>(terms: &mut T, symbols: &Symbols) -> bool
     requires { IsTried symbols.now (T.store terms.old) }
     ensures { IsTried symbols.now (T.store terms.new) }
 {
@@ -73,7 +78,7 @@ fn build_empty<T: Terms>(terms: &mut T, symbols: &Symbols) -> bool
 }
 
 /// Builds a cell over the last two trees, if the second is a list.
-fn build_cell<T: Terms>(terms: &mut T, symbols: &Symbols) -> bool
+pub(crate) fn build_cell<T: Terms>(terms: &mut T, symbols: &Symbols) -> bool
     requires { IsTried symbols.now (T.store terms.old) }
     ensures { IsTried symbols.now (T.store terms.new) }
 {

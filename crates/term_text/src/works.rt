@@ -4,7 +4,7 @@ ghost use Rattle.std.specs.Prelude.{◌≡◌, ◌++◌, ◌∷◌, [], OnOk, So
 ghost use Rattle.term_model.specs.Tree.{root, arguments};
 ghost use Rattle.term_model.specs.declared.Head.TheVariants.{App, Cons};
 ghost use Rattle.terms_api.specs.Terms.{IsHeld, IsSound, tree_at};
-ghost use Rattle.term_text.specs.Text.{HasNames};
+ghost use Rattle.term_syntax.specs.Text.{HasNames};
 ghost use Rattle.term_text.specs.Works.{IsReady, Advances, Extends, PushesCell, is_cell};
 
 use faults::Memory;
@@ -120,8 +120,8 @@ fn write_arguments<T: Terms>(
 ) -> Result<(), Memory>
     requires inside { (T.store terms.old).inside ≡ true }
     requires ready { IsReady symbols.now (T.store terms.old) (Work.Arguments row from) }
-    ensures advances { OnOk result (Advances symbols.now (T.store terms.old) (Work.Arguments row from)
-        works.old.items works.new.items out.old.items out.new.items) }
+    ensures advances { OnOk result (Advances symbols.now (T.store terms.old)
+        (Work.Arguments row from) works.old.items works.new.items out.old.items out.new.items) }
     ensures grows { Extends out.old.items out.new.items }
     ensures unchanged { T.store terms.new ≡ T.store terms.old }
     ensures same { T.same terms.old terms.new }
