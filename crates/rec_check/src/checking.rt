@@ -1,6 +1,6 @@
 //! Checks a syntax.
 
-ghost use Rattle.std.specs.Prelude.{◌≡◌, None, Some, IfErr, IfOk, OnOk};
+ghost use Rattle.std.specs.Prelude.{◌≡◌, None, Some, IfErr, IfOk, IsSome, OnOk};
 ghost use Rattle.rec_offences.specs.Faults.{fault_of};
 ghost use Rattle.rec_check.specs.Checked.{IsFault};
 ghost use Rattle.rec_check.specs.Run.{MayBeRun, spelled_in};
@@ -22,10 +22,13 @@ use std::alloc::Global;
 pub fn check(alloc: Global, syntax: &Syntax) -> Result<Spec, ReadFail>
     ensures accepted_only_without_offence { OnOk result (fault_of syntax.now ≡ None) }
     ensures refused_only_with_the_fault { IfErr result (IsFault (fault_of syntax.now)) }
+    // Nothing but an offence keeps an input from being spelled.
+    ensures spelled_where_faultless { fault_of syntax.now ≡ None → IsSome (spelled_in syntax.now) }
     ensures spelled { IfOk result (λ s. spelled_in syntax.now ≡ Some (specified s)) }
     ensures widest { IfOk result (λ s. s.widest ≡ widest_of s.symbols) }
     ensures may_be_run { IfOk result (λ s. MayBeRun (specified s)) }
 {
+    let _ = syntax.as_slice();
     if let Some(fault) = fault(alloc, syntax)? {
         return Err(ReadFail::Refused {
             kind: fault.kind,

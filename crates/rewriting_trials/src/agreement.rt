@@ -1,0 +1,234 @@
+//! Rules made by chance come to what the plain program says, with every fuel, room and number of
+//! rows near the ends.
+
+ghost use Rattle.std.specs.Prelude.{◌≡◌, ◌≤◌};
+
+use crate::chance::{Dice, rules, term};
+use crate::needs::need;
+use crate::sight::{Limits, Sight, look, stopped, value};
+use crate::writing::planned;
+use innermost::{Normal, RunFault};
+use rewrite_model::{End, Evaluated, Rule, Term, distinct, evaluation};
+use rule_match::Plan;
+use std::alloc::Global;
+use std::test::Fail;
+use term_model::Flat;
+
+/// What is enough for most terms.
+const AMPLE: Limits = Limits {
+    fuel: 8,
+    depth: 40,
+    rows: 400,
+};
+
+/// What the plain program says of a term: what it builds, its value, and what is to be seen in a
+/// store with rows for all that is built.
+#[derive(Drop)]
+struct Expected {
+    built: Vec<Term>,
+    value: Option<Term>,
+    sight: Sight,
+}
+
+fn said(alloc: Global, plan: &Plan, term: &Flat, limits: Limits) -> Result<Expected, Fail> {
+    let run = evaluation(alloc, plan.rules(), term, limits.fuel, limits.depth)?;
+    let Evaluated { built, end } = run;
+    let count = built.len();
+    let (value, sight) = match end {
+        End::Value(term, left) => (Some(term), value(left, count)),
+        End::OutOfFuel => (None, stopped(Ok(Normal::OutOfFuel), count)),
+        End::TooDeep => (None, stopped(Ok(Normal::TooDeep), count)),
+    };
+    Ok(Expected {
+        built,
+        value,
+        sight,
+    })
+}
+
+/// What is seen of a term, if the plain program says so. With fewer rows than are needed a full
+/// store may stop it, after a part of what is to be built.
+fn agreed(
+    alloc: Global,
+    plan: &Plan,
+    term: &Flat,
+    limits: Limits,
+    needed: usize,
+) -> Result<Option<Sight>, Fail>
+    requires { plan.now.widest ≤ 2 }
+{
+    let said = said(alloc, plan, term, limits)?;
+    let got = look(alloc, plan, term, limits, said.built, said.value.as_ref())?;
+    let full = stopped(Err(RunFault::StoreFull), got.built);
+    let is_short = (limits.rows as usize) < needed && got.built < said.sight.built;
+    if got == said.sight || got == full && is_short {
+        Ok(Some(got))
+    } else {
+        Ok(None)
+    }
+}
+
+/// How often each answer came.
+#[derive(Clone, Copy, Debug)]
+struct Tally {
+    values: u32,
+    out_of_fuel: u32,
+    too_deep: u32,
+    store_full: u32,
+    apart: u32,
+    conditional: u32,
+    repeating: u32,
+}
+
+impl Tally {
+    /// Nothing yet.
+    fn new() -> Self {
+        Tally {
+            values: 0,
+            out_of_fuel: 0,
+            too_deep: 0,
+            store_full: 0,
+            apart: 0,
+            conditional: 0,
+            repeating: 0,
+        }
+    }
+
+    /// Counts the rules with conditions, and those whose left side repeats a variable.
+    fn count_rules(&mut self, rules: &[Rule]) {
+        for rule in rules {
+            let places = rule
+                .left()
+                .items()
+                .iter()
+                .filter(|item| item.head().is_none())
+                .count();
+            if !rule.conditions().is_empty() {
+                self.conditional = self.conditional.saturating_add(1);
+            }
+            if places > rule.vars() as usize {
+                self.repeating = self.repeating.saturating_add(1);
+            }
+        }
+    }
+
+    fn count(&mut self, agreed: Option<Sight>) {
+        let kind = match agreed {
+            None => &mut self.apart,
+            Some(sight) => match sight.answer {
+                Ok(Normal::Value { left: _ }) => &mut self.values,
+                Ok(Normal::OutOfFuel) => &mut self.out_of_fuel,
+                Ok(Normal::TooDeep) => &mut self.too_deep,
+                Err(_) => &mut self.store_full,
+            },
+        };
+        *kind = kind.saturating_add(1);
+    }
+}
+
+/// The least room in which a term doesn't end for want of room.
+fn least_depth(alloc: Global, plan: &Plan, term: &Flat) -> Result<u32, Fail> {
+    for depth in 0..AMPLE.depth {
+        let said = said(alloc, plan, term, Limits { depth, ..AMPLE })?;
+        if said.sight.answer != Ok(Normal::TooDeep) {
+            return Ok(depth);
+        }
+    }
+    Ok(AMPLE.depth)
+}
+
+/// Tries a term with every fuel up to all that it uses and one more, in least room and beside it.
+fn try_fuels(
+    alloc: Global,
+    plan: &Plan,
+    term: &Flat,
+    least: u32,
+    tally: &mut Tally,
+) -> Result<(), Fail>
+    requires { plan.now.widest ≤ 2 }
+{
+    let said = said(alloc, plan, term, AMPLE)?;
+    let spent = match said.sight.answer {
+        Ok(Normal::Value { left }) => AMPLE.fuel.saturating_sub(left),
+        _ => AMPLE.fuel,
+    };
+    for fuel in 0..=spent.saturating_add(1) {
+        for more in 0..4 {
+            let depth = least.saturating_add(more).saturating_sub(2);
+            let limits = Limits {
+                fuel,
+                depth,
+                ..AMPLE
+            };
+            tally.count(agreed(alloc, plan, term, limits, 0)?);
+        }
+        tally.count(agreed(alloc, plan, term, Limits { fuel, ..AMPLE }, 0)?);
+    }
+    Ok(())
+}
+
+/// Tries a term with every room up to the least that is enough.
+fn try_depths(
+    alloc: Global,
+    plan: &Plan,
+    term: &Flat,
+    least: u32,
+    tally: &mut Tally,
+) -> Result<(), Fail>
+    requires { plan.now.widest ≤ 2 }
+{
+    for depth in 0..=least {
+        tally.count(agreed(alloc, plan, term, Limits { depth, ..AMPLE }, 0)?);
+    }
+    Ok(())
+}
+
+/// Tries a term with every number of rows up to that of the different trees that are built, of
+/// which no more are needed at once.
+fn try_rows(alloc: Global, plan: &Plan, term: &Flat, tally: &mut Tally) -> Result<(), Fail>
+    requires { plan.now.widest ≤ 2 }
+{
+    let said = said(alloc, plan, term, AMPLE)?;
+    let different = distinct(&said.built);
+    let needed = need(alloc, plan.rules(), term, AMPLE)?;
+    if different > AMPLE.rows as usize || needed > different {
+        return Err(Fail::from("too many different trees"));
+    }
+    for rows in 0..=different {
+        let limits = Limits {
+            rows: rows as u32,
+            ..AMPLE
+        };
+        tally.count(agreed(alloc, plan, term, limits, needed)?);
+    }
+    Ok(())
+}
+
+#[test]
+fn chance_rules_come_to_what_the_plain_program_says(rt: HostRuntime) -> Result<(), Fail> {
+    let alloc = rt.alloc();
+    let mut dice = Dice::of(1);
+    let mut tally = Tally::new();
+    for number in 0..400 {
+        let plan = planned(alloc, rules(alloc, &mut dice)?)?;
+        let term = term(alloc, &mut dice)?;
+        tally.count_rules(plan.rules());
+        let least = least_depth(alloc, &plan, &term)?;
+        try_fuels(alloc, &plan, &term, least, &mut tally)?;
+        try_depths(alloc, &plan, &term, least, &mut tally)?;
+        try_rows(alloc, &plan, &term, &mut tally)?;
+        assert_eq!(rt; tally.apart, 0, "{number}");
+    }
+    let common = [
+        tally.values,
+        tally.out_of_fuel,
+        tally.too_deep,
+        tally.store_full,
+    ];
+    assert!(rt; common.iter().all(|count| *count > 1000), "{tally:?}");
+    assert!(rt;
+        tally.conditional > 100 && tally.repeating > 100,
+        "{tally:?}"
+    );
+    Ok(())
+}

@@ -1,0 +1,24 @@
+//! Trials of rewriting over the store of one thread: worked rows, and rules made by chance, which
+//! come to what the plain program says.
+#![tactic(auto)]
+
+#[cfg(test)]
+mod agreement;
+#[cfg(test)]
+mod building;
+#[cfg(test)]
+mod chance;
+#[cfg(test)]
+mod matching;
+#[cfg(test)]
+mod needs;
+#[cfg(test)]
+mod reading;
+#[cfg(test)]
+mod rows;
+#[cfg(test)]
+mod sight;
+#[cfg(test)]
+mod watched;
+#[cfg(test)]
+mod writing;

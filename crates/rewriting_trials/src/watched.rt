@@ -1,0 +1,128 @@
+//! A store of one thread whose builds are compared with a list of terms.
+
+ghost use Rattle.std.specs.Prelude.{◌≡◌, IfOk, false};
+ghost use Rattle.std.specs.Prelude.{max};
+ghost use Rattle.plain_store.specs.Contents.{empty};
+
+use crate::reading::is_asked;
+use faults::Memory;
+use plain_store::PlainStore;
+use rewrite_model::Term;
+use std::alloc::Global;
+use term_model::{Head, Row};
+use terms_api::{BuildFault, Deep, Terms};
+
+/// A store, the trees that it is to build in their order, how many it has built, and whether each
+/// tree that it was asked for was the next of them.
+#[derive(Drop)]
+pub(crate) struct Watched {
+    store: PlainStore,
+    wanted: Vec<Term>,
+    built: usize,
+    in_order: bool,
+}
+
+impl Watched {
+    /// An empty store, for one that is outside, of so many rows and places of the stack.
+    pub(crate) fn new(
+        alloc: Global,
+        rows: u32,
+        places: u32,
+        widest: u32,
+        wanted: Vec<Term>,
+    ) -> Result<Self, Memory>
+        ensures { IfOk result (λ watched. watched.store ≡ empty rows places (max widest 2)) }
+    {
+        Ok(Watched {
+            store: PlainStore::new(alloc, rows, places, widest)?,
+            wanted,
+            built: 0,
+            in_order: true,
+        })
+    }
+
+    /// How many trees were built.
+    pub(crate) fn built(&self) -> usize {
+        self.built
+    }
+
+    /// Whether the trees that were asked for are the wanted ones, in order.
+    pub(crate) fn in_order(&self) -> bool {
+        self.in_order
+    }
+}
+
+impl Terms for Watched {
+    ghost use Rattle.plain_store.specs.Contents.{store_of, IsSame, same_itself, same_turn};
+
+    ghost store = { λ w. store_of w.store };
+
+    ghost same = { λ w v. IsSame w.store v.store };
+
+    ghost same_as_itself = { λ w. same_itself w.store };
+
+    ghost same_in_turn = { λ u v w. same_turn u.store v.store w.store };
+
+    fn enter(&mut self) {
+        self.store.enter();
+    }
+
+    fn leave(&mut self) {
+        self.store.leave();
+    }
+
+    fn breathe(&mut self) {
+        self.store.breathe();
+    }
+
+    fn depth(&self) -> u32 {
+        self.store.depth()
+    }
+
+    fn room(&self) -> u32 {
+        self.store.room()
+    }
+
+    fn at(&mut self, i: u32) -> Row {
+        self.store.at(i)
+    }
+
+    fn head(&mut self, row: Row) -> Head {
+        self.store.head(row)
+    }
+
+    fn count(&mut self, row: Row) -> u32 {
+        self.store.count(row)
+    }
+
+    fn child(&mut self, row: Row, j: u32) -> Row {
+        self.store.child(row, j)
+    }
+
+    fn push(&mut self, row: Row) -> Result<(), Deep> {
+        self.store.push(row)
+    }
+
+    /// Compares the tree with the next that is wanted, and builds it.
+    fn build(&mut self, head: Head, n: u32) -> Result<(), BuildFault> {
+        let _ = self.store.depth();
+        if self.built >= self.wanted.len()
+            || !is_asked(&self.wanted[self.built], head, n, &mut self.store)
+        {
+            self.in_order = false;
+        }
+        let answer = self.store.build(head, n);
+        if answer.is_ok() {
+            self.built = self.built.saturating_add(1);
+        }
+        answer
+    }
+
+    fn keep(&mut self, from: u32, top: u32) {
+        self.store.keep(from, top);
+    }
+
+    fn epoch(&self) -> Option<u64> {
+        self.store.epoch()
+    }
+}
