@@ -1,5 +1,4 @@
-pub mod Items
-pub mod Laying
+pub mod Waiting
 pub mod Compiled
 pub mod Pending
 pub mod Bindings

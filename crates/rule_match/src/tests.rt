@@ -58,3 +58,16 @@ fn other_rules_make_no_plan(rt: HostRuntime) -> Result<(), Fail> {
     }
     Ok(())
 }
+
+#[test]
+fn left_side_nested_a_million_times_is_planned(rt: HostRuntime) -> Result<(), Fail> {
+    let alloc = rt.alloc();
+    let mut left = vec![in alloc; F; 1_000_001]?;
+    left[0] = A;
+    let mut rules = Vec::new(alloc);
+    rules.push(rule(alloc, &left, &[A], 0)?)?;
+    assert!(rt; may_be_planned(&rules, 1));
+    let plan = Plan::of(alloc, rules, 1)?;
+    assert_eq!(rt; plan.first(Head::App(Symbol(1))), Some(0));
+    Ok(())
+}
