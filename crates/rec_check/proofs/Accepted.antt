@@ -1,21 +1,19 @@
 -- An input without offence is spelled.
-use Rattle.std.proofs.Common.{◌≡◌, ℕ, zero, suc, ◌+◌, ◌-◌, ◌<◌, ◌≤◌, Bool, true, false, ◌&&◌, List, [], ◌∷◌, ◌++◌, length, map, fold, take, slice_get, Option, Some, None, is_some, All, refl, sym, ap, subst, ◌∙◌, arith, length-append}
+use Rattle.std.proofs.Common.{◌≡◌, ℕ, ◌-◌, ◌<◌, ◌≤◌, Bool, true, false, ◌&&◌, List, [], ◌∷◌, ◌++◌, length, fold, take, slice_get, Option, Some, None, is_some, All, refl, sym, ap, subst, ◌∙◌, arith, length-append}
 use Rattle.std.specs.Prelude.{nat_lt, nat_le, if◌then◌else◌}
 use Rattle.std.specs.Option.{option_to_list}
 use Rattle.std.specs.List.{list_all, flat_map}
 use Rattle.std.proofs.lemmas.Bool.Decides.{nat_tests}
-use Rattle.std.proofs.lemmas.List.{append_assoc, append-nil}
+use Rattle.std.proofs.lemmas.List.{append_assoc}
 use Rattle.std.proofs.lemmas.List.Elements.{All-nil, All-cons, All-head, All-tail, All-weaker, All-append}
 use Rattle.std.proofs.lemmas.List.Folds.{list_all-append}
 use Rattle.std.proofs.lemmas.Grind.{flat_map-append}
 use Rattle.symbol_pool.specs.Pool.{Named}
 use Rattle.symbol_pool.proofs.Places.{slice_get-append}
 use Rattle.rec_reader.specs.declared.syntax_tree.Specification.{Specification}
-use Rattle.rec_reader.specs.declared.syntax_tree.Node.{Node}
 use Rattle.rec_reader.specs.Parsed.{Parsed}
 use Rattle.rec_reader.specs.Whole.{HasWholeTerms}
-use Rattle.rec_offences.specs.Material.{Header, symbols_by, specifications_at, included, headers_of, header_after}
-use Rattle.rec_offences.specs.Offences.{most}
+use Rattle.rec_offences.specs.Material.{Header, symbols_by, specifications_at, headers_of, header_after}
 use Rattle.rec_offences.specs.Faults.{offences_after, offences_from, offences_of}
 use Rattle.rec_check.specs.Rule.{◌>>=◌}
 use Rattle.rec_check.specs.Symbols.{named_in, with_symbols}
@@ -26,7 +24,7 @@ use Rattle.rec_check.proofs.Faultless.{left_empty, right_empty, Faultless, fault
 use Rattle.rec_check.proofs.Including.{length-headers}
 use Rattle.rec_check.proofs.Repeating.{all_added}
 use Rattle.rec_check.proofs.Readable.{rules_spelled, length-rules, terms_spelled, TermReads}
-use Rattle.rec_check.proofs.Entire.{Together, IsSound, together_of, sound_of, together_more, included_sound, terms_of_last, all_symbols, more_symbols}
+use Rattle.rec_check.proofs.Entire.{Together, IsSound, together_of, sound_of, together_more, included_sound, terms_of_last, more_symbols}
 
 -- numbers of earlier specifications mean the same where more follow
 still_at : (earlier more : List Specification) (ms : List ℕ) → list_all (λ n. nat_lt n (length earlier)) ms ≡ true → specifications_at (earlier ++ more) ms ≡ specifications_at earlier ms

@@ -1,27 +1,23 @@
 -- A specification without offence, after others whose materials are sound: its own material is sound.
-use Rattle.std.proofs.Common.{◌≡◌, ℕ, zero, suc, ◌+◌, ◌-◌, ◌<◌, ◌≤◌, Bool, true, false, cond, eqb, not, ◌&&◌, ◌||◌, ◌⊎◌, inl, inr, List, [], ◌∷◌, ◌++◌, length, map, fold, slice_get, get_or, Option, Some, None, is_some, All, refl, sym, ap, subst, ◌∙◌, arith, position, length-append}
+use Rattle.std.proofs.Common.{◌≡◌, ℕ, ◌+◌, ◌-◌, ◌≤◌, Bool, true, false, eqb, not, ◌&&◌, ◌⊎◌, inl, inr, List, [], ◌∷◌, ◌++◌, length, map, slice_get, get_or, Option, Some, None, is_some, All, refl, sym, ap, subst, ◌∙◌, arith, position, length-append}
 use Rattle.std.specs.Prelude.{nat_le, nat_lt, if◌then◌else◌, option_and_then}
 use Rattle.std.specs.Option.{option_map, option_map_or, option_to_list}
 use Rattle.std.specs.List.{list_any, list_all, flat_map, filter}
 use Rattle.std.specs.Str.{bytes_eq}
-use Rattle.std.proofs.lemmas.Bool.Decides.{nat_tests}
 use Rattle.std.proofs.lemmas.List.{append_assoc, append-nil, map-append}
 use Rattle.std.proofs.lemmas.List.Elements.{All-nil, All-cons, All-head, All-tail, All-weaker, All-append}
 use Rattle.std.proofs.lemmas.List.Folds.{list_all-append}
 use Rattle.std.proofs.lemmas.Grind.{flat_map-append}
 use Rattle.symbol_pool.specs.Pool.{Named, named}
-use Rattle.symbol_pool.proofs.Places.{slice_get-append}
 use Rattle.rec_reader.specs.declared.token.Name.{Name}
 use Rattle.rec_reader.specs.declared.syntax_tree.Node.{Node}
 use Rattle.rec_reader.specs.declared.syntax_tree.Rule.{Rule}
-use Rattle.rec_reader.specs.declared.syntax_tree.Condition.{Condition}
 use Rattle.rec_reader.specs.declared.syntax_tree.Specification.{Specification}
-use Rattle.rec_reader.specs.Whole.{IsWhole, IsWholeRule, HasWholeSides, HasWholeTerms}
-use Rattle.rec_offences.specs.Names.{text_of, same_text, is_among}
-use Rattle.rec_offences.specs.Material.{Declared, Header, brought, with_numbers, symbols_by, variables_by, symbols_of, rules_of, specifications_at, included, headers_of, header_after}
-use Rattle.rec_offences.specs.Scope.{Entry, symbol_entry, variable_entry, own_entries, names_of, look_up, is_variable, heads, root, Visit, visits}
-use Rattle.rec_offences.specs.Offences.{includes_from, symbol_names, is_clashing, is_passing, is_long, names_in as all_names_in, repeated, first_past, most, terms_of, nodes_but_left, all_visits, unknown_name, wrong_count, unknown_names, wrong_counts, bare_variables, free_variables, not_ground}
-use Rattle.rec_check.specs.Term.{same_symbol}
+use Rattle.rec_reader.specs.Whole.{IsWhole, IsWholeRule, HasWholeTerms}
+use Rattle.rec_offences.specs.Names.{text_of, is_among}
+use Rattle.rec_offences.specs.Material.{Declared, symbols_by, variables_by, symbols_of, rules_of, specifications_at, headers_of}
+use Rattle.rec_offences.specs.Scope.{symbol_entry, variable_entry, own_entries, names_of, look_up, is_variable, heads, root, visits}
+use Rattle.rec_offences.specs.Offences.{includes_from, is_clashing, is_passing, is_long, names_in as all_names_in, repeated, first_past, most, terms_of, nodes_but_left, all_visits, unknown_name, wrong_count, unknown_names, wrong_counts, bare_variables, free_variables, not_ground}
 use Rattle.rec_check.specs.Rule.{variables_in}
 use Rattle.rec_check.specs.Symbols.{named_in}
 use Rattle.rec_check.specs.Spelled.{variables_of}
@@ -29,7 +25,7 @@ use Rattle.rec_check.proofs.Faultless.{left_empty, right_empty, Faultless, heade
 use Rattle.rec_check.proofs.Positions.{place_if_any}
 use Rattle.rec_check.proofs.Repeating.{repeated-append, few_arguments}
 use Rattle.rec_check.proofs.Sound.{Holds, Sound, sound_none, sound_entries, all_front, all_back, holds_first}
-use Rattle.rec_check.proofs.Readable.{TermReads, SidesRead, RuleReads, Reads, reads_more, All-at, last_node, none_of}
+use Rattle.rec_check.proofs.Readable.{TermReads, RuleReads, Reads, reads_more, All-at, last_node, none_of}
 use Rattle.rec_check.proofs.Own.{all_empty, all_flat, all_filtered, visited, HeadSymbol, HeadVariable, classify, entries_of}
 use Rattle.rec_check.proofs.Judged.{option_empty, within_most, few_declared, all_pair, all_mapped, term_read, ground_read, heads_among, not_there}
 

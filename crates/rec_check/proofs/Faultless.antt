@@ -1,14 +1,13 @@
 -- What a specification without offence has.
-use Rattle.std.proofs.Common.{◌≡◌, ℕ, ◌+◌, ◌<◌, ◌≤◌, Bool, true, false, List, [], ◌∷◌, ◌++◌, length, fold, drop, get_or, Option, Some, None, is_some, refl, sym, ap, subst, ◌∙◌, arith}
-use Rattle.std.specs.Prelude.{if◌then◌else◌, map}
+use Rattle.std.proofs.Common.{◌≡◌, ℕ, Bool, true, false, List, [], ◌∷◌, ◌++◌, Some, None, is_some, refl, sym, ap, ◌∙◌}
+use Rattle.std.specs.Prelude.{if◌then◌else◌}
 use Rattle.rec_reader.specs.declared.token.Name.{Name}
 use Rattle.rec_reader.specs.declared.syntax_tree.Specification.{Specification}
-use Rattle.rec_reader.specs.Parsed.{Parsed}
 use Rattle.rec_offences.specs.declared.offence.Offence.{Offence}
 use Rattle.rec_offences.specs.Material.{Header, headers_of, included, sorts_of}
 use Rattle.rec_offences.specs.Scope.{Entry, own_entries, names_of}
 use Rattle.rec_offences.specs.Offences.{includes_from, unknown_names, repeated_names, wrong_counts, bare_variables, free_variables, not_ground, unknown_sorts, unknown_includes, past_limits, sort_clashes}
-use Rattle.rec_offences.specs.Faults.{of_kind, included_entries, offences_over, offences_after, goes_before, lesser, least_with}
+use Rattle.rec_offences.specs.Faults.{of_kind, included_entries, offences_over, offences_after, goes_before, least_with}
 
 -- both parts of nothing are nothing
 pub left_empty : {A : Type 0} (xs ys : List A) → xs ++ ys ≡ [] → xs ≡ []

@@ -1,42 +1,37 @@
 -- A specification without offence: its rules are read by the symbols of its material, and its terms too.
-use Rattle.std.proofs.Common.{◌≡◌, ℕ, zero, suc, ◌+◌, ◌-◌, ◌<◌, ◌≤◌, Bool, true, false, cond, eqb, not, ◌&&◌, ◌||◌, ◌⊎◌, inl, inr, List, [], ◌∷◌, ◌++◌, length, map, slice_get, get_or, Option, Some, None, is_some, All, refl, sym, ap, subst, ◌∙◌, arith, position, length-append}
-use Rattle.std.specs.Prelude.{nat_le, nat_lt, if◌then◌else◌, option_and_then}
-use Rattle.std.specs.Option.{option_map, option_map_or, option_to_list}
+use Rattle.std.proofs.Common.{◌≡◌, ℕ, ◌+◌, ◌-◌, ◌<◌, ◌≤◌, Bool, true, false, cond, eqb, ◌&&◌, ◌||◌, ◌⊎◌, inl, inr, List, [], ◌∷◌, length, map, slice_get, get_or, Option, Some, None, is_some, All, refl, sym, ap, ◌∙◌, arith, position}
+use Rattle.std.specs.Prelude.{nat_le, if◌then◌else◌}
+use Rattle.std.specs.Option.{option_to_list}
 use Rattle.std.specs.List.{list_any, list_all, flat_map, filter}
 use Rattle.std.specs.Str.{bytes_eq}
 use Rattle.std.specs.Cmp.Lexicographic.{bytes_decides}
 use Rattle.std.proofs.lemmas.Bool.Decides.{nat_tests}
 use Rattle.std.proofs.lemmas.Bool.{eqb-true}
 use Rattle.std.specs.Cmp.{second_so}
-use Rattle.std.proofs.lemmas.List.{append_assoc, append-nil, map-append}
-use Rattle.std.proofs.lemmas.List.Elements.{All-nil, All-cons, All-head, All-tail, All-weaker, All-append}
+use Rattle.std.proofs.lemmas.List.Elements.{All-nil, All-cons, All-head, All-tail, All-weaker}
 use Rattle.std.proofs.lemmas.List.Folds.{list_all-append}
 use Rattle.std.proofs.lemmas.Option.{slice_get-get_or}
-use Rattle.std.proofs.lemmas.Grind.{flat_map-append}
-use Rattle.symbol_pool.specs.Pool.{Named, named}
+use Rattle.symbol_pool.specs.Pool.{named}
 use Rattle.rec_reader.specs.declared.token.Name.{Name}
 use Rattle.rec_reader.specs.declared.syntax_tree.Node.{Node}
-use Rattle.rec_reader.specs.declared.syntax_tree.Rule.{Rule}
-use Rattle.rec_reader.specs.declared.syntax_tree.Condition.{Condition}
 use Rattle.rec_reader.specs.declared.syntax_tree.Declaration.{Declaration}
 use Rattle.rec_reader.specs.declared.syntax_tree.Specification.{Specification}
-use Rattle.rec_reader.specs.Whole.{IsWhole, IsWholeRule, HasWholeSides, HasWholeTerms}
+use Rattle.rec_reader.specs.Whole.{IsWhole}
 use Rattle.rec_offences.specs.Names.{text_of, same_text, is_among}
-use Rattle.rec_offences.specs.Material.{Declared, declared, symbols_by, variables_by, symbols_of_declaration}
-use Rattle.rec_offences.specs.Scope.{Entry, symbol_entry, variable_entry, own_entries, names_of, look_up, is_variable, heads, root, Visit, visits}
-use Rattle.rec_offences.specs.Offences.{repeated, first_past, most, terms_of, nodes_but_left, all_visits, unknown_names, wrong_counts, bare_variables, free_variables, not_ground}
-use Rattle.rec_check.specs.Term.{same_symbol, most_arguments, item_in, item_by, variable_item, symbol_item}
+use Rattle.rec_offences.specs.Material.{Declared, declared, symbols_of_declaration}
+use Rattle.rec_offences.specs.Scope.{is_variable, heads}
+use Rattle.rec_offences.specs.Offences.{first_past, most}
+use Rattle.rec_check.specs.Term.{same_symbol, most_arguments, item_by, variable_item}
 use Rattle.rec_check.specs.Rule.{variables_in}
-use Rattle.rec_check.specs.Named.{with_names}
 use Rattle.rec_check.specs.Symbols.{named_in}
 use Rattle.rec_check.specs.Spelled.{variables_of}
 use Rattle.rec_check.proofs.Faultless.{left_empty, right_empty}
-use Rattle.rec_check.proofs.Numbered.{any_append, all_declared}
+use Rattle.rec_check.proofs.Numbered.{all_declared}
 use Rattle.rec_check.proofs.Positions.{place_if_any}
-use Rattle.rec_check.proofs.Repeating.{repeated-append, few_arguments, both_true}
-use Rattle.rec_check.proofs.Sound.{Holds, or_left, or_right, all_front, all_back}
-use Rattle.rec_check.proofs.Readable.{IsRead, TermReads, SidesRead, RuleReads, Reads, symbol_known, some_of, none_of, scope, All-at}
-use Rattle.rec_check.proofs.Own.{all_empty, all_flat, all_filtered, visited, HeadSymbol, HeadVariable, classify, entries_of, among_same, any_with_names}
+use Rattle.rec_check.proofs.Repeating.{few_arguments, both_true}
+use Rattle.rec_check.proofs.Sound.{or_left, or_right}
+use Rattle.rec_check.proofs.Readable.{IsRead, TermReads, symbol_known, some_of, none_of}
+use Rattle.rec_check.proofs.Own.{HeadSymbol, HeadVariable, entries_of, any_with_names}
 
 -- ---- limits
 

@@ -1,29 +1,27 @@
 -- What a specification declares itself, where it has no offence: each head of its terms is a symbol or a variable.
-use Rattle.std.proofs.Common.{◌≡◌, ℕ, zero, suc, ◌+◌, ◌-◌, ◌<◌, ◌≤◌, Bool, true, false, cond, eqb, not, ◌&&◌, ◌||◌, ◌⊎◌, inl, inr, List, [], ◌∷◌, ◌++◌, length, map, slice_get, get_or, take, Option, Some, None, is_some, All, refl, sym, ap, subst, ◌∙◌, arith, position, length-append}
-use Rattle.std.specs.Prelude.{nat_le, nat_lt, if◌then◌else◌, find}
-use Rattle.std.specs.Option.{option_map_or, option_or, option_to_list}
-use Rattle.std.specs.List.{list_any, list_all, flat_map, filter}
+use Rattle.std.proofs.Common.{◌≡◌, ℕ, ◌-◌, Bool, true, false, cond, eqb, ◌&&◌, ◌||◌, ◌⊎◌, inl, inr, List, [], ◌∷◌, ◌++◌, length, map, take, Option, Some, None, is_some, All, refl, sym, ap, subst, ◌∙◌}
+use Rattle.std.specs.Prelude.{if◌then◌else◌, find}
+use Rattle.std.specs.Option.{option_map_or, option_or}
+use Rattle.std.specs.List.{list_any, flat_map, filter}
 use Rattle.std.specs.Str.{bytes_eq}
 use Rattle.std.specs.Cmp.Lexicographic.{bytes_decides}
 use Rattle.std.proofs.lemmas.Bool.{eqb-true, eq-eqb}
-use Rattle.std.proofs.lemmas.List.{append_assoc, append-nil, map-append}
-use Rattle.std.proofs.lemmas.List.Elements.{All-nil, All-cons, All-head, All-tail, All-weaker, All-append}
-use Rattle.std.proofs.lemmas.Grind.{flat_map-append}
-use Rattle.symbol_pool.specs.Pool.{Named, named}
+use Rattle.std.proofs.lemmas.List.Elements.{All-nil, All-cons, All-head, All-tail}
+use Rattle.symbol_pool.specs.Pool.{named}
 use Rattle.rec_reader.specs.declared.token.Name.{Name}
 use Rattle.rec_reader.specs.declared.syntax_tree.Node.{Node}
 use Rattle.rec_reader.specs.declared.syntax_tree.Specification.{Specification}
 use Rattle.rec_offences.specs.Names.{text_of, same_text, is_among}
-use Rattle.rec_offences.specs.Material.{Declared, Variable, symbols_by, variables_by}
-use Rattle.rec_offences.specs.Scope.{Entry, symbol_entry, variable_entry, own_entries, names_of, look_up, is_variable, Visit, visits}
-use Rattle.rec_offences.specs.Offences.{repeated, unknown_name, wrong_count}
+use Rattle.rec_offences.specs.Material.{Declared, Variable, variables_by}
+use Rattle.rec_offences.specs.Scope.{Entry, symbol_entry, variable_entry, names_of, look_up, is_variable, visits}
+use Rattle.rec_offences.specs.Offences.{repeated}
 use Rattle.rec_check.specs.Term.{same_symbol}
-use Rattle.rec_check.specs.Named.{with_name, with_names}
+use Rattle.rec_check.specs.Named.{with_names}
 use Rattle.rec_check.specs.Symbols.{named_in}
 use Rattle.rec_check.specs.Spelled.{variables_of}
 use Rattle.rec_check.proofs.Faultless.{left_empty, right_empty}
 use Rattle.rec_check.proofs.Numbered.{any_append}
-use Rattle.rec_check.proofs.Repeating.{new_first, among-append, or_false}
+use Rattle.rec_check.proofs.Repeating.{new_first, among-append}
 use Rattle.rec_check.proofs.Sound.{or_left, or_right, all_front, all_back}
 
 -- ---- lists that come to nothing

@@ -1,14 +1,13 @@
 -- What terms and rules are read by: symbols and variables for all their heads.
-use Rattle.std.proofs.Common.{◌≡◌, ℕ, zero, suc, ◌+◌, ◌-◌, ◌<◌, ◌≤◌, Bool, true, false, cond, ◌&&◌, ◌⊎◌, inl, inr, List, [], ◌∷◌, ◌++◌, length, map, slice_get, get_or, Option, Some, None, is_some, All, refl, sym, ap, subst, ◌∙◌, arith, position, length-append}
+use Rattle.std.proofs.Common.{◌≡◌, ℕ, zero, suc, ◌+◌, ◌-◌, Bool, true, false, ◌&&◌, List, [], ◌∷◌, ◌++◌, length, slice_get, get_or, Option, Some, None, is_some, All, refl, sym, ap, subst, ◌∙◌, arith, position, length-append}
 use Rattle.std.specs.Prelude.{option_and_then, nat_le, if◌then◌else◌}
 use Rattle.std.specs.Option.{option_map}
 use Rattle.std.specs.List.{list_any, flat_map}
 use Rattle.std.specs.Str.{bytes_eq}
-use Rattle.std.proofs.lemmas.List.Elements.{All-weaker, All-head, All-tail, All-nil, All-cons}
+use Rattle.std.proofs.lemmas.List.Elements.{All-weaker, All-head, All-tail}
 use Rattle.std.proofs.lemmas.Option.{slice_get_within, slice_get-get_or, get_or_from_slice_get}
 use Rattle.term_model.specs.Tree.{Tree, root}
 use Rattle.term_model.specs.Postorder.{postorder, tree_of, head_of}
-use Rattle.term_model.specs.declared.Head.{Head}
 use Rattle.term_model.specs.declared.Item.{Item}
 use Rattle.term_model.specs.declared.Item.TheVariants.{Var, App}
 use Rattle.term_model.proofs.Order.{only_postorder}
@@ -19,13 +18,13 @@ use Rattle.rec_reader.specs.declared.syntax_tree.Node as node
 use Rattle.rec_reader.specs.declared.syntax_tree.Rule as written
 use Rattle.rec_reader.specs.declared.syntax_tree.Condition as condition
 use Rattle.rec_reader.specs.declared.syntax_tree.Specification.{Specification}
-use Rattle.rec_reader.specs.Whole.{terms_after, IsWhole}
+use Rattle.rec_reader.specs.Whole.{IsWhole}
 use Rattle.rec_offences.specs.Names.{text_of}
 use Rattle.rec_check.specs.Term.{Scope, all_of, item_in, item_by, symbol_item, variable_item, tree_in, same_symbol, most_arguments}
-use Rattle.rec_check.specs.Rule.{◌>>=◌, condition_in, sides_in, rule_in, variables_in}
+use Rattle.rec_check.specs.Rule.{◌>>=◌, condition_in, rule_in, variables_in}
 use Rattle.rec_check.specs.Spelled.{variables_of, rules_in, rules_of, terms_in}
 use Rattle.rec_check.proofs.Positions.{place_if_any}
-use Rattle.rec_check.proofs.Heads.{IsSymbol, symbol_cases}
+use Rattle.rec_check.proofs.Heads.{symbol_cases}
 use Rattle.rec_check.proofs.Chains.{goes, sides}
 use Rattle.rec_check.proofs.Sound.{Holds}
 use Rattle.rec_check.proofs.Whole.{IsOver, variable_over, symbol_over, whole_spells}

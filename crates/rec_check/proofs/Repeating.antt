@@ -1,17 +1,16 @@
 -- Names that aren't repeated, and symbols with such names.
-use Rattle.std.proofs.Common.{◌≡◌, ℕ, suc, ◌+◌, ◌<◌, ◌≤◌, Bool, true, false, cond, eqb, not, ◌&&◌, ◌||◌, List, [], ◌∷◌, ◌++◌, length, map, nat_lt, Option, Some, None, refl, sym, ap, subst, ◌∙◌, arith, length-append}
+use Rattle.std.proofs.Common.{◌≡◌, ℕ, ◌+◌, ◌<◌, ◌≤◌, Bool, true, false, eqb, not, ◌&&◌, ◌||◌, List, [], ◌∷◌, ◌++◌, length, map, nat_lt, Some, None, refl, sym, ap, ◌∙◌, arith, length-append}
 use Rattle.std.specs.Prelude.{nat_le, if◌then◌else◌, option_and_then}
 use Rattle.std.specs.List.{list_any, list_all}
-use Rattle.std.specs.Str.{bytes_eq}
 use Rattle.std.proofs.lemmas.Bool.Decides.{nat_tests}
 use Rattle.std.proofs.lemmas.List.{append_assoc, append-nil, map-append, length-map}
-use Rattle.symbol_pool.specs.Pool.{Named, named, most_symbols}
+use Rattle.symbol_pool.specs.Pool.{named, most_symbols}
 use Rattle.rec_reader.specs.declared.token.Name.{Name}
 use Rattle.rec_offences.specs.Names.{text_of, same_text, is_among}
 use Rattle.rec_offences.specs.Material.{Declared}
 use Rattle.rec_offences.specs.Offences.{repeated}
 use Rattle.rec_check.specs.Term.{same_symbol, most_arguments}
-use Rattle.rec_check.specs.Symbols.{named_in, may_be_added, with_symbol, with_symbols}
+use Rattle.rec_check.specs.Symbols.{named_in, with_symbol, with_symbols}
 use Rattle.rec_check.proofs.Faultless.{left_empty, right_empty}
 use Rattle.rec_check.proofs.Numbered.{any_append}
 

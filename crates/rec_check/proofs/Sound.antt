@@ -1,7 +1,7 @@
 -- Material without offence: what its symbols are, and that its rules are spelled by them.
-use Rattle.std.proofs.Common.{◌≡◌, ℕ, zero, suc, ◌+◌, ◌-◌, ◌<◌, ◌≤◌, Bool, true, false, cond, eqb, not, ◌&&◌, ◌||◌, List, [], ◌∷◌, ◌++◌, length, map, fold, nat_eq, nat_lt, slice_get, get_or, Option, Some, None, is_some, All, refl, sym, ap, subst, ◌∙◌, arith, length-append}
+use Rattle.std.proofs.Common.{◌≡◌, ℕ, ◌≤◌, Bool, true, false, cond, not, ◌&&◌, ◌||◌, List, [], ◌∷◌, ◌++◌, length, map, fold, nat_eq, nat_lt, slice_get, All, refl, sym, ap, subst, ◌∙◌, arith}
 use Rattle.std.specs.Prelude.{nat_le, if◌then◌else◌}
-use Rattle.std.specs.Option.{option_to_list, option_map_or}
+use Rattle.std.specs.Option.{option_to_list}
 use Rattle.std.specs.List.{list_any, list_all, flat_map, filter}
 use Rattle.std.proofs.lemmas.Bool.Decides.{nat_tests}
 use Rattle.std.proofs.lemmas.Bool.{eqb-true}
@@ -10,18 +10,16 @@ use Rattle.std.proofs.lemmas.List.Elements.{All-append, All-weaker, All-nil, All
 use Rattle.std.proofs.lemmas.List.Folds.{list_all-append}
 use Rattle.std.proofs.lemmas.Grind.{flat_map-append}
 use Rattle.symbol_pool.specs.Pool.{Named}
-use Rattle.symbol_pool.proofs.Places.{slice_get-append}
 use Rattle.rec_reader.specs.declared.token.Name.{Name}
 use Rattle.rec_reader.specs.declared.syntax_tree.Specification.{Specification}
-use Rattle.rec_reader.specs.declared.syntax_tree.Rule.{Rule}
 use Rattle.rec_offences.specs.Names.{is_among, same_text}
-use Rattle.rec_offences.specs.Material.{Declared, Header, brought, fresh, with_numbers, included, symbols_by, symbols_of, rules_of, specifications_at}
+use Rattle.rec_offences.specs.Material.{Header, brought, fresh, with_numbers, symbols_by, symbols_of, rules_of, specifications_at}
 use Rattle.rec_offences.specs.Offences.{Include, includes_from, symbol_names, is_clashing, is_passing, passes, repeated, most}
 use Rattle.rec_check.specs.Term.{same_symbol}
 use Rattle.rec_check.specs.Symbols.{named_in}
 use Rattle.rec_check.proofs.Faultless.{left_empty, right_empty}
 use Rattle.rec_check.proofs.Numbered.{any_append}
-use Rattle.rec_check.proofs.Repeating.{Within, within_more, within_after, fewer, beside_others, repeated-append, names_in, few_arguments, or_false, both_true}
+use Rattle.rec_check.proofs.Repeating.{Within, within_more, within_after, fewer, beside_others, repeated-append, few_arguments, or_false, both_true}
 
 -- each symbol among some is among others
 pub record Holds (symbols more : List Named) : Type 0 where

@@ -1,16 +1,13 @@
 -- Whole terms spell trees.
-use Rattle.std.proofs.Common.{◌≡◌, ℕ, zero, suc, ◌+◌, ◌-◌, ◌<◌, ◌≤◌, Bool, true, false, List, [], ◌∷◌, ◌++◌, length, get_or, slice_get, Option, Some, None, is_some, All, refl, sym, ap, subst, ◌∙◌, arith, position}
-use Rattle.std.specs.Prelude.{option_and_then, nat_lt, nat_le, if◌then◌else◌}
+use Rattle.std.proofs.Common.{◌≡◌, ℕ, zero, suc, ◌+◌, ◌-◌, ◌≤◌, Bool, true, false, List, [], ◌∷◌, length, Option, Some, None, refl, sym, ap, ◌∙◌, arith}
+use Rattle.std.specs.Prelude.{option_and_then, nat_lt, if◌then◌else◌}
 use Rattle.std.specs.Option.{option_map}
 use Rattle.std.proofs.lemmas.Bool.Decides.{nat_tests}
-use Rattle.term_model.specs.Tree.{Tree, Leaf, Node, Trees, End, More, root}
-use Rattle.term_model.specs.Postorder.{postorder, tree_of, push_item, push_items, push_over, take_trees, only_one, arity_of, head_of}
-use Rattle.term_model.specs.declared.Head.{Head}
+use Rattle.term_model.specs.Tree.{Tree, Leaf, Node, Trees, End, More}
+use Rattle.term_model.specs.Postorder.{tree_of, push_item, push_items, push_over, take_trees, only_one}
 use Rattle.term_model.specs.declared.Head.TheVariants as head
 use Rattle.term_model.specs.declared.Item.{Item}
 use Rattle.term_model.specs.declared.Item.TheVariants.{Var, App}
-use Rattle.term_model.proofs.Order.{only_postorder}
-use Rattle.term_model.proofs.Subtrees.{root_is_last}
 use Rattle.rec_reader.specs.declared.syntax_tree.Node as written
 use Rattle.rec_reader.specs.Whole.{terms_after, IsWhole}
 use Rattle.rec_check.specs.Term.{all_of}
