@@ -3,6 +3,8 @@
 #![tactic(auto)]
 
 #[cfg(test)]
+mod adding;
+#[cfg(test)]
 mod agreement;
 #[cfg(test)]
 mod building;
@@ -18,6 +20,8 @@ mod reading;
 mod rows;
 #[cfg(test)]
 mod sight;
+#[cfg(test)]
+mod stores;
 #[cfg(test)]
 mod watched;
 #[cfg(test)]

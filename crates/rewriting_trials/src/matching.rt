@@ -1,6 +1,6 @@
 //! Matching left sides against rows of a store.
 
-ghost use Rattle.std.specs.Prelude.{◌≡◌, ◌≤◌, IfOk, length, true};
+ghost use Rattle.std.specs.Prelude.{◌≡◌, IfOk, true};
 ghost use Rattle.rule_match.specs.Planned.{HasRoom};
 
 use crate::building::build_terms;

@@ -1,6 +1,8 @@
 //! How many rows a term needs, told from the definition alone: the most different trees that are in
 //! hand at once where a tree is built.
 
+ghost use Rattle.std.specs.Prelude.{◌<◌, IfOk};
+
 use crate::sight::Limits;
 use rewrite_model::{Arguments, Condition, Rule, Term, distinct};
 use std::alloc::Global;
@@ -9,6 +11,27 @@ use term_model::Flat;
 
 /// How many calls inside one another are enough for a small term.
 const STEPS: u32 = 10_000;
+
+/// How much fuel and room there is, and how many calls inside one another there may be.
+#[derive(Clone, Copy)]
+struct Rest {
+    fuel: u64,
+    room: u32,
+    steps: u32,
+}
+
+impl Rest {
+    /// So much fuel and room, for a call inside this one.
+    fn inside(self, fuel: u64, room: u32) -> Result<Rest, Fail>
+        ensures { IfOk result (λ rest. rest.steps < self.steps) }
+    {
+        if self.steps == 0 {
+            return Err(Fail::from("too many steps"));
+        }
+        let steps = self.steps - 1;
+        Ok(Rest { fuel, room, steps })
+    }
+}
 
 /// The trees that are kept, and the most different trees that they had at once with all in them.
 #[derive(Drop)]
@@ -20,6 +43,13 @@ struct Hand {
 impl Hand {
     fn keep(&mut self, alloc: Global, tree: &Term) -> Result<(), Fail> {
         self.trees.push(tree.copy(alloc)?)?;
+        Ok(())
+    }
+
+    fn keep_all(&mut self, alloc: Global, trees: &[Term]) -> Result<(), Fail> {
+        for tree in trees {
+            self.keep(alloc, tree)?;
+        }
         Ok(())
     }
 
@@ -47,16 +77,12 @@ pub(crate) fn need(
         trees: Vec::new(alloc),
         most: 0,
     };
-    evaluate(
-        alloc,
-        rules,
-        &[],
-        &term,
-        limits.fuel,
-        limits.depth,
-        STEPS,
-        &mut hand,
-    )?;
+    let rest = Rest {
+        fuel: limits.fuel,
+        room: limits.depth,
+        steps: STEPS,
+    };
+    evaluate(alloc, rules, &[], &term, rest, &mut hand)?;
     Ok(hand.most)
 }
 
@@ -67,38 +93,25 @@ fn evaluate(
     rules: &[Rule],
     bound: &[Term],
     pattern: &Term,
-    fuel: u64,
-    room: u32,
-    steps: u32,
+    rest: Rest,
     hand: &mut Hand,
 ) -> Result<Option<(Term, u64)>, Fail> {
-    if steps == 0 {
-        return Err(Fail::from("too many steps"));
-    }
-    if room == 0 {
+    if rest.room == 0 {
         return Ok(None);
     }
     match pattern {
-        Term::Var(variable) => value_of(alloc, *variable, bound, fuel),
+        Term::Var(variable) => value_of(alloc, *variable, bound, rest.fuel),
         Term::Over(head, patterns) => {
             let before = hand.trees.len();
-            let arguments = evaluate_all(
-                alloc,
-                rules,
-                bound,
-                patterns,
-                fuel,
-                room,
-                steps - 1,
-                hand,
-            )?;
+            let inner = rest.inside(rest.fuel, rest.room)?;
+            let arguments = evaluate_all(alloc, rules, bound, patterns, inner, hand)?;
             let Some((arguments, left)) = arguments else {
                 return Ok(None);
             };
             let tree = Term::Over(*head, arguments);
             hand.note(alloc, &tree)?;
             hand.trees.truncate(before);
-            reduce(alloc, rules, tree, left, room, steps - 1, hand)
+            reduce(alloc, rules, tree, rest.inside(left, rest.room)?, hand)
         }
     }
 }
@@ -130,30 +143,26 @@ fn evaluate_all(
     rules: &[Rule],
     bound: &[Term],
     patterns: &Arguments,
-    fuel: u64,
-    room: u32,
-    steps: u32,
+    rest: Rest,
     hand: &mut Hand,
 ) -> Result<Option<(Arguments, u64)>, Fail> {
-    if steps == 0 {
-        return Err(Fail::from("too many steps"));
-    }
     match patterns {
-        Arguments::Empty => Ok(Some((Arguments::Empty, fuel))),
+        Arguments::Empty => Ok(Some((Arguments::Empty, rest.fuel))),
         Arguments::Next(pattern, others) => {
-            let below = room.saturating_sub(1);
-            let first = evaluate(alloc, rules, bound, pattern, fuel, below, steps - 1, hand)?;
-            let Some((first, left)) = first else {
+            let below = rest.room.saturating_sub(1);
+            let inner = rest.inside(rest.fuel, below)?;
+            let Some((first, left)) = evaluate(alloc, rules, bound, pattern, inner, hand)? else {
                 return Ok(None);
             };
             hand.keep(alloc, &first)?;
-            let rest = evaluate_all(alloc, rules, bound, others, left, below, steps - 1, hand)?;
-            let Some((rest, left)) = rest else {
+            let inner = rest.inside(left, below)?;
+            let others = evaluate_all(alloc, rules, bound, others, inner, hand)?;
+            let Some((others, left)) = others else {
                 return Ok(None);
             };
             let first = Box::new(alloc, first)?;
-            let rest = Box::new(alloc, rest)?;
-            Ok(Some((Arguments::Next(first, rest), left)))
+            let others = Box::new(alloc, others)?;
+            Ok(Some((Arguments::Next(first, others), left)))
         }
     }
 }
@@ -165,32 +174,25 @@ fn hold(
     rules: &[Rule],
     conditions: &[Condition],
     bound: &[Term],
-    fuel: u64,
-    room: u32,
-    steps: u32,
+    rest: Rest,
     hand: &mut Hand,
 ) -> Result<Option<(bool, u64)>, Fail> {
-    if steps == 0 {
-        return Err(Fail::from("too many steps"));
-    }
     let before = hand.trees.len();
-    let mut left = fuel;
+    let mut left = rest.fuel;
     for condition in conditions {
         let first = Term::of(alloc, condition.first())?;
-        let below = room.saturating_sub(2);
-        let first = evaluate(alloc, rules, bound, &first, left, below, steps - 1, hand)?;
-        let Some((first, rest)) = first else {
+        let inner = rest.inside(left, rest.room.saturating_sub(2))?;
+        let Some((first, fuel)) = evaluate(alloc, rules, bound, &first, inner, hand)? else {
             return Ok(None);
         };
         hand.keep(alloc, &first)?;
         let second = Term::of(alloc, condition.second())?;
-        let below = room.saturating_sub(3);
-        let second = evaluate(alloc, rules, bound, &second, rest, below, steps - 1, hand)?;
-        let Some((second, rest)) = second else {
+        let inner = rest.inside(fuel, rest.room.saturating_sub(3))?;
+        let Some((second, fuel)) = evaluate(alloc, rules, bound, &second, inner, hand)? else {
             return Ok(None);
         };
         hand.trees.truncate(before);
-        left = rest;
+        left = fuel;
         if first.is_same(&second) != condition.equal() {
             return Ok(Some((false, left)));
         }
@@ -204,48 +206,32 @@ fn reduce(
     alloc: Global,
     rules: &[Rule],
     tree: Term,
-    fuel: u64,
-    room: u32,
-    steps: u32,
+    rest: Rest,
     hand: &mut Hand,
 ) -> Result<Option<(Term, u64)>, Fail> {
-    if steps == 0 {
-        return Err(Fail::from("too many steps"));
-    }
     let before = hand.trees.len();
-    let mut left = fuel;
+    let mut left = rest.fuel;
     for rule in rules {
         let side = Term::of(alloc, rule.left())?;
         let Some(bound) = side.matches(alloc, &tree)? else {
             continue;
         };
-        if left == 0 || room as usize <= bound.len() {
+        if left == 0 || rest.room as usize <= bound.len() {
             return Ok(None);
         }
-        for bound_tree in &bound {
-            hand.keep(alloc, bound_tree)?;
-        }
+        hand.keep_all(alloc, &bound)?;
         hand.keep(alloc, &tree)?;
-        let below = room_below(room, bound.len());
-        let conditions = rule.conditions();
-        let all = hold(
-            alloc,
-            rules,
-            conditions,
-            &bound,
-            left - 1,
-            below,
-            steps - 1,
-            hand,
-        )?;
-        let Some((all, rest)) = all else {
+        let inner = rest.inside(left - 1, room_below(rest.room, bound.len()))?;
+        let all = hold(alloc, rules, rule.conditions(), &bound, inner, hand)?;
+        let Some((all, fuel)) = all else {
             return Ok(None);
         };
-        left = rest;
+        left = fuel;
         if all {
             hand.trees.truncate(before + bound.len());
             let right = Term::of(alloc, rule.right())?;
-            return replace(alloc, rules, &bound, &right, left, room, steps - 1, hand);
+            let inner = rest.inside(left, rest.room)?;
+            return replace(alloc, rules, &bound, &right, inner, hand);
         }
         hand.trees.truncate(before);
     }
@@ -259,39 +245,25 @@ fn replace(
     rules: &[Rule],
     bound: &[Term],
     right: &Term,
-    fuel: u64,
-    room: u32,
-    steps: u32,
+    rest: Rest,
     hand: &mut Hand,
 ) -> Result<Option<(Term, u64)>, Fail> {
-    if steps == 0 {
-        return Err(Fail::from("too many steps"));
-    }
     let before = hand.trees.len().saturating_sub(bound.len());
     match right {
         Term::Var(variable) => {
             hand.trees.truncate(before);
-            value_of(alloc, *variable, bound, fuel)
+            value_of(alloc, *variable, bound, rest.fuel)
         }
         Term::Over(head, patterns) => {
-            let below = room_below(room, bound.len());
-            let arguments = evaluate_all(
-                alloc,
-                rules,
-                bound,
-                patterns,
-                fuel,
-                below,
-                steps - 1,
-                hand,
-            )?;
+            let inner = rest.inside(rest.fuel, room_below(rest.room, bound.len()))?;
+            let arguments = evaluate_all(alloc, rules, bound, patterns, inner, hand)?;
             let Some((arguments, left)) = arguments else {
                 return Ok(None);
             };
             let tree = Term::Over(*head, arguments);
             hand.note(alloc, &tree)?;
             hand.trees.truncate(before);
-            reduce(alloc, rules, tree, left, room, steps - 1, hand)
+            reduce(alloc, rules, tree, rest.inside(left, rest.room)?, hand)
         }
     }
 }

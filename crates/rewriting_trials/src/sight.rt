@@ -1,6 +1,6 @@
 //! What can be seen of a normalization.
 
-ghost use Rattle.std.specs.Prelude.{◌≡◌, ◌≤◌, IfOk, true};
+ghost use Rattle.std.specs.Prelude.{◌≡◌, ◌≤◌, true};
 ghost use Rattle.innermost.specs.Machines.{IsFor};
 
 use crate::reading::is_term;

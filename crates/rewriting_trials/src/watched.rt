@@ -1,7 +1,6 @@
 //! A store of one thread whose builds are compared with a list of terms.
 
-ghost use Rattle.std.specs.Prelude.{◌≡◌, IfOk, false};
-ghost use Rattle.std.specs.Prelude.{max};
+ghost use Rattle.std.specs.Prelude.{◌≡◌, max, IfOk};
 ghost use Rattle.plain_store.specs.Contents.{empty};
 
 use crate::reading::is_asked;
