@@ -57,7 +57,8 @@ impl Rewriter {
 
     /// Rewrites a term on a store and appends the line of its end to `out`, without the end of the line:
     /// the text of the value or its sizes, `too large`, `out of fuel` or `too deep`. Says whether the line
-    /// is a value. The stack, which must be empty, is empty again.
+    /// is a value. The stack, which must be empty, is empty again. Where it stops without a line, `out`
+    /// may have a front of it.
     pub fn write_line<T: Terms>(
         &mut self,
         plan: &Plan,

@@ -1,5 +1,5 @@
 -- The canonical texts of terms, each with a line feed, are read back as these terms.
-use Rattle.std.proofs.Common.{◌≡◌, ◌∙◌, ℕ, ◌+◌, List, [], ◌∷◌, ◌++◌, length, map, refl, ap, sym, subst, Ok, All}
+use Rattle.std.proofs.Common.{◌≡◌, ◌∙◌, ℕ, ◌+◌, List, [], ◌∷◌, ◌++◌, length, map, refl, ap, sym, subst, append-nil, Ok, All}
 use Rattle.std.proofs.lemmas.List.Elements.{All-head, All-tail, All-nil, All-cons}
 use Rattle.term_model.specs.Tree.{Tree}
 use Rattle.symbol_pool.specs.Pool.{Named, IsPool}
@@ -49,6 +49,20 @@ module _ (names : List Named) (pool : IsPool names) where
         spelled = record { tokens = x.tokens; cut = x.cut; spelled = x.spelled };
         taken = x.taken;
         trees_are = x.are;
+      }
+
+  pub alone_back : (t : Tree) → IsWritable names t → IsReading (canonical names t) names names (t ∷ [])
+  alone_back t w =
+      let x = tree_back names pool t w.writable w.well_formed 0 [] (record { name = refl; digits = refl }) in
+      record {
+        terms = x.term ∷ [];
+        spelled = record {
+          tokens = x.tokens ++ [];
+          cut = sym (ap (tokens_from 0 0) (append-nil (canonical names t))) ∙ x.cut;
+          spelled = next (x.spelled []) none;
+        };
+        taken = x.harmless (parts_of_input []);
+        trees_are = λ i. sym x.is i ∷ [];
       }
 
   pub nothing_else : (new : List Named) (ts us : List Tree) → All (IsWritable names) ts → IsReading (canonical_lines names ts) names new us → (new ≡ names) × (us ≡ ts)

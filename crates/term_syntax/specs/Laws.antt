@@ -1,5 +1,5 @@
 -- What is true of all canonical texts.
-use Rattle.std.specs.Prelude.{◌≡◌, List, All}
+use Rattle.std.specs.Prelude.{◌≡◌, List, [], ◌∷◌, All}
 use Rattle.term_model.specs.Tree.{Tree}
 use Rattle.symbol_pool.specs.Pool.{Named, IsPool}
 use Rattle.term_syntax.specs.Canonical.{canonical, canonical_lines, IsWritable}
@@ -11,7 +11,13 @@ CanonicalTextIsReadBack =
     (names : List Named) (ts : List Tree) → IsPool names → All (IsWritable names) ts →
     IsReading (canonical_lines names ts) names names ts
 
--- They are read back as no other terms.
+-- The canonical text of a term alone, as it is written, is read back as this term.
+abbrev pub WrittenTextIsReadBack : Type 0
+WrittenTextIsReadBack =
+    (names : List Named) (t : Tree) → IsPool names → IsWritable names t →
+    IsReading (canonical names t) names names (t ∷ [])
+
+-- Canonical texts are read back as no other terms.
 abbrev pub NothingElseIsReadBack : Type 0
 NothingElseIsReadBack =
     (names new : List Named) (ts us : List Tree) → IsPool names → All (IsWritable names) ts →
