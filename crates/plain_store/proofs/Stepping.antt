@@ -1,12 +1,11 @@
 -- What each thing that happens to a store does to what contracts see of it.
-use Rattle.std.proofs.Common.{◌≡◌, ℕ, ◌-◌, ◌<◌, ◌≤◌, Bool, true, false, List, [], ◌∷◌, ◌++◌, Option, Some, None, length, take, drop, get_or, refl, ap, sym, ◌∙◌, subst, arith}
+use Rattle.std.proofs.Common.{◌≡◌, ℕ, ◌<◌, ◌≤◌, Bool, true, false, List, [], ◌∷◌, ◌++◌, Option, Some, None, length, get_or, refl, ap, sym, ◌∙◌, subst, arith}
 use Rattle.std.specs.Prelude.{Contains, IfSome, IfNone, if◌then◌else◌}
-use Rattle.std.proofs.lemmas.List.{length-map, length-drop, ext_get_or}
-use Rattle.std.proofs.Math.Seq.{take-length}
+use Rattle.std.proofs.lemmas.List.{length-map, ext_get_or}
 use Rattle.term_model.specs.declared.Row.{Row}
 use Rattle.term_model.specs.Tree.{Tree, Node, trees_of, among}
 use Rattle.mark_phase.specs.Reachable.{Reaches}
-use Rattle.terms_api.specs.Terms.{reachable, last, IsSound}
+use Rattle.terms_api.specs.Terms.{reachable, IsSound}
 use Rattle.terms_api.proofs.Callers.{has-held}
 use Rattle.plain_store.specs.declared.event.Event.{Event}
 use Rattle.plain_store.specs.declared.store.PlainStore.TheInside.{Inside}
