@@ -6,3 +6,4 @@ pub mod Places
 pub mod Verdicts
 pub mod Groups
 pub mod Inputs
+pub mod Leasts

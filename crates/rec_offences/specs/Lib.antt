@@ -10,3 +10,4 @@ pub mod HeadersKept
 pub mod Inclusion
 pub mod Visited
 pub mod Grouped
+pub mod Laws

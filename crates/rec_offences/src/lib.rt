@@ -7,6 +7,7 @@ mod directory;
 mod headers;
 mod inclusion;
 mod input;
+mod laws;
 #[cfg(test)]
 mod limit_tests;
 mod limits;
@@ -21,4 +22,5 @@ mod variables;
 
 pub use faults::Memory;
 pub use input::fault;
+pub use laws::fault_laws;
 pub use offence::Offence;

@@ -1,9 +1,8 @@
 -- What the end of a run says of why it stopped.
 use Rattle.std.proofs.Common.{◌≡◌, ◌⊎◌, inl, inr, ℕ, ◌≤◌, List, [], Option, Some, None, Bool, true, false, refl, sym, ap, subst, ◌∙◌, arith}
-use Rattle.std.specs.Prelude.{nat_le, ◌&&◌, if◌then◌else◌, replicate, Result, Ok, Err}
+use Rattle.std.specs.Prelude.{Result, Ok, Err}
 use Rattle.std.specs.Option.{ok_or}
-use Rattle.settings.specs.Words.{AreInRange, settings_of, is_in_range}
-use Rattle.settings.specs.declared.options.OptionName.TheVariants.{Seats}
+use Rattle.settings.specs.Words.{AreInRange, settings_of}
 use Rattle.settings.specs.declared.parts.Settings.{Settings}
 use Rattle.settings.specs.declared.parts.WordsFault.{WordsFault}
 use Rattle.rec_top.specs.declared.stops.Fault.{Fault}
@@ -12,7 +11,7 @@ use Rattle.rec_top.specs.Written.{status_for}
 use Rattle.rec_top.specs.Lines.{stop_status, stop_line, status_line, fault_line, TookLine}
 use Rattle.std.proofs.lemmas.Option.{same_Some}
 use Rattle.rec_top.specs.Output.{IsFault}
-use Rattle.rec_top.specs.Run.{HasFault, GaveFault}
+use Rattle.rec_top.specs.Run.{HasFault}
 use Rattle.rec_top.specs.Answered.{StopsAnswering, StopsWith}
 use Rattle.rec_top.specs.declared.stops.Stop.{Stop}
 use Rattle.rec_top.specs.declared.stops.Stop.TheVariants.{Usage, Refused, StoreFull, ReadFault, WriteFault, Memory}

@@ -1,16 +1,16 @@
 -- Where a build was refused on a store of one thread, the term needs more rows than there are.
-use Rattle.std.proofs.Common.{◌≡◌, ◌⊎◌, inl, inr, ℕ, ◌+◌, ◌<◌, ◌≤◌, List, [], ◌∷◌, ◌++◌, length, Bool, true, false, refl, sym, ap, subst, ◌∙◌, arith}
-use Rattle.std.specs.Prelude.{All, Contains, map, max, if◌then◌else◌}
+use Rattle.std.proofs.Common.{◌≡◌, inl, inr, ◌+◌, ◌<◌, ◌≤◌, List, [], ◌∷◌, ◌++◌, Bool, true, false, refl, sym, ap, subst, ◌∙◌, arith}
+use Rattle.std.specs.Prelude.{All, Contains, map, if◌then◌else◌}
 use Rattle.std.specs.List.{flat_map}
 use Rattle.std.proofs.lemmas.List.Elements.{All-head, All-tail}
 use Rattle.term_model.specs.Tree.{Tree, subtrees, among, distinct}
 use Rattle.term_model.specs.Laws.{IsSubtree}
-use Rattle.term_model.proofs.Equality.{among_here, among_cases, contains_from_among, among_from_contains}
+use Rattle.term_model.proofs.Equality.{among_cases, contains_from_among, among_from_contains}
 use Rattle.term_model.proofs.Members.{distinct_of_part}
 use Rattle.term_model.proofs.Subtrees.{among_left, among_right, among_either, itself, subtrees_nest}
 use Rattle.terms_api.specs.Terms.{Store, Entered}
 use Rattle.rewrite_model.specs.Rule.{Rule}
-use Rattle.rewrite_model.specs.Evaluation.{Point, evaluation}
+use Rattle.rewrite_model.specs.Evaluation.{Point}
 use Rattle.rewrite_model.specs.Built.{trees_in_hand, greatest, need}
 use Rattle.rule_match.specs.Planned.{Planned}
 use Rattle.innermost.specs.Normalized.{IsPartOf, WasRefused, KeepsNumbers}

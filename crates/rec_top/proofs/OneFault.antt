@@ -1,21 +1,21 @@
 -- An input spells one specification or has one fault.
-use Rattle.std.proofs.Common.{◌≡◌, ◌⊎◌, inl, inr, ℕ, List, [], ◌∷◌, ◌++◌, length, Option, Some, None, refl, sym, ap, subst, ◌∙◌, append_assoc, append-nil}
+use Rattle.std.proofs.Common.{◌≡◌, ◌⊎◌, inl, inr, ℕ, List, [], ◌∷◌, ◌++◌, length, Some, None, refl, sym, ap, subst, ◌∙◌, append_assoc, append-nil}
 use Rattle.std.specs.Prelude.{Result, Ok, Err}
 use Rattle.std.proofs.lemmas.Option.{same_Some}
 use Rattle.rec_reader.specs.declared.token.Token.{Token}
 use Rattle.rec_reader.specs.declared.syntax_tree.Specification.{Specification}
-use Rattle.rec_reader.specs.declared.fail.TheConstants.{BAD_BYTE, UNEXPECTED, UNENDED}
+use Rattle.rec_reader.specs.declared.fail.TheConstants.{UNEXPECTED, UNENDED}
 use Rattle.rec_reader.specs.Parsed.{Parsed}
 use Rattle.rec_reader.specs.Tokens.{tokens_of}
 use Rattle.rec_reader.specs.Grammar.{IsInput, BeginsSentence}
-use Rattle.rec_reader.specs.Refusal.{IsRefusal, IsFirstUnexpected, IsUnended, place_of}
+use Rattle.rec_reader.specs.Refusal.{IsFirstUnexpected, IsUnended, place_of}
 use Rattle.rec_reader.proofs.Verdicts.{only_these}
 use Rattle.rec_offences.specs.Faults.{fault_of}
 use Rattle.rec_top.specs.declared.stops.Fault.{Fault}
 use Rattle.rec_check.specs.Spelled.{Specified}
 use Rattle.rec_check.specs.Run.{spelled_in}
 use Rattle.rec_offences.specs.declared.offence.Offence.{Offence}
-use Rattle.rec_top.specs.Rewritten.{IsRead, Spells, IsByteFault, IsTokenFault, IsOffenceFault, IsSpecificationFault}
+use Rattle.rec_top.specs.Rewritten.{IsRead, Spells, IsTokenFault, IsSpecificationFault}
 
 -- ---- tokens
 same_tokens : (r : Result (List Token) ℕ) (ts us : List Token) → r ≡ Ok ts → r ≡ Ok us → ts ≡ us

@@ -1,5 +1,5 @@
 -- A schedule has one outcome, and so one output or one fault.
-use Rattle.std.proofs.Common.{◌≡◌, ◌≤◌, ℕ, List, [], ◌++◌, Result, Ok, Err, refl, sym, ap, ◌∙◌, true}
+use Rattle.std.proofs.Common.{◌≡◌, ◌≤◌, ℕ, List, Result, Ok, Err, refl, ap, ◌∙◌, true}
 use Rattle.lock_core.specs.Lock.{Lock, at_start}
 use Rattle.lock_core.specs.Schedule.{ComesTo, lines}
 use Rattle.lock_core.specs.StateText.{state_text}

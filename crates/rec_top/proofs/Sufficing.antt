@@ -1,14 +1,13 @@
 -- Where the rows suffice every line is made; where they don't, both counts are above them.
 use Rattle.std.proofs.Common.{◌≡◌, ◌⊎◌, inl, inr, ℕ, ◌+◌, ◌<◌, ◌≤◌, List, [], ◌∷◌, ◌++◌, length, take, get_or, Bool, true, false, refl, sym, ap, subst, ◌∙◌, arith, append-nil, zero, suc}
-use Rattle.std.specs.Prelude.{Result, Ok, Err, IfOk, IfErr, All, ◌&&◌, map, max}
-use Rattle.std.specs.List.{flat_map, list_all}
-use Rattle.std.proofs.lemmas.List.{take_more, take_all}
+use Rattle.std.specs.Prelude.{Result, Ok, Err, IfOk, IfErr, ◌&&◌, max}
+use Rattle.std.proofs.lemmas.List.{take_more}
 use Rattle.std.proofs.lemmas.List.Concat.{flat_map-append}
 use Rattle.std.proofs.lemmas.List.Folds.{list_all-append}
 use Rattle.term_model.specs.Tree.{Tree}
 use Rattle.symbol_pool.specs.Pool.{Named}
 use Rattle.rewrite_model.specs.Rule.{Rule}
-use Rattle.rewrite_model.specs.Built.{need, need_of_all, distinct_built, greatest}
+use Rattle.rewrite_model.specs.Built.{need, need_of_all, distinct_built}
 use Rattle.rewrite_model.proofs.Closed.{need_of_all_is_bounded}
 use Rattle.rec_check.specs.Spelled.{Specified}
 use Rattle.rec_check.specs.Run.{MayBeRun}
@@ -16,7 +15,7 @@ use Rattle.settings.specs.declared.parts.Settings.{Settings}
 use Rattle.term_lines.specs.Line.{line_text, is_value}
 use Rattle.rec_top.specs.Lines.{line}
 use Rattle.rec_top.specs.Written.{Output}
-use Rattle.rec_top.specs.Rewritten.{Spells, IsRewritten, RowsAreFew, RowsSuffice, output_of}
+use Rattle.rec_top.specs.Rewritten.{Spells, IsRewritten, RowsSuffice, output_of}
 use Rattle.rec_top.specs.Sequence.{end_of, lines_of, all_values, StopsTerm, StopsTerms}
 use Rattle.rec_top.specs.Answered.{IsAnswer, Answers, StopsRewriting}
 use Rattle.rec_top.specs.declared.answers.Answer.{Answer}

@@ -1,5 +1,5 @@
 -- What a command writes for an input, and why it refuses one. Each command has a case of its own.
-use Rattle.std.specs.Prelude.{◌≡◌, ◌⊎◌, ℕ, ◌≤◌, ◌<◌, List, [], length, Bool, true, if◌then◌else◌, Ok, Err}
+use Rattle.std.specs.Prelude.{◌≡◌, ◌⊎◌, ℕ, ◌≤◌, ◌<◌, List, length, true, Ok, Err}
 use Rattle.lock_core.specs.Lock.{Lock, at_start}
 use Rattle.lock_core.specs.Schedule.{ComesTo, lines}
 use Rattle.lock_core.specs.StateText.{state_text}

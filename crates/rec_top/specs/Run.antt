@@ -1,6 +1,6 @@
 -- How a run ends. What a source has left, what a sink has taken and their counts of faults are read of
 -- them by functions; left and taken bytes are known only where the source and the sink tell them.
-use Rattle.std.specs.Prelude.{◌≡◌, ◌≢◌, ◌⊎◌, ℕ, List, [], Option, Some, replicate}
+use Rattle.std.specs.Prelude.{◌≡◌, ◌≢◌, ◌⊎◌, ℕ, List, Option, Some, replicate}
 use Rattle.std.specs.Io.KnownBytes.{Consumes, Appends, IsAtEnd}
 use Rattle.faults.specs.Count.{Rose}
 use Rattle.ends.specs.Bytes.{GaveAll}

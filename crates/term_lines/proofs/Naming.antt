@@ -1,16 +1,15 @@
 -- The symbols of a value are those of its term and of the rules' right sides.
-use Rattle.std.proofs.Common.{◌≡◌, ℕ, zero, suc, ◌+◌, ◌-◌, List, [], ◌∷◌, ◌++◌, length, get_or, Option, Some, None, refl, sym, ◌∙◌, ap, subst, Bool, true, false}
+use Rattle.std.proofs.Common.{◌≡◌, ℕ, zero, suc, ◌+◌, ◌-◌, List, [], ◌∷◌, ◌++◌, length, get_or, Option, Some, None, refl, subst, Bool, true, false}
 use Rattle.std.specs.Prelude.{if◌then◌else◌, nat_lt, ◌&&◌, All}
 use Rattle.std.proofs.lemmas.Option.{same_Some, option_and_then_some}
 use Rattle.std.proofs.lemmas.List.Elements.{All-head, All-tail}
 use Rattle.term_model.specs.Tree.{Tree, Leaf, Node, Trees, End, More, tree_eq, head_eq}
-use Rattle.term_model.specs.declared.Head.{Head}
 use Rattle.term_model.proofs.Order.{both_hold}
 use Rattle.symbol_pool.specs.Pool.{Named}
-use Rattle.rewrite_model.specs.Rule.{Rule, Condition}
+use Rattle.rewrite_model.specs.Rule.{Rule}
 use Rattle.rewrite_model.specs.Matching.{bind, match_from, match_all, match_of, if_matched, tree_at}
 use Rattle.rewrite_model.specs.Run.{Ended, Done, OutOfFuel, TooDeep, done, ends, after, ◌>>=◌, in_room}
-use Rattle.rewrite_model.specs.Evaluation.{Point, Evaluated, Reducer, evaluate, evaluate_all, hold, replace, apply, reduce_by, begin, reduce_within, reduction, evaluation}
+use Rattle.rewrite_model.specs.Evaluation.{Point, Evaluated, Reducer, evaluate, evaluate_all, hold, replace, apply, reduce_by, reduce_within, reduction, evaluation}
 use Rattle.rewrite_model.proofs.Matches.{chosen, mapped, if_some}
 use Rattle.rewrite_model.proofs.Closed.{OfValue}
 use Rattle.term_text.specs.Text.{is_named, has_names, all_have_names, HasNames}

@@ -1,5 +1,5 @@
 -- The value of a term stands alone on a stack that was empty, and its symbols have names.
-use Rattle.std.proofs.Common.{◌≡◌, ℕ, ◌+◌, List, [], ◌∷◌, ◌++◌, length, refl, sym, ◌∙◌, ap, subst}
+use Rattle.std.proofs.Common.{◌≡◌, ℕ, ◌+◌, List, [], ◌∷◌, ◌++◌, length, sym, ◌∙◌, ap, subst}
 use Rattle.std.specs.Prelude.{All, map, slice_index_or}
 use Rattle.term_model.specs.Tree.{Tree, Leaf}
 use Rattle.symbol_pool.specs.Pool.{Named}

@@ -1,5 +1,5 @@
 // From a term to its line.
-ghost use Rattle.std.specs.Prelude.{◌≡◌, ◌++◌, ◌≤◌, [], All, IfOk, IfErr, OnOk, true};
+ghost use Rattle.std.specs.Prelude.{◌≡◌, ◌++◌, ◌≤◌, [], All, IfOk, IfErr, OnErr, OnOk, true};
 ghost use Rattle.term_model.specs.Tree.{IsGround};
 ghost use Rattle.rule_match.specs.Planned.{IsPlain};
 ghost use Rattle.innermost.specs.Machines.{IsFor};
@@ -45,6 +45,7 @@ impl Rewriter {
         ensures text { OnOk result (out.new.items
             ≡ out.old.items ++ value_text self.old.sizes symbols.now (top_tree (T.store terms.old))) }
         ensures value { IfOk result (λ value. value ≡ is_written self.old.sizes (top_tree (T.store terms.old))) }
+        ensures unwritten { OnErr result (out.new.items ≡ out.old.items) }
         ensures emptied { T.store terms.new ≡ kept (T.store terms.old) 0 0 }
         ensures rewriter { self.new ≡ self.old }
         ensures same { T.same terms.old terms.new }
@@ -58,7 +59,7 @@ impl Rewriter {
     /// Rewrites a term on a store and appends the line of its end to `out`, without the end of the line:
     /// the text of the value or its sizes, `too large`, `out of fuel` or `too deep`. Says whether the line
     /// is a value. The stack, which must be empty, is empty again. Where it stops without a line, `out`
-    /// may have a front of it.
+    /// is as before.
     pub fn write_line<T: Terms>(
         &mut self,
         plan: &Plan,
@@ -85,6 +86,7 @@ impl Rewriter {
         ensures stopped { IfErr result (StopsLine
             (points_of plan.now.rules term.now self.old.fuel self.old.machine.depth)
             (T.store terms.old) (T.store terms.new)) }
+        ensures unwritten { OnErr result (out.new.items ≡ out.old.items) }
         ensures empty { (T.store terms.new).stack ≡ [] }
         ensures numbers { KeepsNumbers (T.store terms.old) (T.store terms.new) }
         ensures rewriter { self.new ≡ self.old }

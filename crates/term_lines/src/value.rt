@@ -1,9 +1,10 @@
 // The line of a value.
-ghost use Rattle.std.specs.Prelude.{◌≡◌, ◌++◌, ◌≤◌, IfOk, OnOk, true, false};
+ghost use Rattle.std.specs.Prelude.{◌≡◌, ◌++◌, ◌≤◌, IfOk, OnErr, OnOk, true, false};
 ghost use Rattle.terms_api.specs.Terms.{IsHeld, tree_at};
 ghost use Rattle.term_text.specs.Text.{HasNames};
 ghost use Rattle.term_lines.specs.Line.{counts_text, value_text, is_written};
 
+use arrayvec::ArrayString;
 use faults::Memory;
 use itoa::Buffer;
 use symbol_pool::Symbols;
@@ -14,14 +15,28 @@ use terms_api::Terms;
 // How many nodes a value may have whose text is written.
 const MOST_WRITTEN: u64 = 1_048_576;
 
+// `distinct `, a number of 20 digits, ` nodes ` and another fit.
+const LONGEST_COUNTS: usize = 56;
+
+// How large a value is. It takes no memory.
+fn counts(sizes: TermSizes) -> ArrayString<LONGEST_COUNTS>
+    ensures { result.bytes ≡ counts_text sizes.distinct sizes.nodes }
+{
+    let mut text = ArrayString::new();
+    text.push_str("distinct ");
+    text.push_str(Buffer::new().format(sizes.distinct));
+    text.push_str(" nodes ");
+    text.push_str(Buffer::new().format(sizes.nodes));
+    text
+}
+
 // Appends how large a value is.
 fn write_sizes(sizes: TermSizes, out: &mut Vec<u8>) -> Result<(), Memory>
-    ensures { OnOk result (out.new.items ≡ out.old.items ++ counts_text sizes.distinct sizes.nodes) }
+    ensures text { OnOk result (out.new.items
+        ≡ out.old.items ++ counts_text sizes.distinct sizes.nodes) }
+    ensures unwritten { OnErr result (out.new.items ≡ out.old.items) }
 {
-    out.extend_from_slice(b"distinct ")?;
-    out.extend_from_slice(Buffer::new().format(sizes.distinct).as_bytes())?;
-    out.extend_from_slice(b" nodes ")?;
-    out.extend_from_slice(Buffer::new().format(sizes.nodes).as_bytes())?;
+    out.extend_from_slice(counts(sizes).as_str().as_bytes())?;
     Ok(())
 }
 
@@ -38,6 +53,7 @@ fn write_text<T: Terms>(
     ensures text { OnOk result (out.new.items
         ≡ out.old.items ++ value_text false symbols.now (tree_at (T.store terms.old) row)) }
     ensures written { IfOk result (λ written. written ≡ is_written false (tree_at (T.store terms.old) row)) }
+    ensures unwritten { OnErr result (out.new.items ≡ out.old.items) }
     ensures unchanged { T.store terms.new ≡ T.store terms.old }
     ensures same { T.same terms.old terms.new }
 {
@@ -67,6 +83,7 @@ pub fn write_value<T: Terms>(
     ensures text { OnOk result (out.new.items
         ≡ out.old.items ++ value_text sized symbols.now (tree_at (T.store terms.old) row)) }
     ensures written { IfOk result (λ written. written ≡ is_written sized (tree_at (T.store terms.old) row)) }
+    ensures unwritten { OnErr result (out.new.items ≡ out.old.items) }
     ensures room { marks.new ≡ marks.old }
     ensures unchanged { T.store terms.new ≡ T.store terms.old }
     ensures same { T.same terms.old terms.new }

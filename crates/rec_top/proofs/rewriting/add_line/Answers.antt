@@ -1,4 +1,4 @@
-use Rattle.std.proofs.Common.{◌≡◌, refl, sym, ap, subst, false, true, Bool}
+use Rattle.std.proofs.Common.{◌≡◌, refl, subst, Bool}
 use Rattle.std.specs.Prelude.{IfErr, Result}
 use Rattle.plain_store.specs.Contents.{store_of}
 use Rattle.term_lines.specs.Written.{StopsLine, points_of}

@@ -1,4 +1,3 @@
-use Rattle.std.proofs.Common.{◌≡◌, ap, subst}
 use Rattle.std.proofs.lemmas.Result.{err_from_is_err_and}
 use Rattle.rec_check.specs.Spec.{specified}
 use Rattle.rec_top.proofs.Sufficing.{suffices, stops_all}

@@ -1,6 +1,5 @@
-use Rattle.std.proofs.Common.{◌≡◌, ◌++◌, replicate, refl, sym, ap, ◌∙◌, inl, inr}
+use Rattle.std.proofs.Common.{◌++◌, replicate, refl, sym, ap, ◌∙◌, inl}
 use Rattle.lock_core.specs.StateText.{state_text}
-use Rattle.rec_top.specs.Written.{Output}
 use Rattle.rec_top.specs.declared.stops.Stop.TheVariants.{Refused}
 use Rattle.rec_top.proofs.OneOutcome.{one_output, no_fault, no_output, one_fault}
 use Rattle.rec_top.proofs.scheduling.scheduled.Goals as goal

@@ -1,4 +1,4 @@
-use Rattle.std.proofs.Common.{◌≡◌, inl, ap, subst}
+use Rattle.std.proofs.Common.{inl, ap, subst}
 use Rattle.rec_top.specs.Answered.{FailsSpelling}
 use Rattle.rec_top.specs.declared.stops.Stop.TheVariants.{Refused}
 use Rattle.rec_top.proofs.OneFault.{one_specification, no_fault, one_fault}

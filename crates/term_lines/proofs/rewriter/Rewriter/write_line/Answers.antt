@@ -1,4 +1,4 @@
-use Rattle.std.proofs.Common.{◌≡◌, ap, subst, Ok}
+use Rattle.std.proofs.Common.{subst, Ok}
 use Rattle.rewrite_model.specs.Evaluation.{evaluation}
 use Rattle.innermost.specs.Normalized.{Answers, WasRefused}
 use Rattle.innermost.specs.declared.normal.RunFault.{RunFault}
