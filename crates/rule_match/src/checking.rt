@@ -86,7 +86,8 @@ fn are_below(items: &[Item], vars: u32) -> bool
     })
 }
 
-fn has_symbols_alone(pattern: &Flat, widest: u32) -> bool
+/// Whether a pattern has symbols alone beside its variables, each over at most `widest` arguments.
+pub fn has_symbols_alone(pattern: &Flat, widest: u32) -> bool
     ensures { result ≡ list_all (is_plain widest) (postorder pattern.now) }
 {
     are_plain(pattern.items(), widest)

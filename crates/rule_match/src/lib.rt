@@ -13,6 +13,6 @@ mod planning;
 mod tests;
 
 pub use binding::Binds;
-pub use checking::may_be_planned;
+pub use checking::{has_symbols_alone, may_be_planned};
 pub use matching::matches;
 pub use planning::Plan;
