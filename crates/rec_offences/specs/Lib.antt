@@ -4,6 +4,7 @@ pub mod Scope
 pub mod Offences
 pub mod Faults
 pub mod Listing
+pub mod Numbered
 pub mod Indexed
 pub mod KnownKept
 pub mod HeadersKept

@@ -1,8 +1,8 @@
 -- What specifications declare, and the material of each: the specifications that it includes, and itself.
 -- Specifications are numbered from 0, in the order of the input.
-use Rattle.std.specs.Prelude.{ℕ, List, [], ◌∷◌, ◌++◌, nat_eq, length, map, fold, slice_get, if◌then◌else◌}
+use Rattle.std.specs.Prelude.{ℕ, List, [], ◌∷◌, ◌++◌, nat_eq, length, map, fold, take, slice_get, if◌then◌else◌}
 use Rattle.std.specs.List.{flat_map, list_any}
-use Rattle.std.specs.Option.{option_to_list}
+use Rattle.std.specs.Option.{option_map_or, option_to_list}
 use Rattle.rec_reader.specs.declared.token.Name.{Name}
 use Rattle.rec_reader.specs.declared.syntax_tree.Declaration.{Declaration}
 use Rattle.rec_reader.specs.declared.syntax_tree.Variables.{Variables}
@@ -75,6 +75,11 @@ header_after bytes headers s = header s.name (included bytes headers s.includes 
 -- the headers of all specifications, in order
 abbrev pub headers_of : List ℕ → List Specification → List Header
 headers_of bytes specifications = fold (λ headers s. headers ++ header_after bytes headers s ∷ []) [] specifications
+
+-- the material of the specification with this number, nothing where there is none
+unfoldable pub material_of : List ℕ → List Specification → ℕ → List ℕ
+material_of bytes specifications number =
+    option_map_or (λ s. (header_after bytes (headers_of bytes (take number specifications)) s).material) (slice_get specifications number) []
 
 -- the specifications with these numbers
 abbrev pub specifications_at : List Specification → List ℕ → List Specification

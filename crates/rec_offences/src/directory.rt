@@ -1,8 +1,8 @@
 //! Names in order, found by their text.
-ghost use Rattle.std.specs.Prelude.{◌≡◌, ◌++◌, ◌∷◌, [], OnOk, OnErr};
-ghost use Rattle.rec_offences.specs.Names.{is_among};
+ghost use Rattle.std.specs.Prelude.{◌≡◌, ◌++◌, ◌∷◌, [], OnOk, OnErr, take};
+ghost use Rattle.rec_offences.specs.Names.{is_among, same_text};
 ghost use Rattle.rec_offences.specs.Scope.{heads};
-ghost use Rattle.rec_offences.specs.Listing.{listing, place_of};
+ghost use Rattle.rec_offences.specs.Listing.{listing, place_in, place_of};
 
 use crate::names::text_of;
 use faults::Memory;
@@ -61,6 +61,36 @@ impl<'a> Directory<'a> {
         ensures { result ≡ is_among self.now.bytes self.now.names name }
     {
         self.place(name).is_some()
+    }
+
+    /// The place of the first name with the same text, of so many names from the first on.
+    pub(crate) fn place_before(&self, count: usize, name: Name) -> Option<usize>
+        ensures { result ≡ place_in (same_text self.now.bytes name) (take count self.now.names) }
+    {
+        match self.place(name) {
+            Some(place) if place < count => Some(place),
+            _ => None,
+        }
+    }
+
+    /// Whether one of so many names from the first on has the same text.
+    pub(crate) fn has_before(&self, count: usize, name: Name) -> bool
+        ensures { result ≡ is_among self.now.bytes (take count self.now.names) name }
+    {
+        self.place_before(count, name).is_some()
+    }
+
+    /// Keeps so many names from the first on.
+    pub(crate) fn truncate(&mut self, count: usize)
+        ensures { self.new ≡ listing self.old.bytes (take count self.old.names) }
+    {
+        self.names.truncate(count);
+        while let Some((_, place)) = self.places.last() {
+            if *place < count {
+                return;
+            }
+            self.places.pop();
+        }
     }
 
     /// Puts a name at the end. An `Err` changes nothing.

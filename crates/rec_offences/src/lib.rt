@@ -4,6 +4,7 @@
 
 mod declarations;
 mod directory;
+mod gathering;
 mod headers;
 mod inclusion;
 mod input;
@@ -13,6 +14,7 @@ mod limit_tests;
 mod limits;
 mod names;
 mod offence;
+mod ordering;
 mod scope;
 mod signatures;
 mod terms;

@@ -1,5 +1,5 @@
 //! Declared names, and what each is first declared as.
-ghost use Rattle.std.specs.Prelude.{◌≡◌, ◌++◌, ◌∷◌, [], OnOk, length, map, not, slice_get};
+ghost use Rattle.std.specs.Prelude.{◌≡◌, ◌++◌, ◌∷◌, [], OnOk, length, map, not, slice_get, take};
 ghost use Rattle.std.specs.Option.{option_map};
 ghost use Rattle.rec_offences.specs.Names.{is_among, same_text};
 ghost use Rattle.rec_offences.specs.Scope.{look_up, names_of, is_variable};
@@ -89,6 +89,21 @@ impl<'a> Scope<'a> {
         ensures { result ≡ is_among self.now.bytes (names_of self.now.entries) name }
     {
         self.names.has(name)
+    }
+
+    /// Whether one of so many names from the first on has the same text.
+    pub(crate) fn has_before(&self, count: usize, name: Name) -> bool
+        ensures { result ≡ is_among self.now.bytes (take count (names_of self.now.entries)) name }
+    {
+        self.names.has_before(count, name)
+    }
+
+    /// Keeps so many names from the first on.
+    pub(crate) fn truncate(&mut self, count: usize)
+        ensures { self.new ≡ known self.old.bytes (take count self.old.entries) }
+    {
+        self.names.truncate(count);
+        self.signatures.truncate(count);
     }
 
     /// Declares a name, after the others.
