@@ -1,15 +1,14 @@
 -- The offences of a specification as they are noted, from what is at hand.
-use Rattle.std.specs.Prelude.{ℕ, List, [], ◌∷◌, ◌++◌, map, slice_get}
+use Rattle.std.specs.Prelude.{ℕ, List, [], ◌∷◌, ◌++◌, map, not, slice_get}
 use Rattle.std.specs.List.{filter, flat_map}
 use Rattle.std.specs.Option.{option_map, option_to_list, option_and_then}
 use Rattle.rec_reader.specs.declared.token.Name.{Name}
 use Rattle.rec_reader.specs.declared.syntax_tree.Specification.{Specification}
-use Rattle.rec_offences.specs.declared.inclusion.Verdict.{Verdict}
+use Rattle.rec_offences.specs.declared.entries.Verdict.{Verdict}
 use Rattle.rec_offences.specs.declared.offence.Offence.{Offence}
 use Rattle.rec_offences.specs.Names.{is_among}
-use Rattle.rec_offences.specs.Material.{Header}
 use Rattle.rec_offences.specs.Scope.{Entry, names_of, root}
-use Rattle.rec_offences.specs.Offences.{unknown_sorts, repeated, bare_variables, free_variables, not_ground, unknown_includes, is_long, names_in, first_past, unknown_names, wrong_counts, sort_clashes}
+use Rattle.rec_offences.specs.Offences.{unknown_sorts, repeated, bare_variables, free_variables, not_ground, is_long, names_in, first_past, unknown_names, wrong_counts, sort_clashes}
 use Rattle.rec_offences.specs.Faults.{of_kind}
 
 -- the entries that bring a name from another declaration, and those with which the limit is passed
@@ -19,14 +18,14 @@ clashing_entries verdicts = map (λ v. v.entry) (filter (λ v. v.is_clashing) ve
 abbrev pub passing_entries : List Verdict → List Name
 passing_entries verdicts = map (λ v. v.entry) (filter (λ v. v.is_passing) verdicts)
 
-abbrev pub repeated_group : List ℕ → List Header → List Verdict → (entries own : List Entry) → Specification → List Name
+abbrev pub repeated_group : List ℕ → (headers : List Name) → List Verdict → (entries own : List Entry) → Specification → List Name
 repeated_group bytes headers verdicts entries own s =
-    filter (is_among bytes (map (λ h. h.name) headers)) (s.name ∷ [])
+    filter (is_among bytes headers) (s.name ∷ [])
     ++ repeated bytes [] s.sorts
     ++ repeated bytes (names_of entries) (names_of own)
     ++ clashing_entries verdicts
 
-unfoldable pub declared_group : List ℕ → List Header → List Verdict → (sorts : List Name) → (entries own : List Entry) → Specification → List Offence
+unfoldable pub declared_group : List ℕ → (headers : List Name) → List Verdict → (sorts : List Name) → (entries own : List Entry) → Specification → List Offence
 declared_group bytes headers verdicts sorts entries own s =
     of_kind 4 (unknown_sorts bytes (sorts ++ s.sorts) s) ++ of_kind 6 (repeated_group bytes headers verdicts entries own s)
 
@@ -39,12 +38,12 @@ limits_group bytes symbols_before rules_before verdicts symbols s =
     ++ option_to_list (option_and_then root (first_past 0 s.terms))
     ++ passing_entries verdicts
 
-unfoldable pub used_group : List ℕ → List Header → (symbols_before rules_before : ℕ) → List Verdict → (symbols entries : List Entry) → Specification → List Offence
+unfoldable pub used_group : List ℕ → (headers : List Name) → (symbols_before rules_before : ℕ) → List Verdict → (symbols entries : List Entry) → Specification → List Offence
 used_group bytes headers symbols_before rules_before verdicts symbols entries s =
     of_kind 9 (bare_variables bytes entries s)
     ++ of_kind 10 (free_variables bytes entries s)
     ++ of_kind 11 (not_ground bytes entries s)
-    ++ of_kind 12 (unknown_includes bytes headers s)
+    ++ of_kind 12 (filter (λ n. not (is_among bytes headers n)) s.includes)
     ++ of_kind 13 (limits_group bytes symbols_before rules_before verdicts symbols s)
     ++ of_kind 5 (unknown_names bytes entries s)
     ++ of_kind 7 (wrong_counts bytes entries s)

@@ -1,24 +1,79 @@
--- What the entries of a list of includes bring, as it is gathered.
-use Rattle.std.specs.Prelude.{◌≡◌, ℕ, ◌-◌, ◌^◌, List, length, min}
+-- The material that is at hand while specifications are checked, and what it has.
+use Rattle.std.specs.Prelude.{◌≡◌, ℕ, ◌+◌, ◌-◌, ◌^◌, List, [], ◌∷◌, ◌++◌, Option, Some, length, min, take, slice_get}
+use Rattle.std.specs.Option.{option_map}
 use Rattle.rec_reader.specs.declared.syntax_tree.Specification.{Specification}
-use Rattle.rec_offences.specs.Material.{sorts_of, rules_of}
+use Rattle.rec_offences.specs.Material.{included, headers_of, material_of, symbols_by, symbols_of, sorts_of, rules_of}
+use Rattle.rec_offences.specs.Scope.{own_entries}
 use Rattle.rec_offences.specs.Listing.{listing, known}
-use Rattle.rec_offences.specs.Offences.{Include, is_clashing, is_passing}
+use Rattle.rec_offences.specs.Numbered.{IsClosed}
 use Rattle.rec_offences.specs.Faults.{included_entries}
+use Rattle.rec_offences.specs.declared.inclusion.Extent.{Extent}
+use Rattle.rec_offences.specs.declared.inclusion.Level.{Level}
 use Rattle.rec_offences.specs.declared.inclusion.Inclusion.{Inclusion}
-use Rattle.rec_offences.specs.declared.inclusion.Verdict.{Verdict}
 
 -- counted as far as a number goes
 abbrev pub counted : ℕ → ℕ
 counted n = min n (2 ^ 64 - 1)
 
--- what was gathered is what the material has
-pub record IsInclusion (bytes : List ℕ) (earlier : List Specification) (i : Inclusion) : Type 0 where
-  pub scope : i.scope ≡ known bytes (included_entries earlier i.material.keys)
-  pub sorts : i.sorts ≡ listing bytes (sorts_of earlier i.material.keys)
-  pub rules : i.rules ≡ counted (length (rules_of earlier i.material.keys))
+-- what is at hand is what the material has
+pub record IsInclusion (bytes : List ℕ) (specifications : List Specification) (i : Inclusion) : Type 0 where
+  pub scope : i.scope ≡ known bytes (included_entries specifications i.material.keys)
+  pub sorts : i.sorts ≡ listing bytes (sorts_of specifications i.material.keys)
+  pub rules : i.rules ≡ counted (length (rules_of specifications i.material.keys))
+  pub closed : IsClosed bytes specifications i.material.keys
 
--- what is wrong at an entry
-abbrev pub verdict_of : List ℕ → List Specification → Include → Verdict
-verdict_of bytes earlier i =
-    record { entry = i.entry; is_clashing = is_clashing bytes earlier i; is_passing = is_passing earlier i }
+-- how much a material has
+abbrev pub extent_of : List Specification → List ℕ → Extent
+extent_of specifications material =
+    record {
+      material = length material;
+      symbols = length (symbols_of specifications material);
+      sorts = length (sorts_of specifications material);
+      rules = counted (length (rules_of specifications material));
+    }
+
+-- one list is the front of another
+abbrev pub IsFront : List ℕ → List ℕ → Type 0
+IsFront front whole = take (length front) whole ≡ front
+
+-- the material of the last of these levels, or what comes before them all
+abbrev pub last_material : List ℕ → List Specification → (before : List ℕ) → List Level → List ℕ
+last_material bytes specifications before [] = before
+last_material bytes specifications before (l ∷ ls) = last_material bytes specifications (material_of bytes specifications l.number) ls
+
+-- a level goes on from this material, and its extent is that of its own
+pub record IsOn (bytes : List ℕ) (specifications : List Specification) (before : List ℕ) (l : Level) : Type 0 where
+  pub front : IsFront before (material_of bytes specifications l.number)
+  pub extent : l.extent ≡ extent_of specifications (material_of bytes specifications l.number)
+
+-- each level goes on from the one before
+abbrev pub Rises : List ℕ → List Specification → (before : List ℕ) → List Level → Type 0
+Rises bytes specifications before [] = Unit {0}
+Rises bytes specifications before (l ∷ ls) = IsOn bytes specifications before l × Rises bytes specifications (material_of bytes specifications l.number) ls
+
+-- the material at hand is that of the last level
+pub record IsAtLevel (bytes : List ℕ) (specifications : List Specification) (i : Inclusion) : Type 0 where
+  pub inclusion : IsInclusion bytes specifications i
+  pub levels : Rises bytes specifications [] i.levels.items
+  pub material : i.material.keys ≡ last_material bytes specifications [] i.levels.items
+
+-- the material at hand goes on from that of the last level
+pub record IsPastLevel (bytes : List ℕ) (specifications : List Specification) (i : Inclusion) : Type 0 where
+  pub inclusion : IsInclusion bytes specifications i
+  pub levels : Rises bytes specifications [] i.levels.items
+  pub front : IsFront (last_material bytes specifications [] i.levels.items) i.material.keys
+
+-- the number of the last level
+abbrev pub last_number : List Level → Option ℕ
+last_number levels = option_map (λ l. l.number) (slice_get levels (length levels - 1))
+
+-- after its own names were declared past what it includes: so many of them are symbols
+pub record IsDeclared (bytes : List ℕ) (specifications : List Specification) (number : ℕ) (s : Specification) (count : ℕ) (i : Inclusion) : Type 0 where
+  pub is : slice_get specifications number ≡ Some s
+  pub material : i.material.keys ≡ included bytes (headers_of bytes (take number specifications)) s.includes
+  pub scope : i.scope ≡ known bytes (included_entries specifications i.material.keys ++ own_entries s)
+  pub sorts : i.sorts ≡ listing bytes (sorts_of specifications i.material.keys ++ s.sorts)
+  pub rules : i.rules ≡ counted (length (rules_of specifications i.material.keys))
+  pub levels : Rises bytes specifications [] i.levels.items
+  pub front : IsFront (last_material bytes specifications [] i.levels.items) i.material.keys
+  pub symbols : count ≡ length (symbols_of specifications i.material.keys) + length (symbols_by s)

@@ -7,8 +7,8 @@ pub mod Listing
 pub mod Numbered
 pub mod Indexed
 pub mod KnownKept
-pub mod HeadersKept
 pub mod Inclusion
+pub mod Entering
 pub mod Visited
 pub mod Grouped
 pub mod Laws

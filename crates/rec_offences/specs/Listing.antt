@@ -1,4 +1,4 @@
--- What the parts of a check show: names in order, declared names in order, and headers in order.
+-- What the parts of a check show: names in order, and declared names in order.
 use Rattle.std.specs.Prelude.{ℕ, suc, List, [], ◌∷◌, Bool, Option, Some, None, map, slice_get, if◌then◌else◌}
 use Rattle.std.specs.Option.{option_map, option_map_or}
 use Rattle.rec_reader.specs.declared.token.Name.{Name}
@@ -37,17 +37,6 @@ entry_of s = record { declared = declared s.name s.arguments.now s.sort; is_vari
 
 abbrev pub entries_of : List Signature → List Entry
 entries_of signatures = map entry_of signatures
-
--- headers of these bytes
-pub record Headed : Type 0 where
-  pub bytes : List ℕ
-  pub headers : List Header
-
-abbrev pub headed : List ℕ → List Header → Headed
-headed bytes headers = record { bytes = bytes; headers = headers }
-
-abbrev pub names_in_headers : Headed → List Name
-names_in_headers h = map (λ header. header.name) h.headers
 
 -- the material of the header at this place, or nothing
 abbrev pub material_at : List Header → ℕ → List ℕ

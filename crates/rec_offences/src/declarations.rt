@@ -1,17 +1,15 @@
 //! Offences of headers and declarations.
-ghost use Rattle.std.specs.Prelude.{◌≡◌, ◌++◌, ◌∷◌, [], IfOk, OnOk, map, not};
+ghost use Rattle.std.specs.Prelude.{◌≡◌, ◌++◌, ◌∷◌, [], IfOk, OnOk, not, take};
 ghost use Rattle.std.specs.List.{filter};
 ghost use Rattle.rec_offences.specs.Names.{is_among};
 ghost use Rattle.rec_offences.specs.Scope.{names_of};
-ghost use Rattle.rec_offences.specs.Offences.{used_sorts, repeated, unknown_sorts, unknown_includes, repeated_names};
+ghost use Rattle.rec_offences.specs.Offences.{used_sorts, repeated, unknown_sorts, repeated_names};
 ghost use Rattle.rec_offences.specs.Faults.{of_kind, least_with};
-ghost use Rattle.rec_offences.specs.Listing.{listing, known, entries_of, names_in_headers};
+ghost use Rattle.rec_offences.specs.Listing.{listing, known, entries_of};
 ghost use Rattle.rec_offences.specs.Grouped.{clashing_entries};
-ghost use Rattle.rec_offences.specs.Inclusion.{verdict_of};
 
 use crate::directory::Directory;
-use crate::headers::Headers;
-use crate::inclusion::Verdict;
+use crate::entries::Verdict;
 use crate::offence::{Offence, note_if};
 use crate::scope::Scope;
 use crate::signatures::Signature;
@@ -57,17 +55,19 @@ pub(crate) fn note_unknown_sorts(
     Ok(())
 }
 
-/// Notes the entries that no header has.
+/// Notes the entries that no header before this one has.
 pub(crate) fn note_unknown_includes(
     found: &mut Option<Offence>,
-    headers: &Headers,
+    headers: &Directory,
+    number: usize,
     specification: &Specification,
 )
     ensures { found.new ≡ least_with found.old (of_kind INCLUDE
-        (unknown_includes headers.now.bytes headers.now.headers specification.now)) }
+        (filter (λ n. not (is_among headers.now.bytes (take number headers.now.names) n))
+        specification.now.includes)) }
 {
     for entry in specification.includes.as_slice() {
-        note_if(found, INCLUDE, *entry, !headers.has(*entry));
+        note_if(found, INCLUDE, *entry, !headers.has_before(number, *entry));
     }
 }
 
@@ -106,11 +106,11 @@ fn declare<'a>(
 }
 
 /// Notes a header's name that an earlier header has.
-fn note_repeated_header(found: &mut Option<Offence>, headers: &Headers, name: Name)
+fn note_repeated_header(found: &mut Option<Offence>, headers: &Directory, number: usize, name: Name)
     ensures { found.new ≡ least_with found.old (of_kind REPEATED
-        (filter (is_among headers.now.bytes (names_in_headers headers.now)) (name ∷ []))) }
+        (filter (is_among headers.now.bytes (take number headers.now.names)) (name ∷ []))) }
 {
-    note_if(found, REPEATED, name, headers.has(name));
+    note_if(found, REPEATED, name, headers.has_before(number, name));
 }
 
 fn note_clashing_entries(found: &mut Option<Offence>, verdicts: &[Verdict])
@@ -125,7 +125,8 @@ fn note_clashing_entries(found: &mut Option<Offence>, verdicts: &[Verdict])
 pub(crate) fn note_repeated_names<'a>(
     alloc: Global,
     found: &mut Option<Offence>,
-    headers: &Headers,
+    headers: &Directory,
+    number: usize,
     verdicts: &[Verdict],
     scope: &mut Scope<'a>,
     own: &[Signature<'a>],
@@ -134,13 +135,13 @@ pub(crate) fn note_repeated_names<'a>(
     ensures declared { OnOk result (scope.new
         ≡ known scope.old.bytes (scope.old.entries ++ entries_of own.now)) }
     ensures noted { OnOk result (found.new ≡ least_with found.old (of_kind REPEATED
-        (filter (is_among headers.now.bytes (names_in_headers headers.now))
+        (filter (is_among headers.now.bytes (take number headers.now.names))
         (specification.now.name ∷ [])
         ++ repeated headers.now.bytes [] specification.now.sorts
         ++ repeated scope.old.bytes (names_of scope.old.entries) (names_of (entries_of own.now))
         ++ clashing_entries verdicts.now))) }
 {
-    note_repeated_header(found, headers, specification.name);
+    note_repeated_header(found, headers, number, specification.name);
     let mut sorts = Directory::new(alloc, headers.text());
     note_repeated(found, &mut sorts, specification.sorts.as_slice())?;
     declare(found, scope, own)?;

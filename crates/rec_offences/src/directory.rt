@@ -1,5 +1,5 @@
 //! Names in order, found by their text.
-ghost use Rattle.std.specs.Prelude.{◌≡◌, ◌++◌, ◌∷◌, [], OnOk, OnErr, take};
+ghost use Rattle.std.specs.Prelude.{◌≡◌, ◌++◌, ◌∷◌, [], OnOk, OnErr, length, take};
 ghost use Rattle.rec_offences.specs.Names.{is_among, same_text};
 ghost use Rattle.rec_offences.specs.Scope.{heads};
 ghost use Rattle.rec_offences.specs.Listing.{listing, place_in, place_of};
@@ -47,6 +47,13 @@ impl<'a> Directory<'a> {
         ensures { result.now ≡ self.now.bytes }
     {
         self.text
+    }
+
+    /// How many names there are.
+    pub(crate) fn len(&self) -> usize
+        ensures { result ≡ length self.now.names }
+    {
+        self.names.len()
     }
 
     /// The place of the first name with the same text.

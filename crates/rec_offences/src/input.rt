@@ -1,17 +1,21 @@
 //! The fault of an input.
-ghost use Rattle.std.specs.Prelude.{◌≡◌, ◌++◌, IfOk, OnOk, length, map};
-ghost use Rattle.rec_offences.specs.Material.{included, symbols_by};
+ghost use Rattle.std.specs.Prelude.{◌≡◌, ◌<◌, ◌+◌, ◌++◌, IfOk, OnOk, length, map, take};
+ghost use Rattle.rec_offences.specs.Material.{symbols_by};
 ghost use Rattle.rec_offences.specs.Scope.{symbol_entry, own_entries};
-ghost use Rattle.rec_offences.specs.Listing.{known, entries_of};
+ghost use Rattle.rec_offences.specs.Listing.{listing, known, entries_of};
+ghost use Rattle.rec_offences.specs.Numbered.{header_names, offences_at};
+ghost use Rattle.rec_offences.specs.Inclusion.{IsAtLevel};
 ghost use Rattle.rec_offences.specs.Grouped.{declared_group, used_group};
-ghost use Rattle.rec_offences.specs.Faults.{offences_over, least_with, fault_of};
+ghost use Rattle.rec_offences.specs.Faults.{least_with, fault_of};
 
 use crate::declarations::{note_repeated_names, note_unknown_includes, note_unknown_sorts};
 use crate::directory::Directory;
-use crate::headers::Headers;
-use crate::inclusion::{Inclusion, Verdict, included};
+use crate::entries::Verdict;
+use crate::gathering::header_names;
+use crate::inclusion::Inclusion;
 use crate::limits::note_past_limits;
 use crate::offence::Offence;
+use crate::ordering::order;
 use crate::scope::Scope;
 use crate::signatures::{Signature, own_signatures, own_symbols};
 use crate::terms::note_heads;
@@ -24,7 +28,8 @@ use std::alloc::Global;
 fn note_declared<'a>(
     alloc: Global,
     found: &mut Option<Offence>,
-    headers: &Headers,
+    headers: &Directory,
+    number: usize,
     verdicts: &[Verdict],
     sorts: &mut Directory,
     scope: &mut Scope<'a>,
@@ -35,13 +40,24 @@ fn note_declared<'a>(
     requires scope { scope.old.bytes ≡ headers.now.bytes }
     ensures declared { OnOk result (scope.new
         ≡ known scope.old.bytes (scope.old.entries ++ entries_of own.now)) }
+    ensures listed { OnOk result (sorts.new
+        ≡ listing sorts.old.bytes (sorts.old.names ++ specification.now.sorts)) }
     ensures noted { OnOk result (found.new ≡ least_with found.old
-        (declared_group headers.now.bytes headers.now.headers verdicts.now
+        (declared_group headers.now.bytes (take number headers.now.names) verdicts.now
         sorts.old.names scope.old.entries (entries_of own.now) specification.now)) }
 {
     sorts.add_all(specification.sorts.as_slice())?;
     note_unknown_sorts(alloc, found, sorts, specification)?;
-    note_repeated_names(alloc, found, headers, verdicts, scope, own, specification)?;
+    note_repeated_names(
+        alloc,
+        found,
+        headers,
+        number,
+        verdicts,
+        scope,
+        own,
+        specification,
+    )?;
     Ok(())
 }
 
@@ -49,7 +65,8 @@ fn note_declared<'a>(
 fn note_used(
     alloc: Global,
     found: &mut Option<Offence>,
-    headers: &Headers,
+    headers: &Directory,
+    number: usize,
     before: (usize, usize),
     verdicts: &[Verdict],
     symbols: &[Signature],
@@ -58,11 +75,11 @@ fn note_used(
 ) -> Result<(), Memory>
     requires { scope.now.bytes ≡ headers.now.bytes }
     ensures { OnOk result (found.new ≡ least_with found.old
-        (used_group headers.now.bytes headers.now.headers before.0 before.1 verdicts.now
-        (entries_of symbols.now) scope.now.entries specification.now)) }
+        (used_group headers.now.bytes (take number headers.now.names) before.0 before.1
+        verdicts.now (entries_of symbols.now) scope.now.entries specification.now)) }
 {
     note_misplaced_variables(alloc, found, scope, specification)?;
-    note_unknown_includes(found, headers, specification);
+    note_unknown_includes(found, headers, number, specification);
     note_past_limits(
         found,
         headers.text(),
@@ -75,23 +92,34 @@ fn note_used(
     Ok(())
 }
 
-/// Notes the offences of a specification, where this is included.
+/// Notes the offences of a specification, where what it includes is at hand, and gives how many
+/// symbols there are with its own.
 fn note_included<'a>(
     alloc: Global,
     found: &mut Option<Offence>,
-    headers: &Headers,
+    headers: &Directory,
+    number: usize,
+    verdicts: &[Verdict],
     included: &mut Inclusion<'a>,
     specification: &'a Specification,
-) -> Result<(), Memory>
+) -> Result<usize, Memory>
     requires sorts { included.old.sorts.bytes ≡ headers.now.bytes }
     requires scope { included.old.scope.bytes ≡ headers.now.bytes }
-    ensures material { OnOk result (included.new.material.keys ≡ included.old.material.keys) }
+    ensures material { OnOk result (included.new.material ≡ included.old.material) }
+    ensures levels { OnOk result (included.new.levels ≡ included.old.levels) }
+    ensures rules { OnOk result (included.new.rules ≡ included.old.rules) }
+    ensures declared { OnOk result (included.new.scope ≡ known included.old.scope.bytes
+        (included.old.scope.entries ++ own_entries specification.now)) }
+    ensures listed { OnOk result (included.new.sorts ≡ listing included.old.sorts.bytes
+        (included.old.sorts.names ++ specification.now.sorts)) }
+    ensures symbols { IfOk result (λ n. n
+        ≡ length included.old.scope.entries + length (symbols_by specification.now)) }
     ensures noted { OnOk result (found.new ≡ least_with found.old
-        (declared_group headers.now.bytes headers.now.headers included.old.verdicts.items
+        (declared_group headers.now.bytes (take number headers.now.names) verdicts.now
         included.old.sorts.names included.old.scope.entries
         (own_entries specification.now) specification.now
-        ++ used_group headers.now.bytes headers.now.headers
-        (length included.old.scope.entries) included.old.rules included.old.verdicts.items
+        ++ used_group headers.now.bytes (take number headers.now.names)
+        (length included.old.scope.entries) included.old.rules verdicts.now
         (map symbol_entry (symbols_by specification.now))
         (included.old.scope.entries ++ own_entries specification.now) specification.now)) }
 {
@@ -102,7 +130,8 @@ fn note_included<'a>(
         alloc,
         found,
         headers,
-        &included.verdicts,
+        number,
+        verdicts,
         &mut included.sorts,
         &mut included.scope,
         &own,
@@ -112,33 +141,46 @@ fn note_included<'a>(
         alloc,
         found,
         headers,
+        number,
         before,
-        &included.verdicts,
+        verdicts,
         &symbols,
         &included.scope,
         specification,
     )?;
-    Ok(())
+    Ok(before.0 + symbols.len())
 }
 
-/// Notes the offences of a specification, and gives what it includes.
+/// Notes the offences of the specification with this number, and leaves its material at hand.
 fn note_offences<'a>(
     alloc: Global,
     found: &mut Option<Offence>,
-    earlier: &'a [Specification],
-    headers: &Headers<'a>,
-    specification: &'a Specification,
-) -> Result<Vec<usize>, Memory>
-    ensures material { IfOk result (λ m. m.items
-        ≡ included headers.now.bytes headers.now.headers specification.now.includes) }
+    headers: &Directory,
+    specifications: &'a [Specification],
+    included: &mut Inclusion<'a>,
+    number: usize,
+) -> Result<(), Memory>
+    requires names { headers.now.names ≡ header_names specifications.now }
+    requires there { number < length specifications.now }
+    requires at_level { IsAtLevel headers.now.bytes specifications.now included.old }
+    ensures at_level { OnOk result
+        (IsAtLevel headers.now.bytes specifications.now included.new) }
     ensures noted { OnOk result (found.new ≡ least_with found.old
-        (offences_over headers.now.bytes earlier.now headers.now.headers
-        (included headers.now.bytes headers.now.headers specification.now.includes)
-        specification.now)) }
+        (offences_at headers.now.bytes specifications.now number)) }
 {
-    let mut included = included(alloc, earlier, headers, specification.includes.as_slice())?;
-    note_included(alloc, found, headers, &mut included, specification)?;
-    Ok(Vec::from_slice(alloc, included.material.as_slice())?)
+    let specification = &specifications[number];
+    let entries = specification.includes.as_slice();
+    let verdicts = included.include_all(alloc, headers, specifications, number, entries)?;
+    let symbols = note_included(
+        alloc,
+        found,
+        headers,
+        number,
+        &verdicts,
+        included,
+        specification,
+    )?;
+    included.enter(specification, number, symbols)
 }
 
 /// The fault of specifications: of all their offences the one with the least offset, and of those
@@ -152,18 +194,19 @@ pub fn fault(alloc: Global, syntax: &Syntax) -> Result<Option<Offence>, Memory>
     ensures { IfOk result (λ f. f ≡ fault_of syntax.now) }
 {
     let specifications = syntax.as_slice();
+    let headers = header_names(alloc, syntax.text(), specifications)?;
+    let numbers = order(alloc, &headers, specifications)?;
     let mut found = None;
-    let mut headers = Headers::new(alloc, syntax.text());
-    for (number, specification) in specifications.iter().enumerate() {
-        let mut material = note_offences(
+    let mut included = Inclusion::new(alloc, syntax.text());
+    for number in &numbers {
+        note_offences(
             alloc,
             &mut found,
-            &specifications[..number],
             &headers,
-            specification,
+            specifications,
+            &mut included,
+            *number,
         )?;
-        material.push(number)?;
-        headers.add(specification.name, material)?;
     }
     Ok(found)
 }

@@ -4,8 +4,8 @@
 
 mod declarations;
 mod directory;
+mod entries;
 mod gathering;
-mod headers;
 mod inclusion;
 mod input;
 mod laws;
@@ -13,6 +13,7 @@ mod laws;
 mod limit_tests;
 mod limits;
 mod names;
+mod numbered;
 mod offence;
 mod ordering;
 mod scope;

@@ -8,7 +8,7 @@ ghost use Rattle.rec_offences.specs.Faults.{of_kind, least_with};
 ghost use Rattle.rec_offences.specs.Listing.{entries_of};
 ghost use Rattle.rec_offences.specs.Grouped.{passing_entries};
 
-use crate::inclusion::{MOST, Verdict};
+use crate::entries::{MOST, Verdict};
 use crate::names::text_of;
 use crate::offence::{Offence, note_if, note_some};
 use crate::signatures::Signature;

@@ -1,5 +1,5 @@
 //! Declared names, and what each is first declared as.
-ghost use Rattle.std.specs.Prelude.{◌≡◌, ◌++◌, ◌∷◌, [], OnOk, length, map, not, slice_get, take};
+ghost use Rattle.std.specs.Prelude.{◌≡◌, ◌<◌, ◌^◌, ◌++◌, ◌∷◌, [], OnOk, length, map, not, slice_get, take};
 ghost use Rattle.std.specs.Option.{option_map};
 ghost use Rattle.rec_offences.specs.Names.{is_among, same_text};
 ghost use Rattle.rec_offences.specs.Scope.{look_up, names_of, is_variable};
@@ -60,7 +60,8 @@ impl<'a> Scope<'a> {
 
     /// How many names are declared, those that are repeated too.
     pub(crate) fn len(&self) -> usize
-        ensures { result ≡ length self.now.entries }
+        ensures count { result ≡ length self.now.entries }
+        ensures fits { result < 2 ^ 63 }
     {
         self.signatures.len()
     }

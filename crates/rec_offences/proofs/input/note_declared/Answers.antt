@@ -1,4 +1,4 @@
-use Rattle.std.proofs.Common.{◌∷◌, [], ◌++◌, map, ap, ◌∙◌}
+use Rattle.std.proofs.Common.{◌∷◌, [], ◌++◌, map, take, ap, ◌∙◌}
 use Rattle.std.specs.List.{filter}
 use Rattle.rec_offences.specs.Names.{is_among}
 use Rattle.rec_offences.specs.Scope.{names_of}
@@ -21,10 +21,10 @@ returns-clause-noted c =
     let listed = c.in_ok-add_all.ensures ∙ (λ i. listing (c.requires.sorts i) (sorts ++ c.as_slice.ensures i)) in
     noted_after f c.note_unknown_sorts.new.found c.note_repeated_names.new.found
     (of_kind 4 (unknown_sorts h.bytes (sorts ++ s.sorts) s))
-    (of_kind 6 (repeated_group h.bytes h.headers c.args.verdicts.now scope.entries own s))
+    (of_kind 6 (repeated_group h.bytes (take c.args.number h.names) c.args.verdicts.now scope.entries own s))
     (c.in_ok-note_unknown_sorts.ensures ∙ ap (λ d. least_with f (of_kind 4 (unknown_sorts d.bytes d.names s))) listed)
     (c.in_ok-note_repeated_names.ensures.noted
     ∙ ap
-    (λ b. least_with c.note_unknown_sorts.new.found (of_kind 6 (filter (is_among h.bytes (map (λ x. x.name) h.headers)) (s.name ∷ []) ++ repeated h.bytes [] s.sorts ++ repeated b (names_of scope.entries) (names_of own)
+    (λ b. least_with c.note_unknown_sorts.new.found (of_kind 6 (filter (is_among h.bytes (take c.args.number h.names)) (s.name ∷ []) ++ repeated h.bytes [] s.sorts ++ repeated b (names_of scope.entries) (names_of own)
     ++ map (λ v. v.entry) (filter (λ v. v.is_clashing) c.args.verdicts.now))))
     c.requires.scope)

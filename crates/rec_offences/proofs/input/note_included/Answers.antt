@@ -1,8 +1,9 @@
-use Rattle.std.proofs.Common.{◌++◌, length, map, ap, ◌∙◌}
+use Rattle.std.proofs.Common.{◌≡◌, ◌+◌, ◌++◌, length, map, take, ap, ◌∙◌, arith}
+use Rattle.std.proofs.lemmas.List.{length-map}
 use Rattle.rec_offences.specs.Material.{symbols_by}
 use Rattle.rec_offences.specs.Scope.{symbol_entry, own_entries}
 use Rattle.rec_offences.specs.Faults.{least_with}
-use Rattle.rec_offences.specs.Listing.{entries_of}
+use Rattle.rec_offences.specs.Listing.{known, entries_of, entry_of}
 use Rattle.rec_offences.specs.Grouped.{declared_group, used_group}
 use Rattle.rec_offences.proofs.Noted.{noted_after}
 use Rattle.rec_offences.proofs.input.note_included.Goals as goal
@@ -10,19 +11,32 @@ use Rattle.rec_offences.proofs.input.note_included.Goals as goal
 pub note_used-requires : goal.note_used-requires
 note_used-requires c = ap (λ s. s.bytes) c.in_ok-note_declared.ensures.declared ∙ c.requires.scope
 
+pub returns-clause-declared : goal.returns-clause-declared
+returns-clause-declared c =
+    c.in_ok-note_declared.ensures.declared ∙ ap (λ es. known c.args.included.now.scope.bytes (c.args.included.now.scope.entries ++ es)) (ap entries_of c.deref.ensures.value ∙ c.in_ok-own.ensures)
+
 pub returns-clause-noted : goal.returns-clause-noted
 returns-clause-noted c =
     let h = c.args.headers.now in
+    let names = take c.args.number h.names in
     let s = c.args.specification.now in
     let f = c.args.found.now in
     let i = c.args.included.now in
+    let v = c.args.verdicts.now in
     let one = c.note_declared.new.found in
-    let own = ap entries_of c.deref-2.ensures.value ∙ c.in_ok-own.ensures in
+    let own = ap entries_of c.deref.ensures.value ∙ c.in_ok-own.ensures in
     noted_after f one c.note_used.new.found
-    (declared_group h.bytes h.headers i.verdicts.items i.sorts.names i.scope.entries (own_entries s) s)
-    (used_group h.bytes h.headers (length i.scope.entries) i.rules i.verdicts.items (map symbol_entry (symbols_by s)) (i.scope.entries ++ own_entries s) s)
+    (declared_group h.bytes names v i.sorts.names i.scope.entries (own_entries s) s)
+    (used_group h.bytes names (length i.scope.entries) i.rules v (map symbol_entry (symbols_by s)) (i.scope.entries ++ own_entries s) s)
     (c.in_ok-note_declared.ensures.noted
-    ∙ (λ j. least_with f (declared_group h.bytes h.headers (c.deref.ensures.value j) i.sorts.names i.scope.entries (own j) s)))
+    ∙ (λ j. least_with f (declared_group h.bytes names v i.sorts.names i.scope.entries (own j) s)))
     (c.in_ok-note_used.ensures
-    ∙ (λ j. least_with one (used_group h.bytes h.headers (c.len.ensures j) i.rules (c.deref-3.ensures.value j) (entries_of (c.deref-4.ensures.value j)) (c.in_ok-note_declared.ensures.declared j).entries s))
-    ∙ (λ j. least_with one (used_group h.bytes h.headers (length i.scope.entries) i.rules i.verdicts.items (c.in_ok-symbols.ensures j) (i.scope.entries ++ own j) s)))
+    ∙ (λ j. least_with one (used_group h.bytes names (c.len.ensures.count j) i.rules v (entries_of (c.deref-2.ensures.value j)) (c.in_ok-note_declared.ensures.declared j).entries s))
+    ∙ (λ j. least_with one (used_group h.bytes names (length i.scope.entries) i.rules v (c.in_ok-symbols.ensures j) (i.scope.entries ++ own j) s)))
+
+pub overflow_add-result : goal.overflow_add-result
+overflow_add-result c =
+    let few = c.len.ensures.fits in
+    let small = c.in_ok-symbols.symbols.small in
+    let ok = c.in_ok-symbols.symbols.ok in
+    omega (arith, c.len-2.ensures)

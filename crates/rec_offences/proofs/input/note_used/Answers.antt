@@ -1,5 +1,7 @@
-use Rattle.std.proofs.Common.{◌++◌, ap, ◌∙◌}
-use Rattle.rec_offences.specs.Offences.{bare_variables, free_variables, not_ground, unknown_includes, unknown_names, wrong_counts, sort_clashes}
+use Rattle.std.proofs.Common.{◌++◌, take, not, ap, ◌∙◌}
+use Rattle.std.specs.List.{filter}
+use Rattle.rec_offences.specs.Names.{is_among}
+use Rattle.rec_offences.specs.Offences.{bare_variables, free_variables, not_ground, unknown_names, wrong_counts, sort_clashes}
 use Rattle.rec_offences.specs.Faults.{of_kind, least_with}
 use Rattle.rec_offences.specs.Listing.{entries_of}
 use Rattle.rec_offences.specs.Grouped.{limits_group, used_group}
@@ -17,7 +19,7 @@ returns c =
     let two = c.note_unknown_includes.new.found in
     let three = c.note_past_limits.new.found in
     let misplaced = of_kind 9 (bare_variables h.bytes e s) ++ of_kind 10 (free_variables h.bytes e s) ++ of_kind 11 (not_ground h.bytes e s) in
-    let missing = of_kind 12 (unknown_includes h.bytes h.headers s) in
+    let missing = of_kind 12 (filter (λ n. not (is_among h.bytes (take c.args.number h.names) n)) s.includes) in
     let limits = of_kind 13 (limits_group h.bytes c.args.before.0 c.args.before.1 c.args.verdicts.now (entries_of c.args.symbols.now) s) in
     three_after f three c.note_heads.new.found (misplaced ++ missing ++ limits)
     (of_kind 5 (unknown_names h.bytes e s)) (of_kind 7 (wrong_counts h.bytes e s)) (of_kind 8 (sort_clashes h.bytes e s))

@@ -1,6 +1,6 @@
-use Rattle.std.proofs.Common.{◌≡◌, ℕ, ◌+◌, Bool, List, ◌∷◌, [], ◌++◌, length, ap, sym, ◌∙◌}
-use Rattle.rec_offences.specs.declared.inclusion.Verdict.{Verdict}
-use Rattle.rec_offences.specs.Material.{brought, fresh, with_numbers, sorts_of, rules_of}
+use Rattle.std.proofs.Common.{◌≡◌, ℕ, ◌+◌, Bool, List, ◌++◌, length, ap, sym, ◌∙◌}
+use Rattle.rec_offences.specs.declared.entries.Verdict.{Verdict}
+use Rattle.rec_offences.specs.Material.{material_of, fresh, sorts_of, rules_of}
 use Rattle.rec_offences.specs.Faults.{included_entries}
 use Rattle.rec_offences.specs.Inclusion.{counted}
 use Rattle.rec_offences.specs.Listing.{listing, known, entries_of}
@@ -8,55 +8,55 @@ use Rattle.rec_offences.proofs.Including.{scope_more, sorts_more, rules_more, cl
 use Rattle.rec_offences.proofs.inclusion.Inclusion.include.Goals as goal
 
 added : goal.After-drop-added-2 → List ℕ
-added c = fresh c.args.self.now.material.keys (brought c.args.headers.now.bytes c.args.headers.now.headers c.args.entry)
+added c = fresh c.args.self.now.material.keys (material_of c.args.headers.now.bytes c.args.specifications.now c.args.number)
 
-added_is : (c : goal.After-drop-added-2) → c.in_ok-added.added.items ≡ added c
+keys_are : (c : goal.After-drop-added-2) → c.gather.new.material.keys ≡ c.args.self.now.material.keys ++ added c
 unfolding added
-added_is c = c.in_ok-added.ensures.added ∙ ap (fresh c.args.self.now.material.keys) c.brought.ensures
+keys_are c = c.in_ok-added.ensures.material
 
-keys_are : (c : goal.After-drop-added-2) → c.add_fresh.new.material.keys ≡ c.args.self.now.material.keys ++ added c
+symbols_are : (c : goal.After-drop-added-2) → entries_of c.in_ok-signatures.signatures.items ≡ included_entries c.args.specifications.now (added c)
 unfolding added
-keys_are c = c.in_ok-added.ensures.material ∙ ap (with_numbers c.args.self.now.material.keys) c.brought.ensures
+symbols_are c = c.in_ok-signatures.ensures ∙ ap (included_entries c.args.specifications.now) (c.deref.ensures.value ∙ c.in_ok-added.ensures.added)
 
-symbols_are : (c : goal.After-drop-added-2) → entries_of c.in_ok-signatures.signatures.items ≡ included_entries c.args.earlier.now (added c)
-symbols_are c = c.in_ok-signatures.ensures ∙ ap (included_entries c.args.earlier.now) (c.deref.ensures.value ∙ added_is c)
-
-scope_is : (c : goal.After-drop-added-2) → c.add_all.new.self ≡ known c.args.headers.now.bytes (included_entries c.args.earlier.now (c.args.self.now.material.keys ++ added c))
+scope_is : (c : goal.After-drop-added-2) → c.add_all.new.self ≡ known c.args.headers.now.bytes (included_entries c.args.specifications.now (c.args.self.now.material.keys ++ added c))
 scope_is c =
-    scope_more c.args.headers.now.bytes c.args.earlier.now c.args.self.now.material.keys (added c) c.args.self.now.scope c.add_all.new.self
-    (entries_of c.deref-3.result.now) c.requires.scope c.in_ok-add_all.ensures (ap entries_of c.deref-3.ensures.value ∙ symbols_are c)
+    scope_more c.args.headers.now.bytes c.args.specifications.now c.args.self.now.material.keys (added c) c.args.self.now.scope c.add_all.new.self
+    (entries_of c.deref-3.result.now) c.requires.at_hand.scope c.in_ok-add_all.ensures (ap entries_of c.deref-3.ensures.value ∙ symbols_are c)
 
-rules_are : (c : goal.After-drop-added-2) → c.count_rules-self.result ≡ counted (length (rules_of c.args.earlier.now (c.args.self.now.material.keys ++ added c)))
+rules_are : (c : goal.After-drop-added-2) → c.count_rules-self.result ≡ counted (length (rules_of c.args.specifications.now (c.args.self.now.material.keys ++ added c)))
+unfolding added
 rules_are c =
-    rules_more c.args.headers.now.bytes c.args.earlier.now c.args.self.now.material.keys (added c) c.args.self.now.rules c.count_rules-self.result c.requires.rules
-    (c.count_rules-self.ensures ∙ ap (λ ns. counted (c.args.self.now.rules + length (rules_of c.args.earlier.now ns))) (c.deref-5.ensures.value ∙ added_is c))
+    rules_more c.args.headers.now.bytes c.args.specifications.now c.args.self.now.material.keys (added c) c.args.self.now.rules c.count_rules-self.result c.requires.at_hand.rules
+    (c.count_rules-self.ensures ∙ ap (λ ns. counted (c.args.self.now.rules + length (rules_of c.args.specifications.now ns))) (c.deref-5.ensures.value ∙ c.in_ok-added.ensures.added))
 
 pub returns-clause-kept : goal.returns-clause-kept
+unfolding added
 returns-clause-kept c =
     let bytes = c.args.headers.now.bytes in
-    let e = c.args.earlier.now in
+    let e = c.args.specifications.now in
     let k = c.args.self.now.material.keys in
     record {
       scope = scope_is c ∙ ap (λ x. known bytes (included_entries e x)) (sym (keys_are c));
       sorts =
           sorts_more bytes e k (added c) c.args.self.now.sorts c.add_sorts.new.sorts
-          (sorts_of e c.deref-4.result.now) c.requires.sorts c.in_ok-add_sorts.ensures (ap (sorts_of e) (c.deref-4.ensures.value ∙ added_is c))
+          (sorts_of e c.deref-4.result.now) c.requires.at_hand.sorts c.in_ok-add_sorts.ensures (ap (sorts_of e) (c.deref-4.ensures.value ∙ c.in_ok-added.ensures.added))
           ∙ ap (λ x. listing bytes (sorts_of e x)) (sym (keys_are c));
       rules = rules_are c ∙ ap (λ x. counted (length (rules_of e x))) (sym (keys_are c));
+      closed = c.in_ok-added.ensures.closed;
     }
 
 pub returns-clause-verdict : goal.returns-clause-verdict
 unfolding added
 returns-clause-verdict c =
     let bytes = c.args.headers.now.bytes in
-    let e = c.args.earlier.now in
+    let e = c.args.specifications.now in
     let k = c.args.self.now.material.keys in
     let clash =
     c.clashes-is_clashing.ensures
-    ∙ clashing_more bytes e k (added c) c.args.self.now.scope (entries_of c.deref-2.result.now) c.requires.scope (ap entries_of c.deref-2.ensures.value ∙ symbols_are c) in
+    ∙ clashing_more bytes e k (added c) c.args.self.now.scope (entries_of c.deref-2.result.now) c.requires.at_hand.scope (ap entries_of c.deref-2.ensures.value ∙ symbols_are c) in
     let pass =
     c.one_passes-is_passing.ensures
     ∙ passing_more bytes e k (added c) c.args.self.now.scope c.add_all.new.self c.len-symbols.result c.len.result c.args.self.now.rules c.count_rules-self.result
-    c.requires.scope c.len-symbols.ensures (scope_is c) c.len.ensures c.requires.rules (rules_are c) in
+    c.requires.at_hand.scope c.len-symbols.ensures.count (scope_is c) c.len.ensures.count c.requires.at_hand.rules (rules_are c) in
     let verdict : (clashing passing : Bool) → Verdict = λ clashing passing. record { entry = c.args.entry; is_clashing = clashing; is_passing = passing } in
-    c.in_ok-push.ensures.items ∙ (λ i. c.args.self.now.verdicts.items ++ verdict (clash i) (pass i) ∷ [])
+    (λ i. verdict (clash i) (pass i))

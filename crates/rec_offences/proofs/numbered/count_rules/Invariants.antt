@@ -1,11 +1,11 @@
 use Rattle.std.proofs.Common.{◌≡◌, ◌+◌, ◌-◌, ◌^◌, ◌≤◌, drop, length}
 use Rattle.rec_offences.specs.Material.{rules_of}
 use Rattle.rec_offences.specs.Inclusion.{counted}
-use Rattle.rec_offences.proofs.inclusion.count_rules.Given as goal
+use Rattle.rec_offences.proofs.numbered.count_rules.Given as goal
 
 abbrev pub invariant-loop-number : goal.invariant-loop-number
 invariant-loop-number l =
     record {
       fits : l.rules ≤ 2 ^ 64 - 1;
-      sum : counted (l.rules + length (rules_of l.earlier (drop l.number-index l.numbers))) ≡ counted (l.initial.rules + length (rules_of l.earlier l.numbers));
+      sum : counted (l.rules + length (rules_of l.specifications (drop l.number-index l.numbers))) ≡ counted (l.initial.rules + length (rules_of l.specifications l.numbers));
     }

@@ -1,8 +1,8 @@
 use Rattle.std.proofs.Common.{◌≡◌, ◌++◌, drop}
 use Rattle.rec_offences.specs.Faults.{included_entries}
 use Rattle.rec_offences.specs.Listing.{entries_of}
-use Rattle.rec_offences.proofs.inclusion.symbols_at.Given as goal
+use Rattle.rec_offences.proofs.numbered.symbols_at.Given as goal
 
 abbrev pub invariant-loop-number : goal.invariant-loop-number
 invariant-loop-number l =
-    entries_of l.signatures.items ++ included_entries l.earlier (drop l.number-index l.numbers) ≡ included_entries l.earlier l.numbers
+    entries_of l.signatures.items ++ included_entries l.specifications (drop l.number-index l.numbers) ≡ included_entries l.specifications l.numbers

@@ -3,7 +3,7 @@ use Rattle.rec_offences.specs.Material.{rules_of}
 use Rattle.rec_offences.specs.Inclusion.{counted}
 use Rattle.rec_offences.proofs.Gathered.{drop_at, drop_all, default_in}
 use Rattle.rec_offences.proofs.Including.{at_append}
-use Rattle.rec_offences.proofs.inclusion.count_rules.Goals as goal
+use Rattle.rec_offences.proofs.numbered.count_rules.Goals as goal
 
 -- what is counted one after another is what is counted at once
 counted_on : (m was now one rest start : ℕ) → now ≡ min (was + one) m → min (was + (one + rest)) m ≡ start → min (now + rest) m ≡ start
@@ -11,7 +11,7 @@ counted_on m was now one rest start is before = omega arith
 
 pub loop-number-preserved : goal.loop-number-preserved
 loop-number-preserved c =
-    let e = c.args.earlier.now in
+    let e = c.args.specifications.now in
     let l = c.loop-number in
     let ns = c.args.numbers.now in
     let n = get_or ns l.number-index 0 in
@@ -33,7 +33,7 @@ counted_all m rules rest total fits none sum = omega arith
 
 pub returns : goal.returns
 returns c =
-    let e = c.args.earlier.now in
+    let e = c.args.specifications.now in
     let l = c.loop-number in
     let none : length (rules_of e (drop l.number-index c.args.numbers.now)) ≡ 0 = ap (λ ns. length (rules_of e ns)) (drop_all c.args.numbers.now l.number-index (omega (arith, c.loop-number-test.false))) in
     counted_all (2 ^ 64 - 1) l.rules _ _ l.invariant.fits none l.invariant.sum

@@ -3,7 +3,7 @@ use Rattle.std.specs.List.{list_any}
 use Rattle.rec_offences.specs.Names.{is_among}
 use Rattle.rec_offences.specs.Scope.{names_of}
 use Rattle.rec_offences.specs.Listing.{entries_of}
-use Rattle.rec_offences.proofs.inclusion.clashes.Given as goal
+use Rattle.rec_offences.proofs.entries.clashes.Given as goal
 
 abbrev pub invariant-loop-signature : goal.invariant-loop-signature
 invariant-loop-signature l =

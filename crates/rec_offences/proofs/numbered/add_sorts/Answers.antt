@@ -2,11 +2,11 @@ use Rattle.std.proofs.Common.{◌∷◌, [], ◌++◌, get_or, ap, ◌∙◌}
 use Rattle.rec_offences.specs.Material.{sorts_of}
 use Rattle.rec_offences.proofs.Gathered.{gathered_turn, default_in}
 use Rattle.rec_offences.proofs.Including.{at_append}
-use Rattle.rec_offences.proofs.inclusion.add_sorts.Goals as goal
+use Rattle.rec_offences.proofs.numbered.add_sorts.Goals as goal
 
 pub loop-number-preserved : goal.loop-number-preserved
 loop-number-preserved c =
-    let e = c.args.earlier.now in
+    let e = c.args.specifications.now in
     let l = c.loop-number in
     let n = get_or c.args.numbers.now l.number-index 0 in
     record {

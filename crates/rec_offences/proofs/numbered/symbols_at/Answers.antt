@@ -3,11 +3,11 @@ use Rattle.rec_offences.specs.Faults.{included_entries}
 use Rattle.rec_offences.specs.Listing.{entries_of}
 use Rattle.rec_offences.proofs.Gathered.{gathered_turn, default_in}
 use Rattle.rec_offences.proofs.Including.{entries_append}
-use Rattle.rec_offences.proofs.inclusion.symbols_at.Goals as goal
+use Rattle.rec_offences.proofs.numbered.symbols_at.Goals as goal
 
 pub loop-number-preserved : goal.loop-number-preserved
 loop-number-preserved c =
-    let e = c.args.earlier.now in
+    let e = c.args.specifications.now in
     let l = c.loop-number in
     let n = get_or c.args.numbers.now l.number-index 0 in
     gathered_turn
