@@ -1,0 +1,89 @@
+-- Levels: what is at hand is cut back from one to the one before.
+use Rattle.std.proofs.Common.{◌≡◌, ℕ, suc, ◌-◌, List, [], ◌∷◌, ◌++◌, length, map, take, drop, slice_get, Some, None, refl, sym, ap, ◌∙◌, arith}
+use Rattle.std.specs.List.{flat_map}
+use Rattle.std.proofs.lemmas.List.{length-map, take-append-drop}
+use Rattle.std.proofs.Math.Seq.{take-append_seam}
+use Rattle.rec_reader.specs.declared.syntax_tree.Specification.{Specification}
+use Rattle.rec_offences.specs.Material.{material_of, specifications_at, symbols_of, sorts_of, rules_of}
+use Rattle.rec_offences.specs.Faults.{included_entries}
+use Rattle.rec_offences.specs.Scope.{symbol_entry}
+use Rattle.rec_offences.specs.Listing.{Known, known, Listing, listing}
+use Rattle.rec_offences.specs.Inclusion.{counted, extent_of, IsFront, IsOn, Rises, last_material}
+use Rattle.rec_offences.specs.declared.inclusion.Level.{Level}
+use Rattle.rec_offences.proofs.Including.{at_append, entries_append}
+
+-- ---- a front of a list
+-- what is cut back to as much as a front has is the front
+pub front_cut : {A : Type 0} (front rest : List A) (n : ℕ) → n ≡ length front → take n (front ++ rest) ≡ front
+front_cut front rest n e = ap (λ k. take k (front ++ rest)) e ∙ take-append_seam front rest
+
+whole_of : (front whole : List ℕ) → IsFront front whole → whole ≡ front ++ drop (length front) whole
+whole_of front whole is = sym (take-append-drop (length front) whole) ∙ ap (λ ns. ns ++ drop (length front) whole) is
+
+module _ (bytes : List ℕ) (specifications : List Specification) (front whole : List ℕ) (is : IsFront front whole) where
+  entries_cut : take (length (symbols_of specifications front)) (included_entries specifications whole) ≡ included_entries specifications front
+  entries_cut =
+      let rest = drop (length front) whole in
+      ap (λ ns. take (length (symbols_of specifications front)) (included_entries specifications ns)) (whole_of front whole is)
+      ∙ ap (take (length (symbols_of specifications front))) (entries_append specifications front rest)
+      ∙ front_cut (included_entries specifications front) (included_entries specifications rest) (length (symbols_of specifications front)) (sym (length-map (symbols_of specifications front) symbol_entry))
+
+  names_cut : take (length (sorts_of specifications front)) (sorts_of specifications whole) ≡ sorts_of specifications front
+  names_cut =
+      let rest = drop (length front) whole in
+      ap (λ ns. take (length (sorts_of specifications front)) (sorts_of specifications ns)) (whole_of front whole is)
+      ∙ ap (take (length (sorts_of specifications front))) (at_append (λ s. s.sorts) specifications front rest)
+      ∙ front_cut (sorts_of specifications front) (sorts_of specifications rest) (length (sorts_of specifications front)) refl
+
+  pub scope_cut : (was now : Known) (n : ℕ) → was ≡ known bytes (included_entries specifications whole) → now ≡ known was.bytes (take n was.entries) →
+      n ≡ length (symbols_of specifications front) → now ≡ known bytes (included_entries specifications front)
+  scope_cut was now n before is_now e =
+      is_now
+      ∙ (λ i. known (before i).bytes (take (e i) (before i).entries))
+      ∙ ap (known bytes) entries_cut
+
+  pub sorts_cut : (was now : Listing) (n : ℕ) → was ≡ listing bytes (sorts_of specifications whole) → now ≡ listing was.bytes (take n was.names) →
+      n ≡ length (sorts_of specifications front) → now ≡ listing bytes (sorts_of specifications front)
+  sorts_cut was now n before is_now e =
+      is_now
+      ∙ (λ i. listing (before i).bytes (take (e i) (before i).names))
+      ∙ ap (listing bytes) names_cut
+
+-- ---- the last level
+one_further : {A : Type 0} (x y : A) (ys : List A) → slice_get (x ∷ y ∷ ys) (length (x ∷ y ∷ ys) - 1) ≡ slice_get (y ∷ ys) (length (y ∷ ys) - 1)
+one_further x y ys = let e : length (x ∷ y ∷ ys) - 1 ≡ suc (length (y ∷ ys) - 1) = omega arith in ap (slice_get (x ∷ y ∷ ys)) e
+
+module _ (bytes : List ℕ) (specifications : List Specification) where
+  pub last_pushed : (before : List ℕ) (ls : List Level) (l : Level) → last_material bytes specifications before (ls ++ l ∷ []) ≡ material_of bytes specifications l.number
+  last_pushed before [] l = refl
+  last_pushed before (x ∷ ls) l = last_pushed (material_of bytes specifications x.number) ls l
+
+  pub rises_pushed : (before : List ℕ) (ls : List Level) (l : Level) → Rises bytes specifications before ls → IsOn bytes specifications (last_material bytes specifications before ls) l → Rises bytes specifications before (ls ++ l ∷ [])
+  rises_pushed before [] l r on = (on, r)
+  rises_pushed before (x ∷ ls) l r on = (r.0, rises_pushed (material_of bytes specifications x.number) ls l r.1 on)
+
+  pub rises_popped : (before : List ℕ) (ls : List Level) (l : Level) → Rises bytes specifications before (ls ++ l ∷ []) → Rises bytes specifications before ls
+  rises_popped before [] l r = r.1
+  rises_popped before (x ∷ ls) l r = (r.0, rises_popped (material_of bytes specifications x.number) ls l r.1)
+
+  pub last_on : (before : List ℕ) (ls : List Level) (l : Level) → Rises bytes specifications before (ls ++ l ∷ []) → IsOn bytes specifications (last_material bytes specifications before ls) l
+  last_on before [] l r = r.0
+  last_on before (x ∷ ls) l r = last_on (material_of bytes specifications x.number) ls l r.1
+
+  -- the extent of the last level
+  pub last_extent : (before : List ℕ) (ls : List Level) (l : Level) → Some l ≡ slice_get ls (length ls - 1) → Rises bytes specifications before ls → l.extent ≡ extent_of specifications (last_material bytes specifications before ls)
+  last_extent before [] l e r = absurd cc
+  last_extent before (x ∷ []) l e r = let same : l ≡ x = cc in ap (λ y. y.extent) same ∙ r.0.extent
+  last_extent before (x ∷ y ∷ ls) l e r = last_extent (material_of bytes specifications x.number) (y ∷ ls) l (e ∙ one_further x y ls) r.1
+
+  -- no level is last where there is none
+  pub none_last : (before : List ℕ) (ls : List Level) → None ≡ slice_get ls (length ls - 1) → ls ≡ []
+  none_last before [] e = refl
+  none_last before (x ∷ []) e = absurd (let bad : None ≡ Some x = e in cc)
+  none_last before (x ∷ y ∷ ls) e = absurd (let bad : y ∷ ls ≡ [] = none_last before (y ∷ ls) (e ∙ one_further x y ls) in cc)
+
+  -- the material of the last level is that of its number
+  pub last_is : (before : List ℕ) (ls : List Level) (l : Level) → Some l ≡ slice_get ls (length ls - 1) → last_material bytes specifications before ls ≡ material_of bytes specifications l.number
+  last_is before [] l e = absurd cc
+  last_is before (x ∷ []) l e = let same : x ≡ l = cc in ap (λ y. material_of bytes specifications y.number) same
+  last_is before (x ∷ y ∷ ls) l e = last_is (material_of bytes specifications x.number) (y ∷ ls) l (e ∙ one_further x y ls)
