@@ -3,6 +3,7 @@ pub mod Including
 pub mod Noted
 pub mod Order
 pub mod Places
+pub mod Fronts
 pub mod Verdicts
 pub mod Groups
 pub mod Inputs

@@ -99,14 +99,19 @@ looks_again bytes names es n there looks q =
     ∙ sym (place_stays (λ m. bytes_eq q (text_of bytes m)) names n
     (λ same. subst (λ t. list_any (λ m. bytes_eq t (text_of bytes m)) names ≡ true) (sym ((bytes_decides q (text_of bytes n)).0 same)) there))
 
--- a new text has the place after the others
-pub looks_more : (bytes : List ℕ) (names : List Name) (es new : List (Vec ℕ × ℕ)) (n : Name) (k : Vec ℕ) (i : ℕ) →
-    list_any (same_text bytes n) names ≡ false → k.items ≡ text_of bytes n → i ≡ length names →
-    new ≡ insert_entry (λ a b. pointwise nat_eq a.items b.items) es k i → Looks bytes names es → Looks bytes (names ++ n ∷ []) new
-looks_more bytes names es new n k i absent text place is looks q =
+-- a new text goes last
+pub added_last : (bytes : List ℕ) (names : List Name) (es new : List (Vec ℕ × ℕ)) (n : Name) (k : Vec ℕ) (i : ℕ) →
+    list_any (same_text bytes n) names ≡ false → k.items ≡ text_of bytes n →
+    new ≡ insert_entry (λ a b. pointwise nat_eq a.items b.items) es k i → Looks bytes names es → new ≡ es ++ (k, i) ∷ []
+added_last bytes names es new n k i absent text is looks =
     let none : lookup (λ b. pointwise nat_eq k.items b.items) es ≡ None =
     ap (λ t. lookup (λ b. pointwise nat_eq t b.items) es) text ∙ looks (text_of bytes n) ∙ no_place (same_text bytes n) names absent in
-    let last : new ≡ es ++ (k, i) ∷ [] = is ∙ insert_new (λ a b. pointwise nat_eq a.items b.items) es k i none in
+    is ∙ insert_new (λ a b. pointwise nat_eq a.items b.items) es k i none
+
+-- a new text has the place after the others
+pub looks_more : (bytes : List ℕ) (names : List Name) (es new : List (Vec ℕ × ℕ)) (n : Name) (k : Vec ℕ) (i : ℕ) →
+    k.items ≡ text_of bytes n → i ≡ length names → new ≡ es ++ (k, i) ∷ [] → Looks bytes names es → Looks bytes (names ++ n ∷ []) new
+looks_more bytes names es new n k i text place last looks q =
     ap (lookup (λ b. pointwise nat_eq q b.items)) last
     ∙ lookup_more (λ b. pointwise nat_eq q b.items) es k i
     ∙ ap (λ o. or_else o (cond (pointwise nat_eq q k.items) (Some i) None)) (looks q)
