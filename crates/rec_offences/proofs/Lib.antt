@@ -7,3 +7,4 @@ pub mod Verdicts
 pub mod Groups
 pub mod Inputs
 pub mod Leasts
+pub mod Fresh
