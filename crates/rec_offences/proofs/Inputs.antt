@@ -26,7 +26,7 @@ count_from bytes headers (s ∷ ss) =
     omega (arith, more, rest)
 
 -- there is a header for each specification
-headers_counted : (bytes : List ℕ) (xs : List Specification) → length (headers_of bytes xs) ≡ length xs
+pub headers_counted : (bytes : List ℕ) (xs : List Specification) → length (headers_of bytes xs) ≡ length xs
 headers_counted bytes xs = let h = count_from bytes [] xs in omega (arith, h)
 
 pub record Turn (bytes : List ℕ) (xs : List Specification) (n : ℕ) (shown : Headed) (now start : Option Offence) : Type 0 where

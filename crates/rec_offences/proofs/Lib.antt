@@ -8,3 +8,4 @@ pub mod Groups
 pub mod Inputs
 pub mod Leasts
 pub mod Fresh
+pub mod Brought
