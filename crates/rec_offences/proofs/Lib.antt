@@ -9,3 +9,5 @@ pub mod Inputs
 pub mod Leasts
 pub mod Fresh
 pub mod Brought
+pub mod Materials
+pub mod Closed
