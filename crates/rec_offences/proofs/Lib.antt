@@ -11,3 +11,4 @@ pub mod Fresh
 pub mod Brought
 pub mod Materials
 pub mod Closed
+pub mod Walk
