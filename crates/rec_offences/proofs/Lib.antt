@@ -9,3 +9,8 @@ pub mod Groups
 pub mod Inputs
 pub mod Leasts
 pub mod Levels
+pub mod Fresh
+pub mod Brought
+pub mod Materials
+pub mod Closed
+pub mod Walk

@@ -6,6 +6,7 @@ pub mod Faults
 pub mod Listing
 pub mod Numbered
 pub mod Branches
+pub mod Walk
 pub mod Indexed
 pub mod KnownKept
 pub mod Inclusion

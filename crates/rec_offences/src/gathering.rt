@@ -1,13 +1,15 @@
 //! The material of a specification, gathered by a walk over what it includes.
-ghost use Rattle.std.specs.Prelude.{◌≡◌, ◌<◌, IfOk, OnOk, length};
+ghost use Rattle.std.specs.Prelude.{◌≡◌, ◌<◌, IfOk, OnOk, length, slice_get};
+ghost use Rattle.std.specs.Option.{option_map};
 ghost use Rattle.rec_offences.specs.Material.{fresh, with_numbers, material_of};
 ghost use Rattle.rec_offences.specs.Listing.{listing};
 ghost use Rattle.rec_offences.specs.Numbered.{header_names, IsClosed};
+ghost use Rattle.rec_offences.specs.Walk.{includes_at, after, missing};
 
 use crate::directory::Directory;
 use faults::Memory;
 use indexmap::IndexSet;
-use rec_reader::{Specification, Syntax};
+use rec_reader::{Name, Specification, Syntax};
 use std::alloc::Global;
 
 /// A specification that is being gathered, and which of its entries comes next.
@@ -32,6 +34,50 @@ pub(crate) fn header_names<'a>(
     Ok(names)
 }
 
+/// The entries of the specification with this number.
+fn includes_at(specifications: &[Specification], number: usize) -> &[Name]
+    ensures { result.now ≡ includes_at specifications.now number }
+{
+    match specifications.get(number) {
+        Some(specification) => specification.includes.as_slice(),
+        None => &[],
+    }
+}
+
+/// The entry that comes next in a visit, and the visit after it.
+fn next_entry(specifications: &[Specification], visit: Visit) -> Option<(Name, Visit)>
+    ensures { result ≡ option_map (λ entry. (entry, after visit))
+        (slice_get (includes_at specifications.now visit.number) visit.next) }
+{
+    let entry = *includes_at(specifications, visit.number).get(visit.next)?;
+    let next = visit.next + 1;
+    Some((
+        entry,
+        Visit {
+            number: visit.number,
+            next,
+        },
+    ))
+}
+
+/// The specification that an entry of the one with this number includes, unless it is there.
+fn missing(
+    headers: &Directory,
+    material: &IndexSet<usize>,
+    number: usize,
+    entry: Name,
+) -> Option<usize>
+    ensures { result
+        ≡ missing headers.now.bytes headers.now.names material.now.keys number entry }
+{
+    let place = headers.place_before(number, entry)?;
+    if material.contains(&place) {
+        None
+    } else {
+        Some(place)
+    }
+}
+
 /// Adds the material of the specification with this number, and gives what wasn't there. What is
 /// there is passed over: all of its own material is there too.
 pub(crate) fn gather(
@@ -51,7 +97,28 @@ pub(crate) fn gather(
     ensures added { IfOk result (λ v. v.items
         ≡ fresh material.old.keys (material_of headers.now.bytes specifications.now number)) }
 {
-    Err(Memory)
+    let mut added = Vec::new(alloc);
+    let mut visits = Vec::new(alloc);
+    visits.push(Visit { number, next: 0 })?;
+    while let Some(visit) = visits.pop() {
+        match next_entry(specifications, visit) {
+            Some((entry, rest)) => {
+                visits.push(rest)?;
+                if let Some(place) = missing(headers, material, visit.number, entry) {
+                    visits.push(Visit {
+                        number: place,
+                        next: 0,
+                    })?;
+                }
+            }
+            None => {
+                if material.insert(visit.number)? {
+                    added.push(visit.number)?;
+                }
+            }
+        }
+    }
+    Ok(added)
 }
 
 /// The material of the specification with this number, counted from 0: the numbers of those that it
@@ -61,5 +128,11 @@ pub fn material_of(alloc: Global, syntax: &Syntax, number: usize) -> Result<Vec<
     ensures { IfOk result (λ v. v.items
         ≡ material_of syntax.now.bytes syntax.now.specifications number) }
 {
-    Err(Memory)
+    let specifications = syntax.as_slice();
+    if number >= specifications.len() {
+        return Ok(Vec::new(alloc));
+    }
+    let headers = header_names(alloc, syntax.text(), specifications)?;
+    let mut material = IndexSet::new(alloc);
+    gather(alloc, &headers, specifications, &mut material, number)
 }

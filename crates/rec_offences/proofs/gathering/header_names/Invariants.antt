@@ -1,0 +1,11 @@
+use Rattle.std.proofs.Common.{◌≡◌, ◌++◌, drop}
+use Rattle.rec_offences.specs.Listing.{listing}
+use Rattle.rec_offences.specs.Numbered.{header_names}
+use Rattle.rec_offences.proofs.gathering.header_names.Given as goal
+
+abbrev pub invariant-loop-specification : goal.invariant-loop-specification
+invariant-loop-specification l =
+    record {
+      bytes : l.names.bytes ≡ l.text;
+      names : l.names.names ++ header_names (drop l.specification-index l.specifications) ≡ header_names l.specifications;
+    }
