@@ -1,16 +1,18 @@
 -- Levels: what is at hand is cut back from one to the one before.
-use Rattle.std.proofs.Common.{◌≡◌, ℕ, suc, ◌-◌, List, [], ◌∷◌, ◌++◌, length, map, take, drop, slice_get, Some, None, refl, sym, ap, ◌∙◌, arith}
-use Rattle.std.specs.List.{flat_map}
+use Rattle.std.proofs.Common.{◌≡◌, ℕ, suc, ◌-◌, List, [], ◌∷◌, ◌++◌, append-nil, length, map, take, drop, slice_get, Option, Some, None, refl, sym, ap, subst, ◌∙◌, arith}
+use Rattle.std.specs.Option.{option_map, option_to_list}
 use Rattle.std.proofs.lemmas.List.{length-map, take-append-drop}
-use Rattle.std.proofs.Math.Seq.{take-append_seam}
+use Rattle.std.proofs.Math.Seq.{take-append_seam, take-length}
 use Rattle.rec_reader.specs.declared.syntax_tree.Specification.{Specification}
-use Rattle.rec_offences.specs.Material.{material_of, specifications_at, symbols_of, sorts_of, rules_of}
+use Rattle.rec_offences.specs.Material.{material_of, symbols_of, sorts_of}
 use Rattle.rec_offences.specs.Faults.{included_entries}
 use Rattle.rec_offences.specs.Scope.{symbol_entry}
 use Rattle.rec_offences.specs.Listing.{Known, known, Listing, listing}
-use Rattle.rec_offences.specs.Inclusion.{counted, extent_of, IsFront, IsOn, Rises, last_material}
+use Rattle.rec_offences.specs.Inclusion.{extent_of, IsFront, IsOn, Rises, last_material, last_number}
 use Rattle.rec_offences.specs.declared.inclusion.Level.{Level}
+use Rattle.rec_offences.specs.Numbered.{IsClosed}
 use Rattle.rec_offences.proofs.Including.{at_append, entries_append}
+use Rattle.rec_offences.proofs.Closed.{closed_material}
 
 -- ---- a front of a list
 -- what is cut back to as much as a front has is the front
@@ -53,6 +55,20 @@ module _ (bytes : List ℕ) (specifications : List Specification) (front whole :
 one_further : {A : Type 0} (x y : A) (ys : List A) → slice_get (x ∷ y ∷ ys) (length (x ∷ y ∷ ys) - 1) ≡ slice_get (y ∷ ys) (length (y ∷ ys) - 1)
 one_further x y ys = let e : length (x ∷ y ∷ ys) - 1 ≡ suc (length (y ∷ ys) - 1) = omega arith in ap (slice_get (x ∷ y ∷ ys)) e
 
+-- no level is last where there is none
+none_last : (ls : List Level) → None ≡ slice_get ls (length ls - 1) → ls ≡ []
+none_last [] e = refl
+none_last (x ∷ []) e = absurd (let bad : None ≡ Some x = e in cc)
+none_last (x ∷ y ∷ ls) e = absurd (let bad : y ∷ ls ≡ [] = none_last (y ∷ ls) (e ∙ one_further x y ls) in cc)
+
+-- where the last level has no number, there is none
+pub no_level : (ls : List Level) → ((n : ℕ) → last_number ls ≡ Some n → ⊥) → ls ≡ []
+no_level ls none = none_last ls (sym (by (slice_get ls (length ls - 1)) none))
+  where
+    by : (o : Option Level) → ((n : ℕ) → option_map (λ l. l.number) o ≡ Some n → ⊥) → o ≡ None
+    by None h = refl
+    by (Some l) h = absurd (h l.number refl)
+
 module _ (bytes : List ℕ) (specifications : List Specification) where
   pub last_pushed : (before : List ℕ) (ls : List Level) (l : Level) → last_material bytes specifications before (ls ++ l ∷ []) ≡ material_of bytes specifications l.number
   last_pushed before [] l = refl
@@ -76,14 +92,33 @@ module _ (bytes : List ℕ) (specifications : List Specification) where
   last_extent before (x ∷ []) l e r = let same : l ≡ x = cc in ap (λ y. y.extent) same ∙ r.0.extent
   last_extent before (x ∷ y ∷ ls) l e r = last_extent (material_of bytes specifications x.number) (y ∷ ls) l (e ∙ one_further x y ls) r.1
 
-  -- no level is last where there is none
-  pub none_last : (before : List ℕ) (ls : List Level) → None ≡ slice_get ls (length ls - 1) → ls ≡ []
-  none_last before [] e = refl
-  none_last before (x ∷ []) e = absurd (let bad : None ≡ Some x = e in cc)
-  none_last before (x ∷ y ∷ ls) e = absurd (let bad : y ∷ ls ≡ [] = none_last before (y ∷ ls) (e ∙ one_further x y ls) in cc)
-
   -- the material of the last level is that of its number
   pub last_is : (before : List ℕ) (ls : List Level) (l : Level) → Some l ≡ slice_get ls (length ls - 1) → last_material bytes specifications before ls ≡ material_of bytes specifications l.number
   last_is before [] l e = absurd cc
   last_is before (x ∷ []) l e = let same : x ≡ l = cc in ap (λ y. material_of bytes specifications y.number) same
   last_is before (x ∷ y ∷ ls) l e = last_is (material_of bytes specifications x.number) (y ∷ ls) l (e ∙ one_further x y ls)
+
+  pub last_closed : (before : List ℕ) (ls : List Level) → IsClosed bytes specifications before → IsClosed bytes specifications (last_material bytes specifications before ls)
+  last_closed before [] is = is
+  last_closed before (x ∷ ls) is = last_closed (material_of bytes specifications x.number) ls (closed_material bytes specifications x.number)
+
+  -- after the last level was left
+  pub record Left (old new : List Level) : Type 0 where
+    pub levels : Rises bytes specifications [] new
+    pub front : IsFront (last_material bytes specifications [] new) (last_material bytes specifications [] old)
+
+  pub left : (old new : List Level) (popped : Option Level) → old ≡ new ++ option_to_list popped → Rises bytes specifications [] old → Left old new
+  left old new None e r =
+      let same : new ≡ old = sym (append-nil new) ∙ sym e in
+      let P : List Level → Type 0 = λ ls. Left old ls in
+      subst P (sym same) (record { levels = r; front = take-length (last_material bytes specifications [] old) })
+  left old new (Some l) e r =
+      let P : List Level → Type 0 = λ ls. Left ls new in
+      let R : List Level → Type 0 = λ ls. Rises bytes specifications [] ls in
+      let rises : Rises bytes specifications [] (new ++ l ∷ []) = subst R e r in
+      subst P (sym e) (record {
+        levels = rises_popped [] new l rises;
+        front =
+            ap (take (length (last_material bytes specifications [] new))) (last_pushed [] new l)
+            ∙ (last_on [] new l rises).front;
+      })

@@ -1,0 +1,12 @@
+use Rattle.std.proofs.Common.{ℕ, List, length}
+use Rattle.rec_reader.specs.declared.syntax_tree.Specification.{Specification}
+use Rattle.rec_offences.specs.Inclusion.{IsAtLevel}
+use Rattle.rec_offences.proofs.inclusion.Inclusion.return_to.Given as goal
+
+abbrev pub invariant-loop-last : goal.invariant-loop-last
+invariant-loop-last l =
+    (bytes : List ℕ) (specifications : List Specification) → IsAtLevel bytes specifications l.initial.self → IsAtLevel bytes specifications l.self
+
+-- one level less is left
+abbrev pub decreases-loop-last : goal.decreases-loop-last
+decreases-loop-last l = length l.self.levels.items
