@@ -4,7 +4,9 @@ pub mod Noted
 pub mod Order
 pub mod Places
 pub mod Fronts
+pub mod Forests
 pub mod Verdicts
 pub mod Groups
 pub mod Inputs
 pub mod Leasts
+pub mod AnyOrder
