@@ -24,7 +24,7 @@ back a b h = not_back a.offset a.kind b.offset b.kind h
 further : (a b c : Offence) → goes_before a b ≡ false → goes_before b c ≡ false → goes_before a c ≡ false
 further a b c h g = not_further a.offset a.kind b.offset b.kind c.offset c.kind h g
 
-in_none : (p : Offence) → Contains [] p → ⊥
+pub in_none : (p : Offence) → Contains [] p → ⊥
 in_none p c = let l = c.1 in absurd (omega (arith, l))
 
 at_head : (x : Offence) (os : List Offence) → Contains (x ∷ os) x
@@ -82,7 +82,7 @@ least found (x ∷ os) = by (goes_before x found) refl (least x os) (least found
           ];
         }
 
-of_all : (os : List Offence) (fault : Offence) → least_with None os ≡ Some fault → IsLeastOf os fault
+pub of_all : (os : List Offence) (fault : Offence) → least_with None os ≡ Some fault → IsLeastOf os fault
 of_all [] fault h = absurd cc
 of_all (x ∷ os) fault h =
     let l = least x os in
@@ -102,7 +102,7 @@ of_all (x ∷ os) fault h =
 pub fault_is_least : (syntax : Parsed) (fault : Offence) → fault_of syntax ≡ Some fault → IsLeastOf (offences_of syntax) fault
 fault_is_least syntax fault h = of_all (offences_of syntax) fault h
 
-none_of_all : (os : List Offence) → least_with None os ≡ None → os ≡ []
+pub none_of_all : (os : List Offence) → least_with None os ≡ None → os ≡ []
 none_of_all [] h = refl
 none_of_all (x ∷ os) h = absurd (let bad : Some (least x os).offence ≡ None = sym (least x os).is ∙ h in cc)
 

@@ -4,6 +4,7 @@ pub mod Noted
 pub mod Order
 pub mod Places
 pub mod Fronts
+pub mod Forests
 pub mod Verdicts
 pub mod Groups
 pub mod Inputs
@@ -14,3 +15,4 @@ pub mod Brought
 pub mod Materials
 pub mod Closed
 pub mod Walk
+pub mod AnyOrder

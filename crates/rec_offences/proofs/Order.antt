@@ -22,7 +22,7 @@ not_before a b c d e f h k = grind (arith, nat_tests)
 one_way : (x y : Offence) → goes_before x y ≡ true → goes_before y x ≡ false
 one_way x y h = first_before x.offset y.offset x.kind y.kind h
 
-only_same : (x y : Offence) → goes_before x y ≡ false → goes_before y x ≡ false → x ≡ y
+pub only_same : (x y : Offence) → goes_before x y ≡ false → goes_before y x ≡ false → x ≡ y
 only_same x y h k = λ i. record { kind = same_kind x.offset y.offset x.kind y.kind h k i; offset = same_offset x.offset y.offset x.kind y.kind h k i }
 
 along : (x y z : Offence) → goes_before x y ≡ false → goes_before y z ≡ false → goes_before x z ≡ false

@@ -1,8 +1,8 @@
 use Rattle.std.proofs.Common.{◌≡◌, ◌+◌, ◌-◌, ◌*◌, ◌<◌, ◌≤◌, ℕ, length, All, Contains}
 use Rattle.rec_offences.proofs.ordering.walk.Given as goal
 
-abbrev pub invariant-loop-stack : goal.invariant-loop-stack
-invariant-loop-stack l =
+abbrev pub invariant-loop-number : goal.invariant-loop-number
+invariant-loop-number l =
     record {
       below : All (λ n. n < length l.branches) l.order.keys;
       count : length l.order.keys ≤ length l.branches;
@@ -11,5 +11,5 @@ invariant-loop-stack l =
       there : Contains l.order.keys l.root;
     }
 
-abbrev pub decreases-loop-stack : goal.decreases-loop-stack
-decreases-loop-stack l = 2 * (length l.branches - length l.order.keys) + length l.stack.items
+abbrev pub decreases-loop-number : goal.decreases-loop-number
+decreases-loop-number l = 2 * (length l.branches - length l.order.keys) + length l.stack.items

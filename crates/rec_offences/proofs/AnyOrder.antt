@@ -1,0 +1,107 @@
+-- The fault is the least of all offences, in whatever order the specifications come.
+use Rattle.std.proofs.Common.{◌≡◌, ◌⊎◌, inl, inr, ℕ, zero, suc, ◌+◌, ◌<◌, ◌≤◌, List, [], ◌∷◌, ◌++◌, append_assoc, append-nil, length, length-append, take, slice_get, Option, Some, None, All, Contains, refl, sym, ap, subst, ◌∙◌, arith}
+use Rattle.std.specs.List.{flat_map}
+use Rattle.std.specs.Option.{option_map_or}
+use Rattle.std.proofs.lemmas.List.{take-append-le}
+use Rattle.std.proofs.lemmas.List.Elements.{All-head, All-tail, Contains-append_left, Contains-append_right, Contains-append_cases}
+use Rattle.rec_reader.specs.declared.syntax_tree.Specification.{Specification}
+use Rattle.rec_reader.specs.Parsed.{Parsed}
+use Rattle.rec_offences.specs.declared.offence.Offence.{Offence}
+use Rattle.rec_offences.specs.Faults.{least_with, offences_after, offences_from, fault_of}
+use Rattle.rec_offences.specs.Laws.{IsLeastOf}
+use Rattle.rec_offences.specs.Numbered.{offences_at}
+use Rattle.rec_offences.proofs.Leasts.{in_none, of_all, none_of_all}
+use Rattle.rec_offences.proofs.Order.{only_same}
+
+-- each of one list is in another
+abbrev IsWithin : List Offence → List Offence → Type 0
+IsWithin xs ys = (p : Offence) → Contains xs p → Contains ys p
+
+some_within : (xs ys : List Offence) (x : Offence) → IsWithin xs ys → least_with None xs ≡ Some x → least_with None ys ≡ None → Some x ≡ None
+some_within xs ys x h e f = absurd (in_none x (subst (λ l. Contains l x) (none_of_all ys f) (h x (of_all xs x e).one)))
+
+-- the least of the same offences is the same
+least_same : (xs ys : List Offence) → IsWithin xs ys → IsWithin ys xs → least_with None xs ≡ least_with None ys
+least_same xs ys to from = by (least_with None xs) (least_with None ys) refl refl
+  where
+    by : (a b : Option Offence) → least_with None xs ≡ a → least_with None ys ≡ b → a ≡ b
+    by None None e f = refl
+    by None (Some y) e f = sym (some_within ys xs y from f e)
+    by (Some x) None e f = some_within xs ys x to e f
+    by (Some x) (Some y) e f =
+        let least = of_all xs x e in
+        let other = of_all ys y f in
+        ap Some (only_same x y (other.least x (to x least.one)) (least.least y (from y other.one)))
+
+-- an offence of one of the numbers
+in_one : (f : ℕ → List Offence) (ns : List ℕ) (n : ℕ) → Contains ns n → IsWithin (f n) (flat_map f ns)
+in_one f [] n c p h = let l = c.1 in absurd (omega (arith, l))
+in_one f (m ∷ ns) n (zero, l, e) p h = Contains-append_left (f m) (flat_map f ns) p (subst (λ k. Contains (f k) p) (sym e) h)
+in_one f (m ∷ ns) n (suc i, l, e) p h = Contains-append_right (f m) (flat_map f ns) p (in_one f ns n (i, omega (arith, l), e) p h)
+
+of_one : (f : ℕ → List Offence) (P : ℕ → Type 0) (os : List Offence) (ns : List ℕ) → All P ns → ((n : ℕ) → P n → IsWithin (f n) os) → IsWithin (flat_map f ns) os
+of_one f P os [] all h p c = absurd (in_none p c)
+of_one f P os (n ∷ ns) all h p c = elim (Contains-append_cases (f n) (flat_map f ns) p c) [
+  | inl here ↦ h n (All-head P n ns all) p here
+  | inr there ↦ of_one f P os ns (All-tail P n ns all) h p there
+]
+
+middle : (xs ys : List Specification) (s : Specification) → slice_get (xs ++ s ∷ ys) (length xs) ≡ Some s
+middle [] ys s = refl
+middle (x ∷ xs) ys s = middle xs ys s
+
+front : (xs ys : List Specification) → take (length xs) (xs ++ ys) ≡ xs
+front [] ys = refl
+front (x ∷ xs) ys = ap (λ zs. x ∷ zs) (front xs ys)
+
+-- the offences of the one after these
+at_middle : (bytes : List ℕ) (xs ys : List Specification) (s : Specification) → offences_at bytes (xs ++ s ∷ ys) (length xs) ≡ offences_after bytes xs s
+at_middle bytes xs ys s =
+    ap (λ o. option_map_or (λ t. offences_after bytes (take (length xs) (xs ++ s ∷ ys)) t) o []) (middle xs ys s)
+    ∙ ap (λ zs. offences_after bytes zs s) (front xs (s ∷ ys))
+
+regrouped : (xs ys : List Specification) (s : Specification) → (xs ++ s ∷ []) ++ ys ≡ xs ++ s ∷ ys
+regrouped xs ys s = append_assoc xs (s ∷ []) ys
+
+-- each offence is one of a specification with a number
+at_some : (bytes : List ℕ) (xs ys : List Specification) (p : Offence) → Contains (offences_from bytes xs ys) p →
+    (n : ℕ) × (n < length (xs ++ ys)) × Contains (offences_at bytes (xs ++ ys) n) p
+at_some bytes xs [] p c = absurd (in_none p c)
+at_some bytes xs (s ∷ ys) p c = elim (Contains-append_cases (offences_after bytes xs s) (offences_from bytes (xs ++ s ∷ []) ys) p c) [
+  | inl here ↦ (length xs, let l = length-append xs (s ∷ ys) in omega (arith, l), subst (λ os. Contains os p) (sym (at_middle bytes xs ys s)) here)
+  | inr there ↦
+    subst
+    (λ all. (n : ℕ) × (n < length all) × Contains (offences_at bytes all n) p)
+    (regrouped xs ys s)
+    (at_some bytes (xs ++ s ∷ []) ys p there)
+]
+
+-- and each of those is one of all
+in_all : (bytes : List ℕ) (xs ys : List Specification) (n : ℕ) → length xs ≤ n → n < length (xs ++ ys) → IsWithin (offences_at bytes (xs ++ ys) n) (offences_from bytes xs ys)
+in_all bytes xs [] n least l p c = let k = ap length (append-nil xs) in absurd (omega (arith, k, l, least))
+in_all bytes xs (s ∷ ys) n least l p c = by (elim_first (length xs) n least) (in_all bytes (xs ++ s ∷ []) ys n)
+  where
+    elim_first : (a b : ℕ) → a ≤ b → (a ≡ b) ⊎ (a + 1 ≤ b)
+    elim_first a b h = ?
+
+    by : (length xs ≡ n) ⊎ (length xs + 1 ≤ n) →
+        (length (xs ++ s ∷ []) ≤ n → n < length ((xs ++ s ∷ []) ++ ys) → IsWithin (offences_at bytes ((xs ++ s ∷ []) ++ ys) n) (offences_from bytes (xs ++ s ∷ []) ys)) →
+        Contains (offences_from bytes xs (s ∷ ys)) p
+    by (inl e) rest =
+        Contains-append_left (offences_after bytes xs s) (offences_from bytes (xs ++ s ∷ []) ys) p
+        (subst (λ os. Contains os p) (ap (offences_at bytes (xs ++ s ∷ ys)) (sym e) ∙ at_middle bytes xs ys s) c)
+    by (inr m) rest =
+        let k = length-append xs (s ∷ []) in
+        let g = regrouped xs ys s in
+        Contains-append_right (offences_after bytes xs s) (offences_from bytes (xs ++ s ∷ []) ys) p
+        (rest (omega (arith, k, m)) (subst (λ all. n < length all) (sym g) l) p (subst (λ all. Contains (offences_at bytes all n) p) (sym g) c))
+
+pub in_any_order : (syntax : Parsed) (order : List ℕ) → ((n : ℕ) → n < length syntax.specifications → Contains order n) → All (λ n. n < length syntax.specifications) order →
+    least_with None (flat_map (offences_at syntax.bytes syntax.specifications) order) ≡ fault_of syntax
+in_any_order syntax order all no_others =
+    let bytes = syntax.bytes in
+    let ss = syntax.specifications in
+    let f = offences_at bytes ss in
+    least_same (flat_map f order) (offences_from bytes [] ss)
+    (of_one f (λ n. n < length ss) (offences_from bytes [] ss) order no_others (λ n l. in_all bytes [] ss n (omega arith) l))
+    (λ p c. let at = at_some bytes [] ss p c in in_one f order at.0 (all at.0 at.1) p at.2)
