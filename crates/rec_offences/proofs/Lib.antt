@@ -12,3 +12,4 @@ pub mod Brought
 pub mod Materials
 pub mod Closed
 pub mod Walk
+pub mod Steps
