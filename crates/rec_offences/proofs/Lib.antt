@@ -13,3 +13,4 @@ pub mod Materials
 pub mod Closed
 pub mod Walk
 pub mod Steps
+pub mod Weight
