@@ -16,3 +16,5 @@ pub mod Materials
 pub mod Closed
 pub mod Walk
 pub mod AnyOrder
+pub mod Steps
+pub mod Weight
