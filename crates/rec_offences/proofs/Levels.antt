@@ -19,7 +19,7 @@ use Rattle.rec_offences.proofs.Closed.{closed_material}
 pub front_cut : {A : Type 0} (front rest : List A) (n : ℕ) → n ≡ length front → take n (front ++ rest) ≡ front
 front_cut front rest n e = ap (λ k. take k (front ++ rest)) e ∙ take-append_seam front rest
 
-whole_of : (front whole : List ℕ) → IsFront front whole → whole ≡ front ++ drop (length front) whole
+pub whole_of : (front whole : List ℕ) → IsFront front whole → whole ≡ front ++ drop (length front) whole
 whole_of front whole is = sym (take-append-drop (length front) whole) ∙ ap (λ ns. ns ++ drop (length front) whole) is
 
 module _ (bytes : List ℕ) (specifications : List Specification) (front whole : List ℕ) (is : IsFront front whole) where

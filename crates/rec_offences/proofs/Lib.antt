@@ -10,6 +10,7 @@ pub mod Groups
 pub mod Inputs
 pub mod Leasts
 pub mod Levels
+pub mod Along
 pub mod Fresh
 pub mod Brought
 pub mod Materials

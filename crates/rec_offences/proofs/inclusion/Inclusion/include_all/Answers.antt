@@ -1,31 +1,92 @@
-use Rattle.std.proofs.Common.{ℕ, ◌+◌, List, ◌∷◌, [], ◌++◌, append_assoc, drop, map, fold, get_or, ap, sym, ◌∙◌}
+use Rattle.std.proofs.Common.{◌≡◌, ℕ, ◌+◌, Bool, false, List, [], ◌∷◌, ◌++◌, None, Some, Option, drop, take, get_or, refl, ap, sym, subst, ◌∙◌, arith}
 use Rattle.rec_reader.specs.declared.token.Name.{Name}
-use Rattle.rec_offences.specs.Material.{brought, with_numbers}
-use Rattle.rec_offences.specs.Offences.{include, includes_from}
-use Rattle.rec_offences.specs.Inclusion.{verdict_of}
-use Rattle.rec_offences.proofs.Gathered.{drop_at, default_in}
-use Rattle.rec_offences.proofs.inclusion.included.Goals as goal
+use Rattle.rec_offences.specs.declared.entries.Verdict.{Verdict}
+use Rattle.rec_offences.specs.declared.inclusion.Inclusion.{Inclusion}
+use Rattle.rec_offences.specs.Names.{same_text}
+use Rattle.rec_offences.specs.Listing.{place_in}
+use Rattle.rec_offences.specs.Numbered.{header_names, target}
+use Rattle.rec_offences.proofs.Brought.{target_before}
+use Rattle.rec_offences.proofs.Gathered.{drop_at, drop_all, default_in}
+use Rattle.rec_offences.proofs.Along.{Along, Ended, begun, ended, past_unknown, past_first, past_other}
+use Rattle.rec_offences.proofs.inclusion.Inclusion.include_all.Goals as goal
+use Rattle.rec_offences.proofs.inclusion.Inclusion.include_all.Goals.{in-None, in-Some, in-Some-2+in_ok-verdict-in-Some-2}
+
+-- what an entry includes, by the headers as they are kept
+targeted : (bytes : List ℕ) (names headers : List Name) (number : ℕ) (x : Name) (found o : Option ℕ) → names ≡ headers → found ≡ place_in (same_text bytes x) (take number names) → found ≡ o →
+    target bytes headers number x ≡ o
+targeted bytes names headers number x found o e is was = ap (λ ns. place_in (same_text bytes x) (take number ns)) (sym e) ∙ sym is ∙ was
+
+blank : Name
+blank = record { start = 0; end = 0 }
+
+pub include-requires-clause-there : goal.include-requires-clause-there
+unfolding blank
+include-requires-clause-there c =
+    let h = c.args.headers.now in
+    let specifications = c.args.specifications.now in
+    let number = c.args.number in
+    let x = get_or c.args.entries.now c.loop-entry.entry-index blank in
+    (target_before h.bytes specifications number x c.in-Some.field-0
+    (targeted h.bytes h.names (header_names specifications) number x c.place_before.result (Some c.in-Some.field-0) c.requires.names c.place_before.ensures c.in-Some.is)).1
 
 pub loop-entry-preserved : goal.loop-entry-preserved
+unfolding blank
 loop-entry-preserved c =
-    let bytes = c.args.headers.now.bytes in
-    let headers = c.args.headers.now.headers in
+    let h = c.args.headers.now in
+    let bytes = h.bytes in
+    let specifications = c.args.specifications.now in
+    let number = c.args.number in
     let xs = c.args.entries.now in
-    let i = c.loop-entry.entry-index in
-    let blank : Name = record { start = 0; end = 0 } in
+    let l = c.loop-entry in
+    let i = l.entry-index in
     let x = get_or xs i blank in
     let rest = drop (i + 1) xs in
-    let more : List ℕ → Name → List ℕ = λ numbers n. with_numbers numbers (brought bytes headers n) in
     let here = drop_at xs i x c.loop-entry-test.true (default_in xs i blank x c.loop-entry-test.true) in
-    let k = c.loop-entry.inclusion.material.keys in
-    let keys = c.in_ok-include.ensures.material in
-    let verdict = verdict_of bytes c.args.earlier.now in
-    record {
-      kept = c.in_ok-include.ensures.kept;
-      material = ap (λ numbers. fold more numbers rest) keys ∙ ap (fold more k) (sym here) ∙ c.loop-entry.invariant.material;
-      verdicts =
-          (λ j. c.in_ok-include.ensures.verdict j ++ map verdict (includes_from bytes headers (keys j) rest))
-          ∙ append_assoc c.loop-entry.inclusion.verdicts.items (verdict (include x k (brought bytes headers x)) ∷ []) (map verdict (includes_from bytes headers (more k x) rest))
-          ∙ ap (λ ns. c.loop-entry.inclusion.verdicts.items ++ map verdict (includes_from bytes headers k ns)) (sym here)
-          ∙ c.loop-entry.invariant.verdicts;
-    }
+    let P : List Name → Type 0 = λ ns. Along bytes specifications number xs ns l.is_there l.verdicts.items l.self in
+    let a : Along bytes specifications number xs (x ∷ rest) l.is_there l.verdicts.items l.self = subst P here l.invariant in
+    let pushed = c.in_ok-push.ensures.items in
+    let names = c.requires.names in
+    let A : Bool → Inclusion → Type 0 = λ b j. Along bytes specifications number xs rest b c.push.new.self.items j in
+    let Q : Bool → Type 0 = λ b. Along bytes specifications number xs (x ∷ rest) b l.verdicts.items l.self in
+    let more : (v : Verdict) → c.match-place_before.verdict ≡ v → c.push.new.self.items ≡ l.verdicts.items ++ v ∷ [] = λ v e. pushed ∙ ap (λ u. l.verdicts.items ++ u ∷ []) e in
+    let settled : (b : Bool) (j : Inclusion) → c.match-place_before.is_there ≡ b → c.match-place_before.self ≡ j → A b j → A c.match-place_before.is_there c.match-place_before.self =
+    λ b j e f k. subst (λ d. A d c.match-place_before.self) (sym e) (subst (A b) (sym f) k) in
+    elim c.match-place_before.branch [
+      | in-None w ↦
+        settled l.is_there l.self w.is_there-is w.self-is
+        (past_unknown bytes specifications number xs rest x l.is_there l.verdicts.items c.push.new.self.items l.self a (more _ w.verdict-is)
+        (targeted bytes h.names (header_names specifications) number x c.place_before.result None names c.place_before.ensures w.in-None.is))
+      | in-Some w ↦
+        settled false l.self w.is_there-is w.self-is
+        (past_first bytes specifications number xs rest x l.verdicts.items c.push.new.self.items w.verdict_on_first-verdict.result w.in-Some.field-0 l.self
+        (subst Q w.if-is_there.true a) (more w.verdict_on_first-verdict.result w.verdict-is)
+        (targeted bytes h.names (header_names specifications) number x c.place_before.result (Some w.in-Some.field-0) names c.place_before.ensures w.in-Some.is)
+        (w.verdict_on_first-verdict.ensures bytes specifications a.inclusion))
+      | in-Some-2+in_ok-verdict-in-Some-2 w ↦
+        let v = w.in_ok-verdict-in-Some-2.verdict in
+        settled false w.include.new.self (w.is_there-is ∙ w.if-is_there.false) w.self-is
+        (past_other bytes specifications number xs rest x l.verdicts.items c.push.new.self.items v w.in-Some.field-0 l.self w.include.new.self
+        (subst Q w.if-is_there.false a) (more v w.verdict-is)
+        (targeted bytes h.names (header_names specifications) number x c.place_before.result (Some w.in-Some.field-0) names c.place_before.ensures w.in-Some.is)
+        w.in_ok-verdict-in-Some-2.ensures.verdict w.in_ok-verdict-in-Some-2.ensures.kept w.include.ensures.levels w.in_ok-verdict-in-Some-2.ensures.material)
+    ]
+
+at_end : (c : goal.After-loop-entry) → Ended c.args.headers.now.bytes c.args.specifications.now c.args.number c.args.entries.now c.loop-entry.verdicts.items c.loop-entry.self
+at_end c =
+    let xs = c.args.entries.now in
+    let l = c.loop-entry in
+    let P : List Name → Type 0 = λ ns. Along c.args.headers.now.bytes c.args.specifications.now c.args.number xs ns l.is_there l.verdicts.items l.self in
+    ended c.args.headers.now.bytes c.args.specifications.now c.args.number xs l.is_there l.verdicts.items l.self
+    (subst P (drop_all xs l.entry-index (omega (arith, c.loop-entry-test.false))) l.invariant)
+
+pub returns-clause-past : goal.returns-clause-past
+unfolding at_end
+returns-clause-past c = (at_end c).past
+
+pub returns-clause-material : goal.returns-clause-material
+unfolding at_end
+returns-clause-material c = (at_end c).material
+
+pub returns-clause-verdicts : goal.returns-clause-verdicts
+unfolding at_end
+returns-clause-verdicts c = (at_end c).judged
