@@ -1,10 +1,9 @@
 //! The material of a specification, gathered by a walk over what it includes.
-ghost use Rattle.std.specs.Prelude.{◌≡◌, ◌<◌, IfOk, OnOk, length, slice_get};
-ghost use Rattle.std.specs.Option.{option_map};
+ghost use Rattle.std.specs.Prelude.{◌≡◌, ◌<◌, ◌++◌, ◌∷◌, [], IfOk, OnOk, length};
 ghost use Rattle.rec_offences.specs.Material.{fresh, with_numbers, material_of};
 ghost use Rattle.rec_offences.specs.Listing.{listing};
 ghost use Rattle.rec_offences.specs.Numbered.{header_names, IsClosed};
-ghost use Rattle.rec_offences.specs.Walk.{includes_at, after, missing};
+ghost use Rattle.rec_offences.specs.Walk.{includes_at, next_in, missing};
 
 use crate::directory::Directory;
 use faults::Memory;
@@ -46,8 +45,7 @@ fn includes_at(specifications: &[Specification], number: usize) -> &[Name]
 
 /// The entry that comes next in a visit, and the visit after it.
 fn next_entry(specifications: &[Specification], visit: Visit) -> Option<(Name, Visit)>
-    ensures { result ≡ option_map (λ entry. (entry, after visit))
-        (slice_get (includes_at specifications.now visit.number) visit.next) }
+    ensures { result ≡ next_in specifications.now visit }
 {
     let entry = *includes_at(specifications, visit.number).get(visit.next)?;
     let next = visit.next + 1;
@@ -76,6 +74,23 @@ fn missing(
     } else {
         Some(place)
     }
+}
+
+/// Adds a number to a material, and where it is new to what was added.
+fn add(
+    material: &mut IndexSet<usize>,
+    added: &mut Vec<usize>,
+    number: usize,
+) -> Result<(), Memory>
+    ensures material { OnOk result (material.new.keys
+        ≡ with_numbers material.old.keys (number ∷ [])) }
+    ensures added { OnOk result (added.new.items
+        ≡ added.old.items ++ fresh material.old.keys (number ∷ [])) }
+{
+    if material.insert(number)? {
+        added.push(number)?;
+    }
+    Ok(())
 }
 
 /// Adds the material of the specification with this number, and gives what wasn't there. What is
@@ -111,11 +126,7 @@ pub(crate) fn gather(
                     })?;
                 }
             }
-            None => {
-                if material.insert(visit.number)? {
-                    added.push(visit.number)?;
-                }
-            }
+            None => add(material, &mut added, visit.number)?,
         }
     }
     Ok(added)
