@@ -11,6 +11,7 @@ pub mod Inputs
 pub mod Leasts
 pub mod Levels
 pub mod Along
+pub mod Entered
 pub mod Fresh
 pub mod Brought
 pub mod Materials
