@@ -70,10 +70,10 @@ at_some bytes xs [] p c = absurd (in_none p c)
 at_some bytes xs (s ∷ ys) p c = elim (Contains-append_cases (offences_after bytes xs s) (offences_from bytes (xs ++ s ∷ []) ys) p c) [
   | inl here ↦ (length xs, let l = length-append xs (s ∷ ys) in omega (arith, l), subst (λ os. Contains os p) (sym (at_middle bytes xs ys s)) here)
   | inr there ↦
-    subst
-    (λ all. (n : ℕ) × (n < length all) × Contains (offences_at bytes all n) p)
-    (regrouped xs ys s)
-    (at_some bytes (xs ++ s ∷ []) ys p there)
+      subst
+      (λ all. (n : ℕ) × (n < length all) × Contains (offences_at bytes all n) p)
+      (regrouped xs ys s)
+      (at_some bytes (xs ++ s ∷ []) ys p there)
 ]
 
 -- and each of those is one of all
