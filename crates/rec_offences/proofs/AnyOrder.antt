@@ -2,7 +2,7 @@
 use Rattle.std.proofs.Common.{◌≡◌, ◌⊎◌, inl, inr, ℕ, zero, suc, ◌+◌, ◌<◌, ◌≤◌, List, [], ◌∷◌, ◌++◌, append_assoc, append-nil, length, length-append, take, slice_get, Option, Some, None, All, Contains, refl, sym, ap, subst, ◌∙◌, arith}
 use Rattle.std.specs.List.{flat_map}
 use Rattle.std.specs.Option.{option_map_or}
-use Rattle.std.proofs.lemmas.List.{take-append-le}
+use Rattle.std.proofs.lemmas.Bool.{cases_lt}
 use Rattle.std.proofs.lemmas.List.Elements.{All-head, All-tail, Contains-append_left, Contains-append_right, Contains-append_cases}
 use Rattle.rec_reader.specs.declared.syntax_tree.Specification.{Specification}
 use Rattle.rec_reader.specs.Parsed.{Parsed}
@@ -70,31 +70,29 @@ at_some bytes xs [] p c = absurd (in_none p c)
 at_some bytes xs (s ∷ ys) p c = elim (Contains-append_cases (offences_after bytes xs s) (offences_from bytes (xs ++ s ∷ []) ys) p c) [
   | inl here ↦ (length xs, let l = length-append xs (s ∷ ys) in omega (arith, l), subst (λ os. Contains os p) (sym (at_middle bytes xs ys s)) here)
   | inr there ↦
-    subst
-    (λ all. (n : ℕ) × (n < length all) × Contains (offences_at bytes all n) p)
-    (regrouped xs ys s)
-    (at_some bytes (xs ++ s ∷ []) ys p there)
+      subst
+      (λ all. (n : ℕ) × (n < length all) × Contains (offences_at bytes all n) p)
+      (regrouped xs ys s)
+      (at_some bytes (xs ++ s ∷ []) ys p there)
 ]
 
 -- and each of those is one of all
 in_all : (bytes : List ℕ) (xs ys : List Specification) (n : ℕ) → length xs ≤ n → n < length (xs ++ ys) → IsWithin (offences_at bytes (xs ++ ys) n) (offences_from bytes xs ys)
 in_all bytes xs [] n least l p c = let k = ap length (append-nil xs) in absurd (omega (arith, k, l, least))
-in_all bytes xs (s ∷ ys) n least l p c = by (elim_first (length xs) n least) (in_all bytes (xs ++ s ∷ []) ys n)
+in_all bytes xs (s ∷ ys) n least l p c = by (cases_lt (length xs) n) (in_all bytes (xs ++ s ∷ []) ys n)
   where
-    elim_first : (a b : ℕ) → a ≤ b → (a ≡ b) ⊎ (a + 1 ≤ b)
-    elim_first a b h = ?
-
-    by : (length xs ≡ n) ⊎ (length xs + 1 ≤ n) →
+    by : (length xs < n) ⊎ (n ≤ length xs) →
         (length (xs ++ s ∷ []) ≤ n → n < length ((xs ++ s ∷ []) ++ ys) → IsWithin (offences_at bytes ((xs ++ s ∷ []) ++ ys) n) (offences_from bytes (xs ++ s ∷ []) ys)) →
         Contains (offences_from bytes xs (s ∷ ys)) p
-    by (inl e) rest =
-        Contains-append_left (offences_after bytes xs s) (offences_from bytes (xs ++ s ∷ []) ys) p
-        (subst (λ os. Contains os p) (ap (offences_at bytes (xs ++ s ∷ ys)) (sym e) ∙ at_middle bytes xs ys s) c)
-    by (inr m) rest =
+    by (inl m) rest =
         let k = length-append xs (s ∷ []) in
         let g = regrouped xs ys s in
         Contains-append_right (offences_after bytes xs s) (offences_from bytes (xs ++ s ∷ []) ys) p
         (rest (omega (arith, k, m)) (subst (λ all. n < length all) (sym g) l) p (subst (λ all. Contains (offences_at bytes all n) p) (sym g) c))
+    by (inr m) rest =
+        let e : length xs ≡ n = omega arith in
+        Contains-append_left (offences_after bytes xs s) (offences_from bytes (xs ++ s ∷ []) ys) p
+        (subst (λ os. Contains os p) (ap (offences_at bytes (xs ++ s ∷ ys)) (sym e) ∙ at_middle bytes xs ys s) c)
 
 pub in_any_order : (syntax : Parsed) (order : List ℕ) → ((n : ℕ) → n < length syntax.specifications → Contains order n) → All (λ n. n < length syntax.specifications) order →
     least_with None (flat_map (offences_at syntax.bytes syntax.specifications) order) ≡ fault_of syntax

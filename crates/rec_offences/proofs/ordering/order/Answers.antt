@@ -1,4 +1,4 @@
-use Rattle.std.proofs.Common.{◌≡◌, ◌<◌, length, All, Contains, sym, ap, subst, ◌∙◌, arith, below_more}
+use Rattle.std.proofs.Common.{◌<◌, length, All, Contains, sym, subst, ◌∙◌, arith, below_more}
 use Rattle.rec_offences.proofs.ordering.order.Goals as goal
 
 pub loop-number-preserved : goal.loop-number-preserved

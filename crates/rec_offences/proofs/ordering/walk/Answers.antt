@@ -1,4 +1,4 @@
-use Rattle.std.proofs.Common.{◌<◌, length, All, Contains, sym, subst}
+use Rattle.std.proofs.Common.{◌<◌, length, Contains, sym, subst}
 use Rattle.std.proofs.lemmas.List.Elements.{All-pop}
 use Rattle.rec_offences.proofs.Forests.{insert_stays, insert_there}
 use Rattle.rec_offences.proofs.ordering.walk.Goals as goal

@@ -1,4 +1,4 @@
-use Rattle.std.proofs.Common.{◌≡◌, ◌+◌, ◌-◌, ◌*◌, ◌<◌, ◌≤◌, ℕ, length, All, Contains}
+use Rattle.std.proofs.Common.{◌+◌, ◌-◌, ◌*◌, ◌<◌, ◌≤◌, ℕ, length, All, Contains}
 use Rattle.rec_offences.proofs.ordering.walk.Given as goal
 
 abbrev pub invariant-loop-number : goal.invariant-loop-number

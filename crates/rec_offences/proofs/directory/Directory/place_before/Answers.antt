@@ -1,5 +1,4 @@
-use Rattle.std.proofs.Common.{None, Some, nat_lt, cond, sym, ap, ◌∙◌, arith}
-use Rattle.std.proofs.lemmas.Bool.Decides.{nat_tests}
+use Rattle.std.proofs.Common.{None, Some, cond, sym, ap, ◌∙◌}
 use Rattle.rec_offences.specs.Names.{same_text}
 use Rattle.rec_offences.proofs.Fronts.{below, place_in_front, is_less, not_less}
 use Rattle.rec_offences.proofs.directory.Directory.place_before.Goals as goal
