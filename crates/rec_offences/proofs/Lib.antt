@@ -12,6 +12,7 @@ pub mod Leasts
 pub mod Levels
 pub mod Along
 pub mod Entered
+pub mod Early
 pub mod Fresh
 pub mod Brought
 pub mod Materials
