@@ -5,6 +5,8 @@
 mod declarations;
 mod directory;
 mod gathering;
+#[cfg(test)]
+mod gathering_tests;
 mod headers;
 mod inclusion;
 mod input;
