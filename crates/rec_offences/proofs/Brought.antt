@@ -1,5 +1,5 @@
 -- What an entry of a specification brings is the material of the specification that it includes.
-use Rattle.std.proofs.Common.{◌≡◌, ℕ, zero, suc, ◌+◌, ◌<◌, ◌≤◌, Bool, true, false, ◌||◌, cond, List, [], ◌∷◌, ◌++◌, append_assoc, append-nil, length, map, fold, take, slice_get, get_or, nat_eq, Option, Some, None, inl, inr, refl, sym, ap, subst, ◌∙◌, arith, take_all, take-suc, length-take, length-take-le, ◌⊎◌}
+use Rattle.std.proofs.Common.{◌≡◌, ℕ, zero, suc, ◌<◌, ◌≤◌, Bool, true, false, cond, List, [], ◌∷◌, ◌++◌, append_assoc, append-nil, length, map, fold, take, slice_get, get_or, Option, Some, None, inl, inr, refl, sym, ap, ◌∙◌, arith, take_all, take-suc, length-take, length-take-le, ◌⊎◌}
 use Rattle.std.specs.Option.{option_map, option_map_or}
 use Rattle.std.proofs.lemmas.Bool.{cases_lt}
 use Rattle.std.proofs.lemmas.List.{map-append, take-map, length-map}
@@ -7,7 +7,7 @@ use Rattle.std.proofs.lemmas.Option.{slice_get-get_or, slice_get_within, get_or_
 use Rattle.rec_reader.specs.declared.token.Name.{Name}
 use Rattle.rec_reader.specs.declared.syntax_tree.Specification.{Specification}
 use Rattle.rec_offences.specs.Names.{same_text}
-use Rattle.rec_offences.specs.Material.{Header, brought, included, with_numbers, header_after, headers_of, material_of}
+use Rattle.rec_offences.specs.Material.{Header, brought, included, header_after, headers_of, material_of}
 use Rattle.rec_offences.specs.Listing.{place_in, material_at}
 use Rattle.rec_offences.specs.Numbered.{header_names, target}
 use Rattle.rec_offences.proofs.Places.{brought_at}
@@ -83,7 +83,7 @@ pub header_at : (bytes : List ℕ) (xs : List Specification) (n p : ℕ) (s : Sp
 header_at bytes xs zero p s e l = absurd (omega arith)
 header_at bytes xs (suc n) p s e l =
     elim (cases_lt n (length xs)) [
-      inl within ↦ inside within (cases_lt p n) (header_at bytes xs n p s e)
+      | inl within ↦ inside within (cases_lt p n) (header_at bytes xs n p s e)
       | inr past ↦ outside past (header_at bytes xs n p s e)
     ]
   where

@@ -1,8 +1,8 @@
 -- Materials that have all of the material of each specification that they have.
-use Rattle.std.proofs.Common.{◌≡◌, ℕ, zero, suc, ◌<◌, Bool, true, false, ◌||◌, List, [], ◌∷◌, take, slice_get, nat_eq, Option, Some, None, refl, sym, ap, subst, ◌∙◌, arith, eqb-true}
+use Rattle.std.proofs.Common.{◌≡◌, ℕ, zero, suc, ◌<◌, Bool, true, false, ◌||◌, List, [], ◌∷◌, take, slice_get, nat_eq, Option, Some, None, refl, sym, subst, ◌∙◌, arith, eqb-true}
 use Rattle.rec_reader.specs.declared.token.Name.{Name}
 use Rattle.rec_reader.specs.declared.syntax_tree.Specification.{Specification}
-use Rattle.rec_offences.specs.Material.{Header, fresh, brought, included, with_numbers, headers_of, material_of}
+use Rattle.rec_offences.specs.Material.{Header, brought, included, with_numbers, headers_of, material_of}
 use Rattle.rec_offences.specs.Numbered.{header_names, target, IsClosed}
 use Rattle.rec_offences.proofs.Fresh.{has, with_number, has_with, has_one, one_number, Within, within_along, within_more, within_added, none_fresh, within_fresh}
 use Rattle.rec_offences.proofs.Brought.{target_before, brings_nothing, brings_material, no_material}

@@ -1,19 +1,17 @@
 -- The walk over what a specification includes: what its stack of visits comes to.
-use Rattle.std.proofs.Common.{◌≡◌, ℕ, zero, suc, ◌+◌, ◌<◌, ◌≤◌, Bool, true, false, cond, List, [], ◌∷◌, ◌++◌, length, fold, take, drop, slice_get, get_or, nat_eq, Option, Some, None, refl, sym, ap, subst, ◌∙◌, arith, add-one, take_all, take-suc}
-use Rattle.std.specs.Option.{option_map_or, option_and_then}
+use Rattle.std.proofs.Common.{◌≡◌, ℕ, ◌+◌, ◌<◌, List, [], ◌∷◌, ◌++◌, length, take, drop, slice_get, Option, Some, None, refl, sym, ap, subst, ◌∙◌, arith, add-one, take_all, take-suc}
+use Rattle.std.specs.Option.{option_map_or}
 use Rattle.std.proofs.lemmas.Option.{slice_get_within, get_or_from_slice_get}
 use Rattle.std.proofs.lemmas.List.Sums.{fold-append}
 use Rattle.rec_reader.specs.declared.token.Name.{Name}
 use Rattle.rec_reader.specs.declared.syntax_tree.Specification.{Specification}
 use Rattle.rec_offences.specs.declared.gathering.Visit.{Visit}
-use Rattle.rec_offences.specs.Material.{fresh, brought, included, with_numbers, headers_of, material_of}
-use Rattle.rec_offences.specs.Numbered.{header_names, target, IsClosed}
-use Rattle.rec_offences.specs.Walk.{includes_at, after, missing}
-use Rattle.rec_offences.proofs.Fresh.{has, with_number, no_numbers, nothing_new, one_number, has_one, has_added, with_with, Within, within_none, within_along, within_more, within_added, within_both, within_fresh}
+use Rattle.rec_offences.specs.Material.{brought, included, with_numbers, headers_of, material_of}
+use Rattle.rec_offences.specs.Walk.{includes_at, after}
+use Rattle.rec_offences.proofs.Fresh.{with_number, one_number, Within, within_none, within_more, within_added, within_both}
 use Rattle.rec_offences.proofs.Gathered.{drop_at, drop_all}
-use Rattle.rec_offences.proofs.Brought.{target_before, brings_nothing, brings_material, material_is, no_material, slice_get_none}
+use Rattle.rec_offences.proofs.Brought.{no_material, slice_get_none}
 use Rattle.rec_offences.proofs.Materials.{gathered, with_material, material_last}
-use Rattle.rec_offences.proofs.Closed.{closed_one}
 
 -- a visit of the specification with this number, before its entry with this place
 abbrev pub visit : (number next : ℕ) → Visit

@@ -77,11 +77,7 @@ fn missing(
 }
 
 /// Adds a number to a material, and where it is new to what was added.
-fn add(
-    material: &mut IndexSet<usize>,
-    added: &mut Vec<usize>,
-    number: usize,
-) -> Result<(), Memory>
+fn add(material: &mut IndexSet<usize>, added: &mut Vec<usize>, number: usize) -> Result<(), Memory>
     ensures material { OnOk result (material.new.keys
         ≡ with_numbers material.old.keys (number ∷ [])) }
     ensures added { OnOk result (added.new.items

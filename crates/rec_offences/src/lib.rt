@@ -6,6 +6,8 @@ mod declarations;
 mod directory;
 mod entries;
 mod gathering;
+#[cfg(test)]
+mod gathering_tests;
 mod inclusion;
 mod input;
 mod laws;

@@ -1,5 +1,4 @@
 use Rattle.std.proofs.Common.{◌≡◌, ◌++◌, drop}
-use Rattle.rec_offences.specs.Listing.{listing}
 use Rattle.rec_offences.specs.Numbered.{header_names}
 use Rattle.rec_offences.proofs.gathering.header_names.Given as goal
 
