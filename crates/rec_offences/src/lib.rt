@@ -15,6 +15,8 @@ mod limits;
 mod names;
 mod offence;
 mod ordering;
+#[cfg(test)]
+mod ordering_tests;
 mod scope;
 mod signatures;
 mod terms;
