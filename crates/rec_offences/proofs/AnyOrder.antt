@@ -1,5 +1,5 @@
 -- The fault is the least of all offences, in whatever order the specifications come.
-use Rattle.std.proofs.Common.{◌≡◌, ◌⊎◌, inl, inr, ℕ, zero, suc, ◌+◌, ◌<◌, ◌≤◌, List, [], ◌∷◌, ◌++◌, append_assoc, append-nil, length, length-append, take, slice_get, Option, Some, None, All, Contains, refl, sym, ap, subst, ◌∙◌, arith}
+use Rattle.std.proofs.Common.{◌≡◌, ◌⊎◌, inl, inr, ℕ, zero, suc, ◌<◌, ◌≤◌, List, [], ◌∷◌, ◌++◌, append_assoc, append-nil, length, length-append, take, slice_get, Option, Some, None, All, Contains, refl, sym, ap, subst, ◌∙◌, arith}
 use Rattle.std.specs.List.{flat_map}
 use Rattle.std.specs.Option.{option_map_or}
 use Rattle.std.proofs.lemmas.Bool.{cases_lt}
@@ -8,7 +8,6 @@ use Rattle.rec_reader.specs.declared.syntax_tree.Specification.{Specification}
 use Rattle.rec_reader.specs.Parsed.{Parsed}
 use Rattle.rec_offences.specs.declared.offence.Offence.{Offence}
 use Rattle.rec_offences.specs.Faults.{least_with, offences_after, offences_from, fault_of}
-use Rattle.rec_offences.specs.Laws.{IsLeastOf}
 use Rattle.rec_offences.specs.Numbered.{offences_at}
 use Rattle.rec_offences.proofs.Leasts.{in_none, of_all, none_of_all}
 use Rattle.rec_offences.proofs.Order.{only_same}

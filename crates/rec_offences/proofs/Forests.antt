@@ -1,5 +1,5 @@
 -- The forest of specifications, and the numbers that a walk puts in order.
-use Rattle.std.proofs.Common.{◌≡◌, ℕ, ◌+◌, ◌<◌, ◌≤◌, Bool, true, false, cond, List, [], ◌∷◌, ◌++◌, length, take, set, get_or, nat_eq, nat_lt, Option, Some, None, All, Contains, IfSome, refl, sym, ap, subst, ◌∙◌, arith, true≢false, length-set}
+use Rattle.std.proofs.Common.{◌≡◌, ℕ, ◌<◌, ◌≤◌, Bool, true, false, cond, List, [], ◌∷◌, ◌++◌, length, set, get_or, nat_eq, nat_lt, Option, Some, None, All, Contains, IfSome, refl, sym, subst, ◌∙◌, arith, length-set}
 use Rattle.std.specs.List.{list_any, IsDistinct}
 use Rattle.std.specs.Option.{option_or, option_to_list}
 use Rattle.std.proofs.lemmas.List.Elements.{All-nil, All-cons, All-set, All-push, All-get_or, All-contains, Contains-append_left}
@@ -13,7 +13,7 @@ use Rattle.rec_offences.specs.Names.{same_text}
 use Rattle.rec_offences.specs.Listing.{place_in}
 use Rattle.rec_offences.specs.Branches.{IsBelow, AreBelow}
 use Rattle.rec_offences.specs.Numbered.{target, first_target}
-use Rattle.rec_offences.proofs.Fronts.{below, place_in_front, not_less}
+use Rattle.rec_offences.proofs.Fronts.{below, place_in_front}
 
 -- a branch is written
 pub set_below : (bs : List Branch) (i : ℕ) (b : Branch) → AreBelow (length bs) bs → IsBelow (length bs) b → AreBelow (length (set bs i b)) (set bs i b)

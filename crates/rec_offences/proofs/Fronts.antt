@@ -1,5 +1,5 @@
 -- Places in the front of a list of names, and entries whose places rise.
-use Rattle.std.proofs.Common.{◌≡◌, ℕ, zero, suc, ◌+◌, ◌<◌, ◌≤◌, ◌-◌, min, Bool, true, false, nat_lt, cond, List, [], ◌∷◌, ◌++◌, length, take, slice_get, nat_eq, length-take, length-append, true≢false, Option, Some, None, refl, sym, ap, subst, ◌∙◌, ◌⊎◌, inl, inr, arith}
+use Rattle.std.proofs.Common.{◌≡◌, ℕ, zero, suc, ◌<◌, ◌≤◌, ◌-◌, min, Bool, true, false, nat_lt, cond, List, [], ◌∷◌, ◌++◌, length, take, slice_get, nat_eq, length-take, length-append, true≢false, Option, Some, None, refl, sym, ap, subst, ◌∙◌, ◌⊎◌, inl, inr, arith}
 use Rattle.std.specs.Option.{option_map, option_to_list, is_some}
 use Rattle.std.specs.Map.{lookup}
 use Rattle.std.specs.Str.{bytes_eq}

@@ -18,6 +18,8 @@ mod names;
 mod numbered;
 mod offence;
 mod ordering;
+#[cfg(test)]
+mod ordering_tests;
 mod scope;
 mod signatures;
 mod terms;
