@@ -23,6 +23,7 @@ mod tests;
 mod variables;
 
 pub use faults::Memory;
+pub use gathering::material_of;
 pub use input::fault;
 pub use laws::fault_laws;
 pub use offence::Offence;
