@@ -6,6 +6,8 @@ mod declarations;
 mod directory;
 mod gathering;
 mod headers;
+#[cfg(test)]
+mod include_tests;
 mod inclusion;
 mod input;
 mod laws;
