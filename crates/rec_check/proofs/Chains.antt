@@ -1,5 +1,5 @@
 -- What is spelled of several parts, from what each part spells.
-use Rattle.std.proofs.Common.{◌≡◌, ℕ, true, false, List, length, Option, Some, None, Result, is_some, refl, sym, ap, subst, ◌∙◌}
+use Rattle.std.proofs.Common.{◌≡◌, ℕ, ◌-◌, true, false, List, length, Option, Some, None, Result, is_some, refl, sym, ap, subst, ◌∙◌}
 use Rattle.term_model.specs.Tree.{Tree, root}
 use Rattle.term_model.specs.declared.Head.{Head}
 use Rattle.rewrite_model.specs.Rule.{Rule, Condition}
@@ -7,6 +7,7 @@ use Rattle.symbol_pool.specs.Pool.{Named}
 use Rattle.rec_reader.specs.declared.syntax_tree.Node.{Node}
 use Rattle.rec_reader.specs.declared.syntax_tree.Rule as written
 use Rattle.rec_reader.specs.declared.syntax_tree.Specification.{Specification}
+use Rattle.rec_offences.specs.Material.{material_of}
 use Rattle.rec_check.specs.declared.stop.Stop.{Stop}
 use Rattle.rec_check.specs.Gives.{Gives}
 use Rattle.rec_reader.specs.Parsed.{Parsed}
@@ -14,6 +15,7 @@ use Rattle.rec_check.specs.Run.{before_last, last_of, material_after, spelled_wi
 use Rattle.rec_check.specs.Spelled.{Specified, spelled_by}
 use Rattle.rec_check.specs.Term.{Scope, all_of, tree_in}
 use Rattle.rec_check.specs.Rule.{◌>>=◌, condition_in, sides_in}
+use Rattle.rec_check.proofs.Including.{last_material}
 
 pub goes : {A B : Type 0} (o : Option A) (x : A) (f : A → Option B) → o ≡ Some x → (o >>= f) ≡ f x
 goes o x f e = ap (λ p. p >>= f) e
@@ -56,16 +58,13 @@ in_scope text symbols names vars r result e h =
     subst P e h
 
 -- what the last specification spells, from its parts
-abbrev from_last : List ℕ → List Specification → Option Specification → Option Specified
-from_last text specifications o = spelled_with (record { bytes = text; specifications = specifications }) o
-
-pub last_gives : {X : Type 0} (view : X → Specified) (syntax : Parsed) (result : Result X Stop) (text : List ℕ) (specifications earlier : List Specification) (last : Specification) (material : List ℕ) (terms : List (List Node))
-    → text ≡ syntax.bytes → specifications ≡ syntax.specifications → earlier ≡ before_last specifications → Some last ≡ last_of specifications
-    → material ≡ material_after text earlier last → terms ≡ last.terms
+pub last_gives : {X : Type 0} (view : X → Specified) (syntax : Parsed) (result : Result X Stop) (text : List ℕ) (specifications : List Specification) (last : Specification) (material : List ℕ) (terms : List (List Node))
+    → text ≡ syntax.bytes → specifications ≡ syntax.specifications → Some last ≡ last_of specifications
+    → material ≡ material_of syntax.bytes syntax.specifications (length syntax.specifications - 1) → terms ≡ last.terms
     → Gives view result (spelled_by text specifications material terms) → Gives view result (spelled_in syntax)
-last_gives view syntax result text specifications earlier last material terms t s e l m n h =
+last_gives view syntax result text specifications last material terms t s l m n h =
     let P : Option Specified → Type 0 = λ o. Gives view result o in
-    let made : material ≡ material_after text (before_last specifications) last = m ∙ ap (λ x. material_after text x last) e in
-    let parts : spelled_by text specifications material terms ≡ from_last text specifications (Some last) = λ i. spelled_by text specifications (made i) (n i) in
-    let whole : from_last text specifications (last_of specifications) ≡ spelled_in syntax = λ i. from_last (t i) (s i) (last_of (s i)) in
-    subst P (parts ∙ ap (from_last text specifications) l ∙ whole) h
+    let at : Some last ≡ last_of syntax.specifications = l ∙ ap last_of s in
+    let made : material ≡ material_after syntax.bytes (before_last syntax.specifications) last = m ∙ last_material syntax.bytes syntax.specifications last at in
+    let parts : spelled_by text specifications material terms ≡ spelled_with syntax (Some last) = λ i. spelled_by (t i) (s i) (made i) (n i) in
+    subst P (parts ∙ ap (spelled_with syntax) at) h

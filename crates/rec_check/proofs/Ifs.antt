@@ -1,5 +1,5 @@
 -- The least of places in lists one after another.
-use Rattle.std.proofs.Common.{◌≡◌, ℕ, ◌+◌, ◌<◌, List, [], ◌∷◌, ◌++◌, length, drop, get_or, slice_get, Option, Some, None, refl, sym, ap, ◌∙◌}
+use Rattle.std.proofs.Common.{◌≡◌, ℕ, ◌+◌, ◌-◌, ◌<◌, List, [], ◌∷◌, ◌++◌, length, drop, get_or, slice_get, Option, Some, None, refl, sym, ap, ◌∙◌}
 use Rattle.std.specs.Option.{option_to_list, option_map_or}
 use Rattle.std.specs.List.{flat_map}
 use Rattle.std.proofs.lemmas.List.{at_drop_more}
@@ -7,9 +7,10 @@ use Rattle.std.proofs.lemmas.Grind.{flat_map-append}
 use Rattle.rec_reader.specs.Parsed.{Parsed}
 use Rattle.rec_reader.specs.declared.syntax_tree.Rule.{Rule}
 use Rattle.rec_reader.specs.declared.syntax_tree.Specification.{Specification}
-use Rattle.rec_offences.specs.Material.{rules_of, specifications_at}
-use Rattle.rec_check.specs.Conditional.{ifs_of, lesser, least_with, run_rules, first_if}
+use Rattle.rec_offences.specs.Material.{rules_of, specifications_at, material_of}
+use Rattle.rec_check.specs.Conditional.{ifs_of, lesser, least_with, first_if}
 use Rattle.rec_check.specs.Run.{last_of, before_last, material_after}
+use Rattle.rec_check.proofs.Including.{last_number, material_with}
 
 least_with-append : (found : Option ℕ) (xs ys : List ℕ) → least_with found (xs ++ ys) ≡ least_with (least_with found xs) ys
 least_with-append found [] ys = refl
@@ -50,14 +51,15 @@ module _ (specifications : List Specification) (material : List ℕ) (i d : ℕ)
   pub past_nothing : None ≡ slice_get specifications (get_or material i d) → from (i + 1) found ≡ from i found
   past_nothing e = sym (at_one None e)
 
-abbrev rules_from : List ℕ → List Specification → Option Specification → List Rule
-rules_from text specifications o = option_map_or (λ last. rules_of specifications (material_after text (before_last specifications) last)) o []
-
 -- the rules of the material of the last specification are those that are run
-pub is_first : (syntax : Parsed) (text : List ℕ) (specifications earlier : List Specification) (last : Specification) (material : List ℕ) → text ≡ syntax.bytes → specifications ≡ syntax.specifications
-    → earlier ≡ before_last specifications → Some last ≡ last_of specifications → material ≡ material_after text earlier last
+pub is_first : (syntax : Parsed) (specifications : List Specification) (material : List ℕ) → specifications ≡ syntax.specifications
+    → material ≡ material_of syntax.bytes syntax.specifications (length syntax.specifications - 1)
     → least_with None (ifs_of (rules_of specifications material)) ≡ first_if syntax
-is_first syntax text specifications earlier last material t s e l m =
-    let made : material ≡ material_after text (before_last specifications) last = m ∙ ap (λ x. material_after text x last) e in
-    let whole : rules_from text specifications (last_of specifications) ≡ run_rules syntax = λ i. rules_from (t i) (s i) (last_of (s i)) in
-    ap (λ rules. least_with None (ifs_of rules)) (ap (rules_of specifications) made ∙ ap (rules_from text specifications) l ∙ whole)
+is_first syntax specifications material s m =
+    let made = m ∙ last_number syntax.bytes syntax.specifications in
+    (λ i. least_with None (ifs_of (rules_of (s i) (made i)))) ∙ by (last_of syntax.specifications)
+  where
+    by : (o : Option Specification) → least_with None (ifs_of (rules_of syntax.specifications (material_with syntax.bytes syntax.specifications o)))
+        ≡ least_with None (ifs_of (option_map_or (λ last. rules_of syntax.specifications (material_after syntax.bytes (before_last syntax.specifications) last)) o []))
+    by None = refl
+    by (Some last) = refl

@@ -6,7 +6,6 @@ pub mod Rule
 pub mod Symbols
 pub mod Spelled
 pub mod Spec
-pub mod Headers
 pub mod Run
 pub mod Conditional
 pub mod Checked

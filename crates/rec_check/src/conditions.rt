@@ -5,8 +5,7 @@ ghost use Rattle.std.specs.Option.{option_to_list};
 ghost use Rattle.rec_offences.specs.Material.{rules_of};
 ghost use Rattle.rec_check.specs.Conditional.{IsConditional, first_if, ifs_of, least_with};
 
-use crate::last::{before_last, last_of};
-use crate::material::material_after;
+use crate::last::last_material;
 use crate::spelling::specification_at;
 use rec_reader::{ReadFail, Rule, Specification, Syntax};
 use std::alloc::Global;
@@ -57,12 +56,8 @@ pub fn unconditional(alloc: Global, syntax: &Syntax) -> Result<(), ReadFail>
     ensures accepted_only_without_conditions { OnOk result (first_if syntax.now ≡ None) }
     ensures refused_only_at_the_first { IfErr result (IsConditional (first_if syntax.now)) }
 {
-    let specifications = syntax.as_slice();
-    let Some(last) = last_of(specifications) else {
-        return Ok(());
-    };
-    let material = material_after(alloc, syntax.text(), before_last(specifications), last)?;
-    match first_of(specifications, &material) {
+    let material = last_material(alloc, syntax)?;
+    match first_of(syntax.as_slice(), &material) {
         Some(place) => Err(ReadFail::Refused {
             kind: CONDITIONAL,
             offset: place as u64,

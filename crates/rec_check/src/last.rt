@@ -1,29 +1,34 @@
 //! What the last specification of a syntax spells.
 
-ghost use Rattle.std.specs.Prelude.{◌≡◌, All, IfOk};
+ghost use Rattle.std.specs.Prelude.{◌≡◌, ◌-◌, All, IfOk, length};
 ghost use Rattle.std.specs.Option.{option_copied};
 ghost use Rattle.rec_reader.specs.Whole.{HasWholeTerms};
+ghost use Rattle.rec_offences.specs.Material.{material_of};
 ghost use Rattle.rec_check.specs.Gives.{Gives};
-ghost use Rattle.rec_check.specs.Run.{before_last, last_of, spelled_in};
+ghost use Rattle.rec_check.specs.Run.{last_of, spelled_in};
 ghost use Rattle.rec_check.specs.Spec.{specified};
 ghost use Rattle.rec_check.specs.Symbols.{widest_of};
 
-use crate::material::material_after;
 use crate::spec::{Spec, spell};
 use crate::stop::Stop;
+use faults::Memory;
+use rec_offences::material_of;
 use rec_reader::{Specification, Syntax};
 use std::alloc::Global;
 
-pub(crate) fn last_of(specifications: &[Specification]) -> Option<&Specification>
+fn last_of(specifications: &[Specification]) -> Option<&Specification>
     ensures { option_copied result ≡ last_of specifications.now }
 {
     specifications.last()
 }
 
-pub(crate) fn before_last(specifications: &[Specification]) -> &[Specification]
-    ensures { result.now ≡ before_last specifications.now }
+/// The material of the last specification.
+pub(crate) fn last_material(alloc: Global, syntax: &Syntax) -> Result<Vec<usize>, Memory>
+    ensures { IfOk result (λ v. v.items ≡ material_of syntax.now.bytes
+        syntax.now.specifications (length syntax.now.specifications - 1)) }
 {
-    &specifications[..specifications.len().saturating_sub(1)]
+    let number = syntax.as_slice().len().saturating_sub(1);
+    material_of(alloc, syntax, number)
 }
 
 /// What the last specification spells with what it includes.
@@ -35,11 +40,10 @@ pub(crate) fn spell_last(alloc: Global, syntax: &Syntax) -> Result<Spec, Stop>
     let specifications = syntax.as_slice();
     match last_of(specifications) {
         Some(last) => {
-            let text = syntax.text();
-            let material = material_after(alloc, text, before_last(specifications), last)?;
+            let material = last_material(alloc, syntax)?;
             spell(
                 alloc,
-                text,
+                syntax.text(),
                 specifications,
                 &material,
                 last.terms.as_slice(),

@@ -4,7 +4,6 @@
 mod checking;
 mod conditions;
 mod last;
-mod material;
 mod names;
 mod rules;
 mod scope;

@@ -8,6 +8,8 @@ mod entries;
 mod gathering;
 #[cfg(test)]
 mod gathering_tests;
+#[cfg(test)]
+mod include_tests;
 mod inclusion;
 mod input;
 mod laws;

@@ -174,7 +174,7 @@ type Declaring = &'static [(&'static [u8], Range<u32>)];
 
 // Specifications that declare symbols, those that come after them, and the kind and the place of the fault,
 // or twice 0.
-static SYMBOLS: [(Declaring, &[u8], u8, u64); 7] = [
+static SYMBOLS: [(Declaring, &[u8], u8, u64); 8] = [
     (&[(b"REC-SPEC A SORTS S CONS", 0..65_535)], b"", 0, 0),
     (&[(b"REC-SPEC A SORTS S CONS", 0..65_536)], b"", 13, 327_699),
     // included symbols are counted first, each once
@@ -199,6 +199,17 @@ static SYMBOLS: [(Declaring, &[u8], u8, u64); 7] = [
     (
         &[(b"REC-SPEC A SORTS S CONS", 0..65_535)],
         b"REC-SPEC B : A END-SPEC REC-SPEC C : A END-SPEC REC-SPEC D : B C END-SPEC",
+        0,
+        0,
+    ),
+    // those of another specification that includes the same one aren't counted
+    (
+        &[
+            (b"REC-SPEC A SORTS S CONS", 0..40_000),
+            (b"REC-SPEC B : A CONS", 40_000..65_535),
+            (b"REC-SPEC C : A CONS", 40_000..65_535),
+        ],
+        b"",
         0,
         0,
     ),
