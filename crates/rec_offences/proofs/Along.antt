@@ -1,5 +1,5 @@
 -- The entries of a list of includes, one after another, while what they bring is taken in.
-use Rattle.std.proofs.Common.{◌≡◌, ℕ, ◌+◌, ◌-◌, ◌<◌, ◌||◌, ◌&&◌, not, nat_le, Bool, true, false, List, [], ◌∷◌, ◌++◌, append_assoc, append-nil, length, map, take, drop, slice_get, get_or, Option, Some, None, refl, sym, ap, subst, ◌∙◌, true≢false}
+use Rattle.std.proofs.Common.{◌≡◌, ℕ, ◌-◌, ◌||◌, ◌&&◌, not, nat_le, Bool, true, false, List, [], ◌∷◌, ◌++◌, append_assoc, append-nil, length, map, take, drop, slice_get, Option, Some, None, refl, sym, ap, subst, ◌∙◌, true≢false}
 use Rattle.std.specs.Prelude.{IsSome}
 use Rattle.std.specs.List.{list_any}
 use Rattle.std.specs.Option.{option_map, option_or, is_some}
@@ -17,7 +17,6 @@ use Rattle.rec_offences.specs.declared.inclusion.Inclusion.{Inclusion}
 use Rattle.rec_offences.specs.declared.inclusion.Level.{Level}
 use Rattle.rec_offences.proofs.Brought.{brings_nothing, brings_material}
 use Rattle.rec_offences.proofs.Fresh.{no_numbers}
-use Rattle.rec_offences.proofs.Gathered.{drop_at}
 use Rattle.rec_offences.proofs.Levels.{front_cut, last_is, whole_of}
 use Rattle.rec_offences.proofs.Materials.{gathered, material_once}
 

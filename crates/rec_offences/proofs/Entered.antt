@@ -1,16 +1,15 @@
 -- A specification becomes a level: its material is at hand once its own names are declared.
-use Rattle.std.proofs.Common.{◌≡◌, ℕ, ◌+◌, ◌-◌, ◌^◌, List, [], ◌∷◌, ◌++◌, append_assoc, append-nil, length, map, min, take, slice_get, Some, refl, sym, ap, subst, ◌∙◌, length-append}
+use Rattle.std.proofs.Common.{◌≡◌, ℕ, ◌+◌, ◌-◌, ◌^◌, List, [], ◌∷◌, ◌++◌, append_assoc, length, map, min, take, slice_get, Some, refl, sym, ap, subst, ◌∙◌, length-append}
 use Rattle.std.proofs.lemmas.List.{length-map}
 use Rattle.indexmap.specs.IndexSet.{insert_key}
 use Rattle.std.specs.Prelude.{nat_eq}
 use Rattle.rec_reader.specs.declared.syntax_tree.Specification.{Specification}
 use Rattle.rec_offences.specs.Material.{included, headers_of, material_of, symbols_by, symbols_of, sorts_of, rules_of, variables_by}
-use Rattle.rec_offences.specs.Scope.{symbol_entry, variable_entry, own_entries}
+use Rattle.rec_offences.specs.Scope.{symbol_entry, variable_entry}
 use Rattle.rec_offences.specs.Faults.{included_entries}
-use Rattle.rec_offences.specs.Listing.{Known, known, Listing, listing}
+use Rattle.rec_offences.specs.Listing.{known, listing}
 use Rattle.rec_offences.specs.Numbered.{IsClosed}
 use Rattle.rec_offences.specs.Inclusion.{counted, extent_of, IsFront, IsAtLevel, IsDeclared, Rises, last_material}
-use Rattle.rec_offences.specs.declared.inclusion.Extent.{Extent}
 use Rattle.rec_offences.specs.declared.inclusion.Inclusion.{Inclusion}
 use Rattle.rec_offences.specs.declared.inclusion.Level.{Level}
 use Rattle.rec_offences.proofs.Brought.{material_is}

@@ -1,5 +1,5 @@
 -- Specifications by their numbers: what the entries of each include, and its offences.
-use Rattle.std.specs.Prelude.{◌≡◌, ℕ, List, [], ◌∷◌, Bool, true, Option, None, nat_eq, map, take, slice_get}
+use Rattle.std.specs.Prelude.{◌≡◌, ℕ, List, [], ◌∷◌, true, Option, None, nat_eq, map, take, slice_get}
 use Rattle.std.specs.List.{list_any}
 use Rattle.std.specs.Option.{option_map_or, option_or}
 use Rattle.rec_reader.specs.declared.token.Name.{Name}

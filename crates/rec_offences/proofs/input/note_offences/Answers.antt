@@ -78,7 +78,7 @@ returns-clause-noted c =
     ++ used_group h.bytes (take c.args.number h.names) (length i.scope.entries) i.rules (c.deref.ensures.value j) (map symbol_entry (symbols_by s)) (i.scope.entries ++ own_entries s) s))))
 
 pub returns-clause-at_level : goal.returns-clause-at_level
-returns-clause-at_level c = 
+returns-clause-at_level c =
     let h = c.args.headers.now in
     let xs = c.args.specifications.now in
     let s = c.index-specifications-number.result in

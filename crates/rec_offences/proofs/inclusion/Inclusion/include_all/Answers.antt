@@ -1,4 +1,4 @@
-use Rattle.std.proofs.Common.{◌≡◌, ℕ, ◌+◌, Bool, false, List, [], ◌∷◌, ◌++◌, None, Some, Option, drop, take, get_or, refl, ap, sym, subst, ◌∙◌, arith}
+use Rattle.std.proofs.Common.{◌≡◌, ℕ, ◌+◌, Bool, false, List, [], ◌∷◌, ◌++◌, None, Some, Option, drop, take, get_or, ap, sym, subst, ◌∙◌, arith}
 use Rattle.rec_reader.specs.declared.token.Name.{Name}
 use Rattle.rec_offences.specs.declared.entries.Verdict.{Verdict}
 use Rattle.rec_offences.specs.declared.inclusion.Inclusion.{Inclusion}
@@ -7,7 +7,7 @@ use Rattle.rec_offences.specs.Listing.{place_in}
 use Rattle.rec_offences.specs.Numbered.{header_names, target}
 use Rattle.rec_offences.proofs.Brought.{target_before}
 use Rattle.rec_offences.proofs.Gathered.{drop_at, drop_all, default_in}
-use Rattle.rec_offences.proofs.Along.{Along, Ended, begun, ended, past_unknown, past_first, past_other}
+use Rattle.rec_offences.proofs.Along.{Along, Ended, ended, past_unknown, past_first, past_other}
 use Rattle.rec_offences.proofs.inclusion.Inclusion.include_all.Goals as goal
 use Rattle.rec_offences.proofs.inclusion.Inclusion.include_all.Goals.{in-None, in-Some, in-Some-2+in_ok-verdict-in-Some-2}
 
@@ -53,22 +53,22 @@ loop-entry-preserved c =
     λ b j e f k. subst (λ d. A d c.match-place_before.self) (sym e) (subst (A b) (sym f) k) in
     elim c.match-place_before.branch [
       | in-None w ↦
-        settled l.is_there l.self w.is_there-is w.self-is
-        (past_unknown bytes specifications number xs rest x l.is_there l.verdicts.items c.push.new.self.items l.self a (more _ w.verdict-is)
-        (targeted bytes h.names (header_names specifications) number x c.place_before.result None names c.place_before.ensures w.in-None.is))
+          settled l.is_there l.self w.is_there-is w.self-is
+          (past_unknown bytes specifications number xs rest x l.is_there l.verdicts.items c.push.new.self.items l.self a (more _ w.verdict-is)
+          (targeted bytes h.names (header_names specifications) number x c.place_before.result None names c.place_before.ensures w.in-None.is))
       | in-Some w ↦
-        settled false l.self w.is_there-is w.self-is
-        (past_first bytes specifications number xs rest x l.verdicts.items c.push.new.self.items w.verdict_on_first-verdict.result w.in-Some.field-0 l.self
-        (subst Q w.if-is_there.true a) (more w.verdict_on_first-verdict.result w.verdict-is)
-        (targeted bytes h.names (header_names specifications) number x c.place_before.result (Some w.in-Some.field-0) names c.place_before.ensures w.in-Some.is)
-        (w.verdict_on_first-verdict.ensures bytes specifications a.inclusion))
+          settled false l.self w.is_there-is w.self-is
+          (past_first bytes specifications number xs rest x l.verdicts.items c.push.new.self.items w.verdict_on_first-verdict.result w.in-Some.field-0 l.self
+          (subst Q w.if-is_there.true a) (more w.verdict_on_first-verdict.result w.verdict-is)
+          (targeted bytes h.names (header_names specifications) number x c.place_before.result (Some w.in-Some.field-0) names c.place_before.ensures w.in-Some.is)
+          (w.verdict_on_first-verdict.ensures bytes specifications a.inclusion))
       | in-Some-2+in_ok-verdict-in-Some-2 w ↦
-        let v = w.in_ok-verdict-in-Some-2.verdict in
-        settled false w.include.new.self (w.is_there-is ∙ w.if-is_there.false) w.self-is
-        (past_other bytes specifications number xs rest x l.verdicts.items c.push.new.self.items v w.in-Some.field-0 l.self w.include.new.self
-        (subst Q w.if-is_there.false a) (more v w.verdict-is)
-        (targeted bytes h.names (header_names specifications) number x c.place_before.result (Some w.in-Some.field-0) names c.place_before.ensures w.in-Some.is)
-        w.in_ok-verdict-in-Some-2.ensures.verdict w.in_ok-verdict-in-Some-2.ensures.kept w.include.ensures.levels w.in_ok-verdict-in-Some-2.ensures.material)
+          let v = w.in_ok-verdict-in-Some-2.verdict in
+          settled false w.include.new.self (w.is_there-is ∙ w.if-is_there.false) w.self-is
+          (past_other bytes specifications number xs rest x l.verdicts.items c.push.new.self.items v w.in-Some.field-0 l.self w.include.new.self
+          (subst Q w.if-is_there.false a) (more v w.verdict-is)
+          (targeted bytes h.names (header_names specifications) number x c.place_before.result (Some w.in-Some.field-0) names c.place_before.ensures w.in-Some.is)
+          w.in_ok-verdict-in-Some-2.ensures.verdict w.in_ok-verdict-in-Some-2.ensures.kept w.include.ensures.levels w.in_ok-verdict-in-Some-2.ensures.material)
     ]
 
 at_end : (c : goal.After-loop-entry) → Ended c.args.headers.now.bytes c.args.specifications.now c.args.number c.args.entries.now c.loop-entry.verdicts.items c.loop-entry.self

@@ -1,4 +1,4 @@
-use Rattle.std.proofs.Common.{[], ◌++◌, length, take, ap, sym, subst, ◌∙◌}
+use Rattle.std.proofs.Common.{[], length, take, ap, sym, subst, ◌∙◌}
 use Rattle.rec_offences.specs.Material.{rules_of}
 use Rattle.rec_offences.specs.Numbered.{IsClosed}
 use Rattle.rec_offences.specs.Faults.{included_entries}

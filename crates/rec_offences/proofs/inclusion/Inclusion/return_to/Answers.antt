@@ -1,4 +1,4 @@
-use Rattle.std.proofs.Common.{◌∙◌, sym}
+use Rattle.std.proofs.Common.{◌∙◌}
 use Rattle.rec_offences.proofs.Levels.{no_level}
 use Rattle.rec_offences.proofs.inclusion.Inclusion.return_to.Goals as goal
 

@@ -1,4 +1,4 @@
-use Rattle.std.proofs.Common.{◌≡◌, ◌||◌, Bool, false, [], ◌++◌, length, sym, ap, ◌∙◌, refl}
+use Rattle.std.proofs.Common.{Bool, [], length, sym, ap, ◌∙◌, refl}
 use Rattle.rec_offences.specs.declared.entries.Verdict.{Verdict}
 use Rattle.rec_offences.specs.Material.{fresh, rules_of}
 use Rattle.rec_offences.specs.Faults.{included_entries}

@@ -1,0 +1,68 @@
+use Rattle.std.proofs.Common.{◌≡◌, ℕ, ◌+◌, ◌<◌, ◌≤◌, List, [], ◌∷◌, ◌++◌, append-nil, length, take, get_or, Option, None, All, Contains, refl, ap, sym, subst, ◌∙◌, add-one, take-suc, take_all, arith}
+use Rattle.std.specs.List.{flat_map}
+use Rattle.std.proofs.lemmas.List.Concat.{flat_map-append}
+use Rattle.rec_offences.specs.declared.offence.Offence.{Offence}
+use Rattle.rec_reader.specs.Parsed.{Parsed}
+use Rattle.rec_reader.specs.declared.syntax_tree.Specification.{Specification}
+use Rattle.rec_offences.specs.Faults.{least_with, fault_of}
+use Rattle.rec_offences.specs.Inclusion.{IsAtLevel}
+use Rattle.rec_offences.specs.Numbered.{offences_at}
+use Rattle.rec_offences.proofs.AnyOrder.{in_any_order}
+use Rattle.rec_offences.proofs.Noted.{least_append}
+use Rattle.rec_offences.proofs.input.fault.Goals as goal
+
+-- after one number more
+one_more : (offences : ℕ → List Offence) (numbers : List ℕ) (i n : ℕ) (found now : Option Offence) → i < length numbers → n ≡ get_or numbers i 0 →
+    found ≡ least_with None (flat_map offences (take i numbers)) → now ≡ least_with found (offences n) →
+    now ≡ least_with None (flat_map offences (take (i + 1) numbers))
+one_more offences numbers i n found now l at was is =
+    let before = flat_map offences (take i numbers) in
+    let more : flat_map offences (take (i + 1) numbers) ≡ before ++ offences n =
+    ap (λ k. flat_map offences (take k numbers)) (add-one i)
+    ∙ ap (flat_map offences) (take-suc numbers i 0 l)
+    ∙ flat_map-append offences (take i numbers) (get_or numbers i 0 ∷ [])
+    ∙ ap (λ os. before ++ os) (append-nil (offences (get_or numbers i 0)))
+    ∙ ap (λ k. before ++ offences k) (sym at) in
+    is ∙ ap (λ f. least_with f (offences n)) was ∙ sym (least_append None before (offences n)) ∙ ap (least_with None) (sym more)
+
+pub loop-number-preserved : goal.loop-number-preserved
+loop-number-preserved c =
+    let bytes = c.args.syntax.now.bytes in
+    let xs = c.as_slice-specifications.result.now in
+    let numbers = c.deref-number-items.result.now in
+    let l = c.loop-number in
+    let n = get_or numbers l.number-index 0 in
+    let e = ap (λ h. h.bytes) c.in_ok-headers.ensures ∙ c.text.ensures in
+    let P = λ (b : List ℕ). IsAtLevel b xs c.note_offences.new.included in
+    record {
+      at_level = subst P e c.in_ok-note_offences.ensures.at_level;
+      noted =
+          one_more (offences_at bytes xs) numbers l.number-index n l.found c.note_offences.new.found c.loop-number-test.true
+          refl
+          l.invariant.noted
+          (c.in_ok-note_offences.ensures.noted ∙ ap (λ b. least_with l.found (offences_at b xs n)) e);
+    }
+
+-- an order that has all numbers and no others
+over_all : (syntax : Parsed) (xs : List Specification) (numbers : List ℕ) (i : ℕ) (found : Option Offence) → xs ≡ syntax.specifications →
+    ((n : ℕ) → n < length xs → Contains numbers n) → All (λ n. n < length xs) numbers → length numbers ≤ i →
+    found ≡ least_with None (flat_map (offences_at syntax.bytes xs) (take i numbers)) → found ≡ fault_of syntax
+over_all syntax xs numbers i found is all no_others l noted =
+    let P : List Specification → Type 0 = λ ss. (n : ℕ) → n < length ss → Contains numbers n in
+    let Q : List Specification → Type 0 = λ ss. All (λ n. n < length ss) numbers in
+    noted
+    ∙ ap (λ ns. least_with None (flat_map (offences_at syntax.bytes xs) ns)) (take_all i numbers l)
+    ∙ ap (λ ss. least_with None (flat_map (offences_at syntax.bytes ss) numbers)) is
+    ∙ in_any_order syntax numbers (subst P is all) (subst Q is no_others)
+
+pub returns : goal.returns
+returns c =
+    let xs = c.as_slice-specifications.result.now in
+    let numbers = c.deref-number-items.result.now in
+    let l = c.loop-number in
+    let e = sym c.deref-number-items.ensures.value in
+    let P : List ℕ → Type 0 = λ ns. (n : ℕ) → n < length xs → Contains ns n in
+    let Q : List ℕ → Type 0 = λ ns. All (λ n. n < length xs) ns in
+    over_all c.args.syntax.now xs numbers l.number-index l.found c.as_slice-specifications.ensures.specifications
+    (subst P e c.in_ok-numbers.ensures.all) (subst Q e c.in_ok-numbers.ensures.no_others)
+    (omega (arith, c.loop-number-test.false)) l.invariant.noted
