@@ -89,9 +89,9 @@ fn add(material: &mut IndexSet<usize>, added: &mut Vec<usize>, number: usize) ->
     Ok(())
 }
 
-/// Adds the material of the specification with this number, and gives what wasn't there. What is
-/// there is passed over: all of its own material is there too.
-pub(crate) fn gather(
+/// Adds the material of the specification with this number by a walk over what it includes, and gives
+/// what wasn't there. What is there is passed over: all of its own material is there too.
+fn gather_absent(
     alloc: Global,
     headers: &Directory,
     specifications: &[Specification],
@@ -126,6 +126,30 @@ pub(crate) fn gather(
         }
     }
     Ok(added)
+}
+
+/// Adds the material of the specification with this number, and gives what wasn't there.
+pub(crate) fn gather(
+    alloc: Global,
+    headers: &Directory,
+    specifications: &[Specification],
+    material: &mut IndexSet<usize>,
+    number: usize,
+) -> Result<Vec<usize>, Memory>
+    requires names { headers.now.names ≡ header_names specifications.now }
+    requires there { number < length specifications.now }
+    requires closed { IsClosed headers.now.bytes specifications.now material.old.keys }
+    ensures closed { OnOk result
+        (IsClosed headers.now.bytes specifications.now material.new.keys) }
+    ensures material { OnOk result (material.new.keys ≡ with_numbers material.old.keys
+        (material_of headers.now.bytes specifications.now number)) }
+    ensures added { IfOk result (λ v. v.items
+        ≡ fresh material.old.keys (material_of headers.now.bytes specifications.now number)) }
+{
+    if material.contains(&number) {
+        return Ok(Vec::new(alloc));
+    }
+    gather_absent(alloc, headers, specifications, material, number)
 }
 
 /// The material of the specification with this number, counted from 0: the numbers of those that it

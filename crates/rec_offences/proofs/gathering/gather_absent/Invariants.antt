@@ -2,7 +2,7 @@ use Rattle.std.proofs.Common.{◌≡◌, ◌++◌}
 use Rattle.rec_offences.specs.Material.{with_numbers, material_of}
 use Rattle.rec_offences.proofs.Steps.{IsUnderWay}
 use Rattle.rec_offences.proofs.Weight.{weights}
-use Rattle.rec_offences.proofs.gathering.gather.Given as goal
+use Rattle.rec_offences.proofs.gathering.gather_absent.Given as goal
 
 abbrev pub invariant-loop-visit : goal.invariant-loop-visit
 invariant-loop-visit l =
