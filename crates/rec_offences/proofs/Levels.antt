@@ -1,18 +1,20 @@
 -- Levels: what is at hand is cut back from one to the one before.
-use Rattle.std.proofs.Common.{◌≡◌, ℕ, suc, ◌-◌, List, [], ◌∷◌, ◌++◌, append-nil, length, take, drop, slice_get, Option, Some, None, refl, sym, ap, subst, ◌∙◌, arith}
+use Rattle.std.proofs.Common.{◌≡◌, ℕ, suc, ◌-◌, ◌||◌, true, false, cond, nat_eq, eq-eqb, List, [], ◌∷◌, ◌++◌, append-nil, length, take, drop, slice_get, Option, Some, None, refl, sym, ap, subst, ◌∙◌, arith}
+use Rattle.std.specs.List.{list_any}
 use Rattle.std.specs.Option.{option_map, option_to_list}
-use Rattle.std.proofs.lemmas.List.{length-map, take-append-drop}
+use Rattle.std.proofs.lemmas.List.{length-map, map-append, take-append-drop}
 use Rattle.std.proofs.Math.Seq.{take-append_seam, take-length}
 use Rattle.rec_reader.specs.declared.syntax_tree.Specification.{Specification}
 use Rattle.rec_offences.specs.Material.{material_of, symbols_of, sorts_of}
 use Rattle.rec_offences.specs.Faults.{included_entries}
 use Rattle.rec_offences.specs.Scope.{symbol_entry}
 use Rattle.rec_offences.specs.Listing.{Known, known, Listing, listing}
-use Rattle.rec_offences.specs.Inclusion.{extent_of, IsFront, IsOn, Rises, last_material, last_number}
+use Rattle.rec_offences.specs.Inclusion.{extent_of, IsFront, IsOn, Rises, cut_after, last_material, last_number, numbers_of}
 use Rattle.rec_offences.specs.declared.inclusion.Level.{Level}
 use Rattle.rec_offences.specs.Numbered.{IsClosed}
 use Rattle.rec_offences.proofs.Including.{at_append, entries_append}
 use Rattle.rec_offences.proofs.Closed.{closed_material}
+use Rattle.rec_offences.proofs.Fresh.{or_true}
 
 -- ---- a front of a list
 -- what is cut back to as much as a front has is the front
@@ -54,6 +56,66 @@ module _ (bytes : List ℕ) (specifications : List Specification) (front whole :
 -- ---- the last level
 one_further : {A : Type 0} (x y : A) (ys : List A) → slice_get (x ∷ y ∷ ys) (length (x ∷ y ∷ ys) - 1) ≡ slice_get (y ∷ ys) (length (y ∷ ys) - 1)
 one_further x y ys = let e : length (x ∷ y ∷ ys) - 1 ≡ suc (length (y ∷ ys) - 1) = omega arith in ap (slice_get (x ∷ y ∷ ys)) e
+
+-- the last level stands apart
+last_apart : (ls : List Level) (l : Level) → Some l ≡ slice_get ls (length ls - 1) → ls ≡ take (length ls - 1) ls ++ l ∷ []
+last_apart [] l e = absurd cc
+last_apart (x ∷ []) l e = let same : x ≡ l = cc in ap (λ y. y ∷ []) same
+last_apart (x ∷ y ∷ ls) l e =
+    let k : length (x ∷ y ∷ ls) - 1 ≡ suc (length (y ∷ ls) - 1) = omega arith in
+    ap (λ zs. x ∷ zs) (last_apart (y ∷ ls) l (e ∙ one_further x y ls)) ∙ ap (λ n. take n (x ∷ y ∷ ls) ++ l ∷ []) (sym k)
+
+-- ---- numbers that are cut back
+among_more : (p : ℕ) (ns : List ℕ) (x : ℕ) → nat_eq p x ≡ false → list_any (nat_eq p) (ns ++ x ∷ []) ≡ list_any (nat_eq p) ns
+among_more p [] x e = ap (λ b. b || false) e
+among_more p (n ∷ ns) x e = ap (λ b. nat_eq p n || b) (among_more p ns x e)
+
+among_last : (p : ℕ) (ns : List ℕ) → list_any (nat_eq p) (ns ++ p ∷ []) ≡ true
+among_last p [] = ap (λ b. b || false) (eq-eqb p p refl)
+among_last p (n ∷ ns) = ap (λ b. nat_eq p n || b) (among_last p ns) ∙ or_true (nat_eq p n)
+
+-- another number at the end goes
+cut_skips : (p : ℕ) (ns : List ℕ) (x : ℕ) → nat_eq p x ≡ false → cut_after (Some p) (ns ++ x ∷ []) ≡ cut_after (Some p) ns
+cut_skips p [] x e = ap (λ b. cond b (x ∷ []) []) e
+cut_skips p (n ∷ ns) x e = (λ i. cond (among_more p ns x e i) (n ∷ cut_skips p ns x e i) (cond (nat_eq p n) (n ∷ []) []))
+
+-- nothing goes where the number stands at the end
+cut_stops : (p : ℕ) (ns : List ℕ) → cut_after (Some p) (ns ++ p ∷ []) ≡ ns ++ p ∷ []
+cut_stops p [] = ap (λ b. cond b (p ∷ []) []) (eq-eqb p p refl)
+cut_stops p (n ∷ ns) =
+    ap (λ b. cond b (n ∷ cut_after (Some p) (ns ++ p ∷ [])) (cond (nat_eq p n) (n ∷ []) [])) (among_last p ns)
+    ∙ ap (λ ms. n ∷ ms) (cut_stops p ns)
+
+numbers_apart : (ls : List Level) (l : Level) → Some l ≡ slice_get ls (length ls - 1) → numbers_of ls ≡ numbers_of (take (length ls - 1) ls) ++ l.number ∷ []
+numbers_apart ls l e = ap numbers_of (last_apart ls l e) ∙ map-append (λ x. x.number) (take (length ls - 1) ls) (l ∷ [])
+
+-- a level has the last number
+has_last : (ls : List Level) (n : ℕ) → last_number ls ≡ Some n → (l : Level) × (Some l ≡ slice_get ls (length ls - 1)) × (l.number ≡ n)
+has_last ls n e = by (slice_get ls (length ls - 1)) refl e
+  where
+    by : (o : Option Level) → o ≡ slice_get ls (length ls - 1) → option_map (λ l. l.number) o ≡ Some n → (l : Level) × (Some l ≡ slice_get ls (length ls - 1)) × (l.number ≡ n)
+    by None f h = absurd cc
+    by (Some l) f h = (l, f, cc)
+
+-- the last level is the one to which is cut back
+pub cut_there : (ls : List Level) (n : ℕ) → last_number ls ≡ Some n → cut_after (Some n) (numbers_of ls) ≡ numbers_of ls
+cut_there ls n e =
+    let h = has_last ls n e in
+    let apart = numbers_apart ls h.0 h.1 ∙ ap (λ k. numbers_of (take (length ls - 1) ls) ++ k ∷ []) h.2 in
+    ap (cut_after (Some n)) apart ∙ cut_stops n (numbers_of (take (length ls - 1) ls)) ∙ sym apart
+
+-- the last level is another one
+pub cut_further : (number : Option ℕ) (ls : List Level) (n : ℕ) → last_number ls ≡ Some n → ((p : ℕ) → number ≡ Some p → nat_eq p n ≡ false) →
+    cut_after number (numbers_of (take (length ls - 1) ls)) ≡ cut_after number (numbers_of ls)
+cut_further None ls n e other = refl
+cut_further (Some p) ls n e other =
+    let h = has_last ls n e in
+    let apart = numbers_apart ls h.0 h.1 ∙ ap (λ k. numbers_of (take (length ls - 1) ls) ++ k ∷ []) h.2 in
+    sym (cut_skips p (numbers_of (take (length ls - 1) ls)) n (other p refl)) ∙ ap (cut_after (Some p)) (sym apart)
+
+pub cut_none : (number : Option ℕ) → cut_after number [] ≡ []
+cut_none None = refl
+cut_none (Some p) = refl
 
 -- no level is last where there is none
 none_last : (ls : List Level) → None ≡ slice_get ls (length ls - 1) → ls ≡ []

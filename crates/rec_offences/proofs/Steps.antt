@@ -3,29 +3,30 @@ use Rattle.std.proofs.Common.{◌≡◌, ℕ, ◌<◌, Bool, true, false, cond, 
 use Rattle.std.specs.Option.{option_and_then}
 use Rattle.rec_reader.specs.declared.token.Name.{Name}
 use Rattle.rec_reader.specs.declared.syntax_tree.Specification.{Specification}
-use Rattle.rec_offences.specs.declared.gathering.Visit.{Visit}
+use Rattle.rec_offences.specs.declared.gathering.Frame.{Frame}
 use Rattle.rec_offences.specs.Material.{with_numbers, material_of}
 use Rattle.rec_offences.specs.Numbered.{header_names, target, IsClosed}
-use Rattle.rec_offences.specs.Walk.{includes_at, after, missing}
+use Rattle.rec_offences.specs.Numbered.{includes_at}
+use Rattle.rec_offences.specs.Walk.{after, missing}
 use Rattle.rec_offences.proofs.Fresh.{has, with_number, no_numbers, nothing_new, Within, within_none, within_more, within_added, within_both}
 use Rattle.rec_offences.proofs.Brought.{target_before, brings_nothing, brings_material}
 use Rattle.rec_offences.proofs.Closed.{closed_one}
-use Rattle.rec_offences.proofs.Walk.{visit, brings, done, finish, finish_last, told, AreReady, ready_more, ready_less, done_first, done_entry, done_last, told_entry, all_told}
+use Rattle.rec_offences.proofs.Walk.{frame, brings, done, finish, finish_last, told, AreReady, ready_more, ready_less, done_first, done_entry, done_last, told_entry, all_told}
 
--- the walk is under way: the material is closed, each visit's entries so far have brought theirs when it is on top
--- again, and the material comes to the total when all visits are done
-pub record IsUnderWay (bytes : List ℕ) (xs : List Specification) (total material : List ℕ) (visits : List Visit) : Type 0 where
+-- the walk is under way: the material is closed, each frame's entries so far have brought theirs when it is on top
+-- again, and the material comes to the total when all frames are done
+pub record IsUnderWay (bytes : List ℕ) (xs : List Specification) (total material : List ℕ) (frames : List Frame) : Type 0 where
   pub closed : IsClosed bytes xs material
-  pub ready : AreReady bytes xs material visits
-  pub comes : finish bytes xs material visits ≡ total
+  pub ready : AreReady bytes xs material frames
+  pub comes : finish bytes xs material frames ≡ total
 
 module _ (bytes : List ℕ) (xs : List Specification) where
   -- the walk begins at a specification's first entry
-  pub begins : (m : List ℕ) (n : ℕ) → n < length xs → IsClosed bytes xs m → IsUnderWay bytes xs (with_numbers m (material_of bytes xs n)) m (visit n 0 ∷ [])
+  pub begins : (m : List ℕ) (n : ℕ) → n < length xs → IsClosed bytes xs m → IsUnderWay bytes xs (with_numbers m (material_of bytes xs n)) m (frame n 0 ∷ [])
   begins m n l c = record { closed = c; ready = (within_none m, tt); comes = done_first bytes xs m n l }
 
-  -- where the visit on top goes on to its next entry, and has what that brings
-  module _ (m : List ℕ) (vs : List Visit) (v : Visit) (e : Name) (h : slice_get (includes_at xs v.number) v.next ≡ Some e) where
+  -- where the frame on top goes on to its next entry, and has what that brings
+  module _ (m : List ℕ) (vs : List Frame) (v : Frame) (e : Name) (h : slice_get (includes_at xs v.number) v.next ≡ Some e) where
     abbrev more : List ℕ
     more = with_numbers m (brings bytes xs v.number e)
 
@@ -79,27 +80,27 @@ module _ (bytes : List ℕ) (xs : List Specification) where
           comes = ap (λ k. finish bytes xs k (vs ++ after v ∷ [])) (sym same) ∙ comes_on ∙ w.comes;
         }
 
-    -- a specification that is missing is visited
+    -- a specification that is missing is frameed
     pub goes_into : (total : List ℕ) (p : ℕ) → missing bytes (header_names xs) m v.number e ≡ Some p → IsUnderWay bytes xs total m (vs ++ v ∷ []) →
-        IsUnderWay bytes xs total m ((vs ++ after v ∷ []) ++ visit p 0 ∷ [])
+        IsUnderWay bytes xs total m ((vs ++ after v ∷ []) ++ frame p 0 ∷ [])
     goes_into total p some w =
         let t = missing_is p some in
         let l = target_before bytes xs v.number e p t in
-        let same : done bytes xs (visit p 0) m ≡ more = done_first bytes xs m p l.1 ∙ ap (with_numbers m) (sym (brings_material bytes xs v.number e p t)) in
+        let same : done bytes xs (frame p 0) m ≡ more = done_first bytes xs m p l.1 ∙ ap (with_numbers m) (sym (brings_material bytes xs v.number e p t)) in
         record {
           closed = w.closed;
           ready =
-              ready_more bytes xs m (vs ++ after v ∷ []) (visit p 0) (within_none m)
+              ready_more bytes xs m (vs ++ after v ∷ []) (frame p 0) (within_none m)
               (subst (λ k. AreReady bytes xs k (vs ++ after v ∷ [])) (sym same) (goes_on w.ready));
           comes =
-              finish_last bytes xs m (vs ++ after v ∷ []) (visit p 0)
+              finish_last bytes xs m (vs ++ after v ∷ []) (frame p 0)
               ∙ ap (λ k. finish bytes xs k (vs ++ after v ∷ [])) same
               ∙ comes_on
               ∙ w.comes;
         }
 
-  -- a visit with no entry left adds its number
-  pub ends : (m : List ℕ) (vs : List Visit) (v : Visit) (total : List ℕ) → slice_get (includes_at xs v.number) v.next ≡ None → IsUnderWay bytes xs total m (vs ++ v ∷ []) →
+  -- a frame with no entry left adds its number
+  pub ends : (m : List ℕ) (vs : List Frame) (v : Frame) (total : List ℕ) → slice_get (includes_at xs v.number) v.next ≡ None → IsUnderWay bytes xs total m (vs ++ v ∷ []) →
       IsUnderWay bytes xs total (with_number m v.number) vs
   ends m vs v total h w =
       let below = ready_less bytes xs m vs v w.ready in

@@ -1,21 +1,22 @@
--- The walk over what a specification includes: what its stack of visits comes to.
+-- The walk over what a specification includes: what its stack of frames comes to.
 use Rattle.std.proofs.Common.{◌≡◌, ℕ, ◌+◌, ◌<◌, List, [], ◌∷◌, ◌++◌, length, take, drop, slice_get, Option, Some, None, refl, sym, ap, subst, ◌∙◌, arith, add-one, take_all, take-suc}
 use Rattle.std.specs.Option.{option_map_or}
 use Rattle.std.proofs.lemmas.Option.{slice_get_within, get_or_from_slice_get}
 use Rattle.std.proofs.lemmas.List.Sums.{fold-append}
 use Rattle.rec_reader.specs.declared.token.Name.{Name}
 use Rattle.rec_reader.specs.declared.syntax_tree.Specification.{Specification}
-use Rattle.rec_offences.specs.declared.gathering.Visit.{Visit}
+use Rattle.rec_offences.specs.declared.gathering.Frame.{Frame}
 use Rattle.rec_offences.specs.Material.{brought, included, with_numbers, headers_of, material_of}
-use Rattle.rec_offences.specs.Walk.{includes_at, after}
+use Rattle.rec_offences.specs.Numbered.{includes_at}
+use Rattle.rec_offences.specs.Walk.{after}
 use Rattle.rec_offences.proofs.Fresh.{with_number, one_number, Within, within_none, within_more, within_added, within_both}
 use Rattle.rec_offences.proofs.Gathered.{drop_at, drop_all}
 use Rattle.rec_offences.proofs.Brought.{no_material, slice_get_none}
 use Rattle.rec_offences.proofs.Materials.{gathered, with_material, material_last}
 
--- a visit of the specification with this number, before its entry with this place
-abbrev pub visit : (number next : ℕ) → Visit
-visit number next = record { number = number; next = next }
+-- a frame of the specification with this number, before its entry with this place
+abbrev pub frame : (number next : ℕ) → Frame
+frame number next = record { number = number; next = next }
 
 module _ (bytes : List ℕ) (xs : List Specification) where
   -- what an entry of the specification with this number brings
@@ -26,68 +27,68 @@ module _ (bytes : List ℕ) (xs : List Specification) where
   abbrev pub gathered_at : ℕ → List ℕ → List Name → List ℕ
   gathered_at n m es = gathered bytes (headers_of bytes (take n xs)) m es
 
-  -- the material when a visit is done: what its other entries bring is added, and then its number
-  abbrev pub done : Visit → List ℕ → List ℕ
+  -- the material when a frame is done: what its other entries bring is added, and then its number
+  abbrev pub done : Frame → List ℕ → List ℕ
   done v m = with_number (gathered_at v.number m (drop v.next (includes_at xs v.number))) v.number
 
-  -- the material when all visits are done, the last one first
-  abbrev pub finish : List ℕ → List Visit → List ℕ
+  -- the material when all frames are done, the last one first
+  abbrev pub finish : List ℕ → List Frame → List ℕ
   finish m [] = m
   finish m (v ∷ vs) = done v (finish m vs)
 
-  -- the last visit is done first
-  pub finish_last : (m : List ℕ) (vs : List Visit) (v : Visit) → finish m (vs ++ v ∷ []) ≡ finish (done v m) vs
+  -- the last frame is done first
+  pub finish_last : (m : List ℕ) (vs : List Frame) (v : Frame) → finish m (vs ++ v ∷ []) ≡ finish (done v m) vs
   finish_last m [] v = refl
   finish_last m (u ∷ vs) v = ap (done u) (finish_last m vs v)
 
-  -- what the entries of a visit have brought so far
-  abbrev pub told : Visit → List ℕ
+  -- what the entries of a frame have brought so far
+  abbrev pub told : Frame → List ℕ
   told v = gathered_at v.number [] (take v.next (includes_at xs v.number))
 
-  -- what the entries of each visit have brought is there when the visits above it are done
-  abbrev pub AreReady : List ℕ → List Visit → Type 0
+  -- what the entries of each frame have brought is there when the frames above it are done
+  abbrev pub AreReady : List ℕ → List Frame → Type 0
   AreReady m [] = Unit {0}
   AreReady m (v ∷ vs) = Within (told v) (finish m vs) × AreReady m vs
 
-  -- one visit more on top
-  pub ready_more : (m : List ℕ) (vs : List Visit) (v : Visit) → Within (told v) m → AreReady (done v m) vs → AreReady m (vs ++ v ∷ [])
+  -- one frame more on top
+  pub ready_more : (m : List ℕ) (vs : List Frame) (v : Frame) → Within (told v) m → AreReady (done v m) vs → AreReady m (vs ++ v ∷ [])
   ready_more m [] v w r = (w, tt)
   ready_more m (u ∷ vs) v w r = (subst (Within (told u)) (sym (finish_last m vs v)) r.0, ready_more m vs v w r.1)
 
-  -- the visit on top, and those below it
-  pub ready_less : (m : List ℕ) (vs : List Visit) (v : Visit) → AreReady m (vs ++ v ∷ []) → Within (told v) m × AreReady (done v m) vs
+  -- the frame on top, and those below it
+  pub ready_less : (m : List ℕ) (vs : List Frame) (v : Frame) → AreReady m (vs ++ v ∷ []) → Within (told v) m × AreReady (done v m) vs
   ready_less m [] v r = (r.0, tt)
   ready_less m (u ∷ vs) v r =
       let rest = ready_less m vs v r.1 in
       (rest.0, (subst (Within (told u)) (finish_last m vs v) r.0, rest.1))
 
-  -- ---- one visit
+  -- ---- one frame
 
-  -- a specification that is visited from its first entry on adds its material
-  pub done_first : (m : List ℕ) (n : ℕ) → n < length xs → done (visit n 0) m ≡ with_numbers m (material_of bytes xs n)
+  -- a specification that is frameed from its first entry on adds its material
+  pub done_first : (m : List ℕ) (n : ℕ) → n < length xs → done (frame n 0) m ≡ with_numbers m (material_of bytes xs n)
   done_first m n l = by (slice_get xs n) refl
     where
-      by : (o : Option Specification) → slice_get xs n ≡ o → done (visit n 0) m ≡ with_numbers m (material_of bytes xs n)
+      by : (o : Option Specification) → slice_get xs n ≡ o → done (frame n 0) m ≡ with_numbers m (material_of bytes xs n)
       by None e = let h = slice_get_none xs n e in absurd (omega arith)
       by (Some s) e =
           ap (λ o. with_number (gathered_at n m (option_map_or (λ t. t.includes) o [])) n) e
           ∙ sym (with_material bytes xs m n s e)
 
   -- an entry is done before those after it
-  pub done_entry : (m : List ℕ) (v : Visit) (e : Name) → slice_get (includes_at xs v.number) v.next ≡ Some e → done v m ≡ done (after v) (with_numbers m (brings v.number e))
+  pub done_entry : (m : List ℕ) (v : Frame) (e : Name) → slice_get (includes_at xs v.number) v.next ≡ Some e → done v m ≡ done (after v) (with_numbers m (brings v.number e))
   done_entry m v e h =
       let es = includes_at xs v.number in
       ap (λ rest. with_number (gathered_at v.number m rest) v.number)
       (drop_at es v.next e (slice_get_within es v.next e h) (sym (get_or_from_slice_get es v.next e e h)))
 
   -- where no entry is left, only the number is added
-  pub done_last : (m : List ℕ) (v : Visit) → slice_get (includes_at xs v.number) v.next ≡ None → done v m ≡ with_number m v.number
+  pub done_last : (m : List ℕ) (v : Frame) → slice_get (includes_at xs v.number) v.next ≡ None → done v m ≡ with_number m v.number
   done_last m v h =
       let es = includes_at xs v.number in
       ap (λ rest. with_number (gathered_at v.number m rest) v.number) (drop_all es v.next (slice_get_none es v.next h))
 
   -- what was brought with the next entry
-  pub told_entry : (v : Visit) (e : Name) → slice_get (includes_at xs v.number) v.next ≡ Some e → told (after v) ≡ with_numbers (told v) (brings v.number e)
+  pub told_entry : (v : Frame) (e : Name) → slice_get (includes_at xs v.number) v.next ≡ Some e → told (after v) ≡ with_numbers (told v) (brings v.number e)
   told_entry v e h =
       let es = includes_at xs v.number in
       let l = slice_get_within es v.next e h in
@@ -97,7 +98,7 @@ module _ (bytes : List ℕ) (xs : List Specification) where
       ∙ fold-append (λ k n. with_numbers k (brings v.number n)) [] (take v.next es) (e ∷ [])
 
   -- the material of a specification is there with its number, where its entries have brought theirs
-  pub all_told : (m : List ℕ) (v : Visit) → slice_get (includes_at xs v.number) v.next ≡ None → Within (told v) m → Within (material_of bytes xs v.number) (with_number m v.number)
+  pub all_told : (m : List ℕ) (v : Frame) → slice_get (includes_at xs v.number) v.next ≡ None → Within (told v) m → Within (material_of bytes xs v.number) (with_number m v.number)
   all_told m v h w = by (slice_get xs v.number) refl
     where
       own : Within (gathered_at v.number [] (includes_at xs v.number)) m

@@ -1,5 +1,6 @@
 -- The material that is at hand while specifications are checked, and what it has.
-use Rattle.std.specs.Prelude.{◌≡◌, ℕ, ◌+◌, ◌-◌, ◌^◌, List, [], ◌∷◌, ◌++◌, Option, Some, length, min, take, slice_get}
+use Rattle.std.specs.Prelude.{◌≡◌, ℕ, ◌+◌, ◌-◌, ◌^◌, List, [], ◌∷◌, ◌++◌, Option, None, Some, length, map, min, nat_eq, take, slice_get, if◌then◌else◌}
+use Rattle.std.specs.List.{list_any}
 use Rattle.std.specs.Option.{option_map}
 use Rattle.rec_reader.specs.declared.syntax_tree.Specification.{Specification}
 use Rattle.rec_offences.specs.Material.{included, headers_of, material_of, symbols_by, symbols_of, sorts_of, rules_of}
@@ -15,7 +16,7 @@ use Rattle.rec_offences.specs.declared.inclusion.Inclusion.{Inclusion}
 abbrev pub counted : ℕ → ℕ
 counted n = min n (2 ^ 64 - 1)
 
--- what is at hand is what the material has
+-- what is at hand is what the material has, and it has all of the material of each that it has
 pub record IsInclusion (bytes : List ℕ) (specifications : List Specification) (i : Inclusion) : Type 0 where
   pub scope : i.scope ≡ known bytes (included_entries specifications i.material.keys)
   pub sorts : i.sorts ≡ listing bytes (sorts_of specifications i.material.keys)
@@ -41,7 +42,7 @@ abbrev pub last_material : List ℕ → List Specification → (before : List �
 last_material bytes specifications before [] = before
 last_material bytes specifications before (l ∷ ls) = last_material bytes specifications (material_of bytes specifications l.number) ls
 
--- a level goes on from this material, and its extent is that of its own
+-- the material of a level begins with this one, and its extent is how much it has
 pub record IsOn (bytes : List ℕ) (specifications : List Specification) (before : List ℕ) (l : Level) : Type 0 where
   pub front : IsFront before (material_of bytes specifications l.number)
   pub extent : l.extent ≡ extent_of specifications (material_of bytes specifications l.number)
@@ -63,11 +64,22 @@ pub record IsPastLevel (bytes : List ℕ) (specifications : List Specification) 
   pub levels : Rises bytes specifications [] i.levels.items
   pub front : IsFront (last_material bytes specifications [] i.levels.items) i.material.keys
 
+abbrev pub numbers_of : List Level → List ℕ
+numbers_of levels = map (λ l. l.number) levels
+
 -- the number of the last level
 abbrev pub last_number : List Level → Option ℕ
 last_number levels = option_map (λ l. l.number) (slice_get levels (length levels - 1))
 
--- after its own names were declared past what it includes: so many of them are symbols
+-- numbers up to and with this one, where it last stands; none where it isn't among them, or is none
+abbrev pub cut_after : Option ℕ → List ℕ → List ℕ
+cut_after None numbers = []
+cut_after (Some number) [] = []
+cut_after (Some number) (n ∷ ns) =
+    if list_any (nat_eq number) ns then n ∷ cut_after (Some number) ns else if nat_eq number n then n ∷ [] else []
+
+-- A specification after its own names were declared: at hand is its material without itself, with the names and
+-- sorts of that material and then its own; `count` of the names are symbols.
 pub record IsDeclared (bytes : List ℕ) (specifications : List Specification) (number : ℕ) (s : Specification) (count : ℕ) (i : Inclusion) : Type 0 where
   pub is : slice_get specifications number ≡ Some s
   pub material : i.material.keys ≡ included bytes (headers_of bytes (take number specifications)) s.includes

@@ -10,6 +10,10 @@ use Rattle.rec_offences.specs.Material.{fresh, material_of}
 use Rattle.rec_offences.specs.Faults.{offences_after}
 use Rattle.rec_offences.specs.Listing.{place_in}
 
+-- the entries of the specification with this number
+abbrev pub includes_at : List Specification → ℕ → List Name
+includes_at specifications number = option_map_or (λ s. s.includes) (slice_get specifications number) []
+
 abbrev pub header_names : List Specification → List Name
 header_names specifications = map (λ s. s.name) specifications
 
@@ -22,6 +26,10 @@ target bytes headers number entry = place_in (same_text bytes entry) (take numbe
 abbrev pub first_target : (bytes : List ℕ) (headers : List Name) → ℕ → List Name → Option ℕ
 first_target bytes headers number [] = None
 first_target bytes headers number (n ∷ ns) = option_or (target bytes headers number n) (first_target bytes headers number ns)
+
+-- the specification under which the one with this number hangs: the first that its list of includes includes
+abbrev pub parent_of : (bytes : List ℕ) (headers : List Name) → List Specification → ℕ → Option ℕ
+parent_of bytes headers specifications number = first_target bytes headers number (includes_at specifications number)
 
 -- it has all of the material of each specification that it has
 pub record IsClosed (bytes : List ℕ) (specifications : List Specification) (material : List ℕ) : Type 0 where

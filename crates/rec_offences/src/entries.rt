@@ -7,12 +7,12 @@ ghost use Rattle.rec_offences.specs.Material.{fresh, with_numbers, included, mat
 ghost use Rattle.rec_offences.specs.Scope.{names_of};
 ghost use Rattle.rec_offences.specs.Offences.{includes_from, passes, include};
 ghost use Rattle.rec_offences.specs.Listing.{entries_of};
-ghost use Rattle.rec_offences.specs.Numbered.{header_names};
-ghost use Rattle.rec_offences.specs.Inclusion.{IsInclusion, IsAtLevel, IsPastLevel};
+ghost use Rattle.rec_offences.specs.Numbered.{header_names, includes_at, parent_of};
+ghost use Rattle.rec_offences.specs.Inclusion.{IsInclusion, IsAtLevel, IsPastLevel, cut_after, numbers_of};
 ghost use Rattle.rec_offences.specs.Entering.{verdict_of};
 
 use crate::directory::Directory;
-use crate::gathering::gather;
+use crate::gathering::{gather, includes_at};
 use crate::inclusion::Inclusion;
 use crate::numbered::{add_sorts, count_rules, symbols_at};
 use crate::ordering::first_target;
@@ -121,19 +121,22 @@ impl<'a> Inclusion<'a> {
         headers: &Directory,
         specifications: &'a [Specification],
         number: usize,
-        entries: &[Name],
     ) -> Result<Vec<Verdict>, Memory>
         requires names { headers.now.names ≡ header_names specifications.now }
         requires there { number < length specifications.now }
         requires at_level { IsAtLevel headers.now.bytes specifications.now self.old }
+        ensures path { OnOk result (numbers_of self.new.levels.items
+            ≡ cut_after (parent_of headers.now.bytes headers.now.names specifications.now number)
+            (numbers_of self.old.levels.items)) }
         ensures past { OnOk result (IsPastLevel headers.now.bytes specifications.now self.new) }
         ensures material { OnOk result (self.new.material.keys ≡ included headers.now.bytes
-            (headers_of headers.now.bytes (take number specifications.now)) entries.now) }
+            (headers_of headers.now.bytes (take number specifications.now)) (includes_at specifications.now number)) }
         ensures verdicts { IfOk result (λ v. v.items
             ≡ map (verdict_of headers.now.bytes specifications.now)
             (includes_from headers.now.bytes
-            (headers_of headers.now.bytes (take number specifications.now)) [] entries.now)) }
+            (headers_of headers.now.bytes (take number specifications.now)) [] (includes_at specifications.now number))) }
     {
+        let entries = includes_at(specifications, number);
         let mut is_there = self.return_to(first_target(headers, number, entries));
         let mut verdicts = Vec::new(alloc);
         for entry in entries {

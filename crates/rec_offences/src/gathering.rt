@@ -1,9 +1,10 @@
 //! The material of a specification, gathered by a walk over what it includes.
-ghost use Rattle.std.specs.Prelude.{◌≡◌, ◌<◌, ◌++◌, ◌∷◌, [], IfOk, OnOk, length};
+ghost use Rattle.std.specs.Prelude.{◌≡◌, ◌<◌, ◌++◌, ◌∷◌, [], false, nat_eq, IfOk, OnOk, length};
+ghost use Rattle.std.specs.List.{list_any};
 ghost use Rattle.rec_offences.specs.Material.{fresh, with_numbers, material_of};
 ghost use Rattle.rec_offences.specs.Listing.{listing};
-ghost use Rattle.rec_offences.specs.Numbered.{header_names, IsClosed};
-ghost use Rattle.rec_offences.specs.Walk.{includes_at, next_in, missing};
+ghost use Rattle.rec_offences.specs.Numbered.{header_names, includes_at, IsClosed};
+ghost use Rattle.rec_offences.specs.Walk.{next_in, missing};
 
 use crate::directory::Directory;
 use faults::Memory;
@@ -11,9 +12,10 @@ use indexmap::IndexSet;
 use rec_reader::{Name, Specification, Syntax};
 use std::alloc::Global;
 
-/// A specification that is being gathered, and which of its entries comes next.
+/// A frame of the walk's stack: a specification that is being gathered, and which of its entries comes
+/// next.
 #[derive(Clone, Copy)]
-struct Visit {
+struct Frame {
     number: usize,
     next: usize,
 }
@@ -34,7 +36,7 @@ pub(crate) fn header_names<'a>(
 }
 
 /// The entries of the specification with this number.
-fn includes_at(specifications: &[Specification], number: usize) -> &[Name]
+pub(crate) fn includes_at(specifications: &[Specification], number: usize) -> &[Name]
     ensures { result.now ≡ includes_at specifications.now number }
 {
     match specifications.get(number) {
@@ -43,16 +45,16 @@ fn includes_at(specifications: &[Specification], number: usize) -> &[Name]
     }
 }
 
-/// The entry that comes next in a visit, and the visit after it.
-fn next_entry(specifications: &[Specification], visit: Visit) -> Option<(Name, Visit)>
-    ensures { result ≡ next_in specifications.now visit }
+/// The entry that comes next in a frame, and the frame after it.
+fn next_entry(specifications: &[Specification], frame: Frame) -> Option<(Name, Frame)>
+    ensures { result ≡ next_in specifications.now frame }
 {
-    let entry = *includes_at(specifications, visit.number).get(visit.next)?;
-    let next = visit.next + 1;
+    let entry = *includes_at(specifications, frame.number).get(frame.next)?;
+    let next = frame.next + 1;
     Some((
         entry,
-        Visit {
-            number: visit.number,
+        Frame {
+            number: frame.number,
             next,
         },
     ))
@@ -100,6 +102,7 @@ fn gather_absent(
 ) -> Result<Vec<usize>, Memory>
     requires names { headers.now.names ≡ header_names specifications.now }
     requires there { number < length specifications.now }
+    requires absent { list_any (nat_eq number) material.old.keys ≡ false }
     requires closed { IsClosed headers.now.bytes specifications.now material.old.keys }
     ensures closed { OnOk result
         (IsClosed headers.now.bytes specifications.now material.new.keys) }
@@ -109,20 +112,20 @@ fn gather_absent(
         ≡ fresh material.old.keys (material_of headers.now.bytes specifications.now number)) }
 {
     let mut added = Vec::new(alloc);
-    let mut visits = Vec::new(alloc);
-    visits.push(Visit { number, next: 0 })?;
-    while let Some(visit) = visits.pop() {
-        match next_entry(specifications, visit) {
+    let mut frames = Vec::new(alloc);
+    frames.push(Frame { number, next: 0 })?;
+    while let Some(frame) = frames.pop() {
+        match next_entry(specifications, frame) {
             Some((entry, rest)) => {
-                visits.push(rest)?;
-                if let Some(place) = missing(headers, material, visit.number, entry) {
-                    visits.push(Visit {
+                frames.push(rest)?;
+                if let Some(place) = missing(headers, material, frame.number, entry) {
+                    frames.push(Frame {
                         number: place,
                         next: 0,
                     })?;
                 }
             }
-            None => add(material, &mut added, visit.number)?,
+            None => add(material, &mut added, frame.number)?,
         }
     }
     Ok(added)

@@ -1,7 +1,7 @@
 //! The material that is at hand while specifications are checked.
-ghost use Rattle.std.specs.Prelude.{◌≡◌, ◌-◌, ℕ, List, [], false, true, IsSome, OnOk, length, take};
+ghost use Rattle.std.specs.Prelude.{◌≡◌, ◌-◌, ◌++◌, ◌∷◌, ℕ, List, [], false, true, IsSome, OnOk, length, take};
 ghost use Rattle.rec_reader.specs.declared.syntax_tree.Specification.{Specification};
-ghost use Rattle.rec_offences.specs.Inclusion.{IsAtLevel, IsDeclared, Rises, extent_of, last_material, last_number};
+ghost use Rattle.rec_offences.specs.Inclusion.{IsAtLevel, IsDeclared, Rises, cut_after, extent_of, last_material, last_number, numbers_of};
 
 use crate::directory::Directory;
 use crate::scope::Scope;
@@ -19,7 +19,7 @@ pub(crate) struct Extent {
     pub rules: usize,
 }
 
-/// A specification whose material is a front of what is at hand, and how much this has.
+/// A specification whose material is a front of what is at hand, and how much its material has.
 #[derive(Clone, Copy)]
 pub(crate) struct Level {
     pub number: usize,
@@ -98,6 +98,8 @@ impl<'a> Inclusion<'a> {
     pub(crate) fn return_to(&mut self, number: Option<usize>) -> bool
         ensures kept { (bytes : List ℕ) (specifications : List Specification)
             → IsAtLevel bytes specifications self.old → IsAtLevel bytes specifications self.new }
+        ensures path { numbers_of self.new.levels.items
+            ≡ cut_after number (numbers_of self.old.levels.items) }
         ensures there { result ≡ true → IsSome number × last_number self.new.levels.items ≡ number }
         ensures none { result ≡ false → self.new.levels.items ≡ [] }
     {
@@ -110,14 +112,17 @@ impl<'a> Inclusion<'a> {
         false
     }
 
-    /// Makes a specification a level: its material is at hand, where its own names were declared.
+    /// Makes a specification a level, after its own names were declared: of the names at hand the first
+    /// `symbols` stay, so its variables go.
     pub(crate) fn enter(
         &mut self,
         specification: &Specification,
         number: usize,
         symbols: usize,
     ) -> Result<(), Memory>
-        ensures { (bytes : List ℕ) (specifications : List Specification)
+        ensures path { OnOk result (numbers_of self.new.levels.items
+            ≡ numbers_of self.old.levels.items ++ number ∷ []) }
+        ensures at_level { (bytes : List ℕ) (specifications : List Specification)
             → IsDeclared bytes specifications number specification.now symbols self.old
             → OnOk result (IsAtLevel bytes specifications self.new) }
     {

@@ -1,6 +1,7 @@
-use Rattle.std.proofs.Common.{◌≡◌, ℕ, ◌+◌, List, [], ◌++◌, length, map, take, slice_get, Option, Some, Result, Ok, Err, OnOk, refl, sym, ap, subst, ◌∙◌}
+use Rattle.std.proofs.Common.{◌≡◌, ℕ, ◌+◌, List, [], ◌∷◌, ◌++◌, length, map, take, slice_get, Option, Some, Result, Ok, Err, OnOk, refl, sym, ap, subst, ◌∙◌}
 use Rattle.std.specs.List.{flat_map}
 use Rattle.std.proofs.lemmas.Option.{slice_get_read}
+use Rattle.std.proofs.lemmas.Result.{on_ok_weaker}
 use Rattle.std.proofs.lemmas.List.{take-map}
 use Rattle.std.specs.Option.{option_map_or}
 use Rattle.std.proofs.lemmas.List.{length-map}
@@ -14,8 +15,8 @@ use Rattle.rec_offences.specs.declared.offence.Offence.{Offence}
 use Rattle.rec_offences.specs.declared.entries.Verdict.{Verdict}
 use Rattle.rec_offences.specs.Grouped.{declared_group, used_group}
 use Rattle.rec_offences.specs.Listing.{Known, known, Listing, listing}
-use Rattle.rec_offences.specs.Numbered.{header_names, offences_at}
-use Rattle.rec_offences.specs.Inclusion.{counted, Rises, last_material}
+use Rattle.rec_offences.specs.Numbered.{header_names, includes_at, offences_at}
+use Rattle.rec_offences.specs.Inclusion.{counted, Rises, last_material, numbers_of}
 use Rattle.rec_offences.specs.Entering.{verdict_of}
 use Rattle.rec_offences.proofs.Brought.{headers_named}
 use Rattle.rec_offences.proofs.Early.{at_early, early_verdicts}
@@ -27,6 +28,9 @@ pub note_included-requires : goal.note_included-requires
 note_included-requires c =
     let i = c.in_ok-verdicts.ensures.past.inclusion in
     record { sorts = ap (λ s. s.bytes) i.sorts; scope = ap (λ s. s.bytes) i.scope }
+
+entries_are : (xs : List Specification) (n : ℕ) (s : Specification) → slice_get xs n ≡ Some s → includes_at xs n ≡ s.includes
+entries_are xs n s e = ap (λ o. option_map_or (λ t. t.includes) o []) e
 
 always : {X E P : Type 0} (r : Result X E) → P → OnOk r P
 always (Ok x) p = p
@@ -69,8 +73,8 @@ returns-clause-noted c =
     always c.enter.result
     (noted h.bytes c.args.specifications.now c.args.number s c.args.found.now c.note_included.new.found h.names c.in_ok-verdicts.verdicts.items i.sorts i.scope i.rules i.material.keys
     at c.requires.names
-    (v.material ∙ ap (included h.bytes (headers_of h.bytes (take c.args.number c.args.specifications.now))) c.as_slice-entries.ensures)
-    (v.verdicts ∙ ap (λ ns. map (verdict_of h.bytes c.args.specifications.now) (includes_from h.bytes (headers_of h.bytes (take c.args.number c.args.specifications.now)) [] ns)) c.as_slice-entries.ensures)
+    (v.material ∙ ap (included h.bytes (headers_of h.bytes (take c.args.number c.args.specifications.now))) (entries_are c.args.specifications.now c.args.number s at))
+    (v.verdicts ∙ ap (λ ns. map (verdict_of h.bytes c.args.specifications.now) (includes_from h.bytes (headers_of h.bytes (take c.args.number c.args.specifications.now)) [] ns)) (entries_are c.args.specifications.now c.args.number s at))
     v.past.inclusion.sorts v.past.inclusion.scope v.past.inclusion.rules
     (c.in_ok-symbols.ensures.noted
     ∙ (λ j. least_with c.args.found.now
@@ -90,9 +94,9 @@ returns-clause-at_level c =
     let levels : c.note_included.new.included.levels.items ≡ i.levels.items = ap (λ m. m.items) d.levels in
     let scope = v.past.inclusion.scope in
     let sorts = v.past.inclusion.sorts in
-    c.enter.ensures h.bytes xs (record {
+    c.enter.ensures.at_level h.bytes xs (record {
       is = at;
-      material = keys ∙ v.material ∙ ap (included h.bytes (headers_of h.bytes (take c.args.number xs))) c.as_slice-entries.ensures;
+      material = keys ∙ v.material ∙ ap (included h.bytes (headers_of h.bytes (take c.args.number xs))) (entries_are xs c.args.number s at);
       scope =
           d.declared
           ∙ (λ j. known (scope j).bytes ((scope j).entries ++ own_entries s))
@@ -110,3 +114,11 @@ returns-clause-at_level c =
           ∙ ap (λ k. k + length (symbols_by s)) (length-map (symbols_of xs i.material.keys) symbol_entry)
           ∙ ap (λ ns. length (symbols_of xs ns) + length (symbols_by s)) (sym keys);
     })
+
+pub returns-clause-path : goal.returns-clause-path
+returns-clause-path c =
+    on_ok_weaker c.enter.result
+    (λ e. e
+    ∙ ap (λ ls. numbers_of ls.items ++ c.args.number ∷ []) c.in_ok-symbols.ensures.levels
+    ∙ ap (λ ns. ns ++ c.args.number ∷ []) c.in_ok-verdicts.ensures.path)
+    c.enter.ensures.path

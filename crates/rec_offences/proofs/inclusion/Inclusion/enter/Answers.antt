@@ -1,12 +1,14 @@
 use Rattle.std.proofs.Common.{◌+◌, ◌-◌, ◌^◌, length, min, refl, ap, ◌∙◌}
+use Rattle.std.proofs.lemmas.List.{map-append}
+use Rattle.rec_offences.specs.Inclusion.{numbers_of}
 use Rattle.rec_offences.specs.declared.inclusion.Extent.{Extent}
 use Rattle.rec_offences.specs.declared.inclusion.Inclusion.{Inclusion}
 use Rattle.rec_offences.specs.declared.inclusion.Level.{Level}
 use Rattle.rec_offences.proofs.Entered.{entered}
 use Rattle.rec_offences.proofs.inclusion.Inclusion.enter.Goals as goal
 
-pub returns : goal.returns
-returns c = λ bytes specifications d.
+pub returns-clause-at_level : goal.returns-clause-at_level
+returns-clause-at_level c = λ bytes specifications d.
     let s = c.args.self.now in
     let j : Inclusion = record { scope = c.truncate.new.self; sorts = s.sorts; rules = c.saturating_add-self.result; material = c.insert.new.self; levels = c.push.new.self } in
     let extent : Extent = record { material = c.len.result; symbols = c.len-2.result; sorts = c.len-3.result; rules = c.saturating_add-self.result } in
@@ -16,3 +18,6 @@ returns c = λ bytes specifications d.
     (c.saturating_add-self.ensures ∙ ap (λ rs. min (s.rules + length rs) (2 ^ 64 - 1)) c.as_slice.ensures)
     c.in_ok-insert.ensures.keys c.in_ok-push.ensures.items refl
     (λ n. record { material = c.len.ensures.len n; symbols = c.len-2.ensures.count n; sorts = c.len-3.ensures n; rules = c.saturating_add-self.result })
+
+pub returns-clause-path : goal.returns-clause-path
+returns-clause-path c = ap numbers_of c.in_ok-push.ensures.items ∙ map-append (λ l. l.number) c.args.self.now.levels.items _

@@ -1,10 +1,14 @@
-use Rattle.std.proofs.Common.{◌≡◌, ℕ, ◌+◌, Bool, false, List, [], ◌∷◌, ◌++◌, None, Some, Option, drop, take, get_or, ap, sym, subst, ◌∙◌, arith}
+use Rattle.std.proofs.Common.{◌≡◌, ℕ, ◌+◌, Bool, false, List, [], ◌∷◌, ◌++◌, None, Some, Option, map, drop, take, get_or, ap, sym, subst, ◌∙◌, arith}
 use Rattle.rec_reader.specs.declared.token.Name.{Name}
 use Rattle.rec_offences.specs.declared.entries.Verdict.{Verdict}
 use Rattle.rec_offences.specs.declared.inclusion.Inclusion.{Inclusion}
 use Rattle.rec_offences.specs.Names.{same_text}
 use Rattle.rec_offences.specs.Listing.{place_in}
-use Rattle.rec_offences.specs.Numbered.{header_names, target}
+use Rattle.rec_offences.specs.Material.{included, headers_of}
+use Rattle.rec_offences.specs.Offences.{includes_from}
+use Rattle.rec_offences.specs.Entering.{verdict_of}
+use Rattle.rec_offences.specs.Inclusion.{cut_after, numbers_of}
+use Rattle.rec_offences.specs.Numbered.{header_names, target, first_target}
 use Rattle.rec_offences.proofs.Brought.{target_before}
 use Rattle.rec_offences.proofs.Gathered.{drop_at, drop_all, default_in}
 use Rattle.rec_offences.proofs.Along.{Along, Ended, ended, past_unknown, past_first, past_other}
@@ -25,7 +29,7 @@ include-requires-clause-there c =
     let h = c.args.headers.now in
     let specifications = c.args.specifications.now in
     let number = c.args.number in
-    let x = get_or c.args.entries.now c.loop-entry.entry-index blank in
+    let x = get_or c.includes_at-entries.result.now c.loop-entry.entry-index blank in
     (target_before h.bytes specifications number x c.in-Some.field-0
     (targeted h.bytes h.names (header_names specifications) number x c.place_before.result (Some c.in-Some.field-0) c.requires.names c.place_before.ensures c.in-Some.is)).1
 
@@ -36,14 +40,14 @@ loop-entry-preserved c =
     let bytes = h.bytes in
     let specifications = c.args.specifications.now in
     let number = c.args.number in
-    let xs = c.args.entries.now in
+    let xs = c.includes_at-entries.result.now in
     let l = c.loop-entry in
     let i = l.entry-index in
     let x = get_or xs i blank in
     let rest = drop (i + 1) xs in
     let here = drop_at xs i x c.loop-entry-test.true (default_in xs i blank x c.loop-entry-test.true) in
     let P : List Name → Type 0 = λ ns. Along bytes specifications number xs ns l.is_there l.verdicts.items l.self in
-    let a : Along bytes specifications number xs (x ∷ rest) l.is_there l.verdicts.items l.self = subst P here l.invariant in
+    let a : Along bytes specifications number xs (x ∷ rest) l.is_there l.verdicts.items l.self = subst P here l.invariant.along in
     let pushed = c.in_ok-push.ensures.items in
     let names = c.requires.names in
     let A : Bool → Inclusion → Type 0 = λ b j. Along bytes specifications number xs rest b c.push.new.self.items j in
@@ -51,7 +55,12 @@ loop-entry-preserved c =
     let more : (v : Verdict) → c.match-place_before.verdict ≡ v → c.push.new.self.items ≡ l.verdicts.items ++ v ∷ [] = λ v e. pushed ∙ ap (λ u. l.verdicts.items ++ u ∷ []) e in
     let settled : (b : Bool) (j : Inclusion) → c.match-place_before.is_there ≡ b → c.match-place_before.self ≡ j → A b j → A c.match-place_before.is_there c.match-place_before.self =
     λ b j e f k. subst (λ d. A d c.match-place_before.self) (sym e) (subst (A b) (sym f) k) in
-    elim c.match-place_before.branch [
+    let L : Inclusion → Type 0 = λ j. j.levels ≡ c.return_to-is_there.new.self.levels in
+    record { levels = elim c.match-place_before.branch [
+      | in-None w ↦ subst L (sym w.self-is) l.invariant.levels
+      | in-Some w ↦ subst L (sym w.self-is) l.invariant.levels
+      | in-Some-2+in_ok-verdict-in-Some-2 w ↦ subst L (sym w.self-is) (w.include.ensures.levels ∙ l.invariant.levels)
+    ]; along = elim c.match-place_before.branch [
       | in-None w ↦
           settled l.is_there l.self w.is_there-is w.self-is
           (past_unknown bytes specifications number xs rest x l.is_there l.verdicts.items c.push.new.self.items l.self a (more _ w.verdict-is)
@@ -69,15 +78,15 @@ loop-entry-preserved c =
           (subst Q w.if-is_there.false a) (more v w.verdict-is)
           (targeted bytes h.names (header_names specifications) number x c.place_before.result (Some w.in-Some.field-0) names c.place_before.ensures w.in-Some.is)
           w.in_ok-verdict-in-Some-2.ensures.verdict w.in_ok-verdict-in-Some-2.ensures.kept w.include.ensures.levels w.in_ok-verdict-in-Some-2.ensures.material)
-    ]
+    ]; }
 
-at_end : (c : goal.After-loop-entry) → Ended c.args.headers.now.bytes c.args.specifications.now c.args.number c.args.entries.now c.loop-entry.verdicts.items c.loop-entry.self
+at_end : (c : goal.After-loop-entry) → Ended c.args.headers.now.bytes c.args.specifications.now c.args.number c.includes_at-entries.result.now c.loop-entry.verdicts.items c.loop-entry.self
 at_end c =
-    let xs = c.args.entries.now in
+    let xs = c.includes_at-entries.result.now in
     let l = c.loop-entry in
     let P : List Name → Type 0 = λ ns. Along c.args.headers.now.bytes c.args.specifications.now c.args.number xs ns l.is_there l.verdicts.items l.self in
     ended c.args.headers.now.bytes c.args.specifications.now c.args.number xs l.is_there l.verdicts.items l.self
-    (subst P (drop_all xs l.entry-index (omega (arith, c.loop-entry-test.false))) l.invariant)
+    (subst P (drop_all xs l.entry-index (omega (arith, c.loop-entry-test.false))) l.invariant.along)
 
 pub returns-clause-past : goal.returns-clause-past
 unfolding at_end
@@ -85,8 +94,22 @@ returns-clause-past c = (at_end c).past
 
 pub returns-clause-material : goal.returns-clause-material
 unfolding at_end
-returns-clause-material c = (at_end c).material
+returns-clause-material c =
+    let h = c.args.headers.now in
+    (at_end c).material ∙ ap (included h.bytes (headers_of h.bytes (take c.args.number c.args.specifications.now))) c.includes_at-entries.ensures
 
 pub returns-clause-verdicts : goal.returns-clause-verdicts
 unfolding at_end
-returns-clause-verdicts c = (at_end c).judged
+returns-clause-verdicts c =
+    let h = c.args.headers.now in
+    let xs = c.args.specifications.now in
+    (at_end c).judged
+    ∙ ap (λ ns. map (verdict_of h.bytes xs) (includes_from h.bytes (headers_of h.bytes (take c.args.number xs)) [] ns)) c.includes_at-entries.ensures
+
+pub returns-clause-path : goal.returns-clause-path
+returns-clause-path c =
+    let h = c.args.headers.now in
+    let old = numbers_of c.args.self.now.levels.items in
+    ap (λ v. numbers_of v.items) c.loop-entry.invariant.levels
+    ∙ c.return_to-is_there.ensures.path
+    ∙ ap (λ o. cut_after o old) (c.first_target.ensures ∙ ap (first_target h.bytes h.names c.args.number) c.includes_at-entries.ensures)
