@@ -10,8 +10,8 @@ use Rattle.rec_offences.specs.Names.{is_among}
 use Rattle.rec_offences.specs.Material.{brought, fresh, with_numbers, headers_of, included, material_of, symbols_of, rules_of}
 use Rattle.rec_offences.specs.Numbered.{header_names, target, first_target}
 use Rattle.rec_offences.specs.Offences.{most, passes, symbol_names, include, includes_from}
-use Rattle.rec_offences.specs.Inclusion.{IsInclusion, IsPastLevel, IsFront, Rises, last_material, last_number}
-use Rattle.rec_offences.specs.Entering.{verdict_of}
+use Rattle.rec_offences.specs.Inclusion.{IsInclusion, IsPastLevel, IsFront, AreLevels, last_material, last_number}
+use Rattle.rec_offences.specs.Grouped.{verdict_of}
 use Rattle.rec_offences.specs.declared.entries.Verdict.{Verdict}
 use Rattle.rec_offences.specs.declared.inclusion.Inclusion.{Inclusion}
 use Rattle.rec_offences.specs.declared.inclusion.Level.{Level}
@@ -83,13 +83,13 @@ module _ (bytes : List ℕ) (specifications : List Specification) (number : ℕ)
     pub judged : verdicts ++ map (verdict_of bytes specifications) (includes_from bytes (headers_of bytes (take number specifications)) so_far rest)
         ≡ map (verdict_of bytes specifications) (includes_from bytes (headers_of bytes (take number specifications)) [] entries)
     pub inclusion : IsInclusion bytes specifications i
-    pub levels : Rises bytes specifications [] i.levels.items
+    pub levels : AreLevels bytes specifications [] i.levels.items
     pub state : State is_there so_far rest i
 
   -- after one entry more
   pub further : (entries rest : List Name) (x : Name) (was is_there : Bool) (verdicts now : List Verdict) (v : Verdict) (i j : Inclusion) →
       (a : Along entries (x ∷ rest) was verdicts i) → now ≡ verdicts ++ v ∷ [] → v ≡ verdict_of bytes specifications (include x a.so_far (brings x)) →
-      IsInclusion bytes specifications j → Rises bytes specifications [] j.levels.items → State is_there (with_numbers a.so_far (brings x)) rest j → Along entries rest is_there now j
+      IsInclusion bytes specifications j → AreLevels bytes specifications [] j.levels.items → State is_there (with_numbers a.so_far (brings x)) rest j → Along entries rest is_there now j
   further entries rest x was is_there verdicts now v i j a pushed judged inclusion levels state =
       let next = map (verdict_of bytes specifications) (includes_from bytes (headers_of bytes (take number specifications)) (with_numbers a.so_far (brings x)) rest) in
       record {
@@ -164,7 +164,7 @@ module _ (bytes : List ℕ) (specifications : List Specification) (number : ℕ)
   past_other entries rest x verdicts now v place i j a pushed e judged inclusion levels keys =
       let s : Taken a.so_far i = a.state in
       let material : material_of bytes specifications place ≡ brings x = sym (brings_material bytes specifications number x place e) in
-      let R : List Level → Type 0 = λ ls. Rises bytes specifications [] ls in
+      let R : List Level → Type 0 = λ ls. AreLevels bytes specifications [] ls in
       further entries rest x false false verdicts now v i j a pushed
       (judged ∙ (λ k. verdict_of bytes specifications (include x (s.keys k) (material k))))
       inclusion (subst R (ap (λ ls. ls.items) (sym levels)) a.levels)
@@ -177,7 +177,7 @@ module _ (bytes : List ℕ) (specifications : List Specification) (number : ℕ)
       })
 
   -- at the beginning
-  pub begun : (entries : List Name) (is_there : Bool) (i : Inclusion) → IsInclusion bytes specifications i → Rises bytes specifications [] i.levels.items →
+  pub begun : (entries : List Name) (is_there : Bool) (i : Inclusion) → IsInclusion bytes specifications i → AreLevels bytes specifications [] i.levels.items →
       i.material.keys ≡ last_material bytes specifications [] i.levels.items →
       (is_there ≡ true → IsSome (first_target bytes (header_names specifications) number entries) × last_number i.levels.items ≡ first_target bytes (header_names specifications) number entries) →
       (is_there ≡ false → i.levels.items ≡ []) → Along entries entries is_there [] i

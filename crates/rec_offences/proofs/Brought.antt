@@ -8,9 +8,9 @@ use Rattle.rec_reader.specs.declared.token.Name.{Name}
 use Rattle.rec_reader.specs.declared.syntax_tree.Specification.{Specification}
 use Rattle.rec_offences.specs.Names.{same_text}
 use Rattle.rec_offences.specs.Material.{Header, brought, included, header_after, headers_of, material_of}
-use Rattle.rec_offences.specs.Listing.{place_in, material_at}
+use Rattle.rec_offences.specs.Listing.{place_in}
 use Rattle.rec_offences.specs.Numbered.{header_names, target}
-use Rattle.rec_offences.proofs.Places.{brought_at}
+use Rattle.rec_offences.proofs.Places.{brought_at, material_at}
 use Rattle.rec_offences.proofs.Inputs.{headers_more, headers_counted}
 
 -- ---- places in lists

@@ -7,7 +7,7 @@ use Rattle.rec_reader.specs.declared.syntax_tree.Specification.{Specification}
 use Rattle.rec_offences.specs.Names.{is_among}
 use Rattle.rec_offences.specs.Material.{brought, fresh, with_numbers, headers_of, specifications_at, symbols_by}
 use Rattle.rec_offences.specs.Offences.{Include, passes, include, includes_from}
-use Rattle.rec_offences.specs.Entering.{verdict_of}
+use Rattle.rec_offences.specs.Grouped.{verdict_of}
 use Rattle.rec_offences.specs.declared.entries.Verdict.{Verdict}
 use Rattle.rec_offences.proofs.Fresh.{has, has_append, has_first, or_true}
 use Rattle.rec_offences.proofs.Materials.{Below, below_append, below_with, brings_below}

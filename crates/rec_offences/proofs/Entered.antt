@@ -9,14 +9,14 @@ use Rattle.rec_offences.specs.Scope.{symbol_entry, variable_entry}
 use Rattle.rec_offences.specs.Faults.{included_entries}
 use Rattle.rec_offences.specs.Listing.{known, listing}
 use Rattle.rec_offences.specs.Numbered.{IsClosed}
-use Rattle.rec_offences.specs.Inclusion.{counted, extent_of, IsFront, IsAtLevel, IsDeclared, Rises, last_material}
+use Rattle.rec_offences.specs.Inclusion.{counted, extent_of, IsFront, IsAtLevel, IsDeclared, AreLevels, last_material}
 use Rattle.rec_offences.specs.declared.inclusion.Inclusion.{Inclusion}
 use Rattle.rec_offences.specs.declared.inclusion.Level.{Level}
 use Rattle.rec_offences.proofs.Brought.{material_is}
 use Rattle.rec_offences.proofs.Closed.{closed_material}
 use Rattle.rec_offences.proofs.Gathered.{at_one}
 use Rattle.rec_offences.proofs.Including.{at_append, entries_append, rules_more}
-use Rattle.rec_offences.proofs.Levels.{front_cut, last_pushed, rises_pushed, whole_of}
+use Rattle.rec_offences.proofs.Levels.{front_cut, last_pushed, levels_pushed, whole_of}
 use Rattle.rec_offences.proofs.Materials.{included_below, number_new}
 
 module _ (bytes : List ℕ) (specifications : List Specification) (number count : ℕ) (s : Specification) (i j : Inclusion) (d : IsDeclared bytes specifications number s count i) where
@@ -87,7 +87,7 @@ module _ (bytes : List ℕ) (specifications : List Specification) (number count 
       let sc = scope_is scope in
       let so = sorts ∙ sorts_are in
       let ru = rules_are rules in
-      let R : List Level → Type 0 = λ ls. Rises bytes specifications [] ls in
+      let R : List Level → Type 0 = λ ls. AreLevels bytes specifications [] ls in
       let full : l.extent ≡ extent_of specifications m =
       extent
       ∙ (λ n. record { material = length (ks n); symbols = length (sc n).entries; sorts = length (so n).names; rules = ru n })
@@ -101,7 +101,7 @@ module _ (bytes : List ℕ) (specifications : List Specification) (number count 
         };
         levels =
             subst R (sym levels)
-            (rises_pushed bytes specifications [] i.levels.items l d.levels
+            (levels_pushed bytes specifications [] i.levels.items l d.levels
             (record {
               front = subst (λ n. IsFront (last_material bytes specifications [] i.levels.items) (material_of bytes specifications n)) (sym numbered) front_is;
               extent = full ∙ ap (λ n. extent_of specifications (material_of bytes specifications n)) (sym numbered);

@@ -147,15 +147,6 @@ none_fresh ns (m ∷ ms) w =
 pub within_fresh : (ns ms : List ℕ) → fresh ns ms ≡ [] → Within ms ns
 within_fresh ns ms e = record { each = λ j h. ap (λ k. has k j) (sym (nothing_new ns ms e)) ∙ has_added ns ms j h }
 
--- what is nothing new stays so when some are added
-pub none_fresh_more : (ns more ms : List ℕ) → fresh ns ms ≡ [] → fresh (with_numbers ns more) ms ≡ []
-none_fresh_more ns more ms e = none_fresh (with_numbers ns more) ms (within_more ms ns more (within_fresh ns ms e))
-
--- what is nothing new stays so when the list gets longer
-pub none_fresh_longer : (ns more ms : List ℕ) → fresh ns ms ≡ [] → fresh (ns ++ more) ms ≡ []
-none_fresh_longer ns more ms e =
-    none_fresh (ns ++ more) ms (record { each = λ j h. has_append ns more j ∙ ap (λ b. b || has more j) ((within_fresh ns ms e).each j h) })
-
 -- each is there, as a test
 pub within_test : (ns ms : List ℕ) → list_all (has ns) ms ≡ true → Within ms ns
 within_test ns [] h = within_none ns
@@ -175,11 +166,3 @@ test_within ns [] w = refl
 test_within ns (m ∷ ms) w =
     let rest = test_within ns ms (record { each = λ j h. w.each j (ap (λ b. nat_eq j m || b) h ∙ or_true (nat_eq j m)) }) in
     λ i. w.each m (has_first m ms) i && rest i
-
--- nothing is new where the test holds
-pub none_fresh_test : (ns ms : List ℕ) → list_all (has ns) ms ≡ true → fresh ns ms ≡ []
-none_fresh_test ns ms h = none_fresh ns ms (within_test ns ms h)
-
--- the test holds where nothing is new
-pub test_none_fresh : (ns ms : List ℕ) → fresh ns ms ≡ [] → list_all (has ns) ms ≡ true
-test_none_fresh ns ms e = test_within ns ms (within_fresh ns ms e)

@@ -9,7 +9,7 @@ use Rattle.std.proofs.lemmas.Bool.Decides.{nat_tests}
 use Rattle.rec_reader.specs.declared.token.Name.{Name}
 use Rattle.rec_offences.specs.Names.{text_of}
 use Rattle.rec_offences.specs.Listing.{place_in}
-use Rattle.rec_offences.specs.Indexed.{Rise}
+use Rattle.rec_offences.specs.Indexed.{PlacesRise}
 use Rattle.rec_offences.proofs.Places.{Looks, or_else, lookup_more}
 
 -- a place, where it is less than this count
@@ -62,45 +62,45 @@ below_pop test count es k v h = ap (below count) (lookup_more test es k v) ∙ b
     by None true = ap (λ b. cond b (Some v) None) (not_less v count h)
     by None false = refl
 
-rise_within : (from to : ℕ) (es : List (Vec ℕ × ℕ)) → Rise from to es → from ≤ to
+rise_within : (from to : ℕ) (es : List (Vec ℕ × ℕ)) → PlacesRise from to es → from ≤ to
 rise_within from to [] r = r
 rise_within from to (e ∷ es) r = let h = rise_within (suc e.1) to es r.1 in let l = r.0 in omega (arith, h, l)
 
 -- as far as a greater place
-rise_on : (from to further : ℕ) (es : List (Vec ℕ × ℕ)) → to ≤ further → Rise from to es → Rise from further es
+rise_on : (from to further : ℕ) (es : List (Vec ℕ × ℕ)) → to ≤ further → PlacesRise from to es → PlacesRise from further es
 rise_on from to further [] l r = omega (arith, l, r)
 rise_on from to further (e ∷ es) l r = (r.0, rise_on (suc e.1) to further es l r.1)
 
 -- one entry more
-rise_more : (from to : ℕ) (es : List (Vec ℕ × ℕ)) (k : Vec ℕ) → Rise from to es → Rise from (suc to) (es ++ (k, to) ∷ [])
+rise_more : (from to : ℕ) (es : List (Vec ℕ × ℕ)) (k : Vec ℕ) → PlacesRise from to es → PlacesRise from (suc to) (es ++ (k, to) ∷ [])
 rise_more from to [] k r = (r, omega arith)
 rise_more from to (e ∷ es) k r = (r.0, rise_more (suc e.1) to es k r.1)
 
 -- one name more, whose text is there or goes last
-module _ (names : List Name) (n : Name) (es : List (Vec ℕ × ℕ)) (rising : Rise 0 (length names) es) where
-  pub rises_again : Rise 0 (length (names ++ n ∷ [])) es
+module _ (names : List Name) (n : Name) (es : List (Vec ℕ × ℕ)) (rising : PlacesRise 0 (length names) es) where
+  pub rises_again : PlacesRise 0 (length (names ++ n ∷ [])) es
   rises_again = let l = length-append names (n ∷ []) in rise_on 0 (length names) _ es (omega (arith, l)) rising
 
-  pub rises_more : (new : List (Vec ℕ × ℕ)) (k : Vec ℕ) (i : ℕ) → i ≡ length names → new ≡ es ++ (k, i) ∷ [] → Rise 0 (length (names ++ n ∷ [])) new
+  pub rises_more : (new : List (Vec ℕ × ℕ)) (k : Vec ℕ) (i : ℕ) → i ≡ length names → new ≡ es ++ (k, i) ∷ [] → PlacesRise 0 (length (names ++ n ∷ [])) new
   rises_more new k i place last =
       let l = length-append names (n ∷ []) in
       let m : suc (length names) ≡ length (names ++ n ∷ []) = omega (arith, l) in
-      subst (Rise 0 (length (names ++ n ∷ []))) (sym (last ∙ ap (λ j. es ++ (k, j) ∷ []) place)) (subst (λ t. Rise 0 t (es ++ (k, length names) ∷ [])) m (rise_more 0 (length names) es k rising))
+      subst (PlacesRise 0 (length (names ++ n ∷ []))) (sym (last ∙ ap (λ j. es ++ (k, j) ∷ []) place)) (subst (λ t. PlacesRise 0 t (es ++ (k, length names) ∷ [])) m (rise_more 0 (length names) es k rising))
 
 -- without the last entry
-rise_less : (from to : ℕ) (es : List (Vec ℕ × ℕ)) (e : Vec ℕ × ℕ) → Rise from to (es ++ e ∷ []) → Rise from to es
+rise_less : (from to : ℕ) (es : List (Vec ℕ × ℕ)) (e : Vec ℕ × ℕ) → PlacesRise from to (es ++ e ∷ []) → PlacesRise from to es
 rise_less from to [] e r = let h = rise_within (suc e.1) to [] r.1 in let l = r.0 in omega (arith, h, l)
 rise_less from to (d ∷ es) e r = (r.0, rise_less (suc d.1) to es e r.1)
 
 -- as far as a front with the last place
-rise_last : (from to count i : ℕ) (es : List (Vec ℕ × ℕ)) (e : Vec ℕ × ℕ) → suc i ≡ length es → slice_get es i ≡ Some e → e.1 < count → Rise from to es → Rise from (min count to) es
+rise_last : (from to count i : ℕ) (es : List (Vec ℕ × ℕ)) (e : Vec ℕ × ℕ) → suc i ≡ length es → slice_get es i ≡ Some e → e.1 < count → PlacesRise from to es → PlacesRise from (min count to) es
 rise_last from to count i [] e l at h r = absurd (omega arith)
 rise_last from to count zero (d ∷ []) e l at h r = (r.0, let same : d ≡ e = cc in let f = ap (λ x. x.1) same in let g = r.1 in omega (arith, f, g, h))
 rise_last from to count zero (d ∷ c ∷ es) e l at h r = absurd (omega arith)
 rise_last from to count (suc i) (d ∷ es) e l at h r = (r.0, rise_last (suc d.1) to count i es e (omega arith) at h r.1)
 
 -- what is looked up is less
-found_within : (test : Vec ℕ → Bool) (from to : ℕ) (es : List (Vec ℕ × ℕ)) → Rise from to es → below to (lookup test es) ≡ lookup test es
+found_within : (test : Vec ℕ → Bool) (from to : ℕ) (es : List (Vec ℕ × ℕ)) → PlacesRise from to es → below to (lookup test es) ≡ lookup test es
 found_within test from to [] r = refl
 found_within test from to (e ∷ es) r = by (test e.0) (found_within test (suc e.1) to es r.1)
   where
@@ -130,20 +130,20 @@ module _ (es new : List (Vec ℕ × ℕ)) (o : Option (Vec ℕ × ℕ)) (e : Vec
   pub popped_found : (test : Vec ℕ → Bool) (count : ℕ) → count ≤ e.1 → below count (lookup test new) ≡ below count (lookup test es)
   popped_found test count h = sym (ap (λ xs. below count (lookup test xs)) (popped es new o e n is counted last some) ∙ below_pop test count new e.0 e.1 h)
 
-  pub popped_rises : (to : ℕ) → Rise 0 to es → Rise 0 to new
-  popped_rises to r = rise_less 0 to new e (subst (Rise 0 to) (popped es new o e n is counted last some) r)
+  pub popped_rises : (to : ℕ) → PlacesRise 0 to es → PlacesRise 0 to new
+  popped_rises to r = rise_less 0 to new e (subst (PlacesRise 0 to) (popped es new o e n is counted last some) r)
 
 pub no_entries : {A : Type 0} (xs : List A) → (0 < length xs → false ≡ true) → xs ≡ []
 no_entries [] h = refl
 no_entries (x ∷ xs) h = absurd (true≢false (sym (h (omega arith))))
 
 -- entries that give the places of a front, whether it is their last that is in it, or there are none
-module _ (bytes : List ℕ) (names : List Name) (count : ℕ) (es : List (Vec ℕ × ℕ)) (rising : Rise 0 (length names) es) where
-  pub front_rises : (es ≡ []) ⊎ ((i : ℕ) × (e : Vec ℕ × ℕ) × (suc i ≡ length es) × (slice_get es i ≡ Some e) × (e.1 < count)) → Rise 0 (length (take count names)) es
-  front_rises (inl none) = subst (Rise 0 (length (take count names))) (sym none) (omega arith)
-  front_rises (inr (i, e, l, at, h)) = subst (λ n. Rise 0 n es) (sym (length-take count names)) (rise_last 0 (length names) count i es e l at h rising)
+module _ (bytes : List ℕ) (names : List Name) (count : ℕ) (es : List (Vec ℕ × ℕ)) (rising : PlacesRise 0 (length names) es) where
+  pub front_rises : (es ≡ []) ⊎ ((i : ℕ) × (e : Vec ℕ × ℕ) × (suc i ≡ length es) × (slice_get es i ≡ Some e) × (e.1 < count)) → PlacesRise 0 (length (take count names)) es
+  front_rises (inl none) = subst (PlacesRise 0 (length (take count names))) (sym none) (omega arith)
+  front_rises (inr (i, e, l, at, h)) = subst (λ n. PlacesRise 0 n es) (sym (length-take count names)) (rise_last 0 (length names) count i es e l at h rising)
 
-  pub front_found : Rise 0 (length (take count names)) es →
+  pub front_found : PlacesRise 0 (length (take count names)) es →
       ((q : List ℕ) → below count (lookup (λ k. pointwise nat_eq q k.items) es) ≡ below count (place_in (λ n. bytes_eq q (text_of bytes n)) names)) → Looks bytes (take count names) es
   front_found rises found q =
       let n = length-take count names in

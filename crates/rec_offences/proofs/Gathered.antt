@@ -14,15 +14,6 @@ drop_all [] (suc i) l = refl
 drop_all (x ∷ xs) zero l = absurd (omega arith)
 drop_all (x ∷ xs) (suc i) l = drop_all xs i (omega arith)
 
--- what a material has is what its first specification has, and then what the others have
-pub at_cons : {A : Type 0} (f : Specification → List A) (earlier : List Specification) (n : ℕ) (ns : List ℕ) →
-    flat_map f (specifications_at earlier (n ∷ ns)) ≡ flat_map f (specifications_at earlier (n ∷ [])) ++ flat_map f (specifications_at earlier ns)
-at_cons f earlier n ns = by (slice_get earlier n)
-  where
-    by : (o : Option Specification) → flat_map f (option_to_list o ++ specifications_at earlier ns) ≡ flat_map f (option_to_list o ++ []) ++ flat_map f (specifications_at earlier ns)
-    by None = refl
-    by (Some s) = ap (λ ys. ys ++ flat_map f (specifications_at earlier ns)) (sym (append-nil (f s)))
-
 module _ {X Y : Type 0} (all : List X → List Y) (one : X → List Y) (splits : (x : X) (xs : List X) → all (x ∷ xs) ≡ one x ++ all xs) where
   -- after one item more
   pub gathered_turn : (xs : List X) (i : ℕ) (x : X) (was now start : List Y) → i < length xs → x ≡ get_or xs i x →

@@ -11,8 +11,7 @@ use Rattle.rec_offences.specs.Scope.{Entry, symbol_entry, own_entries, names_of,
 use Rattle.rec_offences.specs.Offences.{includes_from, unknown_sorts, repeated, bare_variables, free_variables, not_ground, is_long, names_in, first_past, past_limits, unknown_names, wrong_counts, sort_clashes}
 use Rattle.rec_offences.specs.Faults.{of_kind, included_entries, offences_declared, offences_used}
 use Rattle.rec_offences.specs.Inclusion.{counted}
-use Rattle.rec_offences.specs.Entering.{verdict_of}
-use Rattle.rec_offences.specs.Grouped.{declared_group, limits_group, used_group}
+use Rattle.rec_offences.specs.Grouped.{declared_group, limits_group, used_group, verdict_of}
 use Rattle.rec_offences.proofs.Verdicts.{clashing_entries, passing_entries, past_named, past_counted}
 
 module _ (bytes : List ℕ) (earlier : List Specification) (headers : List Header) (material : List ℕ) (s : Specification) where

@@ -9,7 +9,7 @@ use Rattle.rec_offences.specs.Material.{material_of, symbols_of, sorts_of}
 use Rattle.rec_offences.specs.Faults.{included_entries}
 use Rattle.rec_offences.specs.Scope.{symbol_entry}
 use Rattle.rec_offences.specs.Listing.{Known, known, Listing, listing}
-use Rattle.rec_offences.specs.Inclusion.{extent_of, IsFront, IsOn, Rises, cut_after, last_material, last_number, numbers_of}
+use Rattle.rec_offences.specs.Inclusion.{extent_of, IsFront, IsOn, AreLevels, cut_after, last_material, last_number, numbers_of}
 use Rattle.rec_offences.specs.declared.inclusion.Level.{Level}
 use Rattle.rec_offences.specs.Numbered.{IsClosed}
 use Rattle.rec_offences.proofs.Including.{at_append, entries_append}
@@ -136,20 +136,20 @@ module _ (bytes : List ℕ) (specifications : List Specification) where
   last_pushed before [] l = refl
   last_pushed before (x ∷ ls) l = last_pushed (material_of bytes specifications x.number) ls l
 
-  pub rises_pushed : (before : List ℕ) (ls : List Level) (l : Level) → Rises bytes specifications before ls → IsOn bytes specifications (last_material bytes specifications before ls) l → Rises bytes specifications before (ls ++ l ∷ [])
-  rises_pushed before [] l r on = (on, r)
-  rises_pushed before (x ∷ ls) l r on = (r.0, rises_pushed (material_of bytes specifications x.number) ls l r.1 on)
+  pub levels_pushed : (before : List ℕ) (ls : List Level) (l : Level) → AreLevels bytes specifications before ls → IsOn bytes specifications (last_material bytes specifications before ls) l → AreLevels bytes specifications before (ls ++ l ∷ [])
+  levels_pushed before [] l r on = (on, r)
+  levels_pushed before (x ∷ ls) l r on = (r.0, levels_pushed (material_of bytes specifications x.number) ls l r.1 on)
 
-  pub rises_popped : (before : List ℕ) (ls : List Level) (l : Level) → Rises bytes specifications before (ls ++ l ∷ []) → Rises bytes specifications before ls
-  rises_popped before [] l r = r.1
-  rises_popped before (x ∷ ls) l r = (r.0, rises_popped (material_of bytes specifications x.number) ls l r.1)
+  pub levels_popped : (before : List ℕ) (ls : List Level) (l : Level) → AreLevels bytes specifications before (ls ++ l ∷ []) → AreLevels bytes specifications before ls
+  levels_popped before [] l r = r.1
+  levels_popped before (x ∷ ls) l r = (r.0, levels_popped (material_of bytes specifications x.number) ls l r.1)
 
-  pub last_on : (before : List ℕ) (ls : List Level) (l : Level) → Rises bytes specifications before (ls ++ l ∷ []) → IsOn bytes specifications (last_material bytes specifications before ls) l
+  pub last_on : (before : List ℕ) (ls : List Level) (l : Level) → AreLevels bytes specifications before (ls ++ l ∷ []) → IsOn bytes specifications (last_material bytes specifications before ls) l
   last_on before [] l r = r.0
   last_on before (x ∷ ls) l r = last_on (material_of bytes specifications x.number) ls l r.1
 
   -- the extent of the last level
-  pub last_extent : (before : List ℕ) (ls : List Level) (l : Level) → Some l ≡ slice_get ls (length ls - 1) → Rises bytes specifications before ls → l.extent ≡ extent_of specifications (last_material bytes specifications before ls)
+  pub last_extent : (before : List ℕ) (ls : List Level) (l : Level) → Some l ≡ slice_get ls (length ls - 1) → AreLevels bytes specifications before ls → l.extent ≡ extent_of specifications (last_material bytes specifications before ls)
   last_extent before [] l e r = absurd cc
   last_extent before (x ∷ []) l e r = let same : l ≡ x = cc in ap (λ y. y.extent) same ∙ r.0.extent
   last_extent before (x ∷ y ∷ ls) l e r = last_extent (material_of bytes specifications x.number) (y ∷ ls) l (e ∙ one_further x y ls) r.1
@@ -166,20 +166,20 @@ module _ (bytes : List ℕ) (specifications : List Specification) where
 
   -- after the last level was left
   pub record Left (old new : List Level) : Type 0 where
-    pub levels : Rises bytes specifications [] new
+    pub levels : AreLevels bytes specifications [] new
     pub front : IsFront (last_material bytes specifications [] new) (last_material bytes specifications [] old)
 
-  pub left : (old new : List Level) (popped : Option Level) → old ≡ new ++ option_to_list popped → Rises bytes specifications [] old → Left old new
+  pub left : (old new : List Level) (popped : Option Level) → old ≡ new ++ option_to_list popped → AreLevels bytes specifications [] old → Left old new
   left old new None e r =
       let same : new ≡ old = sym (append-nil new) ∙ sym e in
       let P : List Level → Type 0 = λ ls. Left old ls in
       subst P (sym same) (record { levels = r; front = take-length (last_material bytes specifications [] old) })
   left old new (Some l) e r =
       let P : List Level → Type 0 = λ ls. Left ls new in
-      let R : List Level → Type 0 = λ ls. Rises bytes specifications [] ls in
-      let rises : Rises bytes specifications [] (new ++ l ∷ []) = subst R e r in
+      let R : List Level → Type 0 = λ ls. AreLevels bytes specifications [] ls in
+      let rises : AreLevels bytes specifications [] (new ++ l ∷ []) = subst R e r in
       subst P (sym e) (record {
-        levels = rises_popped [] new l rises;
+        levels = levels_popped [] new l rises;
         front =
             ap (take (length (last_material bytes specifications [] new))) (last_pushed [] new l)
             ∙ (last_on [] new l rises).front;

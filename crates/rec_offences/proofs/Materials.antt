@@ -102,10 +102,6 @@ with_gathered bytes hs m (e ∷ es) ks =
 pub with_included : (bytes : List ℕ) (hs : List Header) (m : List ℕ) (es : List Name) → with_numbers m (included bytes hs es) ≡ gathered bytes hs m es
 with_included bytes hs m es = with_gathered bytes hs m es [] ∙ ap (λ k. gathered bytes hs k es) (no_numbers m)
 
--- what entries bring has no number twice
-pub included_once : (bytes : List ℕ) (hs : List Header) (es : List Name) → with_numbers [] (included bytes hs es) ≡ included bytes hs es
-included_once bytes hs es = with_included bytes hs [] es
-
 -- a number is new to smaller ones
 pub number_new : (n : ℕ) (ns : List ℕ) → Below n ns → with_number ns n ≡ ns ++ n ∷ []
 number_new n ns w = by (has ns n) refl

@@ -11,7 +11,7 @@ use Rattle.rec_reader.specs.declared.token.Name.{Name}
 use Rattle.rec_offences.specs.Names.{text_of, same_text}
 use Rattle.rec_offences.specs.Material.{Header, brought}
 use Rattle.rec_offences.specs.Scope.{Entry, names_of, look_up}
-use Rattle.rec_offences.specs.Listing.{place_in, material_at}
+use Rattle.rec_offences.specs.Listing.{place_in}
 
 -- there is a place where one passes
 pub is_some_place : {A : Type 0} (test : A → Bool) (xs : List A) → is_some (place_in test xs) ≡ list_any test xs
@@ -127,6 +127,10 @@ same_either_way a b = by (bytes_eq a b) (bytes_eq b a) refl refl
     by false false e f = refl
     by true false e f = absurd (true≢false (sym ((bytes_decides b a).1 (sym ((bytes_decides a b).0 e))) ∙ f))
     by false true e f = absurd (true≢false (sym ((bytes_decides a b).1 (sym ((bytes_decides b a).0 f))) ∙ e))
+
+-- the material of the header at this place, or nothing
+abbrev pub material_at : List Header → ℕ → List ℕ
+material_at headers place = option_map_or (λ h. h.material) (slice_get headers place) []
 
 -- what an entry brings stands at the place of its name
 pub brought_at : (bytes : List ℕ) (headers : List Header) (n : Name) → brought bytes headers n ≡ option_map_or (material_at headers) (place_in (same_text bytes n) (map (λ h. h.name) headers)) []

@@ -9,7 +9,7 @@ use Rattle.rec_offences.specs.Material.{Declared}
 use Rattle.rec_offences.specs.Scope.{symbol_entry}
 use Rattle.rec_offences.specs.Offences.{Include, most, first_past, is_clashing, is_passing}
 use Rattle.rec_offences.specs.Inclusion.{counted}
-use Rattle.rec_offences.specs.Entering.{verdict_of}
+use Rattle.rec_offences.specs.Grouped.{verdict_of}
 use Rattle.rec_offences.proofs.Including.{le_counted}
 
 pub clashing_entries : (bytes : List ℕ) (earlier : List Specification) (is : List Include) →

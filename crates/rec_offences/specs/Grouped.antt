@@ -8,8 +8,13 @@ use Rattle.rec_offences.specs.declared.entries.Verdict.{Verdict}
 use Rattle.rec_offences.specs.declared.offence.Offence.{Offence}
 use Rattle.rec_offences.specs.Names.{is_among}
 use Rattle.rec_offences.specs.Scope.{Entry, names_of, root}
-use Rattle.rec_offences.specs.Offences.{unknown_sorts, repeated, bare_variables, free_variables, not_ground, is_long, names_in, first_past, unknown_names, wrong_counts, sort_clashes}
+use Rattle.rec_offences.specs.Offences.{Include, is_clashing, is_passing, unknown_sorts, repeated, bare_variables, free_variables, not_ground, is_long, names_in, first_past, unknown_names, wrong_counts, sort_clashes}
 use Rattle.rec_offences.specs.Faults.{of_kind}
+
+-- what is wrong at an entry
+abbrev pub verdict_of : List ℕ → List Specification → Include → Verdict
+verdict_of bytes specifications i =
+    record { entry = i.entry; is_clashing = is_clashing bytes specifications i; is_passing = is_passing specifications i }
 
 -- the entries that bring a name from another declaration, and those with which the limit is passed
 abbrev pub clashing_entries : List Verdict → List Name

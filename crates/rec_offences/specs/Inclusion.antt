@@ -48,20 +48,20 @@ pub record IsOn (bytes : List ℕ) (specifications : List Specification) (before
   pub extent : l.extent ≡ extent_of specifications (material_of bytes specifications l.number)
 
 -- each level goes on from the one before
-abbrev pub Rises : List ℕ → List Specification → (before : List ℕ) → List Level → Type 0
-Rises bytes specifications before [] = Unit {0}
-Rises bytes specifications before (l ∷ ls) = IsOn bytes specifications before l × Rises bytes specifications (material_of bytes specifications l.number) ls
+abbrev pub AreLevels : List ℕ → List Specification → (before : List ℕ) → List Level → Type 0
+AreLevels bytes specifications before [] = Unit {0}
+AreLevels bytes specifications before (l ∷ ls) = IsOn bytes specifications before l × AreLevels bytes specifications (material_of bytes specifications l.number) ls
 
 -- the material at hand is that of the last level
 pub record IsAtLevel (bytes : List ℕ) (specifications : List Specification) (i : Inclusion) : Type 0 where
   pub inclusion : IsInclusion bytes specifications i
-  pub levels : Rises bytes specifications [] i.levels.items
+  pub levels : AreLevels bytes specifications [] i.levels.items
   pub material : i.material.keys ≡ last_material bytes specifications [] i.levels.items
 
 -- the material at hand goes on from that of the last level
 pub record IsPastLevel (bytes : List ℕ) (specifications : List Specification) (i : Inclusion) : Type 0 where
   pub inclusion : IsInclusion bytes specifications i
-  pub levels : Rises bytes specifications [] i.levels.items
+  pub levels : AreLevels bytes specifications [] i.levels.items
   pub front : IsFront (last_material bytes specifications [] i.levels.items) i.material.keys
 
 abbrev pub numbers_of : List Level → List ℕ
@@ -86,6 +86,6 @@ pub record IsDeclared (bytes : List ℕ) (specifications : List Specification) (
   pub scope : i.scope ≡ known bytes (included_entries specifications i.material.keys ++ own_entries s)
   pub sorts : i.sorts ≡ listing bytes (sorts_of specifications i.material.keys ++ s.sorts)
   pub rules : i.rules ≡ counted (length (rules_of specifications i.material.keys))
-  pub levels : Rises bytes specifications [] i.levels.items
+  pub levels : AreLevels bytes specifications [] i.levels.items
   pub front : IsFront (last_material bytes specifications [] i.levels.items) i.material.keys
   pub symbols : count ≡ length (symbols_of specifications i.material.keys) + length (symbols_by s)

@@ -10,7 +10,6 @@ pub mod Walk
 pub mod Indexed
 pub mod KnownKept
 pub mod Inclusion
-pub mod Entering
 pub mod Visited
 pub mod Grouped
 pub mod Laws

@@ -1,9 +1,9 @@
 -- What the parts of a check show: names in order, and declared names in order.
-use Rattle.std.specs.Prelude.{ℕ, suc, List, [], ◌∷◌, Bool, Option, Some, None, map, slice_get, if◌then◌else◌}
-use Rattle.std.specs.Option.{option_map, option_map_or}
+use Rattle.std.specs.Prelude.{ℕ, suc, List, [], ◌∷◌, Bool, Option, Some, None, map, if◌then◌else◌}
+use Rattle.std.specs.Option.{option_map}
 use Rattle.rec_reader.specs.declared.token.Name.{Name}
 use Rattle.rec_offences.specs.Names.{same_text}
-use Rattle.rec_offences.specs.Material.{Header, declared}
+use Rattle.rec_offences.specs.Material.{declared}
 use Rattle.rec_offences.specs.Scope.{Entry}
 use Rattle.rec_offences.specs.declared.signatures.Signature.{Signature}
 
@@ -37,7 +37,3 @@ entry_of s = record { declared = declared s.name s.arguments.now s.sort; is_vari
 
 abbrev pub entries_of : List Signature → List Entry
 entries_of signatures = map entry_of signatures
-
--- the material of the header at this place, or nothing
-abbrev pub material_at : List Header → ℕ → List ℕ
-material_at headers place = option_map_or (λ h. h.material) (slice_get headers place) []

@@ -70,7 +70,7 @@ impl<'a> Directory<'a> {
         self.place(name).is_some()
     }
 
-    /// The place of the first name with the same text, of so many names from the first on.
+    /// The place of the first name with the same text, if it is among the first `count`.
     pub(crate) fn place_before(&self, count: usize, name: Name) -> Option<usize>
         ensures { result ≡ place_in (same_text self.now.bytes name) (take count self.now.names) }
     {
@@ -80,14 +80,14 @@ impl<'a> Directory<'a> {
         }
     }
 
-    /// Whether one of so many names from the first on has the same text.
+    /// Whether one of the first `count` names has the same text.
     pub(crate) fn has_before(&self, count: usize, name: Name) -> bool
         ensures { result ≡ is_among self.now.bytes (take count self.now.names) name }
     {
         self.place_before(count, name).is_some()
     }
 
-    /// Keeps so many names from the first on.
+    /// Keeps the first `count` names.
     pub(crate) fn truncate(&mut self, count: usize)
         ensures { self.new ≡ listing self.old.bytes (take count self.old.names) }
     {

@@ -9,11 +9,12 @@ ghost use Rattle.rec_offences.specs.Offences.{includes_from, passes, include};
 ghost use Rattle.rec_offences.specs.Listing.{entries_of};
 ghost use Rattle.rec_offences.specs.Numbered.{header_names, includes_at, parent_of};
 ghost use Rattle.rec_offences.specs.Inclusion.{IsInclusion, IsAtLevel, IsPastLevel, cut_after, numbers_of};
-ghost use Rattle.rec_offences.specs.Entering.{verdict_of};
+ghost use Rattle.rec_offences.specs.Grouped.{verdict_of};
 
 use crate::directory::Directory;
 use crate::gathering::{gather, includes_at};
 use crate::inclusion::Inclusion;
+use crate::limits::MOST;
 use crate::numbered::{add_sorts, count_rules, symbols_at};
 use crate::ordering::first_target;
 use crate::scope::Scope;
@@ -21,9 +22,6 @@ use crate::signatures::Signature;
 use faults::Memory;
 use rec_reader::{Name, Specification};
 use std::alloc::Global;
-
-/// How many symbols, rules or terms there may be.
-pub(crate) const MOST: usize = 65_535;
 
 /// What is wrong at an entry.
 #[derive(Clone, Copy)]

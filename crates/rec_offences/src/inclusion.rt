@@ -1,7 +1,7 @@
 //! The material that is at hand while specifications are checked.
 ghost use Rattle.std.specs.Prelude.{◌≡◌, ◌-◌, ◌++◌, ◌∷◌, ℕ, List, [], false, true, IsSome, OnOk, length, take};
 ghost use Rattle.rec_reader.specs.declared.syntax_tree.Specification.{Specification};
-ghost use Rattle.rec_offences.specs.Inclusion.{IsAtLevel, IsDeclared, Rises, cut_after, extent_of, last_material, last_number, numbers_of};
+ghost use Rattle.rec_offences.specs.Inclusion.{IsAtLevel, IsDeclared, AreLevels, cut_after, extent_of, last_material, last_number, numbers_of};
 
 use crate::directory::Directory;
 use crate::scope::Scope;
@@ -63,7 +63,7 @@ impl<'a> Inclusion<'a> {
     /// How much the last level has, nothing where there is none.
     fn extent(&self) -> Extent
         ensures { (bytes : List ℕ) (specifications : List Specification)
-            → Rises bytes specifications [] self.now.levels.items
+            → AreLevels bytes specifications [] self.now.levels.items
             → result ≡ extent_of specifications
             (last_material bytes specifications [] self.now.levels.items) }
     {

@@ -16,6 +16,8 @@ mod laws;
 #[cfg(test)]
 mod limit_tests;
 mod limits;
+#[cfg(test)]
+mod long_include_tests;
 mod names;
 mod numbered;
 mod offence;

@@ -8,13 +8,16 @@ ghost use Rattle.rec_offences.specs.Faults.{of_kind, least_with};
 ghost use Rattle.rec_offences.specs.Listing.{entries_of};
 ghost use Rattle.rec_offences.specs.Grouped.{passing_entries};
 
-use crate::entries::{MOST, Verdict};
+use crate::entries::Verdict;
 use crate::names::text_of;
 use crate::offence::{Offence, note_if, note_some};
 use crate::signatures::Signature;
 use rec_reader::{Declaration, Name, Node, Rule, Sequence, Specification, Variables};
 
 const LIMIT: u8 = 13;
+
+/// How many symbols, rules or terms there may be.
+pub(crate) const MOST: usize = 65_535;
 
 const LONGEST_NAME: usize = 255;
 

@@ -1,7 +1,6 @@
 //! The texts of names.
 ghost use Rattle.std.specs.Prelude.{◌≡◌};
 ghost use Rattle.rec_offences.specs.Names.{text_of};
-ghost use Rattle.rec_offences.specs.Material.{headers_of};
 
 use rec_reader::Name;
 

@@ -13,11 +13,10 @@ use Rattle.rec_offences.specs.Offences.{includes_from}
 use Rattle.rec_offences.specs.Faults.{least_with, included_entries, offences_over, offences_after}
 use Rattle.rec_offences.specs.declared.offence.Offence.{Offence}
 use Rattle.rec_offences.specs.declared.entries.Verdict.{Verdict}
-use Rattle.rec_offences.specs.Grouped.{declared_group, used_group}
+use Rattle.rec_offences.specs.Grouped.{declared_group, used_group, verdict_of}
 use Rattle.rec_offences.specs.Listing.{Known, known, Listing, listing}
 use Rattle.rec_offences.specs.Numbered.{header_names, includes_at, offences_at}
-use Rattle.rec_offences.specs.Inclusion.{counted, Rises, last_material, numbers_of}
-use Rattle.rec_offences.specs.Entering.{verdict_of}
+use Rattle.rec_offences.specs.Inclusion.{counted, AreLevels, last_material, numbers_of}
 use Rattle.rec_offences.proofs.Brought.{headers_named}
 use Rattle.rec_offences.proofs.Early.{at_early, early_verdicts}
 use Rattle.rec_offences.proofs.Groups.{declared_is, used_is}
@@ -106,7 +105,7 @@ returns-clause-at_level c =
           ∙ (λ j. listing (sorts j).bytes ((sorts j).names ++ s.sorts))
           ∙ ap (λ ns. listing h.bytes (sorts_of xs ns ++ s.sorts)) (sym keys);
       rules = d.rules ∙ v.past.inclusion.rules ∙ ap (λ ns. counted (length (rules_of xs ns))) (sym keys);
-      levels = subst (λ ls. Rises h.bytes xs [] ls) (sym levels) v.past.levels;
+      levels = subst (λ ls. AreLevels h.bytes xs [] ls) (sym levels) v.past.levels;
       front = (λ j. take (length (last_material h.bytes xs [] (levels j))) (keys j)) ∙ v.past.front ∙ ap (last_material h.bytes xs []) (sym levels);
       symbols =
           d.symbols

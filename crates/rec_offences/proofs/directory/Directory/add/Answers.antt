@@ -1,6 +1,6 @@
 use Rattle.std.proofs.Common.{◌≡◌, ◌-◌, length, ◌∙◌, ap, sym, subst, arith}
 use Rattle.rec_offences.specs.Names.{is_among}
-use Rattle.rec_offences.specs.Indexed.{Rise}
+use Rattle.rec_offences.specs.Indexed.{PlacesRise}
 use Rattle.rec_offences.proofs.Places.{Looks, looks_again, added_last, looks_more}
 use Rattle.rec_offences.proofs.Fronts.{rises_again, rises_more}
 use Rattle.rec_offences.proofs.directory.Directory.add.Goals as goal
@@ -12,7 +12,7 @@ invariant_of-self-then-has c =
     let names = sym c.in_ok-push.ensures.items in
     record {
       places = subst (λ ns. Looks s.text.now ns s.places.entries) names (looks_again s.text.now s.names.items s.places.entries c.args.name there c.self.invariant.places);
-      rising = subst (λ ns. Rise 0 (length ns) s.places.entries) names (rises_again s.names.items c.args.name s.places.entries c.self.invariant.rising);
+      rising = subst (λ ns. PlacesRise 0 (length ns) s.places.entries) names (rises_again s.names.items c.args.name s.places.entries c.self.invariant.rising);
     }
 
 pub invariant_of-self-in-Ok : goal.invariant_of-self-in-Ok
@@ -29,5 +29,5 @@ invariant_of-self-in-Ok c =
     let names = sym c.in_ok-push-2.ensures.items in
     record {
       places = subst (λ ns. Looks s.text.now ns new) names (looks_more s.text.now s.names.items es new c.args.name k i key place last c.self.invariant.places);
-      rising = subst (λ ns. Rise 0 (length ns) new) names (rises_more s.names.items c.args.name es c.self.invariant.rising new k i place last);
+      rising = subst (λ ns. PlacesRise 0 (length ns) new) names (rises_more s.names.items c.args.name es c.self.invariant.rising new k i place last);
     }

@@ -1,7 +1,7 @@
 use Rattle.std.proofs.Common.{◌<◌, ℕ, ◌-◌, length, nat_eq, inl, inr, refl, sym, subst, ◌∙◌, arith}
 use Rattle.std.specs.Global.{Vec}
 use Rattle.std.specs.Cmp.Lexicographic.{pointwise}
-use Rattle.rec_offences.specs.Indexed.{Rise}
+use Rattle.rec_offences.specs.Indexed.{PlacesRise}
 use Rattle.rec_offences.proofs.Places.{Looks}
 use Rattle.rec_offences.proofs.Fronts.{popped_found, popped_rises, no_entries, front_rises, front_found}
 use Rattle.rec_offences.proofs.directory.Directory.truncate.Goals as goal
@@ -18,7 +18,7 @@ invariant_of-self c =
     let rises = front_rises d.bytes d.names c.args.count es l.rising (inr (n - 1, e, omega (arith, some), (sym c.in-Some.ensures.entry), c.if-place-count.true)) in
     record {
       places = subst (λ b. Looks b s.names.items es) (sym l.text) (subst (λ x. Looks d.bytes x es) (sym l.names) (front_found d.bytes d.names c.args.count es l.rising rises l.found));
-      rising = subst (λ x. Rise 0 (length x) es) (sym l.names) rises;
+      rising = subst (λ x. PlacesRise 0 (length x) es) (sym l.names) rises;
     }
 
 pub loop-place-preserved-else-place-count : goal.loop-place-preserved-else-place-count
@@ -46,5 +46,5 @@ invariant_of-self-in_default c =
     let rises = front_rises d.bytes d.names c.args.count es l.rising (inl (no_entries es f.1)) in
     record {
       places = subst (λ b. Looks b s.names.items es) (sym l.text) (subst (λ x. Looks d.bytes x es) (sym l.names) (front_found d.bytes d.names c.args.count es l.rising rises l.found));
-      rising = subst (λ x. Rise 0 (length x) es) (sym l.names) rises;
+      rising = subst (λ x. PlacesRise 0 (length x) es) (sym l.names) rises;
     }

@@ -4,7 +4,7 @@ use Rattle.std.specs.Str.{bytes_eq}
 use Rattle.std.specs.Cmp.Lexicographic.{pointwise}
 use Rattle.rec_offences.specs.Names.{text_of}
 use Rattle.rec_offences.specs.Listing.{place_in}
-use Rattle.rec_offences.specs.Indexed.{Rise}
+use Rattle.rec_offences.specs.Indexed.{PlacesRise}
 use Rattle.rec_offences.proofs.Fronts.{below}
 use Rattle.rec_offences.proofs.directory.Directory.truncate.Given as goal
 
@@ -14,7 +14,7 @@ invariant-loop-place l =
       text : l.self-inside.text.now ≡ l.fn.self.bytes;
       names : l.self-inside.names.items ≡ take l.count l.fn.self.names;
       found : (q : List ℕ) → below l.count (lookup (λ k. pointwise nat_eq q k.items) l.self-inside.places.entries) ≡ below l.count (place_in (λ n. bytes_eq q (text_of l.fn.self.bytes n)) l.fn.self.names);
-      rising : Rise 0 (length l.fn.self.names) l.self-inside.places.entries;
+      rising : PlacesRise 0 (length l.fn.self.names) l.self-inside.places.entries;
     }
 
 abbrev pub decreases-loop-place : goal.decreases-loop-place

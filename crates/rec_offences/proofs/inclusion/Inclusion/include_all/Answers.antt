@@ -6,7 +6,7 @@ use Rattle.rec_offences.specs.Names.{same_text}
 use Rattle.rec_offences.specs.Listing.{place_in}
 use Rattle.rec_offences.specs.Material.{included, headers_of}
 use Rattle.rec_offences.specs.Offences.{includes_from}
-use Rattle.rec_offences.specs.Entering.{verdict_of}
+use Rattle.rec_offences.specs.Grouped.{verdict_of}
 use Rattle.rec_offences.specs.Inclusion.{cut_after, numbers_of}
 use Rattle.rec_offences.specs.Numbered.{header_names, target, first_target}
 use Rattle.rec_offences.proofs.Brought.{target_before}
@@ -56,29 +56,32 @@ loop-entry-preserved c =
     let settled : (b : Bool) (j : Inclusion) → c.match-place_before.is_there ≡ b → c.match-place_before.self ≡ j → A b j → A c.match-place_before.is_there c.match-place_before.self =
     λ b j e f k. subst (λ d. A d c.match-place_before.self) (sym e) (subst (A b) (sym f) k) in
     let L : Inclusion → Type 0 = λ j. j.levels ≡ c.return_to-is_there.new.self.levels in
-    record { levels = elim c.match-place_before.branch [
-      | in-None w ↦ subst L (sym w.self-is) l.invariant.levels
-      | in-Some w ↦ subst L (sym w.self-is) l.invariant.levels
-      | in-Some-2+in_ok-verdict-in-Some-2 w ↦ subst L (sym w.self-is) (w.include.ensures.levels ∙ l.invariant.levels)
-    ]; along = elim c.match-place_before.branch [
-      | in-None w ↦
-          settled l.is_there l.self w.is_there-is w.self-is
-          (past_unknown bytes specifications number xs rest x l.is_there l.verdicts.items c.push.new.self.items l.self a (more _ w.verdict-is)
-          (targeted bytes h.names (header_names specifications) number x c.place_before.result None names c.place_before.ensures w.in-None.is))
-      | in-Some w ↦
-          settled false l.self w.is_there-is w.self-is
-          (past_first bytes specifications number xs rest x l.verdicts.items c.push.new.self.items w.verdict_on_first-verdict.result w.in-Some.field-0 l.self
-          (subst Q w.if-is_there.true a) (more w.verdict_on_first-verdict.result w.verdict-is)
-          (targeted bytes h.names (header_names specifications) number x c.place_before.result (Some w.in-Some.field-0) names c.place_before.ensures w.in-Some.is)
-          (w.verdict_on_first-verdict.ensures bytes specifications a.inclusion))
-      | in-Some-2+in_ok-verdict-in-Some-2 w ↦
-          let v = w.in_ok-verdict-in-Some-2.verdict in
-          settled false w.include.new.self (w.is_there-is ∙ w.if-is_there.false) w.self-is
-          (past_other bytes specifications number xs rest x l.verdicts.items c.push.new.self.items v w.in-Some.field-0 l.self w.include.new.self
-          (subst Q w.if-is_there.false a) (more v w.verdict-is)
-          (targeted bytes h.names (header_names specifications) number x c.place_before.result (Some w.in-Some.field-0) names c.place_before.ensures w.in-Some.is)
-          w.in_ok-verdict-in-Some-2.ensures.verdict w.in_ok-verdict-in-Some-2.ensures.kept w.include.ensures.levels w.in_ok-verdict-in-Some-2.ensures.material)
-    ]; }
+    record {
+      levels = elim c.match-place_before.branch [
+        | in-None w ↦ subst L (sym w.self-is) l.invariant.levels
+        | in-Some w ↦ subst L (sym w.self-is) l.invariant.levels
+        | in-Some-2+in_ok-verdict-in-Some-2 w ↦ subst L (sym w.self-is) (w.include.ensures.levels ∙ l.invariant.levels)
+      ];
+      along = elim c.match-place_before.branch [
+        | in-None w ↦
+            settled l.is_there l.self w.is_there-is w.self-is
+            (past_unknown bytes specifications number xs rest x l.is_there l.verdicts.items c.push.new.self.items l.self a (more _ w.verdict-is)
+            (targeted bytes h.names (header_names specifications) number x c.place_before.result None names c.place_before.ensures w.in-None.is))
+        | in-Some w ↦
+            settled false l.self w.is_there-is w.self-is
+            (past_first bytes specifications number xs rest x l.verdicts.items c.push.new.self.items w.verdict_on_first-verdict.result w.in-Some.field-0 l.self
+            (subst Q w.if-is_there.true a) (more w.verdict_on_first-verdict.result w.verdict-is)
+            (targeted bytes h.names (header_names specifications) number x c.place_before.result (Some w.in-Some.field-0) names c.place_before.ensures w.in-Some.is)
+            (w.verdict_on_first-verdict.ensures bytes specifications a.inclusion))
+        | in-Some-2+in_ok-verdict-in-Some-2 w ↦
+            let v = w.in_ok-verdict-in-Some-2.verdict in
+            settled false w.include.new.self (w.is_there-is ∙ w.if-is_there.false) w.self-is
+            (past_other bytes specifications number xs rest x l.verdicts.items c.push.new.self.items v w.in-Some.field-0 l.self w.include.new.self
+            (subst Q w.if-is_there.false a) (more v w.verdict-is)
+            (targeted bytes h.names (header_names specifications) number x c.place_before.result (Some w.in-Some.field-0) names c.place_before.ensures w.in-Some.is)
+            w.in_ok-verdict-in-Some-2.ensures.verdict w.in_ok-verdict-in-Some-2.ensures.kept w.include.ensures.levels w.in_ok-verdict-in-Some-2.ensures.material)
+      ];
+    }
 
 at_end : (c : goal.After-loop-entry) → Ended c.args.headers.now.bytes c.args.specifications.now c.args.number c.includes_at-entries.result.now c.loop-entry.verdicts.items c.loop-entry.self
 at_end c =
