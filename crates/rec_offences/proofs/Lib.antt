@@ -3,6 +3,7 @@ pub mod Including
 pub mod Noted
 pub mod Order
 pub mod Places
+pub mod SortPlaces
 pub mod Fronts
 pub mod Forests
 pub mod Verdicts

@@ -9,6 +9,7 @@ pub mod Branches
 pub mod Walk
 pub mod Indexed
 pub mod KnownKept
+pub mod SortsKept
 pub mod Inclusion
 pub mod Visited
 pub mod Grouped

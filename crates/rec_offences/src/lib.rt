@@ -26,6 +26,7 @@ mod ordering;
 mod ordering_tests;
 mod scope;
 mod signatures;
+mod sorts;
 mod terms;
 #[cfg(test)]
 mod tests;

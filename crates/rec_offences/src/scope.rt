@@ -7,8 +7,8 @@ ghost use Rattle.rec_offences.specs.Offences.{has_other_sort};
 ghost use Rattle.rec_offences.specs.Listing.{known, entry_of, entries_of};
 
 use crate::directory::Directory;
-use crate::names::text_of;
 use crate::signatures::Signature;
+use crate::sorts::SortNumbers;
 use faults::Memory;
 use rec_reader::Name;
 use std::alloc::Global;
@@ -19,6 +19,7 @@ use std::marker::Model;
 pub(crate) struct Scope<'a> {
     names: Directory<'a>,
     signatures: Vec<Signature<'a>>,
+    sorts: SortNumbers<'a>,
 }
 
 impl<'a> Model for Scope<'a> {
@@ -40,6 +41,7 @@ impl<'a> Scope<'a> {
         Scope {
             names: Directory::new(alloc, text),
             signatures: Vec::new(alloc),
+            sorts: SortNumbers::new(alloc, text),
         }
     }
 
@@ -54,8 +56,7 @@ impl<'a> Scope<'a> {
     pub(crate) fn differ(&self, first: Name, second: Name) -> bool
         ensures { result ≡ not (same_text self.now.bytes first second) }
     {
-        let text = self.names.text();
-        text_of(text, first) != text_of(text, second)
+        self.sorts.differ(first, second)
     }
 
     /// How many names are declared, those that are repeated too.
@@ -112,6 +113,7 @@ impl<'a> Scope<'a> {
         ensures { OnOk result (self.new
             ≡ known self.old.bytes (self.old.entries ++ entry_of signature.entry ∷ [])) }
     {
+        self.sorts.note_sorts(signature.arguments, signature.sort)?;
         self.signatures.push(signature)?;
         match self.names.add(signature.name) {
             Ok(()) => Ok(()),

@@ -15,7 +15,7 @@ pub(crate) fn fault_of(alloc: Global, text: &[u8]) -> Result<(u8, u64), Fail> {
 }
 
 // Inputs of one specification, with the kind and the place of the fault, or twice 0.
-static SINGLE: [(&[u8], u8, u64); 41] = [
+static SINGLE: [(&[u8], u8, u64); 42] = [
     (b"REC-SPEC A END-SPEC", 0, 0),
     (
         b"REC-SPEC A SORTS S CONS a : -> S OPNS f : S -> S VARS X : S RULES f(X) -> X EVAL f(a) END-SPEC",
@@ -105,6 +105,12 @@ static SINGLE: [(&[u8], u8, u64); 41] = [
         b"REC-SPEC A SORTS S T CONS a : -> S b : -> T RULES a -> a if b <> b END-SPEC",
         0,
         0,
+    ),
+    // one sort named at several places, and another of the same length that ends in another byte
+    (
+        b"REC-SPEC A SORTS Sa Sb CONS a : -> Sa b : -> Sb f : Sa Sb -> Sa EVAL f(a,a) END-SPEC",
+        8,
+        73,
     ),
     // a head that isn't declared has no sort
     (

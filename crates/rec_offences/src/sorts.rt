@@ -1,0 +1,105 @@
+//! Sorts by number, so that the texts of two need not be compared again.
+ghost use Rattle.std.specs.Prelude.{◌≡◌, ◌++◌, ◌∷◌, [], IfOk, OnErr, OnOk, Some, not, if◌then◌else◌};
+ghost use Rattle.rec_offences.specs.Names.{is_among, same_text};
+ghost use Rattle.rec_offences.specs.Listing.{listing, place_of};
+
+use crate::directory::Directory;
+use crate::names::text_of;
+use faults::Memory;
+use indexmap::IndexMap;
+use rec_reader::Name;
+use std::alloc::Global;
+use std::marker::Model;
+
+/// The numbers of names of sorts: two have the same number exactly where they have the same text.
+/// A number is looked up by where its name stands, so that the text is read once.
+#[derive(Drop)]
+pub(crate) struct SortNumbers<'a> {
+    texts: Directory<'a>,
+    numbers: IndexMap<(usize, usize), usize>,
+}
+
+impl<'a> Model for SortNumbers<'a> {
+    ghost use Rattle.std.specs.Prelude.{List, ℕ};
+
+    ghost Value = { List ℕ };
+
+    ghost use Rattle.rec_offences.specs.SortsKept.{numbers_shown, AreNumbersKept};
+
+    ghost view = { λ s. numbers_shown s };
+
+    ghost invariant = { λ s. AreNumbersKept s };
+}
+
+/// The place of a name's text, which is put at the end if it isn't there. An `Err` changes nothing.
+fn number_of(texts: &mut Directory, name: Name) -> Result<usize, Memory>
+    ensures place { IfOk result (λ p. place_of texts.new name ≡ Some p) }
+    ensures ok { OnOk result (texts.new ≡ listing texts.old.bytes
+        (if is_among texts.old.bytes texts.old.names name then texts.old.names
+        else texts.old.names ++ name ∷ [])) }
+    ensures err { OnErr result (texts.new ≡ texts.old) }
+{
+    if let Some(place) = texts.place(name) {
+        return Ok(place);
+    }
+    let place = texts.len();
+    texts.add(name)?;
+    Ok(place)
+}
+
+impl<'a> SortNumbers<'a> {
+    pub(crate) fn new(alloc: Global, text: &'a [u8]) -> Self
+        ensures { result ≡ text.now }
+    {
+        SortNumbers {
+            texts: Directory::new(alloc, text),
+            numbers: IndexMap::new(alloc),
+        }
+    }
+
+    /// Numbers a name.
+    pub(crate) fn note(&mut self, name: Name) -> Result<(), Memory>
+        ensures { self.new ≡ self.old }
+    {
+        let key = (name.start, name.end);
+        if self.numbers.contains_key(&key) {
+            return Ok(());
+        }
+        let number = number_of(&mut self.texts, name)?;
+        match self.numbers.insert(key, number) {
+            Ok(_) => Ok(()),
+            Err(_) => Err(Memory),
+        }
+    }
+
+    /// Numbers the sorts of arguments, and then a sort. Where that is numbered, they are too, since
+    /// all names of a declaration share them.
+    pub(crate) fn note_sorts(&mut self, arguments: &[Name], sort: Name) -> Result<(), Memory>
+        ensures { self.new ≡ self.old }
+    {
+        if self.numbers.contains_key(&(sort.start, sort.end)) {
+            return Ok(());
+        }
+        for argument in arguments {
+            self.note(*argument)?;
+        }
+        self.note(sort)
+    }
+
+    /// Whether two names have different texts.
+    pub(crate) fn differ(&self, first: Name, second: Name) -> bool
+        ensures { result ≡ not (same_text self.now first second) }
+    {
+        let numbers = (
+            self.numbers.get(&(first.start, first.end)).copied(),
+            self.numbers.get(&(second.start, second.end)).copied(),
+        );
+        match numbers {
+            (Some(first), Some(second)) => first != second,
+            _ => {
+                let text = self.texts.text();
+                text_of(text, first) != text_of(text, second)
+            }
+        }
+    }
+}
