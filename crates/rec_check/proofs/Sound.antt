@@ -25,12 +25,6 @@ use Rattle.rec_check.proofs.Repeating.{Within, within_more, within_after, fewer,
 pub record Holds (symbols more : List Named) : Type 0 where
   pub each : (s : Named) → list_any (same_symbol s) symbols ≡ true → list_any (same_symbol s) more ≡ true
 
-pub holds_self : (symbols : List Named) → Holds symbols symbols
-holds_self symbols = record { each = λ s h. h }
-
-pub holds_through : (a b c : List Named) → Holds a b → Holds b c → Holds a c
-holds_through a b c p q = record { each = λ s h. q.each s (p.each s h) }
-
 pub or_left : (a b : Bool) → a ≡ true → (a || b) ≡ true
 or_left a b h = ap (λ x. x || b) h
 
