@@ -79,9 +79,6 @@ module _ (bytes : List ℕ) (Reads : List Named → Specification → Type 0) (k
   symbols-append : (specs : List Specification) (a b : List ℕ) → symbols_of specs (a ++ b) ≡ symbols_of specs a ++ symbols_of specs b
   symbols-append specs a b = ap (flat_map symbols_by) (at-append specs a b) ∙ flat_map-append symbols_by (specifications_at specs a) (specifications_at specs b)
 
-  rules-append : (specs : List Specification) (a b : List ℕ) → rules_of specs (a ++ b) ≡ rules_of specs a ++ rules_of specs b
-  rules-append specs a b = ap (flat_map (λ s. s.rules)) (at-append specs a b) ∙ flat_map-append (λ s. s.rules) (specifications_at specs a) (specifications_at specs b)
-
   names-append : (specs : List Specification) (a b : List ℕ) → symbol_names specs (a ++ b) ≡ symbol_names specs a ++ symbol_names specs b
   names-append specs a b = ap (map (λ d. d.name)) (symbols-append specs a b) ∙ map-append (λ d. d.name) (symbols_of specs a) (symbols_of specs b)
 
