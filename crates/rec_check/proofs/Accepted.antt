@@ -1,5 +1,5 @@
 -- An input without offence is spelled.
-use Rattle.std.proofs.Common.{◌≡◌, ℕ, ◌-◌, ◌<◌, ◌≤◌, Bool, true, false, ◌&&◌, List, [], ◌∷◌, ◌++◌, length, fold, take, slice_get, Option, Some, None, is_some, All, refl, sym, ap, subst, ◌∙◌, arith, length-append}
+use Rattle.std.proofs.Common.{◌≡◌, ℕ, ◌-◌, ◌<◌, ◌≤◌, Bool, true, false, ◌&&◌, List, [], ◌∷◌, ◌++◌, length, take, slice_get, Option, Some, None, is_some, All, refl, sym, ap, subst, ◌∙◌, arith, length-append}
 use Rattle.std.specs.Prelude.{nat_lt, nat_le, if◌then◌else◌}
 use Rattle.std.specs.Option.{option_to_list}
 use Rattle.std.specs.List.{list_all, flat_map}
@@ -13,15 +13,16 @@ use Rattle.symbol_pool.proofs.Places.{slice_get-append}
 use Rattle.rec_reader.specs.declared.syntax_tree.Specification.{Specification}
 use Rattle.rec_reader.specs.Parsed.{Parsed}
 use Rattle.rec_reader.specs.Whole.{HasWholeTerms}
-use Rattle.rec_offences.specs.Material.{Header, symbols_by, specifications_at, headers_of, header_after}
+use Rattle.rec_offences.specs.Material.{Header, symbols_by, specifications_at, included, headers_of, header_after, material_of}
 use Rattle.rec_offences.specs.Faults.{offences_after, offences_from, offences_of}
+use Rattle.rec_offences.proofs.Inputs.{headers_more, headers_counted}
+use Rattle.rec_offences.proofs.Brought.{material_is}
 use Rattle.rec_check.specs.Rule.{◌>>=◌}
 use Rattle.rec_check.specs.Symbols.{named_in, with_symbols}
 use Rattle.rec_check.specs.Spelled.{Specified, rules_of, terms_in, with_few_rules, most_rules}
-use Rattle.rec_check.specs.Run.{last_of, before_last, material_after, spelled_with, spelled_in}
+use Rattle.rec_check.specs.Run.{last_of, spelled_with, spelled_in}
 use Rattle.rec_check.proofs.Chains.{goes}
 use Rattle.rec_check.proofs.Faultless.{left_empty, right_empty, Faultless, faultless, material}
-use Rattle.rec_check.proofs.Including.{length-headers}
 use Rattle.rec_check.proofs.Repeating.{all_added}
 use Rattle.rec_check.proofs.Readable.{rules_spelled, length-rules, terms_spelled, TermReads}
 use Rattle.rec_check.proofs.Entire.{Together, IsSound, together_of, sound_of, together_more, included_sound, terms_of_last, more_symbols}
@@ -58,10 +59,6 @@ all_before : (earlier : List Specification) (s : Specification) → take (length
 all_before [] s = refl
 all_before (t ∷ earlier) s = ap (λ ts. t ∷ ts) (all_before earlier s)
 
-fold_push : {A B : Type 0} (f : B → A → B) (b : B) (xs : List A) (x : A) → fold f b (xs ++ x ∷ []) ≡ f (fold f b xs) x
-fold_push f b [] x = refl
-fold_push f b (y ∷ xs) x = fold_push f (f b y) xs x
-
 module _ (bytes : List ℕ) where
   module _ (earlier : List Specification) (s : Specification) (f : Faultless bytes earlier s) (w : HasWholeTerms s) (all : All (λ h. IsSound bytes earlier h.material) (headers_of bytes earlier)) where
     abbrev now : List Specification
@@ -76,14 +73,19 @@ module _ (bytes : List ℕ) where
         let l : length earlier ≤ length now = omega arith in
         sound_of bytes now h.material (specifications_at earlier h.material) (still_within (length earlier) (length now) h.material l x.within) (still_at earlier (s ∷ []) h.material x.within) (together_of bytes earlier h.material x)
 
+    -- its material: what it includes, and itself
     abbrev run_material : List ℕ
-    run_material = material_after bytes earlier s
+    run_material = material bytes earlier s ++ length earlier ∷ []
+
+    is_run_material : material_of bytes now (length earlier) ≡ run_material
+    is_run_material =
+        material_is bytes now (length earlier) s (at_end earlier s)
+        ∙ ap (λ ss. included bytes (headers_of bytes ss) s.includes ++ length earlier ∷ []) (all_before earlier s)
 
     whole_material : specifications_at now run_material ≡ specifications_at earlier (material bytes earlier s) ++ s ∷ []
     whole_material =
-        flat_map-append (λ n. option_to_list (slice_get now n)) (material bytes earlier s) (length (headers_of bytes earlier) ∷ [])
-        ∙ (λ i. still_at earlier (s ∷ []) (material bytes earlier s) inner.within i ++ (option_to_list (slice_get now (length-headers bytes earlier i)) ++ []))
-        ∙ ap (λ o. specifications_at earlier (material bytes earlier s) ++ (option_to_list o ++ [])) (at_end earlier s)
+        flat_map-append (λ n. option_to_list (slice_get now n)) (material bytes earlier s) (length earlier ∷ [])
+        ∙ (λ i. still_at earlier (s ∷ []) (material bytes earlier s) inner.within i ++ (option_to_list (at_end earlier s i) ++ []))
 
     together : Together bytes (specifications_at earlier (material bytes earlier s) ++ s ∷ [])
     together = together_more bytes earlier s f w (together_of bytes earlier (material bytes earlier s) inner)
@@ -92,20 +94,21 @@ module _ (bytes : List ℕ) where
     own_sound =
         let e = length-append earlier (s ∷ []) in
         let l : length earlier ≤ length now = omega arith in
-        let k : length (headers_of bytes earlier) < length now = let h = length-headers bytes earlier in omega arith in
-        let e2 : nat_lt (length (headers_of bytes earlier)) (length now) ≡ true = grind (arith, nat_tests) in
+        let k : length earlier < length now = omega arith in
+        let e2 : nat_lt (length earlier) (length now) ≡ true = grind (arith, nat_tests) in
         sound_of bytes now run_material (specifications_at earlier (material bytes earlier s) ++ s ∷ [])
-        (list_all-append (λ n. nat_lt n (length now)) (material bytes earlier s) (length (headers_of bytes earlier) ∷ [])
+        (list_all-append (λ n. nat_lt n (length now)) (material bytes earlier s) (length earlier ∷ [])
         ∙ (λ i. still_within (length earlier) (length now) (material bytes earlier s) l inner.within i && (e2 i && true)))
         whole_material together
 
     next_stands : All (λ h. IsSound bytes now h.material) (headers_of bytes now)
     next_stands =
-        let e : headers_of bytes now ≡ headers_of bytes earlier ++ header_after bytes (headers_of bytes earlier) s ∷ [] = fold_push (λ hs t. hs ++ header_after bytes hs t ∷ []) [] earlier s in
-        subst (All (λ h. IsSound bytes now h.material)) (sym e)
+        let own : IsSound bytes now (header_after bytes (headers_of bytes earlier) s).material =
+        subst (λ n. IsSound bytes now (material bytes earlier s ++ n ∷ [])) (sym (headers_counted bytes earlier)) own_sound in
+        subst (All (λ h. IsSound bytes now h.material)) (sym (headers_more bytes earlier s))
         (All-append (λ h. IsSound bytes now h.material) (headers_of bytes earlier) (header_after bytes (headers_of bytes earlier) s ∷ [])
         (All-weaker (λ h. IsSound bytes earlier h.material) (λ h. IsSound bytes now h.material) kept (headers_of bytes earlier) all)
-        (All-cons (λ h. IsSound bytes now h.material) (header_after bytes (headers_of bytes earlier) s) [] own_sound (All-nil (λ h. IsSound bytes now h.material))))
+        (All-cons (λ h. IsSound bytes now h.material) (header_after bytes (headers_of bytes earlier) s) [] own (All-nil (λ h. IsSound bytes now h.material))))
 
     -- what the last specification spells
     abbrev parts : List Specification → Option Specified
@@ -142,9 +145,8 @@ module _ (bytes : List ℕ) where
         let e = length-append earlier (s ∷ []) in
         let k : length now - 1 ≡ length earlier = omega arith in
         let at : last_of now ≡ Some s = ap (slice_get now) k ∙ at_end earlier s in
-        let before : before_last now ≡ earlier = ap (λ n. take n now) k ∙ all_before earlier s in
         ap (λ o. is_some (spelled_with S o)) at
-        ∙ ap (λ e. is_some (parts (specifications_at now (material_after bytes e s)))) before
+        ∙ ap (λ ms. is_some (parts (specifications_at now ms))) (ap (material_of bytes now) k ∙ is_run_material)
         ∙ ap (λ us. is_some (parts us)) whole_material
         ∙ parts_spelled
 

@@ -11,11 +11,10 @@ use Rattle.rec_offences.specs.Material.{material_of}
 use Rattle.rec_check.specs.declared.stop.Stop.{Stop}
 use Rattle.rec_check.specs.Gives.{Gives}
 use Rattle.rec_reader.specs.Parsed.{Parsed}
-use Rattle.rec_check.specs.Run.{before_last, last_of, material_after, spelled_with, spelled_in}
+use Rattle.rec_check.specs.Run.{last_of, spelled_with, spelled_in}
 use Rattle.rec_check.specs.Spelled.{Specified, spelled_by}
 use Rattle.rec_check.specs.Term.{Scope, all_of, tree_in}
 use Rattle.rec_check.specs.Rule.{◌>>=◌, condition_in, sides_in}
-use Rattle.rec_check.proofs.Including.{last_material}
 
 pub goes : {A B : Type 0} (o : Option A) (x : A) (f : A → Option B) → o ≡ Some x → (o >>= f) ≡ f x
 goes o x f e = ap (λ p. p >>= f) e
@@ -65,6 +64,5 @@ pub last_gives : {X : Type 0} (view : X → Specified) (syntax : Parsed) (result
 last_gives view syntax result text specifications last material terms t s l m n h =
     let P : Option Specified → Type 0 = λ o. Gives view result o in
     let at : Some last ≡ last_of syntax.specifications = l ∙ ap last_of s in
-    let made : material ≡ material_after syntax.bytes (before_last syntax.specifications) last = m ∙ last_material syntax.bytes syntax.specifications last at in
-    let parts : spelled_by text specifications material terms ≡ spelled_with syntax (Some last) = λ i. spelled_by (t i) (s i) (made i) (n i) in
+    let parts : spelled_by text specifications material terms ≡ spelled_with syntax (Some last) = λ i. spelled_by (t i) (s i) (m i) (n i) in
     subst P (parts ∙ ap (spelled_with syntax) at) h

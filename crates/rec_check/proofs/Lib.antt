@@ -5,7 +5,6 @@ pub mod Kept
 pub mod Declaring
 pub mod Gathering
 pub mod Chains
-pub mod Including
 pub mod Heads
 pub mod Numbered
 pub mod Plans

@@ -1,5 +1,5 @@
 -- Spelling each of a list, one after another.
-use Rattle.std.proofs.Common.{◌≡◌, ℕ, ◌+◌, ◌<◌, ◌≤◌, length, get_or, drop, List, [], ◌∷◌, ◌++◌, Option, Some, None, Result, Ok, Err, refl, sym, ap, subst, ◌∙◌}
+use Rattle.std.proofs.Common.{◌≡◌, ℕ, ◌+◌, ◌<◌, ◌≤◌, length, get_or, drop, List, [], ◌∷◌, ◌++◌, Option, Some, None, Result, Ok, Err, refl, sym, ap, ◌∙◌}
 use Rattle.std.specs.Prelude.{option_and_then}
 use Rattle.std.specs.Option.{option_map}
 use Rattle.std.proofs.lemmas.List.{append_assoc, append-nil, at_drop_more, at_drop_all}
@@ -31,10 +31,6 @@ module _ {X Y : Type 0} (view : X → Y) where
   pub given : (r : Result X Stop) (x : X) (spelled : Option Y) → r ≡ Ok x → Gives view r spelled → spelled ≡ Some (view x)
   given (Ok y) x spelled e h = let same : y ≡ x = cc in h ∙ ap (λ z. Some (view z)) same
   given (Err e) x spelled is h = absurd cc
-
-  pub missed : (r : Result X Stop) (e : Stop) (spelled : Option Y) → r ≡ Err e → Gives view r spelled → Stops e spelled
-  missed (Ok y) e spelled is h = absurd cc
-  missed (Err f) e spelled is h = let same : f ≡ e = cc in let P : Stop → Type 0 = λ s. Stops s spelled in subst P same h
 
 -- what stops one stops all
 pub all_stop : {Y Z : Type 0} (e : Stop) (one : Option Y) (all : Option Z) → (one ≡ None → all ≡ None) → Stops e one → Stops e all

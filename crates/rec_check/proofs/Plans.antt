@@ -1,5 +1,5 @@
 -- What is spelled may be planned.
-use Rattle.std.proofs.Common.{◌≡◌, ℕ, ◌≤◌, Bool, true, false, ◌⊎◌, inl, inr, List, [], ◌∷◌, ◌++◌, length, Option, Some, None, All, refl, sym, ap, subst, ◌∙◌, arith, position}
+use Rattle.std.proofs.Common.{◌≡◌, ℕ, ◌-◌, ◌≤◌, Bool, true, false, ◌⊎◌, inl, inr, List, [], ◌∷◌, ◌++◌, length, Option, Some, None, All, refl, sym, ap, subst, ◌∙◌, arith, position}
 use Rattle.std.specs.Prelude.{option_and_then, nat_le, if◌then◌else◌}
 use Rattle.std.specs.List.{list_all}
 use Rattle.std.proofs.lemmas.Bool.Decides.{nat_tests}
@@ -21,9 +21,9 @@ use Rattle.rec_reader.specs.declared.syntax_tree.Specification.{Specification}
 use Rattle.std.specs.Str.{bytes_eq}
 use Rattle.rec_reader.specs.Parsed.{Parsed}
 use Rattle.rec_offences.specs.Names.{text_of}
-use Rattle.rec_offences.specs.Material.{symbols_of, specifications_at}
+use Rattle.rec_offences.specs.Material.{symbols_of, specifications_at, material_of}
 use Rattle.rec_check.specs.Symbols.{named_in, with_symbols, widest_of}
-use Rattle.rec_check.specs.Run.{MayBeRun, last_of, before_last, material_after, spelled_with, spelled_in}
+use Rattle.rec_check.specs.Run.{MayBeRun, last_of, spelled_with, spelled_in}
 use Rattle.rec_check.specs.Term.{Scope, all_of, item_in, tree_in}
 use Rattle.rec_check.specs.Rule.{◌>>=◌, condition_in, rule_in, variables_in}
 use Rattle.rec_check.specs.Spelled.{Specified, nothing, variables_of, rules_in, rules_of, terms_in, with_few_rules, most_rules, spelled_by}
@@ -221,4 +221,4 @@ last_runs syntax made h = by (last_of syntax.specifications) h
   where
     by : (o : Option Specification) → spelled_with syntax o ≡ Some made → MayBeRun made
     by None h = subst MayBeRun (cc_some nothing made h) nothing_runs
-    by (Some last) h = spelled_runs syntax.bytes syntax.specifications (material_after syntax.bytes (before_last syntax.specifications) last) last.terms made h
+    by (Some last) h = spelled_runs syntax.bytes syntax.specifications (material_of syntax.bytes syntax.specifications (length syntax.specifications - 1)) last.terms made h

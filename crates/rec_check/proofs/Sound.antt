@@ -25,12 +25,6 @@ use Rattle.rec_check.proofs.Repeating.{Within, within_more, within_after, fewer,
 pub record Holds (symbols more : List Named) : Type 0 where
   pub each : (s : Named) → list_any (same_symbol s) symbols ≡ true → list_any (same_symbol s) more ≡ true
 
-pub holds_self : (symbols : List Named) → Holds symbols symbols
-holds_self symbols = record { each = λ s h. h }
-
-pub holds_through : (a b c : List Named) → Holds a b → Holds b c → Holds a c
-holds_through a b c p q = record { each = λ s h. q.each s (p.each s h) }
-
 pub or_left : (a b : Bool) → a ≡ true → (a || b) ≡ true
 or_left a b h = ap (λ x. x || b) h
 
@@ -84,9 +78,6 @@ module _ (bytes : List ℕ) (Reads : List Named → Specification → Type 0) (k
 
   symbols-append : (specs : List Specification) (a b : List ℕ) → symbols_of specs (a ++ b) ≡ symbols_of specs a ++ symbols_of specs b
   symbols-append specs a b = ap (flat_map symbols_by) (at-append specs a b) ∙ flat_map-append symbols_by (specifications_at specs a) (specifications_at specs b)
-
-  rules-append : (specs : List Specification) (a b : List ℕ) → rules_of specs (a ++ b) ≡ rules_of specs a ++ rules_of specs b
-  rules-append specs a b = ap (flat_map (λ s. s.rules)) (at-append specs a b) ∙ flat_map-append (λ s. s.rules) (specifications_at specs a) (specifications_at specs b)
 
   names-append : (specs : List Specification) (a b : List ℕ) → symbol_names specs (a ++ b) ≡ symbol_names specs a ++ symbol_names specs b
   names-append specs a b = ap (map (λ d. d.name)) (symbols-append specs a b) ∙ map-append (λ d. d.name) (symbols_of specs a) (symbols_of specs b)

@@ -1,22 +1,17 @@
 -- The first condition of the rules that are run.
-use Rattle.std.specs.Prelude.{◌≡◌, ℕ, min, List, [], ◌∷◌, Option, Some, None}
-use Rattle.std.specs.Option.{option_map_or, option_to_list}
+use Rattle.std.specs.Prelude.{◌≡◌, ℕ, ◌-◌, min, List, [], ◌∷◌, length, Option, Some, None}
+use Rattle.std.specs.Option.{option_to_list}
 use Rattle.std.specs.List.{flat_map}
 use Rattle.rec_reader.specs.Parsed.{Parsed}
 use Rattle.rec_reader.specs.declared.syntax_tree.Rule.{Rule}
 use Rattle.rec_reader.specs.declared.fail.ReadFail.{ReadFail}
 use Rattle.rec_reader.specs.declared.fail.ReadFail.TheVariants.{Refused, Memory}
-use Rattle.rec_offences.specs.Material.{rules_of}
-use Rattle.rec_check.specs.Run.{last_of, before_last, material_after}
-use Rattle.rec_check.specs.declared.conditions.TheConstants.{CONDITIONAL}
+use Rattle.rec_offences.specs.Material.{material_of, rules_of}
 
--- the rules of the last specification's material, included ones too
+-- the rules that are run: those of the material of the last specification, included ones first and its own last;
+-- none where there are no specifications
 abbrev pub run_rules : Parsed → List Rule
-run_rules s =
-    option_map_or
-    (λ last. rules_of s.specifications (material_after s.bytes (before_last s.specifications) last))
-    (last_of s.specifications)
-    []
+run_rules s = rules_of s.specifications (material_of s.bytes s.specifications (length s.specifications - 1))
 
 -- the places of `if` in rules
 abbrev pub ifs_of : List Rule → List ℕ
@@ -36,7 +31,7 @@ least_with found (n ∷ ns) = least_with (lesser found n) ns
 abbrev pub first_if : Parsed → Option ℕ
 first_if s = least_with None (ifs_of (run_rules s))
 
--- the refusal is at this place
+-- the refusal has kind 19 and is at this place; want of memory is free
 abbrev pub IsConditional : Option ℕ → ReadFail → Type 0
-IsConditional first (Refused kind offset) = (kind ≡ CONDITIONAL) × (first ≡ Some offset)
+IsConditional first (Refused kind offset) = (kind ≡ 19) × (first ≡ Some offset)
 IsConditional first Memory = Unit {0}

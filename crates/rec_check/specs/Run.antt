@@ -1,29 +1,23 @@
 -- The specification that a syntax spells: that of its last specification, with what it includes.
-use Rattle.std.specs.Prelude.{ℕ, ◌-◌, List, length, take, slice_get, Option, Some, None, All}
+use Rattle.std.specs.Prelude.{◌-◌, List, length, slice_get, Option, Some, None, All}
 use Rattle.term_model.specs.Tree.{IsGround}
 use Rattle.rule_match.specs.Planned.{IsPlan, IsPlain, planned}
 use Rattle.rec_reader.specs.Parsed.{Parsed}
 use Rattle.rec_reader.specs.declared.syntax_tree.Specification.{Specification}
-use Rattle.rec_offences.specs.Material.{headers_of, header_after}
+use Rattle.rec_offences.specs.Material.{material_of}
 use Rattle.rec_check.specs.Symbols.{widest_of}
 use Rattle.rec_check.specs.Spelled.{Specified, nothing, spelled_by}
 
--- the material of a specification that comes after these others
-abbrev pub material_after : List ℕ → List Specification → Specification → List ℕ
-material_after text earlier last = (header_after text (headers_of text earlier) last).material
-
--- the last specification, and those before it
+-- the last specification
 abbrev pub last_of : List Specification → Option Specification
 last_of specifications = slice_get specifications (length specifications - 1)
 
-abbrev pub before_last : List Specification → List Specification
-before_last specifications = take (length specifications - 1) specifications
-
--- what a syntax spells with this last specification: what the last one's material has, and its own terms;
--- nothing has no last specification
+-- What a syntax spells with this last specification: the symbols and the rules of the material of the specification
+-- with the greatest number, and this one's terms. Without a last specification there is nothing.
 abbrev pub spelled_with : Parsed → Option Specification → Option Specified
 spelled_with s None = Some nothing
-spelled_with s (Some last) = spelled_by s.bytes s.specifications (material_after s.bytes (before_last s.specifications) last) last.terms
+spelled_with s (Some last) =
+    spelled_by s.bytes s.specifications (material_of s.bytes s.specifications (length s.specifications - 1)) last.terms
 
 -- the specification that a syntax spells; none where some part of it spells nothing
 abbrev pub spelled_in : Parsed → Option Specified

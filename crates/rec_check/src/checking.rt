@@ -28,6 +28,8 @@ pub fn check(alloc: Global, syntax: &Syntax) -> Result<Spec, ReadFail>
     ensures widest { IfOk result (λ s. s.widest ≡ widest_of s.symbols) }
     ensures may_be_run { IfOk result (λ s. MayBeRun (specified s)) }
 {
+    // This does nothing. Its contract brings to the proof that the terms of each specification are
+    // whole, without which an input with no offence might spell nothing.
     let _ = syntax.as_slice();
     if let Some(fault) = fault(alloc, syntax)? {
         return Err(ReadFail::Refused {

@@ -169,38 +169,21 @@ fn the_greatest_arity_is_known(rt: HostRuntime) -> Result<(), Fail> {
     Ok(())
 }
 
-// Inputs, with the kind and the place of their fault.
-static FAULTS: [(&[u8], u8, u64); 4] = [
-    (b"REC-SPEC A END-SPEC REC-SPEC A END-SPEC", 6, 29),
-    (
-        b"REC-SPEC A SORTS S CONS a : -> S END-SPEC REC-SPEC B SORTS S CONS a : -> S END-SPEC REC-SPEC C : A B EVAL a END-SPEC",
-        6,
-        99,
-    ),
-    (
-        b"REC-SPEC A SORTS S T CONS a : -> S b : -> T f : S -> S EVAL f(b) END-SPEC",
-        8,
-        62,
-    ),
-    // A fault of a specification that isn't run.
-    (b"REC-SPEC A EVAL x END-SPEC REC-SPEC B END-SPEC", 5, 16),
-];
-
+// All specifications are checked. The faults of all kinds are tested where they are found.
 #[test]
-fn a_syntax_with_offences_is_refused_at_its_fault(rt: HostRuntime) -> Result<(), Fail> {
-    for (input, kind, offset) in &FAULTS {
-        let wanted = ReadFail::Refused {
-            kind: *kind,
-            offset: *offset,
-        };
-        let refused = check(rt.alloc(), &read(rt.alloc(), input)?).err();
-        assert_eq!(rt; refused, Some(wanted));
-    }
+fn a_fault_of_a_specification_that_is_not_run_is_refused(rt: HostRuntime) -> Result<(), Fail> {
+    let input = b"REC-SPEC A EVAL x END-SPEC REC-SPEC B END-SPEC";
+    let wanted = ReadFail::Refused {
+        kind: 5,
+        offset: 16,
+    };
+    let refused = check(rt.alloc(), &read(rt.alloc(), input)?).err();
+    assert_eq!(rt; refused, Some(wanted));
     Ok(())
 }
 
 // Inputs, with the place of the first condition of the rules that are run.
-static CONDITIONS: [(&[u8], Option<u64>); 4] = [
+static CONDITIONS: [(&[u8], Option<u64>); 5] = [
     (
         b"REC-SPEC A SORTS S CONS a : -> S RULES a -> a END-SPEC",
         None,
@@ -212,6 +195,11 @@ static CONDITIONS: [(&[u8], Option<u64>); 4] = [
     // An included rule counts.
     (
         b"REC-SPEC A SORTS S CONS a : -> S RULES a -> a if a = a END-SPEC REC-SPEC B : A RULES a -> a if a = a END-SPEC",
+        Some(46),
+    ),
+    // The first in the input counts, also where the list of includes goes against the input's order.
+    (
+        b"REC-SPEC A SORTS S CONS a : -> S RULES a -> a if a = a END-SPEC REC-SPEC B SORTS S CONS b : -> S RULES b -> b if b = b END-SPEC REC-SPEC C : B A END-SPEC",
         Some(46),
     ),
     // One that isn't included doesn't.

@@ -1,5 +1,5 @@
 -- All symbols of what an input spells are among its symbols.
-use Rattle.std.proofs.Common.{◌≡◌, ℕ, ◌<◌, Bool, true, false, ◌⊎◌, inl, inr, List, [], ◌∷◌, ◌++◌, length, Option, Some, None, All, refl, sym, ap, subst, ◌∙◌, arith, position}
+use Rattle.std.proofs.Common.{◌≡◌, ℕ, ◌-◌, ◌<◌, Bool, true, false, ◌⊎◌, inl, inr, List, [], ◌∷◌, ◌++◌, length, Option, Some, None, All, refl, sym, ap, subst, ◌∙◌, arith, position}
 use Rattle.std.specs.Prelude.{◌&&◌, nat_lt}
 use Rattle.std.specs.List.{list_all}
 use Rattle.std.specs.Str.{bytes_eq}
@@ -19,7 +19,7 @@ use Rattle.rec_reader.specs.declared.syntax_tree.Rule as written
 use Rattle.rec_reader.specs.declared.syntax_tree.Specification.{Specification}
 use Rattle.rec_reader.specs.Parsed.{Parsed}
 use Rattle.rec_offences.specs.Names.{text_of}
-use Rattle.rec_offences.specs.Material.{symbols_of, specifications_at}
+use Rattle.rec_offences.specs.Material.{symbols_of, specifications_at, material_of}
 use Rattle.rec_check.specs.Symbols.{named_in, with_symbols}
 use Rattle.rec_check.specs.Term.{Scope, item_in, tree_in, same_symbol}
 use Rattle.rec_check.specs.Rule.{◌>>=◌, rule_in}
@@ -28,7 +28,7 @@ use Rattle.std.specs.Prelude.{Result, Ok, Err, IfOk}
 use Rattle.rec_reader.specs.declared.fail.ReadFail.{ReadFail}
 use Rattle.rec_check.specs.declared.spec.Spec.{Spec}
 use Rattle.rec_check.specs.Spec.{specified}
-use Rattle.rec_check.specs.Run.{last_of, before_last, material_after, spelled_with, spelled_in}
+use Rattle.rec_check.specs.Run.{last_of, spelled_with, spelled_in}
 use Rattle.rec_check.proofs.Heads.{IsVariable, IsSymbol, head_cases, all_pass, all_hold}
 use Rattle.rec_check.proofs.Plans.{spells, came, cc_some, within_limit, b, is_made}
 use Rattle.term_text.specs.Text.{is_named, has_names, all_have_names, HasNames}
@@ -128,7 +128,7 @@ nothing_named = record { rules = λ k d l. absurd (omega arith); terms = λ k d 
 
 with_last : (syntax : Parsed) (o : Option Specification) (made : Specified) → spelled_with syntax o ≡ Some made → IsNamed made
 with_last syntax None made h = subst IsNamed (cc_some nothing made h) nothing_named
-with_last syntax (Some last) made h = spelled_named syntax.bytes syntax.specifications (material_after syntax.bytes (before_last syntax.specifications) last) last.terms made h
+with_last syntax (Some last) made h = spelled_named syntax.bytes syntax.specifications (material_of syntax.bytes syntax.specifications (length syntax.specifications - 1)) last.terms made h
 
 pub symbols_named : (syntax : Parsed) (made : Specified) → spelled_in syntax ≡ Some made → IsNamed made
 symbols_named syntax made h = with_last syntax (last_of syntax.specifications) made h
