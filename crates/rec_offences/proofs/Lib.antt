@@ -5,6 +5,9 @@ pub mod Order
 pub mod Places
 pub mod Fronts
 pub mod Forests
+pub mod Preorders
+pub mod Paths
+pub mod Chains
 pub mod Verdicts
 pub mod Groups
 pub mod Inputs
