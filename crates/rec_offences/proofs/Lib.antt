@@ -6,6 +6,9 @@ pub mod Places
 pub mod SortPlaces
 pub mod Fronts
 pub mod Forests
+pub mod Preorders
+pub mod Paths
+pub mod Chains
 pub mod Verdicts
 pub mod Groups
 pub mod Inputs

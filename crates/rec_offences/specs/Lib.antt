@@ -5,7 +5,7 @@ pub mod Offences
 pub mod Faults
 pub mod Listing
 pub mod Numbered
-pub mod Branches
+pub mod Forest
 pub mod Walk
 pub mod Indexed
 pub mod KnownKept

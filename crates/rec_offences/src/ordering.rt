@@ -1,23 +1,43 @@
 //! The order in which specifications are checked.
-ghost use Rattle.std.specs.Prelude.{◌≡◌, ◌<◌, ◌≤◌, ◌+◌, ◌*◌, ◌++◌, ℕ, All, Contains, IfOk, OnOk};
+ghost use Rattle.std.specs.Prelude.{◌≡◌, ◌<◌, ℕ, List, [], All, Contains, IfOk, IfSome};
 ghost use Rattle.std.specs.Prelude.{length, nat_eq};
-ghost use Rattle.std.specs.Option.{option_to_list};
-ghost use Rattle.indexmap.specs.IndexSet.{insert_key};
-ghost use Rattle.rec_offences.specs.Numbered.{header_names, first_target};
-ghost use Rattle.rec_offences.specs.Branches.{IsBelow, AreBelow};
+ghost use Rattle.std.specs.List.{IsDistinct};
+ghost use Rattle.rec_offences.specs.Numbered.{first_target};
+ghost use Rattle.rec_offences.specs.Forest.{Follows, Leads, parent_of, preorder, put};
 
 use crate::directory::Directory;
 use faults::Memory;
-use indexmap::IndexSet;
 use rec_reader::{Name, Specification};
 use std::alloc::Global;
 
-/// Where the walk goes on from a specification: to the first that hangs under it, and to the next
-/// that hangs where it hangs.
-#[derive(Clone, Copy)]
-struct Branch {
-    child: Option<usize>,
-    sibling: Option<usize>,
+/// Numbers in a row: the first, and for each the next.
+#[derive(Drop)]
+struct Chain {
+    first: Option<usize>,
+    next: Vec<Option<usize>>,
+}
+
+impl Chain {
+    /// Puts a number right after its parent, or first where it has none.
+    fn put(&mut self, number: usize, parent: Option<usize>)
+        requires number { number < length self.old.next.items }
+        requires parent { IfSome parent (λ p. p < number) }
+        ensures count { length self.new.next.items ≡ length self.old.next.items }
+        ensures put { (ns : List ℕ) → IsDistinct nat_eq ns → All (λ n. n < number) ns
+            → Leads self.old.next.items self.old.first ns
+            → Leads self.new.next.items self.new.first (put parent number ns) }
+    {
+        match parent {
+            Some(parent) => {
+                self.next[number] = self.next[parent];
+                self.next[parent] = Some(number);
+            }
+            None => {
+                self.next[number] = self.first;
+                self.first = Some(number);
+            }
+        }
+    }
 }
 
 /// The first specification that entries of the one with this number include.
@@ -32,117 +52,46 @@ pub(crate) fn first_target(headers: &Directory, number: usize, entries: &[Name])
     None
 }
 
-/// Hangs a specification under another, before those that hang there.
-fn hang(branches: &mut [Branch], number: usize, parent: usize)
-    requires number { number < length branches.old }
-    requires parent { parent < length branches.old }
-    requires below { AreBelow (length branches.old) branches.old }
-    ensures { AreBelow (length branches.new) branches.new }
-{
-    branches[number].sibling = branches[parent].child;
-    branches[parent].child = Some(number);
-}
-
-/// The forest of specifications: each hangs under the first that it includes, in rising order.
-fn forest(
+/// The numbers of all specifications in a row, each put right after the first one that it includes,
+/// in rising order.
+fn chained(
     alloc: Global,
     headers: &Directory,
     specifications: &[Specification],
-) -> Result<Vec<Branch>, Memory>
-    requires { headers.now.names ≡ header_names specifications.now }
-    ensures count { IfOk result (λ v. length v.items ≡ length specifications.now) }
-    ensures below { IfOk result (λ v. AreBelow (length v.items) v.items) }
+) -> Result<Chain, Memory>
+    ensures { IfOk result (λ c. Leads c.next.items c.first
+        (preorder (parent_of headers.now.bytes headers.now.names specifications.now)
+        (length specifications.now))) }
 {
-    let blank = Branch {
-        child: None,
-        sibling: None,
-    };
-    let mut branches = vec![in alloc; blank; specifications.len()]?;
-    for number in (0..specifications.len()).rev() {
+    let next = vec![in alloc; None; specifications.len()]?;
+    let mut chain = Chain { first: None, next };
+    for number in 0..specifications.len() {
         let entries = specifications[number].includes.as_slice();
-        if let Some(parent) = first_target(headers, number, entries) {
-            hang(&mut branches, number, parent);
-        }
+        chain.put(number, first_target(headers, number, entries));
     }
-    Ok(branches)
+    Ok(chain)
 }
 
-/// Puts a number on the stack, if there is one.
-fn push_some(stack: &mut Vec<usize>, number: Option<usize>) -> Result<(), Memory>
-    ensures { OnOk result (stack.new.items ≡ stack.old.items ++ option_to_list number) }
-{
-    if let Some(number) = number {
-        stack.push(number)?;
-    }
-    Ok(())
-}
-
-/// Puts a number at the end of the order and, if it wasn't there yet, those that are walked to from
-/// it on the stack.
-fn visit(
-    branches: &[Branch],
-    order: &mut IndexSet<usize>,
-    stack: &mut Vec<usize>,
-    number: usize,
-) -> Result<(), Memory>
-    requires number { number < length branches.now }
-    requires branches { AreBelow (length branches.now) branches.now }
-    requires stack { All (λ n. n < length branches.now) stack.old.items }
-    requires order { All (λ n. n < length branches.now) order.old.keys }
-    ensures order { OnOk result (order.new.keys ≡ insert_key nat_eq order.old.keys number) }
-    ensures below { OnOk result (All (λ n. n < length branches.now) order.new.keys) }
-    ensures count { OnOk result (length order.new.keys ≤ length branches.now) }
-    ensures stack { OnOk result (All (λ n. n < length branches.now) stack.new.items) }
-    ensures grown { OnOk result (length stack.new.items + 2 * length order.old.keys
-        ≤ length stack.old.items + 2 * length order.new.keys) }
-{
-    if order.insert(number)? {
-        let branch = branches[number];
-        push_some(stack, branch.sibling)?;
-        push_some(stack, branch.child)?;
-    }
-    Ok(())
-}
-
-/// Puts a number at the end of the order, and all that hang under it: each after the one under
-/// which it hangs.
-fn walk(
-    alloc: Global,
-    branches: &[Branch],
-    order: &mut IndexSet<usize>,
-    root: usize,
-) -> Result<(), Memory>
-    requires root { root < length branches.now }
-    requires branches { AreBelow (length branches.now) branches.now }
-    requires order { All (λ n. n < length branches.now) order.old.keys }
-    ensures below { OnOk result (All (λ n. n < length branches.now) order.new.keys) }
-    ensures stay { OnOk result ((n : ℕ) → Contains order.old.keys n → Contains order.new.keys n) }
-    ensures there { OnOk result (Contains order.new.keys root) }
-{
-    let mut stack = Vec::new(alloc);
-    visit(branches, order, &mut stack, root)?;
-    while let Some(number) = stack.pop() {
-        visit(branches, order, &mut stack, number)?;
-    }
-    Ok(())
-}
-
-/// The numbers of all specifications, each after the first one that it includes and, but for others
-/// that include this one, right after it.
+/// The numbers of all specifications, each once, and each after the first one that it includes: only
+/// others that hang under this one stand between the two.
 pub(crate) fn order(
     alloc: Global,
     headers: &Directory,
     specifications: &[Specification],
 ) -> Result<Vec<usize>, Memory>
-    requires names { headers.now.names ≡ header_names specifications.now }
     ensures all { IfOk result (λ v.
         (n : ℕ) → n < length specifications.now → Contains v.items n) }
     ensures no_others { IfOk result (λ v. All (λ n. n < length specifications.now) v.items) }
+    ensures once { IfOk result (λ v. IsDistinct nat_eq v.items) }
+    ensures near { IfOk result (λ v. Follows
+        (parent_of headers.now.bytes headers.now.names specifications.now) [] v.items) }
 {
-    let branches = forest(alloc, headers, specifications)?;
-    let mut order = IndexSet::new(alloc);
-    for number in 0..branches.len() {
-        walk(alloc, &branches, &mut order, number)?;
+    let chain = chained(alloc, headers, specifications)?;
+    let mut order = Vec::new(alloc);
+    let mut rest = chain.first;
+    while let Some(number) = rest {
+        order.push(number)?;
+        rest = chain.next[number];
     }
-    Ok(Vec::from_slice(alloc, order.as_slice())?)
+    Ok(order)
 }

@@ -6,12 +6,12 @@ use rec_reader::{syntax, tokens};
 use std::test::Fail;
 
 #[test]
-fn each_comes_right_after_the_first_that_it_includes(rt: HostRuntime) -> Result<(), Fail> {
+fn specifications_follow_the_first_that_each_includes(rt: HostRuntime) -> Result<(), Fail> {
     let text =
         b"REC-SPEC A END-SPEC REC-SPEC B : A END-SPEC REC-SPEC C : X B A END-SPEC REC-SPEC D : A END-SPEC REC-SPEC E : C D END-SPEC REC-SPEC A : D END-SPEC REC-SPEC F : F END-SPEC REC-SPEC G : A END-SPEC";
     let syntax = syntax(rt.alloc(), &tokens(rt.alloc(), text)?)?;
     let headers = header_names(rt.alloc(), syntax.text(), syntax.as_slice())?;
     let order = order(rt.alloc(), &headers, syntax.as_slice())?;
-    assert_eq!(rt; order.as_slice(), &[0, 1, 2, 4, 3, 5, 7, 6][..]);
+    assert_eq!(rt; order.as_slice(), &[6, 0, 7, 3, 5, 1, 2, 4][..]);
     Ok(())
 }
