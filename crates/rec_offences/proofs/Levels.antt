@@ -1,20 +1,19 @@
 -- Levels: what is at hand is cut back from one to the one before.
-use Rattle.std.proofs.Common.{◌≡◌, ℕ, suc, ◌-◌, ◌||◌, true, false, cond, nat_eq, eq-eqb, List, [], ◌∷◌, ◌++◌, append-nil, length, take, drop, slice_get, Option, Some, None, refl, sym, ap, subst, ◌∙◌, arith}
-use Rattle.std.specs.List.{list_any}
+use Rattle.std.proofs.Common.{◌≡◌, ℕ, suc, ◌-◌, false, cond, map, reverse, nat_eq, eq-eqb, List, [], ◌∷◌, ◌++◌, append-nil, length, take, drop, slice_get, Option, Some, None, refl, sym, ap, subst, ◌∙◌, arith}
 use Rattle.std.specs.Option.{option_map, option_to_list}
-use Rattle.std.proofs.lemmas.List.{length-map, map-append, take-append-drop}
+use Rattle.std.proofs.lemmas.List.{length-map, map-append, reverse-append, take-append-drop}
 use Rattle.std.proofs.Math.Seq.{take-append_seam, take-length}
 use Rattle.rec_reader.specs.declared.syntax_tree.Specification.{Specification}
 use Rattle.rec_offences.specs.Material.{material_of, symbols_of, sorts_of}
 use Rattle.rec_offences.specs.Faults.{included_entries}
 use Rattle.rec_offences.specs.Scope.{symbol_entry}
 use Rattle.rec_offences.specs.Listing.{Known, known, Listing, listing}
-use Rattle.rec_offences.specs.Inclusion.{extent_of, IsFront, IsOn, AreLevels, cut_after, last_material, last_number, numbers_of}
+use Rattle.rec_offences.specs.Inclusion.{extent_of, IsFront, IsOn, AreLevels, last_material, last_number, path_of}
 use Rattle.rec_offences.specs.declared.inclusion.Level.{Level}
 use Rattle.rec_offences.specs.Numbered.{IsClosed}
 use Rattle.rec_offences.proofs.Including.{at_append, entries_append}
 use Rattle.rec_offences.proofs.Closed.{closed_material}
-use Rattle.rec_offences.proofs.Fresh.{or_true}
+use Rattle.rec_offences.specs.Forest.{cut}
 
 -- ---- a front of a list
 -- what is cut back to as much as a front has is the front
@@ -65,55 +64,36 @@ last_apart (x ∷ y ∷ ls) l e =
     let k : length (x ∷ y ∷ ls) - 1 ≡ suc (length (y ∷ ls) - 1) = omega arith in
     ap (λ zs. x ∷ zs) (last_apart (y ∷ ls) l (e ∙ one_further x y ls)) ∙ ap (λ n. take n (x ∷ y ∷ ls) ++ l ∷ []) (sym k)
 
--- ---- numbers that are cut back
-among_more : (p : ℕ) (ns : List ℕ) (x : ℕ) → nat_eq p x ≡ false → list_any (nat_eq p) (ns ++ x ∷ []) ≡ list_any (nat_eq p) ns
-among_more p [] x e = ap (λ b. b || false) e
-among_more p (n ∷ ns) x e = ap (λ b. nat_eq p n || b) (among_more p ns x e)
+-- ---- the path that is cut back
+-- a level that is put at the end comes first on the path
+pub path_pushed : (ls : List Level) (l : Level) → path_of (ls ++ l ∷ []) ≡ l.number ∷ path_of ls
+path_pushed ls l = ap reverse (map-append (λ x. x.number) ls (l ∷ [])) ∙ reverse-append (map (λ x. x.number) ls) (l.number ∷ [])
 
-among_last : (p : ℕ) (ns : List ℕ) → list_any (nat_eq p) (ns ++ p ∷ []) ≡ true
-among_last p [] = ap (λ b. b || false) (eq-eqb p p refl)
-among_last p (n ∷ ns) = ap (λ b. nat_eq p n || b) (among_last p ns) ∙ or_true (nat_eq p n)
-
--- another number at the end goes
-cut_skips : (p : ℕ) (ns : List ℕ) (x : ℕ) → nat_eq p x ≡ false → cut_after (Some p) (ns ++ x ∷ []) ≡ cut_after (Some p) ns
-cut_skips p [] x e = ap (λ b. cond b (x ∷ []) []) e
-cut_skips p (n ∷ ns) x e = (λ i. cond (among_more p ns x e i) (n ∷ cut_skips p ns x e i) (cond (nat_eq p n) (n ∷ []) []))
-
--- nothing goes where the number stands at the end
-cut_stops : (p : ℕ) (ns : List ℕ) → cut_after (Some p) (ns ++ p ∷ []) ≡ ns ++ p ∷ []
-cut_stops p [] = ap (λ b. cond b (p ∷ []) []) (eq-eqb p p refl)
-cut_stops p (n ∷ ns) =
-    ap (λ b. cond b (n ∷ cut_after (Some p) (ns ++ p ∷ [])) (cond (nat_eq p n) (n ∷ []) [])) (among_last p ns)
-    ∙ ap (λ ms. n ∷ ms) (cut_stops p ns)
-
-numbers_apart : (ls : List Level) (l : Level) → Some l ≡ slice_get ls (length ls - 1) → numbers_of ls ≡ numbers_of (take (length ls - 1) ls) ++ l.number ∷ []
-numbers_apart ls l e = ap numbers_of (last_apart ls l e) ∙ map-append (λ x. x.number) (take (length ls - 1) ls) (l ∷ [])
-
--- a level has the last number
-has_last : (ls : List Level) (n : ℕ) → last_number ls ≡ Some n → (l : Level) × (Some l ≡ slice_get ls (length ls - 1)) × (l.number ≡ n)
-has_last ls n e = by (slice_get ls (length ls - 1)) refl e
+-- the path begins with the last number
+path_apart : (ls : List Level) (n : ℕ) → last_number ls ≡ Some n → path_of ls ≡ n ∷ path_of (take (length ls - 1) ls)
+path_apart ls n e = by (slice_get ls (length ls - 1)) refl e
   where
-    by : (o : Option Level) → o ≡ slice_get ls (length ls - 1) → option_map (λ l. l.number) o ≡ Some n → (l : Level) × (Some l ≡ slice_get ls (length ls - 1)) × (l.number ≡ n)
+    by : (o : Option Level) → o ≡ slice_get ls (length ls - 1) → option_map (λ l. l.number) o ≡ Some n → path_of ls ≡ n ∷ path_of (take (length ls - 1) ls)
     by None f h = absurd cc
-    by (Some l) f h = (l, f, cc)
+    by (Some l) f h =
+        let same : l.number ≡ n = cc in
+        ap path_of (last_apart ls l f) ∙ path_pushed (take (length ls - 1) ls) l ∙ ap (λ k. k ∷ path_of (take (length ls - 1) ls)) same
 
 -- the last level is the one to which is cut back
-pub cut_there : (ls : List Level) (n : ℕ) → last_number ls ≡ Some n → cut_after (Some n) (numbers_of ls) ≡ numbers_of ls
+pub cut_there : (ls : List Level) (n : ℕ) → last_number ls ≡ Some n → cut (Some n) (path_of ls) ≡ path_of ls
 cut_there ls n e =
-    let h = has_last ls n e in
-    let apart = numbers_apart ls h.0 h.1 ∙ ap (λ k. numbers_of (take (length ls - 1) ls) ++ k ∷ []) h.2 in
-    ap (cut_after (Some n)) apart ∙ cut_stops n (numbers_of (take (length ls - 1) ls)) ∙ sym apart
+    let rest = path_of (take (length ls - 1) ls) in
+    ap (cut (Some n)) (path_apart ls n e) ∙ ap (λ b. cond b (n ∷ rest) (cut (Some n) rest)) (eq-eqb n n refl) ∙ sym (path_apart ls n e)
 
 -- the last level is another one
 pub cut_further : (number : Option ℕ) (ls : List Level) (n : ℕ) → last_number ls ≡ Some n → ((p : ℕ) → number ≡ Some p → nat_eq p n ≡ false) →
-    cut_after number (numbers_of (take (length ls - 1) ls)) ≡ cut_after number (numbers_of ls)
+    cut number (path_of (take (length ls - 1) ls)) ≡ cut number (path_of ls)
 cut_further None ls n e other = refl
 cut_further (Some p) ls n e other =
-    let h = has_last ls n e in
-    let apart = numbers_apart ls h.0 h.1 ∙ ap (λ k. numbers_of (take (length ls - 1) ls) ++ k ∷ []) h.2 in
-    sym (cut_skips p (numbers_of (take (length ls - 1) ls)) n (other p refl)) ∙ ap (cut_after (Some p)) (sym apart)
+    let rest = path_of (take (length ls - 1) ls) in
+    sym (ap (λ b. cond b (n ∷ rest) (cut (Some p) rest)) (other p refl)) ∙ ap (cut (Some p)) (sym (path_apart ls n e))
 
-pub cut_none : (number : Option ℕ) → cut_after number [] ≡ []
+pub cut_none : (number : Option ℕ) → cut number [] ≡ []
 cut_none None = refl
 cut_none (Some p) = refl
 

@@ -1,6 +1,5 @@
 -- The material that is at hand while specifications are checked, and what it has.
-use Rattle.std.specs.Prelude.{◌≡◌, ℕ, ◌+◌, ◌-◌, ◌^◌, List, [], ◌∷◌, ◌++◌, Option, None, Some, length, map, min, nat_eq, take, slice_get, if◌then◌else◌}
-use Rattle.std.specs.List.{list_any}
+use Rattle.std.specs.Prelude.{◌≡◌, ℕ, ◌+◌, ◌-◌, ◌^◌, List, [], ◌∷◌, ◌++◌, Option, Some, length, map, min, reverse, take, slice_get}
 use Rattle.std.specs.Option.{option_map}
 use Rattle.rec_reader.specs.declared.syntax_tree.Specification.{Specification}
 use Rattle.rec_offences.specs.Material.{included, headers_of, material_of, symbols_by, symbols_of, sorts_of, rules_of}
@@ -64,19 +63,13 @@ pub record IsPastLevel (bytes : List ℕ) (specifications : List Specification) 
   pub levels : AreLevels bytes specifications [] i.levels.items
   pub front : IsFront (last_material bytes specifications [] i.levels.items) i.material.keys
 
-abbrev pub numbers_of : List Level → List ℕ
-numbers_of levels = map (λ l. l.number) levels
+-- the numbers of levels, the last first
+abbrev pub path_of : List Level → List ℕ
+path_of levels = reverse (map (λ l. l.number) levels)
 
 -- the number of the last level
 abbrev pub last_number : List Level → Option ℕ
 last_number levels = option_map (λ l. l.number) (slice_get levels (length levels - 1))
-
--- numbers up to and with this one, where it last stands; none where it isn't among them, or is none
-abbrev pub cut_after : Option ℕ → List ℕ → List ℕ
-cut_after None numbers = []
-cut_after (Some number) [] = []
-cut_after (Some number) (n ∷ ns) =
-    if list_any (nat_eq number) ns then n ∷ cut_after (Some number) ns else if nat_eq number n then n ∷ [] else []
 
 -- A specification after its own names were declared: at hand is its material without itself, with the names and
 -- sorts of that material and then its own; `count` of the names are symbols.

@@ -27,10 +27,6 @@ abbrev pub first_target : (bytes : List ℕ) (headers : List Name) → ℕ → L
 first_target bytes headers number [] = None
 first_target bytes headers number (n ∷ ns) = option_or (target bytes headers number n) (first_target bytes headers number ns)
 
--- the specification under which the one with this number hangs: the first that its list of includes includes
-abbrev pub parent_of : (bytes : List ℕ) (headers : List Name) → List Specification → ℕ → Option ℕ
-parent_of bytes headers specifications number = first_target bytes headers number (includes_at specifications number)
-
 -- it has all of the material of each specification that it has
 pub record IsClosed (bytes : List ℕ) (specifications : List Specification) (material : List ℕ) : Type 0 where
   pub whole : (n : ℕ) → list_any (nat_eq n) material ≡ true → fresh material (material_of bytes specifications n) ≡ []

@@ -1,5 +1,5 @@
 -- The walk over what a specification includes.
-use Rattle.std.specs.Prelude.{ℕ, ◌+◌, List, [], Option, Some, None, nat_eq, slice_get, if◌then◌else◌}
+use Rattle.std.specs.Prelude.{ℕ, ◌+◌, List, Option, Some, None, nat_eq, slice_get, if◌then◌else◌}
 use Rattle.std.specs.List.{list_any}
 use Rattle.std.specs.Option.{option_map, option_and_then}
 use Rattle.rec_reader.specs.declared.token.Name.{Name}

@@ -7,8 +7,9 @@ ghost use Rattle.rec_offences.specs.Material.{fresh, with_numbers, included, mat
 ghost use Rattle.rec_offences.specs.Scope.{names_of};
 ghost use Rattle.rec_offences.specs.Offences.{includes_from, passes, include};
 ghost use Rattle.rec_offences.specs.Listing.{entries_of};
-ghost use Rattle.rec_offences.specs.Numbered.{header_names, includes_at, parent_of};
-ghost use Rattle.rec_offences.specs.Inclusion.{IsInclusion, IsAtLevel, IsPastLevel, cut_after, numbers_of};
+ghost use Rattle.rec_offences.specs.Numbered.{header_names, includes_at};
+ghost use Rattle.rec_offences.specs.Forest.{cut, parent_of};
+ghost use Rattle.rec_offences.specs.Inclusion.{IsInclusion, IsAtLevel, IsPastLevel, path_of};
 ghost use Rattle.rec_offences.specs.Grouped.{verdict_of};
 
 use crate::directory::Directory;
@@ -123,9 +124,9 @@ impl<'a> Inclusion<'a> {
         requires names { headers.now.names ≡ header_names specifications.now }
         requires there { number < length specifications.now }
         requires at_level { IsAtLevel headers.now.bytes specifications.now self.old }
-        ensures path { OnOk result (numbers_of self.new.levels.items
-            ≡ cut_after (parent_of headers.now.bytes headers.now.names specifications.now number)
-            (numbers_of self.old.levels.items)) }
+        ensures path { OnOk result (path_of self.new.levels.items
+            ≡ cut (parent_of headers.now.bytes headers.now.names specifications.now number)
+            (path_of self.old.levels.items)) }
         ensures past { OnOk result (IsPastLevel headers.now.bytes specifications.now self.new) }
         ensures material { OnOk result (self.new.material.keys ≡ included headers.now.bytes
             (headers_of headers.now.bytes (take number specifications.now)) (includes_at specifications.now number)) }

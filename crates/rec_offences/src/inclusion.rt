@@ -1,7 +1,8 @@
 //! The material that is at hand while specifications are checked.
 ghost use Rattle.std.specs.Prelude.{◌≡◌, ◌-◌, ◌++◌, ◌∷◌, ℕ, List, [], false, true, IsSome, OnOk, length, take};
 ghost use Rattle.rec_reader.specs.declared.syntax_tree.Specification.{Specification};
-ghost use Rattle.rec_offences.specs.Inclusion.{IsAtLevel, IsDeclared, AreLevels, cut_after, extent_of, last_material, last_number, numbers_of};
+ghost use Rattle.rec_offences.specs.Forest.{cut};
+ghost use Rattle.rec_offences.specs.Inclusion.{IsAtLevel, IsDeclared, AreLevels, extent_of, last_material, last_number, path_of};
 
 use crate::directory::Directory;
 use crate::scope::Scope;
@@ -98,8 +99,8 @@ impl<'a> Inclusion<'a> {
     pub(crate) fn return_to(&mut self, number: Option<usize>) -> bool
         ensures kept { (bytes : List ℕ) (specifications : List Specification)
             → IsAtLevel bytes specifications self.old → IsAtLevel bytes specifications self.new }
-        ensures path { numbers_of self.new.levels.items
-            ≡ cut_after number (numbers_of self.old.levels.items) }
+        ensures path { path_of self.new.levels.items
+            ≡ cut number (path_of self.old.levels.items) }
         ensures there { result ≡ true → IsSome number × last_number self.new.levels.items ≡ number }
         ensures none { result ≡ false → self.new.levels.items ≡ [] }
     {
@@ -120,8 +121,8 @@ impl<'a> Inclusion<'a> {
         number: usize,
         symbols: usize,
     ) -> Result<(), Memory>
-        ensures path { OnOk result (numbers_of self.new.levels.items
-            ≡ numbers_of self.old.levels.items ++ number ∷ []) }
+        ensures path { OnOk result (path_of self.new.levels.items
+            ≡ number ∷ path_of self.old.levels.items) }
         ensures at_level { (bytes : List ℕ) (specifications : List Specification)
             → IsDeclared bytes specifications number specification.now symbols self.old
             → OnOk result (IsAtLevel bytes specifications self.new) }

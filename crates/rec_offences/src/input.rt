@@ -3,8 +3,9 @@ ghost use Rattle.std.specs.Prelude.{◌≡◌, ◌<◌, ◌+◌, ◌++◌, ◌�
 ghost use Rattle.rec_offences.specs.Material.{symbols_by};
 ghost use Rattle.rec_offences.specs.Scope.{symbol_entry, own_entries};
 ghost use Rattle.rec_offences.specs.Listing.{listing, known, entries_of};
-ghost use Rattle.rec_offences.specs.Numbered.{header_names, offences_at, parent_of};
-ghost use Rattle.rec_offences.specs.Inclusion.{IsAtLevel, cut_after, numbers_of};
+ghost use Rattle.rec_offences.specs.Numbered.{header_names, offences_at};
+ghost use Rattle.rec_offences.specs.Forest.{cut, parent_of};
+ghost use Rattle.rec_offences.specs.Inclusion.{IsAtLevel, path_of};
 ghost use Rattle.rec_offences.specs.Grouped.{declared_group, used_group};
 ghost use Rattle.rec_offences.specs.Faults.{least_with, fault_of};
 
@@ -165,9 +166,9 @@ fn note_offences<'a>(
     requires at_level { IsAtLevel headers.now.bytes specifications.now included.old }
     ensures at_level { OnOk result
         (IsAtLevel headers.now.bytes specifications.now included.new) }
-    ensures path { OnOk result (numbers_of included.new.levels.items
-        ≡ cut_after (parent_of headers.now.bytes headers.now.names specifications.now number)
-        (numbers_of included.old.levels.items) ++ number ∷ []) }
+    ensures path { OnOk result (path_of included.new.levels.items ≡ number
+        ∷ cut (parent_of headers.now.bytes headers.now.names specifications.now number)
+        (path_of included.old.levels.items)) }
     ensures noted { OnOk result (found.new ≡ least_with found.old
         (offences_at headers.now.bytes specifications.now number)) }
 {

@@ -93,14 +93,7 @@ impl<'a> Scope<'a> {
         self.names.has(name)
     }
 
-    /// Whether one of so many names from the first on has the same text.
-    pub(crate) fn has_before(&self, count: usize, name: Name) -> bool
-        ensures { result ≡ is_among self.now.bytes (take count (names_of self.now.entries)) name }
-    {
-        self.names.has_before(count, name)
-    }
-
-    /// Keeps so many names from the first on.
+    /// Keeps the first `count` names.
     pub(crate) fn truncate(&mut self, count: usize)
         ensures { self.new ≡ known self.old.bytes (take count self.old.entries) }
     {

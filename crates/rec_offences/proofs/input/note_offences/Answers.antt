@@ -16,7 +16,7 @@ use Rattle.rec_offences.specs.declared.entries.Verdict.{Verdict}
 use Rattle.rec_offences.specs.Grouped.{declared_group, used_group, verdict_of}
 use Rattle.rec_offences.specs.Listing.{Known, known, Listing, listing}
 use Rattle.rec_offences.specs.Numbered.{header_names, includes_at, offences_at}
-use Rattle.rec_offences.specs.Inclusion.{counted, AreLevels, last_material, numbers_of}
+use Rattle.rec_offences.specs.Inclusion.{counted, AreLevels, last_material, path_of}
 use Rattle.rec_offences.proofs.Brought.{headers_named}
 use Rattle.rec_offences.proofs.Early.{at_early, early_verdicts}
 use Rattle.rec_offences.proofs.Groups.{declared_is, used_is}
@@ -118,6 +118,6 @@ pub returns-clause-path : goal.returns-clause-path
 returns-clause-path c =
     on_ok_weaker c.enter.result
     (λ e. e
-    ∙ ap (λ ls. numbers_of ls.items ++ c.args.number ∷ []) c.in_ok-symbols.ensures.levels
-    ∙ ap (λ ns. ns ++ c.args.number ∷ []) c.in_ok-verdicts.ensures.path)
+    ∙ ap (λ ls. c.args.number ∷ path_of ls.items) c.in_ok-symbols.ensures.levels
+    ∙ ap (λ ns. c.args.number ∷ ns) c.in_ok-verdicts.ensures.path)
     c.enter.ensures.path

@@ -1,10 +1,10 @@
 use Rattle.std.proofs.Common.{◌+◌, ◌-◌, ◌^◌, length, min, refl, ap, ◌∙◌}
-use Rattle.std.proofs.lemmas.List.{map-append}
-use Rattle.rec_offences.specs.Inclusion.{numbers_of}
+use Rattle.rec_offences.specs.Inclusion.{path_of}
 use Rattle.rec_offences.specs.declared.inclusion.Extent.{Extent}
 use Rattle.rec_offences.specs.declared.inclusion.Inclusion.{Inclusion}
 use Rattle.rec_offences.specs.declared.inclusion.Level.{Level}
 use Rattle.rec_offences.proofs.Entered.{entered}
+use Rattle.rec_offences.proofs.Levels.{path_pushed}
 use Rattle.rec_offences.proofs.inclusion.Inclusion.enter.Goals as goal
 
 pub returns-clause-at_level : goal.returns-clause-at_level
@@ -20,4 +20,4 @@ returns-clause-at_level c = λ bytes specifications d.
     (λ n. record { material = c.len.ensures.len n; symbols = c.len-2.ensures.count n; sorts = c.len-3.ensures n; rules = c.saturating_add-self.result })
 
 pub returns-clause-path : goal.returns-clause-path
-returns-clause-path c = ap numbers_of c.in_ok-push.ensures.items ∙ map-append (λ l. l.number) c.args.self.now.levels.items _
+returns-clause-path c = ap path_of c.in_ok-push.ensures.items ∙ path_pushed c.args.self.now.levels.items _

@@ -1,5 +1,7 @@
-use Rattle.std.proofs.Common.{◌≡◌, ℕ, ◌+◌, Bool, false, List, [], ◌∷◌, ◌++◌, None, Some, Option, map, drop, take, get_or, ap, sym, subst, ◌∙◌, arith}
+use Rattle.std.proofs.Common.{◌≡◌, ℕ, ◌+◌, Bool, false, List, [], ◌∷◌, ◌++◌, None, Some, Option, map, slice_get, drop, take, get_or, refl, ap, sym, subst, ◌∙◌, arith}
+use Rattle.std.specs.Option.{option_map_or, option_and_then}
 use Rattle.rec_reader.specs.declared.token.Name.{Name}
+use Rattle.rec_reader.specs.declared.syntax_tree.Specification.{Specification}
 use Rattle.rec_offences.specs.declared.entries.Verdict.{Verdict}
 use Rattle.rec_offences.specs.declared.inclusion.Inclusion.{Inclusion}
 use Rattle.rec_offences.specs.Names.{same_text}
@@ -7,8 +9,9 @@ use Rattle.rec_offences.specs.Listing.{place_in}
 use Rattle.rec_offences.specs.Material.{included, headers_of}
 use Rattle.rec_offences.specs.Offences.{includes_from}
 use Rattle.rec_offences.specs.Grouped.{verdict_of}
-use Rattle.rec_offences.specs.Inclusion.{cut_after, numbers_of}
-use Rattle.rec_offences.specs.Numbered.{header_names, target, first_target}
+use Rattle.rec_offences.specs.Inclusion.{path_of}
+use Rattle.rec_offences.specs.Forest.{cut, parent_of}
+use Rattle.rec_offences.specs.Numbered.{header_names, includes_at, target, first_target}
 use Rattle.rec_offences.proofs.Brought.{target_before}
 use Rattle.rec_offences.proofs.Gathered.{drop_at, drop_all, default_in}
 use Rattle.rec_offences.proofs.Along.{Along, Ended, ended, past_unknown, past_first, past_other}
@@ -19,6 +22,14 @@ use Rattle.rec_offences.proofs.inclusion.Inclusion.include_all.Goals.{in-None, i
 targeted : (bytes : List ℕ) (names headers : List Name) (number : ℕ) (x : Name) (found o : Option ℕ) → names ≡ headers → found ≡ place_in (same_text bytes x) (take number names) → found ≡ o →
     target bytes headers number x ≡ o
 targeted bytes names headers number x found o e is was = ap (λ ns. place_in (same_text bytes x) (take number ns)) (sym e) ∙ sym is ∙ was
+
+-- the specification under which one hangs is the first that its entries include
+hangs : (bytes : List ℕ) (headers : List Name) (xs : List Specification) (n : ℕ) → first_target bytes headers n (includes_at xs n) ≡ parent_of bytes headers xs n
+hangs bytes headers xs n = by (slice_get xs n)
+  where
+    by : (o : Option Specification) → first_target bytes headers n (option_map_or (λ s. s.includes) o []) ≡ option_and_then (λ s. first_target bytes headers n s.includes) o
+    by None = refl
+    by (Some s) = refl
 
 blank : Name
 blank = record { start = 0; end = 0 }
@@ -112,7 +123,7 @@ returns-clause-verdicts c =
 pub returns-clause-path : goal.returns-clause-path
 returns-clause-path c =
     let h = c.args.headers.now in
-    let old = numbers_of c.args.self.now.levels.items in
-    ap (λ v. numbers_of v.items) c.loop-entry.invariant.levels
+    let old = path_of c.args.self.now.levels.items in
+    ap (λ v. path_of v.items) c.loop-entry.invariant.levels
     ∙ c.return_to-is_there.ensures.path
-    ∙ ap (λ o. cut_after o old) (c.first_target.ensures ∙ ap (first_target h.bytes h.names c.args.number) c.includes_at-entries.ensures)
+    ∙ ap (λ o. cut o old) (c.first_target.ensures ∙ ap (first_target h.bytes h.names c.args.number) c.includes_at-entries.ensures ∙ hangs h.bytes h.names c.args.specifications.now c.args.number)

@@ -1,6 +1,7 @@
 use Rattle.std.proofs.Common.{◌≡◌, ℕ, true, false, nat_eq, eqb-true, Option, None, Some, ap, sym, ◌∙◌}
 use Rattle.std.specs.Option.{option_eq}
-use Rattle.rec_offences.specs.Inclusion.{cut_after, numbers_of}
+use Rattle.rec_offences.specs.Inclusion.{path_of}
+use Rattle.rec_offences.specs.Forest.{cut}
 use Rattle.rec_offences.proofs.Levels.{cut_further, cut_none, cut_there, no_level}
 use Rattle.rec_offences.proofs.inclusion.Inclusion.return_to.Goals as goal
 
@@ -18,13 +19,13 @@ pub returns-then-eq-clause-path : goal.returns-then-eq-clause-path
 returns-then-eq-clause-path c =
     let ls = c.loop-last.self.levels.items in
     let is = same_some c.args.number c.in-Some.last (sym c.eq.ensures ∙ c.if-eq.true) in
-    sym (cut_there ls c.in-Some.last (sym c.last_number.ensures ∙ c.in-Some.is)) ∙ ap (λ o. cut_after o (numbers_of ls)) (sym is) ∙ c.loop-last.invariant.path
+    sym (cut_there ls c.in-Some.last (sym c.last_number.ensures ∙ c.in-Some.is)) ∙ ap (λ o. cut o (path_of ls)) (sym is) ∙ c.loop-last.invariant.path
 
 pub returns-clause-path : goal.returns-clause-path
 returns-clause-path c =
     let ls = c.loop-last.self.levels.items in
     let none = no_level ls (λ n e. c.in_default.not-Some n (c.last_number.ensures ∙ e)) in
-    ap numbers_of none ∙ sym (cut_none c.args.number) ∙ ap (λ xs. cut_after c.args.number (numbers_of xs)) (sym none) ∙ c.loop-last.invariant.path
+    ap path_of none ∙ sym (cut_none c.args.number) ∙ ap (λ xs. cut c.args.number (path_of xs)) (sym none) ∙ c.loop-last.invariant.path
 
 pub loop-last-preserved : goal.loop-last-preserved
 loop-last-preserved c =
@@ -32,7 +33,7 @@ loop-last-preserved c =
     record {
       kept = λ bytes specifications at. c.leave.ensures.kept bytes specifications (c.loop-last.invariant.kept bytes specifications at);
       path =
-          ap (λ xs. cut_after c.args.number (numbers_of xs)) c.leave.ensures.levels
+          ap (λ xs. cut c.args.number (path_of xs)) c.leave.ensures.levels
           ∙ cut_further c.args.number ls c.in-Some.last (sym c.last_number.ensures ∙ c.in-Some.is) (other_some c.args.number c.in-Some.last (sym c.eq.ensures ∙ c.if-eq.false))
           ∙ c.loop-last.invariant.path;
     }

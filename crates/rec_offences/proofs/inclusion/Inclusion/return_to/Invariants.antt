@@ -1,13 +1,14 @@
 use Rattle.std.proofs.Common.{◌≡◌, ℕ, List, length}
 use Rattle.rec_reader.specs.declared.syntax_tree.Specification.{Specification}
-use Rattle.rec_offences.specs.Inclusion.{IsAtLevel, cut_after, numbers_of}
+use Rattle.rec_offences.specs.Inclusion.{IsAtLevel, path_of}
+use Rattle.rec_offences.specs.Forest.{cut}
 use Rattle.rec_offences.proofs.inclusion.Inclusion.return_to.Given as goal
 
 abbrev pub invariant-loop-last : goal.invariant-loop-last
 invariant-loop-last l =
     record {
       kept : (bytes : List ℕ) (specifications : List Specification) → IsAtLevel bytes specifications l.initial.self → IsAtLevel bytes specifications l.self;
-      path : cut_after l.number (numbers_of l.self.levels.items) ≡ cut_after l.number (numbers_of l.initial.self.levels.items);
+      path : cut l.number (path_of l.self.levels.items) ≡ cut l.number (path_of l.initial.self.levels.items);
     }
 
 -- one level less is left
