@@ -4,7 +4,7 @@ use Rattle.std.specs.List.{list_any}
 use Rattle.rec_offences.specs.Forest.{cut, Follows, put, preorder}
 use Rattle.rec_offences.proofs.Preorders.{either_more, or_true, true_or}
 
--- one path is of the other, in order
+-- the numbers of the first path are on the second, in the same order
 data Within : List ℕ → List ℕ → Type 0 where
   none : Within [] []
   same : {x : ℕ} {xs ys : List ℕ} → Within xs ys → Within (x ∷ xs) (x ∷ ys)
@@ -41,7 +41,7 @@ any_within t none h = h
 any_within t (same {x = x} {xs = xs} {ys = ys} s) h = either_more (t x) (list_any t xs) (list_any t ys) (any_within t s) h
 any_within t (more {y = y} {xs = xs} {ys = ys} s) h = or_true (t y) (list_any t ys) (any_within t s h)
 
--- on a path that has more, parents are still there
+-- a path that has more has the parents too
 follows_within : (parent : ℕ → Option ℕ) (xs ys ns : List ℕ) → Within xs ys → Follows parent xs ns → Follows parent ys ns
 follows_within parent xs ys [] s h = tt
 follows_within parent xs ys (n ∷ ns) s h = by (parent n) h (λ vs ws. follows_within parent vs ws ns)
@@ -52,7 +52,7 @@ follows_within parent xs ys (n ∷ ns) s h = by (parent n) h (λ vs ws. follows_
     by None g r = g
     by (Some p) g r = (any_within (nat_eq p) s g.0, r (n ∷ cut (Some p) xs) (n ∷ cut (Some p) ys) (same (cut_both p s)) g.1)
 
--- at its turn after this path a number's parent is there, and so are those of the numbers after it
+-- what `Follows` says of a number and those after it, where the number has this parent
 abbrev Turn : (parent : ℕ → Option ℕ) (path : List ℕ) (n : ℕ) (ns : List ℕ) → Option ℕ → Type 0
 Turn parent path n ns o = IfSome o (λ p. list_any (nat_eq p) path ≡ true) × Follows parent (n ∷ cut o path) ns
 

@@ -1,5 +1,4 @@
--- The forest of specifications, each under the first one that it includes, and an order of it in which what is at hand
--- is cut back as little as can be.
+-- The forest of specifications, each under the first one that it includes, and the order in which they are checked.
 use Rattle.std.specs.Prelude.{◌≡◌, ℕ, zero, suc, ◌<◌, List, [], ◌∷◌, true, Option, Some, None, IfSome, nat_eq, length, slice_get, if◌then◌else◌}
 use Rattle.std.specs.List.{list_any, slice_index_or}
 use Rattle.std.specs.Option.{option_and_then}
@@ -12,14 +11,14 @@ abbrev pub parent_of : (bytes : List ℕ) (headers : List Name) (specifications 
 parent_of bytes headers specifications n =
     option_and_then (λ s. first_target bytes headers n s.includes) (slice_get specifications n)
 
--- what is left of a path, its end first, where it is cut back to this number: nothing where there is none
+-- A path has its end first. What is left of it where it is cut back to this number: nothing where there is none.
 abbrev pub cut : Option ℕ → List ℕ → List ℕ
 cut None path = []
 cut (Some p) [] = []
 cut (Some p) (n ∷ ns) = if nat_eq p n then n ∷ ns else cut (Some p) ns
 
--- When a number's turn comes, its parent is still on the path. The path is then cut back to the parent, or to nothing
--- where it has none, and the number is put at its end.
+-- When the turn of each of these numbers comes, its parent is still on the path. The path is then cut back to the
+-- parent, or to nothing where it has none, and the number is put at its end.
 abbrev pub Follows : (parent : ℕ → Option ℕ) → (path : List ℕ) → List ℕ → Type 0
 Follows parent path [] = Unit {0}
 Follows parent path (n ∷ ns) =
