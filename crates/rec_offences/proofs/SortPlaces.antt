@@ -1,7 +1,7 @@
 -- Numbers of sorts.
 use Rattle.std.proofs.Common.{◌≡◌, ℕ, suc, Bool, true, false, ◌&&◌, cond, List, [], ◌∷◌, ◌++◌, length, nat_eq, Option, Some, None, refl, sym, ap, subst, ◌∙◌}
 use Rattle.std.specs.Prelude.{IfSome}
-use Rattle.std.specs.Option.{option_map, is_some}
+use Rattle.std.specs.Option.{option_map}
 use Rattle.std.specs.Str.{bytes_eq}
 use Rattle.std.specs.Cmp.Lexicographic.{bytes_decides}
 use Rattle.std.proofs.lemmas.Bool.Decides.{Decides-eqb, same_from_decides}
@@ -9,7 +9,7 @@ use Rattle.rec_reader.specs.declared.token.Name.{Name}
 use Rattle.rec_offences.specs.Names.{text_of, same_text, is_among}
 use Rattle.rec_offences.specs.Listing.{Listing, listing, place_in, place_of}
 use Rattle.rec_offences.specs.SortsKept.{name_at}
-use Rattle.rec_offences.proofs.Places.{or_else, place_more, no_place, is_some_place}
+use Rattle.rec_offences.proofs.Places.{or_else, place_more, no_place}
 
 -- one that passes two tests, where the first of each stands at one place
 both_pass : {A : Type 0} (f g : A → Bool) (xs : List A) (p : ℕ) → place_in f xs ≡ Some p → place_in g xs ≡ Some p → (x : A) × (f x ≡ true) × (g x ≡ true)
@@ -46,10 +46,6 @@ same_number l a b p q e h =
           let second = (bytes_decides (text_of l.bytes b) (text_of l.bytes both.0)).0 both.2 in
           (bytes_decides (text_of l.bytes a) (text_of l.bytes b)).1 (first ∙ sym second),
     )
-
--- a name that has a place is among the names
-pub among : (l : Listing) (n : Name) (p : ℕ) → place_of l n ≡ Some p → is_among l.bytes l.names n ≡ true
-among l n p e = sym (is_some_place (same_text l.bytes n) l.names) ∙ ap is_some e
 
 -- a new text has the place after the others
 pub new_place : (l : Listing) (n : Name) → is_among l.bytes l.names n ≡ false → place_of (listing l.bytes (l.names ++ n ∷ [])) n ≡ Some (length l.names)

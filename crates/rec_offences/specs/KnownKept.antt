@@ -7,7 +7,7 @@ use Rattle.rec_offences.specs.declared.scope.Scope.TheInside.{Inside}
 -- declared names as they are kept: their names are indexed, and the sorts are of the same bytes
 pub record IsScope (names : Listing) (entries : List Entry) (sorts : List ℕ) : Type 0 where
   pub named : names.names ≡ names_of entries
-  pub sorted : sorts ≡ names.bytes
+  pub same_bytes : sorts ≡ names.bytes
 
 abbrev pub scope_shown : Inside → Known
 scope_shown s = known s.names.bytes (entries_of s.signatures.items)

@@ -12,7 +12,7 @@ use std::alloc::Global;
 use std::marker::Model;
 
 /// The numbers of names of sorts: two have the same number exactly where they have the same text.
-/// A number is looked up by where its name stands, so that the text is read once.
+/// A number is looked up by where its name stands, so that a text is read only when it is noted.
 #[derive(Drop)]
 pub(crate) struct SortNumbers<'a> {
     texts: Directory<'a>,

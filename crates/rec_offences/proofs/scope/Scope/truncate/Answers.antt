@@ -15,7 +15,7 @@ invariant_of-self c =
           ∙ take-map (λ e. e.declared.name) n (entries_of s.signatures.items)
           ∙ ap names_of (take-map entry_of n s.signatures.items)
           ∙ sym (ap (λ l. names_of (entries_of l)) c.truncate-2.ensures.items);
-      sorted = c.self.invariant.sorted ∙ sym (ap (λ d. d.bytes) c.truncate.ensures);
+      same_bytes = c.self.invariant.same_bytes ∙ sym (ap (λ d. d.bytes) c.truncate.ensures);
     }
 
 pub returns : goal.returns
