@@ -13,7 +13,7 @@ abbrev pub last_of : List Specification → Option Specification
 last_of specifications = slice_get specifications (length specifications - 1)
 
 -- What a syntax spells with this last specification: the symbols and the rules of the material of the specification
--- with the greatest number, and this one's terms. Without a last specification there is nothing.
+-- with the greatest number, and this one's terms. Without a last specification, no symbols, rules and terms.
 abbrev pub spelled_with : Parsed → Option Specification → Option Specified
 spelled_with s None = Some nothing
 spelled_with s (Some last) =
