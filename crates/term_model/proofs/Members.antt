@@ -1,9 +1,10 @@
 -- How many different trees a list has.
-use Rattle.std.proofs.Common.{◌≡◌, ℕ, ◌+◌, ◌≤◌, List, [], ◌∷◌, length, refl, sym, ◌∙◌, ap, arith, true, false, Bool, ◌⊎◌, inl, inr}
+use Rattle.std.proofs.Common.{◌≡◌, ℕ, suc, ◌+◌, ◌≤◌, List, [], ◌∷◌, length, refl, sym, ◌∙◌, ap, arith, true, false, Bool, ◌⊎◌, inl, inr}
 use Rattle.std.specs.Prelude.{if◌then◌else◌, Contains}
 use Rattle.std.specs.List.Sorted.{IsPermutation}
 use Rattle.std.proofs.lemmas.List.Sorted.{Contains-permutation, IsPermutation-sym}
 use Rattle.term_model.specs.Tree.{Tree, tree_eq, among, distinct}
+use Rattle.term_model.specs.Laws.{IsWithoutRepetition}
 use Rattle.term_model.proofs.Equality.{tree_eq_sound, among_here, among_there, among_cases, contains_from_among, among_from_contains}
 
 -- two tests that hold together are equal
@@ -87,6 +88,21 @@ distinct_in_any_order ts us p =
     let a = distinct_of_part ts us (λ t. Contains-permutation ts us t p) in
     let b = distinct_of_part us ts (λ t. Contains-permutation us ts t (IsPermutation-sym ts us p)) in
     omega (arith, a, b)
+
+-- the first of different trees is not among the others
+first_is_new : (t : Tree) (ts : List Tree) → IsWithoutRepetition (t ∷ ts) → among t ts ≡ true → ⊥
+first_is_new t ts p i =
+    let c = contains_from_among t ts i in
+    p 0 (suc c.0) t (omega arith) (omega (arith, c.1)) (sym c.2)
+
+pub distinct_without_repetition : (ts : List Tree) → IsWithoutRepetition ts → distinct ts ≡ length ts
+distinct_without_repetition [] p = refl
+distinct_without_repetition (t ∷ ts) p =
+    go (among t ts) refl (distinct_without_repetition ts (λ i j d a b. p (suc i) (suc j) d (omega (arith, a)) (omega (arith, b))))
+  where
+    go : (b : Bool) → among t ts ≡ b → distinct ts ≡ length ts → (if b then distinct ts else distinct ts + 1) ≡ length (t ∷ ts)
+    go true e rest = absurd (first_is_new t ts p e)
+    go false e rest = omega (arith, rest)
 
 pub distinct_is_bounded : (ts : List Tree) → distinct ts ≤ length ts
 distinct_is_bounded [] = omega arith

@@ -69,6 +69,9 @@ pub itself : (t : Tree) → among t (subtrees t) ≡ true
 itself (Leaf x) = among_here (Leaf x) (Leaf x) [] refl
 itself (Node h ts) = among_here (Node h ts) (Node h ts) (subtrees_all ts) refl
 
+pub trees_are_subtrees : (t : Tree) → IsSubtree t t
+trees_are_subtrees t = contains_from_among t (subtrees t) (itself t)
+
 item_at_end : (is : List Item) (i j : Item) → slice_get (is ++ i ∷ []) (length (is ++ i ∷ []) - 1) ≡ Some j → i ≡ j
 item_at_end is i j e =
     let n : length (is ++ i ∷ []) - 1 ≡ length is = omega (arith, length-append is (i ∷ [])) in

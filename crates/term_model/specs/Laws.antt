@@ -1,5 +1,5 @@
 -- What is true of all trees and of all lists of items.
-use Rattle.std.specs.Prelude.{◌≡◌, ◌<◌, ◌≤◌, List, [], ◌∷◌, ◌++◌, length, Some, true, ◌↔◌, Contains}
+use Rattle.std.specs.Prelude.{◌≡◌, ◌≢◌, ◌<◌, ◌≤◌, List, [], ◌∷◌, ◌++◌, length, Some, true, ◌↔◌, Contains, AllPairs}
 use Rattle.std.specs.List.{flat_map}
 use Rattle.std.specs.List.Sorted.{IsPermutation}
 use Rattle.term_model.specs.Tree.{Tree, Trees, Node, count_of, list_of, arguments, nodes, subtrees, tree_eq, among, distinct, IsWellFormed, IsGround}
@@ -31,6 +31,10 @@ AmongIsExact = (t : Tree) (ts : List Tree) → (among t ts ≡ true) ↔ Contain
 abbrev pub IsSubtree : Tree → Tree → Type 0
 IsSubtree u t = Contains (subtrees t) u
 
+-- A tree is its own subtree.
+abbrev pub TreesAreSubtrees : Type 0
+TreesAreSubtrees = (t : Tree) → IsSubtree t t
+
 -- A subtree of a subtree is a subtree.
 abbrev pub SubtreesNest : Type 0
 SubtreesNest = (t u v : Tree) → IsSubtree u t → IsSubtree v u → IsSubtree v t
@@ -49,6 +53,13 @@ SubtreesAreWellFormed = (t u : Tree) → IsWellFormed t → IsSubtree u t → Is
 
 abbrev pub SubtreesAreGround : Type 0
 SubtreesAreGround = (t u : Tree) → IsGround t → IsSubtree u t → IsGround u
+
+-- In a list without repetition each tree counts.
+abbrev pub IsWithoutRepetition : List Tree → Type 0
+IsWithoutRepetition ts = AllPairs (λ t u. t ≢ u) ts
+
+abbrev pub DistinctWithoutRepetition : Type 0
+DistinctWithoutRepetition = (ts : List Tree) → IsWithoutRepetition ts → distinct ts ≡ length ts
 
 -- A list that holds no other trees has no more different ones, in whatever order they stand.
 abbrev pub DistinctOfPart : Type 0

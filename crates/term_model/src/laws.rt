@@ -1,6 +1,6 @@
 //! What is true of all trees, each law the contract of a function that does nothing.
 
-ghost use Rattle.term_model.specs.Laws.{TreeOfPostorder, PostorderOfTree, ItemsOfNode, ItemsAreNodes, EqualityIsExact, AmongIsExact, SubtreesNest, ArgumentsAreSubtrees, ArgumentsHaveFewerNodes, SubtreesHaveNoMoreNodes, SubtreesAreWellFormed, SubtreesAreGround, DistinctOfPart, DistinctInAnyOrder, DistinctIsBounded, ClosedHoldsSubtrees};
+ghost use Rattle.term_model.specs.Laws.{TreeOfPostorder, PostorderOfTree, ItemsOfNode, ItemsAreNodes, EqualityIsExact, AmongIsExact, TreesAreSubtrees, SubtreesNest, ArgumentsAreSubtrees, ArgumentsHaveFewerNodes, SubtreesHaveNoMoreNodes, SubtreesAreWellFormed, SubtreesAreGround, DistinctWithoutRepetition, DistinctOfPart, DistinctInAnyOrder, DistinctIsBounded, ClosedHoldsSubtrees};
 
 /// Postorder and the tree of a list of items are inverse.
 pub fn postorder_laws()
@@ -18,6 +18,7 @@ pub fn equality_laws()
 
 /// Subtrees, and how large they are.
 pub fn subtree_laws()
+    ensures itself { TreesAreSubtrees }
     ensures nest { SubtreesNest }
     ensures arguments { ArgumentsAreSubtrees }
     ensures fewer { ArgumentsHaveFewerNodes }
@@ -29,6 +30,7 @@ pub fn subtree_laws()
 
 /// How many different trees a list has.
 pub fn distinct_laws()
+    ensures all_differ { DistinctWithoutRepetition }
     ensures part { DistinctOfPart }
     ensures order { DistinctInAnyOrder }
     ensures bound { DistinctIsBounded }

@@ -1,5 +1,8 @@
-use Rattle.term_model.proofs.Subtrees.{subtrees_nest, arguments_are_subtrees, arguments_have_fewer_nodes, no_more_nodes, subtrees_are_well_formed, subtrees_are_ground, closed_holds_subtrees}
+use Rattle.term_model.proofs.Subtrees.{trees_are_subtrees, subtrees_nest, arguments_are_subtrees, arguments_have_fewer_nodes, no_more_nodes, subtrees_are_well_formed, subtrees_are_ground, closed_holds_subtrees}
 use Rattle.term_model.proofs.laws.subtree_laws.Goals as goal
+
+pub returns-clause-itself : goal.returns-clause-itself
+returns-clause-itself c = trees_are_subtrees
 
 pub returns-clause-nest : goal.returns-clause-nest
 returns-clause-nest c = subtrees_nest
