@@ -39,7 +39,7 @@ impl Model for MemSource {
 
 impl MemSource {
     /// A source that gives these bytes, at most `most` (1 or more) at a read, and fails at the calls
-    /// with the numbers in `failing`, next_count from 1.
+    /// with the numbers in `failing`, counted from 1.
     pub fn new(alloc: Global, bytes: &[u8], most: usize, failing: &[u64]) -> Result<Self, Memory>
         requires { 0 < most }
         ensures { IfOk result (λ s. s ≡ source_of bytes.now most failing.now) }

@@ -1,5 +1,10 @@
-//! What may fail everywhere: memory, and ends that count their faults.
+//! What may fail everywhere: memory, ends that count their faults, and inputs that are refused.
 #![tactic(auto)]
+
+pub mod kinds;
+mod refusal;
+
+pub use refusal::Refusal;
 
 use std::alloc::{AllocError, AllocFailed};
 

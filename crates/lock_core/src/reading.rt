@@ -10,6 +10,7 @@ ghost use Rattle.lock_core.specs.Schedule.{lines, step_text, IsOnSeat, IsLine, I
 use crate::machine::step;
 use crate::parts::LockStep;
 use crate::state::LockState;
+use faults::kinds;
 
 /// Why a schedule is refused, and at which line, counted from 1.
 #[derive(Clone, Copy, Debug, PartialEq, Eq)]
@@ -17,13 +18,6 @@ pub struct LineFault {
     /// 15 for a line of a wrong form, 16 for a step out of place.
     pub kind: u8,
     pub line: u64,
-}
-
-impl LineFault {
-    /// A line of a wrong form.
-    pub const BAD_LINE: u8 = 15;
-    /// A step out of place.
-    pub const OUT_OF_PLACE: u8 = 16;
 }
 
 // The bytes before and after the first byte b.
@@ -139,13 +133,13 @@ pub fn schedule(bytes: &[u8], seats: u32) -> Result<LockState, LineFault>
         line += 1;
         let Some((seat, next)) = read_line(text, seats) else {
             return Err(LineFault {
-                kind: LineFault::BAD_LINE,
+                kind: kinds::BAD_LINE,
                 line,
             });
         };
         let Some(stepped) = step(&state, seat, next) else {
             return Err(LineFault {
-                kind: LineFault::OUT_OF_PLACE,
+                kind: kinds::OUT_OF_PLACE,
                 line,
             });
         };
