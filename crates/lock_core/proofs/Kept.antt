@@ -9,7 +9,7 @@ use Rattle.lock_core.specs.declared.parts.LockStep.{LockStep}
 use Rattle.lock_core.specs.declared.parts.LockStep.TheVariants.{Raise, Look, Lower, Take, Ask, Peek, Unask, Give}
 use Rattle.lock_core.specs.declared.parts.SeatState.{SeatState}
 use Rattle.lock_core.specs.Lock.{Lock, idle, at_start, seat_of, taken, after, InPlace, Leads}
-use Rattle.lock_core.specs.Exclusion.{busy_in, forbidden_at, IsSound, IsExclusive, Exclusion}
+use Rattle.lock_core.specs.Exclusion.{busy_in, forbidden_in, IsSound, IsExclusive, Exclusion}
 use Rattle.lock_core.proofs.Seats.{SeatIsSound, seat_sound, sound_with, all_sound, all_idle}
 
 past : (xs : List SeatState) (j : ℕ) → length xs ≤ j → get_or xs j idle ≡ idle
@@ -35,7 +35,7 @@ looked l i k present raised false clear = let s : SeatIsSound l.mutex i (seat_of
   flag = s.flag;
   nobody = s.nobody;
   own = λ h. grind arith;
-  held = λ h _. let e : forbidden_at (seat_of l i).standing ≡ true = ap forbidden_at h in let b = s.flag in grind arith;
+  held = λ h _. let e : forbidden_in (seat_of l i).standing ≡ true = ap forbidden_in h in let b = s.flag in grind arith;
 }
 
 peeked : (l : Lock) (i j : ℕ) → IsSound l → (seat_of l i).phase ≡ Holder → j ≢ i → (seat_of l j).standing ≡ Asked → (b : Bool) → (seat_of l j).busy ≡ b
@@ -43,7 +43,7 @@ peeked : (l : Lock) (i j : ℕ) → IsSound l → (seat_of l i).phase ≡ Holder
 peeked l i j k holder other asked true busy = let s : SeatIsSound l.mutex j (seat_of l j) = seat_sound l j k in record {
   busy = s.busy;
   holder = s.holder;
-  flag = s.flag ∙ ap forbidden_at asked;
+  flag = s.flag ∙ ap forbidden_in asked;
   nobody = λ h. let e = s.nobody h in grind arith;
   own = λ h. let e = s.own h in grind arith;
   held = λ h _. grind arith;
@@ -51,7 +51,7 @@ peeked l i j k holder other asked true busy = let s : SeatIsSound l.mutex j (sea
 peeked l i j k holder other asked false busy = let s : SeatIsSound l.mutex j (seat_of l j) = seat_sound l j k in record {
   busy = s.busy;
   holder = s.holder;
-  flag = s.flag ∙ ap forbidden_at asked;
+  flag = s.flag ∙ ap forbidden_in asked;
   nobody = λ h. let e = s.nobody h in grind arith;
   own = λ h. let e = s.own h in grind arith;
   held = λ _ h. let e : busy_in (seat_of l j).phase ≡ true = ap busy_in h in let b = s.busy in grind arith;

@@ -6,13 +6,13 @@ use Rattle.lock_core.specs.declared.parts.Phase.TheVariants.{Shared, Holder}
 use Rattle.lock_core.specs.declared.parts.Standing.TheVariants.{Free, Held}
 use Rattle.lock_core.specs.declared.parts.SeatState.{SeatState}
 use Rattle.lock_core.specs.Lock.{Lock, idle, seat_of}
-use Rattle.lock_core.specs.Exclusion.{busy_in, forbidden_at, IsSound}
+use Rattle.lock_core.specs.Exclusion.{busy_in, forbidden_in, IsSound}
 
 -- what the four facts say of seat j
 pub record SeatIsSound (mutex : Option ℕ) (j : ℕ) (s : SeatState) : Type 0 where
   pub busy : s.busy ≡ busy_in s.phase
   pub holder : (s.phase ≡ Holder) ↔ (mutex ≡ Some j)
-  pub flag : s.forbidden ≡ forbidden_at s.standing
+  pub flag : s.forbidden ≡ forbidden_in s.standing
   pub nobody : mutex ≡ None → s.standing ≡ Free
   pub own : s.phase ≡ Holder → s.standing ≡ Free
   pub held : s.standing ≡ Held → s.phase ≢ Shared

@@ -15,11 +15,11 @@ busy_in Blocked = true
 busy_in Holder = false
 
 -- whether forbidden is set, by the standing with the holder
-abbrev pub forbidden_at : Standing → Bool
-forbidden_at Free = false
-forbidden_at Asked = true
-forbidden_at Seen = true
-forbidden_at Held = true
+abbrev pub forbidden_in : Standing → Bool
+forbidden_in Free = false
+forbidden_in Asked = true
+forbidden_in Seen = true
+forbidden_in Held = true
 
 -- busy is set exactly in the phases raised, shared and blocked
 abbrev pub BusyMatchesPhase : Lock → Type 0
@@ -31,7 +31,7 @@ OneHolder l = (j : ℕ) → ((seat_of l j).phase ≡ Holder) ↔ (l.mutex ≡ So
 
 -- forbidden is set exactly where a seat stands as asked, seen or held; without a holder all stand free, and the holder does
 pub record ForbiddenMatchesStanding (l : Lock) : Type 0 where
-  pub flags : (j : ℕ) → (seat_of l j).forbidden ≡ forbidden_at (seat_of l j).standing
+  pub flags : (j : ℕ) → (seat_of l j).forbidden ≡ forbidden_in (seat_of l j).standing
   pub nobody : l.mutex ≡ None → (j : ℕ) → (seat_of l j).standing ≡ Free
   pub holder : (j : ℕ) → (seat_of l j).phase ≡ Holder → (seat_of l j).standing ≡ Free
 
