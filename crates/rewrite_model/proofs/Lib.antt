@@ -5,6 +5,7 @@ pub mod NormalForms
 pub mod SingleSteps
 pub mod Reached
 pub mod OutermostReached
+pub mod OutermostFuel
 pub mod Stacks
 pub mod Binding
 pub mod Comes

@@ -15,7 +15,7 @@ use Rattle.rewrite_model.proofs.Reached.{went_on, had_room, same_value}
 -- what is built is the instance
 module _ (bound : List Tree) where
   mutual
-    builds : (p : Tree) (fuel room : ℕ) (u : Tree) (left : ℕ) → (build bound p fuel room).end ≡ Done u left → instance p bound ≡ u
+    pub builds : (p : Tree) (fuel room : ℕ) (u : Tree) (left : ℕ) → (build bound p fuel room).end ≡ Done u left → instance p bound ≡ u
     builds (Leaf x) fuel room u left e = (same_value (tree_at x bound) u fuel left (had_room room (done (tree_at x bound) fuel) u left e)).0
     builds (Node h ps) fuel room u left e = went_on (build_all bound ps fuel room) _ u left (had_room room _ u left e) (λ ts m a r.
         ap (Node h) (build_alls ps fuel room ts m a) ∙ (same_value (Node h ts) u m left r).0)
@@ -28,7 +28,7 @@ module _ (bound : List Tree) where
 
 module _ (rules : List Rule) where
   -- what a step leaves is a step, or a normal form
-  abbrev Gives : Tree → Stepped Tree → Type 0
+  abbrev pub Gives : Tree → Stepped Tree → Type 0
   Gives t Same = IsNormalForm rules t
   Gives t (Changed u) = Step rules t u
 
@@ -74,7 +74,7 @@ module _ (rules : List Rule) where
   in_front_gives t ts (Changed us) n g = there g
 
   mutual
-    step_gives : (t : Tree) (fuel room : ℕ) (s : Stepped Tree) (left : ℕ) → (step rules t fuel room).end ≡ Done s left → Gives t s
+    pub step_gives : (t : Tree) (fuel room : ℕ) (s : Stepped Tree) (left : ℕ) → (step rules t fuel room).end ≡ Done s left → Gives t s
     step_gives (Leaf x) fuel room s left e =
         root_gives [] rules (Leaf x) fuel room (done Same fuel) s left refl (All-nil (λ (q : Rule). match_of q.left (Leaf x) ≡ None)) (λ n e'.
         subst (Gives (Leaf x)) (same_value Same s fuel left e').0 (leaf_normal rules x n)) (had_room room _ s left e)

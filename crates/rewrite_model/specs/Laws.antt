@@ -6,9 +6,9 @@ use Rattle.rewrite_model.specs.Rule.{Rule, IsRule, IsNode, IsNumbered, IsUncondi
 use Rattle.rewrite_model.specs.Matching.{match_of, instance}
 use Rattle.rewrite_model.specs.Run.{Done}
 use Rattle.rewrite_model.specs.Evaluation.{reduction, begin, evaluation}
-use Rattle.rewrite_model.specs.Step.{Step, Reaches, IsNormalForm}
+use Rattle.rewrite_model.specs.Step.{Step, Reaches, ReachesInSteps, IsNormalForm}
 use Rattle.rewrite_model.specs.Steps.{steps_of}
-use Rattle.rewrite_model.specs.Outermost.{outermost}
+use Rattle.rewrite_model.specs.Outermost.{Same, Changed, step, outermost}
 use Rattle.rewrite_model.specs.Built.{built_list, need, distinct_built, need_of_all}
 
 -- A pattern matches exactly its instances, and binds a tree to each variable in order.
@@ -58,6 +58,18 @@ ValueIsReached = (rules : List Rule) → All (λ (r : Rule). IsNode r.left) rule
 abbrev pub OutermostValueIsReached : Type 0
 OutermostValueIsReached = (rules : List Rule) (t u : Tree) (fuel room left : ℕ) → (outermost rules t fuel room).end ≡ Done u left →
     Reaches rules t u × IsNormalForm rules u
+
+-- An outermost step that changes the tree takes exactly one unit of fuel, and one that leaves it the
+-- same takes none; so a value has taken as many units as steps lead to it.
+abbrev pub ChangeTakesOne : Type 0
+ChangeTakesOne = (rules : List Rule) (t u : Tree) (fuel room left : ℕ) → (step rules t fuel room).end ≡ Done (Changed u) left → fuel ≡ left + 1
+
+abbrev pub SameTakesNone : Type 0
+SameTakesNone = (rules : List Rule) (t : Tree) (fuel room left : ℕ) → (step rules t fuel room).end ≡ Done Same left → fuel ≡ left
+
+abbrev pub OutermostFuelIsSteps : Type 0
+OutermostFuelIsSteps = (rules : List Rule) (t u : Tree) (fuel room left : ℕ) → (outermost rules t fuel room).end ≡ Done u left →
+    (n : ℕ) × (fuel ≡ left + n) × ReachesInSteps rules n t u
 
 -- A tree is reached by one step exactly where it is one of the steps of the tree, so that a normal
 -- form is exactly a tree without steps.

@@ -6,7 +6,12 @@ pub mod Built
 pub mod Step
 pub mod Steps
 pub mod Outermost
+pub mod Samples
 pub mod Rows
+pub mod OrderRows
+pub mod RoomRows
+pub mod HandRows
+pub mod OutermostRows
 pub mod Laws
 pub mod Boxed
 pub mod Program

@@ -1,35 +1,13 @@
 -- Worked rows: small specifications, their terms, and what comes of them.
-use Rattle.std.specs.Prelude.{◌≡◌, ℕ, zero, suc, List, [], ◌∷◌, true, false}
-use Rattle.term_model.specs.Tree.{Tree, Leaf, Node, trees_of}
-use Rattle.term_model.specs.declared.Head.TheVariants.{App}
-use Rattle.rewrite_model.specs.Rule.{Rule, Condition}
-use Rattle.rewrite_model.specs.Run.{Ended, Done, OutOfFuel, TooDeep}
-use Rattle.rewrite_model.specs.Evaluation.{evaluation}
+use Rattle.std.specs.Prelude.{◌≡◌, ℕ, zero, suc, List, [], ◌∷◌}
+use Rattle.term_model.specs.Tree.{Tree}
+use Rattle.rewrite_model.specs.Rule.{Rule}
+use Rattle.rewrite_model.specs.Run.{Done, OutOfFuel, TooDeep}
 use Rattle.rewrite_model.specs.Built.{built_list, need, total_built, distinct_built}
-use Rattle.rewrite_model.specs.Outermost.{outermost, outermost_built}
-
-abbrev node : ℕ → List Tree → Tree
-node f ts = Node (App (record { 0 = f })) (trees_of ts)
-
-abbrev rule : Tree → Tree → ℕ → Rule
-rule l r k = record { left = l; right = r; conditions = []; vars = k }
-
-abbrev x : Tree
-x = Leaf 0
-
-abbrev y : Tree
-y = Leaf 1
-
-abbrev value : List Rule → Tree → ℕ → ℕ → Ended Tree
-value rules t fuel room = (evaluation rules t fuel room).end
+use Rattle.rewrite_model.specs.Outermost.{outermost_built}
+use Rattle.rewrite_model.specs.Samples.{node, x, y, z, a, b, c, l, s, f, g, rule, rule_if, same, differ, value, outermost_value}
 
 -- numbers: z, s(X), plus(X, Y), mult(X, Y)
-abbrev z : Tree
-z = node 0 []
-
-abbrev s : Tree → Tree
-s t = node 1 (t ∷ [])
-
 abbrev plus : Tree → Tree → Tree
 plus t u = node 2 (t ∷ u ∷ [])
 
@@ -81,41 +59,20 @@ eq u v = node 6 (u ∷ v ∷ [])
 abbrev pub Twice : Type 0
 Twice = (value (rule (eq x x) t 1 ∷ []) (eq (s z) (s z)) 9 99 ≡ Done t 8) × (value (rule (eq x x) t 1 ∷ []) (eq (s z) z) 9 99 ≡ Done (eq (s z) z) 9)
 
--- constants a, b, c, e; f(X) and g(X)
-abbrev a : Tree
-a = node 7 []
-
-abbrev b : Tree
-b = node 8 []
-
-abbrev c : Tree
-c = node 9 []
-
+-- a constant e
 abbrev e : Tree
 e = node 10 []
 
-abbrev f : Tree → Tree
-f u = node 11 (u ∷ [])
-
-abbrev g : Tree → Tree
-g u = node 12 (u ∷ [])
-
-abbrev same : Tree → Tree → Condition
-same u v = record { first = u; second = v; equal = true }
-
-abbrev differ : Tree → Tree → Condition
-differ u v = record { first = u; second = v; equal = false }
-
 -- g(X) -> b, f(X) -> a if g(X) = b and X <> c, f(X) -> e
 abbrev guarded : List Rule
-guarded = rule (g x) b 1 ∷ record { left = f x; right = a; conditions = same (g x) b ∷ differ x c ∷ []; vars = 1 } ∷ rule (f x) e 1 ∷ []
+guarded = rule (g x) b 1 ∷ rule_if (f x) a (same (g x) b ∷ differ x c ∷ []) 1 ∷ rule (f x) e 1 ∷ []
 
 abbrev pub Guarded : Type 0
 Guarded = (value guarded (f c) 3 99 ≡ Done e 0) × (value guarded (f c) 2 99 ≡ OutOfFuel) × (value guarded (f a) 2 99 ≡ Done a 0)
 
 -- a condition that asks for itself: f(X) -> a if f(X) = b
 abbrev pub AsksForItself : Type 0
-AsksForItself = value (record { left = f x; right = a; conditions = same (f x) b ∷ []; vars = 1 } ∷ []) (f c) 3 99 ≡ OutOfFuel
+AsksForItself = value (rule_if (f x) a (same (f x) b ∷ []) 1 ∷ []) (f c) 3 99 ≡ OutOfFuel
 
 -- the first rule that fits is used
 abbrev pub FirstRule : Type 0
@@ -130,17 +87,14 @@ abbrev pub Products : Type 0
 Products = value products (mult (number 3) (number 1)) 6 1000 ≡ Done (number 3) 0
 
 -- the outermost position first: f(X) -> a, l -> l
-abbrev l : Tree
-l = node 13 []
-
 abbrev loops : List Rule
 loops = rule (f x) a 1 ∷ rule l l 0 ∷ []
 
 abbrev pub OutermostEnds : Type 0
-OutermostEnds = ((outermost loops (f l) 1 2).end ≡ Done a 0) × (value loops (f l) 5 99 ≡ OutOfFuel) × ((outermost loops (f l) 1 1).end ≡ TooDeep)
+OutermostEnds = (outermost_value loops (f l) 1 2 ≡ Done a 0) × (value loops (f l) 5 99 ≡ OutOfFuel) × (outermost_value loops (f l) 1 1 ≡ TooDeep)
 
 abbrev pub OutermostSums : Type 0
-OutermostSums = ((outermost sums one_and_one 2 1000).end ≡ Done (s (s z)) 0) × ((outermost sums one_and_one 1 1000).end ≡ OutOfFuel)
+OutermostSums = (outermost_value sums one_and_one 2 1000 ≡ Done (s (s z)) 0) × (outermost_value sums one_and_one 1 1000 ≡ OutOfFuel)
 
 abbrev pub OutermostBuilds : Type 0
 OutermostBuilds = outermost_built sums one_and_one 2 1000 ≡ z ∷ s z ∷ z ∷ s z ∷ plus (s z) (s z) ∷ plus (s z) z ∷ s (plus (s z) z) ∷ s (s z) ∷ []

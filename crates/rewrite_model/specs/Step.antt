@@ -1,5 +1,5 @@
 -- One step of rewriting by rules without conditions, at any position.
-use Rattle.std.specs.Prelude.{◌≡◌, List, Some, Contains}
+use Rattle.std.specs.Prelude.{◌≡◌, ℕ, zero, suc, List, Some, Contains}
 use Rattle.term_model.specs.Tree.{Tree, Node, Trees, More}
 use Rattle.term_model.specs.declared.Head.{Head}
 use Rattle.rewrite_model.specs.Rule.{Rule}
@@ -19,6 +19,11 @@ mutual
 pub data Reaches (rules : List Rule) : Tree → Tree → Type 0 where
   none : {t : Tree} → Reaches rules t t
   more : {t u v : Tree} → Step rules t u → Reaches rules u v → Reaches rules t v
+
+-- by exactly so many steps
+abbrev pub ReachesInSteps : List Rule → ℕ → Tree → Tree → Type 0
+ReachesInSteps rules zero t u = t ≡ u
+ReachesInSteps rules (suc n) t u = (v : Tree) × Step rules t v × ReachesInSteps rules n v u
 
 -- a normal form has no step
 abbrev pub IsNormalForm : List Rule → Tree → Type 0

@@ -1,6 +1,6 @@
 //! What is true of all matches and evaluations, each law the contract of a function that does nothing.
 
-ghost use Rattle.rewrite_model.specs.Laws.{MatchGivesInstance, MatchBindsVariables, InstancesMatch, BeginsWithItself, FuelFalls, MoreFuelIsLeft, SubtreesAreBuilt, NeedIsBounded, NeedOfAllIsBounded, ValueIsReached, OutermostValueIsReached, StepsAreAll, NormalHasNone};
+ghost use Rattle.rewrite_model.specs.Laws.{MatchGivesInstance, MatchBindsVariables, InstancesMatch, BeginsWithItself, FuelFalls, MoreFuelIsLeft, SubtreesAreBuilt, NeedIsBounded, NeedOfAllIsBounded, ValueIsReached, OutermostValueIsReached, ChangeTakesOne, SameTakesNone, OutermostFuelIsSteps, StepsAreAll, NormalHasNone};
 
 /// A pattern matches exactly its instances.
 pub fn matching_laws()
@@ -14,6 +14,13 @@ pub fn fuel_laws()
     ensures equation { BeginsWithItself }
     ensures falls { FuelFalls }
     ensures more { MoreFuelIsLeft }
+{}
+
+/// An outermost step takes one unit of fuel where it changes the term, and none where it doesn't.
+pub fn outermost_fuel_laws()
+    ensures change { ChangeTakesOne }
+    ensures same { SameTakesNone }
+    ensures steps { OutermostFuelIsSteps }
 {}
 
 /// What is built holds its subtrees, and what is in hand is built.

@@ -124,17 +124,35 @@ fn built(alloc: Global, rules: &[Rule], term: &[Item]) -> Result<(usize, usize),
     Ok((run.built.len(), distinct(&run.built)))
 }
 
-/// The nodes of a value, and how many different subtrees it has; none without a value.
-fn sizes(alloc: Global, rules: &[Rule], term: &[Item], fuel: u64) -> Result<(u64, usize), Fail> {
+/// The nodes of a value, how many different subtrees it has, and the fuel that is left.
+#[derive(Clone, Copy, Debug, PartialEq, Eq)]
+struct Measured {
+    nodes: u64,
+    distinct: usize,
+    left: u64,
+}
+
+/// What is measured of a term's value; None where there is no value.
+fn measure(
+    alloc: Global,
+    rules: &[Rule],
+    term: &[Item],
+    fuel: u64,
+) -> Result<Option<Measured>, Fail> {
     let term = flat(alloc, term)?;
     let run = evaluation(alloc, rules, &term, fuel, 1000)?;
     match &run.end {
-        End::Value(value, _) => {
+        End::Value(value, left) => {
             let mut list = Vec::new(alloc);
             value.subtrees(alloc, &mut list)?;
-            Ok((value.nodes(), distinct(&list)))
+            let measured = Measured {
+                nodes: value.nodes(),
+                distinct: distinct(&list),
+                left: *left,
+            };
+            Ok(Some(measured))
         }
-        _ => Ok((0, 0)),
+        _ => Ok(None),
     }
 }
 
@@ -237,9 +255,15 @@ fn products_use_as_much_fuel_as_they_say(rt: HostRuntime) -> Result<(), Fail> {
     let mut rules = sums(alloc)?;
     rules.push(rule(alloc, &[X, Z, MULT], &[Z], 1)?)?;
     rules.push(rule(alloc, &[X, Y, S, MULT], &[X, Y, MULT, X, PLUS], 2)?)?;
-    for (a, b, spent, nodes) in [(3, 1, 6, 4), (10, 6, 73, 61), (6, 11, 89, 67)] {
+    for (a, b, spent, nodes) in [(3, 1, 6u64, 4u32), (10, 6, 73, 61), (6, 11, 89, 67)] {
         let items = product(alloc, a, b)?;
-        assert_eq!(rt; sizes(alloc, &rules, &items, spent)?.0, nodes);
+        let number = Measured {
+            nodes: u64::from(nodes),
+            distinct: nodes as usize,
+            left: 0,
+        };
+        assert_eq!(rt; measure(alloc, &rules, &items, spent)?, Some(number));
+        assert_eq!(rt; measure(alloc, &rules, &items, spent - 1)?, None);
     }
     Ok(())
 }
@@ -249,7 +273,15 @@ fn doubled_terms_have_few_subtrees(rt: HostRuntime) -> Result<(), Fail> {
     let alloc = rt.alloc();
     let mut rules = Vec::new(alloc);
     rules.push(rule(alloc, &[X, D], &[X, X, P], 1)?)?;
-    assert_eq!(rt; sizes(alloc, &rules, &[Z, D, D, D], 3)?, (15, 4));
+    let doubled = Measured {
+        nodes: 15,
+        distinct: 4,
+        left: 0,
+    };
+    assert_eq!(rt;
+        measure(alloc, &rules, &[Z, D, D, D], 3)?,
+        Some(doubled)
+    );
     Ok(())
 }
 
