@@ -3,7 +3,7 @@ use Rattle.std.proofs.Common.{◌≡◌, ℕ, Bool, true, false, List, [], ◌�
 use Rattle.std.specs.Prelude.{if◌then◌else◌}
 use Rattle.rec_reader.specs.declared.token.Name.{Name}
 use Rattle.rec_reader.specs.declared.syntax_tree.Specification.{Specification}
-use Rattle.rec_offences.specs.declared.offence.Offence.{Offence}
+use Rattle.faults.specs.declared.refusal.Refusal.{Refusal}
 use Rattle.rec_offences.specs.Material.{Header, headers_of, included, sorts_of}
 use Rattle.rec_offences.specs.Scope.{Entry, own_entries, names_of}
 use Rattle.rec_offences.specs.Offences.{includes_from, unknown_names, repeated_names, wrong_counts, bare_variables, free_variables, not_ground, unknown_sorts, unknown_includes, past_limits, sort_clashes}
@@ -23,7 +23,7 @@ kind_empty kind [] h = refl
 kind_empty kind (n ∷ names) h = absurd cc
 
 -- without a least one there are none
-still : (found : Offence) (os : List Offence) → is_some (least_with (Some found) os) ≡ true
+still : (found : Refusal) (os : List Refusal) → is_some (least_with (Some found) os) ≡ true
 still found [] = refl
 still found (o ∷ os) = by (goes_before o found) (still o os) (still found os)
   where
@@ -31,7 +31,7 @@ still found (o ∷ os) = by (goes_before o found) (still o os) (still found os)
     by true p q = p
     by false p q = q
 
-pub no_offences : (os : List Offence) → least_with None os ≡ None → os ≡ []
+pub no_offences : (os : List Refusal) → least_with None os ≡ None → os ≡ []
 no_offences [] h = refl
 no_offences (o ∷ os) h = absurd (let bad : false ≡ true = sym (ap is_some h) ∙ still o os in cc)
 

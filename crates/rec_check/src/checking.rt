@@ -32,10 +32,7 @@ pub fn check(alloc: Global, syntax: &Syntax) -> Result<Spec, ReadFail>
     // whole, without which an input with no offence might spell nothing.
     let _ = syntax.as_slice();
     if let Some(fault) = fault(alloc, syntax)? {
-        return Err(ReadFail::Refused {
-            kind: fault.kind,
-            offset: fault.offset,
-        });
+        return Err(fault.into());
     }
     match spell_last(alloc, syntax) {
         Ok(spec) => Ok(spec),

@@ -7,11 +7,9 @@ ghost use Rattle.rec_check.specs.Conditional.{IsConditional, first_if, ifs_of, l
 
 use crate::last::last_material;
 use crate::spelling::specification_at;
+use faults::kinds;
 use rec_reader::{ReadFail, Rule, Specification, Syntax};
 use std::alloc::Global;
-
-/// The kind of refusal at the condition of a rule.
-pub const CONDITIONAL: u8 = 19;
 
 /// The earlier of two places.
 fn earlier(found: Option<usize>, place: Option<usize>) -> Option<usize>
@@ -59,7 +57,7 @@ pub fn unconditional(alloc: Global, syntax: &Syntax) -> Result<(), ReadFail>
     let material = last_material(alloc, syntax)?;
     match first_of(syntax.as_slice(), &material) {
         Some(place) => Err(ReadFail::Refused {
-            kind: CONDITIONAL,
+            kind: kinds::CONDITIONAL,
             offset: place as u64,
         }),
         None => Ok(()),

@@ -14,7 +14,7 @@ mod table;
 mod terms;
 
 pub use checking::check;
-pub use conditions::{CONDITIONAL, unconditional};
+pub use conditions::unconditional;
 pub use spec::Spec;
 
 #[cfg(test)]

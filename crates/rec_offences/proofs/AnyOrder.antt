@@ -6,24 +6,24 @@ use Rattle.std.proofs.lemmas.Bool.{cases_lt}
 use Rattle.std.proofs.lemmas.List.Elements.{All-head, All-tail, Contains-append_left, Contains-append_right, Contains-append_cases}
 use Rattle.rec_reader.specs.declared.syntax_tree.Specification.{Specification}
 use Rattle.rec_reader.specs.Parsed.{Parsed}
-use Rattle.rec_offences.specs.declared.offence.Offence.{Offence}
+use Rattle.faults.specs.declared.refusal.Refusal.{Refusal}
 use Rattle.rec_offences.specs.Faults.{least_with, offences_after, offences_from, fault_of}
 use Rattle.rec_offences.specs.Numbered.{offences_at}
 use Rattle.rec_offences.proofs.Leasts.{in_none, of_all, none_of_all}
 use Rattle.rec_offences.proofs.Order.{only_same}
 
 -- each of one list is in another
-abbrev IsWithin : List Offence → List Offence → Type 0
-IsWithin xs ys = (p : Offence) → Contains xs p → Contains ys p
+abbrev IsWithin : List Refusal → List Refusal → Type 0
+IsWithin xs ys = (p : Refusal) → Contains xs p → Contains ys p
 
-some_within : (xs ys : List Offence) (x : Offence) → IsWithin xs ys → least_with None xs ≡ Some x → least_with None ys ≡ None → Some x ≡ None
+some_within : (xs ys : List Refusal) (x : Refusal) → IsWithin xs ys → least_with None xs ≡ Some x → least_with None ys ≡ None → Some x ≡ None
 some_within xs ys x h e f = absurd (in_none x (subst (λ l. Contains l x) (none_of_all ys f) (h x (of_all xs x e).one)))
 
 -- the least of the same offences is the same
-least_same : (xs ys : List Offence) → IsWithin xs ys → IsWithin ys xs → least_with None xs ≡ least_with None ys
+least_same : (xs ys : List Refusal) → IsWithin xs ys → IsWithin ys xs → least_with None xs ≡ least_with None ys
 least_same xs ys to from = by (least_with None xs) (least_with None ys) refl refl
   where
-    by : (a b : Option Offence) → least_with None xs ≡ a → least_with None ys ≡ b → a ≡ b
+    by : (a b : Option Refusal) → least_with None xs ≡ a → least_with None ys ≡ b → a ≡ b
     by None None e f = refl
     by None (Some y) e f = sym (some_within ys xs y from f e)
     by (Some x) None e f = some_within xs ys x to e f
@@ -33,12 +33,12 @@ least_same xs ys to from = by (least_with None xs) (least_with None ys) refl ref
         ap Some (only_same x y (other.least x (to x least.one)) (least.least y (from y other.one)))
 
 -- an offence of one of the numbers
-in_one : (f : ℕ → List Offence) (ns : List ℕ) (n : ℕ) → Contains ns n → IsWithin (f n) (flat_map f ns)
+in_one : (f : ℕ → List Refusal) (ns : List ℕ) (n : ℕ) → Contains ns n → IsWithin (f n) (flat_map f ns)
 in_one f [] n c p h = let l = c.1 in absurd (omega (arith, l))
 in_one f (m ∷ ns) n (zero, l, e) p h = Contains-append_left (f m) (flat_map f ns) p (subst (λ k. Contains (f k) p) (sym e) h)
 in_one f (m ∷ ns) n (suc i, l, e) p h = Contains-append_right (f m) (flat_map f ns) p (in_one f ns n (i, omega (arith, l), e) p h)
 
-of_one : (f : ℕ → List Offence) (P : ℕ → Type 0) (os : List Offence) (ns : List ℕ) → All P ns → ((n : ℕ) → P n → IsWithin (f n) os) → IsWithin (flat_map f ns) os
+of_one : (f : ℕ → List Refusal) (P : ℕ → Type 0) (os : List Refusal) (ns : List ℕ) → All P ns → ((n : ℕ) → P n → IsWithin (f n) os) → IsWithin (flat_map f ns) os
 of_one f P os [] all h p c = absurd (in_none p c)
 of_one f P os (n ∷ ns) all h p c = elim (Contains-append_cases (f n) (flat_map f ns) p c) [
   | inl here ↦ h n (All-head P n ns all) p here
@@ -63,7 +63,7 @@ regrouped : (xs ys : List Specification) (s : Specification) → (xs ++ s ∷ []
 regrouped xs ys s = append_assoc xs (s ∷ []) ys
 
 -- each offence is one of a specification with a number
-at_some : (bytes : List ℕ) (xs ys : List Specification) (p : Offence) → Contains (offences_from bytes xs ys) p →
+at_some : (bytes : List ℕ) (xs ys : List Specification) (p : Refusal) → Contains (offences_from bytes xs ys) p →
     (n : ℕ) × (n < length (xs ++ ys)) × Contains (offences_at bytes (xs ++ ys) n) p
 at_some bytes xs [] p c = absurd (in_none p c)
 at_some bytes xs (s ∷ ys) p c = elim (Contains-append_cases (offences_after bytes xs s) (offences_from bytes (xs ++ s ∷ []) ys) p c) [

@@ -2,7 +2,7 @@
 use Rattle.std.proofs.Common.{◌≡◌, ◌⊎◌, inl, inr, ℕ, zero, suc, List, [], ◌∷◌, Some, None, Bool, true, false, refl, sym, ap, subst, ◌∙◌, arith}
 use Rattle.std.specs.Prelude.{Contains, nat_lt, ◌||◌, ◌&&◌, ◌==◌, if◌then◌else◌}
 use Rattle.rec_reader.specs.Parsed.{Parsed}
-use Rattle.rec_offences.specs.declared.offence.Offence.{Offence}
+use Rattle.faults.specs.declared.refusal.Refusal.{Refusal}
 use Rattle.rec_offences.specs.Faults.{goes_before, least_with, offences_of, fault_of}
 use Rattle.rec_offences.specs.Laws.{IsLeastOf}
 
@@ -15,41 +15,41 @@ not_back o k p l h = grind arith
 not_further : (o k p l q m : ℕ) → (nat_lt o p || (o == p && nat_lt k l)) ≡ false → (nat_lt p q || (p == q && nat_lt l m)) ≡ false → (nat_lt o q || (o == q && nat_lt k m)) ≡ false
 not_further o k p l q m h g = grind arith
 
-itself : (a : Offence) → goes_before a a ≡ false
-itself a = not_itself a.offset a.kind
+itself : (a : Refusal) → goes_before a a ≡ false
+itself a = not_itself a.place a.kind
 
-back : (a b : Offence) → goes_before a b ≡ true → goes_before b a ≡ false
-back a b h = not_back a.offset a.kind b.offset b.kind h
+back : (a b : Refusal) → goes_before a b ≡ true → goes_before b a ≡ false
+back a b h = not_back a.place a.kind b.place b.kind h
 
-further : (a b c : Offence) → goes_before a b ≡ false → goes_before b c ≡ false → goes_before a c ≡ false
-further a b c h g = not_further a.offset a.kind b.offset b.kind c.offset c.kind h g
+further : (a b c : Refusal) → goes_before a b ≡ false → goes_before b c ≡ false → goes_before a c ≡ false
+further a b c h g = not_further a.place a.kind b.place b.kind c.place c.kind h g
 
-pub in_none : (p : Offence) → Contains [] p → ⊥
+pub in_none : (p : Refusal) → Contains [] p → ⊥
 in_none p c = let l = c.1 in absurd (omega (arith, l))
 
-at_head : (x : Offence) (os : List Offence) → Contains (x ∷ os) x
+at_head : (x : Refusal) (os : List Refusal) → Contains (x ∷ os) x
 at_head x os = (0, omega arith, refl)
 
-behind : (x p : Offence) (os : List Offence) → Contains os p → Contains (x ∷ os) p
+behind : (x p : Refusal) (os : List Refusal) → Contains os p → Contains (x ∷ os) p
 behind x p os c = let l = c.1 in (suc c.0, omega (arith, l), c.2)
 
-head_or_behind : (x p : Offence) (os : List Offence) → Contains (x ∷ os) p → (x ≡ p) ⊎ Contains os p
+head_or_behind : (x p : Refusal) (os : List Refusal) → Contains (x ∷ os) p → (x ≡ p) ⊎ Contains os p
 head_or_behind x p os (zero, l, e) = inl e
 head_or_behind x p os (suc i, l, e) = inr (i, omega (arith, l), e)
 
 -- what comes of something found and more: one of them, which none goes before
-record Least (found : Offence) (os : List Offence) : Type 0 where
-  offence : Offence
+record Least (found : Refusal) (os : List Refusal) : Type 0 where
+  offence : Refusal
   is : least_with (Some found) os ≡ Some offence
   one : (offence ≡ found) ⊎ Contains os offence
   first : goes_before found offence ≡ false
-  rest : (p : Offence) → Contains os p → goes_before p offence ≡ false
+  rest : (p : Refusal) → Contains os p → goes_before p offence ≡ false
 
-least : (found : Offence) (os : List Offence) → Least found os
+least : (found : Refusal) (os : List Refusal) → Least found os
 least found [] = record { offence = found; is = refl; one = inl refl; first = itself found; rest = λ p k. absurd (in_none p k) }
 least found (x ∷ os) = by (goes_before x found) refl (least x os) (least found os)
   where
-    over : (b : Bool) (y : Offence) → (if b then Some x else Some found) ≡ Some y → Least y os → goes_before x found ≡ b → least_with (Some found) (x ∷ os) ≡ least_with (Some y) os
+    over : (b : Bool) (y : Refusal) → (if b then Some x else Some found) ≡ Some y → Least y os → goes_before x found ≡ b → least_with (Some found) (x ∷ os) ≡ least_with (Some y) os
     over b y e l k = ap (λ c. least_with (if c then Some x else Some found) os) k ∙ ap (λ f. least_with f os) e
 
     by : (b : Bool) → goes_before x found ≡ b → Least x os → Least found os → Least found (x ∷ os)
@@ -82,7 +82,7 @@ least found (x ∷ os) = by (goes_before x found) refl (least x os) (least found
           ];
         }
 
-pub of_all : (os : List Offence) (fault : Offence) → least_with None os ≡ Some fault → IsLeastOf os fault
+pub of_all : (os : List Refusal) (fault : Refusal) → least_with None os ≡ Some fault → IsLeastOf os fault
 of_all [] fault h = absurd cc
 of_all (x ∷ os) fault h =
     let l = least x os in
@@ -99,10 +99,10 @@ of_all (x ∷ os) fault h =
       ];
     })
 
-pub fault_is_least : (syntax : Parsed) (fault : Offence) → fault_of syntax ≡ Some fault → IsLeastOf (offences_of syntax) fault
+pub fault_is_least : (syntax : Parsed) (fault : Refusal) → fault_of syntax ≡ Some fault → IsLeastOf (offences_of syntax) fault
 fault_is_least syntax fault h = of_all (offences_of syntax) fault h
 
-pub none_of_all : (os : List Offence) → least_with None os ≡ None → os ≡ []
+pub none_of_all : (os : List Refusal) → least_with None os ≡ None → os ≡ []
 none_of_all [] h = refl
 none_of_all (x ∷ os) h = absurd (let bad : Some (least x os).offence ≡ None = sym (least x os).is ∙ h in cc)
 

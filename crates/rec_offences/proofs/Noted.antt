@@ -3,13 +3,13 @@ use Rattle.std.proofs.Common.{◌≡◌, ℕ, suc, ◌+◌, ◌<◌, ◌≤◌, 
 use Rattle.std.specs.List.{filter}
 use Rattle.rec_reader.specs.declared.token.Name.{Name}
 use Rattle.rec_reader.specs.declared.syntax_tree.Node.{Node}
-use Rattle.rec_offences.specs.declared.offence.Offence.{Offence}
+use Rattle.faults.specs.declared.refusal.Refusal.{Refusal}
 use Rattle.rec_offences.specs.Scope.{Entry, heads}
 use Rattle.rec_offences.specs.Offences.{clashing}
 use Rattle.rec_offences.specs.Faults.{lesser, least_with, of_kind, offence_at}
 use Rattle.rec_offences.proofs.Gathered.{drop_all}
 
-pub least_append : (found : Option Offence) (xs ys : List Offence) → least_with found (xs ++ ys) ≡ least_with (least_with found xs) ys
+pub least_append : (found : Option Refusal) (xs ys : List Refusal) → least_with found (xs ++ ys) ≡ least_with (least_with found xs) ys
 least_append found [] ys = refl
 least_append found (x ∷ xs) ys = least_append (lesser found x) xs ys
 
@@ -21,9 +21,9 @@ pub picked_cons : (kind : ℕ) (b : Bool) (n : Name) (ns : List Name) → of_kin
 picked_cons kind true n ns = refl
 picked_cons kind false n ns = refl
 
-module _ {X : Type 0} (all : List X → List Offence) (one : X → List Offence) (splits : (x : X) (xs : List X) → all (x ∷ xs) ≡ one x ++ all xs) where
+module _ {X : Type 0} (all : List X → List Refusal) (one : X → List Refusal) (splits : (x : X) (xs : List X) → all (x ∷ xs) ≡ one x ++ all xs) where
   -- after one item more
-  pub noted_turn : (xs : List X) (i : ℕ) (x : X) (found now start : Option Offence) → i < length xs → x ≡ get_or xs i x →
+  pub noted_turn : (xs : List X) (i : ℕ) (x : X) (found now start : Option Refusal) → i < length xs → x ≡ get_or xs i x →
       now ≡ least_with found (one x) → least_with found (all (drop i xs)) ≡ start → least_with now (all (drop (i + 1) xs)) ≡ start
   noted_turn xs i x found now start l at is was =
       let next : drop i xs ≡ x ∷ drop (i + 1) xs = drop_at xs i x l at in
@@ -37,7 +37,7 @@ module _ {X : Type 0} (all : List X → List Offence) (one : X → List Offence)
       drop_at ys j y l e = drop-cons ys j y l ∙ ap (λ z. z ∷ drop (suc j) ys) (sym e) ∙ ap (λ k. y ∷ drop k ys) (sym (add-one j))
 
 -- after all items
-pub noted_end : {X : Type 0} (all : List X → List Offence) → all [] ≡ [] → (xs : List X) (i : ℕ) (found start : Option Offence) → length xs ≤ i →
+pub noted_end : {X : Type 0} (all : List X → List Refusal) → all [] ≡ [] → (xs : List X) (i : ℕ) (found start : Option Refusal) → length xs ≤ i →
     least_with found (all (drop i xs)) ≡ start → found ≡ start
 noted_end all empty xs i found start l was = sym (ap (λ ys. least_with found (all ys)) (drop_all xs i l) ∙ ap (least_with found) empty) ∙ was
 
@@ -64,15 +64,15 @@ clashing_end bytes entries wanted arguments k h = by (drop k wanted) (drop k arg
     by (w ∷ ws) (x ∷ xs) e = absurd (omega arith)
 
 -- one list after another
-pub noted_after : (found one two : Option Offence) (xs ys : List Offence) → one ≡ least_with found xs → two ≡ least_with one ys → two ≡ least_with found (xs ++ ys)
+pub noted_after : (found one two : Option Refusal) (xs ys : List Refusal) → one ≡ least_with found xs → two ≡ least_with one ys → two ≡ least_with found (xs ++ ys)
 noted_after found one two xs ys a b = b ∙ ap (λ o. least_with o ys) a ∙ sym (least_append found xs ys)
 
-pub three_noted : (found one two three : Option Offence) (xs ys zs : List Offence) →
+pub three_noted : (found one two three : Option Refusal) (xs ys zs : List Refusal) →
     one ≡ least_with found xs → two ≡ least_with one ys → three ≡ least_with two zs → three ≡ least_with found (xs ++ ys ++ zs)
 three_noted found one two three xs ys zs a b c = noted_after found two three (xs ++ ys) zs (noted_after found one two xs ys a b) c
 
 -- three lists after another
-pub three_after : (found one two : Option Offence) (ws xs ys zs : List Offence) →
+pub three_after : (found one two : Option Refusal) (ws xs ys zs : List Refusal) →
     one ≡ least_with found ws → two ≡ least_with one (xs ++ ys ++ zs) → two ≡ least_with found (ws ++ xs ++ ys ++ zs)
 three_after found one two ws xs ys zs a b =
     b

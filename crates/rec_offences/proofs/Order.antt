@@ -3,7 +3,7 @@ use Rattle.std.proofs.Common.{◌≡◌, ℕ, Bool, true, false, ◌||◌, ◌&&
 use Rattle.std.specs.List.{flat_map}
 use Rattle.std.proofs.lemmas.Bool.Decides.{nat_tests}
 use Rattle.rec_reader.specs.declared.token.Name.{Name}
-use Rattle.rec_offences.specs.declared.offence.Offence.{Offence}
+use Rattle.faults.specs.declared.refusal.Refusal.{Refusal}
 use Rattle.rec_offences.specs.Faults.{goes_before, lesser, least_with, of_kind}
 use Rattle.rec_offences.proofs.Noted.{least_append}
 
@@ -19,17 +19,17 @@ same_kind a b c d h k = grind (arith, nat_tests)
 not_before : (a b c d e f : ℕ) → (nat_lt a b || (a == b && nat_lt d e)) ≡ false → (nat_lt b c || (b == c && nat_lt e f)) ≡ false → (nat_lt a c || (a == c && nat_lt d f)) ≡ false
 not_before a b c d e f h k = grind (arith, nat_tests)
 
-one_way : (x y : Offence) → goes_before x y ≡ true → goes_before y x ≡ false
-one_way x y h = first_before x.offset y.offset x.kind y.kind h
+one_way : (x y : Refusal) → goes_before x y ≡ true → goes_before y x ≡ false
+one_way x y h = first_before x.place y.place x.kind y.kind h
 
-pub only_same : (x y : Offence) → goes_before x y ≡ false → goes_before y x ≡ false → x ≡ y
-only_same x y h k = λ i. record { kind = same_kind x.offset y.offset x.kind y.kind h k i; offset = same_offset x.offset y.offset x.kind y.kind h k i }
+pub only_same : (x y : Refusal) → goes_before x y ≡ false → goes_before y x ≡ false → x ≡ y
+only_same x y h k = λ i. record { kind = same_kind x.place y.place x.kind y.kind h k i; place = same_offset x.place y.place x.kind y.kind h k i }
 
-along : (x y z : Offence) → goes_before x y ≡ false → goes_before y z ≡ false → goes_before x z ≡ false
-along x y z h k = not_before x.offset y.offset z.offset x.kind y.kind z.kind h k
+along : (x y z : Refusal) → goes_before x y ≡ false → goes_before y z ≡ false → goes_before x z ≡ false
+along x y z h k = not_before x.place y.place z.place x.kind y.kind z.kind h k
 
 -- the lesser of two is the same in either order
-lesser_two : (x y : Offence) → lesser (Some x) y ≡ lesser (Some y) x
+lesser_two : (x y : Refusal) → lesser (Some x) y ≡ lesser (Some y) x
 lesser_two x y = by (goes_before y x) (goes_before x y) refl refl
   where
     by : (p q : Bool) → goes_before y x ≡ p → goes_before x y ≡ q → cond p (Some y) (Some x) ≡ cond q (Some x) (Some y)
@@ -38,13 +38,13 @@ lesser_two x y = by (goes_before y x) (goes_before x y) refl refl
     by false true e f = refl
     by false false e f = ap Some (only_same x y f e)
 
-taken : (g x : Offence) → goes_before x g ≡ true → lesser (Some g) x ≡ Some x
+taken : (g x : Refusal) → goes_before x g ≡ true → lesser (Some g) x ≡ Some x
 taken g x e = ap (λ b. cond b (Some x) (Some g)) e
 
-kept : (g x : Offence) → goes_before x g ≡ false → lesser (Some g) x ≡ Some g
+kept : (g x : Refusal) → goes_before x g ≡ false → lesser (Some g) x ≡ Some g
 kept g x e = ap (λ b. cond b (Some x) (Some g)) e
 
-lesser_swap : (found : Option Offence) (x y : Offence) → lesser (lesser found x) y ≡ lesser (lesser found y) x
+lesser_swap : (found : Option Refusal) (x y : Refusal) → lesser (lesser found x) y ≡ lesser (lesser found y) x
 lesser_swap None x y = lesser_two x y
 lesser_swap (Some g) x y = by (goes_before x g) (goes_before y g) refl refl
   where
@@ -57,16 +57,16 @@ lesser_swap (Some g) x y = by (goes_before x g) (goes_before y g) refl refl
     by false false e f =
         ap (λ o. lesser o y) (kept g x e) ∙ kept g y f ∙ sym (kept g x e) ∙ sym (ap (λ o. lesser o x) (kept g y f))
 
-swap_one : (found : Option Offence) (y : Offence) (xs : List Offence) → least_with (lesser found y) xs ≡ lesser (least_with found xs) y
+swap_one : (found : Option Refusal) (y : Refusal) (xs : List Refusal) → least_with (lesser found y) xs ≡ lesser (least_with found xs) y
 swap_one found y [] = refl
 swap_one found y (x ∷ xs) = ap (λ o. least_with o xs) (lesser_swap found y x) ∙ swap_one (lesser found x) y xs
 
-swap_all : (found : Option Offence) (xs ys : List Offence) → least_with (least_with found ys) xs ≡ least_with (least_with found xs) ys
+swap_all : (found : Option Refusal) (xs ys : List Refusal) → least_with (least_with found ys) xs ≡ least_with (least_with found xs) ys
 swap_all found xs [] = refl
 swap_all found xs (y ∷ ys) = swap_all (lesser found y) xs ys ∙ ap (λ o. least_with o ys) (swap_one found y xs)
 
 -- what is found at each of many together is found by one kind after another
-pub together : {V : Type 0} (first others : V → List Offence) (found : Option Offence) (vs : List V) →
+pub together : {V : Type 0} (first others : V → List Refusal) (found : Option Refusal) (vs : List V) →
     least_with found (flat_map (λ v. first v ++ others v) vs) ≡ least_with (least_with found (flat_map first vs)) (flat_map others vs)
 together first others found [] = refl
 together first others found (v ∷ vs) =
@@ -82,14 +82,14 @@ together first others found (v ∷ vs) =
 
 kinds_append : (kind : ℕ) (xs ys : List Name) → of_kind kind (xs ++ ys) ≡ of_kind kind xs ++ of_kind kind ys
 kinds_append kind [] ys = refl
-kinds_append kind (x ∷ xs) ys = ap (λ os. record { kind = kind; offset = x.start } ∷ os) (kinds_append kind xs ys)
+kinds_append kind (x ∷ xs) ys = ap (λ os. record { kind = kind; place = x.start } ∷ os) (kinds_append kind xs ys)
 
 pub kinds_flat : {V : Type 0} (kind : ℕ) (names : V → List Name) (vs : List V) → flat_map (λ v. of_kind kind (names v)) vs ≡ of_kind kind (flat_map names vs)
 kinds_flat kind names [] = refl
 kinds_flat kind names (v ∷ vs) = ap (λ os. of_kind kind (names v) ++ os) (kinds_flat kind names vs) ∙ sym (kinds_append kind (names v) (flat_map names vs))
 
 -- three kinds at each of many, and more of the last kind
-pub three_kinds : {V : Type 0} (i j k : ℕ) (a b c : V → List Name) (more : List Name) (found after now : Option Offence) (vs : List V) →
+pub three_kinds : {V : Type 0} (i j k : ℕ) (a b c : V → List Name) (more : List Name) (found after now : Option Refusal) (vs : List V) →
     after ≡ least_with found (flat_map (λ v. of_kind i (a v) ++ of_kind j (b v) ++ of_kind k (c v)) vs) → now ≡ least_with after (of_kind k more) →
     now ≡ least_with found (of_kind i (flat_map a vs) ++ of_kind j (flat_map b vs) ++ of_kind k (flat_map c vs ++ more))
 three_kinds i j k a b c more found after now vs visited is =

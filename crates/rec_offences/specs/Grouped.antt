@@ -5,7 +5,7 @@ use Rattle.std.specs.Option.{option_map, option_to_list, option_and_then}
 use Rattle.rec_reader.specs.declared.token.Name.{Name}
 use Rattle.rec_reader.specs.declared.syntax_tree.Specification.{Specification}
 use Rattle.rec_offences.specs.declared.entries.Verdict.{Verdict}
-use Rattle.rec_offences.specs.declared.offence.Offence.{Offence}
+use Rattle.faults.specs.declared.refusal.Refusal.{Refusal}
 use Rattle.rec_offences.specs.Names.{is_among}
 use Rattle.rec_offences.specs.Scope.{Entry, names_of, root}
 use Rattle.rec_offences.specs.Offences.{Include, is_clashing, is_passing, unknown_sorts, repeated, bare_variables, free_variables, not_ground, is_long, names_in, first_past, unknown_names, wrong_counts, sort_clashes}
@@ -30,7 +30,7 @@ repeated_group bytes headers verdicts entries own s =
     ++ repeated bytes (names_of entries) (names_of own)
     ++ clashing_entries verdicts
 
-unfoldable pub declared_group : List ℕ → (headers : List Name) → List Verdict → (sorts : List Name) → (entries own : List Entry) → Specification → List Offence
+unfoldable pub declared_group : List ℕ → (headers : List Name) → List Verdict → (sorts : List Name) → (entries own : List Entry) → Specification → List Refusal
 declared_group bytes headers verdicts sorts entries own s =
     of_kind 4 (unknown_sorts bytes (sorts ++ s.sorts) s) ++ of_kind 6 (repeated_group bytes headers verdicts entries own s)
 
@@ -43,7 +43,7 @@ limits_group bytes symbols_before rules_before verdicts symbols s =
     ++ option_to_list (option_and_then root (first_past 0 s.terms))
     ++ passing_entries verdicts
 
-unfoldable pub used_group : List ℕ → (headers : List Name) → (symbols_before rules_before : ℕ) → List Verdict → (symbols entries : List Entry) → Specification → List Offence
+unfoldable pub used_group : List ℕ → (headers : List Name) → (symbols_before rules_before : ℕ) → List Verdict → (symbols entries : List Entry) → Specification → List Refusal
 used_group bytes headers symbols_before rules_before verdicts symbols entries s =
     of_kind 9 (bare_variables bytes entries s)
     ++ of_kind 10 (free_variables bytes entries s)

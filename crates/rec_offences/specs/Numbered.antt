@@ -4,7 +4,7 @@ use Rattle.std.specs.List.{list_any}
 use Rattle.std.specs.Option.{option_map_or, option_or}
 use Rattle.rec_reader.specs.declared.token.Name.{Name}
 use Rattle.rec_reader.specs.declared.syntax_tree.Specification.{Specification}
-use Rattle.rec_offences.specs.declared.offence.Offence.{Offence}
+use Rattle.faults.specs.declared.refusal.Refusal.{Refusal}
 use Rattle.rec_offences.specs.Names.{same_text}
 use Rattle.rec_offences.specs.Material.{fresh, material_of}
 use Rattle.rec_offences.specs.Faults.{offences_after}
@@ -32,6 +32,6 @@ pub record IsClosed (bytes : List ℕ) (specifications : List Specification) (ma
   pub whole : (n : ℕ) → list_any (nat_eq n) material ≡ true → fresh material (material_of bytes specifications n) ≡ []
 
 -- the offences of the specification with this number
-abbrev pub offences_at : List ℕ → List Specification → ℕ → List Offence
+abbrev pub offences_at : List ℕ → List Specification → ℕ → List Refusal
 offences_at bytes specifications number =
     option_map_or (λ s. offences_after bytes (take number specifications) s) (slice_get specifications number) []

@@ -3,14 +3,14 @@ use Rattle.std.specs.Prelude.{ℕ, List, Bool, ◌++◌, ◌&&◌, not}
 use Rattle.std.specs.List.{filter}
 use Rattle.rec_reader.specs.declared.token.Name.{Name}
 use Rattle.rec_reader.specs.declared.syntax_tree.Rule.{Rule}
-use Rattle.rec_offences.specs.declared.offence.Offence.{Offence}
+use Rattle.faults.specs.declared.refusal.Refusal.{Refusal}
 use Rattle.rec_offences.specs.Names.{is_among}
 use Rattle.rec_offences.specs.Scope.{Entry, Visit, is_variable, heads}
 use Rattle.rec_offences.specs.Offences.{unknown_name, wrong_count, clashing_arguments, nodes_but_left}
 use Rattle.rec_offences.specs.Faults.{of_kind}
 use Rattle.rec_offences.specs.Listing.{Known, Listing}
 
-abbrev pub at_visit : List ℕ → List Entry → Visit → List Offence
+abbrev pub at_visit : List ℕ → List Entry → Visit → List Refusal
 at_visit bytes entries v =
     of_kind 5 (unknown_name bytes entries v) ++ of_kind 7 (wrong_count bytes entries v) ++ of_kind 8 (clashing_arguments bytes entries v)
 

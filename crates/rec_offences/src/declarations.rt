@@ -10,18 +10,15 @@ ghost use Rattle.rec_offences.specs.Grouped.{clashing_entries};
 
 use crate::directory::Directory;
 use crate::entries::Verdict;
-use crate::offence::{Offence, note_if};
+use crate::offence::note_if;
 use crate::scope::Scope;
 use crate::signatures::Signature;
-use faults::Memory;
+use faults::{Memory, Refusal, kinds};
 use rec_reader::{Name, Specification};
 use std::alloc::Global;
 
-const UNKNOWN_SORT: u8 = 4;
 
-const REPEATED: u8 = 6;
 
-const INCLUDE: u8 = 12;
 
 /// The sorts of arguments, symbols and variables.
 fn used_sorts(alloc: Global, specification: &Specification) -> Result<Vec<Name>, Memory>
@@ -41,47 +38,47 @@ fn used_sorts(alloc: Global, specification: &Specification) -> Result<Vec<Name>,
 /// Notes the sorts that aren't known.
 pub(crate) fn note_unknown_sorts(
     alloc: Global,
-    found: &mut Option<Offence>,
+    found: &mut Option<Refusal>,
     sorts: &Directory,
     specification: &Specification,
 ) -> Result<(), Memory>
     ensures { OnOk result (found.new ≡ least_with found.old
-        (of_kind UNKNOWN_SORT (unknown_sorts sorts.now.bytes sorts.now.names specification.now))) }
+        (of_kind 4 (unknown_sorts sorts.now.bytes sorts.now.names specification.now))) }
 {
     let used = used_sorts(alloc, specification)?;
     for sort in &used {
-        note_if(found, UNKNOWN_SORT, *sort, !sorts.has(*sort));
+        note_if(found, kinds::UNKNOWN_SORT, *sort, !sorts.has(*sort));
     }
     Ok(())
 }
 
 /// Notes the entries that no header before this one has.
 pub(crate) fn note_unknown_includes(
-    found: &mut Option<Offence>,
+    found: &mut Option<Refusal>,
     headers: &Directory,
     number: usize,
     specification: &Specification,
 )
-    ensures { found.new ≡ least_with found.old (of_kind INCLUDE
+    ensures { found.new ≡ least_with found.old (of_kind 12
         (filter (λ n. not (is_among headers.now.bytes (take number headers.now.names) n))
         specification.now.includes)) }
 {
     for entry in specification.includes.as_slice() {
-        note_if(found, INCLUDE, *entry, !headers.has_before(number, *entry));
+        note_if(found, kinds::INCLUDE, *entry, !headers.has_before(number, *entry));
     }
 }
 
 /// Notes the names whose text an earlier one has.
 fn note_repeated(
-    found: &mut Option<Offence>,
+    found: &mut Option<Refusal>,
     earlier: &mut Directory,
     names: &[Name],
 ) -> Result<(), Memory>
     ensures noted { OnOk result (found.new ≡ least_with found.old
-        (of_kind REPEATED (repeated earlier.old.bytes earlier.old.names names.now))) }
+        (of_kind 6 (repeated earlier.old.bytes earlier.old.names names.now))) }
 {
     for name in names {
-        note_if(found, REPEATED, *name, earlier.has(*name));
+        note_if(found, kinds::REPEATED, *name, earlier.has(*name));
         earlier.add(*name)?;
     }
     Ok(())
@@ -89,42 +86,42 @@ fn note_repeated(
 
 /// Declares names, and notes those that are declared already.
 fn declare<'a>(
-    found: &mut Option<Offence>,
+    found: &mut Option<Refusal>,
     scope: &mut Scope<'a>,
     own: &[Signature<'a>],
 ) -> Result<(), Memory>
     ensures declared { OnOk result (scope.new
         ≡ known scope.old.bytes (scope.old.entries ++ entries_of own.now)) }
-    ensures noted { OnOk result (found.new ≡ least_with found.old (of_kind REPEATED
+    ensures noted { OnOk result (found.new ≡ least_with found.old (of_kind 6
         (repeated scope.old.bytes (names_of scope.old.entries) (names_of (entries_of own.now))))) }
 {
     for signature in own {
-        note_if(found, REPEATED, signature.name, scope.has(signature.name));
+        note_if(found, kinds::REPEATED, signature.name, scope.has(signature.name));
         scope.add(*signature)?;
     }
     Ok(())
 }
 
 /// Notes a header's name that an earlier header has.
-fn note_repeated_header(found: &mut Option<Offence>, headers: &Directory, number: usize, name: Name)
-    ensures { found.new ≡ least_with found.old (of_kind REPEATED
+fn note_repeated_header(found: &mut Option<Refusal>, headers: &Directory, number: usize, name: Name)
+    ensures { found.new ≡ least_with found.old (of_kind 6
         (filter (is_among headers.now.bytes (take number headers.now.names)) (name ∷ []))) }
 {
-    note_if(found, REPEATED, name, headers.has_before(number, name));
+    note_if(found, kinds::REPEATED, name, headers.has_before(number, name));
 }
 
-fn note_clashing_entries(found: &mut Option<Offence>, verdicts: &[Verdict])
-    ensures { found.new ≡ least_with found.old (of_kind REPEATED (clashing_entries verdicts.now)) }
+fn note_clashing_entries(found: &mut Option<Refusal>, verdicts: &[Verdict])
+    ensures { found.new ≡ least_with found.old (of_kind 6 (clashing_entries verdicts.now)) }
 {
     for verdict in verdicts {
-        note_if(found, REPEATED, verdict.entry, verdict.is_clashing);
+        note_if(found, kinds::REPEATED, verdict.entry, verdict.is_clashing);
     }
 }
 
 /// Declares a specification's own names, and notes what is repeated.
 pub(crate) fn note_repeated_names<'a>(
     alloc: Global,
-    found: &mut Option<Offence>,
+    found: &mut Option<Refusal>,
     headers: &Directory,
     number: usize,
     verdicts: &[Verdict],
@@ -134,7 +131,7 @@ pub(crate) fn note_repeated_names<'a>(
 ) -> Result<(), Memory>
     ensures declared { OnOk result (scope.new
         ≡ known scope.old.bytes (scope.old.entries ++ entries_of own.now)) }
-    ensures noted { OnOk result (found.new ≡ least_with found.old (of_kind REPEATED
+    ensures noted { OnOk result (found.new ≡ least_with found.old (of_kind 6
         (filter (is_among headers.now.bytes (take number headers.now.names))
         (specification.now.name ∷ [])
         ++ repeated headers.now.bytes [] specification.now.sorts

@@ -15,20 +15,19 @@ use crate::entries::Verdict;
 use crate::gathering::header_names;
 use crate::inclusion::Inclusion;
 use crate::limits::note_past_limits;
-use crate::offence::Offence;
 use crate::ordering::order;
 use crate::scope::Scope;
 use crate::signatures::{Signature, own_signatures, own_symbols};
 use crate::terms::note_heads;
 use crate::variables::note_misplaced_variables;
-use faults::Memory;
+use faults::{Memory, Refusal};
 use rec_reader::{Specification, Syntax};
 use std::alloc::Global;
 
 /// Declares a specification's own names, and notes what is wrong with its declarations.
 fn note_declared<'a>(
     alloc: Global,
-    found: &mut Option<Offence>,
+    found: &mut Option<Refusal>,
     headers: &Directory,
     number: usize,
     verdicts: &[Verdict],
@@ -65,7 +64,7 @@ fn note_declared<'a>(
 /// Notes what else is wrong with a specification, where names are declared so.
 fn note_used(
     alloc: Global,
-    found: &mut Option<Offence>,
+    found: &mut Option<Refusal>,
     headers: &Directory,
     number: usize,
     before: (usize, usize),
@@ -97,7 +96,7 @@ fn note_used(
 /// symbols there are with its own.
 fn note_included<'a>(
     alloc: Global,
-    found: &mut Option<Offence>,
+    found: &mut Option<Refusal>,
     headers: &Directory,
     number: usize,
     verdicts: &[Verdict],
@@ -155,7 +154,7 @@ fn note_included<'a>(
 /// Notes the offences of the specification with this number, and leaves its material at hand.
 fn note_offences<'a>(
     alloc: Global,
-    found: &mut Option<Offence>,
+    found: &mut Option<Refusal>,
     headers: &Directory,
     specifications: &'a [Specification],
     included: &mut Inclusion<'a>,
@@ -186,14 +185,14 @@ fn note_offences<'a>(
     included.enter(specification, number, symbols)
 }
 
-/// The fault of specifications: of all their offences the one with the least offset, and of those
+/// The fault of specifications: of all their offences the one with the least place, and of those
 /// the one of the least kind. None exactly where there is no offence.
 ///
 /// The kinds: 4 an unknown sort, 5 an unknown name, 6 a repeated name, 7 another number of
 /// arguments than declared, 8 another sort than declared, 9 a variable as a left side, 10 a variable
 /// that doesn't occur on the left, 11 a variable in a term to be rewritten, 12 an include that no
 /// earlier header has, 13 more than the limits allow.
-pub fn fault(alloc: Global, syntax: &Syntax) -> Result<Option<Offence>, Memory>
+pub fn fault(alloc: Global, syntax: &Syntax) -> Result<Option<Refusal>, Memory>
     ensures { IfOk result (λ f. f ≡ fault_of syntax.now) }
 {
     let specifications = syntax.as_slice();

@@ -32,8 +32,7 @@ mod terms;
 mod tests;
 mod variables;
 
-pub use faults::Memory;
+pub use faults::{Memory, Refusal};
 pub use gathering::material_of;
 pub use input::fault;
 pub use laws::fault_laws;
-pub use offence::Offence;

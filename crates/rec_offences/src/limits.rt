@@ -10,11 +10,11 @@ ghost use Rattle.rec_offences.specs.Grouped.{passing_entries};
 
 use crate::entries::Verdict;
 use crate::names::text_of;
-use crate::offence::{Offence, note_if, note_some};
+use crate::offence::{note_if, note_some};
 use crate::signatures::Signature;
+use faults::{Refusal, kinds};
 use rec_reader::{Declaration, Name, Node, Rule, Sequence, Specification, Variables};
 
-const LIMIT: u8 = 13;
 
 /// How many symbols, rules or terms there may be.
 pub(crate) const MOST: usize = 65_535;
@@ -29,51 +29,51 @@ pub(crate) fn root(nodes: &[Node]) -> Option<Name>
     Some(node.head)
 }
 
-fn note_long_name(found: &mut Option<Offence>, text: &[u8], name: Name)
+fn note_long_name(found: &mut Option<Refusal>, text: &[u8], name: Name)
     ensures { found.new ≡ least_with found.old
-        (of_kind LIMIT (filter (is_long text.now) (name ∷ []))) }
+        (of_kind 13 (filter (is_long text.now) (name ∷ []))) }
 {
-    note_if(found, LIMIT, name, text_of(text, name).len() > LONGEST_NAME);
+    note_if(found, kinds::LIMIT, name, text_of(text, name).len() > LONGEST_NAME);
 }
 
-fn note_long(found: &mut Option<Offence>, text: &[u8], names: &[Name])
+fn note_long(found: &mut Option<Refusal>, text: &[u8], names: &[Name])
     ensures { found.new ≡ least_with found.old
-        (of_kind LIMIT (filter (is_long text.now) names.now)) }
+        (of_kind 13 (filter (is_long text.now) names.now)) }
 {
     for name in names {
         note_long_name(found, text, *name);
     }
 }
 
-fn note_long_heads(found: &mut Option<Offence>, text: &[u8], nodes: &[Node])
+fn note_long_heads(found: &mut Option<Refusal>, text: &[u8], nodes: &[Node])
     ensures { found.new ≡ least_with found.old
-        (of_kind LIMIT (filter (is_long text.now) (heads nodes.now))) }
+        (of_kind 13 (filter (is_long text.now) (heads nodes.now))) }
 {
     for node in nodes {
         note_long_name(found, text, node.head);
     }
 }
 
-fn note_long_in_declaration(found: &mut Option<Offence>, text: &[u8], declaration: &Declaration)
+fn note_long_in_declaration(found: &mut Option<Refusal>, text: &[u8], declaration: &Declaration)
     ensures { found.new ≡ least_with found.old
-        (of_kind LIMIT (filter (is_long text.now) (names_in_declaration declaration.now))) }
+        (of_kind 13 (filter (is_long text.now) (names_in_declaration declaration.now))) }
 {
     note_long(found, text, declaration.names.as_slice());
     note_long(found, text, declaration.arguments.as_slice());
     note_long_name(found, text, declaration.sort);
 }
 
-fn note_long_in_variables(found: &mut Option<Offence>, text: &[u8], variables: &Variables)
+fn note_long_in_variables(found: &mut Option<Refusal>, text: &[u8], variables: &Variables)
     ensures { found.new ≡ least_with found.old
-        (of_kind LIMIT (filter (is_long text.now) (names_in_variables variables.now))) }
+        (of_kind 13 (filter (is_long text.now) (names_in_variables variables.now))) }
 {
     note_long(found, text, variables.names.as_slice());
     note_long_name(found, text, variables.sort);
 }
 
-fn note_long_in_rule(found: &mut Option<Offence>, text: &[u8], rule: &Rule)
+fn note_long_in_rule(found: &mut Option<Refusal>, text: &[u8], rule: &Rule)
     ensures { found.new ≡ least_with found.old
-        (of_kind LIMIT (filter (is_long text.now) (flat_map heads (terms_of rule.now)))) }
+        (of_kind 13 (filter (is_long text.now) (flat_map heads (terms_of rule.now)))) }
 {
     note_long_heads(found, text, rule.left.as_slice());
     note_long_heads(found, text, rule.right.as_slice());
@@ -84,9 +84,9 @@ fn note_long_in_rule(found: &mut Option<Offence>, text: &[u8], rule: &Rule)
 }
 
 /// Notes the names that are too long.
-fn note_long_names(found: &mut Option<Offence>, text: &[u8], specification: &Specification)
+fn note_long_names(found: &mut Option<Refusal>, text: &[u8], specification: &Specification)
     ensures { found.new ≡ least_with found.old
-        (of_kind LIMIT (filter (is_long text.now) (names_in specification.now))) }
+        (of_kind 13 (filter (is_long text.now) (names_in specification.now))) }
 {
     note_long_name(found, text, specification.name);
     note_long(found, text, specification.includes.as_slice());
@@ -116,14 +116,14 @@ fn past_arguments(arguments: &[Name]) -> Option<Name>
 }
 
 /// Notes the 17th sorts of arguments.
-fn note_many_arguments(found: &mut Option<Offence>, declarations: &[Declaration])
-    ensures { found.new ≡ least_with found.old (of_kind LIMIT
+fn note_many_arguments(found: &mut Option<Refusal>, declarations: &[Declaration])
+    ensures { found.new ≡ least_with found.old (of_kind 13
         (flat_map (λ d. option_to_list (slice_get d.arguments 16)) declarations.now)) }
 {
     for declaration in declarations {
         note_some(
             found,
-            LIMIT,
+            kinds::LIMIT,
             past_arguments(declaration.arguments.as_slice()),
         );
     }
@@ -162,25 +162,25 @@ fn past_term(terms: &[Sequence<Node>]) -> Option<Name>
     root(past(0, terms)?.as_slice())
 }
 
-fn note_passing_entries(found: &mut Option<Offence>, verdicts: &[Verdict])
-    ensures { found.new ≡ least_with found.old (of_kind LIMIT (passing_entries verdicts.now)) }
+fn note_passing_entries(found: &mut Option<Refusal>, verdicts: &[Verdict])
+    ensures { found.new ≡ least_with found.old (of_kind 13 (passing_entries verdicts.now)) }
 {
     for verdict in verdicts {
-        note_if(found, LIMIT, verdict.entry, verdict.is_passing);
+        note_if(found, kinds::LIMIT, verdict.entry, verdict.is_passing);
     }
 }
 
 /// Notes what is past the limits; `symbols` are the specification's own, and so many symbols and
 /// rules are included.
 pub(crate) fn note_past_limits(
-    found: &mut Option<Offence>,
+    found: &mut Option<Refusal>,
     text: &[u8],
     included: (usize, usize),
     verdicts: &[Verdict],
     symbols: &[Signature],
     specification: &Specification,
 )
-    ensures { found.new ≡ least_with found.old (of_kind LIMIT
+    ensures { found.new ≡ least_with found.old (of_kind 13
         (filter (is_long text.now) (names_in specification.now)
         ++ flat_map (λ d. option_to_list (slice_get d.arguments 16)) specification.now.declarations
         ++ option_to_list (option_map (λ e. e.declared.name)
@@ -193,12 +193,12 @@ pub(crate) fn note_past_limits(
     let (before_symbols, before_rules) = included;
     note_long_names(found, text, specification);
     note_many_arguments(found, specification.declarations.as_slice());
-    note_some(found, LIMIT, past_symbol(before_symbols, symbols));
+    note_some(found, kinds::LIMIT, past_symbol(before_symbols, symbols));
     note_some(
         found,
-        LIMIT,
+        kinds::LIMIT,
         past_rule(before_rules, specification.rules.as_slice()),
     );
-    note_some(found, LIMIT, past_term(specification.terms.as_slice()));
+    note_some(found, kinds::LIMIT, past_term(specification.terms.as_slice()));
     note_passing_entries(found, verdicts);
 }

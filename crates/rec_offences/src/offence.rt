@@ -3,34 +3,27 @@ ghost use Rattle.std.specs.Prelude.{◌≡◌, ◌∷◌, [], Some, if◌then◌
 ghost use Rattle.std.specs.Option.{option_to_list};
 ghost use Rattle.rec_offences.specs.Faults.{lesser, offence_at, goes_before, least_with, of_kind};
 
+use faults::Refusal;
 use rec_reader::Name;
 
-/// An offence: its kind, 4 to 13, and its place in bytes from 0.
-#[derive(Clone, Copy, Debug, PartialEq, Eq)]
-pub struct Offence {
-    pub kind: u8,
-    pub offset: u64,
-}
-
-impl Offence {
-    fn goes_before(&self, other: &Offence) -> bool
-        ensures { result ≡ goes_before self.now other.now }
-    {
-        self.offset < other.offset || (self.offset == other.offset && self.kind < other.kind)
-    }
+/// Whether an offence goes before another: at a lesser place, or with a lesser kind at the same.
+fn goes_before(a: Refusal, b: Refusal) -> bool
+    ensures { result ≡ goes_before a b }
+{
+    a.place < b.place || (a.place == b.place && a.kind < b.kind)
 }
 
 /// Notes an offence at a name: what was found is then the lesser of both.
-pub(crate) fn note(found: &mut Option<Offence>, kind: u8, name: Name)
+pub(crate) fn note(found: &mut Option<Refusal>, kind: u8, name: Name)
     ensures { found.new ≡ lesser found.old (offence_at kind name) }
 {
-    let offence = Offence {
+    let offence = Refusal {
         kind,
-        offset: name.start as u64,
+        place: name.start as u64,
     };
     match found {
         Some(least) => {
-            if offence.goes_before(least) {
+            if goes_before(offence, *least) {
                 *least = offence;
             }
         }
@@ -39,7 +32,7 @@ pub(crate) fn note(found: &mut Option<Offence>, kind: u8, name: Name)
 }
 
 /// Notes an offence at a name where it is so.
-pub(crate) fn note_if(found: &mut Option<Offence>, kind: u8, name: Name, is_so: bool)
+pub(crate) fn note_if(found: &mut Option<Refusal>, kind: u8, name: Name, is_so: bool)
     ensures { found.new ≡ least_with found.old (of_kind kind (if is_so then name ∷ [] else [])) }
 {
     if is_so {
@@ -48,7 +41,7 @@ pub(crate) fn note_if(found: &mut Option<Offence>, kind: u8, name: Name, is_so: 
 }
 
 /// Notes an offence at a name, if there is one.
-pub(crate) fn note_some(found: &mut Option<Offence>, kind: u8, name: Option<Name>)
+pub(crate) fn note_some(found: &mut Option<Refusal>, kind: u8, name: Option<Name>)
     ensures { found.new ≡ least_with found.old (of_kind kind (option_to_list name)) }
 {
     if let Some(name) = name {

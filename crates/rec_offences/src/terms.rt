@@ -8,17 +8,14 @@ ghost use Rattle.rec_offences.specs.Faults.{of_kind, least_with};
 ghost use Rattle.rec_offences.specs.Visited.{at_visit};
 
 use crate::limits::root;
-use crate::offence::{Offence, note, note_if};
+use crate::offence::{note, note_if};
 use crate::scope::Scope;
-use faults::Memory;
+use faults::{Memory, Refusal, kinds};
 use rec_reader::{Name, Node, Rule, Sequence, Specification};
 use std::alloc::Global;
 
-const UNKNOWN_NAME: u8 = 5;
 
-const ARITY: u8 = 7;
 
-const SORT_CLASH: u8 = 8;
 
 /// Whether a head is declared with another sort than is wanted.
 fn has_other_sort(scope: &Scope, wanted: Name, head: Name) -> bool
@@ -30,14 +27,14 @@ fn has_other_sort(scope: &Scope, wanted: Name, head: Name) -> bool
     }
 }
 
-fn note_clashing(found: &mut Option<Offence>, scope: &Scope, wanted: &[Name], arguments: &[Name])
-    ensures { found.new ≡ least_with found.old (of_kind SORT_CLASH
+fn note_clashing(found: &mut Option<Refusal>, scope: &Scope, wanted: &[Name], arguments: &[Name])
+    ensures { found.new ≡ least_with found.old (of_kind 8
         (clashing scope.now.bytes scope.now.entries wanted.now arguments.now)) }
 {
     for (sort, argument) in wanted.iter().zip(arguments) {
         note_if(
             found,
-            SORT_CLASH,
+            kinds::SORT_CLASH,
             *argument,
             has_other_sort(scope, *sort, *argument),
         );
@@ -45,7 +42,7 @@ fn note_clashing(found: &mut Option<Offence>, scope: &Scope, wanted: &[Name], ar
 }
 
 /// Notes what is wrong at a node.
-fn note_visit(found: &mut Option<Offence>, scope: &Scope, node: Node, arguments: &[Name])
+fn note_visit(found: &mut Option<Refusal>, scope: &Scope, node: Node, arguments: &[Name])
     ensures { found.new ≡ least_with found.old
         (at_visit scope.now.bytes scope.now.entries (visit node arguments.now)) }
 {
@@ -53,20 +50,20 @@ fn note_visit(found: &mut Option<Offence>, scope: &Scope, node: Node, arguments:
         Some(signature) => {
             note_if(
                 found,
-                ARITY,
+                kinds::ARITY,
                 node.head,
                 node.count != signature.arguments.len(),
             );
             note_clashing(found, scope, signature.arguments, arguments);
         }
-        None => note(found, UNKNOWN_NAME, node.head),
+        None => note(found, kinds::UNKNOWN_NAME, node.head),
     }
 }
 
 /// Notes what is wrong at the nodes of a term.
 fn note_term(
     alloc: Global,
-    found: &mut Option<Offence>,
+    found: &mut Option<Refusal>,
     scope: &Scope,
     nodes: &[Node],
 ) -> Result<(), Memory>
@@ -85,7 +82,7 @@ fn note_term(
 
 fn note_terms_of(
     alloc: Global,
-    found: &mut Option<Offence>,
+    found: &mut Option<Refusal>,
     scope: &Scope,
     rule: &Rule,
 ) -> Result<(), Memory>
@@ -105,7 +102,7 @@ fn note_terms_of(
 /// Notes what is wrong at the heads of all terms.
 fn note_terms(
     alloc: Global,
-    found: &mut Option<Offence>,
+    found: &mut Option<Refusal>,
     scope: &Scope,
     specification: &Specification,
 ) -> Result<(), Memory>
@@ -122,15 +119,15 @@ fn note_terms(
 }
 
 /// Notes a second side whose head has another sort than the first side's.
-fn note_clashing_side(found: &mut Option<Offence>, scope: &Scope, first: &[Node], second: &[Node])
-    ensures { found.new ≡ least_with found.old (of_kind SORT_CLASH
+fn note_clashing_side(found: &mut Option<Refusal>, scope: &Scope, first: &[Node], second: &[Node])
+    ensures { found.new ≡ least_with found.old (of_kind 8
         (clashing_side scope.now.bytes scope.now.entries first.now second.now)) }
 {
     if let (Some(first), Some(second)) = (root(first), root(second)) {
         if let Some(signature) = scope.find(first) {
             note_if(
                 found,
-                SORT_CLASH,
+                kinds::SORT_CLASH,
                 second,
                 has_other_sort(scope, signature.sort, second),
             );
@@ -138,9 +135,9 @@ fn note_clashing_side(found: &mut Option<Offence>, scope: &Scope, first: &[Node]
     }
 }
 
-fn note_clashing_in_rule(found: &mut Option<Offence>, scope: &Scope, rule: &Rule)
+fn note_clashing_in_rule(found: &mut Option<Refusal>, scope: &Scope, rule: &Rule)
     ensures { found.new ≡ least_with found.old
-        (of_kind SORT_CLASH (clashing_sides scope.now.bytes scope.now.entries rule.now)) }
+        (of_kind 8 (clashing_sides scope.now.bytes scope.now.entries rule.now)) }
 {
     note_clashing_side(found, scope, rule.left.as_slice(), rule.right.as_slice());
     for condition in rule.conditions.as_slice() {
@@ -154,8 +151,8 @@ fn note_clashing_in_rule(found: &mut Option<Offence>, scope: &Scope, rule: &Rule
 }
 
 /// Notes the sides of rules and conditions that have another sort than the first side.
-fn note_clashing_sides(found: &mut Option<Offence>, scope: &Scope, rules: &[Rule])
-    ensures { found.new ≡ least_with found.old (of_kind SORT_CLASH
+fn note_clashing_sides(found: &mut Option<Refusal>, scope: &Scope, rules: &[Rule])
+    ensures { found.new ≡ least_with found.old (of_kind 8
         (flat_map (clashing_sides scope.now.bytes scope.now.entries) rules.now)) }
 {
     for rule in rules {
@@ -167,14 +164,14 @@ fn note_clashing_sides(found: &mut Option<Offence>, scope: &Scope, rules: &[Rule
 /// another sort.
 pub(crate) fn note_heads(
     alloc: Global,
-    found: &mut Option<Offence>,
+    found: &mut Option<Refusal>,
     scope: &Scope,
     specification: &Specification,
 ) -> Result<(), Memory>
     ensures { OnOk result (found.new ≡ least_with found.old
-        (of_kind UNKNOWN_NAME (unknown_names scope.now.bytes scope.now.entries specification.now)
-        ++ of_kind ARITY (wrong_counts scope.now.bytes scope.now.entries specification.now)
-        ++ of_kind SORT_CLASH (sort_clashes scope.now.bytes scope.now.entries specification.now))) }
+        (of_kind 5 (unknown_names scope.now.bytes scope.now.entries specification.now)
+        ++ of_kind 7 (wrong_counts scope.now.bytes scope.now.entries specification.now)
+        ++ of_kind 8 (sort_clashes scope.now.bytes scope.now.entries specification.now))) }
 {
     note_terms(alloc, found, scope, specification)?;
     note_clashing_sides(found, scope, specification.rules.as_slice());

@@ -1,6 +1,6 @@
 //! Inputs, and their faults.
 
-use crate::{Offence, fault};
+use crate::{Refusal, fault};
 use rec_reader::{syntax, tokens};
 use std::alloc::Global;
 use std::test::Fail;
@@ -9,7 +9,7 @@ use std::test::Fail;
 pub(crate) fn fault_of(alloc: Global, text: &[u8]) -> Result<(u8, u64), Fail> {
     let syntax = syntax(alloc, &tokens(alloc, text)?)?;
     match fault(alloc, &syntax)? {
-        Some(Offence { kind, offset }) => Ok((kind, offset)),
+        Some(Refusal { kind, place }) => Ok((kind, place)),
         None => Ok((0, 0)),
     }
 }

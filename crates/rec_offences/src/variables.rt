@@ -9,30 +9,27 @@ ghost use Rattle.rec_offences.specs.Faults.{of_kind, least_with};
 
 use crate::directory::Directory;
 use crate::limits::root;
-use crate::offence::{Offence, note_if};
+use crate::offence::note_if;
 use crate::scope::Scope;
-use faults::Memory;
+use faults::{Memory, Refusal, kinds};
 use rec_reader::{Condition, Node, Rule, Sequence, Specification};
 use std::alloc::Global;
 
-const BARE_VARIABLE: u8 = 9;
 
-const FREE_VARIABLE: u8 = 10;
 
-const NOT_GROUND: u8 = 11;
 
-fn note_bare_variable(found: &mut Option<Offence>, scope: &Scope, left: &[Node])
-    ensures { found.new ≡ least_with found.old (of_kind BARE_VARIABLE
+fn note_bare_variable(found: &mut Option<Refusal>, scope: &Scope, left: &[Node])
+    ensures { found.new ≡ least_with found.old (of_kind 9
         (filter (is_variable scope.now.bytes scope.now.entries) (option_to_list (root left.now)))) }
 {
     if let Some(head) = root(left) {
-        note_if(found, BARE_VARIABLE, head, scope.is_variable(head));
+        note_if(found, kinds::BARE_VARIABLE, head, scope.is_variable(head));
     }
 }
 
 /// Notes the left sides that are a variable.
-fn note_bare_variables(found: &mut Option<Offence>, scope: &Scope, rules: &[Rule])
-    ensures { found.new ≡ least_with found.old (of_kind BARE_VARIABLE (flat_map
+fn note_bare_variables(found: &mut Option<Refusal>, scope: &Scope, rules: &[Rule])
+    ensures { found.new ≡ least_with found.old (of_kind 9 (flat_map
         (λ r. filter (is_variable scope.now.bytes scope.now.entries) (option_to_list (root r.left)))
         rules.now)) }
 {
@@ -42,23 +39,23 @@ fn note_bare_variables(found: &mut Option<Offence>, scope: &Scope, rules: &[Rule
 }
 
 /// Notes the variables that aren't among those of the left side.
-fn note_free(found: &mut Option<Offence>, scope: &Scope, left: &Directory, nodes: &[Node])
-    ensures { found.new ≡ least_with found.old (of_kind FREE_VARIABLE
+fn note_free(found: &mut Option<Refusal>, scope: &Scope, left: &Directory, nodes: &[Node])
+    ensures { found.new ≡ least_with found.old (of_kind 10
         (filter (is_free scope.now left.now) (heads nodes.now))) }
 {
     for node in nodes {
         let is_free = scope.is_variable(node.head) && !left.has(node.head);
-        note_if(found, FREE_VARIABLE, node.head, is_free);
+        note_if(found, kinds::FREE_VARIABLE, node.head, is_free);
     }
 }
 
 fn note_free_in_condition(
-    found: &mut Option<Offence>,
+    found: &mut Option<Refusal>,
     scope: &Scope,
     left: &Directory,
     condition: &Condition,
 )
-    ensures { found.new ≡ least_with found.old (of_kind FREE_VARIABLE
+    ensures { found.new ≡ least_with found.old (of_kind 10
         (filter (is_free scope.now left.now) (heads (condition.now.first ++ condition.now.second)))) }
 {
     note_free(found, scope, left, condition.first.as_slice());
@@ -66,8 +63,8 @@ fn note_free_in_condition(
 }
 
 /// Notes the variables after the left side that aren't among these.
-fn note_free_but(found: &mut Option<Offence>, scope: &Scope, left: &Directory, rule: &Rule)
-    ensures { found.new ≡ least_with found.old (of_kind FREE_VARIABLE
+fn note_free_but(found: &mut Option<Refusal>, scope: &Scope, left: &Directory, rule: &Rule)
+    ensures { found.new ≡ least_with found.old (of_kind 10
         (filter (is_free scope.now left.now) (heads (nodes_but_left rule.now)))) }
 {
     note_free(found, scope, left, rule.right.as_slice());
@@ -78,12 +75,12 @@ fn note_free_but(found: &mut Option<Offence>, scope: &Scope, left: &Directory, r
 
 fn note_free_in_rule(
     alloc: Global,
-    found: &mut Option<Offence>,
+    found: &mut Option<Refusal>,
     text: &[u8],
     scope: &Scope,
     rule: &Rule,
 ) -> Result<(), Memory>
-    ensures { OnOk result (found.new ≡ least_with found.old (of_kind FREE_VARIABLE
+    ensures { OnOk result (found.new ≡ least_with found.old (of_kind 10
         (free_variables_of text.now scope.now.bytes scope.now.entries rule.now))) }
 {
     let mut left = Directory::new(alloc, text);
@@ -95,12 +92,12 @@ fn note_free_in_rule(
 /// Notes the variables of right sides and conditions that don't occur on the left.
 fn note_free_variables(
     alloc: Global,
-    found: &mut Option<Offence>,
+    found: &mut Option<Refusal>,
     text: &[u8],
     scope: &Scope,
     rules: &[Rule],
 ) -> Result<(), Memory>
-    ensures { OnOk result (found.new ≡ least_with found.old (of_kind FREE_VARIABLE
+    ensures { OnOk result (found.new ≡ least_with found.old (of_kind 10
         (flat_map (free_variables_of text.now scope.now.bytes scope.now.entries) rules.now))) }
 {
     for rule in rules {
@@ -109,18 +106,18 @@ fn note_free_variables(
     Ok(())
 }
 
-fn note_variables(found: &mut Option<Offence>, scope: &Scope, nodes: &[Node])
-    ensures { found.new ≡ least_with found.old (of_kind NOT_GROUND
+fn note_variables(found: &mut Option<Refusal>, scope: &Scope, nodes: &[Node])
+    ensures { found.new ≡ least_with found.old (of_kind 11
         (filter (is_variable scope.now.bytes scope.now.entries) (heads nodes.now))) }
 {
     for node in nodes {
-        note_if(found, NOT_GROUND, node.head, scope.is_variable(node.head));
+        note_if(found, kinds::NOT_GROUND, node.head, scope.is_variable(node.head));
     }
 }
 
 /// Notes the variables of the terms to be rewritten.
-fn note_not_ground(found: &mut Option<Offence>, scope: &Scope, terms: &[Sequence<Node>])
-    ensures { found.new ≡ least_with found.old (of_kind NOT_GROUND
+fn note_not_ground(found: &mut Option<Refusal>, scope: &Scope, terms: &[Sequence<Node>])
+    ensures { found.new ≡ least_with found.old (of_kind 11
         (filter (is_variable scope.now.bytes scope.now.entries) (flat_map heads terms.now))) }
 {
     for term in terms {
@@ -131,15 +128,15 @@ fn note_not_ground(found: &mut Option<Offence>, scope: &Scope, terms: &[Sequence
 /// Notes the variables that stand where they may not.
 pub(crate) fn note_misplaced_variables(
     alloc: Global,
-    found: &mut Option<Offence>,
+    found: &mut Option<Refusal>,
     scope: &Scope,
     specification: &Specification,
 ) -> Result<(), Memory>
     ensures { OnOk result (found.new ≡ least_with found.old
-        (of_kind BARE_VARIABLE (bare_variables scope.now.bytes scope.now.entries specification.now)
-        ++ of_kind FREE_VARIABLE
+        (of_kind 9 (bare_variables scope.now.bytes scope.now.entries specification.now)
+        ++ of_kind 10
         (free_variables scope.now.bytes scope.now.entries specification.now)
-        ++ of_kind NOT_GROUND (not_ground scope.now.bytes scope.now.entries specification.now))) }
+        ++ of_kind 11 (not_ground scope.now.bytes scope.now.entries specification.now))) }
 {
     let rules = specification.rules.as_slice();
     note_bare_variables(found, scope, rules);

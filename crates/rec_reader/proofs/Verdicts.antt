@@ -7,7 +7,6 @@ use Rattle.rec_reader.specs.declared.machine.Machine.{Machine}
 use Rattle.rec_reader.specs.Scanned.{Scanned}
 use Rattle.rec_reader.specs.declared.fail.ReadFail.{ReadFail}
 use Rattle.rec_reader.specs.declared.fail.ReadFail.TheVariants.{Refused, Memory}
-use Rattle.rec_reader.specs.declared.fail.TheConstants.{UNENDED}
 use Rattle.rec_reader.specs.Grammar.{IsInput, BeginsSentence}
 use Rattle.rec_reader.specs.Refusal.{IsFirstUnexpected, IsUnended, IsRefusal}
 use Rattle.rec_reader.specs.Steps.{run, start, step, accepted, StopsAt, IsStopped}
@@ -78,5 +77,5 @@ no_stop ts us (Refused kind offset) specs same stopped h =
 no_stop ts us Memory specs same stopped h = refl
 
 -- the tokens end where no sentence does
-pub end_refusal : (input : Scanned) (ts : List Token) (m : Machine) (at : ℕ) → ts ≡ input.tokens → run start ts ≡ Some m → accepted m ≡ None → at ≡ length input.bytes → IsRefusal input (Refused UNENDED at)
+pub end_refusal : (input : Scanned) (ts : List Token) (m : Machine) (at : ℕ) → ts ≡ input.tokens → run start ts ≡ Some m → accepted m ≡ None → at ≡ length input.bytes → IsRefusal input (Refused 3 at)
 end_refusal input ts m at same r a e = inr (refl, e, unended input.tokens m (sym (ap (run start) same) ∙ r) a)

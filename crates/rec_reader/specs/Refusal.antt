@@ -4,7 +4,6 @@ use Rattle.rec_reader.specs.declared.token.Token.{Token}
 use Rattle.rec_reader.specs.declared.token.Token.TheVariants.{Named, At}
 use Rattle.rec_reader.specs.declared.fail.ReadFail.{ReadFail}
 use Rattle.rec_reader.specs.declared.fail.ReadFail.TheVariants.{Refused, Memory}
-use Rattle.rec_reader.specs.declared.fail.TheConstants.{UNEXPECTED, UNENDED}
 use Rattle.rec_reader.specs.Scanned.{Scanned}
 use Rattle.rec_reader.specs.Grammar.{BeginsSentence, IsNoSentence}
 
@@ -31,6 +30,6 @@ pub record IsUnended (tokens : List Token) : Type 0 where
 -- the refusal is at the first unexpected token, or at the end of tokens that go on
 abbrev pub IsRefusal : Scanned → ReadFail → Type 0
 IsRefusal input (Refused kind offset) =
-    ((kind ≡ UNEXPECTED) × IsFirstUnexpected input.tokens offset)
-    ⊎ ((kind ≡ UNENDED) × (offset ≡ length input.bytes) × IsUnended input.tokens)
+    ((kind ≡ 2) × IsFirstUnexpected input.tokens offset)
+    ⊎ ((kind ≡ 3) × (offset ≡ length input.bytes) × IsUnended input.tokens)
 IsRefusal input Memory = Unit {0}

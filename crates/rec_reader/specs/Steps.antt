@@ -20,7 +20,6 @@ use Rattle.rec_reader.specs.declared.machine.Stop.TheVariants as stop
 use Rattle.rec_reader.specs.declared.machine.Machine.{Machine}
 use Rattle.rec_reader.specs.declared.fail.ReadFail.{ReadFail}
 use Rattle.rec_reader.specs.declared.fail.ReadFail.TheVariants.{Refused, Memory}
-use Rattle.rec_reader.specs.declared.fail.TheConstants.{UNEXPECTED}
 use Rattle.rec_reader.specs.declared.syntax_tree.Specification.{Specification}
 use Rattle.rec_reader.specs.Refusal.{place_of}
 use Rattle.rec_reader.specs.Syntax.{blank_rule, blank_specification}
@@ -309,5 +308,5 @@ pub record StopsAt (tokens : List Token) (offset : ℕ) : Type 0 where
   pub place : offset ≡ place_of token
 
 abbrev pub IsStopped : List Token → ReadFail → Type 0
-IsStopped tokens (Refused kind offset) = (kind ≡ UNEXPECTED) × StopsAt tokens offset
+IsStopped tokens (Refused kind offset) = (kind ≡ 2) × StopsAt tokens offset
 IsStopped tokens Memory = Unit {0}

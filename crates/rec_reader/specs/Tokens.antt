@@ -9,7 +9,6 @@ use Rattle.rec_reader.specs.declared.token.Sign.{Sign}
 use Rattle.rec_reader.specs.declared.token.Sign.TheVariants.{RecSpec, Sorts, Cons, Opns, Vars, Rules, Eval, EndSpec, If, AndIf, Joins, Parts, Arrow, Colon, Comma, Open, Close, Equal, Unequal}
 use Rattle.rec_reader.specs.declared.fail.ReadFail.{ReadFail}
 use Rattle.rec_reader.specs.declared.fail.ReadFail.TheVariants.{Refused, Memory}
-use Rattle.rec_reader.specs.declared.fail.TheConstants.{BAD_BYTE}
 use Rattle.rec_reader.specs.declared.scanner.Piece.{Piece}
 use Rattle.rec_reader.specs.declared.scanner.Piece.TheVariants.{Blank, Whole, Bad}
 
@@ -119,5 +118,5 @@ tokens_of bytes = tokens_from 0 0 bytes
 
 -- the refusal is at the first byte where nothing begins
 abbrev pub IsBadByte : List ℕ → ReadFail → Type 0
-IsBadByte bytes (Refused kind offset) = (kind ≡ BAD_BYTE) × (tokens_of bytes ≡ Err offset)
+IsBadByte bytes (Refused kind offset) = (kind ≡ 1) × (tokens_of bytes ≡ Err offset)
 IsBadByte bytes Memory = Unit {0}

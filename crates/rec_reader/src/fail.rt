@@ -1,21 +1,26 @@
 //! Why reading stops.
 ghost use Rattle.std.specs.Prelude.{◌≡◌};
-ghost use Rattle.rec_reader.specs.declared.fail.ReadFail.TheVariants.{Memory};
+ghost use Rattle.rec_reader.specs.declared.fail.ReadFail.TheVariants.{Memory, Refused};
 
+use faults::Refusal;
 use std::alloc::{AllocError, AllocFailed};
-
-/// The kind of refusal at a byte where nothing begins.
-pub const BAD_BYTE: u8 = 1;
-/// The kind of refusal at a token that no sentence has there.
-pub const UNEXPECTED: u8 = 2;
-/// The kind of refusal at the end of an input that isn't a whole sentence.
-pub const UNENDED: u8 = 3;
 
 /// Why an input isn't read: it is refused, with a kind and a place in bytes from 0, or there is no memory.
 #[derive(Clone, Copy, Debug, PartialEq, Eq)]
 pub enum ReadFail {
     Refused { kind: u8, offset: u64 },
     Memory,
+}
+
+impl From<Refusal> for ReadFail {
+    ghost from_gives = { λ r e. e ≡ Refused r.kind r.place };
+
+    fn from(refusal: Refusal) -> Self {
+        ReadFail::Refused {
+            kind: refusal.kind,
+            offset: refusal.place,
+        }
+    }
 }
 
 impl From<AllocError> for ReadFail {

@@ -9,7 +9,7 @@ mod sequence;
 mod syntax_tree;
 mod token;
 
-pub use fail::{BAD_BYTE, ReadFail, UNENDED, UNEXPECTED};
+pub use fail::ReadFail;
 pub use faults::Memory;
 pub use parser::syntax;
 pub use scanner::tokens;

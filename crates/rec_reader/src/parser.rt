@@ -5,10 +5,11 @@ ghost use Rattle.rec_reader.specs.Grammar.{IsInput};
 ghost use Rattle.rec_reader.specs.Refusal.{IsRefusal};
 ghost use Rattle.rec_reader.specs.Steps.{run, start, IsStopped};
 
-use crate::fail::{ReadFail, UNENDED, UNEXPECTED};
+use crate::fail::ReadFail;
 use crate::machine::{Machine, Stop};
 use crate::syntax_tree::Syntax;
 use crate::token::{Token, Tokens};
+use faults::kinds;
 use std::alloc::Global;
 
 fn run(alloc: Global, tokens: &[Token]) -> Result<Machine, ReadFail>
@@ -21,7 +22,7 @@ fn run(alloc: Global, tokens: &[Token]) -> Result<Machine, ReadFail>
             Ok(()) => {}
             Err(Stop::Unexpected) => {
                 return Err(ReadFail::Refused {
-                    kind: UNEXPECTED,
+                    kind: kinds::UNEXPECTED,
                     offset: token.place() as u64,
                 });
             }
@@ -50,7 +51,7 @@ pub fn syntax(alloc: Global, tokens: &Tokens) -> Result<Syntax, ReadFail>
     match run(alloc, tokens.as_slice())?.finish() {
         Some(items) => Ok(Syntax { text, items }),
         None => Err(ReadFail::Refused {
-            kind: UNENDED,
+            kind: kinds::UNENDED,
             offset: tokens.text().len() as u64,
         }),
     }

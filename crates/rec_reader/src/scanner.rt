@@ -2,8 +2,9 @@
 ghost use Rattle.std.specs.Prelude.{◌≡◌, ◌+◌, ◌≤◌, ◌<◌, length, drop, IfOk, IfErr, IfSome, Ok, Err, take};
 ghost use Rattle.rec_reader.specs.Tokens.{is_space, is_plain, is_name_byte, run_length, comment_length, word_of, mark_of, more_of, token_of_run, piece_at, tokens_of, IsBadByte};
 
-use crate::fail::{BAD_BYTE, ReadFail};
+use crate::fail::ReadFail;
 use crate::token::{Name, Sign, Token, Tokens};
+use faults::kinds;
 use std::alloc::Global;
 
 /// What begins at a byte, with the number of bytes that follow its first.
@@ -167,7 +168,7 @@ pub fn tokens(alloc: Global, bytes: &[u8]) -> Result<Tokens, ReadFail>
             }
             Piece::Bad => {
                 return Err(ReadFail::Refused {
-                    kind: BAD_BYTE,
+                    kind: kinds::BAD_BYTE,
                     offset: at as u64,
                 });
             }

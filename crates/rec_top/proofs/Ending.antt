@@ -5,7 +5,7 @@ use Rattle.std.specs.Option.{ok_or}
 use Rattle.settings.specs.Words.{AreInRange, settings_of}
 use Rattle.settings.specs.declared.parts.Settings.{Settings}
 use Rattle.settings.specs.declared.parts.WordsFault.{WordsFault}
-use Rattle.rec_top.specs.declared.stops.Fault.{Fault}
+use Rattle.faults.specs.declared.refusal.Refusal.{Refusal}
 use Rattle.std.proofs.KnownBytes.{Appends-nil}
 use Rattle.rec_top.specs.Written.{status_for}
 use Rattle.rec_top.specs.Lines.{stop_status, stop_line, status_line, fault_line, TookLine}
@@ -25,7 +25,7 @@ pub has_seats : (s : Settings) → AreInRange s → (1 ≤ s.seats) × (s.seats 
 has_seats s r = let h = r.seats in grind (arith, h)
 
 -- a run that stops with status 3 has a fault
-pub refused : {S E : Type 0} (words : List (List ℕ)) (s : Settings) (left : S → Option (List ℕ)) (faults : S → ℕ) (old new : S) (taken : E → Option (List ℕ)) (count : E → ℕ) (before after : E) (stop : Stop) → settings_of words ≡ Some s → StopsAnswering s left faults old new stop → TookLine taken count before after (stop_line stop) → stop_status stop ≡ 3 → (fault : Fault) × HasFault words left old new fault × TookLine taken count before after (fault_line fault)
+pub refused : {S E : Type 0} (words : List (List ℕ)) (s : Settings) (left : S → Option (List ℕ)) (faults : S → ℕ) (old new : S) (taken : E → Option (List ℕ)) (count : E → ℕ) (before after : E) (stop : Stop) → settings_of words ≡ Some s → StopsAnswering s left faults old new stop → TookLine taken count before after (stop_line stop) → stop_status stop ≡ 3 → (fault : Refusal) × HasFault words left old new fault × TookLine taken count before after (fault_line fault)
 refused words s left faults old new taken count before after Usage e why line is = cc
 refused words s left faults old new taken count before after (Refused fault) e why line is = (fault, (s, e, why), line)
 refused words s left faults old new taken count before after StoreFull e why line is = cc
@@ -34,7 +34,7 @@ refused words s left faults old new taken count before after WriteFault e why li
 refused words s left faults old new taken count before after Memory e why line is = cc
 
 -- one that stops with a fault, memory aside, has status 3 and the line of the fault
-pub stops_with : {A E : Type 0} (taken : E → Option (List ℕ)) (count : E → ℕ) (before after : E) (r : Result A Stop) (stop : Stop) (fault : Fault) (status : ℕ) → r ≡ Err stop → StopsWith r fault → status ≡ stop_status stop → TookLine taken count before after (stop_line stop) → ((status ≡ 3) × TookLine taken count before after (fault_line fault)) ⊎ (status ≡ 7)
+pub stops_with : {A E : Type 0} (taken : E → Option (List ℕ)) (count : E → ℕ) (before after : E) (r : Result A Stop) (stop : Stop) (fault : Refusal) (status : ℕ) → r ≡ Err stop → StopsWith r fault → status ≡ stop_status stop → TookLine taken count before after (stop_line stop) → ((status ≡ 3) × TookLine taken count before after (fault_line fault)) ⊎ (status ≡ 7)
 stops_with taken count before after (Ok a) stop fault status is h ends line = absurd h
 stops_with taken count before after (Err other) stop fault status is h ends line =
     elim h [
@@ -43,7 +43,7 @@ stops_with taken count before after (Err other) stop fault status is h ends line
     ]
 
 -- an input has its fault under the settings that were read
-pub fault_under : (words : List (List ℕ)) (s t : Settings) (input : List ℕ) (fault : Fault) → settings_of words ≡ Some s → settings_of words ≡ Some t → IsFault t input fault → IsFault s input fault
+pub fault_under : (words : List (List ℕ)) (s t : Settings) (input : List ℕ) (fault : Refusal) → settings_of words ≡ Some s → settings_of words ≡ Some t → IsFault t input fault → IsFault s input fault
 fault_under words s t input fault e f h = subst (λ u. IsFault u input fault) (same_Some t s (sym f ∙ e)) h
 
 -- where the whole output was written nothing is to be told

@@ -4,17 +4,15 @@ use Rattle.std.specs.Prelude.{Result, Ok, Err}
 use Rattle.std.proofs.lemmas.Option.{same_Some}
 use Rattle.rec_reader.specs.declared.token.Token.{Token}
 use Rattle.rec_reader.specs.declared.syntax_tree.Specification.{Specification}
-use Rattle.rec_reader.specs.declared.fail.TheConstants.{UNEXPECTED, UNENDED}
 use Rattle.rec_reader.specs.Parsed.{Parsed}
 use Rattle.rec_reader.specs.Tokens.{tokens_of}
 use Rattle.rec_reader.specs.Grammar.{IsInput, BeginsSentence}
 use Rattle.rec_reader.specs.Refusal.{IsFirstUnexpected, IsUnended, place_of}
 use Rattle.rec_reader.proofs.Verdicts.{only_these}
 use Rattle.rec_offences.specs.Faults.{fault_of}
-use Rattle.rec_top.specs.declared.stops.Fault.{Fault}
+use Rattle.faults.specs.declared.refusal.Refusal.{Refusal}
 use Rattle.rec_check.specs.Spelled.{Specified}
 use Rattle.rec_check.specs.Run.{spelled_in}
-use Rattle.rec_offences.specs.declared.offence.Offence.{Offence}
 use Rattle.rec_top.specs.Rewritten.{IsRead, Spells, IsTokenFault, IsSpecificationFault}
 
 -- ---- tokens
@@ -78,26 +76,26 @@ none_unexpected ts n b p =
     p.unexpected (begins_before (p.before ++ p.token ∷ []) p.after (subst BeginsSentence is b))
 
 -- ---- refusals
-abbrev Refusal : List ℕ → List Token → Fault → Type 0
-Refusal input ts f =
-    ((f.kind ≡ UNEXPECTED) × IsFirstUnexpected ts f.offset)
-    ⊎ ((f.kind ≡ UNENDED) × (f.offset ≡ length input) × IsUnended ts)
+abbrev IsTokenRefusal : List ℕ → List Token → Refusal → Type 0
+IsTokenRefusal input ts f =
+    ((f.kind ≡ 2) × IsFirstUnexpected ts f.place)
+    ⊎ ((f.kind ≡ 3) × (f.place ≡ length input) × IsUnended ts)
 
-same_fault : (f g : Fault) → f.kind ≡ g.kind → f.offset ≡ g.offset → f ≡ g
+same_fault : (f g : Refusal) → f.kind ≡ g.kind → f.place ≡ g.place → f ≡ g
 same_fault f g e d =
-    let middle : Fault = record { kind = g.kind; offset = f.offset } in
-    let first : f ≡ middle = ap (λ k. let z : Fault = record { kind = k; offset = f.offset } in z) e in
-    let second : middle ≡ g = ap (λ o. let z : Fault = record { kind = g.kind; offset = o } in z) d in
+    let middle : Refusal = record { kind = g.kind; place = f.place } in
+    let first : f ≡ middle = ap (λ k. let z : Refusal = record { kind = k; place = f.place } in z) e in
+    let second : middle ≡ g = ap (λ o. let z : Refusal = record { kind = g.kind; place = o } in z) d in
     first ∙ second
 
-one_refusal : (input : List ℕ) (ts : List Token) (f g : Fault) → Refusal input ts f → Refusal input ts g → f ≡ g
-one_refusal input ts f g (inl p) (inl q) = same_fault f g (p.0 ∙ sym q.0) (one_place ts f.offset g.offset p.1 q.1)
-one_refusal input ts f g (inl p) (inr q) = absurd (none_unexpected ts f.offset q.2.begins p.1)
-one_refusal input ts f g (inr p) (inl q) = absurd (none_unexpected ts g.offset p.2.begins q.1)
+one_refusal : (input : List ℕ) (ts : List Token) (f g : Refusal) → IsTokenRefusal input ts f → IsTokenRefusal input ts g → f ≡ g
+one_refusal input ts f g (inl p) (inl q) = same_fault f g (p.0 ∙ sym q.0) (one_place ts f.place g.place p.1 q.1)
+one_refusal input ts f g (inl p) (inr q) = absurd (none_unexpected ts f.place q.2.begins p.1)
+one_refusal input ts f g (inr p) (inl q) = absurd (none_unexpected ts g.place p.2.begins q.1)
 one_refusal input ts f g (inr p) (inr q) = same_fault f g (p.0 ∙ sym q.0) (p.1 ∙ sym q.1)
 
-no_refusal : (input : List ℕ) (ts : List Token) (ss : List Specification) (f : Fault) → IsInput ts ss → Refusal input ts f → ⊥
-no_refusal input ts ss f h (inl p) = none_unexpected ts f.offset (sentence_begins ts ss h) p.1
+no_refusal : (input : List ℕ) (ts : List Token) (ss : List Specification) (f : Refusal) → IsInput ts ss → IsTokenRefusal input ts f → ⊥
+no_refusal input ts ss f h (inl p) = none_unexpected ts f.place (sentence_begins ts ss h) p.1
 no_refusal input ts ss f h (inr p) = p.2.unended ss h
 
 -- ---- syntaxes
@@ -118,35 +116,35 @@ one_syntax input a b p q =
 pub one_specification : (input : List ℕ) (a b : Specified) → Spells input a → Spells input b → a ≡ b
 one_specification input a b p q = same_Some a b (sym p.spec_is ∙ ap spelled_in (one_syntax input p.syntax q.syntax p.read q.read) ∙ q.spec_is)
 
-faulty : (syntax other : Parsed) (o : Offence) → syntax ≡ other → fault_of syntax ≡ None → fault_of other ≡ Some o → ⊥
+faulty : (syntax other : Parsed) (o : Refusal) → syntax ≡ other → fault_of syntax ≡ None → fault_of other ≡ Some o → ⊥
 faulty syntax other o e n s = let none : None ≡ Some o = sym n ∙ ap fault_of e ∙ s in cc
 
-pub no_fault : (input : List ℕ) (spec : Specified) (f : Fault) → Spells input spec → IsSpecificationFault input f → ⊥
-no_fault input spec f p (inl b) = never_both (tokens_of input) p.read.tokens f.offset p.read.cut b.offset
+pub no_fault : (input : List ℕ) (spec : Specified) (f : Refusal) → Spells input spec → IsSpecificationFault input f → ⊥
+no_fault input spec f p (inl b) = never_both (tokens_of input) p.read.tokens f.place p.read.cut b.place
 no_fault input spec f p (inr (inl t)) =
     let ts : p.read.tokens ≡ t.tokens = same_tokens (tokens_of input) p.read.tokens t.tokens p.read.cut t.cut in
     no_refusal input t.tokens p.syntax.specifications f (subst (λ us. IsInput us p.syntax.specifications) ts p.read.sentence) t.refusal
 no_fault input spec f p (inr (inr o)) = faulty p.syntax o.syntax _ (one_syntax input p.syntax o.syntax p.read o.read) p.faultless o.first
 
 -- a sentence has no refusal
-sentence_refused : {A : Type 0} (input : List ℕ) (f : Fault) (t : IsTokenFault input f) (syntax : Parsed) → IsRead input syntax → A
+sentence_refused : {A : Type 0} (input : List ℕ) (f : Refusal) (t : IsTokenFault input f) (syntax : Parsed) → IsRead input syntax → A
 sentence_refused input f t syntax r =
     let ts : r.tokens ≡ t.tokens = same_tokens (tokens_of input) r.tokens t.tokens r.cut t.cut in
     absurd (no_refusal input t.tokens syntax.specifications f (subst (λ us. IsInput us syntax.specifications) ts r.sentence) t.refusal)
 
-pub one_fault : (input : List ℕ) (f g : Fault) → IsSpecificationFault input f → IsSpecificationFault input g → f ≡ g
-one_fault input f g (inl a) (inl b) = same_fault f g (a.kind ∙ sym b.kind) (same_byte (tokens_of input) f.offset g.offset a.offset b.offset)
-one_fault input f g (inl a) (inr (inl t)) = never_both (tokens_of input) t.tokens f.offset t.cut a.offset
-one_fault input f g (inl a) (inr (inr o)) = never_both (tokens_of input) o.read.tokens f.offset o.read.cut a.offset
-one_fault input f g (inr (inl t)) (inl b) = never_both (tokens_of input) t.tokens g.offset t.cut b.offset
+pub one_fault : (input : List ℕ) (f g : Refusal) → IsSpecificationFault input f → IsSpecificationFault input g → f ≡ g
+one_fault input f g (inl a) (inl b) = same_fault f g (a.kind ∙ sym b.kind) (same_byte (tokens_of input) f.place g.place a.place b.place)
+one_fault input f g (inl a) (inr (inl t)) = never_both (tokens_of input) t.tokens f.place t.cut a.place
+one_fault input f g (inl a) (inr (inr o)) = never_both (tokens_of input) o.read.tokens f.place o.read.cut a.place
+one_fault input f g (inr (inl t)) (inl b) = never_both (tokens_of input) t.tokens g.place t.cut b.place
 one_fault input f g (inr (inl t)) (inr (inl u)) =
     let ts : t.tokens ≡ u.tokens = same_tokens (tokens_of input) t.tokens u.tokens t.cut u.cut in
-    one_refusal input u.tokens f g (subst (λ us. Refusal input us f) ts t.refusal) u.refusal
+    one_refusal input u.tokens f g (subst (λ us. IsTokenRefusal input us f) ts t.refusal) u.refusal
 one_fault input f g (inr (inl t)) (inr (inr o)) = sentence_refused input f t o.syntax o.read
-one_fault input f g (inr (inr o)) (inl b) = never_both (tokens_of input) o.read.tokens g.offset o.read.cut b.offset
+one_fault input f g (inr (inr o)) (inl b) = never_both (tokens_of input) o.read.tokens g.place o.read.cut b.place
 one_fault input f g (inr (inr o)) (inr (inl t)) = sentence_refused input g t o.syntax o.read
 one_fault input f g (inr (inr o)) (inr (inr q)) =
-    let a : Offence = record { kind = f.kind; offset = f.offset } in
-    let b : Offence = record { kind = g.kind; offset = g.offset } in
+    let a : Refusal = record { kind = f.kind; place = f.place } in
+    let b : Refusal = record { kind = g.kind; place = g.place } in
     let same : a ≡ b = same_Some a b (sym o.first ∙ ap fault_of (one_syntax input o.syntax q.syntax o.read q.read) ∙ q.first) in
-    same_fault f g (ap (λ (x : Offence). x.kind) same) (ap (λ (x : Offence). x.offset) same)
+    same_fault f g (ap (λ (x : Refusal). x.kind) same) (ap (λ (x : Refusal). x.place) same)

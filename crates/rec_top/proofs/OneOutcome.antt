@@ -5,7 +5,7 @@ use Rattle.lock_core.specs.Schedule.{ComesTo, lines}
 use Rattle.lock_core.specs.StateText.{state_text}
 use Rattle.lock_core.specs.declared.reading.LineFault.{LineFault}
 use Rattle.lock_core.proofs.OneOutcome.{one_outcome}
-use Rattle.rec_top.specs.declared.stops.Fault.{Fault}
+use Rattle.faults.specs.declared.refusal.Refusal.{Refusal}
 use Rattle.rec_top.specs.Written.{Output}
 use Rattle.rec_top.specs.Output.{IsScheduled, IsScheduleFault}
 
@@ -21,7 +21,7 @@ one_output seats input lock output few comes s =
     let same = the_lock (Ok s.lock) s.lock lock refl (same_outcome seats input (Ok s.lock) (Ok lock) few s.comes comes) in
     s.output_is ∙ ap (λ (l : Lock). record { bytes = state_text l; values = true; terms = 0 }) same
 
-pub no_fault : (seats : ℕ) (input : List ℕ) (lock : Lock) (fault : Fault) → seats ≤ 16 → ComesTo seats (at_start seats) 1 (lines input) (Ok lock) → IsScheduleFault seats input fault → ⊥
+pub no_fault : (seats : ℕ) (input : List ℕ) (lock : Lock) (fault : Refusal) → seats ≤ 16 → ComesTo seats (at_start seats) 1 (lines input) (Ok lock) → IsScheduleFault seats input fault → ⊥
 no_fault seats input lock fault few comes s =
     let same = same_outcome seats input (Err s.at) (Ok lock) few s.comes comes in cc
 
@@ -33,7 +33,7 @@ no_output seats input at output few comes s =
 the_fault : (r : Result Lock LineFault) (a b : LineFault) → r ≡ Err a → r ≡ Err b → a ≡ b
 the_fault r a b e f = cc
 
-pub one_fault : (seats : ℕ) (input : List ℕ) (at : LineFault) (fault : Fault) → seats ≤ 16 → ComesTo seats (at_start seats) 1 (lines input) (Err at) → IsScheduleFault seats input fault → fault ≡ record { kind = at.kind; offset = at.line }
+pub one_fault : (seats : ℕ) (input : List ℕ) (at : LineFault) (fault : Refusal) → seats ≤ 16 → ComesTo seats (at_start seats) 1 (lines input) (Err at) → IsScheduleFault seats input fault → fault ≡ record { kind = at.kind; place = at.line }
 one_fault seats input at fault few comes s =
     let same = the_fault (Err s.at) s.at at refl (same_outcome seats input (Err s.at) (Err at) few s.comes comes) in
-    s.fault_is ∙ ap (λ (f : LineFault). record { kind = f.kind; offset = f.line }) same
+    s.fault_is ∙ ap (λ (f : LineFault). record { kind = f.kind; place = f.line }) same

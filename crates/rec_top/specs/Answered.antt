@@ -10,7 +10,7 @@ use Rattle.rec_top.specs.Run.{GaveFault, GaveTooMuch}
 use Rattle.rec_top.specs.declared.answers.Answer.{Answer}
 use Rattle.rec_reader.specs.declared.fail.ReadFail.{ReadFail}
 use Rattle.rec_reader.specs.declared.fail.ReadFail.TheVariants as fail
-use Rattle.rec_top.specs.declared.stops.Fault.{Fault}
+use Rattle.faults.specs.declared.refusal.Refusal.{Refusal}
 use Rattle.rec_top.specs.declared.stops.Stop.{Stop}
 use Rattle.rec_top.specs.declared.stops.Stop.TheVariants.{Usage, Refused, StoreFull, ReadFault, WriteFault, Memory}
 
@@ -40,7 +40,7 @@ StopsMaking settings input Memory = Unit {0}
 
 -- why reading a specification may fail, and why a command stops then
 abbrev pub FailsSpelling : List ℕ → ReadFail → Type 0
-FailsSpelling input (fail.Refused kind offset) = IsSpecificationFault input (record { kind = kind; offset = offset })
+FailsSpelling input (fail.Refused kind offset) = IsSpecificationFault input (record { kind = kind; place = offset })
 FailsSpelling input fail.Memory = Unit {0}
 
 abbrev pub StopsSpelling : List ℕ → Stop → Type 0
@@ -84,6 +84,6 @@ Answers (Ok answer) P = P answer
 Answers (Err stop) P = stop ≡ Memory
 
 -- it stops with this fault, memory aside
-abbrev pub StopsWith : {A : Type 0} → Result A Stop → Fault → Type 0
+abbrev pub StopsWith : {A : Type 0} → Result A Stop → Refusal → Type 0
 StopsWith (Ok answer) fault = ⊥
 StopsWith (Err stop) fault = (stop ≡ Refused fault) ⊎ (stop ≡ Memory)

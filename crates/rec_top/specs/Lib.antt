@@ -4,4 +4,5 @@ pub mod Output
 pub mod Rewritten
 pub mod Run
 pub mod Sequence
+pub mod Stops
 pub mod Written

@@ -4,7 +4,7 @@ use Rattle.std.specs.Fmt.{decimal}
 use Rattle.std.specs.Io.KnownBytes.{Appends}
 use Rattle.faults.specs.Count.{Rose}
 use Rattle.ends.specs.Bytes.{TookFront}
-use Rattle.rec_top.specs.declared.stops.Fault.{Fault}
+use Rattle.faults.specs.declared.refusal.Refusal.{Refusal}
 use Rattle.rec_top.specs.declared.stops.Stop.{Stop}
 use Rattle.rec_top.specs.declared.stops.Stop.TheVariants.{Usage, Refused, StoreFull, ReadFault, WriteFault, Memory}
 
@@ -13,8 +13,8 @@ abbrev pub line : List ℕ → List ℕ
 line text = text ++ codes "\n"
 
 -- fault K at O
-abbrev pub fault_line : Fault → List ℕ
-fault_line fault = line (codes "fault " ++ decimal fault.kind ++ codes " at " ++ decimal fault.offset)
+abbrev pub fault_line : Refusal → List ℕ
+fault_line fault = line (codes "fault " ++ decimal fault.kind ++ codes " at " ++ decimal fault.place)
 
 abbrev pub stop_line : Stop → List ℕ
 stop_line Usage = line (codes "usage: rec COMMAND [OPTIONS]")

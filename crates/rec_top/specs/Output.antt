@@ -9,7 +9,7 @@ use Rattle.settings.specs.declared.parts.Command.TheVariants.{Rewrite, Schedule}
 use Rattle.settings.specs.declared.parts.Settings.{Settings}
 use Rattle.rec_top.specs.Written.{Output}
 use Rattle.rec_top.specs.Rewritten.{IsRewritten, IsSpecificationFault, RowsAreFew, RowsSuffice}
-use Rattle.rec_top.specs.declared.stops.Fault.{Fault}
+use Rattle.faults.specs.declared.refusal.Refusal.{Refusal}
 
 -- how many bytes an input may have
 abbrev pub length_limit : ℕ
@@ -22,10 +22,10 @@ pub record IsScheduled (seats : ℕ) (input : List ℕ) (output : Output) : Type
   pub output_is : output ≡ record { bytes = state_text lock; values = true; terms = 0 }
 
 -- a line of the input is no line of a schedule, or its step is out of place
-pub record IsScheduleFault (seats : ℕ) (input : List ℕ) (fault : Fault) : Type 0 where
+pub record IsScheduleFault (seats : ℕ) (input : List ℕ) (fault : Refusal) : Type 0 where
   pub at : LineFault
   pub comes : ComesTo seats (at_start seats) 1 (lines input) (Err at)
-  pub fault_is : fault ≡ record { kind = at.kind; offset = at.line }
+  pub fault_is : fault ≡ record { kind = at.kind; place = at.line }
 
 abbrev pub IsOutputOf : Command → Settings → List ℕ → Output → Type 0
 IsOutputOf Rewrite s input output = IsRewritten s input output
@@ -36,25 +36,25 @@ pub record IsOutput (s : Settings) (input : List ℕ) (output : Output) : Type 0
   pub within : length input ≤ length_limit
   pub output_is : IsOutputOf s.command s input output
 
-abbrev pub IsFaultOf : Command → Settings → List ℕ → Fault → Type 0
+abbrev pub IsFaultOf : Command → Settings → List ℕ → Refusal → Type 0
 IsFaultOf Rewrite s input fault = IsSpecificationFault input fault
 IsFaultOf Schedule s input fault = IsScheduleFault s.seats input fault
 
 -- the fault of an input that is too long
-abbrev pub too_long : Fault
-too_long = record { kind = 14; offset = length_limit }
+abbrev pub too_long : Refusal
+too_long = record { kind = 14; place = length_limit }
 
 -- the input is too long, and this is its fault
-abbrev pub IsTooLongAt : List ℕ → Fault → Type 0
+abbrev pub IsTooLongAt : List ℕ → Refusal → Type 0
 IsTooLongAt input fault = (length_limit < length input) × (fault ≡ too_long)
 
 -- the input isn't too long, and this is the command's fault of it
-pub record IsFaultWithin (s : Settings) (input : List ℕ) (fault : Fault) : Type 0 where
+pub record IsFaultWithin (s : Settings) (input : List ℕ) (fault : Refusal) : Type 0 where
   pub within : length input ≤ length_limit
   pub fault_is : IsFaultOf s.command s input fault
 
 -- the input is refused under the settings, and this is its fault
-abbrev pub IsFault : Settings → List ℕ → Fault → Type 0
+abbrev pub IsFault : Settings → List ℕ → Refusal → Type 0
 IsFault s input fault = IsTooLongAt input fault ⊎ IsFaultWithin s input fault
 
 -- the rows are too few for what the command builds of the input

@@ -3,12 +3,11 @@ use Rattle.std.specs.Prelude.{◌≡◌, ◌⊎◌, ℕ, ◌≤◌, ◌<◌, Lis
 use Rattle.rec_reader.specs.declared.token.Token.{Token}
 use Rattle.rec_reader.specs.Parsed.{Parsed}
 use Rattle.rec_reader.specs.declared.fail.ReadFail.TheVariants.{Refused}
-use Rattle.rec_reader.specs.declared.fail.TheConstants.{BAD_BYTE}
 use Rattle.rec_reader.specs.Tokens.{tokens_of}
 use Rattle.rec_reader.specs.Grammar.{IsInput}
 use Rattle.rec_reader.specs.Refusal.{IsRefusal}
 use Rattle.rec_offences.specs.Faults.{fault_of}
-use Rattle.rec_top.specs.declared.stops.Fault.{Fault}
+use Rattle.faults.specs.declared.refusal.Refusal.{Refusal}
 use Rattle.rec_check.specs.Spelled.{Specified}
 use Rattle.rec_check.specs.Run.{spelled_in}
 use Rattle.rewrite_model.specs.Built.{distinct_built, need_of_all}
@@ -51,24 +50,24 @@ pub record IsRewritten (s : Settings) (input : List ℕ) (output : Output) : Typ
   pub output_is : output ≡ output_of s spec
 
 -- a byte where nothing begins
-pub record IsByteFault (input : List ℕ) (fault : Fault) : Type 0 where
-  pub kind : fault.kind ≡ BAD_BYTE
-  pub offset : tokens_of input ≡ Err fault.offset
+pub record IsByteFault (input : List ℕ) (fault : Refusal) : Type 0 where
+  pub kind : fault.kind ≡ 1
+  pub place : tokens_of input ≡ Err fault.place
 
 -- tokens that are no sentence
-pub record IsTokenFault (input : List ℕ) (fault : Fault) : Type 0 where
+pub record IsTokenFault (input : List ℕ) (fault : Refusal) : Type 0 where
   pub tokens : List Token
   pub cut : tokens_of input ≡ Ok tokens
-  pub refusal : IsRefusal (record { bytes = input; tokens = tokens }) (Refused fault.kind fault.offset)
+  pub refusal : IsRefusal (record { bytes = input; tokens = tokens }) (Refused fault.kind fault.place)
 
 -- a sentence with an offence, of which this is the first
-pub record IsOffenceFault (input : List ℕ) (fault : Fault) : Type 0 where
+pub record IsOffenceFault (input : List ℕ) (fault : Refusal) : Type 0 where
   pub syntax : Parsed
   pub read : IsRead input syntax
-  pub first : fault_of syntax ≡ Some (record { kind = fault.kind; offset = fault.offset })
+  pub first : fault_of syntax ≡ Some (record { kind = fault.kind; place = fault.place })
 
 -- the input spells no specification, or one with an offence, and this is its fault
-abbrev pub IsSpecificationFault : List ℕ → Fault → Type 0
+abbrev pub IsSpecificationFault : List ℕ → Refusal → Type 0
 IsSpecificationFault input fault = IsByteFault input fault ⊎ IsTokenFault input fault ⊎ IsOffenceFault input fault
 
 -- Both the different trees that the terms build, and the most that they have in hand at once, are more than the rows.

@@ -8,7 +8,7 @@ use Rattle.settings.specs.Words.{settings_of}
 use Rattle.settings.specs.declared.parts.Settings.{Settings}
 use Rattle.rec_top.specs.Written.{Output, status_of}
 use Rattle.rec_top.specs.Output.{IsOutput, IsFault, LacksRows, HasRows, too_long}
-use Rattle.rec_top.specs.declared.stops.Fault.{Fault}
+use Rattle.faults.specs.declared.refusal.Refusal.{Refusal}
 
 -- the count of faults didn't rise
 abbrev pub HasNoFault : {S : Type 0} (faults : S → ℕ) (old new : S) → Type 0
@@ -21,7 +21,7 @@ pub record GaveOutput {S : Type 0} (settings : Settings) (left : S → Option (L
   pub output_is : IsOutput settings input output
 
 -- what the source gave has this fault; it was read to its end, but for an input that is too long
-pub record GaveFault {S : Type 0} (settings : Settings) (left : S → Option (List ℕ)) (old new : S) (fault : Fault) : Type 0 where
+pub record GaveFault {S : Type 0} (settings : Settings) (left : S → Option (List ℕ)) (old new : S) (fault : Refusal) : Type 0 where
   pub input : List ℕ
   pub given : Consumes (left old) (left new) input
   pub read : fault ≢ too_long → IsAtEnd (left new)
@@ -39,7 +39,7 @@ HasOutput words left old new output =
     (settings : Settings) × (settings_of words ≡ Some settings) × GaveOutput settings left old new output
 
 -- the words are accepted, and what the source gave has this fault
-abbrev pub HasFault : {S : Type 0} (words : List (List ℕ)) (left : S → Option (List ℕ)) (old new : S) (fault : Fault) → Type 0
+abbrev pub HasFault : {S : Type 0} (words : List (List ℕ)) (left : S → Option (List ℕ)) (old new : S) (fault : Refusal) → Type 0
 HasFault words left old new fault =
     (settings : Settings) × (settings_of words ≡ Some settings) × GaveFault settings left old new fault
 
@@ -58,7 +58,7 @@ pub record Accepts {S : Type 0} (words : List (List ℕ)) (left : S → Option (
   pub rows : HasRows settings input
 
 -- the words are accepted, and the source has an input left that has this fault
-pub record Refuses {S : Type 0} (words : List (List ℕ)) (left : S → Option (List ℕ)) (source : S) (fault : Fault) : Type 0 where
+pub record Refuses {S : Type 0} (words : List (List ℕ)) (left : S → Option (List ℕ)) (source : S) (fault : Refusal) : Type 0 where
   pub settings : Settings
   pub input : List ℕ
   pub accepted : settings_of words ≡ Some settings

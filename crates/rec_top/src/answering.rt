@@ -5,22 +5,23 @@ ghost use Rattle.rec_top.specs.Written.{Output};
 ghost use Rattle.rec_top.specs.Output.{IsOutput, IsFault, IsFaultWithin, IsTooLongAt, HasRows, length_limit};
 ghost use Rattle.rec_top.specs.Run.{GaveOutput, HasNoFault};
 ghost use Rattle.rec_top.specs.Answered.{IsAnswer, StopsReading, StopsMaking, StopsAnswering, Answers, StopsWith};
-ghost use Rattle.rec_top.specs.declared.stops.Fault.{Fault};
+ghost use Rattle.faults.specs.declared.refusal.Refusal.{Refusal};
 
 use crate::answers::Answer;
 use crate::rewriting::rewritten;
 use crate::scheduling::scheduled;
-use crate::stops::{Fault, Stop};
+use crate::stops::Stop;
 use ends::{Gate, ReadAllFault, Source, read_all};
+use faults::{Refusal, kinds};
 use settings::{Command, Settings};
 use std::alloc::Global;
 
 // How many bytes an input may have.
 const LENGTH_LIMIT: u64 = 16_777_216;
 
-const TOO_LONG: Fault = Fault {
-    kind: 14,
-    offset: LENGTH_LIMIT,
+const TOO_LONG: Refusal = Refusal {
+    kind: kinds::TOO_LONG,
+    place: LENGTH_LIMIT,
 };
 
 // All bytes that the source has left.
@@ -31,7 +32,7 @@ fn input_of<S: Source>(alloc: Global, source: &mut S) -> Result<Vec<u8>, Stop>
     ensures unfailed { IsErrOf result Stop.ReadFault ⊎ (S.faults source.new ≡ S.faults source.old) }
     ensures read { (input : List ℕ) → S.left source.old ≡ Some input → length input ≤ length_limit
         → HasNoFault S.faults source.old source.new → Answers result (λ all. all.items ≡ input) }
-    ensures refused { (input : List ℕ) (fault : Fault)
+    ensures refused { (input : List ℕ) (fault : Refusal)
         → S.left source.old ≡ Some input → IsTooLongAt input fault
         → HasNoFault S.faults source.old source.new → StopsWith result fault }
     ensures later { S.faults source.old ≤ S.faults source.new }
@@ -58,7 +59,7 @@ fn output_for<G: Gate>(
     ensures stopped { IfErr result (StopsMaking settings input.now) }
     ensures accepted { (output : Output) → IsOutput settings input.now output → HasRows settings input.now
         → Answers result (λ answer. IsAnswer answer output) }
-    ensures refused { (fault : Fault) → IsFaultWithin settings input.now fault → StopsWith result fault }
+    ensures refused { (fault : Refusal) → IsFaultWithin settings input.now fault → StopsWith result fault }
 {
     match settings.command {
         Command::Rewrite => rewritten(alloc, settings, input, gate),
@@ -81,7 +82,7 @@ pub fn answer_of<S: Source, G: Gate>(
     ensures accepted { (input : List ℕ) (output : Output)
         → S.left source.old ≡ Some input → IsOutput settings input output → HasRows settings input
         → HasNoFault S.faults source.old source.new → Answers result (λ answer. IsAnswer answer output) }
-    ensures refused { (input : List ℕ) (fault : Fault)
+    ensures refused { (input : List ℕ) (fault : Refusal)
         → S.left source.old ≡ Some input → IsFault settings input fault
         → HasNoFault S.faults source.old source.new → StopsWith result fault }
     ensures later { S.faults source.old ≤ S.faults source.new }

@@ -11,7 +11,7 @@ ghost use Rattle.rec_check.specs.Spec.{specified};
 ghost use Rattle.rec_check.specs.Run.{MayBeRun};
 ghost use Rattle.rec_check.specs.Symbols.{widest_of};
 ghost use Rattle.rec_top.specs.Answered.{IsAnswer, StopsRewriting, Answers, StopsWith};
-ghost use Rattle.rec_top.specs.declared.stops.Fault.{Fault};
+ghost use Rattle.faults.specs.declared.refusal.Refusal.{Refusal};
 
 use crate::answers::Answer;
 use crate::results::Workers;
@@ -157,7 +157,7 @@ pub fn rewritten<G: Gate>(
     ensures stopped { IfErr result (StopsRewriting settings input.now) }
     ensures accepted { (output : Output) → IsRewritten settings input.now output → RowsSuffice settings input.now
         → Answers result (λ answer. IsAnswer answer output) }
-    ensures refused { (fault : Fault) → IsSpecificationFault input.now fault → StopsWith result fault }
+    ensures refused { (fault : Refusal) → IsSpecificationFault input.now fault → StopsWith result fault }
 {
     let spec = specification_of(alloc, input)?;
     rewrite(alloc, settings, spec, gate)

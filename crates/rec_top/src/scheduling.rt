@@ -4,11 +4,11 @@ ghost use Rattle.settings.specs.declared.parts.Settings.{Settings};
 ghost use Rattle.rec_top.specs.Written.{Output};
 ghost use Rattle.rec_top.specs.Output.{IsScheduled, IsScheduleFault};
 ghost use Rattle.rec_top.specs.Answered.{IsAnswer, Answers, StopsWith, StopsScheduling};
-ghost use Rattle.rec_top.specs.declared.stops.Fault.{Fault};
+ghost use Rattle.faults.specs.declared.refusal.Refusal.{Refusal};
 
 use crate::answers::Answer;
 use crate::results::Workers;
-use crate::stops::{Fault, Stop};
+use crate::stops::Stop;
 use lock_core::{schedule, write_state};
 use std::alloc::Global;
 
@@ -18,17 +18,9 @@ pub fn scheduled(alloc: Global, seats: u32, input: &[u8]) -> Result<Answer, Stop
     ensures made { IfOk result (λ answer. (output : Output) × IsScheduled seats input.now output × IsAnswer answer output) }
     ensures stopped { IfErr result (StopsScheduling seats input.now) }
     ensures accepted { (output : Output) → IsScheduled seats input.now output → Answers result (λ answer. IsAnswer answer output) }
-    ensures refused { (fault : Fault) → IsScheduleFault seats input.now fault → StopsWith result fault }
+    ensures refused { (fault : Refusal) → IsScheduleFault seats input.now fault → StopsWith result fault }
 {
-    let state = match schedule(input, seats) {
-        Ok(state) => state,
-        Err(at) => {
-            return Err(Stop::Refused(Fault {
-                kind: at.kind,
-                offset: at.line,
-            }));
-        }
-    };
+    let state = schedule(input, seats)?;
     let mut output = Vec::new(alloc);
     match write_state(&state, &mut output) {
         Ok(()) => Ok(Answer {

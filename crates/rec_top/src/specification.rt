@@ -6,9 +6,9 @@ ghost use Rattle.rec_check.specs.Run.{MayBeRun};
 ghost use Rattle.rec_check.specs.Symbols.{widest_of};
 ghost use Rattle.rec_top.specs.Rewritten.{Spells, IsSpecificationFault, IsNamed};
 ghost use Rattle.rec_top.specs.Answered.{Answers, StopsWith, StopsSpelling, FailsSpelling};
-ghost use Rattle.rec_top.specs.declared.stops.Fault.{Fault};
+ghost use Rattle.faults.specs.declared.refusal.Refusal.{Refusal};
 
-use crate::stops::{Fault, Stop};
+use crate::stops::Stop;
 use rec_check::{Spec, check};
 use rec_reader::{ReadFail, syntax, tokens};
 use std::alloc::Global;
@@ -35,11 +35,7 @@ pub fn specification_of(alloc: Global, input: &[u8]) -> Result<Spec, Stop>
     ensures stopped { IfErr result (StopsSpelling input.now) }
     ensures accepted { (spec : Specified) → Spells input.now spec
         → Answers result (λ made. specified made ≡ spec) }
-    ensures refused { (fault : Fault) → IsSpecificationFault input.now fault → StopsWith result fault }
+    ensures refused { (fault : Refusal) → IsSpecificationFault input.now fault → StopsWith result fault }
 {
-    match read(alloc, input) {
-        Ok(spec) => Ok(spec),
-        Err(ReadFail::Refused { kind, offset }) => Err(Stop::Refused(Fault { kind, offset })),
-        Err(ReadFail::Memory) => Err(Stop::Memory),
-    }
+    Ok(read(alloc, input)?)
 }

@@ -1,24 +1,20 @@
 // Why a run stops without its output, and the line that `err` gets then.
 ghost use Rattle.std.specs.Prelude.{◌≡◌, ◌≤◌, []};
 ghost use Rattle.rec_top.specs.Lines.{fault_line, stop_line, stop_status, status_line, TookLine};
+ghost use Rattle.rec_top.specs.Stops.{stop_of_fail, stop_of_line};
 ghost use Rattle.rec_top.specs.declared.stops.Stop.TheVariants as stop;
 
 use crate::results::{Chronicle, Outcome, Workers};
 use arrayvec::ArrayString;
 use ends::{Sink, write_all};
-use faults::Memory;
+use faults::{Memory, Refusal};
 use itoa::Buffer;
+use lock_core::LineFault;
+use rec_reader::ReadFail;
 use std::alloc::{AllocError, Global};
 
-// `fault `, a kind of 3 digits, ` at `, an offset of 20, and the end of the line fit.
+// `fault `, a kind of 3 digits, ` at `, a place of 20, and the end of the line fit.
 const LONGEST_LINE: usize = 34;
-
-/// What is wrong with an input: the kind of the fault, and the byte or line where it is.
-#[derive(Clone, Copy, Debug, PartialEq, Eq)]
-pub struct Fault {
-    pub kind: u8,
-    pub offset: u64,
-}
 
 /// Why a run stops.
 #[derive(Clone, Copy, Debug, PartialEq, Eq)]
@@ -26,7 +22,7 @@ pub enum Stop {
     /// The words are refused.
     Usage,
     /// The input is refused.
-    Refused(Fault),
+    Refused(Refusal),
     /// The rows are too few.
     StoreFull,
     /// A read failed.
@@ -53,15 +49,40 @@ impl From<Memory> for Stop {
     }
 }
 
+impl From<ReadFail> for Stop {
+    ghost from_gives = { λ fail e. e ≡ stop_of_fail fail };
+
+    fn from(fail: ReadFail) -> Self {
+        match fail {
+            ReadFail::Refused { kind, offset } => Stop::Refused(Refusal {
+                kind,
+                place: offset,
+            }),
+            ReadFail::Memory => Stop::Memory,
+        }
+    }
+}
+
+impl From<LineFault> for Stop {
+    ghost from_gives = { λ at e. e ≡ stop_of_line at };
+
+    fn from(at: LineFault) -> Self {
+        Stop::Refused(Refusal {
+            kind: at.kind,
+            place: at.line,
+        })
+    }
+}
+
 // The line of the fault. It takes no memory.
-fn fault_line(fault: Fault) -> ArrayString<LONGEST_LINE>
+fn fault_line(fault: Refusal) -> ArrayString<LONGEST_LINE>
     ensures { result.bytes ≡ fault_line fault }
 {
     let mut line = ArrayString::new();
     line.push_str("fault ");
     line.push_str(Buffer::new().format(fault.kind));
     line.push_str(" at ");
-    line.push_str(Buffer::new().format(fault.offset));
+    line.push_str(Buffer::new().format(fault.place));
     line.push_str("\n");
     line
 }

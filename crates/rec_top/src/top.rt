@@ -6,7 +6,7 @@ ghost use Rattle.settings.specs.Words.{settings_of, texts};
 ghost use Rattle.rec_top.specs.Written.{Output, status_for};
 ghost use Rattle.rec_top.specs.Lines.{fault_line, status_line, TookLine};
 ghost use Rattle.rec_top.specs.Run.{HasOutput, HasFault, HasTooMuch, HasNoFault, Accepts, Refuses, IsWritten, IsOfOneWorker, IsMade, IsWhole, IsStatus};
-ghost use Rattle.rec_top.specs.declared.stops.Fault.{Fault};
+ghost use Rattle.faults.specs.declared.refusal.Refusal.{Refusal};
 
 use crate::answering::answer_of;
 use crate::results::{Chronicle, Outcome, Workers};
@@ -56,7 +56,7 @@ pub fn run<R: Threads + Wait + Sync, S: Source, O: Sink, E: Sink, G: Gate>(
     ensures whole_only_where_out_took_the_output { IsWhole result.status → (output : Output)
         × HasOutput (texts words.now) S.left source.old source.new output
         × IsWritten O.taken out.old out.new output result.status × IsOfOneWorker result.workers output }
-    ensures refused_only_where_faulty { result.status ≡ 3 → (fault : Fault)
+    ensures refused_only_where_faulty { result.status ≡ 3 → (fault : Refusal)
         × HasFault (texts words.now) S.left source.old source.new fault
         × TookLine E.taken E.faults err.old err.new (fault_line fault) }
     ensures full_only_where_rows_are_few { result.status ≡ 4
@@ -85,7 +85,7 @@ pub fn run<R: Threads + Wait + Sync, S: Source, O: Sink, E: Sink, G: Gate>(
     ensures complete { (output : Output) → Accepts (texts words.now) S.left source.old output
         → HasNoFault S.faults source.old source.new → HasNoFault O.faults out.old out.new
         → IsWritten O.taken out.old out.new output result.status ⊎ (result.status ≡ 7) }
-    ensures complete_for_refused { (fault : Fault) → Refuses (texts words.now) S.left source.old fault
+    ensures complete_for_refused { (fault : Refusal) → Refuses (texts words.now) S.left source.old fault
         → HasNoFault S.faults source.old source.new
         → ((result.status ≡ 3) × TookLine E.taken E.faults err.old err.new (fault_line fault)) ⊎ (result.status ≡ 7) }
 

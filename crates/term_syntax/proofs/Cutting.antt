@@ -2,14 +2,15 @@
 use Rattle.std.proofs.Common.{◌≡◌, ◌≤◌, ◌<◌, ◌∙◌, ℕ, zero, suc, ◌+◌, ◌-◌, List, [], ◌∷◌, ◌++◌, length, length-drop, drop, refl, ap, sym, arith, append_assoc, Result, Ok, Err}
 use Rattle.rec_reader.specs.declared.fail.ReadFail.{ReadFail}
 use Rattle.rec_reader.specs.declared.fail.ReadFail.TheVariants.{Refused, Memory}
-use Rattle.term_syntax.specs.Fault.{Fault, IsDue}
+use Rattle.faults.specs.declared.refusal.Refusal.{Refusal}
+use Rattle.term_syntax.specs.Fault.{IsDue}
 use Rattle.term_syntax.specs.declared.token.Token.{Token}
 use Rattle.term_syntax.specs.declared.scanner.Piece.{Piece}
 use Rattle.term_syntax.specs.Tokens.{tokens_from, tokens_of, after_token, after_piece, next_of, piece_at, read_piece}
 use Rattle.std.proofs.lemmas.List.{drop_more, drop-drop}
 
 -- what reading gives, with tokens before it
-abbrev pub after_tokens : List Token → Result (List Token) Fault → Result (List Token) Fault
+abbrev pub after_tokens : List Token → Result (List Token) Refusal → Result (List Token) Refusal
 after_tokens ts (Ok us) = Ok (ts ++ us)
 after_tokens ts (Err f) = Err f
 
@@ -42,7 +43,7 @@ piece_read bytes at p within l h e =
     ∙ ap (λ q. read_piece at q (λ next. tokens_from (at + 1) (next - (at + 1)) (drop (at + 1) bytes))) e
     ∙ ap (after_piece p) (read_after bytes at (next_of at p) l h)
 
-pub after_push : (ts : List Token) (t : Token) (r : Result (List Token) Fault) → after_tokens (ts ++ t ∷ []) r ≡ after_tokens ts (after_token t r)
+pub after_push : (ts : List Token) (t : Token) (r : Result (List Token) Refusal) → after_tokens (ts ++ t ∷ []) r ≡ after_tokens ts (after_token t r)
 after_push ts t (Ok us) = ap Ok (append_assoc ts (t ∷ []) us)
 after_push ts t (Err at) = refl
 

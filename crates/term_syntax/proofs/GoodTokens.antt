@@ -6,7 +6,7 @@ use Rattle.std.specs.Str.Parse.{digits_value}
 use Rattle.std.proofs.lemmas.Bool.Decides.{nat_tests}
 use Rattle.std.proofs.Math.Numerals.{add-one}
 use Rattle.term_model.proofs.Order.{both}
-use Rattle.term_syntax.specs.Fault.{Fault}
+use Rattle.faults.specs.declared.refusal.Refusal.{Refusal}
 use Rattle.term_syntax.specs.declared.token.Token.{Token}
 use Rattle.term_syntax.specs.declared.token.Token.TheVariants.{Word, Number, At}
 use Rattle.term_syntax.specs.declared.token.Mark.{Mark}
@@ -28,11 +28,11 @@ is_good (At m p) = true
 abbrev pub are_good : List Token → Bool
 are_good ts = list_all is_good ts
 
-abbrev Good : Result (List Token) Fault → Type 0
+abbrev Good : Result (List Token) Refusal → Type 0
 Good (Ok ts) = are_good ts ≡ true
 Good (Err f) = Unit {0}
 
-abbrev GoodPiece : Result Piece Fault → Type 0
+abbrev GoodPiece : Result Piece Refusal → Type 0
 GoodPiece (Ok Blank) = Unit {0}
 GoodPiece (Ok (Whole t next)) = is_good t ≡ true
 GoodPiece (Err f) = Unit {0}
@@ -57,11 +57,11 @@ front_all (b ∷ bs) = by (continues_name b) refl (front_all bs)
     by false e rest = ap (λ c. list_all is_printable (take (cond c (front_length continues_name bs + 1) 0) (b ∷ bs))) e
 
 -- a quoted name
-abbrev GoodQuoted : Result (List ℕ × ℕ) Fault → Type 0
+abbrev GoodQuoted : Result (List ℕ × ℕ) Refusal → Type 0
 GoodQuoted (Ok q) = list_all is_printable q.0 ≡ true
 GoodQuoted (Err f) = Unit {0}
 
-with_good : (b : ℕ) (r : Result (List ℕ × ℕ) Fault) → is_printable b ≡ true → GoodQuoted r → GoodQuoted (with_byte b r)
+with_good : (b : ℕ) (r : Result (List ℕ × ℕ) Refusal) → is_printable b ≡ true → GoodQuoted r → GoodQuoted (with_byte b r)
 with_good b (Ok q) h k = both (is_printable b) (list_all is_printable q.0) h k
 with_good b (Err f) h k = tt
 
@@ -79,7 +79,7 @@ stands_good false b h = by (eqb b 34) (eqb b 92) (is_printable b) refl h
     by false false true e h = e
     by false false false e h = absurd cc
 
-role_good : (role : Role) (at b : ℕ) (rest : Bool → Result (List ℕ × ℕ) Fault) → (role ≡ Stands → is_printable b ≡ true) → ((behind : Bool) → GoodQuoted (rest behind)) → GoodQuoted (by_role role at b rest)
+role_good : (role : Role) (at b : ℕ) (rest : Bool → Result (List ℕ × ℕ) Refusal) → (role ≡ Stands → is_printable b ≡ true) → ((behind : Bool) → GoodQuoted (rest behind)) → GoodQuoted (by_role role at b rest)
 role_good Closes at b rest h k = refl
 role_good Escapes at b rest h k = k true
 role_good Stands at b rest h k = with_good b (rest false) (h refl) (k false)
@@ -89,7 +89,7 @@ quoted_good : (bs : List ℕ) (at : ℕ) (behind : Bool) → GoodQuoted (quoted 
 quoted_good [] at behind = tt
 quoted_good (b ∷ bs) at behind = role_good (role_of behind b) at b (λ next. quoted (at + 1) next bs) (stands_good behind b) (λ next. quoted_good bs (at + 1) next)
 
-quoted_piece_good : (at : ℕ) (r : Result (List ℕ × ℕ) Fault) → GoodQuoted r → GoodPiece (quoted_piece at r)
+quoted_piece_good : (at : ℕ) (r : Result (List ℕ × ℕ) Refusal) → GoodQuoted r → GoodPiece (quoted_piece at r)
 quoted_piece_good at (Ok q) h = h
 quoted_piece_good at (Err f) h = tt
 
@@ -113,7 +113,7 @@ mark_good at (Some m) = refl
 mark_good at None = tt
 
 -- a piece
-either : (t : Bool) (x y : Result Piece Fault) → (t ≡ true → GoodPiece x) → GoodPiece y → GoodPiece (cond t x y)
+either : (t : Bool) (x y : Result Piece Refusal) → (t ≡ true → GoodPiece x) → GoodPiece y → GoodPiece (cond t x y)
 either true x y h k = h refl
 either false x y h k = k
 
@@ -125,11 +125,11 @@ piece_good at b bs =
     (either (is_ascii_digit b) _ _ (λ e. number_good (b ∷ take (front_length is_ascii_digit bs) bs))
     (mark_good at (mark_of b)))))
 
-read_good : (at : ℕ) (r : Result Piece Fault) (after : ℕ → Result (List Token) Fault) → GoodPiece r → ((n : ℕ) → Good (after n)) → Good (read_piece at r after)
+read_good : (at : ℕ) (r : Result Piece Refusal) (after : ℕ → Result (List Token) Refusal) → GoodPiece r → ((n : ℕ) → Good (after n)) → Good (read_piece at r after)
 read_good at (Ok Blank) after h k = k (at + 1)
 read_good at (Ok (Whole t next)) after h k = go (after next) (k next)
   where
-    go : (r : Result (List Token) Fault) → Good r → Good (after_token t r)
+    go : (r : Result (List Token) Refusal) → Good r → Good (after_token t r)
     go (Ok ts) g = both (is_good t) (are_good ts) h g
     go (Err f) g = tt
 read_good at (Err f) after h k = tt

@@ -7,8 +7,8 @@ use Rattle.std.proofs.Math.Numerals.{add-one}
 use Rattle.std.specs.Char.{is_ascii_digit, digit_value}
 use Rattle.std.specs.Str.Parse.{AllDigits}
 use Rattle.std.proofs.lemmas.Str.{digit_value_digit}
-use Rattle.term_syntax.specs.Fault.{Fault, fault}
-use Rattle.term_syntax.specs.declared.kinds.TheConstants.{UNENDED}
+use Rattle.faults.specs.declared.refusal.Refusal.{Refusal}
+use Rattle.term_syntax.specs.Fault.{fault}
 use Rattle.term_syntax.specs.declared.token.Token.TheVariants.{Word, Number}
 use Rattle.term_syntax.specs.declared.scanner.Piece.TheVariants.{Whole}
 use Rattle.term_syntax.specs.declared.scanner.Role.{Role}
@@ -68,15 +68,15 @@ number_is bytes at end h e =
     ∙ ap (number_piece at) (sym (drop_more bytes at 0 h))
 
 -- a quoted name with bytes before it
-abbrev pub named_before : List ℕ → Result (List ℕ × ℕ) Fault → Result (List ℕ × ℕ) Fault
+abbrev pub named_before : List ℕ → Result (List ℕ × ℕ) Refusal → Result (List ℕ × ℕ) Refusal
 named_before n (Ok q) = Ok (n ++ q.0, q.1)
 named_before n (Err f) = Err f
 
-pub before_byte : (n : List ℕ) (b : ℕ) (r : Result (List ℕ × ℕ) Fault) → named_before (n ++ b ∷ []) r ≡ named_before n (with_byte b r)
+pub before_byte : (n : List ℕ) (b : ℕ) (r : Result (List ℕ × ℕ) Refusal) → named_before (n ++ b ∷ []) r ≡ named_before n (with_byte b r)
 before_byte n b (Ok q) = ap (λ m. Ok (m, q.1)) (append_assoc n (b ∷ []) q.0)
 before_byte n b (Err f) = refl
 
-pub before_none : (r : Result (List ℕ × ℕ) Fault) → named_before [] r ≡ r
+pub before_none : (r : Result (List ℕ × ℕ) Refusal) → named_before [] r ≡ r
 before_none (Ok q) = refl
 before_none (Err f) = refl
 
@@ -86,5 +86,5 @@ quoted_at bytes at behind role h e =
     ap (quoted at behind) (drop_more bytes at 0 h)
     ∙ ap (λ r. by_role r at (get_or bytes at 0) (λ next. quoted (at + 1) next (drop (at + 1) bytes))) (sym e)
 
-pub quoted_end : (bytes : List ℕ) (at : ℕ) (behind : Bool) → length bytes ≤ at → quoted at behind (drop at bytes) ≡ Err (fault UNENDED at)
+pub quoted_end : (bytes : List ℕ) (at : ℕ) (behind : Bool) → length bytes ≤ at → quoted at behind (drop at bytes) ≡ Err (fault 3 at)
 quoted_end bytes at behind h = ap (quoted at behind) (drop_all at bytes h)

@@ -10,7 +10,8 @@ use Rattle.symbol_pool.specs.Pool.{Named, named}
 use Rattle.term_syntax.specs.declared.machine.Kind.{Kind}
 use Rattle.term_syntax.specs.declared.machine.Kind.TheVariants.{Symbol, Integer, Brackets}
 use Rattle.term_syntax.specs.declared.machine.Part.{Part}
-use Rattle.term_syntax.specs.Fault.{Fault, fault, IsDue}
+use Rattle.faults.specs.declared.refusal.Refusal.{Refusal}
+use Rattle.term_syntax.specs.Fault.{fault, IsDue}
 use Rattle.term_syntax.specs.Parts.{pool_after, part_fault, unless_fault, taken_up}
 use Rattle.term_syntax.specs.Items.{is_there, IsThere, item_of_kind, item_in, IsTakenUp, IsPartFault, GrowsPool}
 use Rattle.term_syntax.proofs.Pool.{with_symbol_grows, stays_in, has_taken, grows_itself, grows_on}
@@ -43,7 +44,7 @@ items_stay pool new g (p ∷ ps) h =
 pub taken_one : (pool : List Named) (p : Part) (ps : List Part) → part_fault pool p ≡ None → taken_up pool (p ∷ ps) ≡ taken_up (pool_after pool p.kind p.count) ps
 taken_one pool p ps e = ap (λ f. unless_fault f (taken_up (pool_after pool p.kind p.count) ps)) e
 
-pub taken_not : (pool : List Named) (p : Part) (ps : List Part) (f : Fault) → part_fault pool p ≡ Some f → taken_up pool (p ∷ ps) ≡ Err f
+pub taken_not : (pool : List Named) (p : Part) (ps : List Part) (f : Refusal) → part_fault pool p ≡ Some f → taken_up pool (p ∷ ps) ≡ Err f
 taken_not pool p ps f e = ap (λ g. unless_fault g (taken_up (pool_after pool p.kind p.count) ps)) e
 
 -- so many parts were taken up, which gave these symbols and items

@@ -16,8 +16,8 @@ use Rattle.term_syntax.specs.declared.token.Mark.{Mark}
 use Rattle.term_syntax.specs.declared.token.Mark.TheVariants.{Open, Close, OpenList, CloseList, Comma}
 use Rattle.term_syntax.specs.declared.machine.Kind.TheVariants.{Symbol}
 use Rattle.term_syntax.specs.declared.machine.Part.{Part}
-use Rattle.term_syntax.specs.declared.kinds.TheConstants.{LIMIT}
-use Rattle.term_syntax.specs.Fault.{Fault, fault}
+use Rattle.faults.specs.declared.refusal.Refusal.{Refusal}
+use Rattle.term_syntax.specs.Fault.{fault}
 use Rattle.term_syntax.specs.Tokens.{is_printable, tokens_from, after_token}
 use Rattle.term_syntax.specs.Written.{Written, Call, Digits, Listed, Writtens, End, More, count_of}
 use Rattle.term_syntax.specs.TermGrammar.{IsTerm, constant, call, number, empty, list, AreTerms, only, more}
@@ -34,11 +34,11 @@ use Rattle.term_syntax.proofs.TokensBack.{Stops, name_back, number_back, mark_ba
 abbrev Cut : ℕ → List ℕ → List Token → List ℕ → Type 0
 Cut p text tokens post = tokens_from p 0 (text ++ post) ≡ after_tokens tokens (tokens_from (p + length text) 0 post)
 
-after_more : (ts us : List Token) (r : Result (List Token) Fault) → after_tokens ts (after_tokens us r) ≡ after_tokens (ts ++ us) r
+after_more : (ts us : List Token) (r : Result (List Token) Refusal) → after_tokens ts (after_tokens us r) ≡ after_tokens (ts ++ us) r
 after_more ts us (Ok vs) = ap Ok (sym (append_assoc ts us vs))
 after_more ts us (Err f) = refl
 
-after_one : (t : Token) (r : Result (List Token) Fault) → after_token t r ≡ after_tokens (t ∷ []) r
+after_one : (t : Token) (r : Result (List Token) Refusal) → after_token t r ≡ after_tokens (t ∷ []) r
 after_one t (Ok ts) = refl
 after_one t (Err f) = refl
 
@@ -131,8 +131,8 @@ module _ (names : List Named) (pool : IsPool names) where
       where
         faultless : (p : ℕ) → part_fault names (record { place = p; over = false; kind = Symbol s.name; count = n }) ≡ None
         faultless p =
-            ap (λ b. cond (b || is_full_for names (named s.name n)) (Some (fault LIMIT p)) None) (le-ltb 255 (length s.name) s.short)
-            ∙ ap (λ b. cond (not b && eqb (length names) most_symbols) (Some (fault LIMIT p)) None) held
+            ap (λ b. cond (b || is_full_for names (named s.name n)) (Some (fault 13 p)) None) (le-ltb 255 (length s.name) s.short)
+            ∙ ap (λ b. cond (not b && eqb (length names) most_symbols) (Some (fault 13 p)) None) held
 
   -- what stands before a comma, or before the end of a group, is at its end
   stops_commas : (ts : Trees) (post : List ℕ) → Stops post → Stops (after_commas (spelling names) ts ++ post)
@@ -156,7 +156,7 @@ module _ (names : List Named) (pool : IsPool names) where
   three : (xs ys : List Token) (t : Token) (us : List Token) → ((xs ++ ys) ++ t ∷ []) ++ us ≡ xs ++ (ys ++ t ∷ us)
   three xs ys t us = append_assoc (xs ++ ys) (t ∷ []) us ∙ append_assoc xs ys (t ∷ us)
 
-  keep_none : (r : Result (List Token) Fault) → r ≡ after_tokens [] r
+  keep_none : (r : Result (List Token) Refusal) → r ≡ after_tokens [] r
   keep_none (Ok ts) = refl
   keep_none (Err f) = refl
 

@@ -5,7 +5,6 @@ use Rattle.rec_reader.specs.declared.fail.ReadFail.{ReadFail}
 use Rattle.rec_reader.specs.declared.fail.ReadFail.TheVariants.{Refused, Memory}
 use Rattle.term_syntax.specs.declared.token.Token.{Token}
 use Rattle.term_syntax.specs.declared.machine.Machine.{Machine}
-use Rattle.term_syntax.specs.declared.kinds.TheConstants.{UNENDED}
 use Rattle.term_syntax.specs.TermGrammar.{BeginsInput}
 use Rattle.term_syntax.specs.Parts.{parts_of_input}
 use Rattle.term_syntax.specs.Nodes.{nodes_of_input}
@@ -73,5 +72,5 @@ refusal size ts (Refused kind offset) stopped = inl (stopped.0, first_unexpected
 refusal size ts Memory stopped = tt
 
 -- the tokens end where no input does
-pub end_refusal : (size : ℕ) (ts : List Token) (m : Machine) → run start ts ≡ Some m → accepted (settled_at m.place m) ≡ None → AreRefused size ts UNENDED size
+pub end_refusal : (size : ℕ) (ts : List Token) (m : Machine) → run start ts ≡ Some m → accepted (settled_at m.place m) ≡ None → AreRefused size ts 3 size
 end_refusal size ts m r a = inr (refl, refl, unended ts m r a)

@@ -5,12 +5,12 @@ use Rattle.std.proofs.lemmas.Bool.{eq-eqb, eqb-false, le-leb, ltb-true, ltb-fals
 use Rattle.std.proofs.lemmas.List.Elements.{All-head, All-tail, All-nil, All-cons}
 use Rattle.term_model.proofs.Order.{both_hold, both}
 use Rattle.symbol_pool.specs.Pool.{Named, named}
-use Rattle.term_syntax.specs.Fault.{Fault, fault}
+use Rattle.faults.specs.declared.refusal.Refusal.{Refusal}
+use Rattle.term_syntax.specs.Fault.{fault}
 use Rattle.term_syntax.specs.declared.token.Token.{Token}
 use Rattle.term_syntax.specs.declared.machine.Kind.{Kind}
 use Rattle.term_syntax.specs.declared.machine.Kind.TheVariants.{Symbol, Integer, Brackets}
 use Rattle.term_syntax.specs.declared.machine.Part.{Part}
-use Rattle.term_syntax.specs.declared.kinds.TheConstants.{LIMIT, BAD_NUMBER}
 use Rattle.term_syntax.specs.Tokens.{is_printable}
 use Rattle.term_syntax.specs.Written.{Written, Call, Digits, Listed, Writtens, End, More, count_of}
 use Rattle.term_syntax.specs.TermGrammar.{IsTerm, constant, call, number, empty, list, AreTerms, only, more, IsInput, none, next}
@@ -64,7 +64,7 @@ pub record IsFine (p : Part) : Type 0 where
 fine_from : (pool : List Named) (p : Part) → part_fault pool p ≡ None → IsFine p
 fine_from pool p e = by p.over p.kind refl refl e
   where
-    by : (o : Bool) (k : Kind) → p.over ≡ o → p.kind ≡ k → cond (o || is_too_much pool k p.count) (Some (fault LIMIT p.place)) (cond (is_bad_number k) (Some (fault BAD_NUMBER p.place)) None) ≡ None → IsFine p
+    by : (o : Bool) (k : Kind) → p.over ≡ o → p.kind ≡ k → cond (o || is_too_much pool k p.count) (Some (fault 13 p.place)) (cond (is_bad_number k) (Some (fault 17 p.place)) None) ≡ None → IsFine p
     by true k f g e = absurd cc
     by false (Symbol n) f g e = record {
       within = f;
@@ -72,7 +72,7 @@ fine_from pool p e = by p.over p.kind refl refl e
       integer = λ h. absurd (let bad : Integer None ≡ Symbol n = sym h ∙ g in cc);
     }
       where
-        low : (t : Bool) → ltb 255 (length n) ≡ t → cond (false || (t || is_full_for pool (named n p.count))) (Some (fault LIMIT p.place)) None ≡ None → length n ≤ 255
+        low : (t : Bool) → ltb 255 (length n) ≡ t → cond (false || (t || is_full_for pool (named n p.count))) (Some (fault 13 p.place)) None ≡ None → length n ≤ 255
         low true x e = absurd cc
         low false x e = ltb-false 255 (length n) x
     by false (Integer (Some v)) f g e = record {
@@ -91,7 +91,7 @@ all_fine : (ps : List Part) (pool new : List Named) → taken_up pool ps ≡ Ok 
 all_fine [] pool new e = All-nil IsFine
 all_fine (p ∷ ps) pool new e = by (part_fault pool p) refl e (λ h. all_fine ps (pool_after pool p.kind p.count) new h)
   where
-    by : (o : Option Fault) → part_fault pool p ≡ o → unless_fault o (taken_up (pool_after pool p.kind p.count) ps) ≡ Ok new → (taken_up (pool_after pool p.kind p.count) ps ≡ Ok new → All IsFine ps) → All IsFine (p ∷ ps)
+    by : (o : Option Refusal) → part_fault pool p ≡ o → unless_fault o (taken_up (pool_after pool p.kind p.count) ps) ≡ Ok new → (taken_up (pool_after pool p.kind p.count) ps ≡ Ok new → All IsFine ps) → All IsFine (p ∷ ps)
     by None f h k = All-cons IsFine p ps (fine_from pool p f) (k h)
     by (Some x) f h k = absurd cc
 

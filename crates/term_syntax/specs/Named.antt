@@ -5,7 +5,6 @@ use Rattle.rec_reader.specs.declared.fail.ReadFail.TheVariants.{Refused, Memory}
 use Rattle.term_model.specs.declared.Item.{Item}
 use Rattle.term_model.specs.declared.Item.TheVariants.{App}
 use Rattle.symbol_pool.specs.Pool.{Named, named}
-use Rattle.term_syntax.specs.declared.kinds.TheConstants.{LIMIT}
 use Rattle.term_syntax.specs.Parts.{number_of, with_symbol, is_full_for}
 
 pub record IsSymbolTaken (old : List Named) (name : List ℕ) (count : ℕ) (item : Item)
@@ -18,5 +17,5 @@ pub record IsSymbolTaken (old : List Named) (name : List ℕ) (count : ℕ) (ite
 abbrev pub IsSymbolRefused : List Named → List ℕ → ℕ → ℕ → ReadFail → Type 0
 IsSymbolRefused pool name count place (Refused kind offset) =
     ((nat_lt 255 (length name) || is_full_for pool (named name count)) ≡ true)
-    × (kind ≡ LIMIT) × (offset ≡ place)
+    × (kind ≡ 13) × (offset ≡ place)
 IsSymbolRefused pool name count place Memory = Unit {0}

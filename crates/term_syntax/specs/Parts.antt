@@ -8,8 +8,8 @@ use Rattle.symbol_pool.specs.Pool.{Named, named, most_symbols}
 use Rattle.term_syntax.specs.declared.machine.Kind.{Kind}
 use Rattle.term_syntax.specs.declared.machine.Kind.TheVariants.{Symbol, Integer, Brackets}
 use Rattle.term_syntax.specs.declared.machine.Part.{Part}
-use Rattle.term_syntax.specs.declared.kinds.TheConstants.{LIMIT, BAD_NUMBER}
-use Rattle.term_syntax.specs.Fault.{Fault, fault}
+use Rattle.faults.specs.declared.refusal.Refusal.{Refusal}
+use Rattle.term_syntax.specs.Fault.{fault}
 use Rattle.term_syntax.specs.Written.{Written, Call, Digits, Listed, Writtens, End, More, count_of}
 
 -- the parts of a term, and of terms of which so many came before; of a name's arguments the 17th is marked
@@ -69,18 +69,18 @@ is_bad_number (Symbol n) = false
 is_bad_number Brackets = false
 
 -- the fault of a part, where it has one: of two the lesser kind
-abbrev pub part_fault : List Named → Part → Option Fault
+abbrev pub part_fault : List Named → Part → Option Refusal
 part_fault pool p =
-    if p.over || is_too_much pool p.kind p.count then Some (fault LIMIT p.place)
-    else (if is_bad_number p.kind then Some (fault BAD_NUMBER p.place)
+    if p.over || is_too_much pool p.kind p.count then Some (fault 13 p.place)
+    else (if is_bad_number p.kind then Some (fault 17 p.place)
     else None)
 
-abbrev pub unless_fault : Option Fault → Result (List Named) Fault → Result (List Named) Fault
+abbrev pub unless_fault : Option Refusal → Result (List Named) Refusal → Result (List Named) Refusal
 unless_fault (Some f) r = Err f
 unless_fault None r = r
 
 -- the symbols after parts, taken up in the order of the text, or the fault of the first part that has one
-abbrev pub taken_up : List Named → List Part → Result (List Named) Fault
+abbrev pub taken_up : List Named → List Part → Result (List Named) Refusal
 taken_up pool [] = Ok pool
 taken_up pool (p ∷ ps) =
     unless_fault (part_fault pool p) (taken_up (pool_after pool p.kind p.count) ps)

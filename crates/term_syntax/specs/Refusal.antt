@@ -2,7 +2,6 @@
 use Rattle.std.specs.Prelude.{◌≡◌, ℕ, List, [], ◌∷◌, ◌++◌, ◌⊎◌}
 use Rattle.term_syntax.specs.declared.token.Token.{Token}
 use Rattle.term_syntax.specs.declared.token.Token.TheVariants.{Word, Number, At}
-use Rattle.term_syntax.specs.declared.kinds.TheConstants.{UNEXPECTED, UNENDED}
 use Rattle.rec_reader.specs.declared.fail.ReadFail.{ReadFail}
 use Rattle.rec_reader.specs.declared.fail.ReadFail.TheVariants.{Refused, Memory}
 use Rattle.term_syntax.specs.TermGrammar.{BeginsInput, IsNoInput}
@@ -32,8 +31,8 @@ pub record IsUnended (tokens : List Token) : Type 0 where
 -- token, or at the end of tokens that go on
 abbrev pub AreRefused : ℕ → List Token → ℕ → ℕ → Type 0
 AreRefused size tokens kind offset =
-    ((kind ≡ UNEXPECTED) × IsFirstUnexpected tokens offset)
-    ⊎ ((kind ≡ UNENDED) × (offset ≡ size) × IsUnended tokens)
+    ((kind ≡ 2) × IsFirstUnexpected tokens offset)
+    ⊎ ((kind ≡ 3) × (offset ≡ size) × IsUnended tokens)
 
 abbrev pub IsSyntaxRefusal : ℕ → List Token → ReadFail → Type 0
 IsSyntaxRefusal size tokens (Refused kind offset) = AreRefused size tokens kind offset

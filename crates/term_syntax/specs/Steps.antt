@@ -14,7 +14,6 @@ use Rattle.term_syntax.specs.declared.machine.Stop.{Stop}
 use Rattle.term_syntax.specs.declared.machine.Stop.TheVariants as stop
 use Rattle.term_syntax.specs.declared.machine.Machine.{Machine}
 use Rattle.term_syntax.specs.Counts.{with_count}
-use Rattle.term_syntax.specs.declared.kinds.TheConstants.{UNEXPECTED}
 use Rattle.rec_reader.specs.declared.fail.ReadFail.{ReadFail}
 use Rattle.rec_reader.specs.declared.fail.ReadFail.TheVariants.{Refused, Memory}
 use Rattle.term_syntax.specs.Written.{Written}
@@ -162,7 +161,7 @@ pub record StopsAt (tokens : List Token) (offset : ℕ) : Type 0 where
   pub place : offset ≡ place_of token
 
 abbrev pub IsStopped : List Token → ReadFail → Type 0
-IsStopped tokens (Refused kind offset) = (kind ≡ UNEXPECTED) × StopsAt tokens offset
+IsStopped tokens (Refused kind offset) = (kind ≡ 2) × StopsAt tokens offset
 IsStopped tokens Memory = Unit {0}
 
 -- the parts and the nodes of the terms that the tokens spell

@@ -11,8 +11,8 @@ use Rattle.term_syntax.specs.declared.scanner.Piece.{Piece}
 use Rattle.term_syntax.specs.declared.scanner.Piece.TheVariants.{Blank, Whole}
 use Rattle.term_syntax.specs.declared.scanner.Role.{Role}
 use Rattle.term_syntax.specs.declared.scanner.Role.TheVariants.{Closes, Escapes, Stands, Bad}
-use Rattle.term_syntax.specs.declared.kinds.TheConstants.{BAD_BYTE, UNENDED}
-use Rattle.term_syntax.specs.Fault.{Fault, fault}
+use Rattle.faults.specs.declared.refusal.Refusal.{Refusal}
+use Rattle.term_syntax.specs.Fault.{fault}
 
 -- space, tab, CR and LF
 abbrev pub is_space : ℕ → Bool
@@ -63,21 +63,21 @@ integer_of ds =
     else up_to_most (digits_value 10 ds)
 
 -- a name with its first byte, and the place after its closing quote
-abbrev pub with_byte : ℕ → Result (List ℕ × ℕ) Fault → Result (List ℕ × ℕ) Fault
+abbrev pub with_byte : ℕ → Result (List ℕ × ℕ) Refusal → Result (List ℕ × ℕ) Refusal
 with_byte b (Ok q) = Ok (b ∷ q.0, q.1)
 with_byte b (Err f) = Err f
 
 -- what a byte at this place and the bytes after it come to
-abbrev pub by_role : Role → ℕ → ℕ → (Bool → Result (List ℕ × ℕ) Fault) → Result (List ℕ × ℕ) Fault
+abbrev pub by_role : Role → ℕ → ℕ → (Bool → Result (List ℕ × ℕ) Refusal) → Result (List ℕ × ℕ) Refusal
 by_role Closes at b rest = Ok ([], at + 1)
 by_role Escapes at b rest = rest true
 by_role Stands at b rest = with_byte b (rest false)
-by_role Bad at b rest = Err (fault BAD_BYTE at)
+by_role Bad at b rest = Err (fault 1 at)
 
 -- the quoted name whose bytes go on at this place, behind a backslash or not, and the place after its closing
 -- quote; refused at its first bad byte, or at the end of the input where no quote closes it
-abbrev pub quoted : ℕ → Bool → List ℕ → Result (List ℕ × ℕ) Fault
-quoted at behind [] = Err (fault UNENDED at)
+abbrev pub quoted : ℕ → Bool → List ℕ → Result (List ℕ × ℕ) Refusal
+quoted at behind [] = Err (fault 3 at)
 quoted at behind (b ∷ bs) = by_role (role_of behind b) at b (λ next. quoted (at + 1) next bs)
 
 abbrev pub mark_of : ℕ → Option Mark
@@ -89,13 +89,13 @@ mark_of b =
     else (if b == 44 then Some Comma
     else None))))
 
-abbrev pub quoted_piece : ℕ → Result (List ℕ × ℕ) Fault → Result Piece Fault
+abbrev pub quoted_piece : ℕ → Result (List ℕ × ℕ) Refusal → Result Piece Refusal
 quoted_piece at (Ok q) = Ok (Whole (Word q.0 at) q.1)
 quoted_piece at (Err f) = Err f
 
-abbrev pub mark_piece : ℕ → Option Mark → Result Piece Fault
+abbrev pub mark_piece : ℕ → Option Mark → Result Piece Refusal
 mark_piece at (Some m) = Ok (Whole (At m at) (at + 1))
-mark_piece at None = Err (fault BAD_BYTE at)
+mark_piece at None = Err (fault 1 at)
 
 -- a plain name, and a number, at the front of bytes that stand at this place
 abbrev pub plain_piece : ℕ → List ℕ → Piece
@@ -112,7 +112,7 @@ number_piece at (b ∷ bs) =
 
 -- what begins at the front of bytes that stand at this place: white space, a plain name, a quoted name, a
 -- number or a mark
-abbrev pub piece_at : ℕ → List ℕ → Result Piece Fault
+abbrev pub piece_at : ℕ → List ℕ → Result Piece Refusal
 piece_at at [] = Ok Blank
 piece_at at (b ∷ bs) =
     if is_space b then Ok Blank
@@ -127,27 +127,27 @@ next_of at Blank = at + 1
 next_of at (Whole token next) = next
 
 -- what reading gives, with a token before it
-abbrev pub after_token : Token → Result (List Token) Fault → Result (List Token) Fault
+abbrev pub after_token : Token → Result (List Token) Refusal → Result (List Token) Refusal
 after_token t (Ok ts) = Ok (t ∷ ts)
 after_token t (Err f) = Err f
 
-abbrev pub after_piece : Piece → Result (List Token) Fault → Result (List Token) Fault
+abbrev pub after_piece : Piece → Result (List Token) Refusal → Result (List Token) Refusal
 after_piece Blank r = r
 after_piece (Whole token next) r = after_token token r
 
 -- what reading gives, from a piece at this place and what is read from the place after it
-abbrev pub read_piece : ℕ → Result Piece Fault → (ℕ → Result (List Token) Fault)
-    → Result (List Token) Fault
+abbrev pub read_piece : ℕ → Result Piece Refusal → (ℕ → Result (List Token) Refusal)
+    → Result (List Token) Refusal
 read_piece at (Ok p) after = after_piece p (after (next_of at p))
 read_piece at (Err f) after = Err f
 
 -- the tokens of the bytes from a place on, or the first refusal; the first `within` bytes belong to the piece
 -- that began before
-abbrev pub tokens_from : ℕ → ℕ → List ℕ → Result (List Token) Fault
+abbrev pub tokens_from : ℕ → ℕ → List ℕ → Result (List Token) Refusal
 tokens_from at within [] = Ok []
 tokens_from at (suc within) (b ∷ bs) = tokens_from (at + 1) within bs
 tokens_from at zero (b ∷ bs) =
     read_piece at (piece_at at (b ∷ bs)) (λ next. tokens_from (at + 1) (next - (at + 1)) bs)
 
-abbrev pub tokens_of : List ℕ → Result (List Token) Fault
+abbrev pub tokens_of : List ℕ → Result (List Token) Refusal
 tokens_of bytes = tokens_from 0 0 bytes

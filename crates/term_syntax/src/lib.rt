@@ -4,13 +4,13 @@
 mod backwards;
 mod canonical;
 mod flats;
-mod kinds;
 mod laws;
 mod list;
 mod machine;
 mod name;
 mod parser;
 mod reading;
+mod refused;
 mod scanner;
 mod symbols;
 #[cfg(test)]

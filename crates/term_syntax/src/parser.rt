@@ -3,10 +3,10 @@ ghost use Rattle.std.specs.Prelude.{◌≡◌, Some, IfOk, IfErr};
 ghost use Rattle.term_syntax.specs.Refusal.{place_of, IsSyntaxRefusal};
 ghost use Rattle.term_syntax.specs.Steps.{run, start, IsStopped, IsRead};
 
-use crate::kinds::{UNENDED, UNEXPECTED};
 use crate::list::Parts;
 use crate::machine::{Machine, Node, Stop};
 use crate::token::Token;
+use faults::kinds;
 use rec_reader::{ReadFail, Sequence};
 use std::alloc::Global;
 
@@ -21,7 +21,7 @@ fn run(alloc: Global, tokens: Vec<Token>) -> Result<Machine, ReadFail>
             Ok(()) => {}
             Err(Stop::Unexpected) => {
                 return Err(ReadFail::Refused {
-                    kind: UNEXPECTED,
+                    kind: kinds::UNEXPECTED,
                     offset: place as u64,
                 });
             }
@@ -51,7 +51,7 @@ pub(crate) fn syntax(
     match machine.finish() {
         Some(read) => Ok(read),
         None => Err(ReadFail::Refused {
-            kind: UNENDED,
+            kind: kinds::UNENDED,
             offset: size as u64,
         }),
     }

@@ -6,9 +6,10 @@ ghost use Rattle.rec_reader.specs.declared.fail.ReadFail.TheVariants.{Memory};
 ghost use Rattle.term_syntax.specs.Fault.{IsDue};
 ghost use Rattle.term_syntax.specs.Tokens as spec;
 
-use crate::kinds::{BAD_BYTE, UNENDED, refused};
 use crate::name::Name;
+use crate::refused::refused;
 use crate::token::{Mark, Token};
+use faults::kinds;
 use rec_reader::ReadFail;
 use std::alloc::Global;
 
@@ -121,11 +122,11 @@ fn quoted(alloc: Global, bytes: &[u8], start: usize) -> Result<(Name, usize), Re
                 name.push(byte)?;
                 behind = false;
             }
-            Role::Bad => return Err(refused(BAD_BYTE, at)),
+            Role::Bad => return Err(refused(kinds::BAD_BYTE, at)),
         }
         at += 1;
     }
-    Err(refused(UNENDED, at))
+    Err(refused(kinds::UNENDED, at))
 }
 
 /// What a byte within quotes does.
@@ -193,7 +194,7 @@ fn mark(byte: u8, at: usize) -> Result<Piece, ReadFail>
 {
     match mark_of(byte) {
         Some(mark) => Ok(Piece::Whole(Token::At(mark, at), at + 1)),
-        None => Err(refused(BAD_BYTE, at)),
+        None => Err(refused(kinds::BAD_BYTE, at)),
     }
 }
 

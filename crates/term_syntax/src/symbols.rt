@@ -5,8 +5,9 @@ ghost use Rattle.term_syntax.specs.Parts.{taken_up};
 ghost use Rattle.term_syntax.specs.Items.{item_in, IsTakenUp, IsPartFault, IsThere, GrowsPool};
 ghost use Rattle.term_syntax.specs.Named.{IsSymbolTaken, IsSymbolRefused};
 
-use crate::kinds::{BAD_NUMBER, LIMIT, refused};
 use crate::machine::{Kind, Part};
+use crate::refused::refused;
+use faults::kinds;
 use rec_reader::ReadFail;
 use std::alloc::Global;
 use symbol_pool::{PoolFault, Symbols};
@@ -27,11 +28,11 @@ fn take_symbol(
     ensures unchanged { OnErr result (symbols.new ≡ symbols.old) }
 {
     if name.len() > LONGEST_NAME {
-        return Err(refused(LIMIT, place));
+        return Err(refused(kinds::LIMIT, place));
     }
     match symbols.intern(name, count) {
         Ok(symbol) => Ok(Item::App(symbol, count)),
-        Err(PoolFault::Full) => Err(refused(LIMIT, place)),
+        Err(PoolFault::Full) => Err(refused(kinds::LIMIT, place)),
         Err(PoolFault::Memory) => Err(ReadFail::Memory),
     }
 }
@@ -43,12 +44,12 @@ fn take_part(part: &Part, symbols: &mut Symbols) -> Result<Item, ReadFail>
     ensures unchanged { OnErr result (symbols.new ≡ symbols.old) }
 {
     if part.over {
-        return Err(refused(LIMIT, part.place));
+        return Err(refused(kinds::LIMIT, part.place));
     }
     match &part.kind {
         Kind::Symbol(name) => take_symbol(name.as_slice(), part.count, part.place, symbols),
         Kind::Integer(Some(value)) => Ok(Item::Int(*value)),
-        Kind::Integer(None) => Err(refused(BAD_NUMBER, part.place)),
+        Kind::Integer(None) => Err(refused(kinds::BAD_NUMBER, part.place)),
         Kind::Brackets => Ok(Item::Nil),
     }
 }

@@ -1,7 +1,7 @@
 use Rattle.std.proofs.Common.{◌≡◌, ℕ, ◌+◌, ◌<◌, ◌≤◌, List, [], ◌∷◌, ◌++◌, append-nil, length, take, get_or, Option, None, All, Contains, refl, ap, sym, subst, ◌∙◌, add-one, take-suc, take_all, arith}
 use Rattle.std.specs.List.{flat_map}
 use Rattle.std.proofs.lemmas.List.Concat.{flat_map-append}
-use Rattle.rec_offences.specs.declared.offence.Offence.{Offence}
+use Rattle.faults.specs.declared.refusal.Refusal.{Refusal}
 use Rattle.rec_reader.specs.Parsed.{Parsed}
 use Rattle.rec_reader.specs.declared.syntax_tree.Specification.{Specification}
 use Rattle.rec_offences.specs.Faults.{least_with, fault_of}
@@ -12,7 +12,7 @@ use Rattle.rec_offences.proofs.Noted.{least_append}
 use Rattle.rec_offences.proofs.input.fault.Goals as goal
 
 -- after one number more
-one_more : (offences : ℕ → List Offence) (numbers : List ℕ) (i n : ℕ) (found now : Option Offence) → i < length numbers → n ≡ get_or numbers i 0 →
+one_more : (offences : ℕ → List Refusal) (numbers : List ℕ) (i n : ℕ) (found now : Option Refusal) → i < length numbers → n ≡ get_or numbers i 0 →
     found ≡ least_with None (flat_map offences (take i numbers)) → now ≡ least_with found (offences n) →
     now ≡ least_with None (flat_map offences (take (i + 1) numbers))
 one_more offences numbers i n found now l at was is =
@@ -44,7 +44,7 @@ loop-number-preserved c =
     }
 
 -- an order that has all numbers and no others
-over_all : (syntax : Parsed) (xs : List Specification) (numbers : List ℕ) (i : ℕ) (found : Option Offence) → xs ≡ syntax.specifications →
+over_all : (syntax : Parsed) (xs : List Specification) (numbers : List ℕ) (i : ℕ) (found : Option Refusal) → xs ≡ syntax.specifications →
     ((n : ℕ) → n < length xs → Contains numbers n) → All (λ n. n < length xs) numbers → length numbers ≤ i →
     found ≡ least_with None (flat_map (offences_at syntax.bytes xs) (take i numbers)) → found ≡ fault_of syntax
 over_all syntax xs numbers i found is all no_others l noted =

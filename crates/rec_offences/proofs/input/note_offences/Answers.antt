@@ -11,7 +11,7 @@ use Rattle.rec_offences.specs.Material.{included, headers_of, symbols_by, symbol
 use Rattle.rec_offences.specs.Scope.{symbol_entry, own_entries}
 use Rattle.rec_offences.specs.Offences.{includes_from}
 use Rattle.rec_offences.specs.Faults.{least_with, included_entries, offences_over, offences_after}
-use Rattle.rec_offences.specs.declared.offence.Offence.{Offence}
+use Rattle.faults.specs.declared.refusal.Refusal.{Refusal}
 use Rattle.rec_offences.specs.declared.entries.Verdict.{Verdict}
 use Rattle.rec_offences.specs.Grouped.{declared_group, used_group, verdict_of}
 use Rattle.rec_offences.specs.Listing.{Known, known, Listing, listing}
@@ -36,7 +36,7 @@ always (Ok x) p = p
 always (Err e) p = _
 
 -- what is noted where the included material is at hand is the offences of the specification
-noted : (bytes : List ℕ) (xs : List Specification) (n : ℕ) (s : Specification) (found now : Option Offence) (names : List Name) (verdicts : List Verdict) (sorts : Listing) (scope : Known) (rules : ℕ) (keys : List ℕ) →
+noted : (bytes : List ℕ) (xs : List Specification) (n : ℕ) (s : Specification) (found now : Option Refusal) (names : List Name) (verdicts : List Verdict) (sorts : Listing) (scope : Known) (rules : ℕ) (keys : List ℕ) →
     slice_get xs n ≡ Some s → names ≡ header_names xs → keys ≡ included bytes (headers_of bytes (take n xs)) s.includes →
     verdicts ≡ map (verdict_of bytes xs) (includes_from bytes (headers_of bytes (take n xs)) [] s.includes) →
     sorts ≡ listing bytes (sorts_of xs keys) → scope ≡ known bytes (included_entries xs keys) → rules ≡ counted (length (rules_of xs keys)) →

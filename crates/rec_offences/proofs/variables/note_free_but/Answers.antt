@@ -3,7 +3,7 @@ use Rattle.std.specs.List.{filter, flat_map}
 use Rattle.rec_reader.specs.declared.syntax_tree.Condition.{Condition}
 use Rattle.rec_reader.specs.declared.syntax_tree.Node.{Node}
 use Rattle.rec_reader.specs.declared.token.Name.{Name}
-use Rattle.rec_offences.specs.declared.offence.Offence.{Offence}
+use Rattle.faults.specs.declared.refusal.Refusal.{Refusal}
 use Rattle.rec_offences.specs.Names.{is_among}
 use Rattle.rec_offences.specs.Scope.{is_variable, heads}
 use Rattle.rec_offences.specs.Faults.{least_with, of_kind}
@@ -15,7 +15,7 @@ loop-condition-preserved c =
     let s = c.args.scope.now in
     let l = c.args.left.now in
     let free : Name → Bool = λ n. is_variable s.bytes s.entries n && not (is_among l.bytes l.names n) in
-    let marks : List Node → List Offence = λ ns. of_kind 10 (filter free (heads ns)) in
+    let marks : List Node → List Refusal = λ ns. of_kind 10 (filter free (heads ns)) in
     noted_turn
     (λ cs. marks (flat_map (λ k. k.first ++ k.second) cs))
     (λ k. marks (k.first ++ k.second))
@@ -37,7 +37,7 @@ returns c =
     let l = c.args.left.now in
     let r = c.args.rule.now in
     let free : Name → Bool = λ n. is_variable s.bytes s.entries n && not (is_among l.bytes l.names n) in
-    let marks : List Node → List Offence = λ ns. of_kind 10 (filter free (heads ns)) in
+    let marks : List Node → List Refusal = λ ns. of_kind 10 (filter free (heads ns)) in
     let rest : List Condition → List Node = λ ks. flat_map (λ k. k.first ++ k.second) ks in
     noted_end (λ ks. marks (rest ks)) refl c.as_slice-condition-items.result.now c.loop-condition.condition-index c.loop-condition.found _ (omega (arith, c.loop-condition-test.false)) c.loop-condition.invariant
     ∙ (λ i. least_with (c.note_free.ensures i) (marks (rest (c.as_slice-condition-items.ensures i))))
