@@ -16,9 +16,8 @@ use Rattle.rule_match.specs.Planned.{Planned}
 use Rattle.innermost.specs.Normalized.{IsPartOf, WasRefused, KeepsNumbers}
 use Rattle.innermost.specs.declared.normal.RunFault.TheVariants as fault
 use Rattle.settings.specs.declared.parts.Settings.{Settings}
-use Rattle.term_lines.specs.Written.{points_of, StopsLine}
+use Rattle.term_lines.specs.Written.{points_of}
 use Rattle.term_lines.specs.declared.rewriter.Rewriter.{Rewriter}
-use Rattle.term_lines.specs.declared.stop.LineStop.TheVariants as line_stop
 use Rattle.rec_top.specs.Sequence.{IsReadyStore, IsRewriterOf}
 use Rattle.rec_top.proofs.Sufficing.{max_left, max_right}
 
@@ -83,11 +82,11 @@ needs_more points old new refused crowd empty =
     let most = subst (λ ps. trees_in_hand p ≤ greatest (map trees_in_hand ps)) (sym stopped.split) (at_point stopped.front stopped.back p) in
     omega (arith, count, more, part, most)
 
-pub full : (s : Settings) (plan : Planned) (rewriter : Rewriter) (rules : List Rule) (term : Tree) (before old new : Store) → IsRewriterOf s plan rewriter → IsReadyStore s plan before → Entered before old → KeepsNumbers old new → StopsLine (points_of rules term rewriter.fuel rewriter.machine.depth) old new line_stop.StoreFull → new.crowd ≡ flat_map subtrees new.hand → s.rows < need rules term s.fuel s.depth
-full s plan rewriter rules term before old new fits ready entered numbers stopped crowd =
+pub full : (s : Settings) (plan : Planned) (rewriter : Rewriter) (rules : List Rule) (term : Tree) (before old new : Store) → IsRewriterOf s plan rewriter → IsReadyStore s plan before → Entered before old → KeepsNumbers old new → WasRefused (points_of rules term rewriter.fuel rewriter.machine.depth) old new fault.StoreFull → new.crowd ≡ flat_map subtrees new.hand → s.rows < need rules term s.fuel s.depth
+full s plan rewriter rules term before old new fits ready entered numbers refused crowd =
     let empty : old.stack ≡ [] = ap (λ (t : Store). t.stack) entered.rest ∙ ready.empty in
     let rows : new.rows ≡ s.rows = numbers.rows ∙ ap (λ (t : Store). t.rows) entered.rest ∙ ready.rows in
-    let few = needs_more (points_of rules term rewriter.fuel rewriter.machine.depth) old new stopped crowd empty in
+    let few = needs_more (points_of rules term rewriter.fuel rewriter.machine.depth) old new refused crowd empty in
     let same : need rules term rewriter.fuel rewriter.machine.depth ≡ need rules term s.fuel s.depth = ap (λ f. need rules term f rewriter.machine.depth) fits.fuel ∙ ap (λ d. need rules term s.fuel d) fits.depth in
     omega (arith, few, rows, same)
 

@@ -70,8 +70,8 @@ fn add_line(
     let made = rewriter.write_line(plan, symbols, term, store, output);
     store.leave();
     match made {
-        Ok(value) => match output.push(b'\n') {
-            Ok(()) => Ok(value),
+        Ok(ending) => match output.push(b'\n') {
+            Ok(()) => Ok(ending.is_value()),
             Err(_) => Err(Stop::Memory),
         },
         Err(LineStop::StoreFull) => Err(Stop::StoreFull),

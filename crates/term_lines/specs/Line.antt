@@ -1,10 +1,12 @@
 -- The line of a term in the output: the text or the sizes of its value, or why it has no value.
-use Rattle.std.specs.Prelude.{ℕ, List, ◌++◌, Bool, true, false, codes, decimal, nat_lt, not, if◌then◌else◌}
+use Rattle.std.specs.Prelude.{ℕ, ◌-◌, List, ◌++◌, Bool, true, false, codes, decimal, nat_lt, not, if◌then◌else◌}
 use Rattle.term_model.specs.Tree.{Tree, nodes, subtrees, distinct}
 use Rattle.symbol_pool.specs.Pool.{Named}
 use Rattle.rewrite_model.specs.Run.{Ended, Done, OutOfFuel, TooDeep}
 use Rattle.term_text.specs.Text.{text}
 use Rattle.term_text.specs.Sizes.{saturated}
+use Rattle.term_lines.specs.declared.ending.LineKind.{LineKind}
+use Rattle.term_lines.specs.declared.ending.LineKind.TheVariants as kind
 
 -- how many nodes a value may have whose text is written
 abbrev pub most_written : ℕ
@@ -35,8 +37,24 @@ abbrev pub is_written : Bool → Tree → Bool
 is_written true value = true
 is_written false value = not (is_too_large value)
 
+-- the kind of a line; a value that isn't written is too large
+abbrev pub kind_of : Bool → Ended Tree → LineKind
+kind_of sizes (Done value left) = if is_written sizes value then kind.Value else kind.TooLarge
+kind_of sizes OutOfFuel = kind.OutOfFuel
+kind_of sizes TooDeep = kind.TooDeep
+
+-- the fuel that a value took of so much, and 0 at any other kind of line
+abbrev pub spent_of : Bool → ℕ → Ended Tree → ℕ
+spent_of sizes fuel (Done value left) = if is_written sizes value then fuel - left else 0
+spent_of sizes fuel OutOfFuel = 0
+spent_of sizes fuel TooDeep = 0
+
 -- whether a line is a value
+abbrev pub is_value_kind : LineKind → Bool
+is_value_kind kind.Value = true
+is_value_kind kind.OutOfFuel = false
+is_value_kind kind.TooDeep = false
+is_value_kind kind.TooLarge = false
+
 abbrev pub is_value : Bool → Ended Tree → Bool
-is_value sizes (Done value left) = is_written sizes value
-is_value sizes OutOfFuel = false
-is_value sizes TooDeep = false
+is_value sizes end = is_value_kind (kind_of sizes end)

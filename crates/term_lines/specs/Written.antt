@@ -1,5 +1,5 @@
 -- What making the line of a term leaves.
-use Rattle.std.specs.Prelude.{◌≡◌, ℕ, List, length, slice_index_or, true}
+use Rattle.std.specs.Prelude.{◌≡◌, ℕ, ◌+◌, ◌<◌, ◌≤◌, List, ◌++◌, length, slice_index_or, Result, Ok, Err}
 use Rattle.term_model.specs.Tree.{Tree, Leaf}
 use Rattle.terms_api.specs.Terms.{Store, trees}
 use Rattle.symbol_pool.specs.Pool.{Named}
@@ -7,8 +7,10 @@ use Rattle.term_text.specs.Text.{HasNames}
 use Rattle.rewrite_model.specs.Rule.{Rule}
 use Rattle.rewrite_model.specs.Run.{Ended}
 use Rattle.rewrite_model.specs.Evaluation.{Point, evaluation}
+use Rattle.rewrite_model.specs.Built.{trees_at}
 use Rattle.innermost.specs.Normalized.{WasRefused}
 use Rattle.innermost.specs.declared.normal.RunFault.TheVariants as fault
+use Rattle.term_lines.specs.declared.ending.Ending.{Ending}
 use Rattle.term_lines.specs.declared.stop.LineStop.{LineStop}
 use Rattle.term_lines.specs.declared.stop.LineStop.TheVariants.{StoreFull, Worn, Memory}
 
@@ -28,8 +30,28 @@ ended rules term fuel room = (evaluation rules term fuel room).end
 abbrev pub points_of : List Rule → Tree → (fuel room : ℕ) → List Point
 points_of rules term fuel room = (evaluation rules term fuel room).notes
 
--- why a line isn't made: a build was refused, or there was no memory
-abbrev pub StopsLine : List Point → Store → Store → LineStop → Type 0
-StopsLine points old new StoreFull = WasRefused points old new fault.StoreFull
-StopsLine points old new Worn = new.spent ≡ true
-StopsLine points old new Memory = Unit {0}
+-- What was built: all that the definition builds, also where there was no memory for the line; where
+-- a build was refused, what it builds before that tree.
+abbrev pub BuildsForLine : List Point → Store → Store → Result Ending LineStop → Type 0
+BuildsForLine points old new (Ok ending) = new.built ≡ old.built ++ trees_at points
+BuildsForLine points old new (Err StoreFull) = WasRefused points old new fault.StoreFull
+BuildsForLine points old new (Err Worn) = WasRefused points old new fault.Worn
+BuildsForLine points old new (Err Memory) = new.built ≡ old.built ++ trees_at points
+
+-- A build was refused where rows or numbers are wanted, and nowhere else.
+abbrev pub CountsRefusals : Store → Store → Result Ending LineStop → Type 0
+CountsRefusals old new (Ok ending) = new.refusals ≡ old.refusals
+CountsRefusals old new (Err StoreFull) = old.refusals < new.refusals
+CountsRefusals old new (Err Worn) = old.refusals < new.refusals
+CountsRefusals old new (Err Memory) = new.refusals ≡ old.refusals
+
+-- at most so many more sweeps than trees built
+abbrev pub SweepsMore : Store → Store → ℕ → Type 0
+SweepsMore old new more = new.sweeps + length old.built ≤ old.sweeps + length new.built + more
+
+-- no more sweeps than trees built, and one more where a build was refused
+abbrev pub SweepsForLine : Store → Store → Result Ending LineStop → Type 0
+SweepsForLine old new (Ok ending) = SweepsMore old new 0
+SweepsForLine old new (Err StoreFull) = SweepsMore old new 1
+SweepsForLine old new (Err Worn) = SweepsMore old new 1
+SweepsForLine old new (Err Memory) = SweepsMore old new 0

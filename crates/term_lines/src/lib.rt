@@ -2,11 +2,13 @@
 //! value are written, or why it has none.
 #![tactic(auto)]
 
+mod ending;
 mod laws;
 mod rewriter;
 mod stop;
 mod value;
 
+pub use ending::{Ending, LineKind};
 pub use laws::name_laws;
 pub use rewriter::Rewriter;
 pub use stop::LineStop;

@@ -1,17 +1,20 @@
 // From a term to its line.
-ghost use Rattle.std.specs.Prelude.{◌≡◌, ◌++◌, ◌≤◌, [], All, IfOk, IfErr, OnErr, OnOk, true};
+ghost use Rattle.std.specs.Prelude.{◌≡◌, ◌++◌, ◌≤◌, [], max, All, IfOk, OnErr, OnOk, true};
 ghost use Rattle.term_model.specs.Tree.{IsGround};
+ghost use Rattle.rewrite_model.specs.Built.{need};
 ghost use Rattle.rule_match.specs.Planned.{IsPlain};
 ghost use Rattle.innermost.specs.Machines.{IsFor};
 ghost use Rattle.innermost.specs.Normalized.{KeepsNumbers};
 ghost use Rattle.term_text.specs.Text.{HasNames};
 ghost use Rattle.term_lines.specs.Laws.{WritesNames};
-ghost use Rattle.terms_api.specs.Terms.{kept};
-ghost use Rattle.term_lines.specs.Line.{line_text, value_text, is_written, is_value};
-ghost use Rattle.term_lines.specs.Written.{ended, points_of, top_tree, HasValueAlone, StopsLine};
+ghost use Rattle.terms_api.specs.Terms.{kept, IsSound};
+ghost use Rattle.term_lines.specs.Line.{line_text, value_text, is_written, kind_of, spent_of};
+ghost use Rattle.term_lines.specs.Written.{ended, points_of, top_tree, HasValueAlone};
+ghost use Rattle.term_lines.specs.Written.{BuildsForLine, CountsRefusals, SweepsForLine};
 
-use crate::LineStop;
+use crate::ending::value_ending;
 use crate::value::write_value;
+use crate::{Ending, LineKind, LineStop};
 use faults::Memory;
 use innermost::{Machine, Normal, RunFault};
 use rule_match::Plan;
@@ -47,6 +50,7 @@ impl Rewriter {
         ensures value { IfOk result (λ value. value ≡ is_written self.old.sizes (top_tree (T.store terms.old))) }
         ensures unwritten { OnErr result (out.new.items ≡ out.old.items) }
         ensures emptied { T.store terms.new ≡ kept (T.store terms.old) 0 0 }
+        ensures sound { IsSound (T.store terms.new) }
         ensures rewriter { self.new ≡ self.old }
         ensures same { T.same terms.old terms.new }
     {
@@ -57,9 +61,9 @@ impl Rewriter {
     }
 
     /// Rewrites a term on a store and appends the line of its end to `out`, without the end of the line:
-    /// the text of the value or its sizes, `too large`, `out of fuel` or `too deep`. Says whether the line
-    /// is a value. The stack, which must be empty, is empty again. Where it stops without a line, `out`
-    /// is as before.
+    /// the text of the value or its sizes, `too large`, `out of fuel` or `too deep`. Tells which of these
+    /// it is, and how much fuel a value took. The stack, which must be empty, is empty again. Where it
+    /// stops without a line, `out` is as before.
     pub fn write_line<T: Terms>(
         &mut self,
         plan: &Plan,
@@ -67,7 +71,7 @@ impl Rewriter {
         term: &Flat,
         terms: &mut T,
         out: &mut Vec<u8>,
-    ) -> Result<bool, LineStop>
+    ) -> Result<Ending, LineStop>
         requires inside { (T.store terms.old).inside ≡ true }
         requires empty { (T.store terms.old).stack ≡ [] }
         requires machine { IsFor plan.now self.old.machine }
@@ -78,29 +82,45 @@ impl Rewriter {
         requires marks { (T.store terms.old).rows ≤ self.old.marks }
         requires named { HasNames symbols.now term.now }
         requires names { All (WritesNames symbols.now) plan.now.rules }
+        // The line.
         ensures text { OnOk result (out.new.items ≡ out.old.items
             ++ line_text self.old.sizes symbols.now
             (ended plan.now.rules term.now self.old.fuel self.old.machine.depth)) }
-        ensures value { IfOk result (λ value. value
-            ≡ is_value self.old.sizes (ended plan.now.rules term.now self.old.fuel self.old.machine.depth)) }
-        ensures stopped { IfErr result (StopsLine
-            (points_of plan.now.rules term.now self.old.fuel self.old.machine.depth)
-            (T.store terms.old) (T.store terms.new)) }
+        ensures kind { IfOk result (λ ending. ending.kind
+            ≡ kind_of self.old.sizes (ended plan.now.rules term.now self.old.fuel self.old.machine.depth)) }
+        ensures spent { IfOk result (λ ending. ending.spent ≡ spent_of self.old.sizes self.old.fuel
+            (ended plan.now.rules term.now self.old.fuel self.old.machine.depth)) }
         ensures unwritten { OnErr result (out.new.items ≡ out.old.items) }
+
+        // What was built, and what that cost the store.
+        ensures built { BuildsForLine
+            (points_of plan.now.rules term.now self.old.fuel self.old.machine.depth)
+            (T.store terms.old) (T.store terms.new) result }
+        ensures refusals { CountsRefusals (T.store terms.old) (T.store terms.new) result }
+        ensures sweeps { SweepsForLine (T.store terms.old) (T.store terms.new) result }
+        ensures load { (T.store terms.new).load ≤ max (T.store terms.old).load
+            (need plan.now.rules term.now self.old.fuel self.old.machine.depth) }
+
+        // What is as before.
         ensures empty { (T.store terms.new).stack ≡ [] }
         ensures numbers { KeepsNumbers (T.store terms.old) (T.store terms.new) }
+        ensures sound { IsSound (T.store terms.new) }
         ensures rewriter { self.new ≡ self.old }
         ensures same { T.same terms.old terms.new }
     {
         match self.machine.normalize(plan, term, self.fuel, terms) {
-            Ok(Normal::Value { .. }) => Ok(self.write_top(symbols, terms, out)?),
+            Ok(Normal::Value { left }) => {
+                let spent = self.fuel - left;
+                let written = self.write_top(symbols, terms, out)?;
+                Ok(value_ending(written, spent))
+            }
             Ok(Normal::OutOfFuel) => {
                 out.extend_from_slice(b"out of fuel")?;
-                Ok(false)
+                Ok(Ending::without_value(LineKind::OutOfFuel))
             }
             Ok(Normal::TooDeep) => {
                 out.extend_from_slice(b"too deep")?;
-                Ok(false)
+                Ok(Ending::without_value(LineKind::TooDeep))
             }
             Err(RunFault::StoreFull) => Err(LineStop::StoreFull),
             Err(RunFault::Worn) => Err(LineStop::Worn),
