@@ -1,0 +1,101 @@
+"""Runs of the program with the answers that README.md and docs/LANGUAGE.md state, worked out by hand.
+
+They are tried on the program where one is built, and else on stand_in, which answers by this list.
+"""
+
+from __future__ import annotations
+
+import os
+from typing import NamedTuple
+
+HERE = os.path.dirname(os.path.abspath(__file__))
+TOP = os.path.dirname(os.path.dirname(HERE))
+
+
+class Case(NamedTuple):
+    words: tuple[str, ...]
+    text: bytes
+    out: bytes = b""
+    err: bytes = b""
+    status: int = 0
+
+
+class Fault(NamedTuple):
+    """A refusal of a kind, with the line and column of its place and what is marked there."""
+
+    kind: int
+    case: Case
+    line: int
+    column: int
+    marked: str
+
+
+def fault(kind: int, text: str, marked: str) -> Fault:
+    """A fault of a specification, at the place where § stands in the text."""
+    front, _, back = text.partition("§")
+    case = Case(("rewrite",), (front + back).encode(), err=f"fault {kind} at {len(front)}\n".encode(), status=3)
+    return Fault(kind, case, front.count("\n") + 1, len(front) - front.rfind("\n"), marked)
+
+
+def fault_of_line(kind: int, text: str, line: int) -> Fault:
+    case = Case(("schedule",), text.encode(), err=f"fault {kind} at {line}\n".encode(), status=3)
+    return Fault(kind, case, line, 1, text.split("\n")[line - 1])
+
+
+ONE = "REC-SPEC A\nSORTS S T\nCONS a : -> S\n  b : -> T\nOPNS f : S -> S\nVARS X Y : S\n"
+FAULTS = [
+    fault(1, 'REC-SPEC A EVAL §"q END-SPEC', '"'),
+    fault(1, "REC-SPEC A % any byte may stand here: >\nEVAL §> END-SPEC", ">"),
+    fault(2, "REC-SPEC A EVAL §( END-SPEC", "("),
+    fault(2, "REC-SPEC A EVAL f(§) END-SPEC", ")"),
+    fault(2, "REC-SPEC A\nEVAL\n§RULES END-SPEC", "RULES"),
+    fault(3, "REC-SPEC A EVAL§", ""),
+    fault(3, "§", ""),
+    fault(4, "REC-SPEC A\nSORTS S\nCONS a : -> §Sort\nEND-SPEC\n", "Sort"),
+    fault(5, "REC-SPEC A EVAL §q END-SPEC", "q"),
+    fault(6, ONE + "\tZ §a : S\nEND-SPEC\n", "a"),
+    fault(7, ONE + "EVAL a\n  §a(a)\nEND-SPEC\n", "a"),
+    fault(8, "REC-SPEC A SORTS S T CONS a : -> S b : -> T f : S -> S EVAL f(§b) END-SPEC", "b"),
+    fault(9, ONE + "RULES\n  f(X) -> a\n  §X -> a\nEND-SPEC\n", "X"),
+    fault(10, ONE + "RULES\n  f(X) -> f(§Y)\nEND-SPEC\n", "Y"),
+    fault(11, ONE + "EVAL f(§X)\nEND-SPEC\n", "X"),
+    fault(12, "REC-SPEC A : §Base END-SPEC", "Base"),
+    fault(13, "REC-SPEC §" + 256 * "n" + " END-SPEC", 50 * "n"),
+    fault_of_line(15, "0 raise\n1 take\n1 give now\n", 3),
+    fault_of_line(15, "0 raise\n2 raise\n", 2),
+    fault_of_line(16, "0 raise\n1 give\n0 look\n", 2),
+]
+
+def read(name: str) -> bytes:
+    with open(f"{TOP}/{name}", "rb") as file:
+        return file.read()
+
+
+NAT, SUM = read("examples/nat.rec"), read("examples/sum.rec")
+PAIRS = "REC-SPEC P SORTS S CONS z : -> S p : S S -> S OPNS d : S -> S VARS X : S RULES d(X) -> p(X,X) EVAL %s END-SPEC\n"
+LARGE = (PAIRS % (20 * "d(" + "z" + 20 * ")")).encode()
+ONE_AND_ONE, TWO_AND_TWO = b"s(s(z))\n", b"s(s(s(s(z))))\n"
+START = b"seat 0 out busy 0 forbidden 0 free\nseat 1 out busy 0 forbidden 0 free\nmutex free\n"
+USAGE = b"usage: rec COMMAND [OPTIONS]\n"
+ANSWERS = [
+    Case(("rewrite",), NAT, ONE_AND_ONE),
+    Case(("rewrite", "--fuel", "2"), NAT, ONE_AND_ONE),
+    Case(("rewrite",), SUM, TWO_AND_TWO),
+    Case(("rewrite", "--fuel=1"), NAT, b"out of fuel\n", status=1),
+    Case(("rewrite", "--depth", "5"), NAT, b"too deep\n", status=1),
+    Case(("rewrite",), LARGE, b"too large\n", status=1),
+    Case(("rewrite", "--rows", "2"), NAT, err=b"store full\n", status=4),
+    Case(("schedule",), b"", START),
+    *(it.case for it in FAULTS),
+]
+# Words that are refused, and what is said of them.
+REFUSED = [
+    (("rewrit",), "rewrit is no command: the commands are rewrite, schedule"),
+    (("rewrite", "--fuell=3"), "rewrite has no option --fuell: is --fuel meant?"),
+    (("rewrite", "--fuel", "1000000001"), "--fuel wants a number from 0 to 1000000000, and 1000000001 is none"),
+    (("rewrite", "--rows"), "--rows wants a number from 1 to 262144"),
+    (("rewrite", "--rows=1", "--rows=1"), "--rows stands twice"),
+    (("rewrite", "--sizes=1"), "--sizes has no value"),
+    (("rewrite", "nowhere.rec"), "nowhere.rec is no file"),
+    (("schedule", "one", "two"), "one is one word too many"),
+]

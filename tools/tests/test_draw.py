@@ -1,0 +1,63 @@
+"""Tests of tools/draw, on pictures worked out by hand."""
+
+from __future__ import annotations
+
+import re
+import unittest
+import xml.etree.ElementTree
+
+import support
+from support import call, run
+
+DRAW = f"{support.TOOLS}/draw"
+# A term, the labels of its different subterms, and the arrows between these, by label where that tells which.
+PICTURES = [
+    (b"a\n", ["a"], []),
+    (b"p(p(z,z),p(z,z))\n", ["p", "p", "z"], ["p z", "p z", "p p", "p p"]),
+    (b"cons(z,cons(s(z),nil))\n", ["cons", "cons", "nil", "s", "z"], ["s z", "cons s", "cons nil", "cons z", "cons cons"]),
+    (b'f("1",1)\n', ["1", "1", "f"], ["f 1", "f 1"]),
+    (b"[1,f(2)]\n[]\n[[],1]\n", ["1", "2", ":", ":", ":", ":", "[]", "f"], ["f 2", ": f", ": []", ": 1", ": :", ": 1", ": []", ": []", ": :"]),
+    (b'f(a,"b\\"c")\ndistinct 3 nodes 3\n', ["a", 'b\\"c', "f"], ["f a", 'f b\\"c']),
+]
+WRONG = [b"[1,\n", b"[,]\n", b"f()\n", b"f(a\n", b"f a\n", b"f(a))\n", b"a,b\n", b"f(a]\n", b"(a)\n", b'a"\n', b"f(,a)\n", b"[a,]\n", b'"\\x"\n', b"", b"out of fuel\n"]
+
+
+def parts(picture: str) -> tuple[list[str], list[str]]:
+    """Returns the sorted labels of a picture's nodes, and its arrows by label in order."""
+    labels = dict(re.findall(r'^  (n\d+) \[label="(.*?)"(?:, penwidth=2.5)?\];$', picture, re.MULTILINE))
+    arrows = re.findall(r"^  (n\d+) -> (n\d+);$", picture, re.MULTILINE)
+    return sorted(labels.values()), [f"{labels[start]} {labels[end]}" for start, end in arrows]
+
+
+class Draw(unittest.TestCase):
+    def test_each_different_subterm_stands_once(self) -> None:
+        for text, labels, arrows in PICTURES:
+            out, _, status = call(DRAW, given=text)
+            self.assertEqual((*parts(out), status), (labels, arrows, 0), text)
+
+    def test_what_is_no_term(self) -> None:
+        for text in WRONG:
+            out, err, status = call(DRAW, given=text)
+            self.assertEqual((out, status), ("", 1), text)
+            self.assertIn("draw: ", err)
+
+    def test_deep_terms_and_large_ones(self) -> None:
+        deep = b"s(" * 20000 + b"z" + b")" * 20000
+        self.assertEqual(call(DRAW, given=deep)[2], 1)
+        self.assertEqual(call(DRAW, "--most", "20001", given=deep)[0].count("->"), 20000)
+
+    @unittest.skipUnless(support.is_here("dot"), "dot isn't here")
+    def test_svg_has_the_same_nodes(self) -> None:
+        out, err, status = run([DRAW, "--svg"], b"p(p(z,z),p(z,z))\n")
+        groups = [it.get("class") for it in xml.etree.ElementTree.fromstring(out).iter("{http://www.w3.org/2000/svg}g")]
+        self.assertEqual((groups.count("node"), groups.count("edge"), err, status), (3, 4, b"", 0))
+
+    def test_the_picture_of_the_repository(self) -> None:
+        """docs/sort.svg shows the value of examples/sort.rec: three cells, nil, and the numbers 0, 1 and 2."""
+        tree = xml.etree.ElementTree.parse(f"{support.TOP}/docs/sort.svg")
+        shown = sorted(it.text for it in tree.iter("{http://www.w3.org/2000/svg}text"))
+        self.assertEqual(shown, ["cons", "cons", "cons", "nil", "s", "s", "z"])
+
+
+if __name__ == "__main__":
+    unittest.main()
