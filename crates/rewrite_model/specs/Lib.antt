@@ -14,6 +14,7 @@ pub mod HandRows
 pub mod OutermostRows
 pub mod Laws
 pub mod Boxed
+pub mod Noted
 pub mod Program
 pub mod Stepping
 pub mod Code

@@ -34,6 +34,14 @@ RoomToBuildAgain = (outermost_value deeper (f (three l l c)) 3 6 ≡ Done (s (s 
 abbrev pub LeastRoom : Type 0
 LeastRoom = (outermost_value [] (f l) 0 2 ≡ Done (f l) 0) × (outermost_value [] (f l) 0 1 ≡ TooDeep)
 
+-- The second argument has the room less 2. Of pair(a, b) in room 2 a is built in room 1, and b would
+-- be in none. By f(X) -> s(s(X)) in room 4, f(pair(a, b)) becomes s(s(pair(a, b))), where a is tried in
+-- room 4 - 2 - 1 = 1, and b would be in none; in room 5 it has room 1.
+abbrev pub SecondArgumentInTwoLess : Type 0
+SecondArgumentInTwoLess = (outermost_built [] (pair a b) 0 3 ≡ a ∷ b ∷ pair a b ∷ []) × (outermost_built [] (pair a b) 0 2 ≡ a ∷ [])
+    × (outermost_value deeper (f (pair a b)) 1 5 ≡ Done (s (s (pair a b))) 0)
+    × (outermost_value deeper (f (pair a b)) 1 4 ≡ TooDeep)
+
 -- A rule lacks fuel before it lacks room: by f(X) -> g(X) in room 2 without fuel.
 abbrev pub FuelBeforeRoom : Type 0
 FuelBeforeRoom = outermost_value (rule (f x) (g x) 1 ∷ []) (f a) 0 2 ≡ OutOfFuel

@@ -2,13 +2,15 @@
 
 ghost use Rattle.std.specs.Prelude.{◌≡◌, ◌-◌, IfOk, drop};
 ghost use Rattle.rewrite_model.specs.Evaluation.{holds, evaluation as evaluation_of};
-ghost use Rattle.rewrite_model.specs.Built.{built_list};
+ghost use Rattle.rewrite_model.specs.Built.{built_list, need as need_of};
 ghost use Rattle.rewrite_model.specs.Boxed.{tree_of, trees};
+ghost use Rattle.rewrite_model.specs.Noted.{points_of};
 ghost use Rattle.rewrite_model.specs.Program.{ended, Evaluates, EvaluatesAll, Holds, Replaces, Reduces, ReducesBy};
 
 use crate::boxed::{Arguments, Term};
 use crate::ends::{End, Evaluated, Stop};
 use crate::finding::tree_at;
+use crate::points::{Point, append_built, in_front, joined, most_in_hand, point_at};
 use crate::rules::{Condition, Rule};
 use faults::Memory;
 use std::alloc::Global;
@@ -26,19 +28,59 @@ pub fn evaluation(
     ensures built { IfOk result (λ e. trees e.built.items ≡ built_list rules.now term.now fuel room) }
     ensures end { IfOk result (λ e. ended e.end ≡ (evaluation_of rules.now term.now fuel room).end) }
 {
-    let term = Term::of(alloc, term)?;
+    let noted = noted(alloc, rules, term, fuel, room)?;
     let mut built = Vec::new(alloc);
-    match evaluate(alloc, rules, &[], &term, fuel, room, &mut built) {
-        Ok((value, left)) => Ok(Evaluated {
-            built,
+    append_built(alloc, &noted.points, 0, &mut built)?;
+    Ok(Evaluated {
+        built,
+        end: noted.end,
+    })
+}
+
+/// The most different trees that are in hand at any point of that evaluation.
+pub fn need(
+    alloc: Global,
+    rules: &[Rule],
+    term: &Flat,
+    fuel: u64,
+    room: u32,
+) -> Result<usize, Memory>
+    ensures { IfOk result (λ n. n ≡ need_of rules.now term.now fuel room) }
+{
+    let noted = noted(alloc, rules, term, fuel, room)?;
+    most_in_hand(alloc, &noted.points, 0)
+}
+
+/// The points of an evaluation, in order, and its end.
+#[derive(Drop)]
+struct Noting {
+    points: Vec<Point>,
+    end: End,
+}
+
+fn noted(
+    alloc: Global,
+    rules: &[Rule],
+    term: &Flat,
+    fuel: u64,
+    room: u32,
+) -> Result<Noting, Memory>
+    ensures points { IfOk result (λ n. points_of n.points.items ≡ (evaluation_of rules.now term.now fuel room).notes) }
+    ensures end { IfOk result (λ n. ended n.end ≡ (evaluation_of rules.now term.now fuel room).end) }
+{
+    let term = Term::of(alloc, term)?;
+    let mut points = Vec::new(alloc);
+    match evaluate(alloc, rules, &[], &[], &term, fuel, room, &mut points) {
+        Ok((value, left)) => Ok(Noting {
+            points,
             end: End::Value(value, left),
         }),
-        Err(Stop::OutOfFuel) => Ok(Evaluated {
-            built,
+        Err(Stop::OutOfFuel) => Ok(Noting {
+            points,
             end: End::OutOfFuel,
         }),
-        Err(Stop::TooDeep) => Ok(Evaluated {
-            built,
+        Err(Stop::TooDeep) => Ok(Noting {
+            points,
             end: End::TooDeep,
         }),
         Err(Stop::Memory) => Err(Memory),
@@ -50,12 +92,13 @@ fn evaluate(
     alloc: Global,
     rules: &[Rule],
     bound: &[Term],
+    kept: &[Term],
     pattern: &Term,
     fuel: u64,
     room: u32,
-    built: &mut Vec<Term>,
+    points: &mut Vec<Point>,
 ) -> Result<(Term, u64), Stop>
-    ensures { Evaluates rules.now bound.now pattern.now fuel room built.old built.new result }
+    ensures { Evaluates rules.now bound.now kept.now pattern.now fuel room points.old points.new result }
 {
     if room == 0 {
         return Err(Stop::TooDeep);
@@ -66,8 +109,10 @@ fn evaluate(
             Ok((value, fuel))
         }
         Term::Over(head, patterns) => {
-            let (args, left) = evaluate_all(alloc, rules, bound, patterns, fuel, room, built)?;
-            reduce(alloc, rules, Term::Over(*head, args), left, room, built)
+            let (args, left) =
+                evaluate_all(alloc, rules, bound, kept, patterns, fuel, room, points)?;
+            let term = Term::Over(*head, args);
+            reduce(alloc, rules, &[], kept, term, left, room, points)
         }
     }
 }
@@ -78,19 +123,23 @@ fn evaluate_all(
     alloc: Global,
     rules: &[Rule],
     bound: &[Term],
+    kept: &[Term],
     patterns: &Arguments,
     fuel: u64,
     room: u32,
-    built: &mut Vec<Term>,
+    points: &mut Vec<Point>,
 ) -> Result<(Arguments, u64), Stop>
-    ensures { EvaluatesAll rules.now bound.now patterns.now fuel room built.old built.new result }
+    ensures { EvaluatesAll rules.now bound.now kept.now patterns.now fuel room points.old points.new result }
 {
     match patterns {
         Arguments::Empty => Ok((Arguments::Empty, fuel)),
         Arguments::Next(pattern, patterns) => {
             let below = room.saturating_sub(1);
-            let (first, left) = evaluate(alloc, rules, bound, pattern, fuel, below, built)?;
-            let (rest, left) = evaluate_all(alloc, rules, bound, patterns, left, below, built)?;
+            let (first, left) =
+                evaluate(alloc, rules, bound, kept, pattern, fuel, below, points)?;
+            let with_first = in_front(alloc, &first, kept)?;
+            let (rest, left) =
+                evaluate_all(alloc, rules, bound, &with_first, patterns, left, below, points)?;
             let first = Box::new(alloc, first)?;
             let rest = Box::new(alloc, rest)?;
             Ok((Arguments::Next(first, rest), left))
@@ -106,11 +155,12 @@ fn hold(
     conditions: &[Condition],
     from: usize,
     bound: &[Term],
+    kept: &[Term],
     fuel: u64,
     room: u32,
-    built: &mut Vec<Term>,
+    points: &mut Vec<Point>,
 ) -> Result<(bool, u64), Stop>
-    ensures { Holds rules.now bound.now (drop from conditions.now) fuel room built.old built.new result }
+    ensures { Holds rules.now bound.now kept.now (drop from conditions.now) fuel room points.old points.new result }
 {
     if from >= conditions.len() {
         return Ok((true, fuel));
@@ -122,24 +172,37 @@ fn hold(
         alloc,
         rules,
         bound,
+        kept,
         &first,
         fuel,
         room.saturating_sub(2),
-        built,
+        points,
     )?;
+    let with_first = in_front(alloc, &first, kept)?;
     let (second, left) = evaluate(
         alloc,
         rules,
         bound,
+        &with_first,
         &second,
         left,
         room.saturating_sub(3),
-        built,
+        points,
     )?;
     if !condition_holds(condition, &first, &second) {
         return Ok((false, left));
     }
-    hold(alloc, rules, conditions, from + 1, bound, left, room, built)
+    hold(
+        alloc,
+        rules,
+        conditions,
+        from + 1,
+        bound,
+        kept,
+        left,
+        room,
+        points,
+    )
 }
 
 fn condition_holds(condition: &Condition, first: &Term, second: &Term) -> bool
@@ -158,12 +221,13 @@ fn replace(
     alloc: Global,
     rules: &[Rule],
     bound: &[Term],
+    kept: &[Term],
     right: &Term,
     fuel: u64,
     room: u32,
-    built: &mut Vec<Term>,
+    points: &mut Vec<Point>,
 ) -> Result<(Term, u64), Stop>
-    ensures { Replaces rules.now bound.now right.now fuel room built.old built.new result }
+    ensures { Replaces rules.now bound.now kept.now right.now fuel room points.old points.new result }
 {
     match right {
         Term::Var(x) => {
@@ -172,8 +236,11 @@ fn replace(
         }
         Term::Over(head, patterns) => {
             let below = room_below(room, bound.len());
-            let (args, left) = evaluate_all(alloc, rules, bound, patterns, fuel, below, built)?;
-            reduce(alloc, rules, Term::Over(*head, args), left, room, built)
+            let with_bound = joined(alloc, bound, kept)?;
+            let (args, left) =
+                evaluate_all(alloc, rules, bound, &with_bound, patterns, fuel, below, points)?;
+            let term = Term::Over(*head, args);
+            reduce(alloc, rules, bound, kept, term, left, room, points)
         }
     }
 }
@@ -193,15 +260,17 @@ fn room_below(room: u32, vars: usize) -> u32
 fn reduce(
     alloc: Global,
     rules: &[Rule],
+    given: &[Term],
+    kept: &[Term],
     term: Term,
     fuel: u64,
     room: u32,
-    built: &mut Vec<Term>,
+    points: &mut Vec<Point>,
 ) -> Result<(Term, u64), Stop>
-    ensures { Reduces rules.now term fuel room built.old built.new result }
+    ensures { Reduces rules.now given.now kept.now term fuel room points.old points.new result }
 {
-    built.push(term.copy(alloc)?)?;
-    reduce_by(alloc, rules, 0, term, fuel, room, built)
+    points.push(point_at(alloc, &term, given, kept)?)?;
+    reduce_by(alloc, rules, 0, kept, term, fuel, room, points)
 }
 
 /// Reduces a term by the rules from one of them on.
@@ -210,12 +279,13 @@ fn reduce_by(
     alloc: Global,
     rules: &[Rule],
     from: usize,
+    kept: &[Term],
     term: Term,
     fuel: u64,
     room: u32,
-    built: &mut Vec<Term>,
+    points: &mut Vec<Point>,
 ) -> Result<(Term, u64), Stop>
-    ensures { ReducesBy rules.now (drop from rules.now) term fuel room built.old built.new result }
+    ensures { ReducesBy rules.now (drop from rules.now) kept.now term fuel room points.old points.new result }
 {
     if from >= rules.len() {
         return Ok((term, fuel));
@@ -223,7 +293,7 @@ fn reduce_by(
     let rule = &rules[from];
     let left_side = Term::of(alloc, rule.left())?;
     let Some(bound) = left_side.matches(alloc, &term)? else {
-        return reduce_by(alloc, rules, from + 1, term, fuel, room, built);
+        return reduce_by(alloc, rules, from + 1, kept, term, fuel, room, points);
     };
     if fuel == 0 {
         return Err(Stop::OutOfFuel);
@@ -232,19 +302,22 @@ fn reduce_by(
         return Err(Stop::TooDeep);
     }
     let below = room_below(room, bound.len());
+    let with_bound = joined(alloc, &bound, kept)?;
+    let in_condition = in_front(alloc, &term, &with_bound)?;
     let (all, left) = hold(
         alloc,
         rules,
         rule.conditions(),
         0,
         &bound,
+        &in_condition,
         fuel - 1,
         below,
-        built,
+        points,
     )?;
     if !all {
-        return reduce_by(alloc, rules, from + 1, term, left, room, built);
+        return reduce_by(alloc, rules, from + 1, kept, term, left, room, points);
     }
     let right = Term::of(alloc, rule.right())?;
-    replace(alloc, rules, &bound, &right, left, room, built)
+    replace(alloc, rules, &bound, kept, &right, left, room, points)
 }

@@ -4,7 +4,7 @@ ghost use Rattle.rewrite_model.specs.Rows.{OneAndOne, OneUseIsTooFew, RoomSix, R
 ghost use Rattle.rewrite_model.specs.OrderRows.{ArgumentsFromLeft, RightSideFromLeft, FirstEndEndsAll, FirstSideFirst, FailureEndsConditions, HoldingGoesOn, HeadsAreTold, CellsAreRewritten};
 ghost use Rattle.rewrite_model.specs.RoomRows.{LeastRoom, VariableOnTheRight, VariableInNoRoom, RightSideOfTwo, TailInWholeRoom, RoomForVariables, FuelBeforeRoom, RoomOfFirstSide, RoomOfSecondSide, RoomOfSidesOfTwo};
 ghost use Rattle.rewrite_model.specs.HandRows.{EarlierArguments, BoundAtTheRightSide, BoundTreesAreLetGo, BoundRoundArguments, KeptInCondition};
-ghost use Rattle.rewrite_model.specs.OutermostRows.{LeftmostFirst, RightSideInOneLess, RoomToBuildAgain, LeastRoom as LeastOutermostRoom, FuelBeforeRoom as OutermostFuelBeforeRoom, CellsAreRewritten as CellsAreRewrittenOutermost};
+ghost use Rattle.rewrite_model.specs.OutermostRows.{LeftmostFirst, RightSideInOneLess, RoomToBuildAgain, LeastRoom as LeastOutermostRoom, SecondArgumentInTwoLess, FuelBeforeRoom as OutermostFuelBeforeRoom, CellsAreRewritten as CellsAreRewrittenOutermost};
 
 /// Small specifications, their terms, and what comes of them.
 pub fn worked_rows()
@@ -66,6 +66,7 @@ pub fn outermost_rows()
     ensures right_side { RightSideInOneLess }
     ensures build_again { RoomToBuildAgain }
     ensures least { LeastOutermostRoom }
+    ensures second_argument { SecondArgumentInTwoLess }
     ensures fuel_before_room { OutermostFuelBeforeRoom }
     ensures cells { CellsAreRewrittenOutermost }
 {}
