@@ -1,17 +1,20 @@
-use Rattle.std.proofs.Common.{inl, ap, subst}
-use Rattle.rec_top.specs.Answered.{FailsSpelling}
-use Rattle.rec_top.specs.declared.stops.Stop.TheVariants.{Refused}
-use Rattle.rec_top.proofs.OneFault.{one_specification, no_fault, one_fault}
+use Rattle.std.proofs.lemmas.Result.{err_from_is_err_and}
+use Rattle.rec_top.proofs.OneFault.{one_specification, no_fault}
+use Rattle.rec_top.proofs.Failing.{fails_for_memory, fails_with}
 use Rattle.rec_top.proofs.specification.specification_of.Goals as goal
 
-pub returns-in-Ok-clause-accepted : goal.returns-in-Ok-clause-accepted
-returns-in-Ok-clause-accepted c = λ spec s. one_specification c.args.input.now _ spec c.in-Ok.ensures.made s
+pub returns-in_err-read-clause-accepted : goal.returns-in_err-read-clause-accepted
+returns-in_err-read-clause-accepted c = λ spec s.
+    let p = err_from_is_err_and c.from_residual.result c.from_residual.ensures.1 in
+    rw (p.1, p.2) (fails_for_memory c.args.input.now c.in_err-read.field-0.0 spec c.in_err-read.ensures.failed s)
 
-pub returns-in-Ok-clause-refused : goal.returns-in-Ok-clause-refused
-returns-in-Ok-clause-refused c = λ fault f. no_fault c.args.input.now _ fault c.in-Ok.ensures.made f
+pub returns-in_err-read-clause-refused : goal.returns-in_err-read-clause-refused
+returns-in_err-read-clause-refused c = λ fault f.
+    let p = err_from_is_err_and c.from_residual.result c.from_residual.ensures.1 in
+    rw (p.1, p.2) (fails_with c.args.input.now c.in_err-read.field-0.0 fault c.in_err-read.ensures.failed f)
 
-pub returns-in-Err-Refused-clause-accepted : goal.returns-in-Err-Refused-clause-accepted
-returns-in-Err-Refused-clause-accepted c = λ spec s. absurd (no_fault c.args.input.now spec _ s (subst (FailsSpelling c.args.input.now) c.in-Err-Refused.field-0-is c.in-Err-Refused.ensures.failed))
+pub returns-clause-accepted : goal.returns-clause-accepted
+returns-clause-accepted c = λ spec s. one_specification c.args.input.now _ spec c.in_ok-read.ensures.made s
 
-pub returns-in-Err-Refused-clause-refused : goal.returns-in-Err-Refused-clause-refused
-returns-in-Err-Refused-clause-refused c = λ fault f. inl (ap Refused (one_fault c.args.input.now _ fault (subst (FailsSpelling c.args.input.now) c.in-Err-Refused.field-0-is c.in-Err-Refused.ensures.failed) f))
+pub returns-clause-refused : goal.returns-clause-refused
+returns-clause-refused c = λ fault f. no_fault c.args.input.now _ fault c.in_ok-read.ensures.made f
