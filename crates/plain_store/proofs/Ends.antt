@@ -4,8 +4,8 @@ use Rattle.std.specs.Prelude.{Result, Ok, Err, OnOk, OnErr, IsErrOf, ◌↔◌}
 use Rattle.term_model.specs.declared.Head.{Head}
 use Rattle.terms_api.specs.declared.terms.BuildFault.{BuildFault}
 use Rattle.terms_api.specs.declared.terms.BuildFault.TheVariants.{Deep, StoreFull, Worn}
-use Rattle.terms_api.specs.Terms.{IsSound, NeedsPlace, Built, NotBuilt, IsCrowded, CountsRefusal, trees, but_last, asked}
-use Rattle.plain_store.specs.Contents.{Contents, store_of, IsSame, IsFilled, same_itself}
+use Rattle.terms_api.specs.Terms.{HasTree, IsSound, NeedsPlace, Built, NotBuilt, IsCrowded, CountsRefusal, trees, but_last, asked}
+use Rattle.plain_store.specs.Contents.{Contents, store_of, IsSame, IsFilled, same_itself, LosesRow, CountsLosses, IsUsedUp}
 use Rattle.plain_store.specs.Outcome.{Outcome}
 
 abbrev R : Type 0
@@ -28,6 +28,22 @@ unchanged_not_built c h n =
         room = refl;
       };
     }
+
+unchanged_losses : (c : Contents) → CountsLosses c c
+unchanged_losses c =
+    record { lost = λ l. absurd (l.gone l.had); kept = λ all. refl }
+
+pub end_losses : (c d : Contents) (h : Head) (n : ℕ) (r : R) → Outcome c d h n r → CountsLosses c d
+end_losses c d h n (Ok u) o = o.losses
+end_losses c d h n (Err Deep) o = subst (CountsLosses c) (sym o.0) (unchanged_losses c)
+end_losses c d h n (Err StoreFull) o = o.losses
+end_losses c d h n (Err Worn) o = absurd o
+
+pub end_used_up : (c d : Contents) (h : Head) (n : ℕ) (r : R) → Outcome c d h n r → LosesRow (store_of c) (store_of d) → IsUsedUp c h n
+end_used_up c d h n (Ok u) o l = o.only_used_up l
+end_used_up c d h n (Err Deep) o l = absurd (l.gone (subst (λ (x : Contents). HasTree (store_of x) l.row l.tree) (sym o.0) l.had))
+end_used_up c d h n (Err StoreFull) o l = o.only_used_up l
+end_used_up c d h n (Err Worn) o l = absurd o
 
 pub end_ok : (c d : Contents) (h : Head) (n : ℕ) (r : R) → Outcome c d h n r → OnOk r (Built (store_of c) (store_of d) h n)
 end_ok c d h n (Ok u) o = o.built

@@ -1,7 +1,7 @@
 -- A collection: the rows keep their trees that can be reached from the stack, and the others are free.
-use Rattle.std.proofs.Common.{◌≡◌, ℕ, ◌≤◌, ◌⊎◌, inl, inr, Bool, true, false, List, Option, Some, None, length, get_or, refl, ap, sym, ◌∙◌, subst, arith}
-use Rattle.std.specs.Prelude.{Contains, if◌then◌else◌}
-use Rattle.std.proofs.lemmas.Bool.{cases_lt}
+use Rattle.std.proofs.Common.{◌≡◌, ◌≢◌, ℕ, ◌+◌, ◌^◌, ◌-◌, ◌<◌, ◌≤◌, ◌⊎◌, inl, inr, Bool, true, false, List, Option, Some, None, length, get_or, refl, ap, sym, ◌∙◌, subst, arith}
+use Rattle.std.specs.Prelude.{Contains, min, ◌==◌, if◌then◌else◌}
+use Rattle.std.proofs.lemmas.Bool.{cases_lt, eqb-true, eqb-false, eq-eqb}
 use Rattle.std.proofs.lemmas.List.{length-map, get_or-map, get_or_past}
 use Rattle.term_model.specs.declared.Row.{Row}
 use Rattle.term_model.specs.Tree.{Tree, arguments, among}
@@ -10,7 +10,7 @@ use Rattle.term_model.proofs.Subtrees.{subtrees_nest, arguments_are_subtrees}
 use Rattle.terms_api.specs.Terms.{Store, HasTree, tree_at, trees, reachable, IsSound, IsLater, Loses, GainsNone}
 use Rattle.terms_api.proofs.Callers.{has-held, held-has}
 use Rattle.terms_api.proofs.Staying.{reached, reached_from, reached-itself, trees_stay}
-use Rattle.plain_store.specs.Contents.{Contents, store_of, kept_among, epoch_after, kept_trees, collected}
+use Rattle.plain_store.specs.Contents.{Contents, store_of, kept_among, epoch_after, once_more, kept_trees, collected, LosesRow}
 
 -- a row after a collection
 pub kept_at : (c : Contents) (r : Row) → get_or (kept_trees c) r.0 None ≡ kept_among (reachable (store_of c)) (get_or c.trees r.0 None)
@@ -80,7 +80,23 @@ pub gains_none : (c : Contents) (raised : ℕ) → GainsNone (store_of c) (store
 gains_none c raised = λ r u k. (had c raised r u k).0
 
 abbrev pub Raises : Contents → ℕ → Type 0
-Raises c raised = ((raised ≡ c.raised) × (kept_trees c ≡ c.trees)) ⊎ IsLater (epoch_after c.raised) (epoch_after raised)
+Raises c raised = ((raised ≡ c.raised) × (kept_trees c ≡ c.trees)) ⊎ ((raised ≡ once_more c.raised) × LosesRow (store_of c) (store_of (collected c raised)))
+
+later_if : (m n : ℕ) (b d : Bool) → (d ≡ false → m < n) → (b ≡ true → d ≡ true) → IsLater (if b then None else Some m) (if d then None else Some n)
+later_if m n true true less none = tt
+later_if m n true false less none = absurd (let e : false ≡ true = none refl in cc)
+later_if m n false true less none = tt
+later_if m n false false less none = less refl
+
+later_below : (limit n : ℕ) → IsLater (if n == limit then None else Some n) (if min (n + 1) limit == limit then None else Some (min (n + 1) limit))
+later_below limit n =
+    later_if n (min (n + 1) limit) (n == limit) (min (n + 1) limit == limit)
+    (λ e. let ne : min (n + 1) limit ≢ limit = eqb-false (min (n + 1) limit) limit e in omega arith)
+    (λ e. eq-eqb (min (n + 1) limit) limit (let is : n ≡ limit = eqb-true n limit e in omega arith))
+
+-- an epoch that is raised once more is later
+once_more_is_later : (n : ℕ) → IsLater (epoch_after n) (epoch_after (once_more n))
+once_more_is_later n = later_below (2 ^ 64 - 1) n
 
 pub loses_collected : (c : Contents) (raised : ℕ) → Raises c raised → Loses (store_of c) (store_of (collected c raised))
 loses_collected c raised r =
@@ -88,7 +104,7 @@ loses_collected c raised r =
       reachable = λ q u k reach. keeps c raised q u k reach;
       epoch = elim r [
         | inl same ↦ inl (ap epoch_after same.0, λ q u k. ap (λ (xs : List (Option Tree)). get_or xs q.0 None) same.1 ∙ k)
-        | inr later ↦ inr later
+        | inr once ↦ inr (subst (λ n. IsLater (epoch_after c.raised) (epoch_after n)) (sym once.0) (once_more_is_later c.raised))
       ];
     }
 

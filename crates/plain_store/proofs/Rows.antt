@@ -1,5 +1,6 @@
 -- Rows in lists, and the nodes of rows.
 use Rattle.std.proofs.Common.{◌≡◌, ℕ, ◌+◌, ◌<◌, ◌≤◌, ◌≢◌, inl, inr, Bool, true, false, List, [], ◌∷◌, Some, None, length, get_or, refl, ap, sym, ◌∙◌, subst, arith, eq-eqb, below_more}
+use Rattle.std.specs.Prelude.{IsSome}
 use Rattle.std.proofs.Math.ListN.{set}
 use Rattle.std.proofs.Math.Dec.{eqb}
 use Rattle.std.proofs.lemmas.Bool.{eqb-true, cases_lt}
@@ -8,7 +9,7 @@ use lib.Pointwise.{pointwise}
 use Rattle.term_model.specs.declared.Row.{Row}
 use Rattle.term_model.specs.declared.Head.{Head}
 use Rattle.term_model.proofs.Order.{both, both_hold}
-use Rattle.plain_store.specs.Slots.{Slots, slot_at, with_slot, kept_if, AreSwept}
+use Rattle.plain_store.specs.Slots.{Slots, Slot, slot_at, with_slot, kept_if, AreSwept, FreesRow}
 
 pub row_same : (r q : Row) → r.0 ≡ q.0 → r ≡ q
 row_same r q e = ap (λ (n : ℕ). let x : Row = record { 0 = n } in x) e
@@ -66,6 +67,31 @@ sweeping_more marks was now r b s h e =
           (λ k lt. let ne : k ≢ r.0 = omega arith in get_or-set_other now.slots r.0 k v None ne ∙ s.before k lt) here;
       behind = λ k le. let ne : k ≢ r.0 = omega arith in get_or-set_other now.slots r.0 k v None ne ∙ s.behind k (omega arith);
     }
+
+-- a row below i was in use, and is free
+pub record Freed (was now : Slots) (i : ℕ) : Type 0 where
+  pub row : Row
+  pub below : row.0 < i
+  pub used : IsSome (slot_at was row)
+  pub free : slot_at now row ≡ None
+
+pub freed_more : (was now : Slots) (r : Row) (v : Slot) → Freed was now r.0 → Freed was (with_slot now r v) (r.0 + 1)
+freed_more was now r v f =
+    let lt = f.below in
+    let ne : f.row.0 ≢ r.0 = omega arith in
+    record { row = f.row; below = omega arith; used = f.used; free = get_or-set_other now.slots r.0 f.row.0 v None ne ∙ f.free }
+
+pub freed_here : (marks : List Bool) (was now : Slots) (r : Row) (b : Bool) → Sweeping marks was now r.0 → r.0 < length now.slots → IsSome (slot_at now r) → b ≡ false → Freed was (with_slot now r (kept_if b (slot_at now r))) (r.0 + 1)
+freed_here marks was now r b s h used e =
+    record {
+      row = r;
+      below = omega arith;
+      used = subst IsSome (s.behind r.0 (omega arith)) used;
+      free = get_or-set_same now.slots r.0 (kept_if b (slot_at now r)) None h ∙ ap (λ c. kept_if c (slot_at now r)) e;
+    }
+
+pub freed_row : (was now : Slots) (i : ℕ) → Freed was now i → FreesRow was now
+freed_row was now i f = record { row = f.row; used = f.used; free = f.free }
 
 kept_none : (b : Bool) → kept_if b None ≡ None
 kept_none true = refl

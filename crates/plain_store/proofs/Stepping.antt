@@ -1,6 +1,6 @@
 -- What each thing that happens to a store does to what contracts see of it.
 use Rattle.std.proofs.Common.{◌≡◌, ℕ, ◌<◌, ◌≤◌, Bool, true, false, List, [], ◌∷◌, ◌++◌, Option, Some, None, length, get_or, refl, ap, sym, ◌∙◌, subst, arith}
-use Rattle.std.specs.Prelude.{Contains, IfSome, IfNone, if◌then◌else◌}
+use Rattle.std.specs.Prelude.{Contains, IsSome, IfSome, IfNone, if◌then◌else◌}
 use Rattle.std.proofs.lemmas.List.{length-map, ext_get_or}
 use Rattle.term_model.specs.declared.Row.{Row}
 use Rattle.term_model.specs.Tree.{Tree, Node, trees_of, among}
@@ -9,9 +9,9 @@ use Rattle.terms_api.specs.Terms.{reachable, IsSound}
 use Rattle.terms_api.proofs.Callers.{has-held}
 use Rattle.plain_store.specs.declared.event.Event.{Event}
 use Rattle.plain_store.specs.declared.store.PlainStore.TheInside.{Inside}
-use Rattle.plain_store.specs.Slots.{Slots, Slot, children}
+use Rattle.plain_store.specs.Slots.{Slots, Slot, FreesRow, children}
 use Rattle.plain_store.specs.Agreement.{Agree}
-use Rattle.plain_store.specs.Contents.{Past, at_first, after, Contents, store_of, kept_trees, kept_among, refused, trees_on, HasNoFree}
+use Rattle.plain_store.specs.Contents.{Past, at_first, after, Contents, store_of, kept_trees, kept_among, collected, refused, trees_on, HasNoFree, LosesRow}
 use Rattle.plain_store.specs.View.{past_of, contents_of, IsRight}
 use Rattle.plain_store.proofs.Placing.{stack_held}
 use Rattle.plain_store.proofs.Keeping.{kept_at}
@@ -93,6 +93,22 @@ pub kept_same : (slots : Slots) (c : Contents) → Agree slots c.trees → Agree
 kept_same slots c agree after' =
     ext_get_or None (kept_trees c) c.trees (length-map c.trees (kept_among (reachable (store_of c))))
     (λ k h. same_at slots c agree after' k (get_or slots.slots k None) refl)
+
+slot_some : {A : Type 0} (o : Option A) → IsSome o → (x : A) × (o ≡ Some x)
+slot_some None h = absurd (cc)
+slot_some (Some x) h = (x, refl)
+
+-- where a row in use is freed, its tree is lost
+pub row_lost : (slots swept : Slots) (c : Contents) (raised : ℕ) → Agree slots c.trees → Agree swept (kept_trees c) → FreesRow slots swept → LosesRow (store_of c) (store_of (collected c raised))
+row_lost slots swept c raised agree after' f =
+    let node = slot_some (get_or slots.slots f.row.0 None) f.used in
+    let t = Node node.0.0 (trees_of (trees_on c.trees node.0.1)) in
+    record {
+      row = f.row;
+      tree = t;
+      had = agree.node f.row node.0.0 node.0.1 node.1;
+      gone = λ k. (let e : None ≡ Some t = sym (after'.free f.row f.free) ∙ k in absurd (cc));
+    }
 
 pub sound_refused : (c : Contents) → IsSound (store_of c) → IsSound (store_of (refused c))
 sound_refused c sound =

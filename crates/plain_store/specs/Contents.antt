@@ -1,12 +1,12 @@
 -- A store of one thread: its stack, the trees of its rows, and what has happened.
-use Rattle.std.specs.Prelude.{◌≡◌, ℕ, ◌+◌, ◌-◌, ◌^◌, ◌<◌, ◌⊎◌, ◌==◌, Bool, false, List, [], ◌∷◌, ◌++◌, Option, Some, None, Contains, map, length, slice_index_or, slice_set, replicate, if◌then◌else◌, refl}
+use Rattle.std.specs.Prelude.{◌≡◌, ℕ, ◌+◌, ◌-◌, ◌^◌, ◌<◌, ◌⊎◌, ◌==◌, min, Bool, false, List, [], ◌∷◌, ◌++◌, Option, Some, None, Contains, map, length, slice_index_or, slice_set, replicate, if◌then◌else◌, refl}
 use Rattle.std.proofs.Common.{◌∙◌}
 use Rattle.std.specs.List.{flat_map}
 use Rattle.term_model.specs.declared.Row.{Row}
 use Rattle.term_model.specs.declared.Head.{Head}
 use Rattle.term_model.specs.Tree.{Tree, Node, trees_of, subtrees, among, distinct}
 use Rattle.term_model.specs.Postorder.{tree_or_leaf}
-use Rattle.terms_api.specs.Terms.{Store, HasTree, trees, reachable, last, but_last, asked, IsLater}
+use Rattle.terms_api.specs.Terms.{Store, HasTree, KeepsAll, trees, reachable, last, but_last, asked}
 use Rattle.plain_store.specs.declared.event.Event.{Event}
 use Rattle.plain_store.specs.declared.event.Event.TheVariants.{Built, Swept, Refused}
 
@@ -51,9 +51,10 @@ pub record Contents : Type 0 where
   pub refusals : ℕ
   pub widest : ℕ
   pub room : ℕ
-  -- how often rows were lost, up to 2^64 - 1
+  -- how often the epoch was raised, at most 2^64 - 1 times
   pub raised : ℕ
 
+-- the epoch after it was raised so often
 abbrev pub epoch_after : ℕ → Option ℕ
 epoch_after raised = if raised == 2 ^ 64 - 1 then None else Some raised
 
@@ -106,10 +107,31 @@ kept_trees c = map (kept_among (reachable (store_of c))) c.trees
 abbrev pub collected : Contents → ℕ → Contents
 collected c raised = record c { trees = kept_trees c; raised = raised }
 
--- after a collection: either no row was lost, or the epoch is later
+-- a row has no longer the tree that it had
+pub record LosesRow (old new : Store) : Type 0 where
+  pub row : Row
+  pub tree : Tree
+  pub had : HasTree old row tree
+  pub gone : HasTree new row tree → ⊥
+
+-- raised once more, up to 2^64 - 1 times
+abbrev pub once_more : ℕ → ℕ
+once_more raised = min (raised + 1) (2 ^ 64 - 1)
+
+-- The epoch is raised once where a row is lost, and nowhere else.
+pub record CountsLosses (old new : Contents) : Type 0 where
+  pub lost : LosesRow (store_of old) (store_of new) → new.raised ≡ once_more old.raised
+  pub kept : KeepsAll (store_of old) (store_of new) → new.raised ≡ old.raised
+
+-- Every row has a tree, and none has the asked one.
+pub record IsUsedUp (c : Contents) (h : Head) (n : ℕ) : Type 0 where
+  pub full : HasNoFree c
+  pub absent : IsAbsent c (asked (store_of c) h n)
+
+-- after a collection: no row was lost, or one was, and the epoch was raised once
 pub record Collected (old new : Contents) : Type 0 where
   pub new_is : new ≡ collected old new.raised
-  pub raises : ((new.raised ≡ old.raised) × (new.trees ≡ old.trees)) ⊎ IsLater (epoch_after old.raised) (epoch_after new.raised)
+  pub raises : ((new.raised ≡ old.raised) × (new.trees ≡ old.trees)) ⊎ ((new.raised ≡ once_more old.raised) × LosesRow (store_of old) (store_of (collected old new.raised)))
 
 abbrev pub refused : Contents → Contents
 refused c = record c { hand = trees (store_of c); refusals = c.refusals + 1 }

@@ -7,7 +7,7 @@ use Rattle.std.specs.Prelude.{ℕ}
 use Rattle.terms_api.specs.declared.terms.BuildFault.{BuildFault}
 use Rattle.terms_api.specs.declared.terms.BuildFault.TheVariants.{Deep, StoreFull, Worn}
 use Rattle.terms_api.specs.Terms.{HasTree, IsSound, NeedsPlace, Built, NotBuilt, IsCrowded, trees, reachable, but_last, asked}
-use Rattle.plain_store.specs.Contents.{Contents, store_of, IsSame, IsFilled}
+use Rattle.plain_store.specs.Contents.{Contents, store_of, IsSame, IsFilled, LosesRow, CountsLosses, IsUsedUp}
 
 -- every tree that can be reached from the stack has a row
 abbrev pub HoldsReachable : Contents → Type 0
@@ -17,6 +17,8 @@ pub record IsBuilt (old new : Contents) (h : Head) (n : ℕ) : Type 0 where
   pub built : Built (store_of old) (store_of new) h n
   pub trees : trees (store_of new) ≡ but_last n (trees (store_of old)) ++ asked (store_of old) h n ∷ []
   pub refusals : new.refusals ≡ old.refusals
+  pub losses : CountsLosses old new
+  pub only_used_up : LosesRow (store_of old) (store_of new) → IsUsedUp old h n
   pub sound : IsSound (store_of new)
   pub same : IsSame old new
   pub not_filled : IsFilled (store_of old) h n → ⊥
@@ -27,6 +29,8 @@ pub record IsRefused (old new : Contents) (h : Head) (n : ℕ) : Type 0 where
   pub trees : trees (store_of new) ≡ trees (store_of old)
   pub crowded : IsCrowded (store_of old) (store_of new) h n
   pub refusals : new.refusals ≡ old.refusals + 1
+  pub losses : CountsLosses old new
+  pub only_used_up : LosesRow (store_of old) (store_of new) → IsUsedUp old h n
   pub sound : IsSound (store_of new)
   pub same : IsSame old new
   pub filled : IsFilled (store_of old) h n

@@ -1,5 +1,5 @@
 -- Rows: each is free, or has a head over the rows of its arguments.
-use Rattle.std.specs.Prelude.{◌≡◌, ℕ, ◌<◌, Bool, true, false, List, [], Option, Some, None, length, slice_index_or, slice_set, replicate}
+use Rattle.std.specs.Prelude.{◌≡◌, ℕ, ◌<◌, Bool, true, false, List, [], Option, Some, None, IsSome, length, slice_index_or, slice_set, replicate}
 use Rattle.term_model.specs.declared.Row.{Row}
 use Rattle.term_model.specs.declared.Head.{Head}
 
@@ -40,6 +40,12 @@ IsFull s = (k : ℕ) → k < length s.slots → slice_index_or s.slots k None �
 abbrev pub kept_if : Bool → Slot → Slot
 kept_if true n = n
 kept_if false n = None
+
+-- a row was in use, and is free now
+pub record FreesRow (old new : Slots) : Type 0 where
+  pub row : Row
+  pub used : IsSome (slot_at old row)
+  pub free : slot_at new row ≡ None
 
 -- the rows that aren't marked are free now, and each other is as before
 pub record AreSwept (marks : List Bool) (old new : Slots) : Type 0 where

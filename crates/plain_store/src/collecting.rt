@@ -1,9 +1,8 @@
 // Mark and sweep.
 ghost use Rattle.std.specs.Prelude.{◌≡◌, ◌<◌, ℕ, Contains, true, false, length};
-ghost use Rattle.plain_store.specs.Slots.{children, AreSwept};
+ghost use Rattle.plain_store.specs.Slots.{children, AreSwept, FreesRow};
 ghost use Rattle.plain_store.specs.Marked.{MarksFrom, ReachesWithin};
-ghost use Rattle.plain_store.specs.Contents.{epoch_after};
-ghost use Rattle.terms_api.specs.Terms.{IsLater};
+ghost use Rattle.plain_store.specs.Contents.{once_more};
 
 use crate::nodes::Nodes;
 use mark_phase::{Marks, mark};
@@ -31,14 +30,15 @@ pub(crate) fn keep_reachable(nodes: &mut Nodes, places: &[Row], marks: &mut Mark
     ensures marked { MarksFrom (children nodes.old) places.now marks.new }
     ensures swept { AreSwept marks.new nodes.old nodes.new }
     ensures none { result ≡ false → nodes.new ≡ nodes.old }
+    ensures some { result ≡ true → FreesRow nodes.old nodes.new }
 {
     mark_all(nodes, places, marks);
     nodes.sweep(marks)
 }
 
-/// The number of times that rows were lost, after one more.
+/// How often the epoch was raised, after one time more, up to 2^64 - 1 times.
 pub(crate) fn raised_once(raised: u64) -> u64
-    ensures { IsLater (epoch_after raised) (epoch_after result) }
+    ensures { result ≡ once_more raised }
 {
     raised.saturating_add(1)
 }

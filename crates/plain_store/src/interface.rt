@@ -1,7 +1,7 @@
 // The store as its callers see it.
-ghost use Rattle.std.specs.Prelude.{◌≡◌, ◌+◌, ◌<◌, ◌≤◌, ◌↔◌, Option, Some, None, Result, OnOk, OnErr, IsErr, IsErrOf, true, false, [], ◌∷◌, ◌++◌, length, slice_get};
-ghost use Rattle.terms_api.specs.Terms.{IsSound, MayBuild, Built as BuiltOf, NotBuilt, NeedsPlace, IsCrowded, CountsRefusal, trees, but_last, asked};
-ghost use Rattle.plain_store.specs.Contents.{store_of, IsFilled, IsSame};
+ghost use Rattle.std.specs.Prelude.{◌≡◌, ◌+◌, ◌-◌, ◌^◌, ◌<◌, ◌≤◌, ◌↔◌, Option, Some, None, Result, OnOk, OnErr, IsErr, IsErrOf, IsNone, IfSome, true, false, [], ◌∷◌, ◌++◌, length, slice_get};
+ghost use Rattle.terms_api.specs.Terms.{IsSound, MayBuild, Entered, Breathed, Built as BuiltOf, NotBuilt, NeedsPlace, IsCrowded, CountsRefusal, trees, but_last, asked};
+ghost use Rattle.plain_store.specs.Contents.{store_of, IsFilled, IsSame, LosesRow, CountsLosses, IsUsedUp};
 
 use crate::PlainStore;
 use term_model::{Head, Row};
@@ -19,8 +19,16 @@ impl Terms for PlainStore {
 
     ghost same_in_turn = { same_turn };
 
-    /// Takes no memory and loses nothing.
-    fn enter(&mut self) {
+    /// Loses no row.
+    fn enter(&mut self)
+        requires { (store_of self.old).inside ≡ false }
+        ensures entered { Entered (store_of self.old) (store_of self.new) }
+        ensures trees { trees (store_of self.new) ≡ trees (store_of self.old) }
+        ensures was_sound { IsSound (store_of self.old) }
+        ensures sound { IsSound (store_of self.new) }
+        ensures same { IsSame self.old self.new }
+        ensures inside_alone { self.new ≡ record self.old { inside = true } }
+    {
         self.inside = true;
     }
 
@@ -29,7 +37,15 @@ impl Terms for PlainStore {
     }
 
     /// There is nobody else, so nothing happens.
-    fn breathe(&mut self) {
+    fn breathe(&mut self)
+        requires { (store_of self.old).inside ≡ true }
+        ensures breathed { Breathed (store_of self.old) (store_of self.new) }
+        ensures trees { trees (store_of self.new) ≡ trees (store_of self.old) }
+        ensures was_sound { IsSound (store_of self.old) }
+        ensures sound { IsSound (store_of self.new) }
+        ensures same { IsSame self.old self.new }
+        ensures nothing { self.new ≡ self.old }
+    {
         let _ = &self.inside;
     }
 
@@ -90,6 +106,9 @@ impl Terms for PlainStore {
         ensures filled_is_store_full { IsFilled (store_of self.old) head n
             → (NeedsPlace (store_of self.old) n → ⊥) → IsErrOf result BuildFault.StoreFull }
         ensures never_worn { IsErrOf result BuildFault.Worn → ⊥ }
+        ensures losses { CountsLosses self.old self.new }
+        ensures rows_lost_only_where_used_up { LosesRow (store_of self.old) (store_of self.new)
+            → IsUsedUp self.old head n }
     {
         let _ = self.is_full();
         self.try_build(head, n)
@@ -99,7 +118,14 @@ impl Terms for PlainStore {
         self.places.keep_ends(from as usize, top as usize);
     }
 
-    fn epoch(&self) -> Option<u64> {
+    /// How often it was raised, and none exactly where it was raised 2^64 - 1 times.
+    fn epoch(&self) -> Option<u64>
+        requires { (store_of self.now).inside ≡ true }
+        ensures epoch { result ≡ (store_of self.now).epoch }
+        ensures sound { IsSound (store_of self.now) }
+        ensures count { IfSome result (λ raised. raised ≡ self.now.raised) }
+        ensures none { IsNone result ↔ (self.now.raised ≡ 2 ^ 64 - 1) }
+    {
         if self.raised == u64::MAX {
             None
         } else {

@@ -1,7 +1,7 @@
 // The rows of a store, each tree of which is found by its hash.
 ghost use Rattle.std.specs.Prelude.{◌≡◌, ◌+◌, ◌<◌, ◌≤◌, ◌^◌, ℕ, Option, Some, None, IfOk, IfSome, IfNone, IsSome, true, false, length, replicate, take, [], slice_get, slice_index_or};
 ghost use Rattle.std.specs.Option.{option_map};
-ghost use Rattle.plain_store.specs.Slots.{free_slots, slot_at, children, with_slot, HasNone, IsFull, AreSwept};
+ghost use Rattle.plain_store.specs.Slots.{free_slots, slot_at, children, with_slot, HasNone, IsFull, AreSwept, FreesRow};
 ghost use Rattle.plain_store.specs.Index.{IsIndexed};
 
 use crate::index::{END, Index};
@@ -68,6 +68,7 @@ fn sweep_rows(table: &mut Table, index: &mut Index, marks: &Marks) -> bool
     requires none { IsIndexed [] index.old }
     ensures swept { AreSwept marks.now table.old table.new }
     ensures none { result ≡ false → table.new ≡ table.old }
+    ensures some { result ≡ true → FreesRow table.old table.new }
     ensures indexed { IsIndexed table.new.slots index.new }
     ensures room { length index.new.nexts ≡ length index.old.nexts }
 {
@@ -132,6 +133,7 @@ impl Nodes {
         requires { length marks.now ≡ length self.old.slots }
         ensures swept { AreSwept marks.now self.old self.new }
         ensures none { result ≡ false → self.new ≡ self.old }
+        ensures some { result ≡ true → FreesRow self.old self.new }
     {
         self.index.clear();
         sweep_rows(&mut self.table, &mut self.index, marks)

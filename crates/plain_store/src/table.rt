@@ -142,6 +142,7 @@ impl Table {
         requires { row.0 < length self.old.slots }
         ensures kept { self.new ≡ with_slot self.old row (kept_if kept (slot_at self.old row)) }
         ensures none { result ≡ false → self.new ≡ self.old }
+        ensures some { result ≡ true → IsSome (slot_at self.old row) × (kept ≡ false) }
     {
         if kept || self.head(row).is_none() {
             return false;

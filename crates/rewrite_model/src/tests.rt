@@ -278,10 +278,7 @@ fn doubled_terms_have_few_subtrees(rt: HostRuntime) -> Result<(), Fail> {
         distinct: 4,
         left: 0,
     };
-    assert_eq!(rt;
-        measure(alloc, &rules, &[Z, D, D, D], 3)?,
-        Some(doubled)
-    );
+    assert_eq!(rt; measure(alloc, &rules, &[Z, D, D, D], 3)?, Some(doubled));
     Ok(())
 }
 

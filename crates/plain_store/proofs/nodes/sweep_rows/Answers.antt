@@ -4,13 +4,13 @@ use Rattle.term_model.specs.declared.Row.{Row}
 use Rattle.term_model.proofs.Members.{same_test}
 use Rattle.plain_store.specs.Slots.{Slots, Slot, slot_at, kept_if}
 use Rattle.plain_store.specs.Index.{IsIndexed}
-use Rattle.plain_store.proofs.Rows.{Sweeping, sweeping_none, sweeping_more, sweeping_all}
+use Rattle.plain_store.proofs.Rows.{Sweeping, sweeping_none, sweeping_more, sweeping_all, Freed, freed_more, freed_here, freed_row}
 use Rattle.plain_store.proofs.nodes.sweep_rows.Goals as goal
 use Rattle.plain_store.proofs.nodes.sweep_rows.Goals.{then-lost, else-lost}
 
 pub loop-i-init : goal.loop-i-init
 loop-i-init c =
-    record { rows = sweeping_none c.args.marks.now c.args.table.now; none = λ h. refl; indexed = c.requires.none; room = refl }
+    record { rows = sweeping_none c.args.marks.now c.args.table.now; some = λ h. absurd (cc); none = λ h. refl; indexed = c.requires.none; room = refl }
 
 pub add-requires-clause-before : goal.add-requires-clause-before
 add-requires-clause-before c =
@@ -36,6 +36,14 @@ loop-i-preserved c =
     record {
       rows = subst (λ (s : Slots). Sweeping c.args.marks.now c.args.table.now s (c.loop-i.i + 1)) (sym c.keep_if-freed.ensures.kept)
           (sweeping_more c.args.marks.now c.args.table.now c.loop-i.table row c.has-kept.result c.loop-i.invariant.rows below told);
+      some = elim c.if-lost.branch [
+        | then-lost w ↦ (λ h. subst (λ (s : Slots). Freed c.args.table.now s (c.loop-i.i + 1)) (sym c.keep_if-freed.ensures.kept)
+            (freed_more c.args.table.now c.loop-i.table row (kept_if c.has-kept.result (slot_at c.loop-i.table row)) (c.loop-i.invariant.some w.if-lost.true)))
+        | else-lost w ↦ (λ h.
+            let both = c.keep_if-freed.ensures.some (sym w.lost-is ∙ h) in
+            subst (λ (s : Slots). Freed c.args.table.now s (c.loop-i.i + 1)) (sym c.keep_if-freed.ensures.kept)
+            (freed_here c.args.marks.now c.args.table.now c.loop-i.table row c.has-kept.result c.loop-i.invariant.rows below both.0 both.1))
+      ];
       none = elim c.if-lost.branch [
         | then-lost w ↦ (λ h. absurd (cc))
         | else-lost w ↦ (λ h. c.keep_if-freed.ensures.none (sym w.lost-is ∙ h) ∙ c.loop-i.invariant.none w.if-lost.false)
@@ -46,6 +54,9 @@ loop-i-preserved c =
 
 pub returns-clause-swept : goal.returns-clause-swept
 returns-clause-swept c = sweeping_all _ _ _ c.loop-i.i c.loop-i.invariant.rows (omega arith)
+
+pub returns-clause-some : goal.returns-clause-some
+returns-clause-some c = λ h. freed_row _ _ _ (c.loop-i.invariant.some h)
 
 pub returns-clause-none : goal.returns-clause-none
 returns-clause-none c = c.loop-i.invariant.none

@@ -1,6 +1,6 @@
 use Rattle.std.proofs.Common.{◌≡◌, Some, sym, subst}
 use Rattle.std.specs.Prelude.{slice_get}
-use Rattle.terms_api.specs.Terms.{Store, IsHeld}
+use Rattle.terms_api.specs.Terms.{Store}
 use Rattle.terms_api.proofs.Callers.{held-stack}
 use Rattle.plain_store.proofs.tests.read_lowest.Goals as goal
 

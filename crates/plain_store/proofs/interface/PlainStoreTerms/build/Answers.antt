@@ -1,4 +1,4 @@
-use Rattle.plain_store.proofs.Ends.{end_ok, end_trees, end_err, end_err_trees, end_deep, end_full, end_filled, end_worn, end_refusals, end_sound, end_same}
+use Rattle.plain_store.proofs.Ends.{end_ok, end_trees, end_err, end_err_trees, end_deep, end_full, end_filled, end_worn, end_refusals, end_sound, end_same, end_losses, end_used_up}
 use Rattle.plain_store.proofs.interface.PlainStoreTerms.build.Goals as goal
 
 pub returns-clause-ok : goal.returns-clause-ok
@@ -42,3 +42,9 @@ returns-clause-was_sound c = c.is_full.ensures.sound
 
 pub returns-clause-sound : goal.returns-clause-sound
 returns-clause-sound c = end_sound _ _ _ _ _ c.is_full.ensures.sound c.try_build.ensures
+
+pub returns-clause-losses : goal.returns-clause-losses
+returns-clause-losses c = end_losses _ _ _ _ _ c.try_build.ensures
+
+pub returns-clause-rows_lost_only_where_used_up : goal.returns-clause-rows_lost_only_where_used_up
+returns-clause-rows_lost_only_where_used_up c = end_used_up _ _ _ _ _ c.try_build.ensures

@@ -1,16 +1,15 @@
 use Rattle.std.proofs.Common.{◌∙◌, inl, inr, List, ap, sym, subst, length}
 use Rattle.std.specs.Prelude.{Contains}
 use Rattle.term_model.specs.declared.Row.{Row}
-use Rattle.terms_api.specs.Terms.{IsLater}
 use Rattle.plain_store.specs.declared.event.Event.TheVariants.{Swept}
 use Rattle.plain_store.specs.Slots.{Slots, children}
 use Rattle.plain_store.specs.Agreement.{Agree}
 use Rattle.plain_store.specs.Marked.{MarksFrom}
-use Rattle.plain_store.specs.Contents.{Contents, Past, collected, kept_trees, epoch_after}
+use Rattle.plain_store.specs.Contents.{Contents, Past, store_of, collected, kept_trees, once_more, LosesRow}
 use Rattle.plain_store.specs.View.{contents_of}
 use Rattle.plain_store.proofs.Keeping.{sound_collected}
 use Rattle.plain_store.proofs.Reaching.{agree_collected}
-use Rattle.plain_store.proofs.Stepping.{past_step, shape, right_from, reach_below, kept_same}
+use Rattle.plain_store.proofs.Stepping.{past_step, shape, right_from, reach_below, kept_same, row_lost}
 use Rattle.plain_store.proofs.store.PlainStore.collect.Goals as goal
 
 pub keep_reachable-lost-requires-clause-below : goal.keep_reachable-lost-requires-clause-below
@@ -48,12 +47,16 @@ invariant_of-self-else-lost c =
 pub returns-then-lost : goal.returns-then-lost
 returns-then-lost c =
     let s = c.self.inside in
+    let was = contents_of s in
     let e = c.keep_reachable-lost.ensures in
+    let marked = subst (λ (xs : List Row). MarksFrom (children s.nodes) xs c.keep_reachable-lost.new.marks) c.rows.ensures e.marked in
+    let now = agree_collected s.nodes c.keep_reachable-lost.new.nodes was c.keep_reachable-lost.new.marks c.self.invariant.agree c.self.invariant.sound marked e.swept in
+    let lost = row_lost s.nodes c.keep_reachable-lost.new.nodes was c.raised_once-self-inside.result c.self.invariant.agree now (e.some c.if-lost.true) in
     let raised = c.raised_once-self-inside.result in
     let step = past_step s.history.items c.and-self-inside.result.items (λ v. v.items) (length s.nodes.slots) (length c.keep_reachable-lost.new.nodes.slots) s.places Swept c.and-self-inside.ensures e.swept.size in
     record {
       new_is = ap (λ (p : Past). shape s.places.items p s.inside s.widest s.room raised) step ∙ ap (λ (x : Contents). collected x raised) c.self.view_is;
-      raises = inr (subst (λ (x : Contents). IsLater (epoch_after x.raised) (epoch_after raised)) c.self.view_is c.raised_once-self-inside.ensures);
+      raises = inr (c.raised_once-self-inside.ensures ∙ ap (λ (x : Contents). once_more x.raised) c.self.view_is, subst (λ (x : Contents). LosesRow (store_of x) (store_of (collected x raised))) c.self.view_is lost);
     }
 
 pub returns-else-lost : goal.returns-else-lost

@@ -51,7 +51,7 @@ returns-in-Some-make-2 c =
     let free = subst (λ (x : Contents). IsFreeRow x r) col.new_is c.in-Some-make-2.ensures.free in
     let is = c.in-Some-make-2.ensures.made ∙ ap (λ (x : Contents). placed x h n r) col.new_is in
     subst (λ (x : Contents). IsBuilt old x h n) (sym is)
-    (outcome_collected old now.raised h n r c.find.ensures.sound c.find.ensures.holds c.requires place c.in_default.ensures.absent (raises_of old now col) free)
+    (outcome_collected old now.raised h n r c.find.ensures.sound c.find.ensures.holds c.requires place (record { full = c.in_default-make.ensures.full; absent = c.in_default.ensures.absent }) (raises_of old now col) free)
 
 pub returns : goal.returns
 returns c =
@@ -64,4 +64,4 @@ returns c =
     let full = subst HasNoFree col.new_is c.in_default-make-2.ensures.full in
     let is = c.refuse.ensures ∙ ap (λ (x : Contents). refused x) (c.in_default-make-2.ensures.unchanged ∙ col.new_is) in
     subst (λ (x : Contents). IsRefused old x h n) (sym is)
-    (outcome_refused old now.raised h n c.find.ensures.sound c.find.ensures.holds place c.in_default.ensures.absent (raises_of old now col) full)
+    (outcome_refused old now.raised h n c.find.ensures.sound c.find.ensures.holds place (record { full = c.in_default-make.ensures.full; absent = c.in_default.ensures.absent }) (raises_of old now col) full)
