@@ -11,7 +11,7 @@ import time
 import unittest
 
 import support
-from cases import ANSWERS, FAULTS, NAT, ONE_AND_ONE, REFUSED, START, USAGE, Case, Fault
+from cases import ANSWERS, FAULTS, NAT, ONE_AND_ONE, REFUSED, START, SUM, USAGE, Case, Fault, read
 from support import TOP, rec, run
 
 sys.path.insert(0, support.TOOLS)
@@ -117,6 +117,18 @@ class Tells(unittest.TestCase):
         under = [text[at : at + 1] for at, mark in enumerate(marks) if mark == "^"]
         self.assertEqual("".join(under), fault.marked)
         self.assertTrue(advice.strip().startswith("what to do: "), advice)
+
+    def test_what_the_readme_shows(self) -> None:
+        """What README.md shows of an explained fault is what comes, on a file with one wrong name."""
+        if not support.IS_BUILT:
+            self.skipTest("no program is built")
+        with support.folder() as folder:
+            with open(f"{folder}/wrong.rec", "wb") as file:
+                file.write(SUM.replace(b"s(plus(X, Y))", b"s(plus(X, Z))"))
+            ran = run(["sh", "-c", f"cd {folder} && {TOP}/rec rewrite wrong.rec"], REC_EXPLAIN="1")
+        shown = [" " * 4 + line for line in ran[1].decode().splitlines()]
+        self.assertEqual(len(shown), 5)
+        self.assertIn("\n".join(shown), read("README.md").decode())
 
     def test_each_kind_has_its_words(self) -> None:
         self.assertEqual(list(explanations.KINDS), list(range(1, 20)))
