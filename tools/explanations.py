@@ -38,7 +38,7 @@ OF_LINES = (15, 16)
 # Lines that stand for a term without a value, with the option that gives it more.
 NO_VALUE = {"out of fuel": "--fuel", "too deep": "--depth", "too large": "--sizes"}
 # Why a run ended with these statuses.
-CAUSES = {5: "standard input couldn't be read", 6: "standard output couldn't be written: is the disk full?", 7: "the system gave no more memory"}
+CAUSES = {5: "standard input couldn't be read", 6: "standard output couldn't be written: was it closed, or is the disk full?", 7: "the system gave no more memory"}
 TOO_LARGE = "the value has too many symbols to be written: --sizes tells its size"
 
 
@@ -64,8 +64,7 @@ def commands() -> dict[str, Command]:
         entries = [line.rstrip("\n").split("|") for line in table]
     for entry in entries:
         if entry[0] == "command":
-            last = Command(entry[1].split(), entry[2])
-            found[last.words[0]] = last
+            last = found.setdefault(entry[1].split()[0], Command(entry[1].split(), entry[2]))
         elif entry[0] == "option":
             least, most, default = entry[2:5]
             last.options[entry[1]] = None if least == "-" else Option(int(least), int(most), int(default))
@@ -101,8 +100,8 @@ def options_given(command: Command, words: list[str]) -> tuple[dict[str, str], l
 def of_words(table: dict[str, Command], words: list[str]) -> list[str]:
     """Says what is wrong with refused words."""
     if not words or words[0] not in table:
-        offered = f"the commands are {', '.join(table)}"
-        return [f"rec: {words[0]} is no command: {offered}" if words else f"rec: {offered}", "rec: 'rec --help' tells more"]
+        offered, name = f"the commands are {', '.join(table)}", "".join(words[1:2] if words[:1] == ["help"] else words[:1])
+        return [f"rec: {name} is no command: {offered}" if name else f"rec: {offered}", "rec: 'rec --help' tells more"]
     command, why = table[words[0]], "these words are no command line"
     try:
         _, plain = options_given(command, words[1:])
@@ -110,6 +109,8 @@ def of_words(table: dict[str, Command], words: list[str]) -> list[str]:
         if surplus:
             what = "a folder" if os.path.isdir(surplus[-1]) else "a file that can't be read" if os.path.exists(surplus[-1]) else "no file"
             why = f"{surplus[-1]} is {what}" if len(surplus) == 1 else f"{surplus[0]} is one word too many"
+        elif len(plain) < len(command.words) - 1:
+            why = f"a word is missing: {' '.join(command.words)}"
     except ValueError as fault:
         why = str(fault)
     return [f"rec: {why}", f"rec: 'rec help {words[0]}' tells more"]
@@ -117,8 +118,9 @@ def of_words(table: dict[str, Command], words: list[str]) -> list[str]:
 
 def in_force(table: dict[str, Command], words: list[str], name: str) -> str:
     """Says what to give the option, and what it had in this run."""
-    option = table[words[0]].options[name]
-    assert option is not None
+    option = table[words[0]].options.get(name)
+    if option is None:
+        return f"{name} has to be more"
     value = int(options_given(table[words[0]], words[1:])[0].get(name, option.default))
     if value >= option.most:
         return f"{name} was {value}, which is the most that it may be"
