@@ -4,6 +4,7 @@ from __future__ import annotations
 
 import os
 import pty
+import shutil
 import signal
 import subprocess
 import sys
@@ -31,6 +32,13 @@ WITHOUT_VALUE = [
     (("rewrite", "--depth", "5"), "rec: 'too deep' in line 1: --depth was 5: raise it, to at most 65536"),
     (("rewrite", "--rows", "2"), "rec: --rows was 2: raise it, to at most 262144"),
 ]
+
+# Entries of commands that the program doesn't have.
+LATER = """command|drill N|none|rewrites a drill|./rec drill 100
+option|--workers|1|16|1|how many workers
+command|check log|text|reads a log|./rec check log FILE
+command|unpack|bytes|reads a file of terms|./rec unpack FILE
+"""
 
 
 def script(folder: str, text: str) -> str:
@@ -185,6 +193,26 @@ class Help(unittest.TestCase):
             self.assertTrue(out.startswith(b"usage: ") or b"\nusage: " in out)
             self.assertEqual((err, status), (b"", 0))
             self.assertEqual(run([f"{support.TOOLS}/{name}", "--wrong-word"])[2], 2, name)
+
+
+class Later(unittest.TestCase):
+    def test_a_command_joins_by_its_entry(self) -> None:
+        with support.folder() as folder:
+            shutil.copy(f"{TOP}/rec", folder)
+            shutil.copytree(support.TOOLS, f"{folder}/tools", ignore=shutil.ignore_patterns("tests"))
+            with open(f"{folder}/tools/commands.txt", "a") as table:
+                table.write(LATER)
+            program = script(folder, 'echo "$*"; wc -c; case $1 in check) echo fault 15 at 2 >&2 ;; *) echo fault 18 at 48 >&2 ;; esac; exit 3')
+
+            def later(*words: str) -> tuple[str, str]:
+                out, err, _ = run([f"{folder}/rec", *words], REC_PROGRAM=program, REC_EXPLAIN="1")
+                return out.decode(), err.decode()
+
+            self.assertIn("  rec drill N [OPTIONS]\n    rewrites a drill\n    --workers N how many workers: 1 to 16, 1 if not given\n", later("help", "drill")[1])
+            self.assertEqual(later("drill", "LICENSE")[0], "drill LICENSE\n0\n")
+            out, err = later("check", "log", "LICENSE")
+            self.assertEqual((out, err.split("\n")[1][:21]), (f"check log\n{len(read('LICENSE'))}\n", "LICENSE:2:1: kind 15:"))
+            self.assertIn("LICENSE: byte 48: kind 18: ", later("unpack", "LICENSE")[1])
 
 
 class Terminal(unittest.TestCase):
