@@ -46,7 +46,9 @@ class Spread(unittest.TestCase):
         room, fragile = self.room.name, f"{self.room.name}/fragile"
         with open(fragile, "w") as file:
             # The first run on the part with the last term is killed; each run on a part is noted.
-            file.write(f'#!/bin/sh\n[ "$*" = rewrite ] && pwd >>{room}/runs && [ "$PARALLEL_SEQ" = 8 ] && mkdir {room}/killed 2>/dev/null && kill -9 $$\nexec {PROGRAM} "$@"\n')
+            file.write(
+                f'#!/bin/sh\n[ "$*" = rewrite ] && pwd >>{room}/runs && [ "$PARALLEL_SEQ" = 8 ] && mkdir {room}/killed 2>/dev/null && kill -9 $$\nexec {PROGRAM} "$@"\n'
+            )
         os.chmod(fragile, 0o755)
         self.assertEqual(run([f"{support.TOP}/rec", "rewrite", self.file]), (wanted, b"", 0))
         out, err, status = self.spread("--parts", "8", "--folder", f"{room}/kept", self.file, program=fragile)
@@ -63,14 +65,23 @@ class Spread(unittest.TestCase):
         with open(half, "w") as file:
             file.write(f'#!/bin/sh\n{PROGRAM} "$@" | sed "/^b/d"\n')
         os.chmod(half, 0o755)
-        out, err, status = self.spread(self.write(FRONT + b" ".join(TERMS) + END), "--parts", "6", "--folder", f"{self.room.name}/kept", program=half)
+        out, err, status = self.spread(
+            self.write(FRONT + b" ".join(TERMS) + END),
+            "--parts",
+            "6",
+            "--folder",
+            f"{self.room.name}/kept",
+            program=half,
+        )
         self.assertEqual((out, status), (b"", 10))
         self.assertIn(b"1 of 6 parts are lost, as part00005", err)
 
     def test_the_worst_status_is_answered(self) -> None:
         self.assertEqual(self.spread("nowhere.rec"), (b"", b"spread: nowhere.rec: No such file or directory\n", 2))
         self.assertEqual(self.spread(self.write(b"REC-SPEC A EVAL q END-SPEC")), (b"", b"fault 5 at 16\n", 3))
-        self.assertEqual(self.spread(self.write(FRONT + END), "--", "--rows"), (b"", b"usage: rec COMMAND [OPTIONS]\n", 2))
+        self.assertEqual(
+            self.spread(self.write(FRONT + END), "--", "--rows"), (b"", b"usage: rec COMMAND [OPTIONS]\n", 2)
+        )
         self.assertEqual(self.spread(self.write(FRONT + END), "--", "--log")[2], 2)
 
     @unittest.skipUnless(support.IS_BUILT, "no program is built")
@@ -86,7 +97,9 @@ class Spread(unittest.TestCase):
         self.write(FRONT + b" ".join(TERMS) + END)
         far = f"{self.room.name}/far"
         with open(far, "w") as file:
-            file.write(f'#!/bin/sh\nwhile :; do case $1 in -*) shift ;; *) break ;; esac; done\nshift\n[ "$1" = -- ] && shift\necho "$*" >>{self.room.name}/sent\nSHELL=/bin/sh exec sh -c "$*"\n')
+            file.write(
+                f'#!/bin/sh\nwhile :; do case $1 in -*) shift ;; *) break ;; esac; done\nshift\n[ "$1" = -- ] && shift\necho "$*" >>{self.room.name}/sent\nSHELL=/bin/sh exec sh -c "$*"\n'
+            )
         os.chmod(far, 0o755)
         wanted = b"".join(it + b"\n" for it in LINES)
         self.assertEqual(self.spread("--sshlogin", f"2/{far} there,:", "--parts", "6", self.file), (wanted, b"", 0))
