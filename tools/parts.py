@@ -29,7 +29,9 @@ class Cut:
 
 def cut(text: bytes) -> Cut:
     """Cuts an accepted input; where its last specification has no EVAL there are no terms."""
-    front, end, spans, depth = None, 0, [], 0
+    front: int | None = None
+    spans: list[list[int]] = []
+    end = depth = 0
     for word in WORD.finditer(text):
         it = word[0]
         if it == b"REC-SPEC":
@@ -51,7 +53,7 @@ def cut(text: bytes) -> Cut:
 
 
 def write_parts(folder: str, specification: Cut, number: int) -> dict[str, int]:
-    """Writes the parts, of as many terms each as the others or one more; returns their names with their numbers of terms."""
+    """Writes the parts, each of as many terms as the others or one more; returns their names with these numbers."""
     terms, counts = len(specification.terms), {}
     number = max(1, min(number, terms))
     for at in range(number):

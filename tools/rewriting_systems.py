@@ -59,11 +59,14 @@ class Reader:
             line += token.count("\n")
         self.end = Word("the end", line)
 
+    def next(self) -> Word:
+        return self.words[self.at] if self.at < len(self.words) else self.end
+
     def peek(self) -> str:
         return self.words[self.at].text if self.at < len(self.words) else ""
 
     def take(self, wanted: str = "") -> Word:
-        word = self.words[self.at] if self.at < len(self.words) else self.end
+        word = self.next()
         if word is self.end or wanted and word.text != wanted or not wanted and word.text in MARKS:
             refuse(f"{word.text} stands where {wanted or 'a name'} is wanted", word)
         self.at += 1
@@ -104,10 +107,11 @@ class Reader:
         if self.peek() == "->=":
             refuse("a relative rule can't be said", self.words[self.at])
         self.take("->")
-        right, conditions = self.term(), []
+        right = self.term()
+        conditions: list[tuple[Term, Term]] = []
         while self.peek() == ("," if conditions else "|"):
             self.at += 1
-            side, between = self.term(), self.words[self.at] if self.at < len(self.words) else self.end
+            side, between = self.term(), self.next()
             if between.text == "-><-":
                 refuse("a condition of joinability can't be said", between)
             if between.text not in ("->", "=="):
@@ -119,7 +123,8 @@ class Reader:
         return Rule(left, right, conditions)
 
     def term(self) -> Term:
-        name, arguments = self.take(), []
+        name = self.take()
+        arguments: list[Term] = []
         if self.peek() == "(":
             self.take("(")
             while self.peek() != ")":

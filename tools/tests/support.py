@@ -39,7 +39,7 @@ def rec(words: Sequence[str], given: bytes = b"", **variables: str) -> tuple[byt
 
 
 def call(tool: str, *words: str, given: bytes) -> tuple[str, str, int]:
-    """Runs a tool of Python in this process on a file `input`; returns what it writes, with no path of that file, and its status."""
+    """Runs a tool of Python in this process on a file `input`; returns its outputs, without paths, and its status."""
     status, out, err, argv = 0, io.StringIO(), io.StringIO(), sys.argv
     with folder() as room, contextlib.redirect_stdout(out), contextlib.redirect_stderr(err):
         with open(f"{room}/input", "wb") as file:

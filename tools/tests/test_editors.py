@@ -23,7 +23,10 @@ SCOPES = {
 }
 NAME_BYTES = set("ABCDEFGHIJKLMNOPQRSTUVWXYZabcdefghijklmnopqrstuvwxyz0123456789_'.@#$&*+/!?^~|\\")
 # All that the examples lack: arrows without spaces, runs that begin as reserved words do, bytes that begin no word.
-HARD = 'REC-SPEC A-b SORTS->S RULESX iffy\n f(X)->a if g(X)-><-b and-if X->/<-c, if->if- <> EVAL-x EVAL->and-iff\n> < " [ % -> if >\nENDSPEC - -- a--> END-SPEC'
+HARD = """REC-SPEC A-b SORTS->S RULESX iffy
+ f(X)->a if g(X)-><-b and-if X->/<-c, if->if- <> EVAL-x EVAL->and-iff
+> < " [ % -> if >
+ENDSPEC - -- a--> END-SPEC"""
 
 
 def groups(line: str) -> list[str]:

@@ -141,7 +141,7 @@ class Terminal(unittest.TestCase):
 
     def test_a_long_run_shows_its_time(self) -> None:
         with support.folder() as folder:
-            shown = self.on_terminal(["rewrite"], support.script(folder, "sleep 2.6; echo value; exit 1"))
+            shown = self.on_terminal(["rewrite"], support.script(folder, "sleep 3.2; echo value; exit 1"))
         self.assertEqual(self.status, 1)
         self.assertRegex(shown, r"^(\r\x1b\[Krec: running rewrite, [234] s)+\r\x1b\[Kvalue\n$")
 

@@ -31,6 +31,10 @@ option|--workers|1|16|1|how many workers
 command|check log|text|reads a log|./rec check log FILE
 command|unpack|bytes|reads a file of terms|./rec unpack FILE
 """
+# Stands for a program that has them: it writes its words and the length of its input, and refuses that.
+PROGRAM_OF_LATER = """echo "$*"; wc -c
+case $1 in check) echo fault 15 at 2 >&2 ;; *) echo fault 18 at 48 >&2 ;; esac
+exit 3"""
 
 
 class PassesOn(unittest.TestCase):
@@ -146,19 +150,15 @@ class Later(unittest.TestCase):
             shutil.copytree(support.TOOLS, f"{folder}/tools", ignore=shutil.ignore_patterns("tests"))
             with open(f"{folder}/tools/commands.txt", "a") as table:
                 table.write(LATER)
-            program = support.script(
-                folder,
-                'echo "$*"; wc -c; case $1 in check) echo fault 15 at 2 >&2 ;; *) echo fault 18 at 48 >&2 ;; esac; exit 3',
-            )
+            program = support.script(folder, PROGRAM_OF_LATER)
 
             def later(*words: str) -> tuple[str, str]:
                 out, err, _ = run([f"{folder}/rec", *words], REC_PROGRAM=program, REC_EXPLAIN="1")
                 return out.decode(), err.decode()
 
-            self.assertIn(
-                "  rec drill N [OPTIONS]\n    rewrites a drill\n    --workers N how many workers: 1 to 16, 1 if not given\n",
-                later("help", "drill")[1],
-            )
+            told = later("help", "drill")[1]
+            self.assertIn("  rec drill N [OPTIONS]\n    rewrites a drill\n", told)
+            self.assertIn("    --workers N how many workers: 1 to 16, 1 if not given\n", told)
             self.assertEqual(later("drill", "LICENSE")[0], "drill LICENSE\n0\n")
             out, err = later("check", "log", "LICENSE")
             self.assertEqual(
