@@ -2,34 +2,66 @@
 
 from __future__ import annotations
 
-import difflib
 import os
 import re
-from dataclasses import dataclass, field
 
-TABLE = os.path.join(os.path.dirname(os.path.abspath(__file__)), "commands.txt")
+from command_lines import Command, commands, options_given
+
 
 # Of each kind of fault: what it is, and what to do.
 KINDS: dict[int, tuple[str, str]] = {
     1: ("no word, white space or comment begins with this byte", "remove it, or put it behind a % into a comment"),
-    2: ("this word can't stand here", "see the grammar in docs/LANGUAGE.md: the sections have one order, and brackets are never empty"),
-    3: ("the input ends too early, or nothing is there", "close each bracket, and end each specification with END-SPEC"),
+    2: (
+        "this word can't stand here",
+        "see the grammar in docs/LANGUAGE.md: the sections have one order, and brackets are never empty",
+    ),
+    3: (
+        "the input ends too early, or nothing is there",
+        "close each bracket, and end each specification with END-SPEC",
+    ),
     4: ("this sort isn't listed", "list it in SORTS, or include a specification that does"),
-    5: ("this name isn't declared", "declare it in CONS, OPNS or VARS, or include a specification that declares it as a symbol"),
-    6: ("this name is declared again, or the entry brings another declaration of a symbol", "keep one of the two, or give this one another name"),
-    7: ("a symbol has another number of arguments than declared, or a variable has arguments", "give it the arguments of its declaration"),
-    8: ("this term has another sort than is wanted here", "compare the declaration of its first name with that of the symbol around it, or of the other side"),
+    5: (
+        "this name isn't declared",
+        "declare it in CONS, OPNS or VARS, or include a specification that declares it as a symbol",
+    ),
+    6: (
+        "this name is declared again, or the entry brings another declaration of a symbol",
+        "keep one of the two, or give this one another name",
+    ),
+    7: (
+        "a symbol has another number of arguments than declared, or a variable has arguments",
+        "give it the arguments of its declaration",
+    ),
+    8: (
+        "this term has another sort than is wanted here",
+        "compare the declaration of its first name with that of the symbol around it, or of the other side",
+    ),
     9: ("a variable stands alone on the left side of a rule", "begin the left side with a symbol"),
-    10: ("a variable of a right side or a condition isn't in the rule's left side", "use variables of the left side alone"),
+    10: (
+        "a variable of a right side or a condition isn't in the rule's left side",
+        "use variables of the left side alone",
+    ),
     11: ("a variable stands in EVAL", "put a term without variables in its place"),
     12: ("no earlier specification has this name", "put the specification before this one, or correct the name"),
-    13: ("a limit is passed", "keep to 255 bytes a name, 16 arguments, 65,535 symbols, 65,535 rules and 65,535 terms a specification"),
+    13: (
+        "a limit is passed",
+        "keep to 255 bytes a name, 16 arguments, 65,535 symbols, 65,535 rules and 65,535 terms a specification",
+    ),
     14: ("the input is too long", "cut it into several inputs"),
-    15: ("this line has another form, or names a seat that isn't there", "write it as the list of lines in README.md says, with seats below --seats"),
+    15: (
+        "this line has another form, or names a seat that isn't there",
+        "write it as the list of lines in README.md says, with seats below --seats",
+    ),
     16: ("this step is out of place here", "see the list of steps in README.md, which says when each is in place"),
-    17: ("this number begins with 0, or is above 18446744073709551615", "write it without leading zeros, or as a quoted name"),
+    17: (
+        "this number begins with 0, or is above 18446744073709551615",
+        "write it without leading zeros, or as a quoted name",
+    ),
     18: ("the file isn't one that pack writes, from this byte on", "pack the terms again"),
-    19: ("a rule has a condition, which this command doesn't take", "leave the conditions out, or use rewrite without --trace"),
+    19: (
+        "a rule has a condition, which this command doesn't take",
+        "leave the conditions out, or use rewrite without --trace",
+    ),
 }
 # A word of a specification, as far as it is to be marked.
 WORD = re.compile(rb"-><-|->/<-|->|<>|[^\s(),:=<>%]*")
@@ -38,78 +70,36 @@ OF_LINES = (15, 16)
 # Lines that stand for a term without a value, with the option that gives it more.
 NO_VALUE = {"out of fuel": "--fuel", "too deep": "--depth", "too large": "--sizes"}
 # Why a run ended with these statuses.
-CAUSES = {5: "standard input couldn't be read", 6: "standard output couldn't be written: is the disk full?", 7: "the system gave no more memory"}
+CAUSES = {
+    5: "standard input couldn't be read",
+    6: "standard output couldn't be written: was it closed, or is the disk full?",
+    7: "the system gave no more memory",
+}
 TOO_LARGE = "the value has too many symbols to be written: --sizes tells its size"
-
-
-@dataclass
-class Option:
-    least: int
-    most: int
-    default: int
-
-
-@dataclass
-class Command:
-    words: list[str]
-    input: str
-    # None stands for a switch, which has no value.
-    options: dict[str, Option | None] = field(default_factory=dict)
-
-
-def commands() -> dict[str, Command]:
-    """Returns the commands that tools/commands.txt lists, by their first word."""
-    found: dict[str, Command] = {}
-    with open(TABLE, encoding="utf-8") as table:
-        entries = [line.rstrip("\n").split("|") for line in table]
-    for entry in entries:
-        if entry[0] == "command":
-            last = Command(entry[1].split(), entry[2])
-            found[last.words[0]] = last
-        elif entry[0] == "option":
-            least, most, default = entry[2:5]
-            last.options[entry[1]] = None if least == "-" else Option(int(least), int(most), int(default))
-    return found
-
-
-def options_given(command: Command, words: list[str]) -> tuple[dict[str, str], list[str]]:
-    """Returns the value that each option is given, and the other words; a complaint is raised as a ValueError."""
-    given: dict[str, str] = {}
-    plain: list[str] = []
-    rest = iter(words)
-    for word in rest:
-        if not word.startswith("-"):
-            plain.append(word)
-            continue
-        name, equals, value = word.partition("=")
-        if name not in command.options:
-            near = difflib.get_close_matches(name, command.options, 1)
-            raise ValueError(f"{command.words[0]} has no option {name}" + (f": is {near[0]} meant?" if near else ""))
-        if name in given:
-            raise ValueError(f"{name} stands twice")
-        option = command.options[name]
-        if option is None and equals:
-            raise ValueError(f"{name} has no value")
-        if option is not None:
-            value = value if equals else next(rest, "")
-            if not re.fullmatch(r"\+?[0-9]+", value, re.ASCII) or not option.least <= int(value) <= option.most:
-                raise ValueError(f"{name} wants a number from {option.least} to {option.most}" + (f", and {value} is none" if value else ""))
-        given[name] = value
-    return given, plain
 
 
 def of_words(table: dict[str, Command], words: list[str]) -> list[str]:
     """Says what is wrong with refused words."""
     if not words or words[0] not in table:
-        offered = f"the commands are {', '.join(table)}"
-        return [f"rec: {words[0]} is no command: {offered}" if words else f"rec: {offered}", "rec: 'rec --help' tells more"]
+        offered, name = f"the commands are {', '.join(table)}", "".join(
+            words[1:2] if words[:1] == ["help"] else words[:1]
+        )
+        return [f"rec: {name} is no command: {offered}" if name else f"rec: {offered}", "rec: 'rec --help' tells more"]
     command, why = table[words[0]], "these words are no command line"
     try:
         _, plain = options_given(command, words[1:])
         surplus = plain[len(command.words) - 1 :]
         if surplus:
-            what = "a folder" if os.path.isdir(surplus[-1]) else "a file that can't be read" if os.path.exists(surplus[-1]) else "no file"
+            what = (
+                "a folder"
+                if os.path.isdir(surplus[-1])
+                else "a file that can't be read"
+                if os.path.exists(surplus[-1])
+                else "no file"
+            )
             why = f"{surplus[-1]} is {what}" if len(surplus) == 1 else f"{surplus[0]} is one word too many"
+        elif len(plain) < len(command.words) - 1:
+            why = f"a word is missing: {' '.join(command.words)}"
     except ValueError as fault:
         why = str(fault)
     return [f"rec: {why}", f"rec: 'rec help {words[0]}' tells more"]
@@ -117,8 +107,9 @@ def of_words(table: dict[str, Command], words: list[str]) -> list[str]:
 
 def in_force(table: dict[str, Command], words: list[str], name: str) -> str:
     """Says what to give the option, and what it had in this run."""
-    option = table[words[0]].options[name]
-    assert option is not None
+    option = table[words[0]].options.get(name)
+    if option is None:
+        return f"{name} has to be more"
     value = int(options_given(table[words[0]], words[1:])[0].get(name, option.default))
     if value >= option.most:
         return f"{name} was {value}, which is the most that it may be"
@@ -136,6 +127,11 @@ def shown(line: bytes, at: int, length: int) -> tuple[str, str, int]:
     return front + text[start:end] + back, " " * len(front) + space + marks, len(before) + 1
 
 
+def word_length(line: bytes, at: int) -> int:
+    word = WORD.match(line, at)
+    return len(word[0]) if word else 0
+
+
 def of_fault(kind: int, place: int, text: bytes | None, source: str, is_bytes: bool) -> list[str]:
     """Says what a fault is and where it stands."""
     what, advice = KINDS.get(kind, ("a fault without a name", "see docs/LANGUAGE.md"))
@@ -150,7 +146,7 @@ def of_fault(kind: int, place: int, text: bytes | None, source: str, is_bytes: b
     else:
         start = text.rfind(b"\n", 0, place) + 1
         number, line, at = text.count(b"\n", 0, place) + 1, text[start:].partition(b"\n")[0], place - start
-        length = 1 if kind == 1 else len(WORD.match(line, at)[0])
+        length = 1 if kind == 1 else word_length(line, at)
     written, marks, column = shown(line.rstrip(b"\r"), at, length)
     head, margin = f"{name}:{number}:{column}: kind {kind}: {what}", " " * len(str(number))
     return [head, f" {number} | {written}", f" {margin} | {marks}", f" {margin} what to do: {advice}"]
@@ -163,13 +159,25 @@ def of_lines(table: dict[str, Command], words: list[str], output: bytes | None) 
     for text, option in NO_VALUE.items():
         numbers = [at for at, line in enumerate(lines, 1) if line == text]
         if numbers or output is None:
-            which = f" in {len(numbers)} lines, first in line {numbers[0]}" if len(numbers) > 1 else f" in line {numbers[0]}" if numbers else ", if that is a line"
-            said.append(f"rec: '{text}'{which}: " + (TOO_LARGE if option == "--sizes" else in_force(table, words, option)))
+            which = (
+                f" in {len(numbers)} lines, first in line {numbers[0]}"
+                if len(numbers) > 1
+                else f" in line {numbers[0]}"
+                if numbers
+                else ", if that is a line"
+            )
+            said.append(
+                f"rec: '{text}'{which}: " + (TOO_LARGE if option == "--sizes" else in_force(table, words, option))
+            )
     return said
 
 
 def told(words: list[str], status: int, line: str, text: bytes | None, output: bytes | None, source: str) -> list[str]:
-    """Says what is to be told of a run: its words, status and line on standard error, what it read and wrote where that is known, and the name of its source."""
+    """Says what is to be told of a run.
+
+    Of the run are given its words, its status, its line on standard error, what it read and what it wrote where
+    that is known, and the name of the file that it read, or nothing.
+    """
     table = commands()
     if status == 2:
         return of_words(table, words)

@@ -66,13 +66,16 @@ FAULTS = [
     fault_of_line(16, "0 raise\n1 give\n0 look\n", 2),
 ]
 
+
 def read(name: str) -> bytes:
     with open(f"{TOP}/{name}", "rb") as file:
         return file.read()
 
 
 NAT, SUM = read("examples/nat.rec"), read("examples/sum.rec")
-PAIRS = "REC-SPEC P SORTS S CONS z : -> S p : S S -> S OPNS d : S -> S VARS X : S RULES d(X) -> p(X,X) EVAL %s END-SPEC\n"
+PAIRS = (
+    "REC-SPEC P SORTS S CONS z : -> S p : S S -> S OPNS d : S -> S VARS X : S RULES d(X) -> p(X,X) EVAL %s END-SPEC\n"
+)
 LARGE = (PAIRS % (20 * "d(" + "z" + 20 * ")")).encode()
 ONE_AND_ONE, TWO_AND_TWO = b"s(s(z))\n", b"s(s(s(s(z))))\n"
 START = b"seat 0 out busy 0 forbidden 0 free\nseat 1 out busy 0 forbidden 0 free\nmutex free\n"

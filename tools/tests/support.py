@@ -28,7 +28,9 @@ os.environ["PATH"] = f"{os.path.dirname(os.path.realpath(sys.executable))}:{os.e
 def run(words: Sequence[str], given: bytes = b"", **variables: str) -> tuple[bytes, bytes, int]:
     """Runs a command at the top of the repository, and returns its output, its error output and its status."""
     names = {it: os.environ[it] for it in ("PATH", "HOME", "LANG") if it in os.environ}
-    ran = subprocess.run(words, input=given, capture_output=True, cwd=TOP, env={**names, "REC_PROGRAM": PROGRAM, **variables})
+    ran = subprocess.run(
+        words, input=given, capture_output=True, cwd=TOP, env={**names, "REC_PROGRAM": PROGRAM, **variables}
+    )
     return ran.stdout, ran.stderr, ran.returncode
 
 
@@ -37,7 +39,7 @@ def rec(words: Sequence[str], given: bytes = b"", **variables: str) -> tuple[byt
 
 
 def call(tool: str, *words: str, given: bytes) -> tuple[str, str, int]:
-    """Runs a tool of Python in this process on a file `input`; returns what it writes, with no path of that file, and its status."""
+    """Runs a tool of Python in this process on a file `input`; returns its outputs, without paths, and its status."""
     status, out, err, argv = 0, io.StringIO(), io.StringIO(), sys.argv
     with folder() as room, contextlib.redirect_stdout(out), contextlib.redirect_stderr(err):
         with open(f"{room}/input", "wb") as file:
@@ -58,6 +60,15 @@ def is_here(command: str) -> bool:
 
 def folder() -> tempfile.TemporaryDirectory[str]:
     return tempfile.TemporaryDirectory(prefix="rec-tests-")
+
+
+def script(folder: str, text: str) -> str:
+    """Makes a program of its own, which stands for one that is slow or is ended."""
+    path = f"{folder}/program"
+    with open(path, "w") as file:
+        file.write(f"#!/bin/sh\n{text}\n")
+    os.chmod(path, 0o755)
+    return path
 
 
 def examples(ending: str) -> list[str]:

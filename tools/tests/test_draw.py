@@ -14,12 +14,36 @@ DRAW = f"{support.TOOLS}/draw"
 PICTURES = [
     (b"a\n", ["a"], []),
     (b"p(p(z,z),p(z,z))\n", ["p", "p", "z"], ["p z", "p z", "p p", "p p"]),
-    (b"cons(z,cons(s(z),nil))\n", ["cons", "cons", "nil", "s", "z"], ["s z", "cons s", "cons nil", "cons z", "cons cons"]),
+    (
+        b"cons(z,cons(s(z),nil))\n",
+        ["cons", "cons", "nil", "s", "z"],
+        ["s z", "cons s", "cons nil", "cons z", "cons cons"],
+    ),
     (b'f("1",1)\n', ["1", "1", "f"], ["f 1", "f 1"]),
-    (b"[1,f(2)]\n[]\n[[],1]\n", ["1", "2", ":", ":", ":", ":", "[]", "f"], ["f 2", ": f", ": []", ": 1", ": :", ": 1", ": []", ": []", ": :"]),
+    (
+        b"[1,f(2)]\n[]\n[[],1]\n",
+        ["1", "2", ":", ":", ":", ":", "[]", "f"],
+        ["f 2", ": f", ": []", ": 1", ": :", ": 1", ": []", ": []", ": :"],
+    ),
     (b'f(a,"b\\"c")\ndistinct 3 nodes 3\n', ["a", 'b\\"c', "f"], ["f a", 'f b\\"c']),
 ]
-WRONG = [b"[1,\n", b"[,]\n", b"f()\n", b"f(a\n", b"f a\n", b"f(a))\n", b"a,b\n", b"f(a]\n", b"(a)\n", b'a"\n', b"f(,a)\n", b"[a,]\n", b'"\\x"\n', b"", b"out of fuel\n"]
+WRONG = [
+    b"[1,\n",
+    b"[,]\n",
+    b"f()\n",
+    b"f(a\n",
+    b"f a\n",
+    b"f(a))\n",
+    b"a,b\n",
+    b"f(a]\n",
+    b"(a)\n",
+    b'a"\n',
+    b"f(,a)\n",
+    b"[a,]\n",
+    b'"\\x"\n',
+    b"",
+    b"out of fuel\n",
+]
 
 
 def parts(picture: str) -> tuple[list[str], list[str]]:

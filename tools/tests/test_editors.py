@@ -23,7 +23,10 @@ SCOPES = {
 }
 NAME_BYTES = set("ABCDEFGHIJKLMNOPQRSTUVWXYZabcdefghijklmnopqrstuvwxyz0123456789_'.@#$&*+/!?^~|\\")
 # All that the examples lack: arrows without spaces, runs that begin as reserved words do, bytes that begin no word.
-HARD = "REC-SPEC A-b SORTS->S RULESX iffy\n f(X)->a if g(X)-><-b and-if X->/<-c, if->if- <> EVAL-x EVAL->and-iff\n> < \" [ % -> if >\nENDSPEC - -- a--> END-SPEC"
+HARD = """REC-SPEC A-b SORTS->S RULESX iffy
+ f(X)->a if g(X)-><-b and-if X->/<-c, if->if- <> EVAL-x EVAL->and-iff
+> < " [ % -> if >
+ENDSPEC - -- a--> END-SPEC"""
 
 
 def groups(line: str) -> list[str]:
@@ -37,7 +40,9 @@ def groups(line: str) -> list[str]:
         arrow = next((it for it in ("-><-", "->/<-", "->", "<>", "=") if rest.startswith(it)), "")
         if end:
             name = rest[:end]
-            found += ["recSection" if name in RESERVED else "recCondition" if name in ("if", "and-if") else "recName"] * end
+            found += [
+                "recSection" if name in RESERVED else "recCondition" if name in ("if", "and-if") else "recName"
+            ] * end
         elif arrow:
             found += ["recArrow"] * len(arrow)
         elif rest[0] == "%":
@@ -88,11 +93,24 @@ class Editors(unittest.TestCase):
             with support.folder() as folder:
                 with open(f"{folder}/input.rec", "w") as file:
                     file.write(text)
-                words = ["set runtimepath^=editors/vim", "filetype plugin on", "syntax on", f"edit {folder}/input.rec", "source tools/tests/groups.vim"]
-                run(["vim", "-N", "-u", "NONE", "-i", "NONE", "-es", *(it for word in words for it in ("-c", word))], REC_GROUPS=f"{folder}/groups")
+                words = [
+                    "set runtimepath^=editors/vim",
+                    "filetype plugin on",
+                    "syntax on",
+                    f"edit {folder}/input.rec",
+                    "source tools/tests/groups.vim",
+                ]
+                run(
+                    ["vim", "-N", "-u", "NONE", "-i", "NONE", "-es", *(it for word in words for it in ("-c", word))],
+                    REC_GROUPS=f"{folder}/groups",
+                )
                 with open(f"{folder}/groups") as file:
                     found = [it.rstrip("\n").split(" ") for it in file]
-            wanted = [[str(at), str(column), group] for at, line in enumerate(text.splitlines(), 1) for column, group in enumerate(groups(line), 1)]
+            wanted = [
+                [str(at), str(column), group]
+                for at, line in enumerate(text.splitlines(), 1)
+                for column, group in enumerate(groups(line), 1)
+            ]
             self.assertEqual(found, wanted)
 
 

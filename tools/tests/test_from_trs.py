@@ -33,10 +33,20 @@ PLUS = b"(VAR x)(RULES plus(0,x) -> s(x))"
 VALUES = {
     "peano": [("times(s(s(0)),s(s(s(0))))", "s(s(s(s(s(s(0))))))"), ("plus(s(0),0)", "s(0)")],
     "ackermann": [("ack(s(s(0)),s(s(0)))", "s(s(s(s(s(s(s(0)))))))"), ("ack(s(0),s(0))", "s(s(s(0)))")],
-    "group": [("m(i(m(a,b)),m(a,m(b,c)))", "c"), ("m(m(a,i(b)),b)", "a"), ("i(m(i(a),b))", "m(i(b),a)"), ("i(i(e))", "e")],
+    "group": [
+        ("m(i(m(a,b)),m(a,m(b,c)))", "c"),
+        ("m(m(a,i(b)),b)", "a"),
+        ("i(m(i(a),b))", "m(i(b),a)"),
+        ("i(i(e))", "e"),
+    ],
     "combinators": [("app(app(app(S,K),K),a)", "a"), ("app(app(app(S,app(K,a)),K),b)", "app(a,app(K,b))")],
     "sort": [("sort(:(s(0),:(0,:(s(s(0)),nil))))", "_3a(0,_3a(s(0),_3a(s(s(0)),nil)))"), ("<=(s(0),0)", "false")],
-    "even": [("even(s(s(s(0))))", "false"), ("odd(s(s(s(0))))", "true"), ("max(s(0),s(s(0)))", "s(s(0))"), ("max(s(0),0)", "s(0)")],
+    "even": [
+        ("even(s(s(s(0))))", "false"),
+        ("odd(s(s(s(0))))", "true"),
+        ("max(s(0),s(s(0)))", "s(s(0))"),
+        ("max(s(0),0)", "s(0)"),
+    ],
 }
 # A system that can't be said, and what is refused.
 REFUSED = [
@@ -45,11 +55,20 @@ REFUSED = [
     ("(STRATEGY CONTEXTSENSITIVE (f 1))", "line 1: the strategy CONTEXTSENSITIVE can't be said"),
     ("(CONDITIONTYPE JOIN)", "line 1: the type of conditions JOIN can't be said"),
     ("(VAR x)(RULES f(x) ->= x)", "line 1: a relative rule can't be said"),
-    ("(VAR x y)(RULES\nf(x) -> y)", "line 2: the variable y of a right side is extra: it isn't bound, which can't be said"),
-    ("(CONDITIONTYPE ORIENTED)(VAR x y)(RULES f(x) -> x | g(x) == y)", "line 1: the variable y of a condition is extra: it isn't bound, which can't be said"),
+    (
+        "(VAR x y)(RULES\nf(x) -> y)",
+        "line 2: the variable y of a right side is extra: it isn't bound, which can't be said",
+    ),
+    (
+        "(CONDITIONTYPE ORIENTED)(VAR x y)(RULES f(x) -> x | g(x) == y)",
+        "line 1: the variable y of a condition is extra: it isn't bound, which can't be said",
+    ),
     ("(VAR x)(RULES f(x) -> x | x -><- a)", "line 1: a condition of joinability can't be said"),
     ("(VAR x)(RULES f(x) -> x | x == a)", "line 1: a condition == stands without (CONDITIONTYPE ORIENTED) before it"),
-    ("(VAR x)(RULES f(x) -> x | x -> f(a))", "line 1: a condition whose second side has f, which begins a left side, can't be said"),
+    (
+        "(VAR x)(RULES f(x) -> x | x -> f(a))",
+        "line 1: a condition whose second side has f, which begins a left side, can't be said",
+    ),
     ("(VAR x)(RULES x -> a)", "line 1: a left side that is a variable can't be said"),
     ("(VAR x)(RULES f(x(a)) -> a)", "line 1: the variable x has arguments"),
     ("(RULES f(a) -> f)", "line 1: the symbol f has 1 arguments elsewhere, and 0 here"),
@@ -67,8 +86,14 @@ WRITTEN = [
         ["  f(x) -> x if g(x) = s(x), x = 0", "  f(x) -> a", "  a : -> Term"],
     ),
     ("(VAR x)(RULES f(x) -> s(x) | g(x) -> 0)", ["  f(x) -> s(x) if g(x) = 0"]),
-    ("(STRATEGY INNERMOST)(COMMENT (a) ->)(VAR EVAL)(RULES if(EVAL)->+-(EVAL))", ["  if'(EVAL') -> +-(EVAL')", "% if is written if'."]),
-    ("(VAR EVAL if)(RULES f(EVAL,if')->EVAL)", ["% EVAL is written EVAL'.", "% if is written if''.", "  f(EVAL',if') -> EVAL'"]),
+    (
+        "(STRATEGY INNERMOST)(COMMENT (a) ->)(VAR EVAL)(RULES if(EVAL)->+-(EVAL))",
+        ["  if'(EVAL') -> +-(EVAL')", "% if is written if'."],
+    ),
+    (
+        "(VAR EVAL if)(RULES f(EVAL,if')->EVAL)",
+        ["% EVAL is written EVAL'.", "% if is written if''.", "  f(EVAL',if') -> EVAL'"],
+    ),
 ]
 
 
@@ -89,8 +114,12 @@ class FromTrs(unittest.TestCase):
             self.assertEqual(call(FROM_TRS, given=text.encode()), ("", f"from-trs: input: {why}\n", 1), text)
         for term in ("s(x)", "s(0", "s(0) 0", "plus(0)"):
             out, err, status = call(FROM_TRS, "--term", term, given=PLUS)
-            self.assertEqual((out, err.startswith(f"from-trs: input: --term {term}: line 1: "), status), ("", True, 1), err)
-        self.assertEqual(run([FROM_TRS], b"(THEORY (C f))"), (b"", b"from-trs: standard input: line 1: a theory can't be said\n", 1))
+            self.assertEqual(
+                (out, err.startswith(f"from-trs: input: --term {term}: line 1: "), status), ("", True, 1), err
+            )
+        self.assertEqual(
+            run([FROM_TRS], b"(THEORY (C f))"), (b"", b"from-trs: standard input: line 1: a theory can't be said\n", 1)
+        )
 
     @unittest.skipUnless(support.IS_BUILT, "no program is built")
     def test_values(self) -> None:

@@ -10,7 +10,23 @@ from cases import NAT
 from support import PROGRAM, run
 
 SPREAD = f"{support.TOOLS}/spread"
-FRONT = b"REC-SPEC BASE SORTS S CONS a b c : -> S EVAL a b END-SPEC\nREC-SPEC LAST : BASE\nCONS f : S S -> S % EVAL (\nEVAL\n"
+FRONT = b"""REC-SPEC BASE SORTS S CONS a b c : -> S EVAL a b END-SPEC
+REC-SPEC LAST : BASE
+CONS f : S S -> S % EVAL (
+EVAL
+"""
+# The first run on the last of eight parts is killed, and each run on a part is noted in a folder.
+FRAGILE = """[ "$*" = rewrite ] && echo run >>FOLDER/runs
+[ "$PARALLEL_SEQ" = 8 ] && mkdir FOLDER/killed 2>/dev/null && kill -9 $$
+exec PROGRAM "$@"
+"""
+# In place of ssh: what is sent to a host is run here, as ssh would run it there.
+FAR = """while :; do case $1 in -*) shift ;; *) break ;; esac; done
+shift
+[ "$1" = -- ] && shift
+echo "$*" >>FOLDER/sent
+SHELL=/bin/sh exec sh -c "$*"
+"""
 TERMS = [b"a", b"f ( a , b )", b"f(f(a,b),c),", b"c, ", b"f(c,% a comment ) (\n f(a,a))", b"b"]
 LINES = [b"a", b"f(a,b)", b"f(f(a,b),c)", b"c", b"f(c,f(a,a))", b"b"]
 END = b"\nEND-SPEC % END-SPEC EVAL a\n"
@@ -28,6 +44,9 @@ class Spread(unittest.TestCase):
             file.write(text)
         return self.file
 
+    def script(self, text: str) -> str:
+        return support.script(self.room.name, text.replace("FOLDER", self.room.name).replace("PROGRAM", PROGRAM))
+
     def spread(self, *words: str, program: str = PROGRAM) -> tuple[bytes, bytes, int]:
         return run([SPREAD, "--rec", program, "--jobs", "4", *words])
 
@@ -43,11 +62,7 @@ class Spread(unittest.TestCase):
         """65,535 terms on four slots: the bytes are those of one run, and only the lost part is run again."""
         self.write(FRONT + b" ".join(TERMS[at % 2] for at in range(65535)) + END)
         wanted = b"".join(LINES[at % 2] + b"\n" for at in range(65535))
-        room, fragile = self.room.name, f"{self.room.name}/fragile"
-        with open(fragile, "w") as file:
-            # The first run on the part with the last term is killed; each run on a part is noted.
-            file.write(f'#!/bin/sh\n[ "$*" = rewrite ] && pwd >>{room}/runs && [ "$PARALLEL_SEQ" = 8 ] && mkdir {room}/killed 2>/dev/null && kill -9 $$\nexec {PROGRAM} "$@"\n')
-        os.chmod(fragile, 0o755)
+        room, fragile = self.room.name, self.script(FRAGILE)
         self.assertEqual(run([f"{support.TOP}/rec", "rewrite", self.file]), (wanted, b"", 0))
         out, err, status = self.spread("--parts", "8", "--folder", f"{room}/kept", self.file, program=fragile)
         self.assertEqual((out, status), (b"", 10))
@@ -59,18 +74,19 @@ class Spread(unittest.TestCase):
             self.assertEqual(len(file.readlines()), 1 + 8 + 1)
 
     def test_a_part_without_all_its_lines_is_lost(self) -> None:
-        half = f"{self.room.name}/half"
-        with open(half, "w") as file:
-            file.write(f'#!/bin/sh\n{PROGRAM} "$@" | sed "/^b/d"\n')
-        os.chmod(half, 0o755)
-        out, err, status = self.spread(self.write(FRONT + b" ".join(TERMS) + END), "--parts", "6", "--folder", f"{self.room.name}/kept", program=half)
+        text = FRONT + b" ".join(TERMS) + END
+        half = self.script("PROGRAM \"$@\" | sed '/^b/d'")
+        kept = f"{self.room.name}/kept"
+        out, err, status = self.spread(self.write(text), "--parts", "6", "--folder", kept, program=half)
         self.assertEqual((out, status), (b"", 10))
         self.assertIn(b"1 of 6 parts are lost, as part00005", err)
 
     def test_the_worst_status_is_answered(self) -> None:
         self.assertEqual(self.spread("nowhere.rec"), (b"", b"spread: nowhere.rec: No such file or directory\n", 2))
         self.assertEqual(self.spread(self.write(b"REC-SPEC A EVAL q END-SPEC")), (b"", b"fault 5 at 16\n", 3))
-        self.assertEqual(self.spread(self.write(FRONT + END), "--", "--rows"), (b"", b"usage: rec COMMAND [OPTIONS]\n", 2))
+        self.assertEqual(
+            self.spread(self.write(FRONT + END), "--", "--rows"), (b"", b"usage: rec COMMAND [OPTIONS]\n", 2)
+        )
         self.assertEqual(self.spread(self.write(FRONT + END), "--", "--log")[2], 2)
 
     @unittest.skipUnless(support.IS_BUILT, "no program is built")
@@ -84,10 +100,7 @@ class Spread(unittest.TestCase):
         if not support.is_here("rsync"):
             self.skipTest("rsync isn't here")
         self.write(FRONT + b" ".join(TERMS) + END)
-        far = f"{self.room.name}/far"
-        with open(far, "w") as file:
-            file.write(f'#!/bin/sh\nwhile :; do case $1 in -*) shift ;; *) break ;; esac; done\nshift\n[ "$1" = -- ] && shift\necho "$*" >>{self.room.name}/sent\nSHELL=/bin/sh exec sh -c "$*"\n')
-        os.chmod(far, 0o755)
+        far = self.script(FAR)
         wanted = b"".join(it + b"\n" for it in LINES)
         self.assertEqual(self.spread("--sshlogin", f"2/{far} there,:", "--parts", "6", self.file), (wanted, b"", 0))
         self.assertTrue(os.path.getsize(f"{self.room.name}/sent"))
