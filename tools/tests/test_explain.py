@@ -79,6 +79,13 @@ class Tells(unittest.TestCase):
         told = rec(["rewrite", "--fuel=1"], NAT, REC_EXPLAIN="1")[1].decode()
         self.assertIn("rec: 'out of fuel', if that is a line: --fuel was 1: raise it", told)
 
+    def test_several_terms_without_a_value(self) -> None:
+        told = explanations.told(["rewrite"], 1, "", b"", b"a\ntoo deep\nout of fuel\ntoo deep\ntoo large\n", "")
+        self.assertEqual(
+            [it.split(": ")[1] for it in told],
+            ["'out of fuel' in line 3", "'too deep' in 2 lines, first in line 2", "'too large' in line 5"],
+        )
+
     def test_the_most_that_an_option_may_be(self) -> None:
         table = explanations.commands()
         self.assertEqual(
