@@ -7,7 +7,6 @@ import re
 
 from command_lines import Command, commands, options_given
 
-
 # Of each kind of fault: what it is, and what to do.
 KINDS: dict[int, tuple[str, str]] = {
     1: ("no word, white space or comment begins with this byte", "remove it, or put it behind a % into a comment"),
@@ -50,7 +49,7 @@ KINDS: dict[int, tuple[str, str]] = {
     14: ("the input is too long", "cut it into several inputs"),
     15: (
         "this line has another form, or names a seat that isn't there",
-        "write it as the list of lines in README.md says, with seats below --seats",
+        "write it as README.md tells the lines of a schedule, with seats below --seats",
     ),
     16: ("this step is out of place here", "see the list of steps in README.md, which says when each is in place"),
     17: (
@@ -78,26 +77,26 @@ CAUSES = {
 TOO_LARGE = "the value has too many symbols to be written: --sizes tells its size"
 
 
+def what_is(path: str) -> str:
+    if os.path.isdir(path):
+        return "a folder"
+    return "a file that can't be read" if os.path.exists(path) else "no file"
+
+
 def of_words(table: dict[str, Command], words: list[str]) -> list[str]:
     """Says what is wrong with refused words."""
     if not words or words[0] not in table:
-        offered, name = f"the commands are {', '.join(table)}", "".join(
-            words[1:2] if words[:1] == ["help"] else words[:1]
-        )
-        return [f"rec: {name} is no command: {offered}" if name else f"rec: {offered}", "rec: 'rec --help' tells more"]
+        asked = words[1:2] if words[:1] == ["help"] else words[:1]
+        why = "".join(f"{it} is no command: " for it in asked)
+        return [f"rec: {why}the commands are {', '.join(table)}", "rec: 'rec --help' tells more"]
     command, why = table[words[0]], "these words are no command line"
     try:
         _, plain = options_given(command, words[1:])
         surplus = plain[len(command.words) - 1 :]
-        if surplus:
-            what = (
-                "a folder"
-                if os.path.isdir(surplus[-1])
-                else "a file that can't be read"
-                if os.path.exists(surplus[-1])
-                else "no file"
-            )
-            why = f"{surplus[-1]} is {what}" if len(surplus) == 1 else f"{surplus[0]} is one word too many"
+        if len(surplus) == 1:
+            why = f"{surplus[0]} is {what_is(surplus[0])}"
+        elif surplus:
+            why = f"{surplus[0]} is one word too many"
         elif len(plain) < len(command.words) - 1:
             why = f"a word is missing: {' '.join(command.words)}"
     except ValueError as fault:
@@ -152,23 +151,21 @@ def of_fault(kind: int, place: int, text: bytes | None, source: str, is_bytes: b
     return [head, f" {number} | {written}", f" {margin} | {marks}", f" {margin} what to do: {advice}"]
 
 
+def places(numbers: list[int]) -> str:
+    if not numbers:
+        return ", if that is a line"
+    return f" in line {numbers[0]}" if len(numbers) == 1 else f" in {len(numbers)} lines, first in line {numbers[0]}"
+
+
 def of_lines(table: dict[str, Command], words: list[str], output: bytes | None) -> list[str]:
-    """Says which terms have no value, and why."""
+    """Says which terms have no value, and why: of all that may be so where the output isn't known."""
     said = []
     lines = (output or b"").decode(errors="replace").splitlines()
     for text, option in NO_VALUE.items():
         numbers = [at for at, line in enumerate(lines, 1) if line == text]
         if numbers or output is None:
-            which = (
-                f" in {len(numbers)} lines, first in line {numbers[0]}"
-                if len(numbers) > 1
-                else f" in line {numbers[0]}"
-                if numbers
-                else ", if that is a line"
-            )
-            said.append(
-                f"rec: '{text}'{which}: " + (TOO_LARGE if option == "--sizes" else in_force(table, words, option))
-            )
+            why = TOO_LARGE if option == "--sizes" else in_force(table, words, option)
+            said.append(f"rec: '{text}'{places(numbers)}: {why}")
     return said
 
 

@@ -93,7 +93,7 @@ ANSWERS = [
 ]
 # Words that are refused, and what is said of them.
 REFUSED = [
-    (("rewrit",), "rewrit is no command: the commands are rewrite, schedule"),
+    (("rewrit",), "rewrit is no command: the commands are rewrite"),
     (("rewrite", "--fuell=3"), "rewrite has no option --fuell: is --fuel meant?"),
     (("rewrite", "--fuel", "1000000001"), "--fuel wants a number from 0 to 1000000000, and 1000000001 is none"),
     (("rewrite", "--rows"), "--rows wants a number from 1 to 262144"),

@@ -47,16 +47,17 @@ class Tells(unittest.TestCase):
         self.assertTrue(advice.strip().startswith("what to do: "), advice)
 
     def test_what_the_readme_shows(self) -> None:
-        """What README.md shows of an explained fault is what comes, on a file with one wrong name."""
+        """What README.md shows of help and of an explained fault is what comes, on a file with one wrong name."""
         if not support.IS_BUILT:
             self.skipTest("no program is built")
         with support.folder() as folder:
             with open(f"{folder}/wrong.rec", "wb") as file:
                 file.write(SUM.replace(b"s(plus(X, Y))", b"s(plus(X, Z))"))
-            ran = run(["sh", "-c", f"cd {folder} && {TOP}/rec rewrite wrong.rec"], REC_EXPLAIN="1")
-        shown = [" " * 4 + line for line in ran[1].decode().splitlines()]
-        self.assertEqual(len(shown), 5)
-        self.assertIn("\n".join(shown), read("README.md").decode())
+            wrong = run(["sh", "-c", f"cd {folder} && {TOP}/rec rewrite wrong.rec"], REC_EXPLAIN="1")[1]
+        self.assertEqual(len(wrong.splitlines()), 5)
+        for told in (wrong, rec(["help", "rewrite"], REC_EXPLAIN="1")[1]):
+            shown = [(" " * 4 + line).rstrip() for line in told.decode().splitlines()]
+            self.assertIn("\n".join(shown), read("README.md").decode())
 
     def test_each_kind_has_its_words(self) -> None:
         self.assertEqual(list(explanations.KINDS), list(range(1, 20)))
@@ -79,6 +80,13 @@ class Tells(unittest.TestCase):
         told = rec(["rewrite", "--fuel=1"], NAT, REC_EXPLAIN="1")[1].decode()
         self.assertIn("rec: 'out of fuel', if that is a line: --fuel was 1: raise it", told)
 
+    def test_several_terms_without_a_value(self) -> None:
+        told = explanations.told(["rewrite"], 1, "", b"", b"a\ntoo deep\nout of fuel\ntoo deep\ntoo large\n", "")
+        self.assertEqual(
+            [it.split(": ")[1] for it in told],
+            ["'out of fuel' in line 3", "'too deep' in 2 lines, first in line 2", "'too large' in line 5"],
+        )
+
     def test_the_most_that_an_option_may_be(self) -> None:
         table = explanations.commands()
         self.assertEqual(
@@ -92,9 +100,9 @@ class Tells(unittest.TestCase):
     def test_refused_words(self) -> None:
         def check(refused: tuple[tuple[str, ...], str]) -> None:
             words, why = refused
-            self.assertEqual(
-                rec(words, REC_EXPLAIN="1")[1].decode().split("\n")[:2], [USAGE.decode().strip(), f"rec: {why}"]
-            )
+            usage, told = rec(words, REC_EXPLAIN="1")[1].decode().split("\n")[:2]
+            self.assertEqual(usage, USAGE.decode().strip())
+            self.assertTrue(told.startswith(f"rec: {why}"), told)
 
         support.each(check, REFUSED)
 

@@ -14,7 +14,7 @@ from cases import ANSWERS, FAULTS, NAT, ONE_AND_ONE, REFUSED, START, USAGE, Case
 from support import TOP, rec, run
 
 sys.path.insert(0, support.TOOLS)
-import explanations  # noqa: E402
+from command_lines import commands  # noqa: E402
 
 # Words for help, and what their answers have.
 HELP = {
@@ -26,14 +26,14 @@ HELP = {
     ("--version",): ["rec: commit ", "rec: toolchain "],
 }
 # Entries of commands that the program doesn't have.
-LATER = """command|drill N|none|rewrites a drill|./rec drill 100
+LATER = """command|dance N|none|rewrites a dance|./rec dance 100
 option|--workers|1|16|1|how many workers
-command|check log|text|reads a log|./rec check log FILE
-command|unpack|bytes|reads a file of terms|./rec unpack FILE
+command|judge log|text|reads a log|./rec judge log FILE
+command|unroll|bytes|reads a file of terms|./rec unroll FILE
 """
 # Stands for a program that has them: it writes its words and the length of its input, and refuses that.
 PROGRAM_OF_LATER = """echo "$*"; wc -c
-case $1 in check) echo fault 15 at 2 >&2 ;; *) echo fault 18 at 48 >&2 ;; esac
+case $1 in judge) echo fault 15 at 2 >&2 ;; *) echo fault 18 at 48 >&2 ;; esac
 exit 3"""
 
 
@@ -128,12 +128,23 @@ class Help(unittest.TestCase):
             self.assertEqual((out, status), (b"", 2), words)
             self.assertTrue(err.startswith(USAGE) and all(it in err.decode() for it in parts), (words, err))
 
-    def test_only_what_is_there_is_offered(self) -> None:
-        self.assertEqual(list(explanations.commands()), ["rewrite", "schedule"])
-        self.assertIn(
-            "rec: drill is no command: the commands are rewrite, schedule",
-            rec(["help", "drill"], REC_EXPLAIN="1")[1].decode(),
-        )
+    @unittest.skipUnless(support.IS_BUILT, "no program is built")
+    def test_what_is_offered_is_there(self) -> None:
+        """The program takes each command and option of the table, and of an option's values just those in its range."""
+        for command in commands().values():
+            words = [support.PROGRAM, *("1" if it == "N" else it for it in command.words)]
+            self.assertNotEqual(run(words)[2], 2, words)
+            for name, option in command.options.items():
+                if option is None:
+                    self.assertNotEqual(run([*words, name])[2], 2, name)
+                    continue
+                for value in (option.least, option.most, option.least - 1, option.most + 1):
+                    is_taken = option.least <= value <= option.most
+                    self.assertEqual(run([*words, f"{name}={value}"])[2] != 2, is_taken, (name, value))
+
+    def test_what_is_not_offered(self) -> None:
+        told = rec(["help", "nonsense"], REC_EXPLAIN="1")[1].decode()
+        self.assertIn("rec: nonsense is no command: the commands are rewrite", told)
 
     def test_tools_have_help(self) -> None:
         for name in ("explain", "spread", "draw", "from-trs"):
@@ -156,15 +167,15 @@ class Later(unittest.TestCase):
                 out, err, _ = run([f"{folder}/rec", *words], REC_PROGRAM=program, REC_EXPLAIN="1")
                 return out.decode(), err.decode()
 
-            told = later("help", "drill")[1]
-            self.assertIn("  rec drill N [OPTIONS]\n    rewrites a drill\n", told)
+            told = later("help", "dance")[1]
+            self.assertIn("  rec dance N [OPTIONS]\n    rewrites a dance\n", told)
             self.assertIn("    --workers N how many workers: 1 to 16, 1 if not given\n", told)
-            self.assertEqual(later("drill", "LICENSE")[0], "drill LICENSE\n0\n")
-            out, err = later("check", "log", "LICENSE")
+            self.assertEqual(later("dance", "LICENSE")[0], "dance LICENSE\n0\n")
+            out, err = later("judge", "log", "LICENSE")
             self.assertEqual(
-                (out, err.split("\n")[1][:21]), (f"check log\n{len(read('LICENSE'))}\n", "LICENSE:2:1: kind 15:")
+                (out, err.split("\n")[1][:21]), (f"judge log\n{len(read('LICENSE'))}\n", "LICENSE:2:1: kind 15:")
             )
-            self.assertIn("LICENSE: byte 48: kind 18: ", later("unpack", "LICENSE")[1])
+            self.assertIn("LICENSE: byte 48: kind 18: ", later("unroll", "LICENSE")[1])
 
 
 if __name__ == "__main__":
