@@ -58,13 +58,7 @@ struct Noting {
     end: End,
 }
 
-fn noted(
-    alloc: Global,
-    rules: &[Rule],
-    term: &Flat,
-    fuel: u64,
-    room: u32,
-) -> Result<Noting, Memory>
+fn noted(alloc: Global, rules: &[Rule], term: &Flat, fuel: u64, room: u32) -> Result<Noting, Memory>
     ensures points { IfOk result (λ n. points_of n.points.items ≡ (evaluation_of rules.now term.now fuel room).notes) }
     ensures end { IfOk result (λ n. ended n.end ≡ (evaluation_of rules.now term.now fuel room).end) }
 {
@@ -109,8 +103,9 @@ fn evaluate(
             Ok((value, fuel))
         }
         Term::Over(head, patterns) => {
-            let (args, left) =
-                evaluate_all(alloc, rules, bound, kept, patterns, fuel, room, points)?;
+            let (args, left) = evaluate_all(
+                alloc, rules, bound, kept, patterns, fuel, room, points,
+            )?;
             let term = Term::Over(*head, args);
             reduce(alloc, rules, &[], kept, term, left, room, points)
         }
@@ -135,11 +130,18 @@ fn evaluate_all(
         Arguments::Empty => Ok((Arguments::Empty, fuel)),
         Arguments::Next(pattern, patterns) => {
             let below = room.saturating_sub(1);
-            let (first, left) =
-                evaluate(alloc, rules, bound, kept, pattern, fuel, below, points)?;
+            let (first, left) = evaluate(alloc, rules, bound, kept, pattern, fuel, below, points)?;
             let with_first = in_front(alloc, &first, kept)?;
-            let (rest, left) =
-                evaluate_all(alloc, rules, bound, &with_first, patterns, left, below, points)?;
+            let (rest, left) = evaluate_all(
+                alloc,
+                rules,
+                bound,
+                &with_first,
+                patterns,
+                left,
+                below,
+                points,
+            )?;
             let first = Box::new(alloc, first)?;
             let rest = Box::new(alloc, rest)?;
             Ok((Arguments::Next(first, rest), left))
@@ -237,8 +239,16 @@ fn replace(
         Term::Over(head, patterns) => {
             let below = room_below(room, bound.len());
             let with_bound = joined(alloc, bound, kept)?;
-            let (args, left) =
-                evaluate_all(alloc, rules, bound, &with_bound, patterns, fuel, below, points)?;
+            let (args, left) = evaluate_all(
+                alloc,
+                rules,
+                bound,
+                &with_bound,
+                patterns,
+                fuel,
+                below,
+                points,
+            )?;
             let term = Term::Over(*head, args);
             reduce(alloc, rules, bound, kept, term, left, room, points)
         }

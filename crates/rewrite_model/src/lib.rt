@@ -20,7 +20,9 @@ pub use boxed::{Arguments, Term};
 pub use counting::distinct;
 pub use ends::{End, Evaluated};
 pub use evaluating::{evaluation, need};
-pub use laws::{built_laws, fuel_laws, matching_laws, one_step_laws, outermost_fuel_laws, value_laws};
+pub use laws::{
+    built_laws, fuel_laws, matching_laws, one_step_laws, outermost_fuel_laws, value_laws,
+};
 pub use one_step::steps;
 pub use rows::{hand_rows, order_rows, outermost_rows, room_rows, worked_rows};
 pub use rules::{Condition, Rule};
