@@ -1,13 +1,12 @@
 -- Runs of the plain program, one part after another.
-use Rattle.std.proofs.Common.{◌≡◌, ℕ, zero, suc, ◌+◌, ◌-◌, ◌*◌, ◌<◌, ◌≤◌, List, [], ◌∷◌, ◌++◌, length, refl, sym, ◌∙◌, ap, subst, arith, append_assoc, append-nil, Bool, true, false, Option, Some, None}
+use Rattle.std.proofs.Common.{◌≡◌, ℕ, zero, suc, ◌+◌, ◌-◌, ◌<◌, ◌≤◌, List, [], ◌∷◌, ◌++◌, length, refl, sym, ◌∙◌, ap, subst, arith, append_assoc, append-nil, Bool, true, false, Some, None}
 use Rattle.std.specs.Prelude.{Result, Ok, Err, map, if◌then◌else◌, nat_lt}
 use Rattle.std.proofs.lemmas.Bool.{ltb-true, ltb-false}
-use Rattle.term_model.specs.Tree.{Tree, Leaf, Node, Trees, End, More, arguments}
-use Rattle.term_model.specs.declared.Head.{Head}
+use Rattle.term_model.specs.Tree.{Tree, Leaf, Node, Trees, More, arguments}
 use Rattle.rewrite_model.specs.Rule.{Rule, Condition}
 use Rattle.rewrite_model.specs.Matching.{match_of, if_matched, tree_at}
 use Rattle.rewrite_model.specs.Run.{Run, Ended, Done, OutOfFuel as NoFuel, TooDeep as NoRoom, done, ends, noting, after, ◌>>=◌, in_room}
-use Rattle.rewrite_model.specs.Evaluation.{Point, Evaluated, Reducer, evaluate, evaluate_all, hold, holds, replace, apply, reduce_by, reduction, begin}
+use Rattle.rewrite_model.specs.Evaluation.{Point, Evaluated, Reducer, evaluate, evaluate_all, hold, holds, replace, apply, reduce_by, reduction}
 use Rattle.rewrite_model.specs.Boxed.{tree_of, trees_in}
 use Rattle.rewrite_model.specs.declared.boxed.Term.{Term}
 use Rattle.rewrite_model.specs.declared.boxed.Arguments.{Arguments}

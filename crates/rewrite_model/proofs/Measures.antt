@@ -1,9 +1,9 @@
 -- Why the plain program's evaluation ends: fuel times the width of the rules, and what is left of the
 -- patterns and rules at hand.
-use Rattle.std.proofs.Common.{◌≡◌, ℕ, zero, suc, ◌+◌, ◌-◌, ◌*◌, ◌<◌, ◌≤◌, List, [], ◌∷◌, length, get_or, drop, refl, sym, ◌∙◌, ap, arith, add-one}
+use Rattle.std.proofs.Common.{◌≡◌, ℕ, zero, suc, ◌+◌, ◌*◌, ◌<◌, ◌≤◌, List, [], ◌∷◌, length, get_or, drop, sym, ◌∙◌, ap, arith}
 use Rattle.std.proofs.Math.Seq.{drop-cons}
 use Rattle.std.proofs.Math.Nat.{mul-le-mul_right}
-use Rattle.term_model.specs.Tree.{Tree, Leaf, Node, Trees, nodes}
+use Rattle.term_model.specs.Tree.{nodes}
 use Rattle.rewrite_model.specs.Rule.{Rule, Condition}
 
 abbrev pub sides : List Condition → ℕ

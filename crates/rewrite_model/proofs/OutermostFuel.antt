@@ -4,8 +4,8 @@ use Rattle.std.specs.Prelude.{if◌then◌else◌, nat_lt}
 use Rattle.term_model.specs.Tree.{Tree, Leaf, Node, Trees, End, More, count_of}
 use Rattle.rewrite_model.specs.Rule.{Rule}
 use Rattle.rewrite_model.specs.Matching.{match_of, if_matched, tree_at}
-use Rattle.rewrite_model.specs.Run.{Ended, Done, OutOfFuel, TooDeep, done, ends, noting}
-use Rattle.rewrite_model.specs.Step.{Step, ReachesInSteps}
+use Rattle.rewrite_model.specs.Run.{Done, OutOfFuel, TooDeep, done, ends, noting}
+use Rattle.rewrite_model.specs.Step.{ReachesInSteps}
 use Rattle.rewrite_model.specs.Outermost.{Building, build, build_all, Stepped, Same, Changed, use_right, step_at_root, rebuild, in_front, if_same, step, step_all, go_on, steps, outermost}
 use Rattle.rewrite_model.proofs.NormalForms.{no_instance}
 use Rattle.rewrite_model.proofs.Reached.{went_on, had_room, same_value}

@@ -1,20 +1,18 @@
 -- The parts of outermost evaluation, from what came before them.
-use Rattle.std.proofs.Common.{◌≡◌, ℕ, zero, suc, ◌+◌, ◌-◌, ◌<◌, ◌≤◌, List, [], ◌∷◌, ◌++◌, length, refl, sym, ◌∙◌, ap, subst, arith, append-nil, Bool, true, false, Option, Some, None}
+use Rattle.std.proofs.Common.{◌≡◌, ℕ, zero, suc, ◌+◌, ◌-◌, ◌<◌, ◌≤◌, List, [], ◌∷◌, refl, sym, ◌∙◌, ap, subst, arith, append-nil, Bool, true, false, Option, Some, None}
 use Rattle.std.specs.Prelude.{Result, Ok, Err, map, if◌then◌else◌, nat_lt}
 use Rattle.std.proofs.lemmas.Bool.{ltb-true, ltb-false}
-use Rattle.term_model.specs.Tree.{Tree, Leaf, Node, Trees, End, More, count_of}
-use Rattle.term_model.specs.declared.Head.{Head}
+use Rattle.term_model.specs.Tree.{Tree, Leaf, Node, Trees, More, count_of}
 use Rattle.rewrite_model.specs.Rule.{Rule}
 use Rattle.rewrite_model.specs.Matching.{match_of, if_matched, tree_at}
-use Rattle.rewrite_model.specs.Run.{Run, Ended, Done, OutOfFuel as NoFuel, TooDeep as NoRoom, done, ends, noting, ◌>>=◌, in_room}
-use Rattle.rewrite_model.specs.Outermost.{Building, build, build_all, Stepped, Same, Changed, use_right, step_at_root, rebuild, in_front, if_same, step, step_all, go_on, steps, outermost, outermost_built}
+use Rattle.rewrite_model.specs.Run.{Done, OutOfFuel as NoFuel, TooDeep as NoRoom, done, ends, noting, ◌>>=◌, in_room}
+use Rattle.rewrite_model.specs.Outermost.{Building, build, build_all, Stepped, Same, Changed, use_right, step_at_root, rebuild, in_front, step, step_all, go_on, steps}
 use Rattle.rewrite_model.specs.Boxed.{tree_of, trees_in, trees}
 use Rattle.rewrite_model.specs.Program.{Agrees, ComesTo, Built}
 use Rattle.rewrite_model.specs.Stepping.{same_tree, stepped_of, stepped_in, UsesFirst}
 use Rattle.rewrite_model.specs.declared.boxed.Term.{Term}
 use Rattle.rewrite_model.specs.declared.boxed.Arguments.{Arguments}
 use Rattle.rewrite_model.specs.declared.ends.Stop.{Stop}
-use Rattle.rewrite_model.specs.declared.ends.Stop.TheVariants.{OutOfFuel, TooDeep, Memory}
 use Rattle.rewrite_model.proofs.Comes.{agrees_then, then_err, then_tail, then_on, comes_done, some_room}
 
 nothing : (old : List Tree) → Agrees {N = Tree} {A = Tree} same_tree old old NoRoom (ends NoRoom)

@@ -5,7 +5,7 @@ use Rattle.std.specs.Global.{Global}
 use Rattle.term_model.specs.Tree.{Tree}
 use Rattle.rewrite_model.specs.Rule.{Rule, Condition}
 use Rattle.rewrite_model.specs.Run.{Run, Ended, Done, OutOfFuel as NoFuel, TooDeep as NoRoom}
-use Rattle.rewrite_model.specs.Evaluation.{Point, Evaluated, evaluate, evaluate_all, hold, replace, reduce_by, reduction}
+use Rattle.rewrite_model.specs.Evaluation.{Point, evaluate, evaluate_all, hold, replace, reduce_by, reduction}
 use Rattle.rewrite_model.specs.Boxed.{tree_of, trees_in, trees}
 use Rattle.rewrite_model.specs.Noted.{points_of}
 use Rattle.rewrite_model.specs.declared.points.Point.{Point as Pointed}

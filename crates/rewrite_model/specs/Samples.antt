@@ -1,5 +1,5 @@
 -- Small symbols and rules, of which worked rows speak.
-use Rattle.std.specs.Prelude.{ℕ, List, [], ◌∷◌, Bool, true, false, map}
+use Rattle.std.specs.Prelude.{ℕ, List, [], ◌∷◌, true, false, map}
 use Rattle.term_model.specs.Tree.{Tree, Leaf, Node, trees_of}
 use Rattle.term_model.specs.declared.Head.TheVariants.{App, Int, Nil, Cons}
 use Rattle.rewrite_model.specs.Rule.{Rule, Condition}

@@ -3,7 +3,7 @@ use Rattle.std.specs.Prelude.{◌≡◌, ℕ, ◌≤◌, List, Option, Some, Non
 use Rattle.term_model.specs.Tree.{Tree, Node, Trees, count_of}
 use Rattle.term_model.specs.declared.Head.{Head}
 use Rattle.rewrite_model.specs.Rule.{Rule}
-use Rattle.rewrite_model.specs.Run.{Run, Ended, Done, done, noting}
+use Rattle.rewrite_model.specs.Run.{Done, done, noting}
 use Rattle.rewrite_model.specs.Outermost.{Building, build, build_all, Stepped, Same, Changed, step_at_root, rebuild, step, step_all, steps, outermost}
 use Rattle.rewrite_model.specs.Boxed.{tree_of, trees_in, trees}
 use Rattle.rewrite_model.specs.Program.{Agrees, ComesTo, Built}

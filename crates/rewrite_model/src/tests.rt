@@ -1,6 +1,6 @@
 //! Worked rows by the plain program.
 
-use crate::{Condition, End, Evaluated, Rule, Term, distinct, evaluation, outermost, steps};
+use crate::{Condition, End, Evaluated, Rule, Term, distinct, evaluation, need, outermost, steps};
 use std::alloc::Global;
 use std::test::Fail;
 use term_model::{Flat, Item, Symbol};
@@ -216,6 +216,19 @@ fn a_repeated_variable_needs_equal_trees(rt: HostRuntime) -> Result<(), Fail> {
         inner(alloc, &rules, &[Z, S, Z, EQ], 9, 99, &[Z, S, Z, EQ])?,
         Seen::Wanted(9)
     );
+    Ok(())
+}
+
+#[test]
+fn need_counts_the_trees_that_are_kept(rt: HostRuntime) -> Result<(), Fail> {
+    let alloc = rt.alloc();
+    let rules = sums(alloc)?;
+    let one_and_one = flat(alloc, &ONE_AND_ONE)?;
+    assert_eq!(rt; need(alloc, &rules, &one_and_one, 99, 99)?, 3);
+    let mut rules = Vec::new(alloc);
+    rules.push(rule(alloc, &[X, F], &[A], 1)?)?;
+    let first_is_kept = flat(alloc, &[Z, S, C, G, F, P])?;
+    assert_eq!(rt; need(alloc, &rules, &first_is_kept, 1, 9)?, 5);
     Ok(())
 }
 

@@ -1,4 +1,4 @@
-use Rattle.std.proofs.Common.{◌≡◌, ◌+◌, ◌≤◌, arith, length}
+use Rattle.std.proofs.Common.{arith}
 use Rattle.rewrite_model.proofs.Counts.{few}
 use Rattle.rewrite_model.proofs.counting.distinct.Goals as goal
 

@@ -1,7 +1,6 @@
-use Rattle.std.proofs.Common.{◌≡◌, ◌-◌, ℕ, suc, ◌+◌, ◌*◌, ◌<◌, ◌≤◌, length, drop, Bool, true, false, List, [], ◌∷◌, ◌++◌, refl, sym, ap, subst, ◌∙◌, arith, Some, None}
-use Rattle.term_model.specs.Tree.{Tree, Trees, More, nodes, nodes_all, arguments}
+use Rattle.std.proofs.Common.{◌≡◌, ◌-◌, suc, ◌+◌, ◌<◌, ◌≤◌, length, drop, Bool, true, false, List, [], ◌∷◌, ◌++◌, refl, sym, ap, subst, ◌∙◌, arith, Some}
+use Rattle.term_model.specs.Tree.{Tree, More, nodes, nodes_all, arguments}
 use Rattle.term_model.proofs.Subtrees.{some_nodes}
-use Rattle.rewrite_model.specs.Rule.{Rule, Condition}
 use Rattle.rewrite_model.specs.Boxed.{tree_of, trees_in, trees, found}
 use Rattle.rewrite_model.specs.Noted.{point_of, points_of}
 use Rattle.rewrite_model.specs.declared.points.Point.{Point as Pointed}
@@ -10,12 +9,12 @@ use Rattle.rewrite_model.specs.Matching.{match_of}
 use Rattle.rewrite_model.specs.Run.{Done, done}
 use Rattle.rewrite_model.specs.Evaluation.{Point, Evaluated, reduction, holds, hold, replace, reduce_by}
 use Rattle.rewrite_model.specs.Program.{Agrees, ComesTo, same_point}
-use Rattle.rewrite_model.proofs.Binding.{length_trees, trees_push}
+use Rattle.rewrite_model.proofs.Binding.{length_trees}
 use Rattle.std.proofs.lemmas.Result.{err_from_is_err_and}
 use Rattle.rewrite_model.specs.declared.boxed.Term.{Term}
 use Rattle.rewrite_model.specs.declared.boxed.Arguments.{Arguments}
-use Rattle.rewrite_model.proofs.Comes.{comes_done, no_room, rest_err, all_ok, second_err, both_values, reduced, rest_used, no_room_used, hold_err, held}
-use Rattle.rewrite_model.proofs.Measures.{cost, cost_mono, cost_step, sides, sides_at, weight, width, weight_at, dropped}
+use Rattle.rewrite_model.proofs.Comes.{comes_done, no_room, rest_err, all_ok, second_err, both_values, reduced, no_room_used, hold_err, held}
+use Rattle.rewrite_model.proofs.Measures.{cost_mono, cost_step, sides, sides_at, weight_at, dropped}
 use Rattle.rewrite_model.proofs.evaluating.+evaluating.Goals as goal
 
 same_parts : {t u : Tree} {ks ls : List Tree} → t ≡ u → ks ≡ ls → let p : Point = record { tree = t; hand = ks } in p ≡ record { tree = u; hand = ls }

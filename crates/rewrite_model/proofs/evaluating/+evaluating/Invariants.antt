@@ -1,4 +1,4 @@
-use Rattle.std.proofs.Common.{ℕ, ◌+◌, ◌-◌, ◌*◌, length, drop}
+use Rattle.std.proofs.Common.{◌+◌, ◌-◌, ◌*◌, length, drop}
 use Rattle.term_model.specs.Tree.{nodes, nodes_all}
 use Rattle.rewrite_model.specs.Boxed.{tree_of, trees_in}
 use Rattle.rewrite_model.proofs.Measures.{cost, sides}

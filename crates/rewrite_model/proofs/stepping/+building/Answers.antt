@@ -1,11 +1,11 @@
-use Rattle.std.proofs.Common.{◌≡◌, ◌+◌, ◌*◌, ◌≤◌, refl, sym, ap, ◌∙◌, arith}
+use Rattle.std.proofs.Common.{◌≡◌, ◌+◌, sym, ap, ◌∙◌, arith}
 use Rattle.std.proofs.lemmas.Result.{err_from_is_err_and}
-use Rattle.term_model.specs.Tree.{Tree, More, nodes, nodes_all}
+use Rattle.term_model.specs.Tree.{More, nodes, nodes_all}
 use Rattle.term_model.proofs.Subtrees.{some_nodes}
 use Rattle.rewrite_model.specs.Boxed.{tree_of, trees_in, trees}
 use Rattle.rewrite_model.specs.declared.boxed.Term.{Term}
 use Rattle.rewrite_model.specs.declared.boxed.Arguments.{Arguments}
-use Rattle.rewrite_model.proofs.Steppings.{no_room_built, rest_built_err, all_built}
+use Rattle.rewrite_model.proofs.Steppings.{no_room_built, rest_built_err}
 use Rattle.rewrite_model.proofs.stepping.+building.Goals as goal
 
 pub build-returns-then-room-eq0 : goal.build-returns-then-room-eq0

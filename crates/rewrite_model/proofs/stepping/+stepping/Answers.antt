@@ -1,4 +1,4 @@
-use Rattle.std.proofs.Common.{◌≡◌, ◌≤◌, ◌<◌, Option, refl, sym, ap, subst, ◌∙◌, arith, Err, Ok, Some}
+use Rattle.std.proofs.Common.{Option, sym, subst, arith, Err, Ok, Some}
 use Rattle.std.proofs.lemmas.Result.{err_from_is_err_and}
 use Rattle.rewrite_model.specs.Boxed.{tree_of, trees}
 use Rattle.rewrite_model.specs.Run.{Done}

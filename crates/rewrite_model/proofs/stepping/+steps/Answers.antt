@@ -1,4 +1,4 @@
-use Rattle.std.proofs.Common.{◌≡◌, ◌-◌, suc, refl, sym, ap, subst, ◌∙◌, arith, Some}
+use Rattle.std.proofs.Common.{◌≡◌, ◌-◌, suc, subst, arith}
 use Rattle.rewrite_model.specs.Boxed.{tree_of, trees}
 use Rattle.rewrite_model.specs.Run.{Done}
 use Rattle.rewrite_model.specs.Outermost.{step}

@@ -1,8 +1,8 @@
-use Rattle.std.proofs.Common.{◌≡◌, ◌+◌, ◌-◌, ◌≤◌, ℕ, suc, List, drop, Some, None, refl, sym, ap, subst, ◌∙◌, arith}
+use Rattle.std.proofs.Common.{◌≡◌, ◌+◌, ◌-◌, suc, drop, Some, None, sym, ap, subst, ◌∙◌, arith}
 use Rattle.term_model.specs.Tree.{Tree}
 use Rattle.rewrite_model.specs.Matching.{match_of}
 use Rattle.rewrite_model.specs.Run.{Done}
-use Rattle.rewrite_model.specs.Outermost.{Building, Stepped, Changed, step_at_root}
+use Rattle.rewrite_model.specs.Outermost.{Building, Stepped, Changed}
 use Rattle.rewrite_model.specs.Boxed.{tree_of, trees, found}
 use Rattle.rewrite_model.specs.Program.{Agrees}
 use Rattle.rewrite_model.specs.Stepping.{same_tree}
