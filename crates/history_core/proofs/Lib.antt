@@ -14,3 +14,12 @@ pub mod Told
 pub mod Only
 pub mod Recorded
 pub mod Kept
+pub mod SlotLemmas
+pub mod TermEquality
+pub mod Marked
+pub mod MarkedNames
+pub mod Showing
+pub mod Reached
+pub mod Stepping
+pub mod Tables
+pub mod Prefixes

@@ -95,7 +95,7 @@ only_split h kept n t e = go (is_one_of kept n) refl e
     go true is k = (k, of_one kept n is)
     go false is k = cc
 
-itself : (t : Tree) → IsSubtree t t
+pub itself : (t : Tree) → IsSubtree t t
 itself (Leaf x) = contains_here (Leaf x) []
 itself (Node head ts) = contains_here (Node head ts) _
 

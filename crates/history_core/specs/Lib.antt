@@ -3,4 +3,8 @@ pub mod Entry
 pub mod Chronicle
 pub mod Told
 pub mod Recording
+pub mod Slots
+pub mod Named
+pub mod Marking
+pub mod Table
 pub mod Laws
