@@ -266,8 +266,9 @@ eight z s k =
       strengthened = record { holds = h; under = under; bases = bases; fresh = k.core.fresh; remembers = k.remembers };
     }
 
+-- the form that each step is shown to keep
+abbrev pub core_of : (z : Sizes) (s : State) → StoreHolds z s → CoreHolds z s
+core_of z s k = record { meaning = k.meaning; kept = k.began; holds = k.strengthened.holds; under = k.strengthened.under; bases = k.strengthened.bases; fresh = k.strengthened.fresh }
+
 pub inductive : (z : Sizes) (s : State) → StoreHolds z s → Inductive z s
-inductive z s k = let a = k.strengthened in record {
-  core = record { meaning = k.meaning; kept = k.began; holds = a.holds; under = a.under; bases = a.bases; fresh = a.fresh };
-  remembers = a.remembers;
-}
+inductive z s k = record { core = core_of z s k; remembers = k.strengthened.remembers }

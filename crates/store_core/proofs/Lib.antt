@@ -34,3 +34,5 @@ pub mod Creations
 pub mod Full
 pub mod Ends
 pub mod Worked
+pub mod Showing
+pub mod TreesKept

@@ -1,5 +1,5 @@
 -- Laws of the machine.
-use Rattle.std.specs.Prelude.{◌≡◌, ◌≢◌, ◌⊎◌, ◌↔◌, ℕ, suc, ◌+◌, ◌*◌, ◌^◌, ◌<◌, ◌≤◌, ◌==◌, if◌then◌else◌, true, Some, List, [], ◌∷◌, ◌++◌, length, slice_set, Contains}
+use Rattle.std.specs.Prelude.{◌≡◌, ◌≢◌, ◌⊎◌, ◌↔◌, ℕ, suc, ◌+◌, ◌*◌, ◌^◌, ◌<◌, ◌≤◌, ◌==◌, if◌then◌else◌, true, Some, None, List, [], ◌∷◌, ◌++◌, length, slice_set, Contains}
 use Rattle.history_core.specs.declared.entry.Entry.{Entry}
 use Rattle.history_core.specs.declared.entry.Entry.TheVariants.{Make, Find}
 use Rattle.history_core.specs.Entry.{IsAscending}
@@ -140,6 +140,16 @@ WornChangesNothing = (z : Sizes) (s : State) (i : ℕ) (p : Place) → ((after z
 abbrev pub CollectionKeepsReached : Type 0
 CollectionKeepsReached = (z : Sizes) (s : State) (i : ℕ) → StoreHolds z s → IsInPlace z s i (StoreClaim 0)
     → IsAscending (names_left z s.words) × ((r : ℕ) → Contains (names_left z s.words) r ↔ ReachesByWords s.words r)
+
+-- The pairs that all entries leave
+abbrev pub held_by : Sizes → (ℕ → View) → Names
+held_by z view = (set_of (history_of z view)).held
+
+-- A collection leaves what is reached under its names with its trees, and nothing else.
+abbrev pub CollectionKeepsTrees : Type 0
+CollectionKeepsTrees = (z : Sizes) (s : State) (i r : ℕ) → StoreHolds z s → IsInPlace z s i (StoreClaim 0)
+    → (ReachesByWords s.words r → held_by z (after z s i (StoreClaim 0)).view r ≡ held_by z s.view r)
+    × ((ReachesByWords s.words r → ⊥) → held_by z (after z s i (StoreClaim 0)).view r ≡ None)
 
 -- Equal content, equal bucket.
 abbrev pub EqualContentEqualBucket : Type 0

@@ -22,3 +22,4 @@ pub mod CollectionUnderWay
 pub mod StoreHolds
 pub mod Laws
 pub mod Worked
+pub mod ByView

@@ -1,6 +1,7 @@
 // What every step keeps.
 ghost use Rattle.store_core.specs.Laws.{ActsAreActions, StepsKeep, StartHolds, RunsHold, WritesAreShown, PlacesInside, PlacesApart, LockIsApart};
-ghost use Rattle.store_core.specs.Laws.{OthersStay, CreationEnds, RefusalsHaveCause, RowIsAsked, FullIsExact, WornIsExact, WornChangesNothing, CollectionKeepsReached, EqualContentEqualBucket};
+ghost use Rattle.store_core.specs.Laws.{OthersStay, CreationEnds, RefusalsHaveCause, RowIsAsked, FullIsExact, WornIsExact, WornChangesNothing, CollectionKeepsReached, CollectionKeepsTrees, EqualContentEqualBucket};
+ghost use Rattle.store_core.specs.ByView.{ViewShows};
 ghost use Rattle.store_core.specs.Worked.{RaceFinds, LostMakes, SweepKeeps, UseDoubles, WornAtLast};
 
 /// Each step keeps what holds, and it holds of a new store; so it holds after every list of steps, whatever the seats do
@@ -34,8 +35,14 @@ pub fn creations_end()
 /// How a collection ends: it keeps exactly what is reached, or it is Worn by the numbers, and nothing has changed.
 pub fn collections_end()
     ensures kept { CollectionKeepsReached }
+    ensures trees { CollectionKeepsTrees }
     ensures worn { WornIsExact }
     ensures unchanged { WornChangesNothing }
+{}
+
+/// A step that a seat's own view shows, and that the lock grants, is permitted: a running store needs no look at other words.
+pub fn own_view_permits()
+    ensures { ViewShows }
 {}
 
 /// Worked runs, which the definitions compute: two seats that race for one bucket, a lost exchange that makes, a collection with
