@@ -1,7 +1,7 @@
 -- When a collection ends with Worn, and what one that ends keeps.
-use Rattle.std.proofs.Common.{◌≡◌, ◌≢◌, ℕ, ◌+◌, ◌<◌, ◌^◌, Bool, true, false, cond, Option, None, Some, List, [], ◌∷◌, ◌++◌, refl, sym, ap, ◌∙◌, subst, arith, ltb-true, ltb-false, true≢false}
+use Rattle.std.proofs.Common.{◌≡◌, ◌≢◌, ℕ, ◌+◌, ◌<◌, ◌^◌, Bool, true, false, cond, Option, None, Some, List, [], ◌∷◌, ◌++◌, refl, sym, ap, ◌∙◌, arith, ltb-true, ltb-false, true≢false}
 use Rattle.std.specs.Prelude.{nat_lt}
-use Rattle.store_core.specs.Words.{Place, Base, FreeCount, Claim, write}
+use Rattle.store_core.specs.Words.{Place, Base, FreeCount, Claim}
 use Rattle.store_core.specs.Calls.{Call, Idle, Loading, View}
 use Rattle.store_core.specs.Machine as machine
 use Rattle.store_core.specs.Machine.{Sizes, State, Step, LockAlone, LowerShared, UnaskSeat, GiveGranted, Begin, Go, StoreCount, ReadWord, ReadArgument, StoreAny, with_call}
@@ -9,7 +9,7 @@ use Rattle.store_core.specs.Invariant.{span}
 use Rattle.store_core.specs.Steps as steps
 use Rattle.store_core.specs.Steps.{loads, value_at, is_worn, worn_by, loading, names_left, ReachesByWords}
 use Rattle.store_core.specs.StoreSteps.{meant}
-use Rattle.store_core.specs.Laws.{OthersStay, IsWorn, WornIsExact, WornChangesNothing, CollectionKeepsReached}
+use Rattle.store_core.specs.Laws.{OthersStay, IsWorn, WornChangesNothing, CollectionKeepsReached}
 use Rattle.store_core.proofs.Basics.{choose, put_same, put_other, write_same}
 use Rattle.store_core.proofs.NamesLeft.{names_kept}
 
@@ -45,11 +45,11 @@ module _ (z : Sizes) (s : State) (i : ℕ) (p : Place) where
   worn_is_exact =
       let here : ((steps.after z s i (machine.LoadAny p)).view i).call ≡ loading z ls = ap (λ (v : View). v.call) (put_same s.view i (with_call (s.view i) (loading z ls))) in (
         (λ idle. let t = worn_true z (value_at Base ls) (value_at Claim ls) (value_at FreeCount ls) (ends_worn z ls (sym here ∙ idle)) in
-        record { base = t.0; claim = t.1; count = t.2; base_loaded = t.3; claim_loaded = t.4; count_loaded = t.5; no_room = t.6 }),
+            record { base = t.0; claim = t.1; count = t.2; base_loaded = t.3; claim_loaded = t.4; count_loaded = t.5; no_room = t.6 }),
         λ k.
-        let worn : worn_by z ls ≡ true = ap (λ (o : Option ℕ). is_worn z o (value_at Claim ls) (value_at FreeCount ls)) k.base_loaded
-        ∙ (ap (λ (o : Option ℕ). is_worn z (Some k.base) o (value_at FreeCount ls)) k.claim_loaded ∙ (ap (is_worn z (Some k.base) (Some k.claim)) k.count_loaded ∙ is_less (2 ^ 62) (k.base + k.claim + 1 + span z) k.no_room)) in
-        here ∙ ap (λ (b : Bool). cond b Idle (Loading ls)) worn,
+            let worn : worn_by z ls ≡ true = ap (λ (o : Option ℕ). is_worn z o (value_at Claim ls) (value_at FreeCount ls)) k.base_loaded
+            ∙ (ap (λ (o : Option ℕ). is_worn z (Some k.base) o (value_at FreeCount ls)) k.claim_loaded ∙ (ap (is_worn z (Some k.base) (Some k.claim)) k.count_loaded ∙ is_less (2 ^ 62) (k.base + k.claim + 1 + span z) k.no_room)) in
+            here ∙ ap (λ (b : Bool). cond b Idle (Loading ls)) worn,
       )
 
 pub worn_changes_nothing : WornChangesNothing

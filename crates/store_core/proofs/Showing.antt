@@ -1,14 +1,13 @@
 -- A step that the own view shows is permitted.
-use Rattle.std.proofs.Common.{◌≡◌, ◌≢◌, ◌⊎◌, ℕ, zero, suc, ◌<◌, ◌≤◌, true, false, Some, List, [], ◌∷◌, length, get_or, refl, sym, ap, ◌∙◌, subst, ⊎_elim, inl, inr, arith}
+use Rattle.std.proofs.Common.{◌≡◌, ◌≢◌, ℕ, Some, List, [], ◌∷◌, get_or, refl, sym, ap, ◌∙◌, subst, ⊎_elim, inl, inr, arith}
 use Rattle.term_model.specs.declared.Head.{Head}
 use Rattle.term_model.specs.declared.Head.TheVariants.{App, Int, Nil, Cons}
-use Rattle.lock_core.specs.Exclusion.{IsExclusive}
 use Rattle.store_core.specs.Words.{Place, Base, FreeCount, Claim, InUse, FreePlace, Bucket, RowWord, Birth, Next, RootCount, Root}
-use Rattle.store_core.specs.Calls.{Call, Idle, Loading, Storing, Away, Ready, KnownWord, View}
-use Rattle.store_core.specs.Machine.{Sizes, State, Each, In, Step, LockAlone, LowerShared, UnaskSeat, GiveGranted, LoadBase, LoadInUse, Begin, Go, LoadRoot, StoreRoot, StoreCount, ReadWord, ReadArgument, LoadAny, StoreAny, StoreClaim, MayName, has_got, SecondIsList, MayBegin}
+use Rattle.store_core.specs.Calls.{Call, Loading, Storing, Away, Ready, KnownWord}
+use Rattle.store_core.specs.Machine.{Sizes, State, Each, In, Step, LockAlone, LowerShared, UnaskSeat, GiveGranted, LoadBase, LoadInUse, Begin, Go, LoadRoot, StoreRoot, StoreCount, ReadWord, ReadArgument, LoadAny, StoreAny, StoreClaim, MayName, has_got, SecondIsList}
 use Rattle.store_core.specs.Meaning.{Meaning}
 use Rattle.store_core.specs.Seats.{IsKnown}
-use Rattle.store_core.specs.Steps.{loads, value_at, is_storing, is_collecting, HasLoaded, IsWhole, IsAtRest, MayStore, Permits, CoreHolds}
+use Rattle.store_core.specs.Steps.{loads, value_at, is_storing, is_collecting, IsWhole, IsAtRest, MayStore, Permits, CoreHolds}
 use Rattle.store_core.specs.StoreHolds.{StoreHolds}
 use Rattle.store_core.specs.ByView.{KnowsWord, KnowsSecond, IsLoaded, HasAll, StoresNext, Shows, LockGrants, ViewShows}
 use Rattle.store_core.proofs.Basics.{each_map}

@@ -5,7 +5,7 @@ use Rattle.term_model.specs.declared.Head.{Head}
 use Rattle.term_model.specs.declared.Head.TheVariants.{Cons}
 use Rattle.store_core.specs.Words.{Place, Base, FreeCount, Claim, InUse, FreePlace, Bucket, RowWord, Birth, Next, RootCount, Root}
 use Rattle.store_core.specs.Calls.{Call, IsOver, Loading, Storing, Ready, KnownWord, View}
-use Rattle.store_core.specs.Machine.{Sizes, State, Each, In, Step, LoadBase, LoadInUse, Begin, Go, LoadRoot, StoreRoot, StoreCount, ReadWord, ReadArgument, LoadAny, StoreAny, IsCreation, widest}
+use Rattle.store_core.specs.Machine.{Sizes, State, Each, In, Step, Begin, Go, LoadRoot, StoreRoot, StoreCount, ReadWord, ReadArgument, LoadAny, StoreAny, IsCreation, widest}
 use Rattle.store_core.specs.Steps.{loads, value_at, is_stored, IsNextLoad, IsAtRest, MayCreate, AreLastRoots, IsLoading, Permits}
 use Rattle.store_core.specs.Shown.{in_table}
 use Rattle.store_core.specs.StoreHolds.{StoreHolds}
