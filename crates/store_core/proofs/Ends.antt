@@ -1,17 +1,18 @@
 -- When a collection ends with Worn, and what one that ends keeps.
-use Rattle.std.proofs.Common.{◌≡◌, ◌≢◌, ℕ, ◌+◌, ◌<◌, ◌^◌, Bool, true, false, cond, Option, None, Some, List, [], ◌∷◌, ◌++◌, refl, sym, ap, ◌∙◌, arith, ltb-true, ltb-false, true≢false}
+use Rattle.std.proofs.Common.{◌≡◌, ◌≢◌, ℕ, ◌+◌, ◌<◌, ◌^◌, Bool, true, false, cond, Option, None, Some, List, [], ◌∷◌, ◌++◌, refl, sym, ap, ◌∙◌, arith, ltb-true, ltb-false, true≢false, length}
 use Rattle.std.specs.Prelude.{nat_lt}
-use Rattle.store_core.specs.Words.{Place, Base, FreeCount, Claim}
+use Rattle.store_core.specs.Words.{Place, InUse, Base, FreeCount, Claim}
 use Rattle.store_core.specs.Calls.{Call, Idle, Loading, View}
 use Rattle.store_core.specs.Machine as machine
 use Rattle.store_core.specs.Machine.{Sizes, State, Step, LockAlone, LowerShared, UnaskSeat, GiveGranted, Begin, Go, StoreCount, ReadWord, ReadArgument, StoreAny, with_call}
 use Rattle.store_core.specs.Invariant.{span}
 use Rattle.store_core.specs.Steps as steps
-use Rattle.store_core.specs.Steps.{loads, value_at, is_worn, worn_by, loading, names_left, ReachesByWords}
+use Rattle.store_core.specs.Steps.{loads, grown_use, value_at, is_worn, worn_by, loading, names_left, ReachesByWords}
 use Rattle.store_core.specs.StoreSteps.{meant}
-use Rattle.store_core.specs.Laws.{OthersStay, IsWorn, WornChangesNothing, CollectionKeepsReached}
+use Rattle.store_core.specs.Laws.{CollectionGrowsUse, OthersStay, IsWorn, WornChangesNothing, CollectionKeepsReached}
 use Rattle.store_core.proofs.Basics.{choose, put_same, put_other, write_same}
 use Rattle.store_core.proofs.NamesLeft.{names_kept}
+use Rattle.store_core.proofs.ByWords.{value_is}
 
 stays : (z : Sizes) (s : State) (i j : ℕ) (x : Step) → j ≢ i → (steps.after z s i x).view j ≡ s.view j
 stays z s i j (LockAlone x) ne = refl
@@ -68,3 +69,9 @@ collection_keeps_reached z s i k ok =
       kept.ascending,
       λ r. ((λ c. (e.live r).0 ((kept.each r).0 c)), λ y. (kept.each r).1 ((e.live r).1 y)),
     )
+
+pub collection_grows_use : CollectionGrowsUse
+collection_grows_use z s i k ok =
+    let e = ok.step.permitted.1 in
+    let was : k.began InUse ≡ e.in_use = value_is k.began InUse e.in_use (loads (s.view i).call) (k.collection.loaded i) e.in_use_loaded in
+    e.in_use_is ∙ ap (λ (n : ℕ). grown_use z n (length (names_left z s.words))) (sym was)
