@@ -24,6 +24,7 @@ pub mod ByWords
 pub mod CollectsKept
 pub mod Starts
 pub mod Reading
+pub mod Sole
 pub mod Kept
 pub mod Runs
 pub mod Shown

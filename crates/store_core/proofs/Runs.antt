@@ -11,6 +11,7 @@ use Rattle.store_core.proofs.Kept.{go_kept, begin_kept, load_base_kept, load_in_
 use Rattle.store_core.proofs.CollectsKept.{load_any_kept, store_any_kept, store_claim_kept}
 use Rattle.store_core.proofs.Own.{own_kept, own_starts}
 use Rattle.store_core.proofs.Reading.{reads_kept, reads_start}
+use Rattle.store_core.proofs.Sole.{sole_kept, at_rest}
 use Rattle.store_core.proofs.Starts.{start_holds}
 
 core_kept : (x : Step) → StepKeeps x
@@ -34,13 +35,13 @@ core_kept StoreClaim = store_claim_kept
 pub step_kept : (x : Step) (z : Sizes) (s : State) (i : ℕ) → Inductive z s → InPlace z s i x → Inductive z (after z s i x)
 step_kept x z s i k ok = record {
   core = core_kept x z s i k.remembers k.core ok;
-  remembers = record { own = own_kept z s i k.remembers.own x ok; reads = reads_kept z s i k.remembers.reads x ok };
+  remembers = record { own = own_kept z s i k.remembers.own x ok; reads = reads_kept z s i k.remembers.reads x ok; sole = λ one. sole_kept z s i k.core one (k.remembers.sole one) x ok };
 }
 
 pub starts : (z : Sizes) (w : Place → ℕ) → AreSizes z → StartsWith z w → Inductive z (at_start z w)
 starts z w a b = record {
   core = start_holds z w a b;
-  remembers = record { own = λ i. own_starts z w i (newcomer z) refl refl (b.root_count i) (b.root i); reads = λ i. reads_start z };
+  remembers = record { own = λ i. own_starts z w i (newcomer z) refl refl (b.root_count i) (b.root i); reads = λ i. reads_start z; sole = λ one i l. at_rest w (newcomer z) refl };
 }
 
 pub kept_along : (z : Sizes) (xs : List (ℕ × StoreStep)) (s t : State) → Inductive z s → Leads z s xs t → Inductive z t

@@ -1,9 +1,10 @@
 -- What a seat's view tells of what it has read, without a look at the words.
 use Rattle.std.specs.Prelude.{◌≡◌, ◌≢◌, ℕ, suc, ◌<◌, ◌≤◌, false, None, List, [], ◌∷◌, length, get_or}
-use Rattle.store_core.specs.Calls.{Content, words_of, Call, Comparing, Passing, Ended, Counting, Drawing, Passed, Refusal, View}
+use Rattle.store_core.specs.Words.{Place, Claim, InUse, Bucket}
+use Rattle.store_core.specs.Calls.{Content, bucket, words_of, Call, Comparing, Passing, Ended, Counting, Drawing, Passed, Refusal, View}
 use Rattle.store_core.specs.Machine.{Sizes, State, Each}
-use Rattle.store_core.specs.Seats.{RootsKnown}
-use Rattle.store_core.specs.Steps.{loads, worn_by}
+use Rattle.store_core.specs.Seats.{Where, RootsKnown}
+use Rattle.store_core.specs.Steps.{loads, worn_by, head_read, IsFirst, ReadNow}
 
 -- a word of a row was found to differ from that of the content
 pub record Differs (c : Content) (word found : ℕ) : Type 0 where
@@ -36,7 +37,15 @@ pub record ReadsSound (z : Sizes) (v : View) : Type 0 where
   -- a collection goes on only where there is room for another epoch
   pub room : worn_by z (loads v.call) ≡ false
 
+-- Nobody has stepped in between: the head that a call has read is still there, and so is the claim; no exchange was lost.
+pub record IsUndisturbed (w : Place → ℕ) (v : View) : Type 0 where
+  pub head : Where (head_read v.call) (λ h. w (Bucket (bucket h.0 (w InUse))) ≡ h.1)
+  pub first : IsFirst v.call
+  pub read : ReadNow (w Claim) v.call
+
 -- what each seat keeps of what it has stored and read
 pub record Remembers (z : Sizes) (s : State) : Type 0 where
   pub own : (i : ℕ) → RootsKnown z s.words i (s.view i)
   pub reads : (i : ℕ) → ReadsSound z (s.view i)
+  -- with one seat nobody else steps
+  pub sole : z.seats ≡ 1 → (i : ℕ) → i < z.seats → IsUndisturbed s.words (s.view i)

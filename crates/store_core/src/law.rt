@@ -1,6 +1,6 @@
 // What every step keeps.
 ghost use Rattle.store_core.specs.Laws.{ActsAreActions, StepsKeep, StartHolds, RunsHold, WritesAreShown, PlacesInside, PlacesApart, LockIsApart, TotalIs};
-ghost use Rattle.store_core.specs.Laws.{OthersStay, CreationEnds, RefusalsHaveCause, RowIsAsked, FullIsExact, WornIsExact, WornChangesNothing, CollectionKeepsReached, CollectionKeepsTrees, CollectionGrowsUse, EqualContentEqualBucket};
+ghost use Rattle.store_core.specs.Laws.{OthersStay, CreationEnds, RefusalsHaveCause, RowIsAsked, FullIsExact, FullIsExactAlone, WornIsExact, WornChangesNothing, CollectionKeepsReached, CollectionKeepsTrees, CollectionGrowsUse, EqualContentEqualBucket};
 ghost use Rattle.store_core.specs.ByView.{ViewShows, KnownWordsStand, CollectionSees};
 ghost use Rattle.store_core.specs.Worked.{RaceFinds, LostMakes, SweepKeeps, UseDoubles, WornAtLast};
 
@@ -29,6 +29,7 @@ pub fn creations_end()
     ensures asked { RowIsAsked }
     ensures full_only_where { RefusalsHaveCause }
     ensures full_after_collection { FullIsExact }
+    ensures full_alone { FullIsExactAlone }
     ensures others { OthersStay }
     ensures bucket { EqualContentEqualBucket }
 {}

@@ -1,7 +1,7 @@
 use Rattle.std.proofs.Common.{ap}
 use Rattle.store_core.specs.Calls.{Content, bucket}
 use Rattle.store_core.proofs.Creations.{creation_ends, row_is_asked, refusals_have_cause}
-use Rattle.store_core.proofs.Full.{full_is_exact}
+use Rattle.store_core.proofs.Full.{full_is_exact, full_is_exact_alone}
 use Rattle.store_core.proofs.Ends.{others_stay}
 use Rattle.store_core.proofs.law.creations_end.Goals as goal
 
@@ -22,3 +22,6 @@ returns-clause-others c = others_stay
 
 pub returns-clause-bucket : goal.returns-clause-bucket
 returns-clause-bucket c = λ a b u e. ap (λ (k : Content). bucket k u) e
+
+pub returns-clause-full_alone : goal.returns-clause-full_alone
+returns-clause-full_alone c = full_is_exact_alone
