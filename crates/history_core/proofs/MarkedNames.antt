@@ -36,9 +36,9 @@ in_marked first (false ∷ marks) (suc n) on =
 of_marked : (first : ℕ) (marks : List Bool) (n : ℕ) → Contains (marked_names first marks) n → (k : ℕ) × (first + k ≡ n) × (is_marked marks k ≡ true)
 of_marked first [] n c = absurd (contains_none n c)
 of_marked first (true ∷ marks) n c = elim (contains_cases first (marked_names (suc first) marks) n c) [
-    inl same ↦ (0, (let here : first + 0 ≡ first = omega arith in here ∙ same), refl)
+  | inl same ↦ (0, (let here : first + 0 ≡ first = omega arith in here ∙ same), refl)
   | inr later ↦ (let at = of_marked (suc first) marks n later in (suc at.0, (let is : suc first + at.0 ≡ n = at.1 in omega arith), at.2))
-  ]
+]
 of_marked first (false ∷ marks) n c = let at = of_marked (suc first) marks n c in (suc at.0, (let is : suc first + at.0 ≡ n = at.1 in omega arith), at.2)
 
 marked_ascend : (first : ℕ) (marks : List Bool) → IsAscending (marked_names first marks)
@@ -67,15 +67,15 @@ ascending_same (x ∷ xs) (y ∷ ys) a b f g = ap (λ (n : ℕ). n ∷ xs) heads
 
     fs : (n : ℕ) → Contains xs n → Contains ys n
     fs n c = elim (contains_cases y ys n (f n (contains_there x xs n c))) [
-        inl same ↦ absurd (apart x n (each_at (λ m. x < m) xs n a.0 c) (heads ∙ same))
+      | inl same ↦ absurd (apart x n (each_at (λ m. x < m) xs n a.0 c) (heads ∙ same))
       | inr later ↦ later
-      ]
+    ]
 
     gs : (n : ℕ) → Contains ys n → Contains xs n
     gs n c = elim (contains_cases x xs n (g n (contains_there y ys n c))) [
-        inl same ↦ absurd (apart y n (each_at (λ m. y < m) ys n b.0 c) (sym heads ∙ same))
+      | inl same ↦ absurd (apart y n (each_at (λ m. y < m) ys n b.0 c) (sym heads ∙ same))
       | inr later ↦ later
-      ]
+    ]
 
 -- these are the marked names, ascending, exactly where they ascend and are the marked ones
 pub marked_exactly : (names : List ℕ) (marks : List Bool) → (names ≡ marked_names 0 marks) ↔ (IsAscending names × ((n : ℕ) → Contains names n ↔ (is_marked marks n ≡ true)))

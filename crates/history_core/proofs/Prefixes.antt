@@ -53,9 +53,9 @@ whole rows history n up = (there, back)
 
     back : IsLegal rows history → n ≡ length history
     back legal = elim (cases_lt n (length history)) [
-        inl less ↦ absurd (up.next less (legal_parts rows empty (take (n + 1) history) (drop (n + 1) history) (subst (IsLegal rows) (sym (take-append-drop (n + 1) history)) legal)).0)
+      | inl less ↦ absurd (up.next less (legal_parts rows empty (take (n + 1) history) (drop (n + 1) history) (subst (IsLegal rows) (sym (take-append-drop (n + 1) history)) legal)).0)
       | inr past ↦ (let within = up.within in omega arith)
-      ]
+    ]
 
 pub goes_on : (rows : ℕ) (history : History) (n : ℕ) (old new : Table) (x : ℕ × Entry) (b : Bool) → length old.slots ≡ rows → n < length history → x ≡ get_or history n x
     → IsAt rows history n old → Decides old new x.0 x.1 b → b ≡ true → IsAt rows history (n + 1) new

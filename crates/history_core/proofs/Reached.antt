@@ -29,9 +29,9 @@ reach_through c p a k (child {r = r} {q = q} s m) = child (reach_through c p a k
 in_trees : (h : Names) (ns : List ℕ) (n : ℕ) → Contains ns n → Contains (list_of (trees_at h ns)) (tree_at h n)
 in_trees h [] n c = absurd (contains_none n c)
 in_trees h (m ∷ ns) n c = elim (contains_cases m ns n c) [
-    inl same ↦ subst (λ (k : ℕ). Contains (list_of (trees_at h (m ∷ ns))) (tree_at h k)) same (contains_here (tree_at h m) (list_of (trees_at h ns)))
+  | inl same ↦ subst (λ (k : ℕ). Contains (list_of (trees_at h (m ∷ ns))) (tree_at h k)) same (contains_here (tree_at h m) (list_of (trees_at h ns)))
   | inr later ↦ contains_there (tree_at h m) (list_of (trees_at h ns)) (tree_at h n) (in_trees h ns n later)
-  ]
+]
 
 module _ (t : Table) (s : TermSet) (sh : Shows t s) where
   -- an argument of a taken name is held, and its tree is an argument of the name's
@@ -68,23 +68,23 @@ module _ (t : Table) (s : TermSet) (sh : Shows t s) where
     up : (v : Tree) (p : ℕ) (u : Tree) → Holds s.held p v → IsSubtree u v → Below p u
     up (Leaf x) p u at c = elim (contains_cases (Leaf x) [] u c) [ inl same ↦ (p, itself, at ∙ ap Some same) | inr d ↦ absurd (contains_none u d) ]
     up (Node h ts) p u at c = elim (contains_cases (Node h ts) (subtrees_all ts) u c) [
-        inl same ↦ (p, itself, at ∙ ap Some same)
+      | inl same ↦ (p, itself, at ∙ ap Some same)
       | inr d ↦ (
           let x = term_at p h ts at in
           let found = up_all ts x.0.args u x.2 x.3 d in
           let here : Contains (children t.slots (row p)) (row found.0) = subst (λ (o : Option Term). Contains (map row (args_of o)) (row found.0)) (sym x.1) (in_row x.0.args found.0 found.1) in
           (found.2.0, reach_through (children t.slots) (row p) (row found.0) here found.2.1, found.2.2))
-      ]
+    ]
 
     up_all : (ts : Trees) (ns : List ℕ) (u : Tree) → ts ≡ trees_at s.held ns → AllByRecursion (IsHeld s.held) ns → Contains (subtrees_all ts) u → (a : ℕ) × Contains ns a × Below a u
     up_all End ns u e held c = absurd (contains_none u c)
     up_all (More v ts) [] u e held c = cc
     up_all (More v ts) (n ∷ ns) u e held c = elim (Contains-append_cases (subtrees v) (subtrees_all ts) u c) [
-        inl here ↦ (n, contains_here n ns, up v n u (held_tree s.held n held.0 ∙ ap Some (sym (more_first v (tree_at s.held n) ts (trees_at s.held ns) e))) here)
+      | inl here ↦ (n, contains_here n ns, up v n u (held_tree s.held n held.0 ∙ ap Some (sym (more_first v (tree_at s.held n) ts (trees_at s.held ns) e))) here)
       | inr later ↦ (
           let found = up_all ts ns u (more_rest v (tree_at s.held n) ts (trees_at s.held ns) e) held.1 later in
           (found.0, contains_there n ns found.0 found.1, found.2))
-      ]
+    ]
 
   -- an argument of a reached name is reached
   pub argument_reached : (n : ℕ) (x : Term) (m : ℕ) → slot_at t.slots n ≡ Some x → Contains x.args m → IsReached s n → IsReached s m
@@ -105,9 +105,9 @@ module _ (t : Table) (s : TermSet) (sh : Shows t s) where
 
   pub marked_is_reached : (marks : List Bool) → MarksRoots t marks → (n : ℕ) → is_marked marks n ≡ true → IsReached s n
   marked_is_reached marks from n on = elim (from.adds.only (row n) on) [
-      inl none ↦ absurd (none_marked (length t.slots) (row n) none)
+    | inl none ↦ absurd (none_marked (length t.slots) (row n) none)
     | inr root ↦ go root.0 (of_joined t.roots root.0 root.1) root.2
-    ]
+  ]
     where
       go : (p : ℕ) → (i : ℕ) × (i < length t.roots) × Contains (get_or t.roots i []) p → Reaches (children t.slots) (row p) (row n) → IsReached s n
       go p at reaches =
@@ -127,12 +127,12 @@ module _ (t : Table) (s : TermSet) (sh : Shows t s) where
 
   pub reached_is_marked : (marks : List Bool) → MarksRoots t marks → (n : ℕ) → IsReached s n → is_marked marks n ≡ true
   reached_is_marked marks from n r = elim (cases_lt r.caller (length t.roots)) [
-      inl less ↦ (
+    | inl less ↦ (
         let found = up r.above r.root r.below r.root_tree r.inside in
         let same : found.0 ≡ n = sh.sound.one_name found.0 n r.below found.2 r.tree in
         from.adds.reached r.root (row n) (in_joined t.roots r.caller r.root less rooted) (subst (λ (k : ℕ). Reaches (children t.slots) (row r.root) (row k)) same found.1))
     | inr past ↦ absurd (contains_none r.root (subst (λ (ns : List ℕ). Contains ns r.root) (get_or_past t.roots r.caller [] past) rooted))
-    ]
+  ]
     where
       rooted : Contains (get_or t.roots r.caller []) r.root
       rooted = subst (λ (ns : List ℕ). Contains ns r.root) (sh.roots r.caller) r.rooted

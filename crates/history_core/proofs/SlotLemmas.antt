@@ -71,15 +71,15 @@ none_some o x a b = cc
 -- a taken name is below the bound
 pub taken_below : (slots : Slots) (n : ℕ) (t : Term) → slot_at slots n ≡ Some t → n < length slots
 taken_below slots n t e = elim (cases_lt n (length slots)) [
-    inl less ↦ less
+  | inl less ↦ less
   | inr past ↦ absurd (none_some (slot_at slots n) t (get_or_past slots n None past) e)
-  ]
+]
 
 pub none_in_free : (names n : ℕ) → slot_at (replicate names None) n ≡ None
 none_in_free names n = elim (cases_lt n names) [
-    inl less ↦ get_or-replicate names n None None less
+  | inl less ↦ get_or-replicate names n None None less
   | inr past ↦ get_or_past (replicate names None) n None (omega (arith, length-replicate {A = Option Term} names None))
-  ]
+]
 
 pub agree_free : (names : ℕ) (m : Names) → ((t : Term) → get term_eq m t ≡ None) → Agree (replicate names None) m
 agree_free names m none = record {
@@ -102,26 +102,26 @@ agree_put slots m m' n t agree less free absent up = record { each = λ q k. (th
 
     there : (q : Term) (k : ℕ) → get term_eq m' q ≡ Some k → slot_at (set slots n (Some t)) k ≡ Some q
     there q k h = elim (term_cases t q) [
-        inl same ↦ (
+      | inl same ↦ (
           let at : n ≡ k = some_inside n k (sym up.1 ∙ ap (get term_eq m') same ∙ h) in
           ap (slot_at (set slots n (Some t))) (sym at) ∙ here ∙ ap Some same)
       | inr apart ↦ (
           let was : slot_at slots k ≡ Some q = (agree.each q k).0 (sym (up.2 q apart.0) ∙ h) in
           other k (old_apart q k was) ∙ was)
-      ]
+    ]
 
     back : (q : Term) (k : ℕ) → slot_at (set slots n (Some t)) k ≡ Some q → get term_eq m' q ≡ Some k
     back q k h = elim (cases_eq k n) [
-        inl same ↦ (
+      | inl same ↦ (
           let is : t ≡ q = some_inside t q (sym here ∙ ap (slot_at (set slots n (Some t))) (sym same) ∙ h) in
           ap (get term_eq m') (sym is) ∙ up.1 ∙ ap Some (sym same))
       | inr ne ↦ (
           let was : slot_at slots k ≡ Some q = sym (other k ne) ∙ h in
           elim (term_cases t q) [
-            inl same ↦ absurd (absent k (was ∙ ap Some (sym same)))
-          | inr apart ↦ up.2 q apart.0 ∙ (agree.each q k).1 was
+            | inl same ↦ absurd (absent k (was ∙ ap Some (sym same)))
+            | inr apart ↦ up.2 q apart.0 ∙ (agree.each q k).1 was
           ])
-      ]
+    ]
 
 -- a name that has become free
 pub agree_less : (slots : Slots) (m m' : Names) (n : ℕ) (t : Term) → Agree slots m → slot_at slots n ≡ Some t → Updates term_eq m m' t None → Agree (set slots n None) m'
@@ -138,24 +138,24 @@ agree_less slots m m' n t agree taken up = record { each = λ q k. (there q k, b
 
     there : (q : Term) (k : ℕ) → get term_eq m' q ≡ Some k → slot_at (set slots n None) k ≡ Some q
     there q k h = elim (term_cases t q) [
-        inl same ↦ absurd (none_some (get term_eq m' q) k (sym (ap (get term_eq m') same) ∙ up.1) h)
+      | inl same ↦ absurd (none_some (get term_eq m' q) k (sym (ap (get term_eq m') same) ∙ up.1) h)
       | inr apart ↦ (
           let was : slot_at slots k ≡ Some q = (agree.each q k).0 (sym (up.2 q apart.0) ∙ h) in
           other k (λ at. apart.1 (some_inside t q (sym taken ∙ sym (ap (slot_at slots) at) ∙ was))) ∙ was)
-      ]
+    ]
 
     back : (q : Term) (k : ℕ) → slot_at (set slots n None) k ≡ Some q → get term_eq m' q ≡ Some k
     back q k h = elim (cases_eq k n) [
-        inl same ↦ absurd (none_some (slot_at (set slots n None) k) q (ap (slot_at (set slots n None)) same ∙ here) h)
+      | inl same ↦ absurd (none_some (slot_at (set slots n None) k) q (ap (slot_at (set slots n None)) same ∙ here) h)
       | inr ne ↦ (
           let was : slot_at slots k ≡ Some q = sym (other k ne) ∙ h in
           elim (term_cases t q) [
-            inl same ↦ (
-              let at : k ≡ n = some_inside k n (sym ((agree.each t k).1 (was ∙ ap Some (sym same))) ∙ (agree.each t n).1 taken) in
-              absurd (ne at))
-          | inr apart ↦ up.2 q apart.0 ∙ (agree.each q k).1 was
+            | inl same ↦ (
+                let at : k ≡ n = some_inside k n (sym ((agree.each t k).1 (was ∙ ap Some (sym same))) ∙ (agree.each t n).1 taken) in
+                absurd (ne at))
+            | inr apart ↦ up.2 q apart.0 ∙ (agree.each q k).1 was
           ])
-      ]
+    ]
 
 -- a name that was free already
 same_free : (slots : Slots) (n : ℕ) → slot_at slots n ≡ None → (k : ℕ) → slot_at (set slots n None) k ≡ slot_at slots k

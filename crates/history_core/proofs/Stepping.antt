@@ -33,13 +33,16 @@ term_grows {h} {k} g n x at = record {
 pub make_shows : (t : Table) (s : TermSet) → Shows t s → (caller number : ℕ) (h : Head) (args : List ℕ) (row : ℕ) → MayCreateIn t.slots h args → MayPut t.slots row (term_of h args)
     → IsStep (length t.slots) s (Make number h args row)
     × Shows (record { slots = set t.slots row (Some (term_of h args)); roots = t.roots }) (after s caller (Make number h args row))
-make_shows t s sh caller number h args row may put = (step, record {
-  sound = subst (λ (n : ℕ). IsSound n (after s caller (Make number h args row))) (sym (length-set t.slots row (Some (term_of h args))))
-      (step_sound (length t.slots) s caller (Make number h args row) sh.sound step);
-  free = λ n e. free n e (cases_eq n row);
-  taken = λ n x e. taken n x e (cases_eq n row);
-  roots = sh.roots;
-})
+make_shows t s sh caller number h args row may put = (
+  step,
+  record {
+    sound = subst (λ (n : ℕ). IsSound n (after s caller (Make number h args row))) (sym (length-set t.slots row (Some (term_of h args))))
+        (step_sound (length t.slots) s caller (Make number h args row) sh.sound step);
+    free = λ n e. free n e (cases_eq n row);
+    taken = λ n x e. taken n x e (cases_eq n row);
+    roots = sh.roots;
+  },
+)
   where
     held : AllByRecursion (IsHeld s.held) args
     held = all_are_held t s sh args may.taken
@@ -142,9 +145,9 @@ pub collect_is_step : (t : Table) (s : TermSet) → Shows t s → (marks : List 
     → (kept ≡ marked_names 0 marks) ↔ IsStep (length t.slots) s (Collect number kept)
 collect_is_step t s sh marks from number kept = (
   (λ same. let both = (marked_exactly kept marks).0 same in
-    (both.0, λ n. ((λ c. marked_is_reached t s sh marks from n ((both.1 n).0 c)), (λ r. (both.1 n).1 (reached_is_marked t s sh marks from n r))))),
+      (both.0, λ n. ((λ c. marked_is_reached t s sh marks from n ((both.1 n).0 c)), (λ r. (both.1 n).1 (reached_is_marked t s sh marks from n r))))),
   (λ step. (marked_exactly kept marks).1
-    (step.0, λ n. ((λ c. reached_is_marked t s sh marks from n ((step.1 n).0 c)), (λ on. (step.1 n).1 (marked_is_reached t s sh marks from n on))))),
+      (step.0, λ n. ((λ c. reached_is_marked t s sh marks from n ((step.1 n).0 c)), (λ on. (step.1 n).1 (marked_is_reached t s sh marks from n on))))),
 )
 
 pub collect_shows : (t new : Table) (s : TermSet) → Shows t s → (marks : List Bool) → MarksRoots t marks → (caller number : ℕ) (kept : List ℕ) → kept ≡ marked_names 0 marks

@@ -12,6 +12,6 @@ mod term_table;
 mod tests;
 
 pub use entry::Entry;
+pub use laws::{insertion_laws, merge_laws, noting_laws, recording_laws, set_laws, telling_laws};
 pub use legality::legal_entries;
 pub use term_table::TermTable;
-pub use laws::{insertion_laws, merge_laws, noting_laws, recording_laws, set_laws, telling_laws};

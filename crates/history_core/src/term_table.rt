@@ -60,10 +60,16 @@ impl TermTable {
     {
         match entry {
             Entry::Make {
-                head, args, row, ..
+                head,
+                args,
+                row,
+                ..
             } => self.make(*head, args, *row),
             Entry::Find {
-                head, args, row, ..
+                head,
+                args,
+                row,
+                ..
             } => Ok(finds(&self.slots, *head, args, *row)),
             Entry::Roots { rows, .. } => self.take_roots(caller, rows),
             Entry::Collect { kept, .. } => Ok(self.collect(kept)),

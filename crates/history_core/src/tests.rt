@@ -64,7 +64,10 @@ fn steps_are_answered_so(rt: HostRuntime) -> Result<(), Fail> {
     let alloc = rt.alloc();
     let f = Head::App(Symbol(3));
     assert_eq!(rt; legal_with(alloc, make(alloc, 5, f, &[9, 9, 0], 1)?)?, 6);
-    assert_eq!(rt; legal_with(alloc, find(alloc, 4, Head::Cons, &[2, 5], 9)?)?, 6);
+    assert_eq!(rt;
+        legal_with(alloc, find(alloc, 4, Head::Cons, &[2, 5], 9)?)?,
+        6
+    );
     assert_eq!(rt; legal_with(alloc, roots(alloc, 4, &[0, 5])?)?, 6);
     assert_eq!(rt; legal_with(alloc, collect(alloc, 5, &[2, 5, 9])?)?, 6);
     Ok(())
@@ -74,22 +77,66 @@ fn steps_are_answered_so(rt: HostRuntime) -> Result<(), Fail> {
 fn a_make_is_no_step(rt: HostRuntime) -> Result<(), Fail> {
     let alloc = rt.alloc();
     let f = Head::App(Symbol(3));
-    assert_eq!(rt; legal_with(alloc, make(alloc, 5, f, &[], 10)?)?, 5, "no name of the store");
-    assert_eq!(rt; legal_with(alloc, make(alloc, 5, f, &[], 9)?)?, 5, "the name is taken");
-    assert_eq!(rt; legal_with(alloc, make(alloc, 5, Head::Int(7), &[], 1)?)?, 5, "the tree is there");
-    assert_eq!(rt; legal_with(alloc, make(alloc, 5, f, &[1], 1)?)?, 5, "an argument isn't held");
-    assert_eq!(rt; legal_with(alloc, make(alloc, 5, Head::Int(9), &[2], 1)?)?, 5, "an integer over one");
-    assert_eq!(rt; legal_with(alloc, make(alloc, 5, Head::Cons, &[5, 2], 1)?)?, 5, "no list behind");
+    assert_eq!(rt;
+        legal_with(alloc, make(alloc, 5, f, &[], 10)?)?,
+        5,
+        "no name of the store"
+    );
+    assert_eq!(rt;
+        legal_with(alloc, make(alloc, 5, f, &[], 9)?)?,
+        5,
+        "the name is taken"
+    );
+    assert_eq!(rt;
+        legal_with(alloc, make(alloc, 5, Head::Int(7), &[], 1)?)?,
+        5,
+        "the tree is there"
+    );
+    assert_eq!(rt;
+        legal_with(alloc, make(alloc, 5, f, &[1], 1)?)?,
+        5,
+        "an argument isn't held"
+    );
+    assert_eq!(rt;
+        legal_with(alloc, make(alloc, 5, Head::Int(9), &[2], 1)?)?,
+        5,
+        "an integer over one"
+    );
+    assert_eq!(rt;
+        legal_with(alloc, make(alloc, 5, Head::Cons, &[5, 2], 1)?)?,
+        5,
+        "no list behind"
+    );
     Ok(())
 }
 
 #[test]
 fn another_entry_is_no_step(rt: HostRuntime) -> Result<(), Fail> {
     let alloc = rt.alloc();
-    assert_eq!(rt; legal_with(alloc, find(alloc, 4, Head::Int(7), &[], 0)?)?, 5, "another row");
-    assert_eq!(rt; legal_with(alloc, roots(alloc, 4, &[9, 1])?)?, 5, "a name isn't held");
-    assert_eq!(rt; legal_with(alloc, collect(alloc, 5, &[0, 2, 5, 9])?)?, 5, "one too many");
-    assert_eq!(rt; legal_with(alloc, collect(alloc, 5, &[5, 9])?)?, 5, "one too few");
-    assert_eq!(rt; legal_with(alloc, collect(alloc, 5, &[2, 9, 5])?)?, 5, "not ascending");
+    assert_eq!(rt;
+        legal_with(alloc, find(alloc, 4, Head::Int(7), &[], 0)?)?,
+        5,
+        "another row"
+    );
+    assert_eq!(rt;
+        legal_with(alloc, roots(alloc, 4, &[9, 1])?)?,
+        5,
+        "a name isn't held"
+    );
+    assert_eq!(rt;
+        legal_with(alloc, collect(alloc, 5, &[0, 2, 5, 9])?)?,
+        5,
+        "one too many"
+    );
+    assert_eq!(rt;
+        legal_with(alloc, collect(alloc, 5, &[5, 9])?)?,
+        5,
+        "one too few"
+    );
+    assert_eq!(rt;
+        legal_with(alloc, collect(alloc, 5, &[2, 9, 5])?)?,
+        5,
+        "not ascending"
+    );
     Ok(())
 }
