@@ -4,11 +4,10 @@
 ghost use Rattle.std.specs.Prelude.{◌≡◌, ◌≤◌};
 
 use crate::chance::{Dice, rules, term};
-use crate::needs::need;
 use crate::sight::{Limits, Sight, look, stopped, value};
 use crate::writing::planned;
 use innermost::{Normal, RunFault};
-use rewrite_model::{End, Evaluated, Rule, Term, distinct, evaluation};
+use rewrite_model::{End, Evaluated, Rule, Term, distinct, evaluation, need};
 use rule_match::Plan;
 use std::alloc::Global;
 use std::test::Fail;
@@ -190,7 +189,7 @@ fn try_rows(alloc: Global, plan: &Plan, term: &Flat, tally: &mut Tally) -> Resul
 {
     let said = said(alloc, plan, term, AMPLE)?;
     let different = distinct(&said.built);
-    let needed = need(alloc, plan.rules(), term, AMPLE)?;
+    let needed = need(alloc, plan.rules(), term, AMPLE.fuel, AMPLE.depth)?;
     if different > AMPLE.rows as usize || needed > different {
         return Err(Fail::from("too many different trees"));
     }

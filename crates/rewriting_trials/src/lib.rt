@@ -13,8 +13,6 @@ mod chance;
 #[cfg(test)]
 mod matching;
 #[cfg(test)]
-mod needs;
-#[cfg(test)]
 mod reading;
 #[cfg(test)]
 mod rows;

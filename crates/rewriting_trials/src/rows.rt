@@ -3,11 +3,10 @@
 ghost use Rattle.std.specs.Prelude.{◌≡◌, IfOk};
 
 use crate::adding::{BUILDS, ONE_AND_ONE, TWO, one_rule, sums};
-use crate::needs::need;
 use crate::sight::{Limits, look_at, stopped, value};
 use crate::writing::{A, B, C, E, EQ, F, G, PLUS, S, X, Z, condition, flat, planned, rule};
 use innermost::{Normal, RunFault};
-use rewrite_model::Rule;
+use rewrite_model::{Rule, need};
 use rule_match::Plan;
 use std::alloc::Global;
 use std::test::Fail;
@@ -168,13 +167,13 @@ fn needs_are_those_worked_out_by_hand(rt: HostRuntime) -> Result<(), Fail> {
         };
         let term = flat(alloc, &ONE_AND_ONE)?;
         assert_eq!(rt;
-            need(alloc, plan.rules(), &term, limits)?,
+            need(alloc, plan.rules(), &term, limits.fuel, limits.depth)?,
             want,
             "{limits:?}"
         );
     }
     let plan = one_rule(alloc, &[X, F], &[X, X, PLUS])?;
     let term = flat(alloc, &[Z, F, F, F])?;
-    assert_eq!(rt; need(alloc, plan.rules(), &term, AMPLE)?, 4);
+    assert_eq!(rt; need(alloc, plan.rules(), &term, AMPLE.fuel, AMPLE.depth)?, 4);
     Ok(())
 }
