@@ -1,8 +1,8 @@
 -- The entries of a history that are legal from the start.
-use Rattle.std.proofs.Common.{◌≡◌, ℕ, ◌<◌, ◌≤◌, ◌+◌, Bool, true, false, List, [], ◌∷◌, ◌++◌, length, take, drop, get_or, refl, sym, ap, ◌∙◌, subst, arith, ◌↔◌, ◌⊎◌, inl, inr}
+use Rattle.std.proofs.Common.{◌≡◌, ℕ, ◌<◌, ◌+◌, Bool, true, false, [], ◌∷◌, ◌++◌, length, take, drop, get_or, sym, ap, ◌∙◌, subst, arith, ◌↔◌, inl, inr}
 use Rattle.std.proofs.lemmas.Bool.{cases_lt}
 use Rattle.std.proofs.lemmas.List.{take_more, take_all, take-append-drop}
-use Rattle.history_core.specs.TermSet.{TermSet, empty}
+use Rattle.history_core.specs.TermSet.{empty}
 use Rattle.history_core.specs.Entry.{Entry, IsStep, after}
 use Rattle.history_core.specs.Chronicle.{History, IsLegal, set_of}
 use Rattle.history_core.specs.Table.{Table, Shows, Decides, IsLegalUpTo}

@@ -1,5 +1,5 @@
 -- What is marked from the roots of a table is what is reached in the set.
-use Rattle.std.proofs.Common.{◌≡◌, ℕ, ◌<◌, ◌≤◌, zero, suc, Bool, true, false, Option, Some, None, List, [], ◌∷◌, ◌++◌, length, get_or, refl, sym, ap, ◌∙◌, subst, arith, ◌⊎◌, inl, inr}
+use Rattle.std.proofs.Common.{◌≡◌, ℕ, ◌<◌, Bool, true, Option, Some, None, List, [], ◌∷◌, length, get_or, refl, sym, ap, ◌∙◌, subst, inl, inr}
 use Rattle.std.specs.Prelude.{Contains, map}
 use Rattle.std.specs.List.{AllByRecursion}
 use Rattle.std.proofs.lemmas.Bool.{cases_lt}
@@ -10,11 +10,10 @@ use Rattle.term_model.specs.Laws.{IsSubtree}
 use Rattle.term_model.specs.declared.Row.{Row}
 use Rattle.term_model.specs.declared.Head.{Head}
 use Rattle.term_model.proofs.Subtrees.{subtrees_nest, arguments_are_subtrees}
-use Rattle.mark_phase.specs.Reachable.{Reaches, itself, child, IsMarked}
+use Rattle.mark_phase.specs.Reachable.{Reaches, itself, child}
 use Rattle.history_core.specs.TermSet.{Names, TermSet, Holds, IsHeld, tree_at, trees_at, tree_over, IsReached}
 use Rattle.history_core.specs.declared.slots.Term.{Term}
-use Rattle.history_core.specs.Slots.{Slots, slot_at, args_of, row, children, head_of, is_marked}
-use Rattle.history_core.specs.Marking.{joined}
+use Rattle.history_core.specs.Slots.{slot_at, args_of, row, children, head_of, is_marked}
 use Rattle.history_core.specs.Table.{Table, Shows, MarksRoots}
 use Rattle.history_core.proofs.Members.{contains_here, contains_there, contains_none, contains_cases, each_at}
 use Rattle.history_core.proofs.Marked.{none_marked, row_in, in_row, in_joined, of_joined}

@@ -1,17 +1,17 @@
 -- A table that shows a set answers what the set answers.
-use Rattle.std.proofs.Common.{◌≡◌, ℕ, ◌<◌, Bool, true, false, Option, Some, None, List, [], ◌∷◌, refl, sym, ap, ◌∙◌, subst}
+use Rattle.std.proofs.Common.{◌≡◌, ℕ, true, Option, Some, None, List, [], ◌∷◌, refl, sym, ap, ◌∙◌}
 use Rattle.std.specs.Prelude.{is_some, unwrap_or}
-use Rattle.std.specs.List.{AllByRecursion, list_all}
+use Rattle.std.specs.List.{AllByRecursion}
 use Rattle.std.proofs.lemmas.Bool.{and_parts, and_from}
-use Rattle.term_model.specs.Tree.{Tree, Leaf, Node, Trees, End, More, may_be_list, may_stand_over}
+use Rattle.term_model.specs.Tree.{Tree, Leaf, Node, Trees, More, may_be_list, may_stand_over}
 use Rattle.term_model.specs.declared.Head.{Head}
 use Rattle.term_model.specs.declared.Head.TheVariants as head
 use Rattle.history_core.specs.TermSet.{Names, TermSet, Holds, IsHeld, IsFree, Lacks, tree_at, trees_at, tree_over, MayCreate}
 use Rattle.history_core.specs.declared.slots.Root.{Root}
 use Rattle.history_core.specs.declared.slots.Root.TheVariants.{App, Int, Nil, Cons}
 use Rattle.history_core.specs.declared.slots.Term.{Term}
-use Rattle.history_core.specs.Slots.{Slots, slot_at, root_of, head_of, term_of, is_list, are_taken, stands_over}
-use Rattle.history_core.specs.Table.{Table, IsTermOf, Shows, MayCreateIn, MayPut}
+use Rattle.history_core.specs.Slots.{slot_at, root_of, head_of, term_of, is_list, are_taken, stands_over}
+use Rattle.history_core.specs.Table.{Table, Shows, MayCreateIn, MayPut}
 
 pub head_root : (h : Head) → head_of (root_of h) ≡ h
 head_root (head.App f) = refl

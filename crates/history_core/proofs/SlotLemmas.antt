@@ -1,9 +1,9 @@
 -- Slots, and the map that finds the name of each term.
-use Rattle.std.proofs.Common.{◌≡◌, ℕ, ◌<◌, ◌≤◌, Bool, true, false, Option, Some, None, List, [], ◌∷◌, ◌^◌, length, get_or, set, refl, sym, ap, ◌∙◌, subst, arith, ◌⊎◌, inl, inr, ◌↔◌, get_or-set_same, get_or-set_other, replicate}
-use Rattle.std.specs.Prelude.{◌==◌, ◌&&◌, is_some, IsTrue}
+use Rattle.std.proofs.Common.{◌≡◌, ℕ, ◌<◌, ◌≤◌, Bool, true, false, Option, Some, None, List, [], ◌∷◌, ◌^◌, length, set, refl, sym, ap, ◌∙◌, subst, arith, ◌⊎◌, inl, inr, ◌↔◌, get_or-set_same, get_or-set_other, replicate}
+use Rattle.std.specs.Prelude.{◌==◌, is_some}
 use Rattle.std.specs.Cmp.Lexicographic.{pointwise}
-use Rattle.std.specs.HashMap.{get, get_by, UpdatesBy, Updates}
-use Rattle.std.proofs.lemmas.Bool.{cond-true, cond-false, cond_both, eq-eqb, eqb-true, and_parts, and_from, cases_eq, cases_lt}
+use Rattle.std.specs.HashMap.{get, Updates}
+use Rattle.std.proofs.lemmas.Bool.{eq-eqb, eqb-true, and_parts, and_from, cases_eq, cases_lt}
 use Rattle.std.proofs.lemmas.List.{get_or_past, get_or-replicate, length-replicate, length-set}
 use Rattle.history_core.specs.declared.slots.Root.{Root}
 use Rattle.history_core.specs.declared.slots.Root.TheVariants.{App, Int, Nil, Cons}

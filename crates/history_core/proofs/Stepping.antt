@@ -1,22 +1,22 @@
 -- A table answers whether each kind of entry is a step, and shows the set after it.
-use Rattle.std.proofs.Common.{◌≡◌, ℕ, ◌<◌, ◌≤◌, Bool, true, false, Option, Some, None, List, [], ◌∷◌, length, get_or, set, refl, sym, ap, ◌∙◌, subst, arith, ◌⊎◌, inl, inr, get_or-set_same, get_or-set_other}
+use Rattle.std.proofs.Common.{◌≡◌, ℕ, ◌<◌, Bool, true, false, Option, Some, None, List, [], ◌∷◌, length, get_or, set, refl, sym, ap, ◌∙◌, subst, ◌⊎◌, inl, inr, get_or-set_same, get_or-set_other}
 use Rattle.std.specs.Prelude.{Contains, ◌↔◌, ◌==◌, unwrap_or}
 use Rattle.std.specs.List.{AllByRecursion}
-use Rattle.std.proofs.lemmas.Bool.{cases_eq, cases_lt, cond-true, cond-false, eq-eqb, ne_eqb}
-use Rattle.std.proofs.lemmas.List.{length-set, get_or_past}
+use Rattle.std.proofs.lemmas.Bool.{cases_eq, cond-true, cond-false, eq-eqb, ne_eqb}
+use Rattle.std.proofs.lemmas.List.{length-set}
 use Rattle.term_model.specs.Tree.{Tree, Leaf, Node, Trees, More}
 use Rattle.term_model.specs.declared.Head.{Head}
-use Rattle.history_core.specs.TermSet.{Names, TermSet, Holds, IsHeld, IsFree, tree_over, with_pair, with_only, with_roots, is_one_of, tree_at, trees_at, IsReached, IsSound}
-use Rattle.history_core.specs.Entry.{Entry, Make, Find, Roots, Collect, IsStep, after, IsAscending}
+use Rattle.history_core.specs.TermSet.{Names, TermSet, IsHeld, IsFree, tree_over, with_pair, with_only, with_roots, is_one_of, tree_at, trees_at, IsReached, IsSound}
+use Rattle.history_core.specs.Entry.{Make, Find, Roots, Collect, IsStep, after}
 use Rattle.history_core.specs.declared.slots.Term.{Term}
-use Rattle.history_core.specs.Slots.{Slots, slot_at, head_of, term_of, is_marked, kept_if}
+use Rattle.history_core.specs.Slots.{slot_at, head_of, term_of, is_marked, kept_if}
 use Rattle.history_core.specs.Marking.{marked_names}
-use Rattle.history_core.specs.Table.{Table, IsTermOf, Shows, MayCreateIn, MayPut, Decides, MarksRoots}
+use Rattle.history_core.specs.Table.{Table, IsTermOf, Shows, MayCreateIn, MayPut, MarksRoots}
 use Rattle.history_core.proofs.Members.{contains_here, contains_there, each_from, each_at}
 use Rattle.history_core.proofs.Sets.{Grows, grows_pair, pair_same, pair_other, held_grow, trees_grow}
 use Rattle.history_core.proofs.Sound.{step_sound, only_holds, of_one}
-use Rattle.history_core.proofs.SlotLemmas.{some_inside, taken_below}
-use Rattle.history_core.proofs.Showing.{head_root, may_create, may_create_in, spelled, unspelled, new_pair, free_slot, all_are_held, all_are_taken}
+use Rattle.history_core.proofs.SlotLemmas.{some_inside}
+use Rattle.history_core.proofs.Showing.{head_root, may_create, may_create_in, spelled, unspelled, new_pair, free_slot, all_are_held}
 use Rattle.history_core.proofs.Reached.{marked_is_reached, reached_is_marked, argument_reached}
 use Rattle.history_core.proofs.MarkedNames.{marked_exactly}
 

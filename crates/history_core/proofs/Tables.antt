@@ -1,16 +1,14 @@
 -- What holds of the fields of a table, and what it answers to each kind of entry.
-use Rattle.std.proofs.Common.{◌≡◌, ℕ, ◌<◌, ◌≤◌, zero, suc, Bool, true, false, Option, Some, None, Result, Ok, Err, List, [], ◌∷◌, ◌++◌, length, get_or, set, replicate, refl, sym, ap, ◌∙◌, subst, arith, ◌⊎◌, inl, inr, get_or-set_same, get_or-set_other}
+use Rattle.std.proofs.Common.{◌≡◌, ℕ, ◌<◌, zero, suc, Bool, true, false, Option, Some, None, Result, Ok, Err, List, [], ◌∷◌, length, get_or, set, replicate, refl, sym, ap, ◌∙◌, subst, arith, ◌⊎◌, inl, inr, get_or-set_same, get_or-set_other}
 use Rattle.std.specs.Prelude.{Contains, ◌↔◌, is_some, IfOk, OnErr, IsTrue}
 use Rattle.std.proofs.lemmas.Bool.{cases_eq, and_parts}
 use Rattle.std.proofs.lemmas.List.{length-set, length-replicate}
 use Rattle.faults.specs.declared.Memory.{Memory}
 use Rattle.term_model.specs.declared.Head.{Head}
-use Rattle.history_core.specs.TermSet.{TermSet}
-use Rattle.history_core.specs.Entry.{Entry, Make, Find, Roots, Collect, IsStep, after}
+use Rattle.history_core.specs.Entry.{Make, Find, Collect, after}
 use Rattle.history_core.specs.declared.slots.Term.{Term}
-use Rattle.history_core.specs.Slots.{Slots, slot_at, args_of, term_of, are_taken, is_marked, kept_if, children}
-use Rattle.history_core.specs.Marking.{AddsAll, joined, marked_names}
-use Rattle.history_core.specs.Table.{Table, Shows, Decides, MayCreateIn, MayPut, Makes, Collects, IsTable}
+use Rattle.history_core.specs.Slots.{Slots, slot_at, args_of, term_of, are_taken, is_marked, kept_if}
+use Rattle.history_core.specs.Table.{Table, Shows, Decides, MayCreateIn, Makes, Collects, IsTable}
 use Rattle.history_core.proofs.Members.{contains_none, contains_cases}
 use Rattle.history_core.proofs.Marked.{in_joined, of_joined}
 use Rattle.history_core.proofs.SlotLemmas.{taken_below, none_in_free}

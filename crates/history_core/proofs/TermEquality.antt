@@ -3,7 +3,6 @@ use Rattle.std.proofs.Common.{◌≡◌, ℕ, List, refl}
 use Rattle.std.proofs.Math.Path.{fun_ext}
 use Rattle.history_core.specs.declared.slots.Root.{Root}
 use Rattle.history_core.specs.declared.slots.Root.TheVariants.{App, Int, Nil, Cons}
-use Rattle.history_core.specs.declared.slots.Term.{Term}
 use Rattle.history_core.specs.Named.{term_eq}
 use Rattle.history_core.specs.contracts.slots.TermPartialEq.TheImpl.{eq-value}
 

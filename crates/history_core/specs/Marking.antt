@@ -1,6 +1,5 @@
 -- What marking from names adds, and the names that are marked.
 use Rattle.std.specs.Prelude.{◌≡◌, ◌⊎◌, ℕ, ◌<◌, suc, Bool, true, false, List, [], ◌∷◌, ◌++◌, length, Contains}
-use Rattle.std.specs.List.{AllByRecursion}
 use Rattle.term_model.specs.declared.Row.{Row}
 use Rattle.mark_phase.specs.Reachable.{Reaches, IsMarked, IsClosed}
 use Rattle.history_core.specs.Slots.{Slots, row, args_of, slot_at}

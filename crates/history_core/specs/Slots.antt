@@ -1,9 +1,8 @@
 -- Names with the terms that they stand for, as a program keeps them: each name below a bound is free, or has a root over names.
-use Rattle.std.specs.Prelude.{◌≡◌, ◌↔◌, ℕ, ◌==◌, Bool, true, false, List, [], ◌∷◌, Option, Some, None, is_some, length, slice_index_or, map}
+use Rattle.std.specs.Prelude.{ℕ, Bool, true, false, List, [], ◌∷◌, Option, Some, None, is_some, slice_index_or, map}
 use Rattle.std.specs.List.{list_all}
 use Rattle.term_model.specs.declared.Head.{Head}
 use Rattle.term_model.specs.declared.Head.TheVariants as head
-use Rattle.term_model.specs.declared.Symbol.{Symbol}
 use Rattle.term_model.specs.declared.Row.{Row}
 use Rattle.history_core.specs.declared.slots.Root.{Root}
 use Rattle.history_core.specs.declared.slots.Root.TheVariants.{App, Int, Nil, Cons}

@@ -1,5 +1,5 @@
 -- A term set as a program keeps it.
-use Rattle.std.specs.Prelude.{◌≡◌, ℕ, ◌<◌, ◌≤◌, ◌+◌, take, Bool, true, false, Option, Some, None, List, [], length, slice_index_or, slice_set, replicate, Contains}
+use Rattle.std.specs.Prelude.{◌≡◌, ℕ, ◌<◌, ◌≤◌, ◌+◌, take, Bool, true, false, Some, None, List, [], length, slice_index_or, slice_set, replicate, Contains}
 use Rattle.std.specs.List.{AllByRecursion}
 use Rattle.term_model.specs.declared.Head.{Head}
 use Rattle.history_core.specs.TermSet.{Names, TermSet, Holds, IsHeld, IsFree, tree_over, IsSound}

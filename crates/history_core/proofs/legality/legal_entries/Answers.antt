@@ -1,4 +1,4 @@
-use Rattle.std.proofs.Common.{◌≡◌, ◌∙◌, Bool, true, false}
+use Rattle.std.proofs.Common.{◌≡◌, ◌∙◌, true, false}
 use Rattle.history_core.proofs.Prefixes.{goes_on, halts, whole}
 use Rattle.history_core.proofs.legality.legal_entries.Goals as goal
 

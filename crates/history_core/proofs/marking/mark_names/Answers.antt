@@ -1,6 +1,5 @@
-use Rattle.std.proofs.Common.{◌≡◌, ◌∙◌, ◌<◌, ◌∷◌, ℕ, Bool, List, length, refl, sym, ap, subst}
+use Rattle.std.proofs.Common.{◌≡◌, ◌∙◌, ◌<◌, ℕ, List, refl, sym, subst}
 use Rattle.std.specs.Prelude.{Contains}
-use Rattle.term_model.specs.declared.Row.{Row}
 use Rattle.mark_phase.specs.Reachable.{Reaches, AddsReached}
 use Rattle.history_core.specs.Slots.{Slots, row, children}
 use Rattle.history_core.specs.Marking.{AddsAll}

@@ -1,4 +1,4 @@
-use Rattle.std.proofs.Common.{◌≡◌, ◌∙◌, ◌<◌, ℕ, Bool, Option, Some, None, length, set, sym, subst}
+use Rattle.std.proofs.Common.{◌≡◌, ◌∙◌, ◌<◌, Bool, Option, Some, None, length, set, sym, subst}
 use Rattle.std.proofs.lemmas.List.{get_or_default}
 use Rattle.history_core.specs.declared.slots.Term.{Term}
 use Rattle.history_core.specs.Slots.{Slots, slot_at}

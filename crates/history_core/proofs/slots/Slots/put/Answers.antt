@@ -1,4 +1,4 @@
-use Rattle.std.proofs.Common.{◌≡◌, ◌∙◌, ℕ, Bool, Option, Some, None, List, length, sym, subst}
+use Rattle.std.proofs.Common.{◌≡◌, ℕ, Bool, Some, None, length, sym, subst}
 use Rattle.std.specs.Prelude.{◌<◌}
 use Rattle.history_core.specs.Slots.{Slots, slot_at}
 use Rattle.history_core.specs.Named.{term_eq}

@@ -1,4 +1,4 @@
-use Rattle.std.proofs.Common.{◌≡◌, ◌∙◌, ◌<◌, ℕ, List, length, sym, ap, subst}
+use Rattle.std.proofs.Common.{ℕ, List, subst}
 use Rattle.std.specs.Prelude.{Contains}
 use Rattle.history_core.specs.Marking.{joined}
 use Rattle.history_core.proofs.Tables.{table_marked, table_kept}

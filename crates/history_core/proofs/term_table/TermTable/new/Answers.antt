@@ -1,4 +1,4 @@
-use Rattle.std.proofs.Common.{Bool, List, ℕ, None, [], false, replicate, sym, subst}
+use Rattle.std.proofs.Common.{Bool, List, ℕ, None, [], replicate, sym, subst}
 use Rattle.history_core.specs.Slots.{Slots}
 use Rattle.history_core.specs.Table.{IsTable}
 use Rattle.history_core.proofs.Tables.{table_start}

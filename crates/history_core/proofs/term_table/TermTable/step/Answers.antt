@@ -1,4 +1,4 @@
-use Rattle.std.proofs.Common.{◌≡◌, ℕ, Some, sym, ap, subst}
+use Rattle.std.proofs.Common.{◌≡◌, Some, sym, ap, subst}
 use Rattle.std.specs.Prelude.{IfOk, IsTrue, ◌↔◌}
 use Rattle.history_core.specs.Entry.{Entry}
 use Rattle.history_core.specs.Slots.{Slots, slot_at, term_of}

@@ -1,4 +1,4 @@
-use Rattle.std.proofs.Common.{◌≡◌, ◌∙◌, ◌<◌, ℕ, List, true, length, set, refl, sym, ap, subst}
+use Rattle.std.proofs.Common.{◌≡◌, ◌∙◌, ◌<◌, ℕ, List, true, length, set, refl, sym, subst}
 use Rattle.history_core.specs.Entry.{Roots, after}
 use Rattle.history_core.specs.Slots.{are_taken}
 use Rattle.history_core.specs.Table.{Table, Shows, IsTable}
