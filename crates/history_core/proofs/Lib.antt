@@ -1,0 +1,16 @@
+pub mod Members
+pub mod Sets
+pub mod Merge
+pub mod Chronicles
+pub mod Growing
+pub mod Inserted
+pub mod Insertion
+pub mod Noted
+pub mod Own
+pub mod Sound
+pub mod Worked
+pub mod Places
+pub mod Told
+pub mod Only
+pub mod Recorded
+pub mod Kept

@@ -1,0 +1,6 @@
+pub mod TermSet
+pub mod Entry
+pub mod Chronicle
+pub mod Told
+pub mod Recording
+pub mod Laws

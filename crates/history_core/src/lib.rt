@@ -1,0 +1,9 @@
+//! The history of a store as plain data: the term set of one thread, the entries of its callers, their
+//! merge, and what makes it legal.
+#![tactic(auto)]
+
+mod entry;
+mod laws;
+
+pub use entry::Entry;
+pub use laws::{insertion_laws, merge_laws, noting_laws, recording_laws, set_laws, telling_laws};

@@ -1,0 +1,14 @@
+pub mod Words
+pub mod Calls
+pub mod Machine
+pub mod Meaning
+pub mod Seats
+pub mod Invariant
+pub mod Bases
+pub mod Collection
+pub mod Shown
+pub mod Steps
+pub mod Reads
+pub mod Runs
+pub mod StoreSteps
+pub mod Laws

@@ -1,0 +1,10 @@
+//! A store of terms that share what they have in common, as a pure machine.
+#![tactic(auto)]
+
+mod law;
+mod step;
+mod view;
+
+pub use law::{steps_keep, words_are_shown};
+pub use step::StoreStep;
+pub use view::{Call, Content, KnownWord, Passed, Place, Refusal, Sizes, Stay, View};
