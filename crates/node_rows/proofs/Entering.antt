@@ -1,5 +1,5 @@
 -- What entries and leaves leave of a pass's view.
-use Rattle.std.proofs.Common.{◌≡◌, ◌≢◌, ◌⊎◌, inl, inr, ℕ, zero, suc, ◌<◌, ◌≤◌, eqb, Bool, true, false, cond, List, [], ◌∷◌, ◌++◌, Result, Ok, Err, refl, sym, ap, ◌∙◌, subst, ⊎_elim}
+use Rattle.std.proofs.Common.{◌≡◌, inl, inr, ℕ, zero, suc, eqb, Bool, true, false, cond, [], ◌∷◌, Result, refl, sym, ap, ◌∙◌, subst, ⊎_elim}
 use Rattle.std.proofs.lemmas.Bool.{cases_lt}
 use mathlib.Core.Logic.{dite}
 use native.Mathlib.Decide.{ℕ_discrete}
@@ -15,10 +15,10 @@ use Rattle.busy_forbidden.proofs.Asking.{run_append, goes_free}
 use Rattle.busy_forbidden.proofs.Leaving.{tries_shared_leaves, enters_shared_leaves, tries_exclusive_leaves, enters_exclusive_leaves}
 use Rattle.store_core.specs.declared.view.Sizes.{Sizes}
 use Rattle.store_core.specs.declared.view.View.{View}
-use Rattle.store_core.specs.Machine.{left, leaving, protected_in}
+use Rattle.store_core.specs.Machine.{left, protected_in}
 use Rattle.store_core.specs.Steps.{IsAtRest}
 use Rattle.node_rows.specs.declared.view.NodeView.{NodeView}
-use Rattle.node_rows.specs.Shown.{node_next, node_can, store_next, ended, freed, rest_of, is_out, IsAway, IsEnding, IsClosed}
+use Rattle.node_rows.specs.Shown.{node_next, node_can, rest_of, is_out, IsAway, IsEnding, IsClosed}
 use Rattle.node_rows.specs.Passes.{Left}
 use Rattle.node_rows.specs.Locking.{node_leaves, ended_on, freed_on, at_rest_in, ending_in}
 

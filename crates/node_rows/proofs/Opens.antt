@@ -1,9 +1,9 @@
 -- A new store meets the rule, and so does one with a seat more.
-use Rattle.std.proofs.Common.{◌≡◌, ◌≢◌, ◌⊎◌, inl, inr, ℕ, zero, suc, ◌+◌, ◌*◌, ◌^◌, ◌<◌, ◌≤◌, eqb, Bool, true, false, cond, List, [], ◌∷◌, ◌++◌, length, map, get_or, set, replicate, refl, sym, ap, ◌∙◌, subst, ⊎_elim, arith, length-set, length-append, get_or-set_other}
+use Rattle.std.proofs.Common.{◌≡◌, ◌≢◌, ◌⊎◌, inl, inr, ℕ, zero, suc, ◌+◌, ◌*◌, ◌<◌, eqb, Bool, true, false, cond, List, [], ◌∷◌, ◌++◌, length, get_or, set, replicate, refl, sym, ap, ◌∙◌, subst, ⊎_elim, arith, length-set, length-append, get_or-set_other}
 use mathlib.Core.Path.{fun_ext}
 use mathlib.Core.Option.{some, some-injective, some-ne-none}
 use lib.ListN.{get_elem?}
-use Rattle.atomic_table.specs.Table.{State, Splits, opening}
+use Rattle.atomic_table.specs.Table.{Splits, opening}
 use Rattle.atomic_table.proofs.Lists.{at_set, set_here}
 use Rattle.lock_core.specs.Lock.{at_start}
 use Rattle.busy_forbidden.specs.Shown.{newcomer}
@@ -13,15 +13,14 @@ use Rattle.store_core.specs.declared.view.View.{View}
 use Rattle.store_core.specs.declared.view.Place.{Place}
 use Rattle.store_core.specs.declared.view.Place.TheVariants.{Base, FreeCount, Claim, InUse, FreePlace, Bucket, RootCount, Root}
 use Rattle.store_core.specs.Words.{write}
-use Rattle.store_core.specs.Machine.{widest}
 use Rattle.store_core.specs.Shown.{shown, total, in_table, index_of}
 use Rattle.store_core.specs.Steps as core
-use Rattle.store_core.specs.Runs.{Inductive, AreSizes, StartsWith}
+use Rattle.store_core.specs.Runs.{Inductive, AreSizes}
 use Rattle.store_core.proofs.Basics.{choose, eqb_is, eqb_not}
 use Rattle.store_core.proofs.Shown.{shown_written, past_lock, place_inside}
 use Rattle.store_core.proofs.Runs.{starts}
 use Rattle.node_rows.specs.declared.view.NodeView.{NodeView}
-use Rattle.node_rows.specs.Shown.{lock_of, seat_view, first_view, one_made, next_seat, store_at, Shows}
+use Rattle.node_rows.specs.Shown.{lock_of, first_view, one_made, next_seat, store_at, Shows}
 use Rattle.node_rows.specs.Locking.{store_here, store_set, put_again}
 use Rattle.atomic_table.specs.Seated.{TableId}
 use Rattle.atomic_table.specs.declared.shared.Seat.{Seat}

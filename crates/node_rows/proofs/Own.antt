@@ -1,5 +1,5 @@
 -- An own step that the store permits keeps the rule.
-use Rattle.std.proofs.Common.{◌≡◌, ◌≢◌, ◌⊎◌, inl, inr, ℕ, zero, suc, ◌+◌, ◌*◌, ◌<◌, ◌≤◌, ◌^◌, Bool, true, false, cond, Option, Some, None, List, [], ◌∷◌, ◌++◌, length, map, get_or, set, take, refl, sym, ap, ◌∙◌, subst, ⊎_elim, arith, length-set}
+use Rattle.std.proofs.Common.{◌≡◌, ℕ, zero, suc, ◌<◌, ◌≤◌, Bool, true, cond, Some, None, List, [], ◌∷◌, length, get_or, set, take, refl, sym, ap, ◌∙◌, subst, arith, length-set}
 use mathlib.Core.Option.{some}
 use lib.ListN.{get_elem?}
 use Rattle.atomic_table.specs.Table.{State, Me, keeps, stepped, Allows}
@@ -9,17 +9,17 @@ use Rattle.busy_forbidden.proofs.Goes.{same_place}
 use Rattle.store_core.specs.declared.view.Sizes.{Sizes}
 use Rattle.store_core.specs.declared.view.View.{View}
 use Rattle.store_core.specs.declared.view.Place.{Place}
-use Rattle.store_core.specs.declared.view.Place.TheVariants.{Base, FreeCount, Claim, InUse, FreePlace, Bucket, RowWord, Birth, Next, RootCount, Root}
+use Rattle.store_core.specs.declared.view.Place.TheVariants.{InUse, RootCount, Root}
 use Rattle.store_core.specs.declared.view.Call.{Call}
 use Rattle.store_core.specs.declared.view.Call.TheVariants.{Idle, Comparing, Passing, Finding, Ended, Counting, Drawing, Placing, Filling, Numbering, Linking, Publishing, Loading, Storing}
 use Rattle.store_core.specs.declared.view.Stay.TheVariants.{Away, Ready}
 use Rattle.store_core.specs.Words.{write, put}
 use Rattle.store_core.specs.Machine as core
 use Rattle.store_core.specs.Machine.{acted, LoadBase, LoadInUse, Begin, Go, LoadRoot, StoreRoot, StoreCount, ReadWord, ReadArgument, Each}
-use Rattle.store_core.specs.Seats.{Where, looked, index, drawn, index_in, IsWalk, Walks}
+use Rattle.store_core.specs.Seats.{looked, index, drawn, index_in, IsWalk}
 use Rattle.store_core.specs.Runs.{Inductive}
 use Rattle.store_core.specs.Steps.{Permits, after, is_collecting}
-use Rattle.store_core.specs.Shown.{shown, total, in_table, index_of}
+use Rattle.store_core.specs.Shown.{shown, in_table, index_of}
 use Rattle.store_core.proofs.Basics.{where_map, where_at, each_map}
 use Rattle.store_core.proofs.Shown.{shown_written, past_lock, place_inside}
 use Rattle.store_core.proofs.Locks.{is_in}
@@ -132,8 +132,8 @@ known_of z s i store =
           let few : (s.view i).root_count ≤ z.depth = own.few in
           let wide : length (s.view i).roots ≡ z.depth = own.wide in
           protected_below z.rows s.words i z.depth (s.view i).roots (s.view i).root_count
-              (λ j l. q.chains.below (s.words (Root i j)) ((q.seats i).protects.roots j (omega arith)).live)
-              own.root few (omega arith);
+          (λ j l. q.chains.below (s.words (Root i j)) ((q.seats i).protects.roots j (omega arith)).live)
+          own.root few (omega arith);
     }
 
 pub known : (z : Sizes) (s : State (Unit {0}) NodeView) (i : ℕ) (v : NodeView) → Shows z s → get_elem? s.views i ≡ some v → Known z v.store
@@ -157,25 +157,27 @@ module _ (z : Sizes) (s : State (Unit {0}) NodeView) (i : ℕ) (v : NodeView) (r
   abbrev w : NodeView
   w = with_store v (moved_by x v.store n)
 
-  acted_holds : Permits z (state_of z s.words s.views rule.lock.state) i x
-      → Inductive z (record { lock = rule.lock.state; words = write (shown z s.words) p (written_by x v.store n); view = put (store_at z s.views) i (moved_by x v.store n) })
-  acted_holds ok =
-      let t : core.State = state_of z s.words s.views rule.lock.state in
-      let h = step_kept x z t i rule.holds record { present = below z s i v rule at; permitted = ok } in
-      let e : after z t i x ≡ acted t.words t.view i t.lock (act i x v.store) = acts z t i x is ∙ ap (λ (u : View). acted t.words t.view i t.lock (act i x u)) (store_here z s.views i v at) in
-      subst (λ (m : ℕ). Inductive z (record { lock = rule.lock.state; words = write (shown z s.words) p (written_by x v.store m); view = put (store_at z s.views) i (moved_by x v.store m) })) (shown_at z s.words p there)
-      (subst (Inductive z) e h)
+  abbrev t : core.State
+  t = state_of z s.words s.views rule.lock.state
 
-  pub own_keeps : Permits z (state_of z s.words s.views rule.lock.state) i x → (y : ℕ) → y ≡ written_by x v.store n → Shows z (record { words = set s.words k y; homes = s.homes; views = set s.views i w })
+  -- the table shows the store after the step
+  pub own_after : (y : ℕ) → y ≡ written_by x v.store n → state_of z (set s.words k y) (set s.views i w) rule.lock.state ≡ after z t i x
+  own_after y is_y =
+      let inside_k : k < length s.words = (let q = place_inside z p there in let r = rule.wide in omega arith) in
+      let seen : shown z (set s.words k y) ≡ write (shown z s.words) p (written_by x v.store n) = shown_written z s.words p y there inside_k ∙ ap (write (shown z s.words) p) is_y in
+      let views : store_at z (set s.views i w) ≡ put (store_at z s.views) i w.store = store_set z s.views i w (inside z s i v rule at) in
+      let done : ℕ → core.State = λ m. record { lock = rule.lock.state; words = write (shown z s.words) p (written_by x v.store m); view = put (store_at z s.views) i (moved_by x v.store m) } in
+      let shows : state_of z (set s.words k y) (set s.views i w) rule.lock.state ≡ done n = λ q. record { lock = rule.lock.state; words = seen q; view = views q } in
+      let acted_is : after z t i x ≡ done (shown z s.words p) = acts z t i x is ∙ ap (λ (u : View). acted t.words t.view i t.lock (act i x u)) (store_here z s.views i v at) in
+      shows ∙ (sym (ap done (shown_at z s.words p there)) ∙ sym acted_is)
+
+  pub own_keeps : Permits z t i x → (y : ℕ) → y ≡ written_by x v.store n → Shows z (record { words = set s.words k y; homes = s.homes; views = set s.views i w })
   unfolding lock_left
   own_keeps ok y is_y =
-      let inside_k : k < length s.words = (let q = place_inside z p there in let r = rule.wide in omega arith) in
-      let seen : shown z (set s.words k y) ≡ write (shown z s.words) p y = shown_written z s.words p y there inside_k in
       record {
         lock = lock_left lock_of z.seats s i k y v w rule.lock at refl (past_lock z p);
         wide = let e = length-set s.words k y in let r = rule.wide in omega arith;
-        holds = subst (λ (t : (Place → ℕ) × (ℕ → View)). Inductive z (record { lock = rule.lock.state; words = t.0; view = t.1 }))
-            (λ q. (sym (seen ∙ ap (write (shown z s.words) p) is_y) q, sym (store_set z s.views i w (inside z s i v rule at)) q)) (acted_holds ok);
+        holds = subst (Inductive z) (sym (own_after y is_y)) (step_kept x z t i rule.holds record { present = below z s i v rule at; permitted = ok });
         sized = sized_set z s i v rule at w refl refl;
         some_made = some_set z s i v rule at w refl refl;
         count = count_set z s i v rule at w refl refl;

@@ -1,31 +1,26 @@
 -- What the table asks of each step.
-use Rattle.std.proofs.Common.{◌≡◌, ◌≢◌, ◌⊎◌, inl, inr, ℕ, zero, suc, ◌+◌, ◌*◌, ◌%◌, ◌^◌, ◌<◌, ◌≤◌, eqb, Bool, true, false, cond, Option, Some, List, [], ◌∷◌, length, get_or, take, refl, sym, ap, ◌∙◌, subst, ⊎_elim, arith}
+use Rattle.std.proofs.Common.{◌≡◌, inl, inr, ℕ, zero, suc, ◌+◌, ◌%◌, ◌^◌, ◌<◌, ◌≤◌, eqb, Bool, true, false, cond, Some, List, [], ◌∷◌, get_or, take, refl, sym, ap, ◌∙◌, subst, ⊎_elim, arith}
 use mathlib.Core.Option.{some}
 use prog.Atomic.{either}
 use lib.ListN.{get_elem?}
 use Rattle.atomic_table.specs.Table.{State, Me, Allows}
 use Rattle.atomic_table.specs.Seated.{TableId}
 use Rattle.atomic_table.specs.declared.shared.Seat.{Seat}
-use Rattle.lock_core.specs.Lock.{seat_of}
-use Rattle.lock_core.specs.Exclusion.{IsExclusive}
-use Rattle.lock_core.specs.declared.parts.Phase.TheVariants.{Shared}
-use Rattle.busy_forbidden.specs.Exclusive.{IsGranted}
 use Rattle.term_model.specs.declared.Head.{Head}
 use Rattle.term_model.specs.declared.Head.TheVariants.{App, Int, Nil, Cons}
 use Rattle.store_core.specs.declared.view.Sizes.{Sizes}
 use Rattle.store_core.specs.declared.view.View.{View}
 use Rattle.store_core.specs.declared.view.Place.{Place}
-use Rattle.store_core.specs.declared.view.Place.TheVariants.{Base, Claim, InUse, Bucket, RowWord, RootCount, Root}
+use Rattle.store_core.specs.declared.view.Place.TheVariants.{Base, Claim, InUse, RowWord, RootCount, Root}
 use Rattle.store_core.specs.declared.view.KnownWord.{KnownWord}
 use Rattle.store_core.specs.declared.view.Call.{Call}
 use Rattle.store_core.specs.declared.view.Call.TheVariants.{Idle, Comparing, Passing, Finding, Ended, Counting, Drawing, Placing, Filling, Numbering, Linking, Publishing, Loading, Storing}
 use Rattle.store_core.specs.declared.view.Stay.TheVariants.{Away, Based, Ready}
 use Rattle.store_core.specs.Machine as core
 use Rattle.store_core.specs.Machine.{IsCreation, action, InAccess, MayBegin, MayName, SecondIsList, LoadBase, LoadInUse, Begin, Go, has_got, has_protected, protected_in, Each, In}
-use Rattle.store_core.specs.Calls.{bucket}
 use Rattle.store_core.specs.Invariant.{one_if, tally, is_at, Holds}
 use Rattle.store_core.specs.Steps.{Permits, IsAtRest, MayCreate, is_collecting}
-use Rattle.store_core.specs.Shown.{shown, total, in_table, index_of}
+use Rattle.store_core.specs.Shown.{shown, in_table, index_of}
 use Rattle.store_core.proofs.Basics.{each_map}
 use Rattle.store_core.proofs.Shown.{place_inside}
 use Rattle.store_core.proofs.Locks.{is_in}
@@ -33,7 +28,7 @@ use Rattle.store_core.proofs.Wrapped.{quiet, creation_calm, creation_busy}
 use Rattle.node_rows.specs.declared.view.NodeView.{NodeView}
 use Rattle.node_rows.specs.Shown.{state_of, Shows, IsAway}
 use Rattle.node_rows.specs.Locking.{store_here, below, phase_is, stands_is}
-use Rattle.node_rows.specs.Steps.{with_store, Known, KnowsWord, MayUse, SecondIsKnown, MayCreateBy, IsOf, Goes, Reads, Writes, IsDraw, Exchanges, MayLoad, MayMake, over}
+use Rattle.node_rows.specs.Steps.{with_store, KnowsWord, MayUse, SecondIsKnown, MayCreateBy, IsOf, Goes, Reads, Writes, IsDraw, Exchanges, MayLoad, MayMake, over}
 use Rattle.node_rows.proofs.Own.{Owes, Tells, own_allows, shown_at}
 
 pub word_fits : (t : TableId) (z : Sizes) (seat : Seat (Unit {0}) NodeView) (k : ℕ) (p : Place) → IsOf t z seat → k ≡ index_of z p → in_table z p ≡ true → k < t.words
@@ -83,7 +78,7 @@ module _ (z : Sizes) (s : State (Unit {0}) NodeView) (i : ℕ) (v : NodeView) (r
   here : t.view i ≡ v.store
   here = store_here z s.views i v at
 
-  permits_go : IsCreation v.store.call → Permits z t i Go
+  pub permits_go : IsCreation v.store.call → Permits z t i Go
   permits_go is = subst (λ (u : View). IsCreation u.call) (sym here) is
 
   claim_small : IsCreation v.store.call → shown z s.words Claim < 2 ^ 62
@@ -106,10 +101,10 @@ module _ (z : Sizes) (s : State (Unit {0}) NodeView) (i : ℕ) (v : NodeView) (r
     others = λ j l ne. stands_is z s i v rule at g.holder j ∙ g.held j (let c = rule.lock.shows.count in omega arith) ne;
   })) may
 
-  permits_base : MayLoad v.lock i z.seats → IsAway v.store → Permits z t i LoadBase
+  pub permits_base : MayLoad v.lock i z.seats → IsAway v.store → Permits z t i LoadBase
   permits_base may away = (in_access may, ap (λ (u : View). u.call) here ∙ away.call, ap (λ (u : View). u.stay) here ∙ away.stay)
 
-  permits_in_use : v.store.call ≡ Idle → v.store.stay ≡ Based → Permits z t i LoadInUse
+  pub permits_in_use : v.store.call ≡ Idle → v.store.stay ≡ Based → Permits z t i LoadInUse
   permits_in_use idle stay = (ap (λ (u : View). u.call) here ∙ idle, ap (λ (u : View). u.stay) here ∙ stay)
 
   -- at rest in an access the words are as the facts say
@@ -134,12 +129,12 @@ module _ (z : Sizes) (s : State (Unit {0}) NodeView) (i : ℕ) (v : NodeView) (r
       ⊎_elim
       (λ a. has_got r (subst (λ (u : View). In r u.got) (sym here) a))
       (λ a.
-          let f = in_taken r (t.view i).root_count (t.view i).roots (subst (λ (u : View). In r (protected_in u)) (sym here) a) in
-          let few : (t.view i).root_count ≤ z.depth = own.few in
-          let c : t.words (RootCount i) ≡ (t.view i).root_count = own.count in
-          let l : f.0 < (t.view i).root_count = f.1 in
-          let e : t.words (Root i f.0) ≡ r = own.root f.0 (omega arith) ∙ f.2 in
-          subst (MayName t.words i (t.view i)) e (has_protected f.0 (omega arith)))
+      let f = in_taken r (t.view i).root_count (t.view i).roots (subst (λ (u : View). In r (protected_in u)) (sym here) a) in
+      let few : (t.view i).root_count ≤ z.depth = own.few in
+      let c : t.words (RootCount i) ≡ (t.view i).root_count = own.count in
+      let l : f.0 < (t.view i).root_count = f.1 in
+      let e : t.words (Root i f.0) ≡ r = own.root f.0 (omega arith) ∙ f.2 in
+      subst (MayName t.words i (t.view i)) e (has_protected f.0 (omega arith)))
       g
 
   second_is : IsAtRest v.store → (f : Head) (rs : List ℕ) → SecondIsKnown v.store f rs → SecondIsList t.words f rs
@@ -153,7 +148,7 @@ module _ (z : Sizes) (s : State (Unit {0}) NodeView) (i : ℕ) (v : NodeView) (r
   may_create : MayCreateBy v → MayCreate t i
   may_create may = ⊎_elim (λ p. inl (phase_is z s i v rule at ∙ p)) (λ f. inr (ap (λ (u : View). u.fresh) here ∙ f)) may
 
-  permits_begin : (f : Head) (rs : List ℕ) (k : ℕ) → MayMake z v f rs k → Permits z t i (Begin (over f rs))
+  pub permits_begin : (f : Head) (rs : List ℕ) (k : ℕ) → MayMake z v f rs k → Permits z t i (Begin (over f rs))
   permits_begin f rs k may = (
     subst IsAtRest (sym here) may.rest,
     may_create may.access,

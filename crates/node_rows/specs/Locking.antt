@@ -1,5 +1,5 @@
 -- Each step of the lock keeps the rule.
-use Rattle.std.proofs.Common.{◌≡◌, ◌≢◌, ◌⊎◌, inl, inr, ℕ, zero, suc, ◌+◌, ◌*◌, ◌<◌, ◌≤◌, eqb, Bool, true, false, cond, List, [], ◌∷◌, length, map, get_or, set, refl, sym, ap, ◌∙◌, subst, ⊎_elim, arith, length-set, ne_eqb, true≢false}
+use Rattle.std.proofs.Common.{◌≡◌, ◌≢◌, ◌⊎◌, inl, inr, ℕ, zero, suc, ◌+◌, ◌*◌, ◌<◌, eqb, Bool, true, false, cond, List, [], ◌∷◌, length, map, get_or, set, refl, sym, ap, ◌∙◌, subst, ⊎_elim, arith, length-set, ne_eqb, true≢false}
 use mathlib.Core.Logic.{dite}
 use mathlib.Core.Path.{fun_ext}
 use mathlib.Core.Option.{some, some-injective, some-ne-none}
@@ -8,11 +8,12 @@ use lib.ListN.{get_elem?}
 use Rattle.std.proofs.lemmas.List.{length-map}
 use Rattle.atomic_table.specs.Table.{State}
 use Rattle.atomic_table.proofs.Lists.{at_set, at_map}
-use Rattle.lock_core.specs.declared.parts.Phase.TheVariants.{Out, Raised, Shared, Blocked, Holder}
+use Rattle.lock_core.specs.declared.parts.Phase.TheVariants.{Shared, Blocked, Holder}
 use Rattle.lock_core.specs.declared.parts.Standing.TheVariants.{Free, Seen, Held}
 use Rattle.lock_core.specs.declared.parts.LockStep.{LockStep}
 use Rattle.lock_core.specs.declared.parts.LockStep.TheVariants.{Raise, Look, Lower, Take, Ask, Peek, Unask, Give}
-use Rattle.lock_core.specs.Lock.{Lock, seat_of, after, InPlace}
+use Rattle.lock_core.specs.Lock as lock
+use Rattle.lock_core.specs.Lock.{seat_of, InPlace}
 use Rattle.busy_forbidden.specs.declared.view.LockView.{LockView}
 use Rattle.busy_forbidden.specs.Shown.{standing, put, view_at}
 use Rattle.busy_forbidden.specs.Moves.{word_of, written, moved, MayStep}
@@ -27,16 +28,19 @@ use Rattle.store_core.specs.declared.view.Place.{Place}
 use Rattle.store_core.specs.declared.view.Call.TheVariants.{Idle}
 use Rattle.store_core.specs.declared.view.Stay.{Stay}
 use Rattle.store_core.specs.declared.view.Stay.TheVariants.{Away, Based, Ready, Leaving}
-use Rattle.store_core.specs.Words as core
-use Rattle.store_core.specs.Machine.{Step, LockAlone, LowerShared, UnaskSeat, GiveGranted, left, leaving, protected_in}
-use Rattle.store_core.specs.Shown.{shown, total}
+use Rattle.store_core.specs.Words as words
+use Rattle.store_core.specs.Machine as core
+use Rattle.store_core.specs.Machine.{LockAlone, LowerShared, UnaskSeat, GiveGranted, left, leaving, protected_in}
+use Rattle.store_core.specs.Shown.{shown}
 use Rattle.store_core.specs.Runs.{Inductive}
-use Rattle.store_core.specs.Steps.{IsAtRest, MayLeave}
+use Rattle.store_core.specs.Steps.{Permits, IsAtRest, MayLeave}
+use Rattle.store_core.specs.Steps as steps
+use Rattle.store_core.specs.StoreSteps.{lock_meant}
 use Rattle.store_core.proofs.Basics.{choose, eqb_is, eqb_not}
 use Rattle.store_core.proofs.Shown.{shown_apart}
 use Rattle.store_core.proofs.Runs.{step_kept}
 use Rattle.node_rows.specs.declared.view.NodeView.{NodeView}
-use Rattle.node_rows.specs.Shown.{lock_of, seats_of, store_at, state_of, Shows, IsAway, IsEnding, IsClosed, node_can, ended, freed, store_next, node_next, rest_of, is_out}
+use Rattle.node_rows.specs.Shown.{lock_of, seats_of, store_at, state_of, Shows, IsStoreStep, IsAway, IsEnding, IsClosed, node_can, ended, freed, store_next, node_next, rest_of, is_out}
 
 pub node_moves : (v : NodeView) (x : LockStep) (n : ℕ) → lock_of (node_next x n v) ≡ moved (lock_of v) x n
 node_moves v x n = refl
@@ -171,6 +175,17 @@ word_inside n i v (Peek j) l ok = let b = ok.1 in omega arith
 word_inside n i v (Unask j) l ok = let b = ok.1 in omega arith
 word_inside n i v Give l ok = omega arith
 
+-- no step of the lock changes what is known of the store by a seat that is away
+next_off : (x : LockStep) (v : View) → v.stay ≡ Away → store_next x v ≡ v
+next_off Raise v e = refl
+next_off Look v e = refl
+next_off Lower v e = ended_off v.stay v e
+next_off Take v e = refl
+next_off (Ask j) v e = refl
+next_off (Peek j) v e = refl
+next_off (Unask j) v e = freed_off v.stay v e
+next_off Give v e = ended_off v.stay v e
+
 pub store_here : (z : Sizes) (vs : List NodeView) (i : ℕ) (v : NodeView) → get_elem? vs i ≡ some v → store_at z vs i ≡ v.store
 store_here z [] i v e = absurd (some-ne-none v (sym e))
 store_here z (x ∷ xs) zero v e = ap (λ (u : NodeView). u.store) (some-injective x v e)
@@ -189,12 +204,12 @@ set_other z (x ∷ xs) (suc i) w zero ne = refl
 set_other z (x ∷ xs) (suc i) w (suc j) ne = set_other z xs i w j (λ e. ne (ap suc e))
 
 -- what the views show after an own step
-pub store_set : (z : Sizes) (vs : List NodeView) (i : ℕ) (w : NodeView) → i < length vs → store_at z (set vs i w) ≡ core.put (store_at z vs) i w.store
+pub store_set : (z : Sizes) (vs : List NodeView) (i : ℕ) (w : NodeView) → i < length vs → store_at z (set vs i w) ≡ words.put (store_at z vs) i w.store
 store_set z vs i w l = fun_ext (λ j. choose (λ u. store_at z (set vs i w) j ≡ u) (eqb j i) w.store (store_at z vs j)
     (λ e. subst (λ (k : ℕ). store_at z (set vs i w) k ≡ w.store) (sym (eqb_is j i e)) (set_same z vs i w l))
     (λ e. set_other z vs i w j (eqb_not j i e)))
 
-pub put_again : (f : ℕ → View) (i : ℕ) (x : View) → f i ≡ x → core.put f i x ≡ f
+pub put_again : (f : ℕ → View) (i : ℕ) (x : View) → f i ≡ x → words.put f i x ≡ f
 put_again f i x e = fun_ext (λ j. choose (λ u. u ≡ f j) (eqb j i) x (f j)
     (λ h. sym (ap f (eqb_is j i h) ∙ e))
     (λ h. refl))
@@ -228,57 +243,91 @@ module _ (z : Sizes) (s : State (Unit {0}) NodeView) (i : ℕ) (v : NodeView) (r
   pub here : store_at z s.views i ≡ v.store
   here = store_here z s.views i v at
 
+  abbrev pub shown_state : core.State
+  shown_state = state_of z s.words s.views rule.lock.state
+
   -- the store with this own view, after a step of the lock
-  abbrev pub Left : LockStep → View → Type 0
-  Left x u = Inductive z (record { lock = after rule.lock.state i x; words = shown z s.words; view = core.put (store_at z s.views) i u })
+  abbrev pub left_by : LockStep → View → core.State
+  left_by x u = record { lock = lock.after rule.lock.state i x; words = shown z s.words; view = words.put (store_at z s.views) i u }
 
   -- a fact of the own view, as the store has it
   shown_too : (P : View → Type 0) → P v.store → P (store_at z s.views i)
   shown_too P h = subst P (sym here) h
 
-  alone : (x : LockStep) → MayStep z.seats i v.lock x → (x ≡ Lower → v.lock.phase ≡ Blocked) → IsAway v.store → Left x v.store
-  alone x ok blocked away =
-      subst (λ f. Inductive z (record { lock = after rule.lock.state i x; words = shown z s.words; view = f })) (sym (put_again (store_at z s.views) i v.store here))
-      (step_kept (LockAlone x) z (state_of z s.words s.views rule.lock.state) i rule.holds record { present = below; permitted = (λ e. phase_is ∙ blocked e, placed x ok, ap (λ (u : View). u.stay) here ∙ away.stay) })
+  -- the step of the lock is this one of the store
+  record IsMeant (x : LockStep) (y : core.Step) : Type 0 where
+    permitted : Permits z shown_state i y
+    after : left_by x (store_next x v.store) ≡ steps.after z shown_state i y
 
-  leaves : (x : LockStep) → Left x (left (store_at z s.views i) (protected_in (store_at z s.views i))) → Left x (left v.store (protected_in v.store))
-  leaves x h = subst (λ (u : View). Left x (left u (protected_in u))) here h
+  alone : (x : LockStep) → MayStep z.seats i v.lock x → (x ≡ Lower → v.lock.phase ≡ Blocked) → IsAway v.store → IsMeant x (lock_meant v.store.stay x)
+  alone x ok blocked away = subst (λ (a : Stay). IsMeant x (lock_meant a x)) (sym away.stay) record {
+    permitted = (λ e. phase_is ∙ blocked e, placed x ok, ap (λ (u : View). u.stay) here ∙ away.stay);
+    after =
+        let same : words.put (store_at z s.views) i (store_next x v.store) ≡ store_at z s.views = put_again (store_at z s.views) i (store_next x v.store) (here ∙ sym (next_off x v.store away.stay)) in
+        ap (λ f. record { lock = lock.after rule.lock.state i x; words = shown z s.words; view = f }) same;
+  }
 
-  lowers : MayStep z.seats i v.lock Lower → node_can Lower v → Left Lower (ended v.store.stay v.store)
+  -- the own view where an access has ended
+  leaves : (x : LockStep) → left_by x (left v.store (protected_in v.store)) ≡ left_by x (left (store_at z s.views i) (protected_in (store_at z s.views i)))
+  leaves x = ap (λ (u : View). left_by x (left u (protected_in u))) (sym here)
+
+  lowers : MayStep z.seats i v.lock Lower → node_can Lower v → IsMeant Lower (lock_meant v.store.stay Lower)
   lowers ok may = ⊎_elim
-      (λ t. subst (Left Lower) (sym (ended_off v.store.stay v.store t.0.stay)) (alone Lower ok (λ _. t.1) t.0))
-      (λ t. subst (Left Lower) (sym (ended_on v.store.stay v.store (at_rest_in v.store t.0))) (leaves Lower
-          (step_kept LowerShared z (state_of z s.words s.views rule.lock.state) i rule.holds record { present = below; permitted = (phase_is ∙ t.1, placed Lower ok, shown_too IsAtRest t.0) })))
+      (λ t. alone Lower ok (λ _. t.1) t.0)
+      (λ t. subst (λ (a : Stay). IsMeant Lower (lock_meant a Lower)) (sym t.0.stay) record {
+        permitted = (phase_is ∙ t.1, placed Lower ok, shown_too IsAtRest t.0);
+        after = ap (left_by Lower) (ended_on v.store.stay v.store (at_rest_in v.store t.0)) ∙ leaves Lower;
+      })
       may
 
-  gives : MayStep z.seats i v.lock Give → node_can Give v → Left Give (ended v.store.stay v.store)
+  -- a seat at the end of its exclusive access, by how far that has come
+  by_stay : (P : Stay → Type 0) → IsEnding v.store → P Ready → P Leaving → P v.store.stay
+  by_stay P t a b = ⊎_elim (λ e. subst P (sym e) a) (λ e. subst P (sym e) b) t.stay
+
+  gives : MayStep z.seats i v.lock Give → node_can Give v → IsMeant Give (lock_meant v.store.stay Give)
   gives ok may = ⊎_elim
-      (λ t. subst (Left Give) (sym (ended_off v.store.stay v.store t.stay)) (alone Give ok (λ h. absurd (not_lower Give refl h)) t))
-      (λ t. subst (Left Give) (sym (ended_on v.store.stay v.store (ending_in v.store t))) (leaves Give
-          (step_kept GiveGranted z (state_of z s.words s.views rule.lock.state) i rule.holds record { present = below; permitted = (placed Give ok, ap (λ (u : View). u.call) here ∙ t.call, shown_too MayLeave t.stay) })))
+      (λ t. alone Give ok (λ h. absurd (not_lower Give refl h)) t)
+      (λ t.
+          let meant : IsMeant Give GiveGranted = record {
+            permitted = (placed Give ok, ap (λ (u : View). u.call) here ∙ t.call, shown_too MayLeave t.stay);
+            after = ap (left_by Give) (ended_on v.store.stay v.store (ending_in v.store t)) ∙ leaves Give;
+          } in
+          by_stay (λ a. IsMeant Give (lock_meant a Give)) t meant meant)
       may
 
-  unasks : (j : ℕ) → MayStep z.seats i v.lock (Unask j) → node_can (Unask j) v → Left (Unask j) (freed v.store.stay v.store)
+  unasks : (j : ℕ) → MayStep z.seats i v.lock (Unask j) → node_can (Unask j) v → IsMeant (Unask j) (lock_meant v.store.stay (Unask j))
   unasks j ok may = ⊎_elim
-      (λ t. subst (Left (Unask j)) (sym (freed_off v.store.stay v.store t.stay)) (alone (Unask j) ok (λ h. absurd (not_lower (Unask j) refl h)) t))
-      (λ t. subst (Left (Unask j)) (sym (freed_on v.store.stay v.store (ending_in v.store t.0))) (subst (λ (u : View). Left (Unask j) (leaving u)) here
-          (step_kept (UnaskSeat j) z (state_of z s.words s.views rule.lock.state) i rule.holds record { present = below; permitted = (placed (Unask j) ok, ap (λ (u : View). u.call) here ∙ t.0.call, shown_too MayLeave t.0.stay) })))
+      (λ t. alone (Unask j) ok (λ h. absurd (not_lower (Unask j) refl h)) t)
+      (λ t.
+          let meant : IsMeant (Unask j) (UnaskSeat j) = record {
+            permitted = (placed (Unask j) ok, ap (λ (u : View). u.call) here ∙ t.0.call, shown_too MayLeave t.0.stay);
+            after = ap (left_by (Unask j)) (freed_on v.store.stay v.store (ending_in v.store t.0)) ∙ ap (λ (u : View). left_by (Unask j) (leaving u)) (sym here);
+          } in
+          by_stay (λ a. IsMeant (Unask j) (lock_meant a (Unask j))) t.0 meant meant)
       may
 
-  steps : (x : LockStep) → MayStep z.seats i v.lock x → node_can x v → Left x (store_next x v.store)
-  steps Raise ok may = alone Raise ok (λ h. absurd (not_lower Raise refl h)) may
-  steps Look ok may = alone Look ok (λ h. absurd (not_lower Look refl h)) may
-  steps Lower ok may = lowers ok may
-  steps Take ok may = alone Take ok (λ h. absurd (not_lower Take refl h)) may
-  steps (Ask j) ok may = alone (Ask j) ok (λ h. absurd (not_lower (Ask j) refl h)) may
-  steps (Peek j) ok may = alone (Peek j) ok (λ h. absurd (not_lower (Peek j) refl h)) may
-  steps (Unask j) ok may = unasks j ok may
-  steps Give ok may = gives ok may
+  meant : (x : LockStep) → MayStep z.seats i v.lock x → node_can x v → IsMeant x (lock_meant v.store.stay x)
+  meant Raise ok may = alone Raise ok (λ h. absurd (not_lower Raise refl h)) may
+  meant Look ok may = alone Look ok (λ h. absurd (not_lower Look refl h)) may
+  meant Lower ok may = lowers ok may
+  meant Take ok may = alone Take ok (λ h. absurd (not_lower Take refl h)) may
+  meant (Ask j) ok may = alone (Ask j) ok (λ h. absurd (not_lower (Ask j) refl h)) may
+  meant (Peek j) ok may = alone (Peek j) ok (λ h. absurd (not_lower (Peek j) refl h)) may
+  meant (Unask j) ok may = unasks j ok may
+  meant Give ok may = gives ok may
 
-  -- the store that is shown after a step on the word k of the lock
-  stays : (x : LockStep) (k y : ℕ) (w : NodeView) → k < 1 + 2 * z.seats → Left x w.store → Inductive z (state_of z (set s.words k y) (set s.views i w) (after rule.lock.state i x))
-  stays x k y w l h = subst (λ (t : (Place → ℕ) × (ℕ → View)). Inductive z (record { lock = after rule.lock.state i x; words = t.0; view = t.1 }))
-      (λ q. (sym (shown_apart z s.words k y l) q, sym (store_set z s.views i w inside) q)) h
+  -- each step of the lock is the store's
+  pub lock_step_is : (x : LockStep) → MayStep z.seats i v.lock x → node_can x v → (n y : ℕ)
+      → IsStoreStep z s.words s.views rule.lock.state i (lock_meant v.store.stay x) (set s.words (word_of i x) y) (set s.views i (node_next x n v)) (lock.after rule.lock.state i x)
+  lock_step_is x ok may n y =
+      let m = meant x ok may in
+      let l : word_of i x < 1 + 2 * z.seats = word_inside z.seats i v.lock x below ok in
+      let shows : state_of z (set s.words (word_of i x) y) (set s.views i (node_next x n v)) (lock.after rule.lock.state i x) ≡ left_by x (store_next x v.store) = λ q. record {
+        lock = lock.after rule.lock.state i x;
+        words = shown_apart z s.words (word_of i x) y l q;
+        view = store_set z s.views i (node_next x n v) inside q;
+      } in
+      record { in_place = record { present = below; permitted = m.permitted }; after = shows ∙ m.after }
 
   -- what each seat knows besides, after an own step
   module _ (w : NodeView) (sizes : w.sizes ≡ v.sizes) (made : w.made ≡ v.made) where
@@ -305,11 +354,11 @@ node_keeps z = record {
       let f : ℕ = get_or s.words k 0 in
       let y : ℕ = written i x f in
       let w : NodeView = node_next x (seen x f) v in
-      let l : k < 1 + 2 * z.seats = word_inside z.seats i v.lock x (below z s i v rule at) ok in
+      let step = lock_step_is z s i v rule at x ok may (seen x f) y in
       record {
         lock = lock_kept lock_of node_next node_moves z.seats s i v x rule.lock at ok;
         wide = let e = length-set s.words k y in let r = rule.wide in omega arith;
-        holds = stays z s i v rule at x k y w l (steps z s i v rule at x ok may);
+        holds = subst (Inductive z) (sym step.after) (step_kept (lock_meant v.store.stay x) z (state_of z s.words s.views rule.lock.state) i rule.holds step.in_place);
         sized = sized_set z s i v rule at w refl refl;
         some_made = some_set z s i v rule at w refl refl;
         count = count_set z s i v rule at w refl refl;
@@ -317,16 +366,6 @@ node_keeps z = record {
 }
 
 -- a step of the lock leaves what the rule adds to the view of a seat that is away
-next_off : (x : LockStep) (v : View) → v.stay ≡ Away → store_next x v ≡ v
-next_off Raise v e = refl
-next_off Look v e = refl
-next_off Lower v e = ended_off v.stay v e
-next_off Take v e = refl
-next_off (Ask j) v e = refl
-next_off (Peek j) v e = refl
-next_off (Unask j) v e = freed_off v.stay v e
-next_off Give v e = ended_off v.stay v e
-
 pub node_leaves : (v : NodeView) (x : LockStep) (n : ℕ) → LeavesMore rest_of is_out v (node_next x n v)
 node_leaves v x n away =
     let same = next_off x v.store away.stay in

@@ -21,7 +21,8 @@ use Rattle.store_core.specs.Machine as core
 use Rattle.store_core.specs.Machine.{left, leaving, protected_in}
 use Rattle.store_core.specs.Shown.{shown, total}
 use Rattle.store_core.specs.Runs.{Inductive}
-use Rattle.store_core.specs.Steps.{IsAtRest, MayLeave, newcomer}
+use Rattle.store_core.specs.Steps as steps
+use Rattle.store_core.specs.Steps.{InPlace, IsAtRest, MayLeave, newcomer}
 use Rattle.node_rows.specs.declared.view.NodeView.{NodeView}
 
 abbrev pub lock_of : NodeView → LockView
@@ -122,3 +123,9 @@ rest_of v = (v.sizes, v.store)
 
 abbrev pub is_out : NodeView → Type 0
 is_out v = IsAway v.store
+
+-- The step y of seat i is the store's: it is in place in the store that the table shows, and the table then shows the store after
+-- it. Before it the table has these words and views, and after it those, with the lock m.
+pub record IsStoreStep (z : Sizes) (words : List ℕ) (views : List NodeView) (l : Lock) (i : ℕ) (y : core.Step) (words' : List ℕ) (views' : List NodeView) (m : Lock) : Type 0 where
+  pub in_place : InPlace z (state_of z words views l) i y
+  pub after : state_of z words' views' m ≡ steps.after z (state_of z words views l) i y

@@ -11,7 +11,9 @@ mod store;
 mod tests;
 mod view;
 
-pub use law::history_is_legal;
+pub use law::{
+    history_is_legal, lock_steps_are_the_stores, own_steps_are_in_place, own_steps_are_the_stores,
+};
 pub use places::{
     base_word, birth_word, bucket_word, claim_word, free_count_word, free_place_word, in_use_word,
     next_word, row_word,

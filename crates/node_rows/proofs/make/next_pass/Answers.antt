@@ -1,4 +1,4 @@
-use Rattle.std.proofs.Common.{◌≡◌, ◌<◌, ℕ, sym, ap, ◌∙◌, subst, arith}
+use Rattle.std.proofs.Common.{◌≡◌, ◌<◌, ℕ, sym, ap, subst, arith}
 use Rattle.atomic_table.specs.Table.{Splits}
 use Rattle.store_core.specs.declared.view.Sizes.{Sizes}
 use Rattle.node_rows.specs.declared.view.NodeView.{NodeView}

@@ -1,12 +1,10 @@
-use Rattle.std.proofs.Common.{refl, sym, ap, ◌∙◌, subst}
-use Rattle.node_rows.specs.Steps.{MayLoad}
-use Rattle.store_core.specs.declared.view.Place.TheVariants.{Base, InUse, Bucket}
-use Rattle.store_core.specs.Machine.{action}
+use Rattle.std.proofs.Common.{sym, subst}
+use Rattle.store_core.specs.declared.view.Place.TheVariants.{Bucket}
 use Rattle.store_core.specs.Calls.{bucket}
 use Rattle.node_rows.specs.Steps.{over, MayMake}
 use Rattle.term_model.specs.declared.Head.{Head}
 use Rattle.std.specs.Prelude.{ℕ, List}
-use Rattle.node_rows.proofs.Plays.{word_fits, loads, stores, draws, exchanges, bases, in_uses, begins_with}
+use Rattle.node_rows.proofs.Plays.{word_fits, begins_with}
 use Rattle.node_rows.proofs.steps.begin_as.Goals as goal
 
 pub load-requires : goal.load-requires

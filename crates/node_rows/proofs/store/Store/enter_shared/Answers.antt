@@ -1,19 +1,18 @@
-use Rattle.std.proofs.Common.{◌∙◌, ap, sym, subst, Ok, Err}
+use Rattle.std.proofs.Common.{◌∙◌, ap}
 use Rattle.store_core.specs.declared.view.View.{View}
 use Rattle.store_core.specs.Machine.{based, ready}
-use Rattle.node_rows.specs.Shown.{IsAway}
 use Rattle.node_rows.proofs.Entering.{enters_shared_stays}
 use Rattle.node_rows.proofs.store.Store.enter_shared.Goals as goal
 
 pub arrive-requires-clause-pass : goal.arrive-requires-clause-pass
 arrive-requires-clause-pass g c =
-    let t = enters_shared_stays  c.args.pass.now.seat.seat.me.0 c.enter_shared.new.seat.seat.me.0 c.enter_shared.ensures.steps c.requires.out.away in
+    let t = enters_shared_stays c.args.pass.now.seat.seat.me.0 c.enter_shared.new.seat.seat.me.0 c.enter_shared.ensures.steps c.requires.out.away in
     record { table = c.enter_shared.ensures.of.0; sizes = t.sizes ∙ c.requires.pass.sizes; count = c.enter_shared.ensures.same.2 ∙ c.requires.pass.count }
 
 pub arrive-requires-clause-away : goal.arrive-requires-clause-away
-arrive-requires-clause-away g c = (enters_shared_stays  c.args.pass.now.seat.seat.me.0 c.enter_shared.new.seat.seat.me.0 c.enter_shared.ensures.steps c.requires.out.away).away
+arrive-requires-clause-away g c = (enters_shared_stays c.args.pass.now.seat.seat.me.0 c.enter_shared.new.seat.seat.me.0 c.enter_shared.ensures.steps c.requires.out.away).away
 
 pub returns-clause-came : goal.returns-clause-came
 returns-clause-came g c =
-    let t = enters_shared_stays  c.args.pass.now.seat.seat.me.0 c.enter_shared.new.seat.seat.me.0 c.enter_shared.ensures.steps c.requires.out.away in
+    let t = enters_shared_stays c.args.pass.now.seat.seat.me.0 c.enter_shared.new.seat.seat.me.0 c.enter_shared.ensures.steps c.requires.out.away in
     c.arrive.ensures.came ∙ ap (λ (u : View). ready (based u c.arrive.new.pass.base) c.arrive.new.pass.in_use) t.store

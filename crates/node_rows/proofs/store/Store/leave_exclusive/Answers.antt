@@ -1,7 +1,4 @@
-use Rattle.std.proofs.Common.{◌∙◌, ap, sym, subst, Ok, Err}
-use Rattle.store_core.specs.declared.view.View.{View}
-use Rattle.store_core.specs.Machine.{based, ready}
-use Rattle.node_rows.specs.Shown.{IsAway}
+use Rattle.std.proofs.Common.{◌∙◌}
 use Rattle.node_rows.proofs.Entering.{ends_exclusive, granted_closed, may_release}
 use Rattle.node_rows.proofs.store.Store.leave_exclusive.Goals as goal
 

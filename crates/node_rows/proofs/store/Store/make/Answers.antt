@@ -1,10 +1,9 @@
-use Rattle.std.proofs.Common.{◌≡◌, ◌+◌, ◌++◌, [], ◌∷◌, ℕ, List, refl, sym, ap, ◌∙◌, subst, arith}
+use Rattle.std.proofs.Common.{◌≡◌, ◌+◌, ℕ, refl, sym, ap, subst, arith}
 use Rattle.busy_forbidden.specs.Dealt.{EachPlace}
 use Rattle.busy_forbidden.proofs.Dealing.{each_push, each_front, each_all}
 use Rattle.store_core.specs.declared.view.Sizes.{Sizes}
 use Rattle.node_rows.specs.Opening.{IsNew}
 use Rattle.node_rows.specs.Passes.{IsPass, IsOut}
-use Rattle.node_rows.specs.declared.view.NodeView.{NodeView}
 use Rattle.node_rows.proofs.Opens.{new_ready}
 use Rattle.node_rows.proofs.store.Store.make.Goals as goal
 

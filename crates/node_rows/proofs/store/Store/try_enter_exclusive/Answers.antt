@@ -1,7 +1,6 @@
-use Rattle.std.proofs.Common.{◌∙◌, ap, sym, subst, Ok, Err}
+use Rattle.std.proofs.Common.{◌∙◌, ap, Ok, Err}
 use Rattle.store_core.specs.declared.view.View.{View}
 use Rattle.store_core.specs.Machine.{based, ready}
-use Rattle.node_rows.specs.Shown.{IsAway}
 use Rattle.node_rows.proofs.Entering.{tries_exclusive_stays}
 use Rattle.node_rows.proofs.store.Store.try_enter_exclusive.Goals as goal
 
