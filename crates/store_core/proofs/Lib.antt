@@ -29,3 +29,10 @@ pub mod Runs
 pub mod Shown
 pub mod Short
 pub mod Acts
+pub mod Eight
+pub mod Creations
+pub mod Full
+pub mod Ends
+pub mod Worked
+pub mod Showing
+pub mod TreesKept

@@ -11,4 +11,15 @@ pub mod Steps
 pub mod Reads
 pub mod Runs
 pub mod StoreSteps
+pub mod LockHolds
+pub mod RowsPartitioned
+pub mod ChainsSound
+pub mod WalksCurrent
+pub mod NumbersBounded
+pub mod ProtectedLive
+pub mod HistoryMatches
+pub mod CollectionUnderWay
+pub mod StoreHolds
 pub mod Laws
+pub mod Worked
+pub mod ByView
