@@ -1,5 +1,5 @@
 -- What entries and leaves leave of a pass's view.
-use Rattle.std.proofs.Common.{◌≡◌, inl, inr, ℕ, zero, suc, eqb, Bool, true, false, cond, [], ◌∷◌, Result, refl, sym, ap, ◌∙◌, subst, ⊎_elim}
+use Rattle.std.proofs.Common.{◌≤◌, ◌≡◌, inl, inr, ℕ, zero, suc, eqb, Bool, true, false, cond, [], ◌∷◌, Result, refl, sym, ap, ◌∙◌, subst, ⊎_elim}
 use Rattle.std.proofs.lemmas.Bool.{cases_lt}
 use mathlib.Core.Logic.{dite}
 use native.Mathlib.Decide.{ℕ_discrete}
@@ -15,11 +15,11 @@ use Rattle.busy_forbidden.proofs.Asking.{run_append, goes_free}
 use Rattle.busy_forbidden.proofs.Leaving.{tries_shared_leaves, enters_shared_leaves, tries_exclusive_leaves, enters_exclusive_leaves}
 use Rattle.store_core.specs.declared.view.Sizes.{Sizes}
 use Rattle.store_core.specs.declared.view.View.{View}
-use Rattle.store_core.specs.Machine.{left, protected_in}
+use Rattle.store_core.specs.Machine.{based, ready, left, protected_in}
 use Rattle.store_core.specs.Steps.{IsAtRest}
 use Rattle.node_rows.specs.declared.view.NodeView.{NodeView}
 use Rattle.node_rows.specs.Shown.{node_next, node_can, rest_of, is_out, IsAway, IsEnding, IsClosed}
-use Rattle.node_rows.specs.Passes.{Left}
+use Rattle.node_rows.specs.Passes.{Came, Left}
 use Rattle.node_rows.specs.Locking.{node_leaves, ended_on, freed_on, at_rest_in, ending_in}
 
 -- a call of a seat that is away leaves it away, with the same sizes and the same of the store
@@ -42,6 +42,13 @@ tries_exclusive_stays i n v w r t = stays v w (tries_exclusive_leaves rest_of is
 
 pub enters_exclusive_stays : (i n : ℕ) (v w : NodeView) → EntersExclusive node_next i n v w → IsAway v.store → Stays v w
 enters_exclusive_stays i n v w t = stays v w (enters_exclusive_leaves rest_of is_out node_next node_leaves i n v w t)
+
+-- an entry that stayed away until it was granted
+pub came_from : (v u w : NodeView) (base in_use : ℕ) → Stays v u → Came u w base in_use → Came v w base in_use
+came_from v u w base in_use t came = record {
+  store = came.store ∙ ap (λ (x : View). ready (based x base) in_use) t.store;
+  later = subst (λ (x : View). x.base ≤ base) t.store came.later;
+}
 
 -- the end of an access
 pub record Ends (v w : NodeView) : Type 0 where

@@ -15,9 +15,12 @@ use Rattle.store_core.specs.declared.view.Place.TheVariants.{Base, FreeCount, Cl
 use Rattle.store_core.specs.Words.{write}
 use Rattle.store_core.specs.Shown.{shown, total, in_table, index_of}
 use Rattle.store_core.specs.Steps as core
-use Rattle.store_core.specs.Runs.{Inductive, AreSizes}
+use Rattle.store_core.specs.Runs as runs
+use Rattle.store_core.specs.Runs.{AreSizes, StartsWith}
+use Rattle.store_core.specs.StoreHolds.{StoreHolds}
 use Rattle.store_core.proofs.Basics.{choose, eqb_is, eqb_not}
 use Rattle.store_core.proofs.Shown.{shown_written, past_lock, place_inside}
+use Rattle.store_core.proofs.Eight.{eight}
 use Rattle.store_core.proofs.Runs.{starts}
 use Rattle.node_rows.specs.declared.view.NodeView.{NodeView}
 use Rattle.node_rows.specs.Shown.{lock_of, first_view, one_made, next_seat, store_at, Shows}
@@ -106,8 +109,8 @@ opens_node z words h sizes =
     record {
       lock = lock_opens lock_of z.seats words (first_view z) refl sizes.seats.0 (let a = past_lock z Base in let b = place_inside z Base refl in let l = h.long in omega arith) h.zeros;
       wide = let l = h.long in omega arith;
-      holds = subst (λ (f : ℕ → View). Inductive z (record { lock = at_start z.seats; words = shown z words; view = f })) (sym (fun_ext (first_at z)))
-          (starts z (shown z words) (sizes_are z sizes) record { base = h.base; count = h.count; claim = h.claim; in_use = h.in_use; place = h.place; bucket = h.bucket; root_count = h.root_counts; root = λ j k _. h.roots j k });
+      holds = subst (λ (f : ℕ → View). StoreHolds z (record { lock = at_start z.seats; words = shown z words; view = f })) (sym (fun_ext (first_at z)))
+          (eight z (runs.at_start z (shown z words)) (starts z (shown z words) (sizes_are z sizes) record { base = h.base; count = h.count; claim = h.claim; in_use = h.in_use; place = h.place; bucket = h.bucket; root_count = h.root_counts; root = λ j k _. h.roots j k }));
       sized = only_first z (λ i v. v.sizes ≡ z) refl;
       some_made = omega arith;
       count = λ v e. ap (λ (u : NodeView). u.made) (sym (some-injective _ _ e));
@@ -149,7 +152,7 @@ splits_node z v room sizes s rule at =
     record {
       lock = lock_splits lock_of z.seats s 0 v w u rule.lock at refl (ap newcomer count) (omega arith);
       wide = rule.wide;
-      holds = subst (λ (f : ℕ → View). Inductive z (record { lock = rule.lock.state; words = shown z s.words; view = f })) (sym same) rule.holds;
+      holds = subst (λ (f : ℕ → View). StoreHolds z (record { lock = rule.lock.state; words = shown z s.words; view = f })) (sym same) rule.holds;
       sized = each (λ i x. x.sizes ≡ z) sizes sizes rule.sized;
       some_made = omega arith;
       count = λ x e. let here : w ≡ x = some-injective _ _ (sym (set_here vs 0 w some_made) ∙ (sym (first_of_more (set vs 0 w) u (omega arith)) ∙ e)) in

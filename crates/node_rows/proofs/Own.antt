@@ -18,19 +18,20 @@ use Rattle.store_core.specs.Machine as core
 use Rattle.store_core.specs.Machine.{acted, LoadBase, LoadInUse, Begin, Go, LoadRoot, StoreRoot, StoreCount, ReadWord, ReadArgument, Each}
 use Rattle.store_core.specs.Seats.{looked, index, drawn, index_in, IsWalk}
 use Rattle.store_core.specs.Runs.{Inductive}
+use Rattle.store_core.specs.StoreHolds.{StoreHolds}
 use Rattle.store_core.specs.Steps.{Permits, after, is_collecting}
 use Rattle.store_core.specs.Shown.{shown, in_table, index_of}
 use Rattle.store_core.proofs.Basics.{where_map, where_at, each_map}
 use Rattle.store_core.proofs.Shown.{shown_written, past_lock, place_inside}
 use Rattle.store_core.proofs.Locks.{is_in}
 use Rattle.store_core.proofs.Wrapped.{quiet}
-use Rattle.store_core.proofs.Runs.{step_kept}
+use Rattle.store_core.proofs.Eight.{inductive}
 use Rattle.store_core.specs.Words.{row_at, RowWords}
 use Rattle.store_core.specs.Calls.{bucket}
 use Rattle.store_core.proofs.Short.{chain_few, walks_few, walked_few}
 use Rattle.node_rows.specs.declared.view.NodeView.{NodeView}
 use Rattle.node_rows.specs.Shown.{lock_of, store_at, state_of, Shows}
-use Rattle.node_rows.specs.Locking.{store_here, store_set, inside, below, sized_set, some_set, count_set}
+use Rattle.node_rows.specs.Locking.{keeps_store, store_here, store_set, inside, below, sized_set, some_set, count_set}
 use Rattle.node_rows.specs.Steps.{with_store, place_of, written_by, moved_by, act, Acts, Stands, Few, Known}
 
 acts : (z : Sizes) (s : core.State) (i : ℕ) (x : core.Step) → Acts x → after z s i x ≡ acted s.words s.view i s.lock (act i x (s.view i))
@@ -137,7 +138,7 @@ known_of z s i store =
     }
 
 pub known : (z : Sizes) (s : State (Unit {0}) NodeView) (i : ℕ) (v : NodeView) → Shows z s → get_elem? s.views i ≡ some v → Known z v.store
-known z s i v rule at = subst (Known z) (store_here z s.views i v at) (known_of z (state_of z s.words s.views rule.lock.state) i rule.holds)
+known z s i v rule at = subst (Known z) (store_here z s.views i v at) (known_of z (state_of z s.words s.views rule.lock.state) i (inductive z (state_of z s.words s.views rule.lock.state) rule.holds))
 
 -- a word of the table is shown
 pub shown_at : (z : Sizes) (words : List ℕ) (p : Place) → in_table z p ≡ true → shown z words p ≡ get_or words (index_of z p) 0
@@ -177,7 +178,7 @@ module _ (z : Sizes) (s : State (Unit {0}) NodeView) (i : ℕ) (v : NodeView) (r
       record {
         lock = lock_left lock_of z.seats s i k y v w rule.lock at refl (past_lock z p);
         wide = let e = length-set s.words k y in let r = rule.wide in omega arith;
-        holds = subst (Inductive z) (sym (own_after y is_y)) (step_kept x z t i rule.holds record { present = below z s i v rule at; permitted = ok });
+        holds = subst (StoreHolds z) (sym (own_after y is_y)) (keeps_store z t i x rule.holds record { present = below z s i v rule at; permitted = ok });
         sized = sized_set z s i v rule at w refl refl;
         some_made = some_set z s i v rule at w refl refl;
         count = count_set z s i v rule at w refl refl;

@@ -17,7 +17,12 @@ use Rattle.store_core.specs.declared.view.Call.{Call}
 use Rattle.store_core.specs.declared.view.Call.TheVariants.{Idle, Comparing, Passing, Finding, Ended, Counting, Drawing, Placing, Filling, Numbering, Linking, Publishing, Loading, Storing}
 use Rattle.store_core.specs.declared.view.Stay.TheVariants.{Away, Based, Ready}
 use Rattle.store_core.specs.Machine as core
-use Rattle.store_core.specs.Machine.{IsCreation, action, InAccess, MayBegin, MayName, SecondIsList, LoadBase, LoadInUse, Begin, Go, has_got, has_protected, protected_in, Each, In}
+use Rattle.store_core.specs.Machine.{IsCreation, action, InAccess, LoadBase, LoadInUse, Begin, Go, LoadRoot, StoreRoot, StoreCount, ReadWord, ReadArgument}
+use Rattle.store_core.specs.ByView as by_view
+use Rattle.store_core.specs.ByView.{LockGrants}
+use Rattle.store_core.specs.Runs.{Inductive}
+use Rattle.store_core.proofs.Eight.{inductive}
+use Rattle.store_core.proofs.Showing.{view_shows}
 use Rattle.store_core.specs.Invariant.{one_if, tally, is_at, Holds}
 use Rattle.store_core.specs.Steps.{Permits, IsAtRest, MayCreate, is_collecting}
 use Rattle.store_core.specs.Shown.{shown, in_table, index_of}
@@ -28,7 +33,8 @@ use Rattle.store_core.proofs.Wrapped.{quiet, creation_calm, creation_busy}
 use Rattle.node_rows.specs.declared.view.NodeView.{NodeView}
 use Rattle.node_rows.specs.Shown.{state_of, Shows, IsAway}
 use Rattle.node_rows.specs.Locking.{store_here, below, phase_is, stands_is}
-use Rattle.node_rows.specs.Steps.{with_store, KnowsWord, MayUse, SecondIsKnown, MayCreateBy, IsOf, Goes, Reads, Writes, IsDraw, Exchanges, MayLoad, MayMake, over}
+use Rattle.node_rows.specs.Steps.{with_store, written_by, moved_by, Acts, IsOwnRead, MayCreateBy, IsOf, Goes, Reads, Writes, IsDraw, Exchanges, MayLoad, MayMake, MayStepOn, over}
+use Rattle.busy_forbidden.proofs.Goes.{same_place}
 use Rattle.node_rows.proofs.Own.{Owes, Tells, own_allows, shown_at}
 
 pub word_fits : (t : TableId) (z : Sizes) (seat : Seat (Unit {0}) NodeView) (k : ℕ) (p : Place) → IsOf t z seat → k ≡ index_of z p → in_table z p ≡ true → k < t.words
@@ -58,22 +64,28 @@ tally_small : (f : ℕ → Bool) (n : ℕ) → tally f n ≤ n
 tally_small f zero = omega arith
 tally_small f (suc n) = let a = one_small (f n) in let b = tally_small f n in omega arith
 
--- what each of a list says of its word
-word_is : (w : Place → ℕ) (xs : List KnownWord) (r k n : ℕ) → Each (λ x. w (RowWord x.row x.word) ≡ x.value) xs → KnowsWord xs r k n → w (RowWord r k) ≡ n
-word_is w [] r k n all h = absurd h
-word_is w (x ∷ xs) r k n all h = ⊎_elim
-    (λ t. ap (λ (q : ℕ × ℕ). w (RowWord q.0 q.1)) (λ j. (sym t.0 j, sym t.1 j)) ∙ (all.0 ∙ t.2))
-    (word_is w xs r k n all.1) h
+own_reads_act : (x : core.Step) → IsOwnRead x → Acts x
+own_reads_act (LoadRoot k) h = tt
+own_reads_act (StoreRoot k r) h = tt
+own_reads_act (StoreCount n) h = tt
+own_reads_act (ReadWord r k) h = tt
+own_reads_act (ReadArgument r k) h = tt
+own_reads_act x h = absurd h
 
--- an element of the first n
-in_taken : (r n : ℕ) (xs : List ℕ) → In r (take n xs) → (k : ℕ) × (k < n) × (get_or xs k 0 ≡ r)
-in_taken r zero xs h = absurd h
-in_taken r (suc n) [] h = absurd h
-in_taken r (suc n) (x ∷ xs) h = ⊎_elim (λ e. (0, omega arith, sym e)) (λ t. let f = in_taken r n xs t in (suc f.0, omega arith, f.2)) h
+own_reads_granted : (t : core.State) (i : ℕ) (x : core.Step) → IsOwnRead x → LockGrants t i x
+own_reads_granted t i (LoadRoot k) h = tt
+own_reads_granted t i (StoreRoot k r) h = tt
+own_reads_granted t i (StoreCount n) h = tt
+own_reads_granted t i (ReadWord r k) h = tt
+own_reads_granted t i (ReadArgument r k) h = tt
+own_reads_granted t i x h = absurd h
 
 module _ (z : Sizes) (s : State (Unit {0}) NodeView) (i : ℕ) (v : NodeView) (rule : Shows z s) (at : get_elem? s.views i ≡ some v) where
   abbrev t : core.State
   t = state_of z s.words s.views rule.lock.state
+
+  core_holds : Inductive z t
+  core_holds = inductive z t rule.holds
 
   here : t.view i ≡ v.store
   here = store_here z s.views i v at
@@ -85,9 +97,9 @@ module _ (z : Sizes) (s : State (Unit {0}) NodeView) (i : ℕ) (v : NodeView) (r
   claim_small is =
       let x : Call = (t.view i).call in
       let is' : IsCreation x = permits_go is in
-      let stay = (rule.holds.core.holds.seats i).numbers.calls (creation_busy x is') in
-      let inside = is_in t.lock i (t.view i).stay (rule.holds.core.holds.lock.access i) (λ e. let no : Away ≡ Ready = sym e ∙ stay in grind arith) in
-      let q = quiet z t rule.holds.core i inside (creation_calm x is') in
+      let stay = (core_holds.core.holds.seats i).numbers.calls (creation_busy x is') in
+      let inside = is_in t.lock i (t.view i).stay (core_holds.core.holds.lock.access i) (λ e. let no : Away ≡ Ready = sym e ∙ stay in grind arith) in
+      let q = quiet z t core_holds.core i inside (creation_calm x is') in
       let d = q.numbers.drawn in
       let c = tally_small (λ j. is_at (t.view j).overdraw (t.words Base)) z.seats in
       let f = q.rows.few in
@@ -104,56 +116,24 @@ module _ (z : Sizes) (s : State (Unit {0}) NodeView) (i : ℕ) (v : NodeView) (r
   pub permits_base : MayLoad v.lock i z.seats → IsAway v.store → Permits z t i LoadBase
   permits_base may away = (in_access may, ap (λ (u : View). u.call) here ∙ away.call, ap (λ (u : View). u.stay) here ∙ away.stay)
 
+  -- the base is at least the own one
+  base_rises : MayLoad v.lock i z.seats → IsAway v.store → v.store.base ≤ t.words Base
+  base_rises may away =
+      let q = quiet z t core_holds.core i (inl (in_access may)) (ap is_collecting (ap (λ (u : View). u.call) here ∙ away.call)) in
+      subst (λ (u : View). u.base ≤ t.words Base) here (q.seats i).numbers.own
+
   pub permits_in_use : v.store.call ≡ Idle → v.store.stay ≡ Based → Permits z t i LoadInUse
   permits_in_use idle stay = (ap (λ (u : View). u.call) here ∙ idle, ap (λ (u : View). u.stay) here ∙ stay)
 
-  -- at rest in an access the words are as the facts say
-  rests : IsAtRest v.store → Holds z t rule.holds.core.meaning
-  rests rest =
-      let r : IsAtRest (t.view i) = subst IsAtRest (sym here) rest in
-      let inside = is_in t.lock i (t.view i).stay (rule.holds.core.holds.lock.access i) (λ e. let no : Ready ≡ Away = sym r.stay ∙ e in grind arith) in
-      quiet z t rule.holds.core i inside (ap is_collecting r.call)
-
-  -- a word that the view has is the row's
-  knows_words : IsAtRest v.store → (r k n : ℕ) → KnowsWord v.store.knows r k n → t.words (RowWord r k) ≡ n
-  knows_words rest r k n has =
-      let q = rests rest in
-      let seat = q.seats i in
-      let same = seat.numbers.base (λ e. let no : Ready ≡ Away = sym rest.stay ∙ (sym (ap (λ (u : View). u.stay) here) ∙ e) in grind arith) in
-      word_is t.words (t.view i).knows r k n (each_map _ _ (t.view i).knows (λ x y. y.value_is) (seat.protects.knows same)) (subst (λ (u : View). KnowsWord u.knows r k n) (sym here) has)
-
-  -- a row that the view lets the seat use is one that it may name
-  may_name : (r : ℕ) → MayUse v.store r → MayName t.words i (t.view i) r
-  may_name r g =
-      let own = rule.holds.remembers.own i in
-      ⊎_elim
-      (λ a. has_got r (subst (λ (u : View). In r u.got) (sym here) a))
-      (λ a.
-      let f = in_taken r (t.view i).root_count (t.view i).roots (subst (λ (u : View). In r (protected_in u)) (sym here) a) in
-      let few : (t.view i).root_count ≤ z.depth = own.few in
-      let c : t.words (RootCount i) ≡ (t.view i).root_count = own.count in
-      let l : f.0 < (t.view i).root_count = f.1 in
-      let e : t.words (Root i f.0) ≡ r = own.root f.0 (omega arith) ∙ f.2 in
-      subst (MayName t.words i (t.view i)) e (has_protected f.0 (omega arith)))
-      g
-
-  second_is : IsAtRest v.store → (f : Head) (rs : List ℕ) → SecondIsKnown v.store f rs → SecondIsList t.words f rs
-  second_is rest Cons (a ∷ b ∷ rs) h = ⊎_elim (λ k. inl (knows_words rest b 0 4294967297 k)) (λ k. inr (knows_words rest b 0 4294967298 k)) h
-  second_is rest Cons (a ∷ []) h = tt
-  second_is rest Cons [] h = tt
-  second_is rest (App g) rs h = tt
-  second_is rest (Int n) rs h = tt
-  second_is rest Nil rs h = tt
+  -- what the own view shows is permitted
+  pub permits_shown : (x : core.Step) → by_view.Shows z v.store x → LockGrants t i x → Permits z t i x
+  permits_shown x shown granted = view_shows z t i x rule.holds (subst (λ (u : View). by_view.Shows z u x) (sym here) shown) granted
 
   may_create : MayCreateBy v → MayCreate t i
   may_create may = ⊎_elim (λ p. inl (phase_is z s i v rule at ∙ p)) (λ f. inr (ap (λ (u : View). u.fresh) here ∙ f)) may
 
   pub permits_begin : (f : Head) (rs : List ℕ) (k : ℕ) → MayMake z v f rs k → Permits z t i (Begin (over f rs))
-  permits_begin f rs k may = (
-    subst IsAtRest (sym here) may.rest,
-    may_create may.access,
-    record { few = may.few; second = second_is may.rest f rs may.second; over = may.stands; named = each_map _ _ rs may_name may.named },
-  )
+  permits_begin f rs k may = permits_shown (Begin (over f rs)) may.shown (may_create may.access)
 
 goes_owes : (z : Sizes) (v : NodeView) (i k : ℕ) (f : ℕ → ℕ) → Goes z v.store k
     → ((s : State (Unit {0}) NodeView) → Shows z s → get_elem? s.views i ≡ some v → f (get_or s.words (index_of z (action v.store v.store.call).place) 0) ≡ (action v.store v.store.call).written (get_or s.words (index_of z (action v.store v.store.call).place) 0))
@@ -191,14 +171,19 @@ pub exchanges : (z : Sizes) (slots id : ℕ) (me : Me (Unit {0}) NodeView) (i k 
     → Allows (Shows z) slots id me k (λ n. either (eqb n old) new n) (Tells Go me)
 exchanges z slots id me i k old new is g x = own_allows z slots id me i Go k (λ n. either (eqb n old) new n) is (goes_owes z me.0 i k (λ n. either (eqb n old) new n) g (λ s _ _. let n : ℕ = get_or s.words (index_of z (action me.0.store me.0.store.call).place) 0 in either_is (eqb n old) new n ∙ sym (x n)))
 
-pub bases : (z : Sizes) (slots id : ℕ) (me : Me (Unit {0}) NodeView) (i k : ℕ) → me.0.lock.number ≡ Some i → k ≡ index_of z Base → IsAway me.0.store → MayLoad me.0.lock i z.seats → Allows (Shows z) slots id me k (λ n. n) (Tells LoadBase me)
-bases z slots id me i k is word away may = own_allows z slots id me i LoadBase k (λ n. n) is record {
-  is = tt;
-  there = refl;
-  word = word;
-  permitted = λ s rule at. permits_base z s i me.0 rule at may away;
-  writes = λ s _ _. refl;
-}
+pub bases : (z : Sizes) (slots id : ℕ) (me : Me (Unit {0}) NodeView) (i k : ℕ) → me.0.lock.number ≡ Some i → k ≡ index_of z Base → IsAway me.0.store → MayLoad me.0.lock i z.seats
+    → Allows (Shows z) slots id me k (λ n. n) (λ n me'. Tells LoadBase me n me' × (me.0.store.base ≤ n))
+bases z slots id me i k is word away may s rule homes at small =
+    let t = own_allows z slots id me i LoadBase k (λ n. n) is record {
+      is = tt;
+      there = refl;
+      word = word;
+      permitted = λ s rule at. permits_base z s i me.0 rule at may away;
+      writes = λ s _ _. refl;
+    } s rule homes at small in
+    let same : i ≡ id = same_place s id i me.0 rule.lock at is in
+    let rises = base_rises z s i me.0 rule (subst (λ (q : ℕ). get_elem? s.views q ≡ some me.0) (sym same) at) may away in
+    (t.0, t.1, t.2, t.3, (t.4, subst (λ (n : ℕ). me.0.store.base ≤ n) (shown_at z s.words Base refl ∙ ap (λ (q : ℕ). get_or s.words q 0) (sym word)) rises))
 
 pub in_uses : (z : Sizes) (slots id : ℕ) (me : Me (Unit {0}) NodeView) (i k : ℕ) → me.0.lock.number ≡ Some i → k ≡ index_of z InUse → me.0.store.call ≡ Idle → me.0.store.stay ≡ Based → Allows (Shows z) slots id me k (λ n. n) (Tells LoadInUse me)
 in_uses z slots id me i k is word idle stay = own_allows z slots id me i LoadInUse k (λ n. n) is record {
@@ -217,3 +202,19 @@ begins_with z slots id me i k f rs is may = own_allows z slots id me i (Begin (o
   permitted = λ s rule at. permits_begin z s i me.0 rule at f rs k may;
   writes = λ s _ _. refl;
 }
+
+-- a step on protected rows, or a read of a row
+pub own_reads : (z : Sizes) (slots id : ℕ) (me : Me (Unit {0}) NodeView) (i k : ℕ) (x : core.Step) (f : ℕ → ℕ) → me.0.lock.number ≡ Some i → MayStepOn z i me.0 x k → ((n : ℕ) → f n ≡ written_by x me.0.store n) → Allows (Shows z) slots id me k f (Tells x me)
+own_reads z slots id me i k x f is may writes = own_allows z slots id me i x k f is record {
+  is = own_reads_act x may.acts;
+  there = may.there;
+  word = may.word;
+  permitted = λ s rule at. permits_shown z s i me.0 rule at x may.shown (own_reads_granted (state_of z s.words s.views rule.lock.state) i x may.acts);
+  writes = λ s _ _. writes _;
+}
+
+pub own_stores : (z : Sizes) (slots id : ℕ) (me : Me (Unit {0}) NodeView) (i k : ℕ) (x : core.Step) (y : ℕ) → me.0.lock.number ≡ Some i → MayStepOn z i me.0 x k → ((n : ℕ) → written_by x me.0.store n ≡ y)
+    → ((m n : ℕ) → moved_by x me.0.store m ≡ moved_by x me.0.store n) → Allows (Shows z) slots id me k (λ _. y) (λ _. Tells x me y)
+own_stores z slots id me i k x y is may writes moves s rule homes at small =
+    let t = own_reads z slots id me i k x (λ _. y) is may (λ n. sym (writes n)) s rule homes at small in
+    (t.0, t.1, t.2, t.3, (t.4.0 ∙ ap (λ (q : View). (with_store me.0 q, me.1)) (moves (get_or s.words k 0) y), t.4.1))

@@ -13,7 +13,7 @@ use Rattle.lock_core.specs.declared.parts.Standing.TheVariants.{Free, Seen, Held
 use Rattle.lock_core.specs.declared.parts.LockStep.{LockStep}
 use Rattle.lock_core.specs.declared.parts.LockStep.TheVariants.{Raise, Look, Lower, Take, Ask, Peek, Unask, Give}
 use Rattle.lock_core.specs.Lock as lock
-use Rattle.lock_core.specs.Lock.{seat_of, InPlace}
+use Rattle.lock_core.specs.Lock.{seat_of}
 use Rattle.busy_forbidden.specs.declared.view.LockView.{LockView}
 use Rattle.busy_forbidden.specs.Shown.{standing, put, view_at}
 use Rattle.busy_forbidden.specs.Moves.{word_of, written, moved, MayStep}
@@ -32,12 +32,13 @@ use Rattle.store_core.specs.Words as words
 use Rattle.store_core.specs.Machine as core
 use Rattle.store_core.specs.Machine.{LockAlone, LowerShared, UnaskSeat, GiveGranted, left, leaving, protected_in}
 use Rattle.store_core.specs.Shown.{shown}
-use Rattle.store_core.specs.Runs.{Inductive}
-use Rattle.store_core.specs.Steps.{Permits, IsAtRest, MayLeave}
+use Rattle.store_core.specs.StoreHolds.{StoreHolds}
+use Rattle.store_core.specs.Steps.{InPlace, Permits, IsAtRest, MayLeave}
 use Rattle.store_core.specs.Steps as steps
 use Rattle.store_core.specs.StoreSteps.{lock_meant}
 use Rattle.store_core.proofs.Basics.{choose, eqb_is, eqb_not}
 use Rattle.store_core.proofs.Shown.{shown_apart}
+use Rattle.store_core.proofs.Eight.{eight, inductive}
 use Rattle.store_core.proofs.Runs.{step_kept}
 use Rattle.node_rows.specs.declared.view.NodeView.{NodeView}
 use Rattle.node_rows.specs.Shown.{lock_of, seats_of, store_at, state_of, Shows, IsStoreStep, IsAway, IsEnding, IsClosed, node_can, ended, freed, store_next, node_next, rest_of, is_out}
@@ -237,7 +238,7 @@ module _ (z : Sizes) (s : State (Unit {0}) NodeView) (i : ℕ) (v : NodeView) (r
   pub stands_is : v.lock.phase ≡ Holder → (j : ℕ) → (seat_of rule.lock.state j).standing ≡ standing v.lock j
   stands_is p j = rule.lock.shows.stands i j (ap (λ (u : LockView). u.phase) there.0 ∙ p) ∙ ap (λ (u : LockView). standing u j) there.0
 
-  placed : (x : LockStep) → MayStep z.seats i v.lock x → InPlace rule.lock.state i x
+  placed : (x : LockStep) → MayStep z.seats i v.lock x → lock.InPlace rule.lock.state i x
   placed x ok = in_place z.seats s.words (map lock_of s.views) rule.lock.state rule.lock.shows rule.lock.sound i there.1 x (subst (λ u. MayStep z.seats i u x) (sym there.0) ok)
 
   pub here : store_at z s.views i ≡ v.store
@@ -346,6 +347,10 @@ module _ (z : Sizes) (s : State (Unit {0}) NodeView) (i : ℕ) (v : NodeView) (r
         (λ (t : (0 ≢ i) × (get_elem? s.views 0 ≡ some u)). rule.count u t.1 ∙ sym (length-set s.views i w))
         (at_set s.views i 0 w u e)
 
+-- a step of the machine keeps the facts of the store
+pub keeps_store : (z : Sizes) (t : core.State) (i : ℕ) (y : core.Step) → StoreHolds z t → InPlace z t i y → StoreHolds z (steps.after z t i y)
+keeps_store z t i y h ok = eight z (steps.after z t i y) (step_kept y z t i (inductive z t h) ok)
+
 pub node_keeps : (z : Sizes) → Keeps (Shows z) lock_of (seats_of z) node_can node_next
 unfolding lock_kept
 node_keeps z = record {
@@ -358,7 +363,7 @@ node_keeps z = record {
       record {
         lock = lock_kept lock_of node_next node_moves z.seats s i v x rule.lock at ok;
         wide = let e = length-set s.words k y in let r = rule.wide in omega arith;
-        holds = subst (Inductive z) (sym step.after) (step_kept (lock_meant v.store.stay x) z (state_of z s.words s.views rule.lock.state) i rule.holds step.in_place);
+        holds = subst (StoreHolds z) (sym step.after) (keeps_store z (state_of z s.words s.views rule.lock.state) i (lock_meant v.store.stay x) rule.holds step.in_place);
         sized = sized_set z s i v rule at w refl refl;
         some_made = some_set z s i v rule at w refl refl;
         count = count_set z s i v rule at w refl refl;

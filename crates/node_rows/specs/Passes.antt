@@ -36,9 +36,11 @@ pub record IsReady (z : Sizes) (v : View) (base in_use : ℕ) : Type 0 where
   pub has_in_use : in_use ≡ v.in_use
   pub known : Known z v
 
--- A granted entry has loaded the base and the number of buckets in use: another base begins an epoch.
-abbrev pub Came : NodeView → NodeView → (base in_use : ℕ) → Type 0
-Came v w base in_use = w.store ≡ ready (based v.store base) in_use
+-- A granted entry has loaded the base, which is at least the last one, and the number of buckets in use. Another base begins an
+-- epoch.
+pub record Came (v w : NodeView) (base in_use : ℕ) : Type 0 where
+  pub store : w.store ≡ ready (based v.store base) in_use
+  pub later : v.store.base ≤ base
 
 -- a refused entry leaves what the pass knows of the store
 abbrev pub Stayed : NodeView → NodeView → Type 0

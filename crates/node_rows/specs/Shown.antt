@@ -20,7 +20,7 @@ use Rattle.store_core.specs.declared.view.Stay.TheVariants.{Away, Based, Ready, 
 use Rattle.store_core.specs.Machine as core
 use Rattle.store_core.specs.Machine.{left, leaving, protected_in}
 use Rattle.store_core.specs.Shown.{shown, total}
-use Rattle.store_core.specs.Runs.{Inductive}
+use Rattle.store_core.specs.StoreHolds.{StoreHolds}
 use Rattle.store_core.specs.Steps as steps
 use Rattle.store_core.specs.Steps.{InPlace, IsAtRest, MayLeave, newcomer}
 use Rattle.node_rows.specs.declared.view.NodeView.{NodeView}
@@ -46,7 +46,7 @@ state_of z words views l = record { lock = l; words = shown z words; view = stor
 pub record Shows (z : Sizes) (s : State (Unit {0}) NodeView) : Type 0 where
   pub lock : ShowsLock lock_of z.seats s
   pub wide : total z ≤ length s.words
-  pub holds : Inductive z (state_of z s.words s.views lock.state)
+  pub holds : StoreHolds z (state_of z s.words s.views lock.state)
   pub sized : (i : ℕ) (v : NodeView) → get_elem? s.views i ≡ some v → v.sizes ≡ z
   pub some_made : 0 < length s.views
   pub count : (v : NodeView) → get_elem? s.views 0 ≡ some v → v.made ≡ length s.views

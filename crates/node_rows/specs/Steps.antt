@@ -24,6 +24,7 @@ use Rattle.store_core.specs.Shown.{total, in_table, index_of}
 use Rattle.store_core.specs.Seats.{Where, looked, index, drawn}
 use Rattle.store_core.specs.Invariant.{span}
 use Rattle.store_core.specs.Steps.{IsAtRest}
+use Rattle.store_core.specs.ByView as by_view
 use Rattle.node_rows.specs.declared.view.NodeView.{NodeView}
 
 abbrev pub with_store : NodeView → View → NodeView
@@ -76,6 +77,15 @@ Acts (ReadWord r k) = Unit {0}
 Acts (ReadArgument r k) = Unit {0}
 Acts x = ⊥
 
+-- it is one on protected rows, or a read of a row
+abbrev pub IsOwnRead : core.Step → Type 0
+IsOwnRead (LoadRoot k) = Unit {0}
+IsOwnRead (StoreRoot k r) = Unit {0}
+IsOwnRead (StoreCount n) = Unit {0}
+IsOwnRead (ReadWord r k) = Unit {0}
+IsOwnRead (ReadArgument r k) = Unit {0}
+IsOwnRead x = ⊥
+
 -- a walk stands at a row
 abbrev pub Stands : Call → Type 0
 Stands (Comparing c d from old at k) = 0 < at
@@ -113,6 +123,10 @@ pub record Known (z : Sizes) (v : View) : Type 0 where
 -- what a step tells: the own view that its action leaves, and what is then known
 abbrev pub goes_on : core.Step → Step (Unit {0}) → Me (Unit {0}) NodeView → ℕ → Me (Unit {0}) NodeView → Type 0
 goes_on x st me n me' = (me' ≡ (with_store me.0 (moved_by x me.0.store n), me.1)) × Known me.0.sizes me'.0.store
+
+-- the load of the base tells besides that it is at least the own base
+abbrev pub bases_on : Step (Unit {0}) → Me (Unit {0}) NodeView → ℕ → Me (Unit {0}) NodeView → Type 0
+bases_on st me n me' = goes_on LoadBase st me n me' × (me.0.store.base ≤ n)
 
 abbrev pub over : Head → List ℕ → Content
 over f rs = record { head = f; arguments = rs }
@@ -158,34 +172,24 @@ Exchanges v old new = (n : ℕ) → (action v v.call).written n ≡ (if n == old
 abbrev pub MayLoad : LockView → ℕ → ℕ → Type 0
 MayLoad v i n = (v.phase ≡ Shared) ⊎ IsGranted v i n
 
--- the view has this word of a row
-abbrev pub KnowsWord : List KnownWord → (row word n : ℕ) → Type 0
-KnowsWord [] r k n = ⊥
-KnowsWord (x ∷ xs) r k n = ((x.row ≡ r) × (x.word ≡ k) × (x.value ≡ n)) ⊎ KnowsWord xs r k n
-
--- a row that a seat may name by its view: it got it in its epoch, or has it protected
-abbrev pub MayUse : View → ℕ → Type 0
-MayUse v r = In r v.got ⊎ In r (protected_in v)
-
--- the second argument of a cell is known as the row of a list
-abbrev pub SecondIsKnown : View → Head → List ℕ → Type 0
-SecondIsKnown v Cons (a ∷ b ∷ rs) = KnowsWord v.knows b 0 4294967297 ⊎ KnowsWord v.knows b 0 4294967298
-SecondIsKnown v f rs = Unit {0}
-
 -- Creations are made in shared access, and in an exclusive one after a collection of it.
 abbrev pub MayCreateBy : NodeView → Type 0
 MayCreateBy v = (v.lock.phase ≡ Shared) ⊎ (v.store.fresh ≡ true)
 
--- a creation may begin, with the chain of this word: its arguments are rows that the seat may name
+-- a creation may begin, with the chain of this word, as the own view shows
 pub record MayMake (z : Sizes) (v : NodeView) (f : Head) (rs : List ℕ) (k : ℕ) : Type 0 where
-  pub rest : IsAtRest v.store
+  pub shown : by_view.Shows z v.store (Begin (over f rs))
   pub access : MayCreateBy v
-  pub few : length rs ≤ widest z
-  pub second : SecondIsKnown v.store f rs
-  pub stands : IsOver f rs
-  pub named : Each (MayUse v.store) rs
   pub there : in_table z (Bucket (bucket (over f rs) v.store.in_use)) ≡ true
   pub word : k ≡ index_of z (Bucket (bucket (over f rs) v.store.in_use))
 
 abbrev pub begun : View → Head → List ℕ → ℕ → View
 begun v f rs n = (begins v (over f rs)).moved n
+
+-- Seat i may make this step on the word k, as its own view shows, and needs no more of the lock: a step on its protected rows, or a
+-- read of a row.
+pub record MayStepOn (z : Sizes) (i : ℕ) (v : NodeView) (x : core.Step) (k : ℕ) : Type 0 where
+  pub acts : IsOwnRead x
+  pub shown : by_view.Shows z v.store x
+  pub there : in_table z (place_of i x v.store) ≡ true
+  pub word : k ≡ index_of z (place_of i x v.store)

@@ -4,6 +4,7 @@
 mod law;
 mod make;
 mod places;
+mod reading;
 mod rule;
 mod steps;
 mod store;
@@ -18,6 +19,7 @@ pub use places::{
     base_word, birth_word, bucket_word, claim_word, free_count_word, free_place_word, in_use_word,
     next_word, row_word,
 };
+pub use reading::{load_root, read_argument, read_word, store_root, store_root_count};
 pub use rule::NodeRows;
 pub use steps::{begin, go_draw, go_load, go_publish, go_store, load_base, load_in_use};
 pub use store::{Pass, Store};

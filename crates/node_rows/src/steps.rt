@@ -1,15 +1,15 @@
 //! The steps of a creation, and those that begin an access, each one atomic action on one word of the table.
-ghost use Rattle.std.specs.Prelude.{◌≡◌, ℕ, List, []};
+ghost use Rattle.std.specs.Prelude.{◌≡◌, ◌≤◌, ℕ, List, []};
 ghost use Rattle.term_model.specs.declared.Head.{Head};
 ghost use Rattle.term_model.specs.declared.Head.TheVariants.{Nil};
 ghost use Rattle.store_core.specs.declared.view.Call.TheVariants.{Idle};
 ghost use Rattle.store_core.specs.declared.view.Place.TheVariants.{Base, InUse};
 ghost use Rattle.store_core.specs.declared.view.Stay.TheVariants.{Based};
-ghost use Rattle.store_core.specs.Machine.{Go, LoadBase, LoadInUse, based, ready};
+ghost use Rattle.store_core.specs.Machine.{Go, LoadInUse, based, ready};
 ghost use Rattle.store_core.specs.Shown.{index_of};
 ghost use Rattle.busy_forbidden.specs.Calls.{IsSame};
 ghost use Rattle.node_rows.specs.Shown.{IsAway};
-ghost use Rattle.node_rows.specs.Steps.{goes_on, begins_with, with_store, went, begun, IsOf, Goes, Reads, Writes, IsDraw, Exchanges, MayLoad, MayMake, Known};
+ghost use Rattle.node_rows.specs.Steps.{goes_on, bases_on, begins_with, with_store, went, begun, IsOf, Goes, Reads, Writes, IsDraw, Exchanges, MayLoad, MayMake, Known};
 
 use crate::rule::NodeRows;
 use crate::view::NodeView;
@@ -40,7 +40,7 @@ impl Play<(), NodeView> for OnGo {
 struct OnBase;
 
 impl Play<(), NodeView> for OnBase {
-    ghost then = { goes_on LoadBase };
+    ghost then = { bases_on };
 }
 
 struct OnInUse;
@@ -121,7 +121,7 @@ pub fn go_publish(
         .compare_exchange::<OnGo>(&mut seat.seat, word, old, new)
 }
 
-/// Loads the base, at the begin of an access.
+/// Loads the base, at the begin of an access. It is at least that of the last access.
 pub fn load_base(table: &Table<NodeRows>, seat: &mut Seat<NodeRows>, word: usize) -> u64
     requires of { IsOf table.now.shared.table_id table.now.shared.key seat.old.seat }
     requires word { word ≡ index_of table.now.shared.key Base }
@@ -132,6 +132,7 @@ pub fn load_base(table: &Table<NodeRows>, seat: &mut Seat<NodeRows>, word: usize
         × (seat.new.number ≡ seat.old.number) × (seat.new.seats ≡ seat.old.seats) }
     ensures view { seat.new.seat.me.0 ≡ with_store seat.old.seat.me.0 (based seat.old.seat.me.0.store result) }
     ensures known { Known table.now.shared.key seat.new.seat.me.0.store }
+    ensures later { seat.old.seat.me.0.store.base ≤ result }
 {
     table.shared.load::<OnBase>(&mut seat.seat, word)
 }

@@ -1,7 +1,7 @@
 use Rattle.std.proofs.Common.{◌∙◌, ap}
 use Rattle.store_core.specs.declared.view.View.{View}
 use Rattle.store_core.specs.Machine.{based, ready}
-use Rattle.node_rows.proofs.Entering.{enters_exclusive_stays}
+use Rattle.node_rows.proofs.Entering.{came_from, enters_exclusive_stays}
 use Rattle.node_rows.proofs.store.Store.enter_exclusive.Goals as goal
 
 pub arrive-requires-clause-pass : goal.arrive-requires-clause-pass
@@ -15,4 +15,4 @@ arrive-requires-clause-away g c = (enters_exclusive_stays c.args.pass.now.seat.n
 pub returns-clause-came : goal.returns-clause-came
 returns-clause-came g c =
     let t = enters_exclusive_stays c.args.pass.now.seat.number c.args.pass.now.seat.seats c.args.pass.now.seat.seat.me.0 c.enter_exclusive.new.seat.seat.me.0 c.enter_exclusive.ensures.steps c.requires.out.away in
-    c.arrive.ensures.came ∙ ap (λ (u : View). ready (based u c.arrive.new.pass.base) c.arrive.new.pass.in_use) t.store
+    came_from c.args.pass.now.seat.seat.me.0 _ _ _ _ t c.arrive.ensures.came

@@ -1,7 +1,7 @@
 use Rattle.std.proofs.Common.{◌∙◌, ap}
 use Rattle.store_core.specs.declared.view.View.{View}
 use Rattle.store_core.specs.Machine.{based, ready}
-use Rattle.node_rows.proofs.Entering.{enters_shared_stays}
+use Rattle.node_rows.proofs.Entering.{came_from, enters_shared_stays}
 use Rattle.node_rows.proofs.store.Store.enter_shared.Goals as goal
 
 pub arrive-requires-clause-pass : goal.arrive-requires-clause-pass
@@ -15,4 +15,4 @@ arrive-requires-clause-away g c = (enters_shared_stays c.args.pass.now.seat.seat
 pub returns-clause-came : goal.returns-clause-came
 returns-clause-came g c =
     let t = enters_shared_stays c.args.pass.now.seat.seat.me.0 c.enter_shared.new.seat.seat.me.0 c.enter_shared.ensures.steps c.requires.out.away in
-    c.arrive.ensures.came ∙ ap (λ (u : View). ready (based u c.arrive.new.pass.base) c.arrive.new.pass.in_use) t.store
+    came_from c.args.pass.now.seat.seat.me.0 _ _ _ _ t c.arrive.ensures.came

@@ -1,7 +1,7 @@
 use Rattle.std.proofs.Common.{◌∙◌, ap, Ok, Err}
 use Rattle.store_core.specs.declared.view.View.{View}
 use Rattle.store_core.specs.Machine.{based, ready}
-use Rattle.node_rows.proofs.Entering.{tries_exclusive_stays}
+use Rattle.node_rows.proofs.Entering.{came_from, tries_exclusive_stays}
 use Rattle.node_rows.proofs.store.Store.try_enter_exclusive.Goals as goal
 
 pub arrive-requires-clause-pass : goal.arrive-requires-clause-pass
@@ -15,7 +15,7 @@ arrive-requires-clause-away c = (tries_exclusive_stays c.args.pass.now.seat.numb
 pub returns-in-Ok-clause-came : goal.returns-in-Ok-clause-came
 returns-in-Ok-clause-came c =
     let t = tries_exclusive_stays c.args.pass.now.seat.number c.args.pass.now.seat.seats c.args.pass.now.seat.seat.me.0 c.try_enter_exclusive.new.seat.seat.me.0 (Ok tt) c.in-Ok.ensures.steps c.requires.out.away in
-    c.arrive.ensures.came ∙ ap (λ (u : View). ready (based u c.arrive.new.pass.base) c.arrive.new.pass.in_use) t.store
+    came_from c.args.pass.now.seat.seat.me.0 _ _ _ _ t c.arrive.ensures.came
 
 pub returns-in-Err-clause-pass : goal.returns-in-Err-clause-pass
 returns-in-Err-clause-pass c =
