@@ -1,16 +1,15 @@
 -- A step that the own view shows is permitted.
-use Rattle.std.proofs.Common.{◌≡◌, ◌≢◌, ◌⊎◌, ℕ, zero, suc, ◌<◌, ◌≤◌, true, false, Some, List, [], ◌∷◌, length, get_or, refl, sym, ap, ◌∙◌, subst, ⊎_elim, inl, inr, arith}
+use Rattle.std.proofs.Common.{Bool, Option, cond, ◌≡◌, ◌≢◌, ℕ, Some, List, [], ◌∷◌, get_or, refl, sym, ap, ◌∙◌, subst, ⊎_elim, inl, inr, arith, true, false}
 use Rattle.term_model.specs.declared.Head.{Head}
 use Rattle.term_model.specs.declared.Head.TheVariants.{App, Int, Nil, Cons}
-use Rattle.lock_core.specs.Exclusion.{IsExclusive}
-use Rattle.store_core.specs.Words.{Place, Base, FreeCount, Claim, InUse, FreePlace, Bucket, RowWord, Birth, Next, RootCount, Root}
-use Rattle.store_core.specs.Calls.{Call, Idle, Loading, Storing, Away, Ready, KnownWord, View}
-use Rattle.store_core.specs.Machine.{Sizes, State, Each, In, Step, LockAlone, LowerShared, UnaskSeat, GiveGranted, LoadBase, LoadInUse, Begin, Go, LoadRoot, StoreRoot, StoreCount, ReadWord, ReadArgument, LoadAny, StoreAny, StoreClaim, MayName, has_got, SecondIsList, MayBegin}
+use Rattle.store_core.specs.Words.{Place, same_place, Base, FreeCount, Claim, InUse, FreePlace, Bucket, RowWord, Birth, Next, RootCount, Root}
+use Rattle.store_core.specs.Calls.{Call, Loading, Storing, Away, Ready, KnownWord}
+use Rattle.store_core.specs.Machine.{Sizes, State, Each, In, Step, LockAlone, LowerShared, UnaskSeat, GiveGranted, LoadBase, LoadInUse, Begin, Go, LoadRoot, StoreRoot, StoreCount, ReadWord, ReadArgument, LoadAny, StoreAny, StoreClaim, MayName, has_got, SecondIsList}
 use Rattle.store_core.specs.Meaning.{Meaning}
 use Rattle.store_core.specs.Seats.{IsKnown}
-use Rattle.store_core.specs.Steps.{loads, value_at, is_storing, is_collecting, HasLoaded, IsWhole, IsAtRest, MayStore, Permits, CoreHolds}
+use Rattle.store_core.specs.Steps.{stores, stored_over, loads, value_at, is_storing, is_collecting, IsWhole, IsAtRest, MayStore, Permits, CoreHolds}
 use Rattle.store_core.specs.StoreHolds.{StoreHolds}
-use Rattle.store_core.specs.ByView.{KnowsWord, KnowsSecond, IsLoaded, HasAll, StoresNext, Shows, LockGrants, ViewShows}
+use Rattle.store_core.specs.ByView.{KnowsWord, KnowsSecond, IsLoaded, HasAll, StoresNext, Shows, LockGrants, ViewShows, KnownWordsStand, seen_at, CollectionSees}
 use Rattle.store_core.proofs.Basics.{each_map}
 use Rattle.store_core.proofs.Locks.{is_in}
 use Rattle.store_core.proofs.Wrapped.{words_kept}
@@ -97,3 +96,17 @@ module _ (z : Sizes) (s : State) (i : ℕ) (k : StoreHolds z s) where
 
 pub view_shows : ViewShows
 view_shows z s i x k h l = shown z s i k x h l
+
+pub known_words_stand : KnownWordsStand
+known_words_stand z s i r k n h rest e = word_is s.words h.meaning r k n (s.view i).knows (knows z s i h rest) e
+
+choose_two : (b : Bool) (x y : ℕ) (o : Option ℕ) (n : ℕ) → (o ≡ Some n → y ≡ n) → cond b (Some x) o ≡ Some n → cond b x y ≡ n
+choose_two true x y o n f e = cc
+choose_two false x y o n f e = f e
+
+seen_word : (w : Place → ℕ) (p : Place) (n : ℕ) (ls ss : List (Place × ℕ)) → Each (λ q. w q.0 ≡ q.1) ls → seen_at p ls ss ≡ Some n → stored_over w ss p ≡ n
+seen_word w p n ls [] h e = value_is w p n ls h e
+seen_word w p n ls (x ∷ ss) h e = choose_two (same_place p x.0) x.1 (stored_over w ss p) (seen_at p ls ss) n (seen_word w p n ls ss h) e
+
+pub collection_sees : CollectionSees
+collection_sees z s i p n k storing e = ap (λ (w : Place → ℕ). w p) (k.collection.present i storing) ∙ seen_word k.began p n (loads (s.view i).call) (stores (s.view i).call) (k.collection.loaded i) e

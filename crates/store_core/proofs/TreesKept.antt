@@ -1,13 +1,12 @@
 -- What a collection leaves keeps its names and trees.
-use Rattle.std.proofs.Common.{◌≡◌, ◌≢◌, ℕ, zero, suc, pred, ◌+◌, ◌*◌, ◌<◌, Bool, true, false, cond, Option, None, List, [], ◌∷◌, ◌++◌, length, refl, sym, ap, ◌∙◌, subst, arith, true≢false}
+use Rattle.std.proofs.Common.{◌≡◌, ℕ, zero, suc, pred, ◌+◌, ◌*◌, ◌<◌, Bool, false, cond, None, List, [], ◌∷◌, ◌++◌, refl, ap, ◌∙◌, arith}
 use Rattle.std.specs.Prelude.{Contains}
-use Rattle.term_model.specs.Tree.{Tree}
 use Rattle.history_core.specs.declared.entry.Entry.{Entry}
 use Rattle.history_core.specs.declared.entry.Entry.TheVariants.{Collect}
 use Rattle.history_core.specs.Entry.{place}
 use Rattle.history_core.specs.Entry as entry
 use Rattle.history_core.specs.TermSet.{TermSet, empty, is_one_of}
-use Rattle.history_core.specs.Chronicle.{History, precedes, put, chronicle, noted, IsNoted, set_of, left_by}
+use Rattle.history_core.specs.Chronicle.{History, precedes, put, chronicle, IsNoted, set_of}
 use Rattle.history_core.proofs.Merge.{noting_puts_in}
 use Rattle.history_core.proofs.Chronicles.{has_the_noted}
 use Rattle.history_core.proofs.Growing.{left_parts}
@@ -17,15 +16,10 @@ use Rattle.history_core.proofs.Sound.{one_of, of_one}
 use Rattle.store_core.specs.Words as words
 use Rattle.store_core.specs.Words.{Place, Base, Claim, InUse}
 use Rattle.store_core.specs.Calls.{View}
-use Rattle.store_core.specs.Machine.{Sizes, State}
 use Rattle.store_core.specs.Invariant.{listed}
 use Rattle.store_core.specs.Collection.{collected}
-use Rattle.store_core.specs.Steps as steps
-use Rattle.store_core.specs.Steps.{ReachesByWords, names_left, CoreHolds}
-use Rattle.store_core.specs.Machine as machine
-use Rattle.store_core.specs.StoreHolds.{StoreHolds}
+use Rattle.store_core.specs.Steps.{names_left, CoreHolds}
 use Rattle.store_core.specs.Laws.{held_by, CollectionKeepsTrees}
-use Rattle.store_core.proofs.Basics.{put_same}
 use Rattle.store_core.proofs.Histories.{listed_length, lists_noted}
 use Rattle.store_core.proofs.ByWords.{by_words}
 use Rattle.store_core.proofs.Eight.{core_of}

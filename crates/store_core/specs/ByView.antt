@@ -1,12 +1,12 @@
 -- What a seat's own view shows of the steps that it may make: enough, beside the lock, for them to be in place.
-use Rattle.std.specs.Prelude.{◌≡◌, ◌⊎◌, ℕ, ◌+◌, ◌<◌, ◌≤◌, true, Some, List, [], ◌∷◌, length, get_or}
+use Rattle.std.specs.Prelude.{◌≡◌, ◌⊎◌, ℕ, ◌+◌, ◌<◌, ◌≤◌, true, Option, Some, if◌then◌else◌, List, [], ◌∷◌, length, get_or}
 use Rattle.lock_core.specs.Exclusion.{IsExclusive}
 use Rattle.term_model.specs.declared.Head.{Head}
 use Rattle.term_model.specs.declared.Head.TheVariants.{Cons}
-use Rattle.store_core.specs.Words.{Place, Base, FreeCount, Claim, InUse, FreePlace, Bucket, RowWord, Birth, Next, RootCount, Root}
+use Rattle.store_core.specs.Words.{Place, same_place, Base, FreeCount, Claim, InUse, FreePlace, Bucket, RowWord, Birth, Next, RootCount, Root}
 use Rattle.store_core.specs.Calls.{Call, IsOver, Loading, Storing, Ready, KnownWord, View}
-use Rattle.store_core.specs.Machine.{Sizes, State, Each, In, Step, LoadBase, LoadInUse, Begin, Go, LoadRoot, StoreRoot, StoreCount, ReadWord, ReadArgument, LoadAny, StoreAny, IsCreation, widest}
-use Rattle.store_core.specs.Steps.{loads, value_at, is_stored, IsNextLoad, IsAtRest, MayCreate, AreLastRoots, IsLoading, Permits}
+use Rattle.store_core.specs.Machine.{Sizes, State, Each, In, Step, Begin, Go, LoadRoot, StoreRoot, StoreCount, ReadWord, ReadArgument, LoadAny, StoreAny, IsCreation, widest}
+use Rattle.store_core.specs.Steps.{loads, stores, value_at, is_storing, is_stored, IsNextLoad, IsAtRest, MayCreate, AreLastRoots, IsLoading, Permits}
 use Rattle.store_core.specs.Shown.{in_table}
 use Rattle.store_core.specs.StoreHolds.{StoreHolds}
 
@@ -68,3 +68,17 @@ LockGrants s i x = Unit {0}
 -- A step that the own view shows, and that the lock grants, is permitted.
 abbrev pub ViewShows : Type 0
 ViewShows = (z : Sizes) (s : State) (i : ℕ) (x : Step) → StoreHolds z s → Shows z (s.view i) x → LockGrants s i x → Permits z s i x
+
+-- What a view knows of a row's words is there, while its seat is at rest in an access.
+abbrev pub KnownWordsStand : Type 0
+KnownWordsStand = (z : Sizes) (s : State) (i r k n : ℕ) → StoreHolds z s → IsAtRest (s.view i) → KnowsWord r k n (s.view i).knows → s.words (RowWord r k) ≡ n
+
+-- the word at p, by what a collection has stored last, or else loaded first
+abbrev pub seen_at : Place → List (Place × ℕ) → List (Place × ℕ) → Option ℕ
+seen_at p ls [] = value_at p ls
+seen_at p ls (x ∷ ss) = if same_place p x.0 then Some x.1 else seen_at p ls ss
+
+-- What a collection has loaded and stored tells the present words.
+abbrev pub CollectionSees : Type 0
+CollectionSees = (z : Sizes) (s : State) (i : ℕ) (p : Place) (n : ℕ) → StoreHolds z s → is_storing (s.view i).call ≡ true
+    → seen_at p (loads (s.view i).call) (stores (s.view i).call) ≡ Some n → s.words p ≡ n

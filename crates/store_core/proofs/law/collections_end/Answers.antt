@@ -1,4 +1,4 @@
-use Rattle.store_core.proofs.Ends.{collection_keeps_reached, worn_is_exact, worn_changes_nothing}
+use Rattle.store_core.proofs.Ends.{collection_grows_use, collection_keeps_reached, worn_is_exact, worn_changes_nothing}
 use Rattle.store_core.proofs.TreesKept.{collection_keeps_trees}
 use Rattle.store_core.proofs.law.collections_end.Goals as goal
 
@@ -13,3 +13,6 @@ returns-clause-unchanged c = worn_changes_nothing
 
 pub returns-clause-trees : goal.returns-clause-trees
 returns-clause-trees c = collection_keeps_trees
+
+pub returns-clause-in_use : goal.returns-clause-in_use
+returns-clause-in_use c = collection_grows_use
