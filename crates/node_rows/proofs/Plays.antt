@@ -1,5 +1,5 @@
 -- What the table asks of each step.
-use Rattle.std.proofs.Common.{◌≡◌, inl, inr, ℕ, zero, suc, ◌+◌, ◌%◌, ◌^◌, ◌<◌, ◌≤◌, eqb, Bool, true, false, cond, Some, List, [], ◌∷◌, get_or, take, refl, sym, ap, ◌∙◌, subst, ⊎_elim, arith}
+use Rattle.std.proofs.Common.{◌≡◌, inl, inr, ℕ, zero, suc, ◌+◌, ◌%◌, ◌^◌, ◌<◌, ◌≤◌, eqb, Bool, true, false, cond, Some, List, get_or, refl, sym, ap, ◌∙◌, subst, ⊎_elim, arith}
 use mathlib.Core.Option.{some}
 use prog.Atomic.{either}
 use lib.ListN.{get_elem?}
@@ -7,12 +7,10 @@ use Rattle.atomic_table.specs.Table.{State, Me, Allows}
 use Rattle.atomic_table.specs.Seated.{TableId}
 use Rattle.atomic_table.specs.declared.shared.Seat.{Seat}
 use Rattle.term_model.specs.declared.Head.{Head}
-use Rattle.term_model.specs.declared.Head.TheVariants.{App, Int, Nil, Cons}
 use Rattle.store_core.specs.declared.view.Sizes.{Sizes}
 use Rattle.store_core.specs.declared.view.View.{View}
 use Rattle.store_core.specs.declared.view.Place.{Place}
-use Rattle.store_core.specs.declared.view.Place.TheVariants.{Base, Claim, InUse, RowWord, RootCount, Root}
-use Rattle.store_core.specs.declared.view.KnownWord.{KnownWord}
+use Rattle.store_core.specs.declared.view.Place.TheVariants.{Base, Claim, InUse}
 use Rattle.store_core.specs.declared.view.Call.{Call}
 use Rattle.store_core.specs.declared.view.Call.TheVariants.{Idle, Comparing, Passing, Finding, Ended, Counting, Drawing, Placing, Filling, Numbering, Linking, Publishing, Loading, Storing}
 use Rattle.store_core.specs.declared.view.Stay.TheVariants.{Away, Based, Ready}
@@ -23,10 +21,9 @@ use Rattle.store_core.specs.ByView.{LockGrants}
 use Rattle.store_core.specs.Runs.{Inductive}
 use Rattle.store_core.proofs.Eight.{inductive}
 use Rattle.store_core.proofs.Showing.{view_shows}
-use Rattle.store_core.specs.Invariant.{one_if, tally, is_at, Holds}
-use Rattle.store_core.specs.Steps.{Permits, IsAtRest, MayCreate, is_collecting}
+use Rattle.store_core.specs.Invariant.{one_if, tally, is_at}
+use Rattle.store_core.specs.Steps.{Permits, MayCreate, is_collecting}
 use Rattle.store_core.specs.Shown.{shown, in_table, index_of}
-use Rattle.store_core.proofs.Basics.{each_map}
 use Rattle.store_core.proofs.Shown.{place_inside}
 use Rattle.store_core.proofs.Locks.{is_in}
 use Rattle.store_core.proofs.Wrapped.{quiet, creation_calm, creation_busy}

@@ -24,7 +24,6 @@ use Rattle.busy_forbidden.specs.OnlyKeeps.{lock_kept}
 use Rattle.busy_forbidden.specs.Simulation.{in_place}
 use Rattle.store_core.specs.declared.view.Sizes.{Sizes}
 use Rattle.store_core.specs.declared.view.View.{View}
-use Rattle.store_core.specs.declared.view.Place.{Place}
 use Rattle.store_core.specs.declared.view.Call.TheVariants.{Idle}
 use Rattle.store_core.specs.declared.view.Stay.{Stay}
 use Rattle.store_core.specs.declared.view.Stay.TheVariants.{Away, Based, Ready, Leaving}
@@ -289,22 +288,22 @@ module _ (z : Sizes) (s : State (Unit {0}) NodeView) (i : ℕ) (v : NodeView) (r
   gives ok may = ⊎_elim
       (λ t. alone Give ok (λ h. absurd (not_lower Give refl h)) t)
       (λ t.
-          let meant : IsMeant Give GiveGranted = record {
-            permitted = (placed Give ok, ap (λ (u : View). u.call) here ∙ t.call, shown_too MayLeave t.stay);
-            after = ap (left_by Give) (ended_on v.store.stay v.store (ending_in v.store t)) ∙ leaves Give;
-          } in
-          by_stay (λ a. IsMeant Give (lock_meant a Give)) t meant meant)
+      let meant : IsMeant Give GiveGranted = record {
+        permitted = (placed Give ok, ap (λ (u : View). u.call) here ∙ t.call, shown_too MayLeave t.stay);
+        after = ap (left_by Give) (ended_on v.store.stay v.store (ending_in v.store t)) ∙ leaves Give;
+      } in
+      by_stay (λ a. IsMeant Give (lock_meant a Give)) t meant meant)
       may
 
   unasks : (j : ℕ) → MayStep z.seats i v.lock (Unask j) → node_can (Unask j) v → IsMeant (Unask j) (lock_meant v.store.stay (Unask j))
   unasks j ok may = ⊎_elim
       (λ t. alone (Unask j) ok (λ h. absurd (not_lower (Unask j) refl h)) t)
       (λ t.
-          let meant : IsMeant (Unask j) (UnaskSeat j) = record {
-            permitted = (placed (Unask j) ok, ap (λ (u : View). u.call) here ∙ t.0.call, shown_too MayLeave t.0.stay);
-            after = ap (left_by (Unask j)) (freed_on v.store.stay v.store (ending_in v.store t.0)) ∙ ap (λ (u : View). left_by (Unask j) (leaving u)) (sym here);
-          } in
-          by_stay (λ a. IsMeant (Unask j) (lock_meant a (Unask j))) t.0 meant meant)
+      let meant : IsMeant (Unask j) (UnaskSeat j) = record {
+        permitted = (placed (Unask j) ok, ap (λ (u : View). u.call) here ∙ t.0.call, shown_too MayLeave t.0.stay);
+        after = ap (left_by (Unask j)) (freed_on v.store.stay v.store (ending_in v.store t.0)) ∙ ap (λ (u : View). left_by (Unask j) (leaving u)) (sym here);
+      } in
+      by_stay (λ a. IsMeant (Unask j) (lock_meant a (Unask j))) t.0 meant meant)
       may
 
   meant : (x : LockStep) → MayStep z.seats i v.lock x → node_can x v → IsMeant x (lock_meant v.store.stay x)

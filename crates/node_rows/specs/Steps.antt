@@ -1,16 +1,14 @@
 -- A seat's steps past the lock: what the own view becomes, and what a seat knows by its view alone.
-use Rattle.std.specs.Prelude.{◌≡◌, ◌≢◌, ◌⊎◌, ◌==◌, if◌then◌else◌, ℕ, suc, ◌+◌, ◌<◌, ◌≤◌, ◌^◌, true, List, [], ◌∷◌, length}
+use Rattle.std.specs.Prelude.{◌≡◌, ◌≢◌, ◌⊎◌, ◌==◌, if◌then◌else◌, ℕ, suc, ◌+◌, ◌<◌, ◌≤◌, ◌^◌, true, List, length}
 use Rattle.atomic_table.specs.Table.{Me, Step}
 use Rattle.atomic_table.specs.Seated.{TableId}
 use Rattle.atomic_table.specs.declared.shared.Seat.{Seat}
 use Rattle.term_model.specs.declared.Head.{Head}
-use Rattle.term_model.specs.declared.Head.TheVariants.{Cons}
 use Rattle.lock_core.specs.declared.parts.Phase.TheVariants.{Shared}
 use Rattle.busy_forbidden.specs.declared.view.LockView.{LockView}
 use Rattle.busy_forbidden.specs.Exclusive.{IsGranted}
 use Rattle.store_core.specs.declared.view.Sizes.{Sizes}
 use Rattle.store_core.specs.declared.view.View.{View}
-use Rattle.store_core.specs.declared.view.KnownWord.{KnownWord}
 use Rattle.store_core.specs.declared.view.Content.{Content}
 use Rattle.store_core.specs.declared.view.Call.{Call}
 use Rattle.store_core.specs.declared.view.Call.TheVariants.{Idle, Comparing, Passing, Finding, Drawing, Loading, Storing}
@@ -19,7 +17,7 @@ use Rattle.store_core.specs.declared.view.Place.TheVariants.{Base, InUse, Bucket
 use Rattle.store_core.specs.declared.view.Stay.TheVariants.{Away, Ready}
 use Rattle.store_core.specs.Machine as core
 use Rattle.store_core.specs.Machine.{Action, based, ready, begins, action, with_got, rooted, root_counted, knowing, protected_in, LoadBase, LoadInUse, Begin, Go, LoadRoot, StoreRoot, StoreCount, ReadWord, ReadArgument, IsCreation, Each, In, widest}
-use Rattle.store_core.specs.Calls.{IsOver, bucket}
+use Rattle.store_core.specs.Calls.{bucket}
 use Rattle.store_core.specs.Shown.{total, in_table, index_of}
 use Rattle.store_core.specs.Seats.{Where, looked, index, drawn}
 use Rattle.store_core.specs.Invariant.{span}

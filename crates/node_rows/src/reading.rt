@@ -64,7 +64,9 @@ fn store_chosen<X: Chosen>(
     ensures view { seat.new.seat.me.0 ≡ with_store seat.old.seat.me.0 (moved_by X.step seat.old.seat.me.0.store 0) }
     ensures known { Known table.now.shared.key seat.new.seat.me.0.store }
 {
-    table.shared.store::<OnChosen<X>>(&mut seat.seat, word, value);
+    table
+        .shared
+        .store::<OnChosen<X>>(&mut seat.seat, word, value);
 }
 
 /// Loads the k-th own protected row.
@@ -81,13 +83,7 @@ pub fn load_root(table: &Table<NodeRows>, seat: &mut Seat<NodeRows>, word: usize
 }
 
 /// Stores a row as the k-th own protected row.
-pub fn store_root(
-    table: &Table<NodeRows>,
-    seat: &mut Seat<NodeRows>,
-    word: usize,
-    k: u32,
-    row: u32,
-)
+pub fn store_root(table: &Table<NodeRows>, seat: &mut Seat<NodeRows>, word: usize, k: u32, row: u32)
     requires of { IsOf table.now.shared.table_id table.now.shared.key seat.old.seat }
     requires may { MayStepOn table.now.shared.key seat.old.number seat.old.seat.me.0 (StoreRoot k row) word }
     ensures of { IsOf table.now.shared.table_id table.now.shared.key seat.new.seat }
@@ -100,12 +96,7 @@ pub fn store_root(
 }
 
 /// Stores how many rows the pass protects.
-pub fn store_root_count(
-    table: &Table<NodeRows>,
-    seat: &mut Seat<NodeRows>,
-    word: usize,
-    count: u32,
-)
+pub fn store_root_count(table: &Table<NodeRows>, seat: &mut Seat<NodeRows>, word: usize, count: u32)
     requires of { IsOf table.now.shared.table_id table.now.shared.key seat.old.seat }
     requires may { MayStepOn table.now.shared.key seat.old.number seat.old.seat.me.0 (StoreCount count) word }
     ensures of { IsOf table.now.shared.table_id table.now.shared.key seat.new.seat }

@@ -1,4 +1,4 @@
-use Rattle.std.proofs.Common.{ℕ, sym}
+use Rattle.std.proofs.Common.{sym}
 use Rattle.node_rows.specs.Steps.{place_of}
 use Rattle.node_rows.proofs.Plays.{word_fits, own_reads}
 use Rattle.node_rows.proofs.reading.load_chosen.Goals as goal

@@ -1,4 +1,3 @@
-use Rattle.std.proofs.Common.{sym}
 use Rattle.node_rows.specs.Steps.{place_of}
 use Rattle.node_rows.proofs.Plays.{word_fits, own_stores}
 use Rattle.node_rows.proofs.reading.store_chosen.Goals as goal

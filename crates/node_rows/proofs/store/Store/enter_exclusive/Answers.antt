@@ -1,6 +1,4 @@
-use Rattle.std.proofs.Common.{◌∙◌, ap}
-use Rattle.store_core.specs.declared.view.View.{View}
-use Rattle.store_core.specs.Machine.{based, ready}
+use Rattle.std.proofs.Common.{◌∙◌}
 use Rattle.node_rows.proofs.Entering.{came_from, enters_exclusive_stays}
 use Rattle.node_rows.proofs.store.Store.enter_exclusive.Goals as goal
 

@@ -1,6 +1,4 @@
-use Rattle.std.proofs.Common.{◌∙◌, ap, Ok, Err}
-use Rattle.store_core.specs.declared.view.View.{View}
-use Rattle.store_core.specs.Machine.{based, ready}
+use Rattle.std.proofs.Common.{◌∙◌, Ok, Err}
 use Rattle.node_rows.proofs.Entering.{came_from, tries_exclusive_stays}
 use Rattle.node_rows.proofs.store.Store.try_enter_exclusive.Goals as goal
 
