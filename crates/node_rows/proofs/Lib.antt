@@ -1,0 +1,4 @@
+pub mod Own
+pub mod Plays
+pub mod Entering
+pub mod Opens

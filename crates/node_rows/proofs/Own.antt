@@ -1,0 +1,212 @@
+-- An own step that the store permits keeps the rule.
+use Rattle.std.proofs.Common.{◌≡◌, ℕ, zero, suc, ◌<◌, ◌≤◌, Bool, true, cond, Some, None, List, [], ◌∷◌, length, get_or, set, take, refl, sym, ap, ◌∙◌, subst, arith, length-set}
+use mathlib.Core.Option.{some}
+use lib.ListN.{get_elem?}
+use Rattle.atomic_table.specs.Table.{State, Me, keeps, stepped, Allows}
+use Rattle.atomic_table.proofs.Lists.{set_here}
+use Rattle.busy_forbidden.proofs.Framing.{lock_left}
+use Rattle.busy_forbidden.proofs.Goes.{same_place}
+use Rattle.store_core.specs.declared.view.Sizes.{Sizes}
+use Rattle.store_core.specs.declared.view.View.{View}
+use Rattle.store_core.specs.declared.view.Place.{Place}
+use Rattle.store_core.specs.declared.view.Place.TheVariants.{InUse, RootCount, Root}
+use Rattle.store_core.specs.declared.view.Call.{Call}
+use Rattle.store_core.specs.declared.view.Call.TheVariants.{Idle, Comparing, Passing, Finding, Ended, Counting, Drawing, Placing, Filling, Numbering, Linking, Publishing, Loading, Storing}
+use Rattle.store_core.specs.declared.view.Stay.TheVariants.{Away, Ready}
+use Rattle.store_core.specs.Words.{write, put}
+use Rattle.store_core.specs.Machine as core
+use Rattle.store_core.specs.Machine.{acted, LoadBase, LoadInUse, Begin, Go, LoadRoot, StoreRoot, StoreCount, ReadWord, ReadArgument, Each}
+use Rattle.store_core.specs.Seats.{looked, index, drawn, index_in, IsWalk}
+use Rattle.store_core.specs.Runs.{Inductive}
+use Rattle.store_core.specs.StoreHolds.{StoreHolds}
+use Rattle.store_core.specs.Steps.{Permits, after, is_collecting}
+use Rattle.store_core.specs.Shown.{shown, in_table, index_of}
+use Rattle.store_core.proofs.Basics.{where_map, where_at, each_map}
+use Rattle.store_core.proofs.Shown.{shown_written, past_lock, place_inside}
+use Rattle.store_core.proofs.Locks.{is_in}
+use Rattle.store_core.proofs.Wrapped.{quiet}
+use Rattle.store_core.proofs.Eight.{inductive}
+use Rattle.store_core.specs.Words.{row_at, RowWords}
+use Rattle.store_core.specs.Calls.{bucket}
+use Rattle.store_core.proofs.Short.{chain_few, walks_few, walked_few}
+use Rattle.node_rows.specs.declared.view.NodeView.{NodeView}
+use Rattle.node_rows.specs.Shown.{lock_of, store_at, state_of, Shows}
+use Rattle.node_rows.specs.Locking.{keeps_store, store_here, store_set, inside, below, sized_set, some_set, count_set}
+use Rattle.node_rows.specs.Steps.{with_store, place_of, written_by, moved_by, act, Acts, Stands, Few, Known}
+
+acts : (z : Sizes) (s : core.State) (i : ℕ) (x : core.Step) → Acts x → after z s i x ≡ acted s.words s.view i s.lock (act i x (s.view i))
+acts z s i LoadBase h = refl
+acts z s i LoadInUse h = refl
+acts z s i (Begin c) h = refl
+acts z s i Go h = refl
+acts z s i (LoadRoot k) h = refl
+acts z s i (StoreRoot k r) h = refl
+acts z s i (StoreCount n) h = refl
+acts z s i (ReadWord r k) h = refl
+acts z s i (ReadArgument r k) h = refl
+acts z s i x h = absurd h
+
+-- the drawn row has the drawn index
+index_drawn : (x : Call) (d : ℕ × ℕ) → drawn x ≡ Some d → index x ≡ Some d.0
+index_drawn (Comparing c o from old at k) d e = ap index_in e
+index_drawn (Passing c o from old at dif) d e = ap index_in e
+index_drawn (Finding c o r) d e = ap index_in e
+index_drawn (Filling c from i r k) d e = ap index_in e
+index_drawn (Numbering c from i r) d e = ap index_in e
+index_drawn (Linking c from i r) d e = ap index_in e
+index_drawn (Publishing c from i r) d e = ap index_in e
+index_drawn Idle d e = ap index_in e
+index_drawn (Ended c from) d e = ap index_in e
+index_drawn (Counting c from n) d e = ap index_in e
+index_drawn (Drawing c from n) d e = ap index_in e
+index_drawn (Placing c from i) d e = absurd (let no : None ≡ Some d = e in grind arith)
+index_drawn (Loading ls) d e = ap index_in e
+index_drawn (Storing ls ss) d e = ap index_in e
+
+-- a walk stands at a row
+stands : (w : Place → ℕ) (chain : ℕ → List ℕ) (u t : ℕ) (x : Call) → IsWalk (row_at w) chain u t x → Stands x
+stands w chain u t (Comparing c d from old at k) h = let e = h.at_is in omega arith
+stands w chain u t (Passing c d from old at dif) h = let e = h.at_is in omega arith
+stands w chain u t Idle h = tt
+stands w chain u t (Finding c o r) h = tt
+stands w chain u t (Ended c from) h = tt
+stands w chain u t (Counting c from n) h = tt
+stands w chain u t (Drawing c from n) h = tt
+stands w chain u t (Placing c from i) h = tt
+stands w chain u t (Filling c from i r k) h = tt
+stands w chain u t (Numbering c from i r) h = tt
+stands w chain u t (Linking c from i r) h = tt
+stands w chain u t (Publishing c from i r) h = tt
+stands w chain u t (Loading ls) h = tt
+stands w chain u t (Storing ls ss) h = tt
+
+few : (row : ℕ → RowWords) (chain : ℕ → List ℕ) (u N t : ℕ) → ((b : ℕ) → length (chain b) ≤ N) → (x : Call) → IsWalk row chain u t x → Few N t x
+few row chain u N t short Idle h = tt
+few row chain u N t short (Comparing c d from old at k) h = let a = walks_few row (chain (bucket c u)) c from old at t h in let b = short (bucket c u) in omega arith
+few row chain u N t short (Passing c d from old at dif) h = let a = walks_few row (chain (bucket c u)) c from old at t h in let b = short (bucket c u) in omega arith
+few row chain u N t short (Finding c d r) h = tt
+few row chain u N t short (Ended c from) h = let a = walked_few row (chain (bucket c u)) c from t h in let b = short (bucket c u) in omega arith
+few row chain u N t short (Counting c from n) h = let a = walked_few row (chain (bucket c u)) c from t h in let b = short (bucket c u) in omega arith
+few row chain u N t short (Drawing c from n) h = let a = walked_few row (chain (bucket c u)) c from t h in let b = short (bucket c u) in omega arith
+few row chain u N t short (Placing c from i) h = let a = walked_few row (chain (bucket c u)) c from t h in let b = short (bucket c u) in omega arith
+few row chain u N t short (Filling c from i r k) h = let a = walked_few row (chain (bucket c u)) c from t h in let b = short (bucket c u) in omega arith
+few row chain u N t short (Numbering c from i r) h = let a = walked_few row (chain (bucket c u)) c from t h in let b = short (bucket c u) in omega arith
+few row chain u N t short (Linking c from i r) h = let a = walked_few row (chain (bucket c u)) c from t h in let b = short (bucket c u) in omega arith
+few row chain u N t short (Publishing c from i r) h = let a = walked_few row (chain (bucket c u)) c from t h in let b = short (bucket c u) in omega arith
+few row chain u N t short (Loading ls) h = tt
+few row chain u N t short (Storing ls ss) h = tt
+
+each_taken : (P : ℕ → Type 0) (xs : List ℕ) (n : ℕ) → ((k : ℕ) → k < n → P (get_or xs k 0)) → n ≤ length xs → Each P (take n xs)
+each_taken P xs zero h l = tt
+each_taken P [] (suc n) h l = tt
+each_taken P (x ∷ xs) (suc n) h l = (h 0 (omega arith), each_taken P xs n (λ k b. h (suc k) (omega arith)) (omega arith))
+
+-- protected rows are below the number of rows
+protected_below : (N : ℕ) (w : Place → ℕ) (i d : ℕ) (rs : List ℕ) (n : ℕ) → ((k : ℕ) → k < n → w (Root i k) < N) → ((k : ℕ) → k < d → w (Root i k) ≡ get_or rs k 0) → n ≤ d → n ≤ length rs → Each (λ r. r < N) (take n rs)
+protected_below N w i d rs n below is few wide = each_taken (λ r. r < N) rs n (λ k l. subst (λ (r : ℕ). r < N) (is k (omega arith)) (below k l)) wide
+
+known_of : (z : Sizes) (s : core.State) (i : ℕ) → Inductive z s → Known z (s.view i)
+known_of z s i store =
+    let k = store.core in
+    let h = k.holds in
+    let seat = h.seats i in
+    let x : Call = (s.view i).call in
+    let own = store.remembers.own i in
+    record {
+      calls = seat.numbers.calls;
+      used = λ e. subst (λ (n : ℕ). 0 < n) (sym (seat.numbers.in_use e)) h.chains.used;
+      within = λ e. subst (λ (n : ℕ). n ≤ z.buckets) (sym (seat.numbers.in_use e)) h.chains.within;
+      room = λ ne. let e = seat.numbers.base ne in let r = h.numbers.room in omega arith;
+      looked = where_map (looked x) _ _ (λ r e l. h.chains.below r l.live) seat.walks.look;
+      stands = stands k.kept k.meaning.chain (k.kept InUse) (s.view i).passed x seat.walks.walk;
+      few = few (row_at k.kept) k.meaning.chain (k.kept InUse) z.rows (s.view i).passed (chain_few z k.kept k.meaning h.chains) x seat.walks.walk;
+      index = where_map (index x) _ _ (λ a e d. let c = d.counted in let f = h.rows.few in omega arith) seat.drawn.index;
+      later = where_map (index x) _ _ (λ a e d. let l = d.later in let stay = seat.numbers.calls (λ f. let no : None ≡ Some a = sym (ap index f) ∙ e in grind arith) in let b = seat.numbers.base (λ f. let no : Away ≡ Ready = sym f ∙ stay in grind arith) in omega arith) seat.drawn.index;
+      drawn = where_map (drawn x) _ _ (λ d e r. let c = (where_at (index x) _ d.0 (index_drawn x d e) seat.drawn.index).counted in let t = h.rows.there d.0 c in let p = r.place in omega arith) seat.drawn.row;
+      roots = own.wide;
+      root_count = own.few;
+      got = λ ne. each_map _ _ (s.view i).got (λ r t. h.chains.below r t.live) (seat.protects.got (seat.numbers.base ne));
+      protects = λ rest.
+          let inside = is_in s.lock i (s.view i).stay (h.lock.access i) (λ e. let no : Ready ≡ Away = sym rest.stay ∙ e in grind arith) in
+          let q = quiet z s k i inside (ap is_collecting rest.call) in
+          let c : s.words (RootCount i) ≡ (s.view i).root_count = own.count in
+          let few : (s.view i).root_count ≤ z.depth = own.few in
+          let wide : length (s.view i).roots ≡ z.depth = own.wide in
+          protected_below z.rows s.words i z.depth (s.view i).roots (s.view i).root_count
+          (λ j l. q.chains.below (s.words (Root i j)) ((q.seats i).protects.roots j (omega arith)).live)
+          own.root few (omega arith);
+    }
+
+pub known : (z : Sizes) (s : State (Unit {0}) NodeView) (i : ℕ) (v : NodeView) → Shows z s → get_elem? s.views i ≡ some v → Known z v.store
+known z s i v rule at = subst (Known z) (store_here z s.views i v at) (known_of z (state_of z s.words s.views rule.lock.state) i (inductive z (state_of z s.words s.views rule.lock.state) rule.holds))
+
+-- a word of the table is shown
+pub shown_at : (z : Sizes) (words : List ℕ) (p : Place) → in_table z p ≡ true → shown z words p ≡ get_or words (index_of z p) 0
+shown_at z words p e = ap (λ (b : Bool). cond b (get_or words (index_of z p) 0) 0) e
+
+module _ (z : Sizes) (s : State (Unit {0}) NodeView) (i : ℕ) (v : NodeView) (rule : Shows z s) (at : get_elem? s.views i ≡ some v) (x : core.Step) (is : Acts x) (there : in_table z (place_of i x v.store) ≡ true) where
+  abbrev p : Place
+  p = place_of i x v.store
+
+  abbrev k : ℕ
+  k = index_of z p
+
+  -- the word that is found
+  abbrev n : ℕ
+  n = get_or s.words k 0
+
+  abbrev w : NodeView
+  w = with_store v (moved_by x v.store n)
+
+  abbrev t : core.State
+  t = state_of z s.words s.views rule.lock.state
+
+  -- the table shows the store after the step
+  pub own_after : (y : ℕ) → y ≡ written_by x v.store n → state_of z (set s.words k y) (set s.views i w) rule.lock.state ≡ after z t i x
+  own_after y is_y =
+      let inside_k : k < length s.words = (let q = place_inside z p there in let r = rule.wide in omega arith) in
+      let seen : shown z (set s.words k y) ≡ write (shown z s.words) p (written_by x v.store n) = shown_written z s.words p y there inside_k ∙ ap (write (shown z s.words) p) is_y in
+      let views : store_at z (set s.views i w) ≡ put (store_at z s.views) i w.store = store_set z s.views i w (inside z s i v rule at) in
+      let done : ℕ → core.State = λ m. record { lock = rule.lock.state; words = write (shown z s.words) p (written_by x v.store m); view = put (store_at z s.views) i (moved_by x v.store m) } in
+      let shows : state_of z (set s.words k y) (set s.views i w) rule.lock.state ≡ done n = λ q. record { lock = rule.lock.state; words = seen q; view = views q } in
+      let acted_is : after z t i x ≡ done (shown z s.words p) = acts z t i x is ∙ ap (λ (u : View). acted t.words t.view i t.lock (act i x u)) (store_here z s.views i v at) in
+      shows ∙ (sym (ap done (shown_at z s.words p there)) ∙ sym acted_is)
+
+  pub own_keeps : Permits z t i x → (y : ℕ) → y ≡ written_by x v.store n → Shows z (record { words = set s.words k y; homes = s.homes; views = set s.views i w })
+  unfolding lock_left
+  own_keeps ok y is_y =
+      record {
+        lock = lock_left lock_of z.seats s i k y v w rule.lock at refl (past_lock z p);
+        wide = let e = length-set s.words k y in let r = rule.wide in omega arith;
+        holds = subst (StoreHolds z) (sym (own_after y is_y)) (keeps_store z t i x rule.holds record { present = below z s i v rule at; permitted = ok });
+        sized = sized_set z s i v rule at w refl refl;
+        some_made = some_set z s i v rule at w refl refl;
+        count = count_set z s i v rule at w refl refl;
+      }
+
+-- What a caller owes for a step of the store on the word k: that it is in place by the own view, whatever the words are, and that
+-- what it writes is what the step writes.
+pub record Owes (z : Sizes) (v : NodeView) (i : ℕ) (x : core.Step) (k : ℕ) (f : ℕ → ℕ) : Type 0 where
+  pub is : Acts x
+  pub there : in_table z (place_of i x v.store) ≡ true
+  pub word : k ≡ index_of z (place_of i x v.store)
+  pub permitted : (s : State (Unit {0}) NodeView) (rule : Shows z s) → get_elem? s.views i ≡ some v → Permits z (state_of z s.words s.views rule.lock.state) i x
+  pub writes : (s : State (Unit {0}) NodeView) → Shows z s → get_elem? s.views i ≡ some v → f (get_or s.words (index_of z (place_of i x v.store)) 0) ≡ written_by x v.store (get_or s.words (index_of z (place_of i x v.store)) 0)
+
+-- what a step of the store tells
+abbrev pub Tells : core.Step → Me (Unit {0}) NodeView → ℕ → Me (Unit {0}) NodeView → Type 0
+Tells x me n me' = (me' ≡ (with_store me.0 (moved_by x me.0.store n), me.1)) × Known me.0.sizes me'.0.store
+
+pub own_allows : (z : Sizes) (slots id : ℕ) (me : Me (Unit {0}) NodeView) (i : ℕ) (x : core.Step) (k : ℕ) (f : ℕ → ℕ) → me.0.lock.number ≡ Some i → Owes z me.0 i x k f
+    → Allows (Shows z) slots id me k f (Tells x me)
+own_allows z slots id me i x k f is o = subst (λ (q : ℕ). Allows (Shows z) slots id me q f (Tells x me)) (sym o.word)
+    (λ s rule _ at0 _.
+    let same : i ≡ id = same_place s id i me.0 rule.lock at0 is in
+    let at : get_elem? s.views i ≡ some me.0 = subst (λ (q : ℕ). get_elem? s.views q ≡ some me.0) (sym same) at0 in
+    let q : ℕ = index_of z (place_of i x me.0.store) in
+    let n : ℕ = get_or s.words q 0 in
+    let w : NodeView = with_store me.0 (moved_by x me.0.store n) in
+    let new : Shows z (stepped s q (f n) i me.1 w keeps) = own_keeps z s i me.0 rule at x o.is o.there (o.permitted s rule at) (f n) (o.writes s rule at) in
+    let there : ℕ → Type 0 = λ j. Shows z (stepped s q (f n) j me.1 w keeps) in
+    let k = known z (stepped s q (f n) i me.1 w keeps) i w new (set_here s.views i w (inside z s i me.0 rule at)) in
+    (w, keeps, tt, subst there same new, (refl, subst (λ (y : Sizes). Known y w.store) (sym (rule.sized i me.0 at)) k)))

@@ -1,0 +1,15 @@
+use Rattle.std.proofs.Common.{sym}
+use Rattle.node_rows.specs.Steps.{place_of}
+use Rattle.node_rows.proofs.Plays.{word_fits, own_reads}
+use Rattle.node_rows.proofs.reading.load_chosen.Goals as goal
+
+pub load-requires : goal.load-requires
+load-requires g c =
+    let z = c.args.table.now.shared.key in
+    let t = c.args.table.now.shared.table_id in
+    let seat = c.args.seat.now in
+    let may = c.requires.may in (
+      c.requires.of.table,
+      word_fits t z seat.seat c.args.word (place_of seat.number g.X.Chosen.step seat.seat.me.0.store) c.requires.of may.word may.there,
+      own_reads z t.slots seat.seat.id seat.seat.me seat.number c.args.word g.X.Chosen.step (λ n. n) seat.fits.number may (λ n. sym (c.requires.loads n)),
+    )

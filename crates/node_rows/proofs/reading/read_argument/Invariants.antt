@@ -1,0 +1,5 @@
+use Rattle.store_core.specs.Machine.{ReadArgument}
+use Rattle.node_rows.proofs.reading.read_argument.Given as goal
+
+abbrev pub ghosts-load_chosen : goal.ghosts-load_chosen
+ghosts-load_chosen a = record { step = ReadArgument a._operands.0 a._operands.1 }

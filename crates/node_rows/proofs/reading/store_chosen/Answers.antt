@@ -1,0 +1,14 @@
+use Rattle.node_rows.specs.Steps.{place_of}
+use Rattle.node_rows.proofs.Plays.{word_fits, own_stores}
+use Rattle.node_rows.proofs.reading.store_chosen.Goals as goal
+
+pub store-requires : goal.store-requires
+store-requires g c =
+    let z = c.args.table.now.shared.key in
+    let t = c.args.table.now.shared.table_id in
+    let seat = c.args.seat.now in
+    let may = c.requires.may in (
+      c.requires.of.table,
+      word_fits t z seat.seat c.args.word (place_of seat.number g.X.Chosen.step seat.seat.me.0.store) c.requires.of may.word may.there,
+      own_stores z t.slots seat.seat.id seat.seat.me seat.number c.args.word g.X.Chosen.step c.args.value seat.fits.number may c.requires.stores c.requires.moves,
+    )

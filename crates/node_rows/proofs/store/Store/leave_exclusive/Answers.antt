@@ -1,0 +1,19 @@
+use Rattle.std.proofs.Common.{◌∙◌}
+use Rattle.node_rows.proofs.Entering.{ends_exclusive, granted_closed, may_release}
+use Rattle.node_rows.proofs.store.Store.leave_exclusive.Goals as goal
+
+pub leave_exclusive-requires-clause-may : goal.leave_exclusive-requires-clause-may
+leave_exclusive-requires-clause-may c =
+    let seat = c.args.pass.now.seat in
+    may_release seat.seat.me.0 seat.number seat.seats c.requires.ready.rest (granted_closed seat.seat.me.0.lock seat.number seat.seats seat.seat.table_id.words seat.fits c.requires.granted)
+
+pub returns-clause-pass : goal.returns-clause-pass
+returns-clause-pass c =
+    let t = ends_exclusive c.args.pass.now.seat.number c.args.pass.now.seat.seats c.args.pass.now.seat.seat.me.0 c.leave_exclusive.new.seat.seat.me.0 c.requires.ready.rest c.leave_exclusive.ensures.view in
+    record { table = c.leave_exclusive.ensures.of.0; sizes = t.sizes ∙ c.requires.pass.sizes; count = c.leave_exclusive.ensures.same.2 ∙ c.requires.pass.count }
+
+pub returns-clause-left : goal.returns-clause-left
+returns-clause-left c = (ends_exclusive c.args.pass.now.seat.number c.args.pass.now.seat.seats c.args.pass.now.seat.seat.me.0 c.leave_exclusive.new.seat.seat.me.0 c.requires.ready.rest c.leave_exclusive.ensures.view).store
+
+pub returns-clause-out : goal.returns-clause-out
+returns-clause-out c = record { phase = c.leave_exclusive.ensures.out.phase; away = (ends_exclusive c.args.pass.now.seat.number c.args.pass.now.seat.seats c.args.pass.now.seat.seat.me.0 c.leave_exclusive.new.seat.seat.me.0 c.requires.ready.rest c.leave_exclusive.ensures.view).away }

@@ -1,0 +1,45 @@
+-- A new store and its passes.
+use Rattle.std.specs.Prelude.{◌≡◌, ℕ, ◌+◌, ◌*◌, ◌^◌, ◌<◌, ◌≤◌, List, length, slice_index}
+use Rattle.atomic_table.specs.Seated.{TableId}
+use Rattle.atomic_table.specs.declared.shared.Seat.{Seat}
+use Rattle.store_core.specs.declared.view.Sizes.{Sizes}
+use Rattle.store_core.specs.declared.view.Place.TheVariants.{Base, FreeCount, Claim, InUse, FreePlace, Bucket, RootCount, Root}
+use Rattle.store_core.specs.Shown.{shown, total}
+use Rattle.node_rows.specs.declared.view.NodeView.{NodeView}
+use Rattle.node_rows.specs.Shown.{seat_view}
+
+-- what the sizes of a store have to be
+pub record MaySize (z : Sizes) : Type 0 where
+  pub rows : (1 ≤ z.rows) × (z.rows ≤ 262144)
+  pub buckets : (1 ≤ z.buckets) × (z.buckets ≤ 262144)
+  pub start : (1 ≤ z.start) × (z.start ≤ z.buckets)
+  pub seats : (1 ≤ z.seats) × (z.seats ≤ 16)
+  pub depth : z.depth ≤ 65536
+  pub arity : z.arity ≤ 16
+  pub first : 1 ≤ z.first
+  pub room : z.first + z.rows + z.seats + 1 ≤ 2 ^ 62
+
+-- the words of a new store, with the first k free places
+pub record UpTo (z : Sizes) (words : List ℕ) (k : ℕ) : Type 0 where
+  pub long : length words ≡ total z
+  pub zeros : (j : ℕ) → j < 1 + 2 * z.seats → slice_index words j ≡ 0
+  pub base : shown z words Base ≡ z.first
+  pub count : shown z words FreeCount ≡ z.rows
+  pub claim : shown z words Claim ≡ 0
+  pub in_use : shown z words InUse ≡ z.start
+  pub place : (i : ℕ) → i < k → shown z words (FreePlace i) ≡ i
+  pub bucket : (b : ℕ) → shown z words (Bucket b) ≡ 0
+  pub root_counts : (j : ℕ) → shown z words (RootCount j) ≡ 0
+  pub roots : (j i : ℕ) → shown z words (Root j i) ≡ 0
+
+-- seat j of a new store
+pub record IsNew (t : TableId) (z : Sizes) (j : ℕ) (seat : Seat (Unit {0}) NodeView) (number seats : ℕ) : Type 0 where
+  pub table : seat.table_id ≡ t
+  pub place : number ≡ j
+  pub count : seats ≡ z.seats
+  pub view : seat.me.0 ≡ seat_view z j seat.me.0.made
+
+-- the first seat, after k seats were split off
+pub record IsFirst (k : ℕ) (seat : Seat (Unit {0}) NodeView) : Type 0 where
+  pub id : seat.id ≡ 0
+  pub made : seat.me.0.made ≡ k

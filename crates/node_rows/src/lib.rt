@@ -1,0 +1,26 @@
+//! The running store: the words of a table and the views of its seats show a store.
+#![tactic(auto)]
+
+mod law;
+mod make;
+mod places;
+mod reading;
+mod rule;
+mod steps;
+mod store;
+#[cfg(test)]
+mod tests;
+mod view;
+
+pub use law::{
+    history_is_legal, lock_steps_are_the_stores, own_steps_are_in_place, own_steps_are_the_stores,
+};
+pub use places::{
+    base_word, birth_word, bucket_word, claim_word, free_count_word, free_place_word, in_use_word,
+    next_word, row_word,
+};
+pub use reading::{load_root, read_argument, read_word, store_root, store_root_count};
+pub use rule::NodeRows;
+pub use steps::{begin, go_draw, go_load, go_publish, go_store, load_base, load_in_use};
+pub use store::{Pass, Store};
+pub use view::NodeView;

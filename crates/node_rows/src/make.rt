@@ -1,0 +1,109 @@
+//! A new store, and its passes.
+ghost use Rattle.std.specs.Prelude.{◌≡◌, ℕ, ◌+◌, ◌<◌, ◌^◌, IfOk, All};
+ghost use Rattle.store_core.specs.Shown.{total};
+ghost use Rattle.busy_forbidden.specs.Dealt.{EachPlace};
+ghost use Rattle.node_rows.specs.Passes.{IsStore, IsPass, IsOut};
+ghost use Rattle.node_rows.specs.Opening.{MaySize, UpTo, IsNew, IsFirst};
+
+use crate::places::{base_word, free_count_word, free_place_word, in_use_word, row_width};
+use crate::rule::{Deal, NodeRows};
+use crate::store::{Pass, Store};
+use busy_forbidden::{Seat, Table};
+use faults::Memory;
+use std::alloc::Global;
+use store_core::Sizes;
+
+// How many words a store has.
+fn count_words(sizes: &Sizes) -> usize
+    requires { total sizes.now < 2 ^ 62 }
+    ensures { result ≡ total sizes.now }
+{
+    1 + 2 * sizes.seats as usize
+        + 4
+        + sizes.rows as usize
+        + sizes.buckets as usize
+        + sizes.rows as usize * (row_width(sizes) + 4)
+        + sizes.seats as usize * (sizes.depth as usize + 1)
+}
+
+// The words of a new store: each row is free.
+#[tactic(auto, using(crate::proofs::Opens::up_to_none, crate::proofs::Opens::up_to_next))]
+fn first_words(alloc: Global, sizes: &Sizes) -> Result<Vec<u64>, Memory>
+    requires small { total sizes.now < 2 ^ 62 }
+    ensures { IfOk result (λ words. UpTo sizes.now words.items sizes.now.rows) }
+{
+    let mut words = Vec::from_elem(alloc, 0u64, count_words(sizes))?;
+    words[base_word(sizes)] = sizes.first;
+    words[free_count_word(sizes)] = sizes.rows as u64;
+    words[in_use_word(sizes)] = sizes.start as u64;
+    for i in 0..sizes.rows {
+        words[free_place_word(sizes, i as u64)] = i as u64;
+    }
+    Ok(words)
+}
+
+fn first_pass(alloc: Global, sizes: &Sizes) -> Result<(Store, Pass), Memory>
+    requires small { total sizes.now < 2 ^ 62 }
+    requires sizes { MaySize sizes.now }
+    ensures store { IfOk result (λ t. IsStore t.0.table.shared.table_id t.0.table.shared.key t.0.sizes × (t.0.sizes ≡ sizes.now)) }
+    ensures pass { IfOk result (λ t. IsNew t.0.table.shared.table_id sizes.now 0 t.1.seat.seat t.1.seat.number t.1.seat.seats × IsFirst 1 t.1.seat.seat) }
+{
+    let words = first_words(alloc, sizes)?;
+    let (table, seat) = Table::<NodeRows>::of_words(alloc, &words, sizes)?;
+    let store = Store {
+        table,
+        sizes: *sizes,
+    };
+    let seat = Seat {
+        seat,
+        number: 0,
+        seats: sizes.seats,
+    };
+    Ok((
+        store,
+        Pass {
+            seat,
+            base: 0,
+            in_use: 0,
+        },
+    ))
+}
+
+// Pass k, split off the first.
+fn next_pass(store: &Store, first: &mut Pass, k: u32) -> Pass
+    requires store { IsStore store.now.table.shared.table_id store.now.table.shared.key store.now.sizes }
+    requires below { k < store.now.sizes.seats }
+    requires first { IsNew store.now.table.shared.table_id store.now.sizes 0 first.old.seat.seat first.old.seat.number first.old.seat.seats × IsFirst k first.old.seat.seat }
+    ensures first { IsNew store.now.table.shared.table_id store.now.sizes 0 first.new.seat.seat first.new.seat.number first.new.seat.seats × IsFirst (k + 1) first.new.seat.seat }
+    ensures new { IsNew store.now.table.shared.table_id store.now.sizes k result.seat.seat result.seat.number result.seat.seats }
+{
+    let seat = store.table.shared.split_seat::<Deal>(&mut first.seat.seat);
+    Pass {
+        seat: Seat {
+            seat,
+            number: k,
+            seats: first.seat.seats,
+        },
+        base: 0,
+        in_use: 0,
+    }
+}
+
+impl Store {
+    /// A new store of these sizes, without terms, and its passes in order, each of them out. There are at most 262,144 rows
+    /// and as many buckets, 16 passes, 65,536 protected rows of each pass, and 16 arguments of a term.
+    pub fn make(alloc: Global, sizes: Sizes) -> Result<(Store, Vec<Pass>), Memory>
+        requires { MaySize sizes }
+        ensures store { IfOk result (λ t. IsStore t.0.table.shared.table_id t.0.table.shared.key t.0.sizes × (t.0.sizes ≡ sizes)) }
+        ensures passes { IfOk result (λ t. EachPlace (λ j p. IsNew t.0.table.shared.table_id sizes j p.seat.seat p.seat.number p.seat.seats) sizes.seats t.1.items) }
+        ensures ready { IfOk result (λ t. All (λ p. IsPass t.0.table.shared.table_id t.0.sizes p.seat.seat p.seat.seats × IsOut p.seat.seat.me.0) t.1.items) }
+    {
+        let (store, mut first) = first_pass(alloc, &sizes)?;
+        let mut rest = Vec::new(alloc);
+        for k in 1..sizes.seats {
+            rest.push(next_pass(&store, &mut first, k))?;
+        }
+        rest.insert(0, first)?;
+        Ok((store, rest))
+    }
+}
