@@ -29,3 +29,5 @@ pub mod Runs
 pub mod Shown
 pub mod Short
 pub mod Acts
+pub mod Tables
+pub mod Contents

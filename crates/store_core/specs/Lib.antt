@@ -12,3 +12,5 @@ pub mod Reads
 pub mod Runs
 pub mod StoreSteps
 pub mod Laws
+pub mod Table
+pub mod Running

@@ -2,9 +2,11 @@
 #![tactic(auto)]
 
 mod law;
+mod machine;
 mod step;
 mod view;
 
+pub use machine::StoreState;
 pub use law::{steps_keep, words_are_shown};
 pub use step::StoreStep;
 pub use view::{Call, Content, KnownWord, Passed, Place, Refusal, Sizes, Stay, View};
