@@ -25,7 +25,7 @@ use Rattle.store_core.specs.Calls.{Content, Call, Idle, Away, Ready, View}
 use Rattle.store_core.specs.Machine.{Sizes, State, Each, In, Granted, with_call, roots_of}
 use Rattle.store_core.specs.Meaning.{Meaning, IsOlder, grown, trees_at}
 use Rattle.store_core.specs.Seats.{IsSeen, SeatHolds}
-use Rattle.store_core.specs.Invariant.{names_of, listed, store_of, HistoryMatches, NumbersHold, Holds}
+use Rattle.store_core.specs.Invariant.{names_of, listed, store_of, HistoryFits, NumbersHold, Holds}
 use Rattle.store_core.specs.Collection.{Reaches, protected, argument, IsCollected, RootsMatch, AreKept, collected}
 use Rattle.store_core.proofs.Locks.{is_in, alone_in}
 use Rattle.store_core.proofs.Basics.{choose, put_case, each_in}
@@ -250,7 +250,7 @@ module _ (z : Sizes) (s : State) (m : Meaning) (h : Holds z s m) where
             (λ e. let l : n.live r ≡ true = (are.each r).0 (of_one kept r e) in live_held m r (live_was r l) ∙ (ap (λ (f : ℕ → Tree). Some (f r)) (sym k.tree) ∙ sym (live_held n r l)))
             (λ e. sym (dead_free n r (not_true (n.live r) (λ l. true≢false (sym (one_of kept r ((are.each r).1 l)) ∙ e))))))
 
-        history_after : HistoryMatches z u n (put s.view i after)
+        history_after : HistoryFits z u n (put s.view i after)
         history_after =
             let number : ℕ = s.words Base + s.words Claim in
             let e : Entry = Collect number kept in

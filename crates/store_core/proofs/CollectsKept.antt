@@ -10,10 +10,10 @@ use Rattle.store_core.specs.Words.{Place, Base, FreeCount, Claim, InUse, RootCou
 use Rattle.store_core.specs.Calls.{Call, Idle, Loading, Storing, Stay, Away, Based, Ready, Leaving, View, bucket}
 use Rattle.store_core.specs.Machine.{Sizes, State, Each, with_call, roots_of, LoadAny, StoreAny, StoreClaim}
 use Rattle.store_core.specs.Meaning.{Meaning}
-use Rattle.store_core.specs.Seats.{Where, index, wanted, HasRead, MayWant, WalksCurrent, RowDrawn}
+use Rattle.store_core.specs.Seats.{Where, index, wanted, HasRead, MayWant, SeatWalks, RowDrawn}
 use Rattle.store_core.specs.Invariant.{Holds, span, is_at}
 use Rattle.store_core.specs.Collection.{IsCollected, AreKept, collected}
-use Rattle.store_core.specs.Steps.{loads, stores, stored_over, is_storing, is_collecting, is_stored, HasLoaded, IsWhole, MayStore, CoreHolds, IsFresh, head_read, IsFirst, worn_by, names_left}
+use Rattle.store_core.specs.Steps.{ReadNow, loads, stores, stored_over, is_storing, is_collecting, is_stored, HasLoaded, IsWhole, MayStore, CoreHolds, IsFresh, head_read, IsFirst, worn_by, names_left}
 use Rattle.store_core.specs.Runs.{StepKeeps}
 use Rattle.store_core.proofs.Own.{protected_are}
 use Rattle.store_core.proofs.Basics.{choose, put_case, put_same, each_join, same_is, write_same}
@@ -35,7 +35,7 @@ collecting_none x e = absurd (true≢false (sym e))
 
 -- a seat that collects goes on
 module _ (z : Sizes) (s : State) (m : Meaning) (h : Holds z s m) (i : ℕ) (stay : (s.view i).stay ≡ Ready) (y : Call) where
-  collecting_holds : index y ≡ None → WalksCurrent s.words m (with_call (s.view i) y) → RowDrawn s.words m (with_call (s.view i) y) → HasRead (s.words Base) (s.words FreeCount) (s.words Claim) (s.view i).overdraw y
+  collecting_holds : index y ≡ None → SeatWalks s.words m (with_call (s.view i) y) → RowDrawn s.words m (with_call (s.view i) y) → HasRead (s.words Base) (s.words FreeCount) (s.words Claim) (s.view i).overdraw y
       → Where (wanted y) (MayWant s.words m (s.view i).seen) → Holds z (record { lock = s.lock; words = s.words; view = put s.view i (with_call (s.view i) y) }) m
   collecting_holds none walks drawn read wants =
       let v : View = with_call (s.view i) y in
@@ -57,10 +57,10 @@ module _ (z : Sizes) (s : State) (k : CoreHolds z s) (i : ℕ) (alone : IsExclus
   words_still : is_storing (s.view i).call ≡ false → s.words ≡ k.kept
   words_still own = k.under.calm (λ j. dite (ℕ_discrete j i) (λ e. ap (λ (q : ℕ). is_storing (s.view q).call) e ∙ own) (λ ne. stores_collects (s.view j).call (others_calm j ne)))
 
-  pub load_kept : (p : Place) (y : Call) → index y ≡ None → WalksCurrent k.kept k.meaning (with_call (s.view i) y) → RowDrawn k.kept k.meaning (with_call (s.view i) y) → HasRead (k.kept Base) (k.kept FreeCount) (k.kept Claim) (s.view i).overdraw y → Where (wanted y) (MayWant k.kept k.meaning (s.view i).seen)
-      → Where (head_read y) (λ h. k.kept (Bucket (bucket h.0 (k.kept InUse))) ≡ h.1) → IsFirst y → is_storing y ≡ false → (k.kept p ≡ s.words p → HasLoaded k.kept y) → is_storing (s.view i).call ≡ false → index (s.view i).call ≡ None → (s.view i).stay ≡ Ready → last_roots [] (s.view i).entries ≡ roots_of s.words i (s.words (RootCount i))
+  pub load_kept : (p : Place) (y : Call) → index y ≡ None → SeatWalks k.kept k.meaning (with_call (s.view i) y) → RowDrawn k.kept k.meaning (with_call (s.view i) y) → HasRead (k.kept Base) (k.kept FreeCount) (k.kept Claim) (s.view i).overdraw y → Where (wanted y) (MayWant k.kept k.meaning (s.view i).seen)
+      → Where (head_read y) (λ h. k.kept (Bucket (bucket h.0 (k.kept InUse))) ≡ h.1) → IsFirst y → ReadNow (k.kept Claim) y → is_storing y ≡ false → (k.kept p ≡ s.words p → HasLoaded k.kept y) → is_storing (s.view i).call ≡ false → index (s.view i).call ≡ None → (s.view i).stay ≡ Ready → last_roots [] (s.view i).entries ≡ roots_of s.words i (s.words (RootCount i))
       → CoreHolds z (record { lock = s.lock; words = write s.words p (s.words p); view = put s.view i (with_call (s.view i) y) })
-  load_kept p y no_index walks drawn read wants head first plain loaded own none stay roots =
+  load_kept p y no_index walks drawn read wants head first now plain loaded own none stay roots =
       let still = words_still own in
       let v : View = with_call (s.view i) y in
       record {
@@ -68,7 +68,7 @@ module _ (z : Sizes) (s : State) (k : CoreHolds z s) (i : ℕ) (alone : IsExclus
         kept = k.kept;
         bases = bases_noted z s.view i (let a = alone.present in let b = k.holds.lock.seats in omega arith) v (k.kept Base) (k.kept Base) (notes_none (k.kept Base) (s.view i) v refl refl) refl k.bases;
         fresh = λ j. put_case (λ (q : View). q.fresh ≡ true → IsFresh s.lock k.kept k.meaning.live j q) s.view i v j
-            (λ e f. subst (λ (q : ℕ). IsFresh s.lock k.kept k.meaning.live q v) (sym e) (let old = k.fresh i f in record { alone = old.alone; stays = old.stays; full = λ q a b. ⊎_elim inl (λ g. absurd (let d : None ≡ Some q = sym none ∙ g in cc)) (old.full q a b); head = head; first = first })) (λ _. k.fresh j);
+            (λ e f. subst (λ (q : ℕ). IsFresh s.lock k.kept k.meaning.live q v) (sym e) (let old = k.fresh i f in record { alone = old.alone; stays = old.stays; full = λ q a b. ⊎_elim inl (λ g. absurd (let d : None ≡ Some q = sym none ∙ g in cc)) (old.full q a b); head = head; first = first; read = now })) (λ _. k.fresh j);
         holds = collecting_holds z (record { lock = s.lock; words = k.kept; view = s.view }) k.meaning k.holds i stay y no_index walks drawn read wants;
         under = record {
           calm = λ _. write_same s.words p ∙ still;
@@ -114,7 +114,7 @@ module _ (z : Sizes) (s : State) (k : CoreHolds z s) (i : ℕ) (alone : IsExclus
         kept = k.kept;
         bases = bases_noted z s.view i (let a = alone.present in let b = k.holds.lock.seats in omega arith) v (k.kept Base) (k.kept Base) (notes_none (k.kept Base) (s.view i) v refl refl) refl k.bases;
         fresh = λ j. put_case (λ (q : View). q.fresh ≡ true → IsFresh s.lock k.kept k.meaning.live j q) s.view i v j
-            (λ e f. subst (λ (q : ℕ). IsFresh s.lock k.kept k.meaning.live q v) (sym e) (let old = k.fresh i f in record { alone = old.alone; stays = old.stays; full = λ q a b. ⊎_elim inl (λ g. absurd (let d : None ≡ Some q = sym none ∙ g in cc)) (old.full q a b); head = tt; first = tt })) (λ _. k.fresh j);
+            (λ e f. subst (λ (q : ℕ). IsFresh s.lock k.kept k.meaning.live q v) (sym e) (let old = k.fresh i f in record { alone = old.alone; stays = old.stays; full = λ q a b. ⊎_elim inl (λ g. absurd (let d : None ≡ Some q = sym none ∙ g in cc)) (old.full q a b); head = tt; first = tt; read = tt })) (λ _. k.fresh j);
         holds = collecting_holds z (record { lock = s.lock; words = k.kept; view = s.view }) k.meaning k.holds i stay y refl (record { walk = tt; look = tt }) (record { index = tt; row = tt }) tt tt;
         under = record {
           calm = λ none. absurd (true≢false (sym (ap (λ (q : View). is_storing q.call) (put_same s.view i v)) ∙ none i));
@@ -154,7 +154,7 @@ module _ (z : Sizes) (s : State) (k : CoreHolds z s) (i : ℕ) (alone : IsExclus
         kept = u;
         bases = subst (λ (q : ℕ). BasesKnown z (s.words Base) (put s.view i (collected (s.view i) (s.words Base) q (s.words InUse) names))) number (subst (λ (b : ℕ). BasesKnown z b (put s.view i (collected (s.view i) (s.words Base) (k.kept Base + k.kept Claim) (s.words InUse) names))) (sym is.base) bases);
         fresh = λ j. put_case (λ (q : View). q.fresh ≡ true → IsFresh s.lock u n.live j q) s.view i v j
-            (λ e _. subst (λ (q : ℕ). IsFresh s.lock u n.live q v) (sym e) record { alone = alone; stays = refl; full = λ q a _. absurd (omega arith); head = tt; first = tt })
+            (λ e _. subst (λ (q : ℕ). IsFresh s.lock u n.live q v) (sym e) record { alone = alone; stays = refl; full = λ q a _. absurd (omega arith); head = tt; first = tt; read = tt })
             (λ ne f. absurd (alone_in s.lock k.holds.lock.sound j i (k.fresh j f).alone (λ e. ne (sym e)) (inl (inr alone))));
         holds = subst (λ (q : ℕ). Holds z (record { lock = s.lock; words = u; view = put s.view i (collected (s.view i) (s.words Base) q (s.words InUse) names) }) n) number ends;
         under = record {
@@ -183,8 +183,8 @@ load_any_kept p z s i rem k ok =
     let none : index (s.view i).call ≡ None = ⊎_elim (λ e. ap index e) (λ (l : (ls : List (Place × ℕ)) × ((s.view i).call ≡ Loading ls)). ap index l.1) q.0 in
     let roots : last_roots [] (s.view i).entries ≡ roots_of s.words i (s.words (RootCount i)) = q.3 ∙ protected_are z s.words i (s.view i) (rem.own i) in
     choose (λ (y : Call). CoreHolds z (record { lock = s.lock; words = write s.words p (s.words p); view = put s.view i (with_call (s.view i) y) })) (worn_by z ls) Idle (Loading ls)
-    (λ _. load_kept z s k i q.2 p Idle refl (record { walk = tt; look = tt }) (record { index = tt; row = tt }) tt tt tt tt refl (λ _. tt) plain none q.1 roots)
-    (λ _. load_kept z s k i q.2 p (Loading ls) refl (record { walk = tt; look = tt }) (record { index = tt; row = tt }) tt tt tt tt refl
+    (λ _. load_kept z s k i q.2 p Idle refl (record { walk = tt; look = tt }) (record { index = tt; row = tt }) tt tt tt tt tt refl (λ _. tt) plain none q.1 roots)
+    (λ _. load_kept z s k i q.2 p (Loading ls) refl (record { walk = tt; look = tt }) (record { index = tt; row = tt }) tt tt tt tt tt refl
     (λ is. each_join (λ (x : Place × ℕ). k.kept x.0 ≡ x.1) (loads (s.view i).call) ((p, s.words p) ∷ []) (k.under.loaded i) (is, tt)) plain none q.1 roots)
 
 may_collect : (z : Sizes) (w : Place → ℕ) (x : Call) → MayStore z w x → is_collecting x ≡ true

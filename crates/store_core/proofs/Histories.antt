@@ -16,7 +16,7 @@ use Rattle.hash_buckets.specs.Spelled.{spelled}
 use Rattle.store_core.specs.Machine.{Sizes, Each}
 use Rattle.store_core.specs.Meaning as meaning
 use Rattle.store_core.specs.Meaning.{Meaning, Matches, grown}
-use Rattle.store_core.specs.Invariant.{names_of, listed, HistoryMatches}
+use Rattle.store_core.specs.Invariant.{names_of, listed, HistoryFits}
 use Rattle.store_core.proofs.Basics.{choose, put_case, put_same, put_other}
 use Rattle.store_core.proofs.Chains.{some_words}
 
@@ -60,7 +60,7 @@ dead_free m r l = ap (λ (b : Bool). cond b (Some (m.tree r)) None) l
 
 module _ (z : Sizes) (w u : Place → ℕ) (m : Meaning) (view : ℕ → View) (i : ℕ) (v : View) where
   -- nothing is noted, and the seat may have seen more
-  pub history_same : HistoryMatches z w m view → v.entries ≡ (view i).entries → (view i).seen ≤ v.seen → u Base ≡ w Base → ((r : ℕ) → m.live r ≡ true → u (Birth r) ≡ w (Birth r)) → HistoryMatches z u m (put view i v)
+  pub history_same : HistoryFits z w m view → v.entries ≡ (view i).entries → (view i).seen ≤ v.seen → u Base ≡ w Base → ((r : ℕ) → m.live r ≡ true → u (Birth r) ≡ w (Birth r)) → HistoryFits z u m (put view i v)
   history_same h same later base births =
       let lists : listed z.seats (λ j. (put view i v j).entries) ≡ listed z.seats (λ j. (view j).entries) = listed_same z.seats _ _ (λ j. put_case (λ (p : View). p.entries ≡ (view j).entries) view i v j (λ e. same ∙ ap (λ (k : ℕ). (view k).entries) (sym e)) (λ _. refl)) in
       let seen : (j : ℕ) → (view j).seen ≤ (put view i v j).seen = (λ j. put_case (λ (p : View). (view j).seen ≤ p.seen) view i v j (λ e. subst (λ (k : ℕ). (view k).seen ≤ v.seen) (sym e) later) (λ _. omega arith)) in

@@ -4,7 +4,7 @@ use Rattle.std.proofs.Common.{◌≡◌, ◌≢◌, ℕ, None, refl, inl, sym, a
 use Rattle.store_core.specs.Calls.{Content, Call, Idle, Comparing, Passing, Finding, Ended, Counting, Drawing, Placing, Filling, Numbering, Linking, Publishing, Loading, Storing, Away, Based, Ready, View, bucket, Leaving}
 use Rattle.store_core.specs.Machine.{Sizes, State, LoadBase, LoadInUse, Begin, Go, LockAlone, LowerShared, UnaskSeat, GiveGranted, LoadRoot, StoreRoot, StoreCount, with_got, acted, action, begins, based, ready, leaving, left, Granted, roots_of, IsCreation, with_call, gained, arrived, ReadWord, ReadArgument, protected_in, rooted, root_counted, knowing}
 use Rattle.store_core.specs.Words.{RowWord, Base, InUse, RootCount, Root, write, put, FreePlace, Bucket, Place, FreeCount, Claim}
-use Rattle.store_core.specs.Steps.{is_collecting, CoreHolds, IsFresh, head_read, IsAtRest, MayLeave, IsFirst}
+use Rattle.store_core.specs.Steps.{ReadNow, is_collecting, CoreHolds, IsFresh, head_read, IsAtRest, MayLeave, IsFirst}
 use Rattle.store_core.specs.Runs.{StepKeeps}
 use Rattle.history_core.specs.declared.entry.Entry.TheVariants.{Make}
 use Rattle.store_core.specs.Seats.{SeatHolds, Where, index}
@@ -153,6 +153,7 @@ lock_kept x z s i rem k ok = let p = ok.permitted in record {
     full = a.full;
     head = a.head;
     first = a.first;
+    read = a.read;
   };
   under = record {
     calm = k.under.calm;
@@ -176,6 +177,7 @@ fresh_rooted z s i u v live next grows place claim count e call stay a = record 
   full = λ q b c. ⊎_elim (λ f. inl (subst (λ (r : ℕ). next r ≡ true) (sym (place q)) (grows (s.words (FreePlace q)) f))) (λ f. inr (ap index call ∙ f)) (a.full q (omega arith) (omega arith));
   head = subst (λ (x : Call). Where (head_read x) (λ h. u (Bucket (bucket h.0 (u InUse))) ≡ h.1)) (sym (call ∙ e)) tt;
   first = subst IsFirst (sym (call ∙ e)) tt;
+  read = subst (ReadNow (u Claim)) (sym (call ∙ e)) tt;
 }
 
 module _ (z : Sizes) (s : State) (i : ℕ) (k : CoreHolds z s) (there : i < z.seats) (rest : IsAtRest (s.view i)) where

@@ -31,3 +31,8 @@ pub mod Short
 pub mod Acts
 pub mod Tables
 pub mod Contents
+pub mod Eight
+pub mod Creations
+pub mod Full
+pub mod Ends
+pub mod Worked

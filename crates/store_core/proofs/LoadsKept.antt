@@ -9,7 +9,7 @@ use Rattle.store_core.specs.Calls.{Content, bucket, Call, Idle, Comparing, Passi
 use Rattle.store_core.specs.Machine.{Sizes, State, InAccess, Granted, with_call, with_path, passing, refusing, gained, based, ready, MayBegin, acted, action, begins, load}
 use Rattle.store_core.specs.Meaning.{Meaning}
 use Rattle.store_core.specs.Seats.{index, SeatHolds}
-use Rattle.store_core.specs.Invariant.{HistoryMatches, Holds, IsStoreSound}
+use Rattle.store_core.specs.Invariant.{HistoryFits, Holds, IsStoreSound}
 use Rattle.store_core.proofs.Histories.{history_same}
 use Rattle.store_core.proofs.Loads.{stage_compared, stage_passed, stage_claim, stage_count, seat_refused, stage_placed}
 use Rattle.store_core.proofs.Noting.{found}
@@ -23,7 +23,7 @@ module _ (z : Sizes) (s : State) (m : Meaning) (h : Holds z s m) (i : ℕ) where
   pub stays_at : (x : Call) → (s.view i).call ≡ x → x ≢ Idle → (s.view i).stay ≡ Ready
   stays_at x e ne = (h.seats i).numbers.calls (λ k. ne (sym e ∙ k))
 
-  same_history : (v : View) → v.entries ≡ (s.view i).entries → (s.view i).seen ≤ v.seen → HistoryMatches z s.words m (put s.view i v)
+  same_history : (v : View) → v.entries ≡ (s.view i).entries → (s.view i).seen ≤ v.seen → HistoryFits z s.words m (put s.view i v)
   same_history v e l = history_same z s.words s.words m s.view i v h.history e l refl (λ r _. refl)
 
   stage_kept : (x y : Call) → (s.view i).call ≡ x → (p : Place) → IsStage s.words m i (s.view i) x y → IsStoreSound z m.live (acted s.words s.view i s.lock (load p (λ n. with_call (s.view i) y)))

@@ -19,7 +19,7 @@ use Rattle.store_core.specs.Machine as machine
 use Rattle.store_core.specs.Machine.{Sizes, State, Each, Granted, with_call, left, roots_of}
 use Rattle.store_core.specs.Meaning.{Meaning}
 use Rattle.store_core.specs.Seats.{index, IsSeen, SeatHolds}
-use Rattle.store_core.specs.Invariant.{names_of, listed, store_of, HistoryMatches, Holds, IsStoreSound}
+use Rattle.store_core.specs.Invariant.{names_of, listed, store_of, HistoryFits, Holds, IsStoreSound}
 use Rattle.store_core.proofs.Basics.{put_case, put_same, each_map, each_join}
 use Rattle.store_core.proofs.Histories.{history_same, lists_noted, listed_length, each_contains}
 use Rattle.store_core.proofs.Noting.{each_held}
@@ -50,7 +50,7 @@ module _ (z : Sizes) (s : State) (m : Meaning) (h : Holds z s m) (i : ℕ) (ther
   rows_seen zero l = tt
   rows_seen (suc n) l = each_join (IsSeen s.words m (s.view i).seen) (roots_of s.words i n) (s.words (Root i n) ∷ []) (rows_seen n (omega arith)) ((h.seats i).protects.roots n (omega arith), tt)
 
-  leaving : (v : View) (rows : List ℕ) → v.seen ≡ (s.view i).seen → v.entries ≡ (s.view i).entries ++ Roots (s.view i).seen rows ∷ [] → (s.view i).stay ≢ Away → Each (IsSeen s.words m (s.view i).seen) rows → HistoryMatches z s.words m (put s.view i v)
+  leaving : (v : View) (rows : List ℕ) → v.seen ≡ (s.view i).seen → v.entries ≡ (s.view i).entries ++ Roots (s.view i).seen rows ∷ [] → (s.view i).stay ≢ Away → Each (IsSeen s.words m (s.view i).seen) rows → HistoryFits z s.words m (put s.view i v)
   leaving v rows seen more inside all =
       let e : Entry = Roots (s.view i).seen rows in
       let is_in : IsIn (store_of z s.words m s.view) i = record { there = (let a = listed_length z.seats (λ j. (s.view j).entries) in omega arith); base = (h.seats i).numbers.entered inside } in

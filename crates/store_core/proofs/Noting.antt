@@ -17,7 +17,7 @@ use Rattle.store_core.specs.Calls.{Content, Ready, View}
 use Rattle.store_core.specs.Machine.{Sizes, State, Each}
 use Rattle.store_core.specs.Meaning.{Meaning, Matches, grown}
 use Rattle.store_core.specs.Seats.{IsSeen, MayWant}
-use Rattle.store_core.specs.Invariant.{names_of, listed, store_of, HistoryMatches, Holds}
+use Rattle.store_core.specs.Invariant.{names_of, listed, store_of, HistoryFits, Holds}
 use Rattle.store_core.proofs.Basics.{each_map}
 use Rattle.store_core.proofs.Histories.{lists_noted, listed_length, seen_changed, live_held, dead_free, held_live, trees_named, each_contains, content_once}
 
@@ -49,7 +49,7 @@ module _ (z : Sizes) (s : State) (m : Meaning) (h : Holds z s m) (i : ℕ) (ther
       (subst (λ (f : ℕ → ℕ). IsFaithful z.rows (record { names = names_of m'; birth = birth; base = s.words Base; lists = noted (listed z.seats (λ j. (s.view j).entries)) i e; seen = f })) (sym (seen_changed s.view i v)) k)
 
   pub found : (r : ℕ) (v : View) → m.live r ≡ true → Matches (row_at s.words r) c → v.seen ≡ max (s.view i).seen (s.words (Birth r))
-      → v.entries ≡ (s.view i).entries ++ Find (max (s.view i).seen (s.words (Birth r))) c.head c.arguments r ∷ [] → HistoryMatches z s.words m (put s.view i v)
+      → v.entries ≡ (s.view i).entries ++ Find (max (s.view i).seen (s.words (Birth r))) c.head c.arguments r ∷ [] → HistoryFits z s.words m (put s.view i v)
   found r v live matches seen more =
       let n : ℕ = s.words (Birth r) in
       let e : Entry = Find (max (s.view i).seen n) c.head c.arguments r in

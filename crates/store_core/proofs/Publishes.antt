@@ -42,6 +42,16 @@ trees_once tree live d (x ∷ xs) (y ∷ ys) a b e =
     let q : trees_at tree xs ≡ trees_at tree ys = cc in
     let k : x ≡ y = d x y a.0 b.0 p in let l : xs ≡ ys = trees_once tree live d xs ys a.1 b.1 q in cc
 
+-- a live row with the tree of c has the content c
+pub content_is : (z : Sizes) (w : Place → ℕ) (m : Meaning) → ChainsHold z w m → (c : Content) → Each (λ r. m.live r ≡ true) c.arguments → (q : ℕ) → m.live q ≡ true → m.tree q ≡ grown m.tree c → m.content q ≡ c
+content_is z w m h c wants q l is =
+    let d : Content = m.content q in
+    let same : Node d.head (trees_at m.tree d.arguments) ≡ Node c.head (trees_at m.tree c.arguments) = sym (h.trees q l) ∙ is in
+    let heads : d.head ≡ c.head = cc in
+    let trees : trees_at m.tree d.arguments ≡ trees_at m.tree c.arguments = cc in
+    let arguments : d.arguments ≡ c.arguments = trees_once m.tree m.live h.differ d.arguments c.arguments (each_map (IsOlder m.live (row_at w) (w (Birth q))) (λ p. m.live p ≡ true) d.arguments (λ p k. k.live) (h.arguments q l)) wants trees in
+    ◌∙◌ {b = record { head = c.head; arguments = d.arguments }} (ap (λ (f : Head). record { head = f; arguments = d.arguments }) heads) (ap (λ (rs : List ℕ). record { head = c.head; arguments = rs }) arguments)
+
 module _ (z : Sizes) (s : State) (m : Meaning) (h : Holds z s m) (i : ℕ) (there : i < z.seats) (c : Content) (from a r : ℕ) (e : (s.view i).call ≡ Publishing c from a r) where
   seat : SeatHolds s.words m i (with_call (s.view i) (Publishing c from a r))
   seat = seat_at z s m h i (Publishing c from a r) e
@@ -84,14 +94,7 @@ module _ (z : Sizes) (s : State) (m : Meaning) (h : Holds z s m) (i : ℕ) (ther
 
     none_has : (q : ℕ) → m.live q ≡ true → m.tree q ≡ grown m.tree c → ⊥
     none_has q l is =
-        let d : Content = m.content q in
-        let same : Node d.head (trees_at m.tree d.arguments) ≡ Node c.head (trees_at m.tree c.arguments) = sym (h.chains.trees q l) ∙ is in
-        let heads : d.head ≡ c.head = cc in
-        let trees : trees_at m.tree d.arguments ≡ trees_at m.tree c.arguments = cc in
-        let arguments : d.arguments ≡ c.arguments = trees_once m.tree m.live h.chains.differ d.arguments c.arguments
-        (each_map (IsOlder m.live (row_at s.words) (s.words (Birth q))) (λ p. m.live p ≡ true) d.arguments (λ p k. k.live) (h.chains.arguments q l))
-        (each_map (IsSeen s.words m (s.view i).seen) (λ p. m.live p ≡ true) c.arguments (λ p k. k.live) wants) trees in
-        let contents : d ≡ c = ap (λ (f : Head). record { head = f; arguments = d.arguments }) heads ∙ ap (λ (rs : List ℕ). record { head = c.head; arguments = rs }) arguments in
+        let contents : m.content q ≡ c = content_is z s.words m h.chains c (each_map (IsSeen s.words m (s.view i).seen) (λ p. m.live p ≡ true) c.arguments (λ p k. k.live) wants) q l is in
         each_in (Lacks (row_at s.words) c) q (m.chain (bucket c (s.words InUse))) settled
         (subst (λ (k : Content). In q (m.chain (bucket k (s.words InUse)))) contents (h.chains.present q l))
         (subst (Matches (row_at s.words q)) contents (h.chains.words q l))

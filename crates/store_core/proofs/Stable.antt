@@ -5,7 +5,7 @@ use Rattle.store_core.specs.Calls.{Content, bucket, Call, Idle, Comparing, Passi
 use Rattle.store_core.specs.Machine.{Each, roots_of}
 use Rattle.store_core.specs.Meaning.{Meaning, Matches, Linked, trees_at}
 use Rattle.term_model.specs.Tree.{More, may_stand_over}
-use Rattle.store_core.specs.Seats.{wanted, drawn, index, Lacks, Walks, Walked, IsWalk, looked, Looks, LooksAt, Filled, IsDrawn, HoldsRow, IsSeen, IsKnown, HasRead, MayWant, WalksCurrent, RowDrawn, SeatNumbers, ProtectedLive, NotesMatch, SeatHolds}
+use Rattle.store_core.specs.Seats.{wanted, drawn, index, Lacks, Walks, Walked, IsWalk, looked, Looks, LooksAt, Filled, IsDrawn, HoldsRow, IsSeen, IsKnown, HasRead, MayWant, SeatWalks, RowDrawn, SeatNumbers, SeatRows, NotesMatch, SeatHolds}
 use Rattle.store_core.proofs.Basics.{each_map, each_both, each_left, each_right, where_map}
 
 -- a chain grows at its head alone
@@ -106,7 +106,7 @@ module _ (i : ℕ) (v : View) (w u : Place → ℕ) (m n : Meaning) (y : Rely i 
   trees_kept [] l = refl
   trees_kept (r ∷ rs) l = ap₂ More (y.tree r l.0) (trees_kept rs l.1)
 
-  walks_stay : ((b : ℕ) → AreLive m (m.chain b)) → WalksCurrent w m v → WalksCurrent u n v
+  walks_stay : ((b : ℕ) → AreLive m (m.chain b)) → SeatWalks w m v → SeatWalks u n v
   walks_stay live h = record {
     walk = subst (λ (k : ℕ). IsWalk (row_at u) n.chain k v.passed v.call) (sym y.in_use) (walk_kept m (row_at w) (row_at u) y.rows m.chain n.chain (w InUse) v.passed v.call live y.chain h.walk);
     look = where_map (looked v.call) (LooksAt (row_at w) m.live v.call) (LooksAt (row_at u) n.live v.call) (λ r _ k. record {
@@ -142,7 +142,7 @@ module _ (i : ℕ) (v : View) (w u : Place → ℕ) (m n : Meaning) (y : Rely i 
     read = read_kept (u Base) (u FreeCount) (w Claim) (u Claim) v.overdraw v.call y.claim (subst (λ (b : ℕ). HasRead b (u FreeCount) (w Claim) v.overdraw v.call) (sym y.base) (subst (λ (k : ℕ). HasRead (w Base) k (w Claim) v.overdraw v.call) (sym y.count) h.read));
   }
 
-  protects_stay : ProtectedLive w m i v → ProtectedLive u n i v
+  protects_stay : SeatRows w m i v → SeatRows u n i v
   protects_stay h = record {
     roots = λ k l. subst (IsSeen u n v.seen) (sym (y.root k)) (seen_kept v.seen (w (Root i k)) (h.roots k (let a = y.root_count in omega arith)));
     wants = where_map (wanted v.call) (MayWant w m v.seen) (MayWant u n v.seen) (λ c _ k. record {

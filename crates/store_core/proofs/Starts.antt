@@ -17,7 +17,7 @@ use Rattle.store_core.specs.Words.{Place, Base}
 use Rattle.store_core.specs.Machine.{Sizes, roots_of}
 use Rattle.store_core.specs.Meaning.{Meaning}
 use Rattle.store_core.specs.Seats.{SeatHolds}
-use Rattle.store_core.specs.Invariant.{listed, span, HistoryMatches}
+use Rattle.store_core.specs.Invariant.{listed, span, HistoryFits}
 use Rattle.store_core.specs.Steps.{newcomer, CoreHolds}
 use Rattle.store_core.specs.Runs.{StartsWith, AreSizes, at_start}
 use Rattle.store_core.proofs.Histories.{listed_at, listed_length}
@@ -40,7 +40,7 @@ none_own z i d c = ⊎_elim
     (λ l. contains_none d (subst (λ (es : List Entry). Contains es d) (get_or_past (listed z.seats (λ j. (newcomer z).entries)) i [] (let b = listed_length z.seats (λ j. (newcomer z).entries) in omega arith)) c))
     (cases_lt i z.seats)
 
-history_starts : (z : Sizes) (w : Place → ℕ) → HistoryMatches z w nothing (λ _. newcomer z)
+history_starts : (z : Sizes) (w : Place → ℕ) → HistoryFits z w nothing (λ _. newcomer z)
 history_starts z w =
     let empty_chronicle : chronicle (listed z.seats (λ j. (newcomer z).entries)) ≡ [] = ap chronicle (no_lists z z.seats) ∙ nothing_at_start z.seats in record {
       legal = subst (IsLegal z.rows) (sym empty_chronicle) tt;

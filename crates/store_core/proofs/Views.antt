@@ -4,8 +4,8 @@ use Rattle.store_core.specs.Words.{Place, Base, FreeCount, InUse, write, put, Cl
 use Rattle.store_core.specs.Calls.{Call, Ready, KnownWord, Passed, Refusal, View}
 use Rattle.store_core.specs.Machine.{Sizes, State, Each, Granted, with_call}
 use Rattle.store_core.specs.Meaning.{Meaning, Stands}
-use Rattle.store_core.specs.Seats.{Where, wanted, index, IsSeen, IsKnown, HasRead, MayWant, WalksCurrent, RowDrawn, SeatHolds}
-use Rattle.store_core.specs.Invariant.{is_at, one_if, tally, DrawnApart, RowsHold, ChainsHold, NumbersHold, HistoryMatches, Holds}
+use Rattle.store_core.specs.Seats.{Where, wanted, index, IsSeen, IsKnown, HasRead, MayWant, SeatWalks, RowDrawn, SeatHolds}
+use Rattle.store_core.specs.Invariant.{is_at, one_if, tally, DrawnApart, RowsHold, ChainsHold, NumbersHold, HistoryFits, Holds}
 use Rattle.store_core.proofs.Basics.{write_same, put_case, each_map}
 use Rattle.store_core.proofs.Stable.{Rely, AreLive, stable}
 
@@ -53,7 +53,7 @@ module _ (z : Sizes) (s : State) (m : Meaning) (h : Holds z s m) (i : ℕ) where
       (λ other is. put_case (λ (p : View). index p.call ≢ Some a) s.view i v k (λ f mine. own a mine j other is) (λ _. h.apart j k ne a is))
 
   module _ (v : View) (apart : IsApart v.call) (access : Granted s.lock i v.stay) where
-    pub kept_with : (u : Place → ℕ) (n : Meaning) → RowsHold z u n → ChainsHold z u n → NumbersHold z u n (put s.view i v) → HistoryMatches z u n (put s.view i v)
+    pub kept_with : (u : Place → ℕ) (n : Meaning) → RowsHold z u n → ChainsHold z u n → NumbersHold z u n (put s.view i v) → HistoryFits z u n (put s.view i v)
         → ((j : ℕ) → j ≢ i → Rely j (s.view j) s.words u m n) → SeatHolds u n i v
         → Holds z (record { lock = s.lock; words = u; view = put s.view i v }) n
     kept_with u n rows chains numbers history others own = record {
@@ -72,7 +72,7 @@ module _ (z : Sizes) (s : State) (m : Meaning) (h : Holds z s m) (i : ℕ) where
         (λ f. ap (λ o. is_at o base) (e ∙ ap (λ (k : ℕ). (s.view k).overdraw) (sym f))) (λ _. refl))
 
     -- a load: the own view alone changes
-    pub loaded : (p : Place) → v.overdraw ≡ (s.view i).overdraw → HistoryMatches z s.words m (put s.view i v) → SeatHolds s.words m i v
+    pub loaded : (p : Place) → v.overdraw ≡ (s.view i).overdraw → HistoryFits z s.words m (put s.view i v) → SeatHolds s.words m i v
         → Holds z (record { lock = s.lock; words = write s.words p (s.words p); view = put s.view i v }) m
     loaded p e history own = subst (λ (u : Place → ℕ). Holds z (record { lock = s.lock; words = u; view = put s.view i v }) m) (sym (write_same s.words p))
         (kept_with s.words m h.rows h.chains
@@ -85,7 +85,7 @@ pub record IsStage (w : Place → ℕ) (m : Meaning) (i : ℕ) (v : View) (x y :
   pub index : (index y ≡ None) ⊎ (index y ≡ index x)
 
 pub new_call : (w : Place → ℕ) (m : Meaning) (i : ℕ) (v : View) (x y : Call) → SeatHolds w m i (with_call v x) → v.stay ≡ Ready
-    → WalksCurrent w m (with_call v y) → RowDrawn w m (with_call v y) → HasRead (w Base) (w FreeCount) (w Claim) v.overdraw y → Where (wanted y) (MayWant w m v.seen) → SeatHolds w m i (with_call v y)
+    → SeatWalks w m (with_call v y) → RowDrawn w m (with_call v y) → HasRead (w Base) (w FreeCount) (w Claim) v.overdraw y → Where (wanted y) (MayWant w m v.seen) → SeatHolds w m i (with_call v y)
 new_call w m i v x y h stay walks drawn read wants = record {
   walks = walks;
   drawn = drawn;

@@ -7,7 +7,7 @@ use Rattle.lock_core.specs.Lock.{Lock}
 use Rattle.store_core.specs.Words.{Place, Base, FreeCount, Claim, InUse, FreePlace, Bucket, Birth, RootCount, RowWords, row_at}
 use Rattle.store_core.specs.Calls.{View}
 use Rattle.store_core.specs.Machine.{Sizes, State, Granted}
-use Rattle.store_core.specs.Meaning.{Meaning, RowsPartitioned, ChainsSound, IsBorn}
+use Rattle.store_core.specs.Meaning.{Meaning, RowsApart, ChainsLinked, IsBorn}
 use Rattle.store_core.specs.Seats.{index, SeatHolds}
 
 abbrev pub is_at : Option ℕ → ℕ → Bool
@@ -26,12 +26,12 @@ tally f (suc n) = one_if (f n) + tally f n
 abbrev pub span : Sizes → ℕ
 span z = z.rows + z.seats + 1
 
-pub record LockHolds (z : Sizes) (l : Lock) (view : ℕ → View) : Type 0 where
+pub record LockAllows (z : Sizes) (l : Lock) (view : ℕ → View) : Type 0 where
   pub sound : IsSound l
   pub seats : length l.seats ≡ z.seats
   pub access : (i : ℕ) → Granted l i (view i).stay
 
-pub record NumbersBounded (z : Sizes) (base count claim : ℕ) (place : ℕ → ℕ) (row : ℕ → RowWords) (live : ℕ → Bool) (overdraw : ℕ → Option ℕ) (root_count : ℕ → ℕ) : Type 0 where
+pub record NumbersWithin (z : Sizes) (base count claim : ℕ) (place : ℕ → ℕ) (row : ℕ → RowWords) (live : ℕ → Bool) (overdraw : ℕ → Option ℕ) (root_count : ℕ → ℕ) : Type 0 where
   pub born : (r : ℕ) → live r ≡ true → IsBorn base count place r (row r).birth
   pub differ : (r q : ℕ) → live r ≡ true → live q ≡ true → (row r).birth ≡ (row q).birth → r ≡ q
   pub drawn : claim ≤ count + tally (λ i. is_at (overdraw i) base) z.seats
@@ -55,26 +55,26 @@ abbrev pub store_of : Sizes → (Place → ℕ) → Meaning → (ℕ → View) �
 store_of z w m view = record { names = names_of m; birth = λ r. w (Birth r); base = w Base; lists = listed z.seats (λ j. (view j).entries); seen = λ j. (view j).seen }
 
 -- the entries of all seats are legal, and the set that they leave is the live rows with their trees
-abbrev pub HistoryMatches : Sizes → (Place → ℕ) → Meaning → (ℕ → View) → Type 0
-HistoryMatches z w m view = IsFaithful z.rows (store_of z w m view)
+abbrev pub HistoryFits : Sizes → (Place → ℕ) → Meaning → (ℕ → View) → Type 0
+HistoryFits z w m view = IsFaithful z.rows (store_of z w m view)
 
 -- the facts over the words, each over those alone that it reads
 abbrev pub RowsHold : Sizes → (Place → ℕ) → Meaning → Type 0
-RowsHold z w m = RowsPartitioned z (w FreeCount) (w Claim) (λ i. w (FreePlace i)) m.live
+RowsHold z w m = RowsApart z (w FreeCount) (w Claim) (λ i. w (FreePlace i)) m.live
 
 abbrev pub ChainsHold : Sizes → (Place → ℕ) → Meaning → Type 0
-ChainsHold z w m = ChainsSound z (w InUse) (λ b. w (Bucket b)) (row_at w) m
+ChainsHold z w m = ChainsLinked z (w InUse) (λ b. w (Bucket b)) (row_at w) m
 
 abbrev pub NumbersHold : Sizes → (Place → ℕ) → Meaning → (ℕ → View) → Type 0
-NumbersHold z w m view = NumbersBounded z (w Base) (w FreeCount) (w Claim) (λ i. w (FreePlace i)) (row_at w) m.live (λ i. (view i).overdraw) (λ j. w (RootCount j))
+NumbersHold z w m view = NumbersWithin z (w Base) (w FreeCount) (w Claim) (λ i. w (FreePlace i)) (row_at w) m.live (λ i. (view i).overdraw) (λ j. w (RootCount j))
 
 pub record Holds (z : Sizes) (s : State) (m : Meaning) : Type 0 where
-  pub lock : LockHolds z s.lock s.view
+  pub lock : LockAllows z s.lock s.view
   pub rows : RowsHold z s.words m
   pub chains : ChainsHold z s.words m
   pub numbers : NumbersHold z s.words m s.view
   pub apart : DrawnApart s.view
-  pub history : HistoryMatches z s.words m s.view
+  pub history : HistoryFits z s.words m s.view
   pub seats : (i : ℕ) → SeatHolds s.words m i (s.view i)
 
 -- it holds of the state, and the rows that were live still are

@@ -1,12 +1,29 @@
 -- Laws of the machine.
-use Rattle.std.specs.Prelude.{◌≡◌, ℕ, suc, ◌==◌, if◌then◌else◌, true, List, ◌<◌, ◌≤◌, ◌+◌, ◌*◌, length, slice_set}
-use Rattle.store_core.specs.Words.{Place, Base, Claim, write}
-use Rattle.store_core.specs.Calls.{Call, View}
-use Rattle.store_core.specs.Machine.{Sizes, State, action}
-use Rattle.store_core.specs.Runs.{Inductive, AreSizes, StartsWith, at_start}
+use Rattle.std.specs.Prelude.{◌≡◌, ◌≢◌, ◌⊎◌, ◌↔◌, ℕ, suc, ◌+◌, ◌*◌, ◌^◌, ◌<◌, ◌≤◌, ◌==◌, if◌then◌else◌, true, Some, List, [], ◌∷◌, ◌++◌, length, slice_set, Contains}
+use Rattle.history_core.specs.declared.entry.Entry.{Entry}
+use Rattle.history_core.specs.declared.entry.Entry.TheVariants.{Make, Find}
+use Rattle.history_core.specs.Entry.{IsAscending}
+use Rattle.history_core.specs.TermSet.{Names, Holds, tree_over}
+use Rattle.history_core.specs.Chronicle.{set_of}
+use Rattle.store_core.specs.Words.{Place, Base, FreeCount, Claim, write}
+use Rattle.store_core.specs.Calls.{Content, Call, Idle, Counting, Refusal, View, bucket}
+use Rattle.store_core.specs.Machine.{Sizes, State, Each, IsCreation, action, gained, with_call}
+use Rattle.store_core.specs.Meaning.{Meaning, grown}
+use Rattle.store_core.specs.Seats.{wanted}
+use Rattle.store_core.specs.Invariant.{span}
+use Rattle.store_core.specs.Steps.{loads, value_at, names_left, ReachesByWords}
+use Rattle.store_core.specs.Reads.{IsRefusal}
+use Rattle.store_core.specs.HistoryMatches.{history_of}
+use Rattle.store_core.specs.Runs.{AreSizes, StartsWith, at_start}
+use Rattle.store_core.specs.StoreHolds.{StoreHolds}
 use Rattle.store_core.specs.Shown.{in_table, index_of, shown, total}
 use Rattle.store_core.specs.StoreSteps.{Act, Loads, Stores, Draws, Exchanges, act, IsInPlace, after, Leads}
 use Rattle.store_core.specs.declared.step.StoreStep.{StoreStep}
+use Rattle.store_core.specs.declared.step.StoreStep.TheVariants.{LoadAny, StoreClaim}
+
+-- the pairs have r as the name of the head of c over the trees of its arguments
+abbrev pub HoldsTree : Names → ℕ → Content → Type 0
+HoldsTree held r c = Holds held r (tree_over held c.head c.arguments)
 
 -- the word of an act, and what it becomes where it was n
 abbrev pub act_place : Act → Place
@@ -27,13 +44,13 @@ ActsAreActions = (v : View) (x : Call) → (act_place (act v x) ≡ (action v x)
 
 -- Each step keeps what holds, it holds of a new store, and so after every list of steps, whatever the seats do in between.
 abbrev pub StepsKeep : Type 0
-StepsKeep = (z : Sizes) (s : State) (i : ℕ) (x : StoreStep) → Inductive z s → IsInPlace z s i x → Inductive z (after z s i x)
+StepsKeep = (z : Sizes) (s : State) (i : ℕ) (x : StoreStep) → StoreHolds z s → IsInPlace z s i x → StoreHolds z (after z s i x)
 
 abbrev pub StartHolds : Type 0
-StartHolds = (z : Sizes) (w : Place → ℕ) → AreSizes z → StartsWith z w → Inductive z (at_start z w)
+StartHolds = (z : Sizes) (w : Place → ℕ) → AreSizes z → StartsWith z w → StoreHolds z (at_start z w)
 
 abbrev pub RunsHold : Type 0
-RunsHold = (z : Sizes) (w : Place → ℕ) (steps : List (ℕ × StoreStep)) (s : State) → AreSizes z → StartsWith z w → Leads z (at_start z w) steps s → Inductive z s
+RunsHold = (z : Sizes) (w : Place → ℕ) (steps : List (ℕ × StoreStep)) (s : State) → AreSizes z → StartsWith z w → Leads z (at_start z w) steps s → StoreHolds z s
 
 -- A write at a place of the table is one to its word; each place of the table is within it, past the lock's words, and has an
 -- index of its own; and a write to a word of the lock shows nothing.
@@ -48,3 +65,82 @@ PlacesApart = (z : Sizes) (p q : Place) → in_table z p ≡ true → in_table z
 
 abbrev pub LockIsApart : Type 0
 LockIsApart = (z : Sizes) (words : List ℕ) (k n : ℕ) → k < 1 + 2 * z.seats → shown z (slice_set words k n) ≡ shown z words
+
+-- Each step leaves the views of all other seats.
+abbrev pub OthersStay : Type 0
+OthersStay = (z : Sizes) (s : State) (i j : ℕ) (x : StoreStep) → j ≢ i → (after z s i x).view j ≡ s.view j
+
+-- the entry of a creation of c that ended with row r
+pub data IsEntryOf (c : Content) (r : ℕ) : Entry → Type 0 where
+  made : (number : ℕ) → IsEntryOf c r (Make number c.head c.arguments r)
+  found : (seen : ℕ) → IsEntryOf c r (Find seen c.head c.arguments r)
+
+-- A creation ended with a row: exactly one entry is appended, its Make or its Find.
+pub record EndsWithRow (v u : View) (c : Content) : Type 0 where
+  pub row : ℕ
+  pub number : ℕ
+  pub entry : Entry
+  pub is : u ≡ gained v c row number entry
+  pub of : IsEntryOf c row entry
+
+-- A creation ended with Full: no entry is appended, and its refusal is.
+pub record EndsFull (v u : View) (c : Content) : Type 0 where
+  pub refusal : Refusal
+  pub content : refusal.content ≡ c
+  pub refused : u.refused ≡ v.refused ++ refusal ∷ []
+  pub entries : u.entries ≡ v.entries
+  pub path : refusal.path ≡ v.path
+
+-- A creation ends with a row or with Full.
+abbrev pub CreationEnds : Type 0
+CreationEnds = (v : View) (x : Call) (c : Content) (n : ℕ) → IsCreation x → wanted x ≡ Some c → ((action v x).moved n).call ≡ Idle
+    → EndsWithRow v ((action v x).moved n) c ⊎ EndsFull v ((action v x).moved n) c
+
+-- Every refusal that a seat keeps has its cause: the chain from the head that the call loaded was read to its end, each row in it
+-- differed, and the claim was read or drawn as at least the free count.
+abbrev pub RefusalsHaveCause : Type 0
+RefusalsHaveCause = (z : Sizes) (s : State) (i : ℕ) → StoreHolds z s → Each IsRefusal (s.view i).refused
+
+-- The row that a creation ended with has the asked tree: in the set that all entries then leave it is the name of the head over the
+-- trees of the arguments.
+abbrev pub RowIsAsked : Type 0
+RowIsAsked = (z : Sizes) (s : State) (i : ℕ) (x : StoreStep) (c : Content) (r number : ℕ) (e : Entry) → StoreHolds z s → IsInPlace z s i x
+    → wanted (s.view i).call ≡ Some c → (after z s i x).view i ≡ gained (s.view i) c r number e
+    → HoldsTree (set_of (history_of z (after z s i x).view)).held r c
+
+-- After a collection in its exclusive access, a creation that has walked its chain finds no live row with its tree; and the claim
+-- that it has read is at least the free count exactly where all rows are live.
+pub record IsExactlyFull (z : Sizes) (w : Place → ℕ) (m : Meaning) (c : Content) (claim : ℕ) : Type 0 where
+  pub absent : (r : ℕ) → m.live r ≡ true → m.tree r ≢ grown m.tree c
+  pub full : (w FreeCount ≤ claim) ↔ ((r : ℕ) → r < z.rows → m.live r ≡ true)
+
+abbrev pub FullIsExact : Type 0
+FullIsExact = (z : Sizes) (s : State) (i : ℕ) (k : StoreHolds z s) (c : Content) (from n : ℕ) → (s.view i).fresh ≡ true
+    → (s.view i).call ≡ Counting c from n → IsExactlyFull z k.began k.meaning c n
+
+-- A load ends a collection exactly where the base, the claim and the free count are then loaded and leave no room for another
+-- epoch: Worn. It changes no word, and nothing of the view but that.
+pub record IsWorn (z : Sizes) (s : State) (i : ℕ) (p : Place) : Type 0 where
+  pub base : ℕ
+  pub claim : ℕ
+  pub count : ℕ
+  pub base_loaded : value_at Base (loads (s.view i).call ++ (p, s.words p) ∷ []) ≡ Some base
+  pub claim_loaded : value_at Claim (loads (s.view i).call ++ (p, s.words p) ∷ []) ≡ Some claim
+  pub count_loaded : value_at FreeCount (loads (s.view i).call ++ (p, s.words p) ∷ []) ≡ Some count
+  pub no_room : 2 ^ 62 < base + claim + 1 + span z
+
+abbrev pub WornIsExact : Type 0
+WornIsExact = (z : Sizes) (s : State) (i : ℕ) (p : Place) → (((after z s i (LoadAny p)).view i).call ≡ Idle) ↔ IsWorn z s i p
+
+abbrev pub WornChangesNothing : Type 0
+WornChangesNothing = (z : Sizes) (s : State) (i : ℕ) (p : Place) → ((after z s i (LoadAny p)).view i).call ≡ Idle
+    → ((after z s i (LoadAny p)).words ≡ s.words) × ((after z s i (LoadAny p)).view i ≡ with_call (s.view i) Idle)
+
+-- The names that a collection keeps are exactly the rows reachable from any seat's protected rows, ascending.
+abbrev pub CollectionKeepsReached : Type 0
+CollectionKeepsReached = (z : Sizes) (s : State) (i : ℕ) → StoreHolds z s → IsInPlace z s i (StoreClaim 0)
+    → IsAscending (names_left z s.words) × ((r : ℕ) → Contains (names_left z s.words) r ↔ ReachesByWords s.words r)
+
+-- Equal content, equal bucket.
+abbrev pub EqualContentEqualBucket : Type 0
+EqualContentEqualBucket = (c d : Content) (in_use : ℕ) → c ≡ d → bucket c in_use ≡ bucket d in_use

@@ -11,6 +11,16 @@ pub mod Steps
 pub mod Reads
 pub mod Runs
 pub mod StoreSteps
+pub mod LockHolds
+pub mod RowsPartitioned
+pub mod ChainsSound
+pub mod WalksCurrent
+pub mod NumbersBounded
+pub mod ProtectedLive
+pub mod HistoryMatches
+pub mod CollectionUnderWay
+pub mod StoreHolds
 pub mod Laws
 pub mod Table
+pub mod Worked
 pub mod Running

@@ -1,24 +1,22 @@
--- What the machine that runs has, and what a step of it comes to.
-use Rattle.std.specs.Prelude.{◌≡◌, ℕ, Option, Some, None, List, get_or, true}
-use Rattle.lock_core.specs.Lock.{Lock}
-use Rattle.store_core.specs.Words.{Place, write, put}
+-- The machine that runs: its words at the start, and what one action of a creation changes.
+use Rattle.std.specs.Prelude.{◌≡◌, ℕ, ◌<◌, List}
+use Rattle.store_core.specs.Words.{Place, Base, FreeCount, Claim, InUse, FreePlace, Bucket, RootCount, Root, write}
 use Rattle.store_core.specs.Calls.{View}
-use Rattle.store_core.specs.Machine.{Sizes, State, Step}
-use Rattle.store_core.specs.Shown.{in_table, shown}
-use Rattle.store_core.specs.Steps.{newcomer}
+use Rattle.store_core.specs.Machine.{Sizes, action}
+use Rattle.store_core.specs.Shown.{shown}
 
--- the sizes of a store, its lock, its words, and a view a seat
-pub record Held : Type 0 where
-  pub sizes : Sizes
-  pub lock : Lock
-  pub words : List ℕ
-  pub views : List View
+-- the words of a new store, but that only the first n free places are stored
+pub record IsBegun (z : Sizes) (n : ℕ) (w : Place → ℕ) : Type 0 where
+  pub base : w Base ≡ z.first
+  pub count : w FreeCount ≡ z.rows
+  pub claim : w Claim ≡ 0
+  pub in_use : w InUse ≡ z.start
+  pub place : (i : ℕ) → i < n → w (FreePlace i) ≡ i
+  pub bucket : (b : ℕ) → w (Bucket b) ≡ 0
+  pub root_count : (j : ℕ) → w (RootCount j) ≡ 0
+  pub root : (j k : ℕ) → w (Root j k) ≡ 0
 
--- the state that these are
-abbrev pub state_of : Held → State
-state_of h = record { lock = h.lock; words = shown h.sizes h.words; view = λ j. get_or h.views j (newcomer h.sizes) }
-
--- the words with one stored, if any
-abbrev pub with_stored : (Place → ℕ) → Option (Place × ℕ) → Place → ℕ
-with_stored w None = w
-with_stored w (Some x) = write w x.0 x.1
+-- the next action of a seat's creation: on the words of the table, and on its view
+pub record Acts (z : Sizes) (words after : List ℕ) (v w : View) : Type 0 where
+  pub view : w ≡ (action v v.call).moved (shown z words (action v v.call).place)
+  pub words : shown z after ≡ write (shown z words) (action v v.call).place ((action v v.call).written (shown z words (action v v.call).place))

@@ -189,7 +189,7 @@ pub record MayWant (w : Place → ℕ) (m : Meaning) (seen : ℕ) (c : Content) 
   pub formed : may_stand_over c.head (trees_at m.tree c.arguments) ≡ true
   pub arguments : Each (IsSeen w m seen) c.arguments
 
-pub record WalksCurrent (w : Place → ℕ) (m : Meaning) (v : View) : Type 0 where
+pub record SeatWalks (w : Place → ℕ) (m : Meaning) (v : View) : Type 0 where
   pub walk : IsWalk (row_at w) m.chain (w InUse) v.passed v.call
   pub look : Where (looked v.call) (LooksAt (row_at w) m.live v.call)
 
@@ -208,7 +208,7 @@ pub record SeatNumbers (w : Place → ℕ) (v : View) : Type 0 where
   pub over : (b : ℕ) → v.overdraw ≡ Some b → b ≤ w Base
   pub read : HasRead (w Base) (w FreeCount) (w Claim) v.overdraw v.call
 
-pub record ProtectedLive (w : Place → ℕ) (m : Meaning) (i : ℕ) (v : View) : Type 0 where
+pub record SeatRows (w : Place → ℕ) (m : Meaning) (i : ℕ) (v : View) : Type 0 where
   pub roots : (k : ℕ) → k < w (RootCount i) → IsSeen w m v.seen (w (Root i k))
   pub wants : Where (wanted v.call) (MayWant w m v.seen)
   pub got : v.base ≡ w Base → Each (IsSeen w m v.seen) v.got
@@ -228,8 +228,8 @@ pub record RootsKnown (z : Sizes) (w : Place → ℕ) (i : ℕ) (v : View) : Typ
   pub root : (k : ℕ) → k < z.depth → w (Root i k) ≡ get_or v.roots k 0
 
 pub record SeatHolds (w : Place → ℕ) (m : Meaning) (i : ℕ) (v : View) : Type 0 where
-  pub walks : WalksCurrent w m v
+  pub walks : SeatWalks w m v
   pub drawn : RowDrawn w m v
   pub numbers : SeatNumbers w v
-  pub protects : ProtectedLive w m i v
+  pub protects : SeatRows w m i v
   pub notes : NotesMatch w i v

@@ -243,6 +243,11 @@ IsFirst (Passing c d from old at dif) = d ≡ None
 IsFirst (Finding c d r) = d ≡ None
 IsFirst x = Unit {0}
 
+-- what a call has read of the claim
+abbrev pub ReadNow : ℕ → Call → Type 0
+ReadNow claim (Counting c from n) = n ≡ claim
+ReadNow claim x = Unit {0}
+
 -- After a collection in its exclusive access a seat is alone: each place below the claim holds a live row, but for the one that its
 -- call has drawn, and the head that its call read is still there.
 pub record IsFresh (l : Lock) (w : Place → ℕ) (is_live : ℕ → Bool) (i : ℕ) (v : View) : Type 0 where
@@ -251,6 +256,7 @@ pub record IsFresh (l : Lock) (w : Place → ℕ) (is_live : ℕ → Bool) (i : 
   pub full : (k : ℕ) → k < w Claim → k < w FreeCount → (is_live (w (FreePlace k)) ≡ true) ⊎ (index v.call ≡ Some k)
   pub head : Where (head_read v.call) (λ h. w (Bucket (bucket h.0 (w InUse))) ≡ h.1)
   pub first : IsFirst v.call
+  pub read : ReadNow (w Claim) v.call
 
 pub record CoreHolds (z : Sizes) (s : State) : Type 0 where
   pub meaning : Meaning

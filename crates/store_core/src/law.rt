@@ -1,5 +1,7 @@
 // What every step keeps.
 ghost use Rattle.store_core.specs.Laws.{ActsAreActions, StepsKeep, StartHolds, RunsHold, WritesAreShown, PlacesInside, PlacesApart, LockIsApart};
+ghost use Rattle.store_core.specs.Laws.{OthersStay, CreationEnds, RefusalsHaveCause, RowIsAsked, FullIsExact, WornIsExact, WornChangesNothing, CollectionKeepsReached, EqualContentEqualBucket};
+ghost use Rattle.store_core.specs.Worked.{RaceFinds, LostMakes, SweepKeeps, UseDoubles, WornAtLast};
 
 /// Each step keeps what holds, and it holds of a new store; so it holds after every list of steps, whatever the seats do
 /// in between.
@@ -16,4 +18,32 @@ pub fn words_are_shown()
     ensures inside { PlacesInside }
     ensures apart { PlacesApart }
     ensures lock { LockIsApart }
+{}
+
+/// How a creation ends: with the row of the asked tree and exactly one entry, or with Full, and why; and that no other seat's view
+/// changes.
+pub fn creations_end()
+    ensures ends { CreationEnds }
+    ensures asked { RowIsAsked }
+    ensures full_only_where { RefusalsHaveCause }
+    ensures full_after_collection { FullIsExact }
+    ensures others { OthersStay }
+    ensures bucket { EqualContentEqualBucket }
+{}
+
+/// How a collection ends: it keeps exactly what is reached, or it is Worn by the numbers, and nothing has changed.
+pub fn collections_end()
+    ensures kept { CollectionKeepsReached }
+    ensures worn { WornIsExact }
+    ensures unchanged { WornChangesNothing }
+{}
+
+/// Worked runs, which the definitions compute: two seats that race for one bucket, a lost exchange that makes, a collection with
+/// two seats' protected rows, buckets in use that double, and Worn.
+pub fn worked_runs()
+    ensures race { RaceFinds }
+    ensures lost { LostMakes }
+    ensures sweep { SweepKeeps }
+    ensures doubles { UseDoubles }
+    ensures worn { WornAtLast }
 {}

@@ -6,7 +6,6 @@ mod machine;
 mod step;
 mod view;
 
-pub use machine::StoreState;
-pub use law::{steps_keep, words_are_shown};
+pub use law::{collections_end, creations_end, steps_keep, words_are_shown, worked_runs};
 pub use step::StoreStep;
 pub use view::{Call, Content, KnownWord, Passed, Place, Refusal, Sizes, Stay, View};

@@ -1,13 +1,18 @@
 //! The next atomic action of a creation.
-ghost use Rattle.std.specs.Prelude.{◌≡◌, suc, ◌+◌, ◌==◌, if◌then◌else◌, IfOk};
+ghost use Rattle.std.specs.Prelude.{◌≡◌, suc, ◌+◌, ◌==◌, if◌then◌else◌, IfOk, OnOk, OnErr};
 ghost use Rattle.store_core.specs.Machine as machine;
+ghost use Rattle.store_core.specs.Running.{Acts};
+ghost use Rattle.store_core.specs.Shown.{shown};
+ghost use Rattle.store_core.specs.Words.{write};
 
 use crate::machine::contents::{bucket_of, word_at, words_of};
+use crate::machine::copies::copy;
 use crate::machine::moves::{
-    after_compared, after_counted, after_drawn, after_filled, after_found, after_passed, after_published, narrow, sum,
-    with_call,
+    after_compared, after_counted, after_drawn, after_filled, after_found, after_passed, after_published, begun, narrow,
+    sum, with_call,
 };
-use crate::view::{Call, Place, View};
+use crate::machine::table::Table;
+use crate::view::{Call, Content, Place, View};
 use faults::Memory;
 use std::mem;
 
@@ -70,4 +75,45 @@ pub(crate) fn view_after(mut view: View, word: u64) -> Result<View, Memory>
         Call::Linking(c, from, index, row) => Ok(with_call(view, Call::Publishing(c, from, index, row))),
         Call::Publishing(c, from, index, row) => after_published(view, c, from, index, row, word),
     }
+}
+
+/// One atomic action of a creation. Where there is no memory, nothing has changed.
+pub(crate) fn go(table: &mut Table, view: &View) -> Result<View, Memory>
+    ensures sizes { table.new.sizes ≡ table.old.sizes }
+    ensures action { IfOk result (λ v. Acts table.old.sizes table.old.words.items table.new.words.items view.now v) }
+    ensures memory { OnErr result (table.new ≡ table.old) }
+{
+    let place = place_of(view)?;
+    let found = table.load(&place);
+    let word = written(view, found)?;
+    let after = view_after(copy(view)?, found)?;
+    put(table, &place, found, word)?;
+    Ok(after)
+}
+
+// Stores a word at a place that has another.
+
+fn put(table: &mut Table, place: &Place, found: u64, word: u64) -> Result<(), Memory>
+    requires { found ≡ shown table.old.sizes table.old.words.items place.now }
+    ensures sizes { table.new.sizes ≡ table.old.sizes }
+    ensures written { OnOk result (shown table.new.sizes table.new.words.items ≡ write (shown table.old.sizes table.old.words.items) place.now word) }
+    ensures memory { OnErr result (table.new ≡ table.old) }
+{
+    if word == found {
+        return Ok(());
+    }
+    if !table.has(place) {
+        return Err(Memory);
+    }
+    table.store(place, word);
+    Ok(())
+}
+
+/// The first action of a creation.
+pub(crate) fn begin(table: &Table, view: &View, content: Content) -> Result<View, Memory>
+    ensures { IfOk result (λ v. v ≡ (machine.begins view.now content).moved (shown table.now.sizes table.now.words.items (machine.begins view.now content).place)) }
+{
+    let bucket = bucket_of(&content, view.in_use)?;
+    let head = table.load(&Place::Bucket(bucket));
+    begun(copy(view)?, content, head)
 }

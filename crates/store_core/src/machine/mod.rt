@@ -3,7 +3,6 @@ mod contents;
 mod copies;
 mod creation;
 mod moves;
-mod state;
 mod table;
-
-pub use state::StoreState;
+#[cfg(test)]
+mod tests;

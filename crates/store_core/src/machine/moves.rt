@@ -313,3 +313,13 @@ pub(crate) fn sum(m: u64, n: u32) -> Result<u64, Memory>
         None => Err(Memory),
     }
 }
+
+/// A creation begins: the head of its bucket was loaded.
+pub(crate) fn begun(view: View, content: Content, word: u64) -> Result<View, Memory>
+    ensures { IfOk result (λ v. v ≡ (machine.begins view content).moved word) }
+{
+    let from = narrow(word)?;
+    let path = LinkedList::new(*view.path.allocator());
+    let view = with_path(view, 0, path);
+    Ok(with_call(view, arrived(content, None, from, 0, from)))
+}

@@ -3,7 +3,8 @@ ghost use Rattle.std.specs.Prelude.{◌≡◌, ◌+◌, ◌*◌, ◌<◌, ◌≤
 ghost use Rattle.store_core.specs.Shown.{in_table, index_of, shown, total};
 ghost use Rattle.store_core.specs.Machine.{widest};
 ghost use Rattle.store_core.specs.Table.{IsPlaceOf};
-ghost use Rattle.store_core.specs.Words.{write};
+ghost use Rattle.store_core.specs.Running.{IsBegun};
+ghost use Rattle.store_core.specs.Words.{Place, write};
 ghost use Rattle.store_core.specs.declared.view.Place.TheVariants.{FreePlace, Bucket, RowWord, Birth, Next, RootCount, Root};
 
 use crate::view::{Place, Sizes};
@@ -173,6 +174,35 @@ fn root(sizes: &Sizes, j: u32, k: u32) -> Option<usize>
 }
 
 impl Table {
+    /// The words of a new store: each row is free.
+    #[tactic(auto, using(crate::proofs::Tables::begun_first, crate::proofs::Tables::begun_next))]
+    pub(crate) fn new(alloc: Global, sizes: &Sizes) -> Result<Table, Memory>
+        requires { total sizes.now < 2 ^ 62 }
+        ensures sizes { IfOk result (λ t. t.sizes ≡ sizes.now) }
+        ensures words { IfOk result (λ t. IsBegun sizes.now sizes.now.rows (shown sizes.now t.words.items)) }
+    {
+        let mut table = Table::zeros(alloc, sizes)?;
+        table.store(&Place::Base, sizes.first);
+        table.store(&Place::FreeCount, u64::from(sizes.rows));
+        table.store(&Place::InUse, u64::from(sizes.start));
+        for i in 0..sizes.rows {
+            table.store(&Place::FreePlace(i), u64::from(i));
+        }
+        Ok(table)
+    }
+
+    // All words are 0.
+    fn zeros(alloc: Global, sizes: &Sizes) -> Result<Table, Memory>
+        requires { total sizes.now < 2 ^ 62 }
+        ensures sizes { IfOk result (λ t. t.sizes ≡ sizes.now) }
+        ensures words { IfOk result (λ t. (p : Place) → shown sizes.now t.words.items p ≡ 0) }
+    {
+        Ok(Table {
+            sizes: *sizes,
+            words: vec![in alloc; 0; count_words(sizes)]?,
+        })
+    }
+
     /// The word at a place; 0 where the table hasn't got it.
     pub(crate) fn load(&self, place: &Place) -> u64
         ensures { result ≡ shown self.now.sizes self.now.words.items place.now }

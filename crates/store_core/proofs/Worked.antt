@@ -1,0 +1,23 @@
+-- The worked runs, computed.
+use Rattle.std.proofs.Common.{refl}
+use Rattle.hash_buckets.specs.Hash.{hash_of, bucket_of}
+use Rattle.store_core.specs.Worked.{RaceFinds, LostMakes, SweepKeeps, UseDoubles, WornAtLast}
+
+pub race_finds : RaceFinds
+unfolding hash_of bucket_of
+race_finds = record { winner = refl; loser = refl }
+
+pub lost_makes : LostMakes
+unfolding hash_of bucket_of
+lost_makes = record { winner = refl; loser = refl }
+
+pub sweep_keeps : SweepKeeps
+unfolding hash_of bucket_of
+sweep_keeps = record { collector = refl; other = refl }
+
+pub use_doubles : UseDoubles
+use_doubles = record { first = refl; second = refl; third = refl }
+
+pub worn_at_last : WornAtLast
+unfolding hash_of bucket_of
+worn_at_last = record { at_once = refl; none = refl; once = refl; then_worn = refl }

@@ -1,0 +1,11 @@
+use Rattle.store_core.proofs.Ends.{collection_keeps_reached, worn_is_exact, worn_changes_nothing}
+use Rattle.store_core.proofs.law.collections_end.Goals as goal
+
+pub returns-clause-kept : goal.returns-clause-kept
+returns-clause-kept c = collection_keeps_reached
+
+pub returns-clause-worn : goal.returns-clause-worn
+returns-clause-worn c = worn_is_exact
+
+pub returns-clause-unchanged : goal.returns-clause-unchanged
+returns-clause-unchanged c = worn_changes_nothing

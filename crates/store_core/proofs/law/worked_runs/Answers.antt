@@ -1,0 +1,17 @@
+use Rattle.store_core.proofs.Worked.{race_finds, lost_makes, sweep_keeps, use_doubles, worn_at_last}
+use Rattle.store_core.proofs.law.worked_runs.Goals as goal
+
+pub returns-clause-race : goal.returns-clause-race
+returns-clause-race c = race_finds
+
+pub returns-clause-lost : goal.returns-clause-lost
+returns-clause-lost c = lost_makes
+
+pub returns-clause-sweep : goal.returns-clause-sweep
+returns-clause-sweep c = sweep_keeps
+
+pub returns-clause-doubles : goal.returns-clause-doubles
+returns-clause-doubles c = use_doubles
+
+pub returns-clause-worn : goal.returns-clause-worn
+returns-clause-worn c = worn_at_last

@@ -1,0 +1,139 @@
+-- Worked runs, which the definitions compute.
+use Rattle.std.specs.Prelude.{◌≡◌, ℕ, ◌-◌, ◌^◌, List, [], ◌∷◌, replicate}
+use Rattle.term_model.specs.declared.Head.{Head}
+use Rattle.term_model.specs.declared.Head.TheVariants.{App}
+use Rattle.lock_core.specs.declared.parts.LockStep.TheVariants.{Raise, Look, Lower, Take, Ask, Peek, Unask, Give}
+use Rattle.history_core.specs.declared.entry.Entry.{Entry}
+use Rattle.history_core.specs.declared.entry.Entry.TheVariants.{Make, Find, Roots, Collect}
+use Rattle.store_core.specs.Words.{Place, Base, FreeCount, Claim, InUse, FreePlace, Bucket, RowWord, Birth, Next, RootCount, Root}
+use Rattle.store_core.specs.Calls.{Content, Call, Idle}
+use Rattle.store_core.specs.Machine.{Sizes, State}
+use Rattle.store_core.specs.Steps.{grown_use}
+use Rattle.store_core.specs.Runs.{at_start}
+use Rattle.store_core.specs.StoreSteps.{after}
+use Rattle.store_core.specs.declared.step.StoreStep.{StoreStep}
+use Rattle.store_core.specs.declared.step.StoreStep.TheVariants.{Lock, LoadBase, LoadFreeCount, LoadClaim, LoadInUse, Draw, LoadFreePlace, StoreDrawn, LoadBucket, LoadRow, Publish, StoreRoot, StoreRootCount, LoadAny, StoreBucket, StoreFreePlace, StoreFreeCount, StoreBase, StoreClaim}
+
+-- the words of a new store
+abbrev pub first_words : Sizes → Place → ℕ
+first_words z Base = z.first
+first_words z FreeCount = z.rows
+first_words z InUse = z.start
+first_words z (FreePlace i) = i
+first_words z p = 0
+
+abbrev pub ran : Sizes → State → List (ℕ × StoreStep) → State
+ran z s [] = s
+ran z s (x ∷ xs) = ran z (after z s x.0 x.1) xs
+
+abbrev pub run_of : Sizes → List (ℕ × StoreStep) → State
+run_of z xs = ran z (at_start z (first_words z)) xs
+
+-- the entries of seat i after a run
+abbrev pub notes : Sizes → List (ℕ × StoreStep) → ℕ → List Entry
+notes z xs i = ((run_of z xs).view i).entries
+
+-- the constant of the symbol f, and its head
+abbrev pub symbol : ℕ → Head
+symbol f = App record { 0 = f }
+
+abbrev pub constant : ℕ → Content
+constant f = record { head = symbol f; arguments = [] }
+
+-- two seats, two rows, one bucket
+abbrev pub small : Sizes
+small = record { rows = 2; buckets = 1; start = 1; seats = 2; depth = 4; arity = 2; first = 1 }
+
+-- two seats race to make the same constant
+abbrev pub race : List (ℕ × StoreStep)
+race =
+    (0, Lock Raise) ∷ (0, Lock Look) ∷ (0, LoadBase) ∷ (0, LoadInUse) ∷ (1, Lock Raise) ∷ (1, Lock Look)
+    ∷ (1, LoadBase) ∷ (1, LoadInUse) ∷ (0, LoadBucket 0 (constant 0)) ∷ (1, LoadBucket 0 (constant 0)) ∷ (0, LoadClaim) ∷ (0, LoadFreeCount)
+    ∷ (0, Draw) ∷ (0, LoadFreePlace 0) ∷ (0, StoreDrawn 0 0 0) ∷ (0, StoreDrawn 0 1 0) ∷ (0, StoreDrawn 0 4 1) ∷ (0, StoreDrawn 0 5 0)
+    ∷ (1, LoadClaim) ∷ (1, LoadFreeCount) ∷ (1, Draw) ∷ (1, LoadFreePlace 1) ∷ (1, StoreDrawn 1 0 0) ∷ (1, StoreDrawn 1 1 0)
+    ∷ (1, StoreDrawn 1 4 2) ∷ (1, StoreDrawn 1 5 0) ∷ (0, Publish 0 0 1) ∷ (1, Publish 0 0 2) ∷ (1, LoadRow 0 0) ∷ (1, LoadRow 0 1)
+    ∷ (1, LoadRow 0 4) ∷ (0, Lock Lower) ∷ (1, Lock Lower) ∷ []
+
+-- One makes it; the other loses its exchange, and finds it in the new part of the chain. Its number 2 stays unused.
+pub record RaceFinds : Type 0 where
+  pub winner : notes small race 0 ≡ Make 1 (symbol 0) [] 0 ∷ Roots 1 [] ∷ []
+  pub loser : notes small race 1 ≡ Find 1 (symbol 0) [] 0 ∷ Roots 1 [] ∷ []
+
+-- two seats race to make two constants
+abbrev pub both : List (ℕ × StoreStep)
+both =
+    (0, Lock Raise) ∷ (0, Lock Look) ∷ (0, LoadBase) ∷ (0, LoadInUse) ∷ (1, Lock Raise) ∷ (1, Lock Look)
+    ∷ (1, LoadBase) ∷ (1, LoadInUse) ∷ (0, LoadBucket 0 (constant 0)) ∷ (1, LoadBucket 0 (constant 1)) ∷ (0, LoadClaim) ∷ (0, LoadFreeCount)
+    ∷ (0, Draw) ∷ (0, LoadFreePlace 0) ∷ (0, StoreDrawn 0 0 0) ∷ (0, StoreDrawn 0 1 0) ∷ (0, StoreDrawn 0 4 1) ∷ (0, StoreDrawn 0 5 0)
+    ∷ (1, LoadClaim) ∷ (1, LoadFreeCount) ∷ (1, Draw) ∷ (1, LoadFreePlace 1) ∷ (1, StoreDrawn 1 0 1) ∷ (1, StoreDrawn 1 1 0)
+    ∷ (1, StoreDrawn 1 4 2) ∷ (1, StoreDrawn 1 5 0) ∷ (0, Publish 0 0 1) ∷ (1, Publish 0 0 2) ∷ (1, LoadRow 0 0) ∷ (1, LoadRow 0 5)
+    ∷ (1, StoreDrawn 1 5 1) ∷ (1, Publish 0 1 2) ∷ (0, Lock Lower) ∷ (1, Lock Lower) ∷ []
+
+-- The exchange that was lost walks the new part of the chain, which lacks the tree, and makes its row in front of it.
+pub record LostMakes : Type 0 where
+  pub winner : notes small both 0 ≡ Make 1 (symbol 0) [] 0 ∷ Roots 1 [] ∷ []
+  pub loser : notes small both 1 ≡ Make 2 (symbol 1) [] 1 ∷ Roots 2 [] ∷ []
+
+-- two seats, four rows, one bucket
+abbrev pub rooms : Sizes
+rooms = record { rows = 4; buckets = 1; start = 1; seats = 2; depth = 1; arity = 2; first = 1 }
+
+-- each seat protects a constant; a third constant is made; seat 0 collects
+abbrev pub sweep : List (ℕ × StoreStep)
+sweep =
+    (0, Lock Raise) ∷ (0, Lock Look) ∷ (0, LoadBase) ∷ (0, LoadInUse) ∷ (0, LoadBucket 0 (constant 0)) ∷ (0, LoadClaim)
+    ∷ (0, LoadFreeCount) ∷ (0, Draw) ∷ (0, LoadFreePlace 0) ∷ (0, StoreDrawn 0 0 0) ∷ (0, StoreDrawn 0 1 0) ∷ (0, StoreDrawn 0 4 1)
+    ∷ (0, StoreDrawn 0 5 0) ∷ (0, Publish 0 0 1) ∷ (0, StoreRoot 0 0) ∷ (0, StoreRootCount 1) ∷ (0, Lock Lower) ∷ (1, Lock Raise)
+    ∷ (1, Lock Look) ∷ (1, LoadBase) ∷ (1, LoadInUse) ∷ (1, LoadBucket 0 (constant 1)) ∷ (1, LoadRow 0 0) ∷ (1, LoadRow 0 5)
+    ∷ (1, LoadClaim) ∷ (1, LoadFreeCount) ∷ (1, Draw) ∷ (1, LoadFreePlace 1) ∷ (1, StoreDrawn 1 0 1) ∷ (1, StoreDrawn 1 1 0)
+    ∷ (1, StoreDrawn 1 4 2) ∷ (1, StoreDrawn 1 5 1) ∷ (1, Publish 0 1 2) ∷ (1, StoreRoot 0 1) ∷ (1, StoreRootCount 1) ∷ (1, LoadBucket 0 (constant 2))
+    ∷ (1, LoadRow 1 0) ∷ (1, LoadRow 1 5) ∷ (1, LoadRow 0 0) ∷ (1, LoadRow 0 5) ∷ (1, LoadClaim) ∷ (1, LoadFreeCount)
+    ∷ (1, Draw) ∷ (1, LoadFreePlace 2) ∷ (1, StoreDrawn 2 0 2) ∷ (1, StoreDrawn 2 1 0) ∷ (1, StoreDrawn 2 4 3) ∷ (1, StoreDrawn 2 5 2)
+    ∷ (1, Publish 0 2 3) ∷ (1, Lock Lower) ∷ (0, Lock Take) ∷ (0, Lock (Ask 1)) ∷ (0, Lock (Peek 1)) ∷ (0, LoadBase)
+    ∷ (0, LoadInUse) ∷ (0, LoadAny Base) ∷ (0, LoadAny Claim) ∷ (0, LoadAny FreeCount) ∷ (0, LoadAny InUse) ∷ (0, LoadAny (FreePlace 0))
+    ∷ (0, LoadAny (FreePlace 1)) ∷ (0, LoadAny (FreePlace 2)) ∷ (0, LoadAny (FreePlace 3)) ∷ (0, LoadAny (Bucket 0)) ∷ (0, LoadAny (RowWord 0 0)) ∷ (0, LoadAny (RowWord 0 1))
+    ∷ (0, LoadAny (RowWord 0 2)) ∷ (0, LoadAny (RowWord 0 3)) ∷ (0, LoadAny (Birth 0)) ∷ (0, LoadAny (Next 0)) ∷ (0, LoadAny (RowWord 1 0)) ∷ (0, LoadAny (RowWord 1 1))
+    ∷ (0, LoadAny (RowWord 1 2)) ∷ (0, LoadAny (RowWord 1 3)) ∷ (0, LoadAny (Birth 1)) ∷ (0, LoadAny (Next 1)) ∷ (0, LoadAny (RowWord 2 0)) ∷ (0, LoadAny (RowWord 2 1))
+    ∷ (0, LoadAny (RowWord 2 2)) ∷ (0, LoadAny (RowWord 2 3)) ∷ (0, LoadAny (Birth 2)) ∷ (0, LoadAny (Next 2)) ∷ (0, LoadAny (RowWord 3 0)) ∷ (0, LoadAny (RowWord 3 1))
+    ∷ (0, LoadAny (RowWord 3 2)) ∷ (0, LoadAny (RowWord 3 3)) ∷ (0, LoadAny (Birth 3)) ∷ (0, LoadAny (Next 3)) ∷ (0, LoadAny (RootCount 0)) ∷ (0, LoadAny (RootCount 1))
+    ∷ (0, LoadAny (Root 0 0)) ∷ (0, LoadAny (Root 1 0)) ∷ (0, StoreBucket 0 2) ∷ (0, StoreFreePlace 0 2) ∷ (0, StoreFreePlace 1 3) ∷ (0, StoreFreeCount 2)
+    ∷ (0, StoreBase 5) ∷ (0, StoreClaim 0) ∷ (0, Lock (Unask 1)) ∷ (0, Lock Give) ∷ []
+
+-- The collection keeps both protected rows under their names, and not the third.
+pub record SweepKeeps : Type 0 where
+  pub collector : notes rooms sweep 0 ≡ Make 1 (symbol 0) [] 0 ∷ Roots 1 (0 ∷ []) ∷ Collect 4 (0 ∷ 1 ∷ []) ∷ Roots 4 (0 ∷ []) ∷ []
+  pub other : notes rooms sweep 1 ≡ Make 2 (symbol 1) [] 1 ∷ Make 3 (symbol 2) [] 2 ∷ Roots 3 (1 ∷ []) ∷ []
+
+-- four rows and four buckets, of which one is in use at first
+abbrev pub growing : Sizes
+growing = record { rows = 4; buckets = 4; start = 1; seats = 1; depth = 2; arity = 2; first = 1 }
+
+-- With two live rows the buckets in use go from 1 to 2, then to 4, and stay.
+pub record UseDoubles : Type 0 where
+  pub first : grown_use growing 1 2 ≡ 2
+  pub second : grown_use growing 2 2 ≡ 4
+  pub third : grown_use growing 4 2 ≡ 4
+
+-- one seat and two rows: a new epoch needs 5 numbers
+abbrev pub late : ℕ → Sizes
+late first = record { rows = 2; buckets = 1; start = 1; seats = 1; depth = 0; arity = 2; first = first }
+
+abbrev pub begins_to_collect : List (ℕ × StoreStep)
+begins_to_collect =
+    (0, Lock Take) ∷ (0, LoadBase) ∷ (0, LoadInUse) ∷ (0, LoadAny Base) ∷ (0, LoadAny Claim) ∷ (0, LoadAny FreeCount) ∷ []
+
+-- and a whole collection of an empty store, after which another begins
+abbrev pub collects_twice : List (ℕ × StoreStep)
+collects_twice =
+    (0, Lock Take) ∷ (0, LoadBase) ∷ (0, LoadInUse) ∷ (0, LoadAny Base) ∷ (0, LoadAny Claim) ∷ (0, LoadAny FreeCount)
+    ∷ (0, LoadAny InUse) ∷ (0, LoadAny (FreePlace 0)) ∷ (0, LoadAny (FreePlace 1)) ∷ (0, LoadAny (Bucket 0)) ∷ (0, LoadAny (RowWord 0 0)) ∷ (0, LoadAny (RowWord 0 1))
+    ∷ (0, LoadAny (RowWord 0 2)) ∷ (0, LoadAny (RowWord 0 3)) ∷ (0, LoadAny (Birth 0)) ∷ (0, LoadAny (Next 0)) ∷ (0, LoadAny (RowWord 1 0)) ∷ (0, LoadAny (RowWord 1 1))
+    ∷ (0, LoadAny (RowWord 1 2)) ∷ (0, LoadAny (RowWord 1 3)) ∷ (0, LoadAny (Birth 1)) ∷ (0, LoadAny (Next 1)) ∷ (0, LoadAny (RootCount 0)) ∷ (0, StoreBase (2 ^ 62 - 4))
+    ∷ (0, StoreClaim 0) ∷ (0, LoadAny Base) ∷ (0, LoadAny Claim) ∷ (0, LoadAny FreeCount) ∷ []
+
+-- With the first base at 2 ^ 62 - 4 a collection is Worn; one lower it has the number 2 ^ 62 - 5, and the next is Worn.
+pub record WornAtLast : Type 0 where
+  pub at_once : ((run_of (late (2 ^ 62 - 4)) begins_to_collect).view 0).call ≡ Idle
+  pub none : notes (late (2 ^ 62 - 4)) begins_to_collect 0 ≡ []
+  pub once : notes (late (2 ^ 62 - 5)) collects_twice 0 ≡ Collect (2 ^ 62 - 5) [] ∷ []
+  pub then_worn : ((run_of (late (2 ^ 62 - 5)) collects_twice).view 0).call ≡ Idle
