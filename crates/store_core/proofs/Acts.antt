@@ -1,7 +1,6 @@
 -- The acts of a creation are its actions.
-use Rattle.std.proofs.Common.{◌≡◌, ℕ, suc, cond, eqb, refl}
-use Rattle.store_core.specs.Words.{Place, Base, Claim}
-use Rattle.store_core.specs.Calls.{Call, Idle, Comparing, Passing, Finding, Ended, Counting, Drawing, Placing, Filling, Numbering, Linking, Publishing, Loading, Storing, View}
+use Rattle.std.proofs.Common.{◌≡◌, ℕ, refl}
+use Rattle.store_core.specs.Calls.{Call, Idle, View}
 use Rattle.store_core.specs.Machine.{action}
 use Rattle.store_core.specs.StoreSteps.{act}
 use Rattle.store_core.specs.Laws.{act_place, act_written, ActsAreActions}

@@ -1,5 +1,5 @@
 -- What the words say at the end of a collection, of the rows that were live.
-use Rattle.std.proofs.Common.{Option, None, Some, ◌+◌, ◌≤◌, ◌^◌, ltb-false, ◌≡◌, ℕ, suc, ◌<◌, true, false, List, [], ◌∷◌, length, get_or, refl, sym, ap, ◌∙◌, subst, ⊎_elim, arith}
+use Rattle.std.proofs.Common.{Option, Some, ◌+◌, ◌≤◌, ◌^◌, ltb-false, ◌≡◌, ℕ, suc, ◌<◌, true, false, List, [], ◌∷◌, length, get_or, refl, sym, ap, ◌∙◌, subst, ⊎_elim, arith}
 use Rattle.term_model.specs.declared.Head.{Head}
 use Rattle.term_model.specs.declared.Head.TheVariants.{App, Int, Nil, Cons}
 use Rattle.store_core.specs.Words.{Place, same_place, Base, FreeCount, Claim, InUse, RowWord, Birth, RootCount, Root, write, row_at}

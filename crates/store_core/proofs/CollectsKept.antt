@@ -54,7 +54,7 @@ module _ (z : Sizes) (s : State) (k : CoreHolds z s) (i : ℕ) (alone : IsExclus
   others_calm j ne = not_true (is_collecting (s.view j).call) (λ c. alone_in s.lock k.holds.lock.sound j i (k.under.alone j c) (λ e. ne (sym e)) (inl (inr alone)))
 
   -- where the seat itself hasn't stored
-  words_still : is_storing (s.view i).call ≡ false → s.words ≡ k.kept
+  pub words_still : is_storing (s.view i).call ≡ false → s.words ≡ k.kept
   words_still own = k.under.calm (λ j. dite (ℕ_discrete j i) (λ e. ap (λ (q : ℕ). is_storing (s.view q).call) e ∙ own) (λ ne. stores_collects (s.view j).call (others_calm j ne)))
 
   pub load_kept : (p : Place) (y : Call) → index y ≡ None → SeatWalks k.kept k.meaning (with_call (s.view i) y) → RowDrawn k.kept k.meaning (with_call (s.view i) y) → HasRead (k.kept Base) (k.kept FreeCount) (k.kept Claim) (s.view i).overdraw y → Where (wanted y) (MayWant k.kept k.meaning (s.view i).seen)

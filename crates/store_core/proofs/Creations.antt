@@ -1,22 +1,17 @@
 -- How a creation ends, and that its row has the asked tree.
-use Rattle.std.proofs.Common.{◌≡◌, ◌≢◌, ◌⊎◌, ℕ, zero, suc, pred, ◌+◌, ◌<◌, eqb, Bool, true, false, cond, Option, None, Some, List, [], ◌∷◌, ◌++◌, length, get_or, refl, sym, ap, ◌∙◌, subst, inl, inr, arith, ne_eqb, max}
+use Rattle.std.proofs.Common.{◌≡◌, ◌≢◌, ◌⊎◌, ℕ, zero, suc, pred, ◌+◌, ◌<◌, eqb, true, Option, None, Some, List, [], ◌∷◌, ◌++◌, length, get_or, refl, sym, ap, ◌∙◌, subst, inl, inr, arith, max}
 use Rattle.std.specs.Prelude.{nat_lt}
-use Rattle.history_core.specs.declared.entry.Entry.{Entry}
 use Rattle.history_core.specs.declared.entry.Entry.TheVariants.{Make, Find}
 use Rattle.history_core.specs.TermSet.{Names}
-use Rattle.history_core.specs.Chronicle.{set_of}
-use Rattle.store_core.specs.Words.{Place, Base, RowWord, row_at}
-use Rattle.store_core.specs.Calls.{Content, words_of, IsOver, Call, Idle, Comparing, Passing, Finding, Ended, Counting, Drawing, Placing, Filling, Numbering, Linking, Publishing, Loading, Storing, Away, Ready, KnownWord, View}
-use Rattle.store_core.specs.Machine.{Sizes, State, Each, IsCreation, action, with_call, with_path, gained, refusing, overdrawn, arrived, compared, filled, passing, words_known}
+use Rattle.store_core.specs.Words.{Place, RowWord, row_at}
+use Rattle.store_core.specs.Calls.{Content, words_of, Call, Idle, Comparing, Passing, Finding, Ended, Counting, Drawing, Placing, Filling, Numbering, Linking, Publishing, Loading, Storing, Away, Ready, View}
+use Rattle.store_core.specs.Machine.{State, Each, IsCreation, action, with_call, with_path, gained, refusing, overdrawn, arrived, compared, passing, words_known}
 use Rattle.store_core.specs.Meaning.{Meaning, Matches, IsOlder, grown}
 use Rattle.store_core.specs.Seats.{wanted, IsSeen, IsKnown, MayWant}
-use Rattle.store_core.specs.Invariant.{names_of}
 use Rattle.store_core.specs.StoreSteps as steps
 use Rattle.store_core.specs.StoreSteps.{IsInPlace, meant}
-use Rattle.store_core.specs.declared.step.StoreStep.{StoreStep}
-use Rattle.store_core.specs.HistoryMatches.{history_of}
 use Rattle.store_core.specs.StoreHolds.{StoreHolds}
-use Rattle.store_core.specs.Laws.{IsEntryOf, made, found, EndsWithRow, EndsFull, CreationEnds, RefusalsHaveCause, HoldsTree, RowIsAsked}
+use Rattle.store_core.specs.Laws.{made, found, EndsWithRow, EndsFull, CreationEnds, RefusalsHaveCause, HoldsTree, RowIsAsked}
 use Rattle.store_core.proofs.Basics.{choose, where_at, each_map, each_left}
 use Rattle.store_core.proofs.Histories.{content_once, live_held}
 use Rattle.store_core.proofs.Noting.{tree_is}

@@ -1,36 +1,34 @@
 -- The eight facts follow from those that each step keeps.
-use Rattle.std.proofs.Common.{◌≡◌, ◌≢◌, ◌⊎◌, ℕ, zero, suc, ◌+◌, ◌<◌, ◌≤◌, eqb, Bool, true, false, Option, None, Some, List, [], ◌∷◌, ◌++◌, refl, sym, ap, ◌∙◌, subst, ⊎_elim, inl, inr, arith, true≢false, append_assoc}
+use Rattle.std.proofs.Common.{◌≡◌, ◌≢◌, ◌⊎◌, ℕ, zero, suc, ◌<◌, ◌≤◌, Bool, true, false, Option, None, Some, List, [], ◌∷◌, ◌++◌, refl, sym, ap, ◌∙◌, subst, ⊎_elim, inl, inr, arith, true≢false}
 use Rattle.std.specs.Prelude.{◌&&◌}
 use Rattle.std.proofs.lemmas.Bool.{cases_lt}
 use mathlib.Core.Logic.{dite}
 use native.Mathlib.Decide.{ℕ_discrete}
-use Rattle.term_model.specs.declared.Head.{Head}
-use Rattle.term_model.specs.Tree.{Tree, Node, is_well_formed, may_stand_over}
+use Rattle.term_model.specs.Tree.{Tree, is_well_formed, may_stand_over}
 use Rattle.lock_core.specs.declared.parts.Phase.TheVariants as phase
 use Rattle.lock_core.specs.Lock.{seat_of}
 use Rattle.history_core.specs.TermSet.{empty}
 use Rattle.history_core.specs.Chronicle.{chronicle, set_of, entries_of, NeverFalls, last_roots}
 use Rattle.history_core.proofs.Own.{own_order_stays, roots_are_last}
 use Rattle.history_core.proofs.Sound.{legal_is_sound}
-use Rattle.store_core.specs.Words.{Place, Base, FreeCount, Claim, InUse, FreePlace, Bucket, Birth, RowWords, row_at}
-use Rattle.store_core.specs.Calls.{Content, bucket, Call, Idle, Comparing, Passing, Finding, Ended, Counting, Drawing, Placing, Filling, Numbering, Linking, Publishing, Loading, Storing, Ready, View}
-use Rattle.store_core.specs.Machine.{Sizes, State, Each, In, Granted, with_call}
-use Rattle.store_core.specs.Meaning.{Meaning, Matches, Linked, Stands, IsOlder, grown, trees_at}
-use Rattle.store_core.specs.Seats.{Where, index, drawn, wanted, Lacks, Walks, Walked, IsWalk, HoldsRow, IsDrawn, IsSeen, MayWant, HasRead, SeatHolds}
-use Rattle.store_core.specs.Invariant.{listed, names_of, ChainsHold, Holds}
-use Rattle.store_core.specs.Steps.{is_storing, is_collecting, CoreHolds}
+use Rattle.store_core.specs.Words.{Place, Base, FreeCount, Claim, InUse, FreePlace, Bucket, row_at}
+use Rattle.store_core.specs.Calls.{Content, bucket, Call, Comparing, Passing, Ended, Counting, Drawing, Placing, Filling, Numbering, Linking, Publishing}
+use Rattle.store_core.specs.Machine.{Sizes, State, Each, Granted}
+use Rattle.store_core.specs.Meaning.{Meaning, Matches, Linked, Stands, grown, trees_at}
+use Rattle.store_core.specs.Seats.{Where, index, drawn, wanted, Lacks, Walks, Walked, IsWalk, HoldsRow, IsSeen, MayWant, HasRead}
+use Rattle.store_core.specs.Invariant.{listed, ChainsHold, Holds}
+use Rattle.store_core.specs.Steps.{CoreHolds}
 use Rattle.store_core.specs.Runs.{Inductive}
-use Rattle.store_core.specs.RowsPartitioned.{IsAt, IsFree, IsDrawnRow, IsUnused, IsOneOf}
+use Rattle.store_core.specs.RowsPartitioned.{IsAt, IsOneOf}
 use Rattle.store_core.specs.WalksCurrent.{HasWalked, HasEnded, IsCurrent, IsShort}
 use Rattle.store_core.specs.NumbersBounded.{CountIs, ReadFull}
-use Rattle.store_core.specs.StoreHolds.{Strengthened, StoreHolds}
+use Rattle.store_core.specs.StoreHolds.{StoreHolds}
 use Rattle.store_core.proofs.Basics.{where_at, where_map, each_map, each_in, each_left, each_right, each_both}
 use Rattle.store_core.proofs.Histories.{listed_at, live_held}
 use Rattle.store_core.proofs.Publishes.{content_is}
-use Rattle.store_core.proofs.Fills.{index_drawn}
 use Rattle.store_core.proofs.Chains.{linked_right}
 use Rattle.store_core.proofs.Short.{distinct, chain_few, walks_few, walked_few}
-use Rattle.store_core.proofs.Locks.{is_in, alone_in}
+use Rattle.store_core.proofs.Locks.{alone_in}
 
 -- where a row lacks the words of c, it lacks its tree
 lacks_tree : (z : Sizes) (w : Place → ℕ) (m : Meaning) → ChainsHold z w m → (c : Content) → Each (λ r. m.live r ≡ true) c.arguments → (q : ℕ) → m.live q ≡ true → Lacks (row_at w) c q → m.tree q ≢ grown m.tree c
@@ -266,8 +264,9 @@ eight z s k =
       strengthened = record { holds = h; under = under; bases = bases; fresh = k.core.fresh; remembers = k.remembers };
     }
 
+-- the form that each step is shown to keep
+abbrev pub core_of : (z : Sizes) (s : State) → StoreHolds z s → CoreHolds z s
+core_of z s k = record { meaning = k.meaning; kept = k.began; holds = k.strengthened.holds; under = k.strengthened.under; bases = k.strengthened.bases; fresh = k.strengthened.fresh }
+
 pub inductive : (z : Sizes) (s : State) → StoreHolds z s → Inductive z s
-inductive z s k = let a = k.strengthened in record {
-  core = record { meaning = k.meaning; kept = k.began; holds = a.holds; under = a.under; bases = a.bases; fresh = a.fresh };
-  remembers = a.remembers;
-}
+inductive z s k = record { core = core_of z s k; remembers = k.strengthened.remembers }

@@ -1,17 +1,18 @@
 -- When a collection ends with Worn, and what one that ends keeps.
-use Rattle.std.proofs.Common.{◌≡◌, ◌≢◌, ℕ, ◌+◌, ◌<◌, ◌^◌, Bool, true, false, cond, Option, None, Some, List, [], ◌∷◌, ◌++◌, refl, sym, ap, ◌∙◌, subst, arith, ltb-true, ltb-false, true≢false}
+use Rattle.std.proofs.Common.{◌≡◌, ◌≢◌, ℕ, ◌+◌, ◌<◌, ◌^◌, Bool, true, false, cond, Option, None, Some, List, [], ◌∷◌, ◌++◌, refl, sym, ap, ◌∙◌, arith, ltb-true, ltb-false, true≢false, length}
 use Rattle.std.specs.Prelude.{nat_lt}
-use Rattle.store_core.specs.Words.{Place, Base, FreeCount, Claim, write}
+use Rattle.store_core.specs.Words.{Place, InUse, Base, FreeCount, Claim}
 use Rattle.store_core.specs.Calls.{Call, Idle, Loading, View}
 use Rattle.store_core.specs.Machine as machine
 use Rattle.store_core.specs.Machine.{Sizes, State, Step, LockAlone, LowerShared, UnaskSeat, GiveGranted, Begin, Go, StoreCount, ReadWord, ReadArgument, StoreAny, with_call}
 use Rattle.store_core.specs.Invariant.{span}
 use Rattle.store_core.specs.Steps as steps
-use Rattle.store_core.specs.Steps.{loads, value_at, is_worn, worn_by, loading, names_left, ReachesByWords}
+use Rattle.store_core.specs.Steps.{loads, grown_use, value_at, is_worn, worn_by, loading, names_left, ReachesByWords}
 use Rattle.store_core.specs.StoreSteps.{meant}
-use Rattle.store_core.specs.Laws.{OthersStay, IsWorn, WornIsExact, WornChangesNothing, CollectionKeepsReached}
+use Rattle.store_core.specs.Laws.{CollectionGrowsUse, OthersStay, IsWorn, WornChangesNothing, CollectionKeepsReached}
 use Rattle.store_core.proofs.Basics.{choose, put_same, put_other, write_same}
 use Rattle.store_core.proofs.NamesLeft.{names_kept}
+use Rattle.store_core.proofs.ByWords.{value_is}
 
 stays : (z : Sizes) (s : State) (i j : ℕ) (x : Step) → j ≢ i → (steps.after z s i x).view j ≡ s.view j
 stays z s i j (LockAlone x) ne = refl
@@ -45,11 +46,11 @@ module _ (z : Sizes) (s : State) (i : ℕ) (p : Place) where
   worn_is_exact =
       let here : ((steps.after z s i (machine.LoadAny p)).view i).call ≡ loading z ls = ap (λ (v : View). v.call) (put_same s.view i (with_call (s.view i) (loading z ls))) in (
         (λ idle. let t = worn_true z (value_at Base ls) (value_at Claim ls) (value_at FreeCount ls) (ends_worn z ls (sym here ∙ idle)) in
-        record { base = t.0; claim = t.1; count = t.2; base_loaded = t.3; claim_loaded = t.4; count_loaded = t.5; no_room = t.6 }),
+            record { base = t.0; claim = t.1; count = t.2; base_loaded = t.3; claim_loaded = t.4; count_loaded = t.5; no_room = t.6 }),
         λ k.
-        let worn : worn_by z ls ≡ true = ap (λ (o : Option ℕ). is_worn z o (value_at Claim ls) (value_at FreeCount ls)) k.base_loaded
-        ∙ (ap (λ (o : Option ℕ). is_worn z (Some k.base) o (value_at FreeCount ls)) k.claim_loaded ∙ (ap (is_worn z (Some k.base) (Some k.claim)) k.count_loaded ∙ is_less (2 ^ 62) (k.base + k.claim + 1 + span z) k.no_room)) in
-        here ∙ ap (λ (b : Bool). cond b Idle (Loading ls)) worn,
+            let worn : worn_by z ls ≡ true = ap (λ (o : Option ℕ). is_worn z o (value_at Claim ls) (value_at FreeCount ls)) k.base_loaded
+            ∙ (ap (λ (o : Option ℕ). is_worn z (Some k.base) o (value_at FreeCount ls)) k.claim_loaded ∙ (ap (is_worn z (Some k.base) (Some k.claim)) k.count_loaded ∙ is_less (2 ^ 62) (k.base + k.claim + 1 + span z) k.no_room)) in
+            here ∙ ap (λ (b : Bool). cond b Idle (Loading ls)) worn,
       )
 
 pub worn_changes_nothing : WornChangesNothing
@@ -68,3 +69,9 @@ collection_keeps_reached z s i k ok =
       kept.ascending,
       λ r. ((λ c. (e.live r).0 ((kept.each r).0 c)), λ y. (kept.each r).1 ((e.live r).1 y)),
     )
+
+pub collection_grows_use : CollectionGrowsUse
+collection_grows_use z s i k ok =
+    let e = ok.step.permitted.1 in
+    let was : k.began InUse ≡ e.in_use = value_is k.began InUse e.in_use (loads (s.view i).call) (k.collection.loaded i) e.in_use_loaded in
+    e.in_use_is ∙ ap (λ (n : ℕ). grown_use z n (length (names_left z s.words))) (sym was)

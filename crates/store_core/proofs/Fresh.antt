@@ -1,14 +1,14 @@
 -- A creation after a collection, in the same exclusive access.
-use Rattle.std.proofs.Common.{◌≡◌, ◌≢◌, ◌⊎◌, ℕ, zero, suc, pred, ◌+◌, ◌<◌, ◌≤◌, eqb, Bool, true, false, cond, Option, None, Some, List, [], ◌∷◌, length, get_or, refl, sym, ap, ◌∙◌, subst, ⊎_elim, inl, inr, arith, ltb-false, eq-eqb, true≢false}
+use Rattle.std.proofs.Common.{◌≡◌, ℕ, suc, pred, ◌+◌, eqb, Bool, true, cond, Option, None, Some, List, [], length, get_or, refl, sym, ap, ◌∙◌, subst, ⊎_elim, inl, inr, arith, ltb-false, eq-eqb, true≢false}
 use Rattle.std.specs.Prelude.{nat_lt}
 use Rattle.std.proofs.lemmas.Bool.{cases_lt}
 use Rattle.lock_core.specs.Lock.{Lock}
 use Rattle.store_core.specs.Words.{Place, Base, FreeCount, Claim, InUse, FreePlace, Bucket, RowWord, Birth, Next, write}
-use Rattle.store_core.specs.Calls.{Content, words_of, bucket, Call, Idle, Comparing, Passing, Finding, Ended, Counting, Drawing, Placing, Filling, Numbering, Linking, Publishing, Loading, Storing, Passed, Ready, View}
-use Rattle.store_core.specs.Machine.{IsCreation, action, begins, arrived, ended, compared, filled, with_call, with_path, refusing, gained, overdrawn}
+use Rattle.store_core.specs.Calls.{Content, words_of, bucket, Call, Idle, Comparing, Passing, Finding, Ended, Counting, Drawing, Placing, Filling, Numbering, Linking, Publishing, Loading, Storing, Passed, View}
+use Rattle.store_core.specs.Machine.{IsCreation, action, arrived, ended, compared, with_call, with_path, refusing, gained, overdrawn}
 use Rattle.store_core.specs.Seats.{Where, index, index_in, HasRead}
 use Rattle.store_core.specs.Steps.{head_read, IsFirst, ReadNow, IsFresh}
-use Rattle.store_core.proofs.Basics.{choose, write_same, eqb_not}
+use Rattle.store_core.proofs.Basics.{choose, write_same}
 
 module _ (l : Lock) (w : Place → ℕ) (live next : ℕ → Bool) (grows : (r : ℕ) → live r ≡ true → next r ≡ true) (i : ℕ) (v : View) where
   -- another stage, with the same words

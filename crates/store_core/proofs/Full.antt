@@ -1,5 +1,5 @@
 -- What a Full means after a collection in the same access.
-use Rattle.std.proofs.Common.{◌≡◌, ◌≢◌, ◌⊎◌, ℕ, zero, suc, ◌<◌, ◌≤◌, true, false, List, sym, ap, ◌∙◌, subst, ⊎_elim, inl, inr, arith, true≢false}
+use Rattle.std.proofs.Common.{◌≡◌, ◌≢◌, ℕ, ◌<◌, ◌≤◌, true, sym, ◌∙◌, subst, ⊎_elim, arith, true≢false}
 use Rattle.std.proofs.lemmas.Bool.{cases_lt}
 use Rattle.store_core.specs.Words.{Place, FreeCount, Claim, InUse, FreePlace, Bucket, row_at}
 use Rattle.store_core.specs.Calls.{Content, bucket, Call, Counting}
@@ -8,8 +8,7 @@ use Rattle.store_core.specs.Meaning.{Meaning, Matches, Linked, grown}
 use Rattle.store_core.specs.Seats.{Lacks, Walked, IsSeen, SeatHolds}
 use Rattle.store_core.specs.Invariant.{RowsHold, ChainsHold}
 use Rattle.store_core.specs.Steps.{IsFresh}
-use Rattle.store_core.specs.StoreHolds.{StoreHolds}
-use Rattle.store_core.specs.Laws.{IsExactlyFull, FullIsExact}
+use Rattle.store_core.specs.Laws.{FullIsExact}
 use Rattle.store_core.proofs.Publishes.{content_is}
 use Rattle.store_core.proofs.Basics.{each_map, each_in}
 use Rattle.store_core.proofs.Chains.{linked_once}

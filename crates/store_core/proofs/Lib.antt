@@ -36,3 +36,5 @@ pub mod Creations
 pub mod Full
 pub mod Ends
 pub mod Worked
+pub mod Showing
+pub mod TreesKept

@@ -1,13 +1,13 @@
 -- A seat's own view has its words of protected rows: every step keeps that.
-use Rattle.std.proofs.Common.{◌≡◌, ◌≢◌, ◌⊎◌, ℕ, zero, suc, ◌<◌, ◌≤◌, eqb, Bool, true, false, cond, List, [], ◌∷◌, ◌++◌, length, get_or, set, take, drop, replicate, refl, sym, ap, ◌∙◌, subst, ap₂, arith, eq-eqb, ne_eqb, true≢false, get_or-set_same, get_or-set_other}
+use Rattle.std.proofs.Common.{◌≡◌, ℕ, zero, suc, ◌<◌, ◌≤◌, eqb, Bool, true, false, cond, List, [], ◌∷◌, ◌++◌, length, get_or, set, take, drop, replicate, refl, sym, ap, ◌∙◌, subst, ap₂, arith, eq-eqb, ne_eqb, true≢false, get_or-set_same, get_or-set_other}
 use Rattle.std.specs.Prelude.{nat_lt}
 use Rattle.std.proofs.Math.Seq.{take-suc}
 use Rattle.std.proofs.lemmas.List.{length-set, length-replicate, get_or-replicate}
 use mathlib.Core.Logic.{dite}
 use native.Mathlib.Decide.{ℕ_discrete}
-use Rattle.store_core.specs.Words.{Place, Base, FreeCount, Claim, InUse, FreePlace, Bucket, Next, RootCount, Root, write, put}
-use Rattle.store_core.specs.Calls.{Call, Idle, Comparing, Passing, Finding, Ended, Counting, Drawing, Placing, Filling, Numbering, Linking, Publishing, Loading, Storing, View}
-use Rattle.store_core.specs.Machine.{Sizes, State, Each, Step, LockAlone, LowerShared, UnaskSeat, GiveGranted, LoadBase, LoadInUse, Begin, Go, LoadRoot, StoreRoot, StoreCount, ReadWord, ReadArgument, LoadAny, StoreAny, StoreClaim, action, with_call, gained, refusing, overdrawn, arrived, rooted, root_counted, protected_in, roots_of}
+use Rattle.store_core.specs.Words.{Place, Base, Claim, InUse, Bucket, RootCount, Root, write, put}
+use Rattle.store_core.specs.Calls.{Call, Idle, Counting, Drawing, Placing, Publishing, View}
+use Rattle.store_core.specs.Machine.{Sizes, State, Each, Step, LockAlone, LowerShared, UnaskSeat, GiveGranted, LoadBase, LoadInUse, Begin, Go, LoadRoot, StoreRoot, StoreCount, ReadWord, ReadArgument, LoadAny, StoreAny, StoreClaim, action, with_call, gained, refusing, overdrawn, rooted, root_counted, protected_in, roots_of}
 use Rattle.store_core.specs.Seats.{RootsKnown}
 use Rattle.store_core.specs.Steps.{is_stored, InPlace, after}
 use Rattle.store_core.proofs.Basics.{choose, put_case, write_same, each_join}

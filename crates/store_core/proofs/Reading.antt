@@ -1,10 +1,10 @@
 -- What a view tells of what its seat has read stays true.
-use Rattle.std.proofs.Common.{◌≡◌, ◌≢◌, ℕ, zero, suc, pred, ◌<◌, eqb, Bool, true, false, cond, Option, None, Some, List, [], ◌∷◌, ◌++◌, length, get_or, refl, sym, ap, ◌∙◌, subst, arith, ltb-false, true≢false}
+use Rattle.std.proofs.Common.{◌≡◌, ◌≢◌, ℕ, zero, suc, pred, eqb, false, Option, None, Some, List, [], ◌∷◌, ◌++◌, length, get_or, refl, sym, ap, ◌∙◌, subst, arith, ltb-false}
 use Rattle.std.specs.Prelude.{nat_lt}
-use Rattle.store_core.specs.Words.{Place, Base, FreeCount, Claim, put}
-use Rattle.store_core.specs.Calls.{Content, words_of, Call, Idle, Comparing, Passing, Finding, Ended, Counting, Drawing, Placing, Filling, Numbering, Linking, Publishing, Loading, Storing, Passed, Refusal, View}
-use Rattle.store_core.specs.Machine.{Sizes, State, Each, Step, LockAlone, LowerShared, UnaskSeat, GiveGranted, LoadBase, LoadInUse, Begin, Go, LoadRoot, StoreRoot, StoreCount, ReadWord, ReadArgument, LoadAny, StoreAny, StoreClaim, IsCreation, action, with_call, with_path, gained, refusing, overdrawn, arrived, ended, compared, filled, passing, begins}
-use Rattle.store_core.specs.Steps.{loads, stores, is_collecting, worn_by, loading, MayStore, IsWhole, InPlace, after, newcomer}
+use Rattle.store_core.specs.Words.{Place, put}
+use Rattle.store_core.specs.Calls.{Content, words_of, Call, Idle, Comparing, Passing, Finding, Ended, Counting, Drawing, Placing, Filling, Numbering, Linking, Publishing, Loading, Storing, Passed, View}
+use Rattle.store_core.specs.Machine.{Sizes, State, Each, Step, LockAlone, LowerShared, UnaskSeat, GiveGranted, LoadBase, LoadInUse, Begin, Go, LoadRoot, StoreRoot, StoreCount, ReadWord, ReadArgument, LoadAny, StoreAny, StoreClaim, IsCreation, action, with_call, gained, refusing, overdrawn, arrived, compared, passing, begins}
+use Rattle.store_core.specs.Steps.{loads, is_collecting, worn_by, InPlace, after, newcomer}
 use Rattle.store_core.specs.Reads.{Differs, PathTo, HasPath, IsRefusal, ReadsSound}
 use Rattle.store_core.proofs.Basics.{choose, put_case, each_join, eqb_is, eqb_not}
 use Rattle.store_core.proofs.Chains.{has_words}

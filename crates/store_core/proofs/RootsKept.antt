@@ -3,7 +3,7 @@ use Rattle.std.proofs.Common.{◌≡◌, ◌≢◌, ◌⊎◌, ℕ, suc, ◌<◌
 use Rattle.std.specs.Prelude.{nat_lt}
 use Rattle.store_core.specs.Words.{Place, Base, RowWord, RootCount, Root, write, put}
 use Rattle.store_core.specs.Calls.{Call, Idle, Away, Ready, KnownWord, View}
-use Rattle.store_core.specs.Machine.{Sizes, State, Each, MayName, has_argument, with_call, with_got, knowing, rooted, root_counted, protected_in, roots_of, acted, load}
+use Rattle.store_core.specs.Machine.{Sizes, State, Each, MayName, has_argument, with_call, with_got, knowing, rooted, root_counted, protected_in, acted, load}
 use Rattle.store_core.specs.Meaning.{Meaning}
 use Rattle.store_core.specs.Seats.{Where, wanted, MayWant, index, IsSeen, IsKnown, RowDrawn, RootsKnown}
 use Rattle.store_core.specs.Invariant.{Holds, IsStoreSound}

@@ -1,5 +1,5 @@
 -- What a seat has under way, and what it keeps.
-use Rattle.std.specs.Prelude.{◌≡◌, ℕ, ◌%◌, ◌<◌, List, [], length}
+use Rattle.std.specs.Prelude.{◌≡◌, ℕ, ◌<◌, List, [], length}
 use Rattle.std.proofs.Common.{arith}
 use Rattle.hash_buckets.specs.Spelled.{spelled}
 use Rattle.hash_buckets.specs.Hash.{bucket_of}

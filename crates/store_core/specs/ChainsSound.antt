@@ -1,9 +1,9 @@
 -- The chains, and what a live row means.
-use Rattle.std.specs.Prelude.{◌≡◌, ◌≢◌, ℕ, ◌+◌, ◌<◌, ◌≤◌, Bool, true, List, ◌==◌}
+use Rattle.std.specs.Prelude.{◌≡◌, ℕ, ◌<◌, ◌≤◌, true, ◌==◌}
 use Rattle.std.specs.List.{IsDistinct}
-use Rattle.term_model.specs.Tree.{Tree, Node, may_stand_over}
+use Rattle.term_model.specs.Tree.{Node, may_stand_over}
 use Rattle.store_core.specs.Words.{Place, InUse, Bucket, row_at}
-use Rattle.store_core.specs.Calls.{Content, bucket}
+use Rattle.store_core.specs.Calls.{bucket}
 use Rattle.store_core.specs.Machine.{Sizes, Each, In}
 use Rattle.store_core.specs.Meaning.{Meaning, Matches, Linked, IsOlder, trees_at}
 

@@ -1,6 +1,5 @@
 -- The entries of all seats make one legal history, which leaves what the store has.
 use Rattle.std.specs.Prelude.{◌≡◌, ℕ, ◌<◌, []}
-use Rattle.history_core.specs.declared.entry.Entry.{Entry}
 use Rattle.history_core.specs.Chronicle.{History, chronicle, IsLegal, set_of, last_roots}
 use Rattle.store_core.specs.Calls.{View}
 use Rattle.store_core.specs.Machine.{Sizes}

@@ -1,17 +1,17 @@
 -- Laws of the machine.
-use Rattle.std.specs.Prelude.{◌≡◌, ◌≢◌, ◌⊎◌, ◌↔◌, ℕ, suc, ◌+◌, ◌*◌, ◌^◌, ◌<◌, ◌≤◌, ◌==◌, if◌then◌else◌, true, Some, List, [], ◌∷◌, ◌++◌, length, slice_set, Contains}
+use Rattle.std.specs.Prelude.{◌≡◌, ◌≢◌, ◌⊎◌, ◌↔◌, ℕ, suc, ◌+◌, ◌*◌, ◌^◌, ◌<◌, ◌≤◌, ◌==◌, if◌then◌else◌, true, Some, None, List, [], ◌∷◌, ◌++◌, length, slice_set, Contains}
 use Rattle.history_core.specs.declared.entry.Entry.{Entry}
 use Rattle.history_core.specs.declared.entry.Entry.TheVariants.{Make, Find}
 use Rattle.history_core.specs.Entry.{IsAscending}
 use Rattle.history_core.specs.TermSet.{Names, Holds, tree_over}
 use Rattle.history_core.specs.Chronicle.{set_of}
-use Rattle.store_core.specs.Words.{Place, Base, FreeCount, Claim, write}
+use Rattle.store_core.specs.Words.{Place, Base, FreeCount, Claim, InUse, write}
 use Rattle.store_core.specs.Calls.{Content, Call, Idle, Counting, Refusal, View, bucket}
-use Rattle.store_core.specs.Machine.{Sizes, State, Each, IsCreation, action, gained, with_call}
+use Rattle.store_core.specs.Machine.{Sizes, State, Each, IsCreation, action, gained, with_call, widest}
 use Rattle.store_core.specs.Meaning.{Meaning, grown}
 use Rattle.store_core.specs.Seats.{wanted}
 use Rattle.store_core.specs.Invariant.{span}
-use Rattle.store_core.specs.Steps.{loads, value_at, names_left, ReachesByWords}
+use Rattle.store_core.specs.Steps.{loads, value_at, names_left, grown_use, ReachesByWords}
 use Rattle.store_core.specs.Reads.{IsRefusal}
 use Rattle.store_core.specs.HistoryMatches.{history_of}
 use Rattle.store_core.specs.Runs.{AreSizes, StartsWith, at_start}
@@ -62,6 +62,10 @@ PlacesInside = (z : Sizes) (p : Place) → in_table z p ≡ true → (1 + 2 * z.
 
 abbrev pub PlacesApart : Type 0
 PlacesApart = (z : Sizes) (p q : Place) → in_table z p ≡ true → in_table z q ≡ true → index_of z p ≡ index_of z q → p ≡ q
+
+-- A table has so many words.
+abbrev pub TotalIs : Type 0
+TotalIs = (z : Sizes) → total z ≡ 5 + 2 * z.seats + z.rows + z.buckets + z.rows * (widest z + 4) + z.seats * (z.depth + 1)
 
 abbrev pub LockIsApart : Type 0
 LockIsApart = (z : Sizes) (words : List ℕ) (k n : ℕ) → k < 1 + 2 * z.seats → shown z (slice_set words k n) ≡ shown z words
@@ -140,6 +144,22 @@ WornChangesNothing = (z : Sizes) (s : State) (i : ℕ) (p : Place) → ((after z
 abbrev pub CollectionKeepsReached : Type 0
 CollectionKeepsReached = (z : Sizes) (s : State) (i : ℕ) → StoreHolds z s → IsInPlace z s i (StoreClaim 0)
     → IsAscending (names_left z s.words) × ((r : ℕ) → Contains (names_left z s.words) r ↔ ReachesByWords s.words r)
+
+-- The pairs that all entries leave
+abbrev pub held_by : Sizes → (ℕ → View) → Names
+held_by z view = (set_of (history_of z view)).held
+
+-- A collection leaves what is reached under its names with its trees, and nothing else.
+abbrev pub CollectionKeepsTrees : Type 0
+CollectionKeepsTrees = (z : Sizes) (s : State) (i r : ℕ) → StoreHolds z s → IsInPlace z s i (StoreClaim 0)
+    → (ReachesByWords s.words r → held_by z (after z s i (StoreClaim 0)).view r ≡ held_by z s.view r)
+    × ((ReachesByWords s.words r → ⊥) → held_by z (after z s i (StoreClaim 0)).view r ≡ None)
+
+-- The buckets in use are then the lesser of all buckets and twice those before, where twice the rows that stay exceed these, and else
+-- those before.
+abbrev pub CollectionGrowsUse : Type 0
+CollectionGrowsUse = (z : Sizes) (s : State) (i : ℕ) (k : StoreHolds z s) → IsInPlace z s i (StoreClaim 0)
+    → (after z s i (StoreClaim 0)).words InUse ≡ grown_use z (k.began InUse) (length (names_left z s.words))
 
 -- Equal content, equal bucket.
 abbrev pub EqualContentEqualBucket : Type 0

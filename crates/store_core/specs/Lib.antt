@@ -24,3 +24,4 @@ pub mod Laws
 pub mod Table
 pub mod Worked
 pub mod Running
+pub mod ByView

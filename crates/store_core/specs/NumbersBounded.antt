@@ -1,5 +1,5 @@
 -- Birth numbers, the claim and the bases.
-use Rattle.std.specs.Prelude.{◌≡◌, ◌≢◌, ◌⊎◌, ℕ, ◌+◌, ◌*◌, ◌<◌, ◌≤◌, ◌^◌, true, Some, List}
+use Rattle.std.specs.Prelude.{◌≡◌, ◌≢◌, ◌⊎◌, ℕ, ◌+◌, ◌≤◌, ◌^◌, true, Some}
 use Rattle.store_core.specs.Words.{Place, Base, FreeCount, Claim, InUse, FreePlace, Birth}
 use Rattle.store_core.specs.Calls.{Away, Ready, Counting, Drawing, Call, View}
 use Rattle.store_core.specs.Machine.{Sizes}

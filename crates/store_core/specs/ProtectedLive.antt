@@ -1,5 +1,5 @@
 -- The rows that a seat may use are live.
-use Rattle.std.specs.Prelude.{◌≡◌, ℕ, ◌<◌, List, []}
+use Rattle.std.specs.Prelude.{◌≡◌, ℕ, ◌<◌, []}
 use Rattle.history_core.specs.Chronicle.{last_roots}
 use Rattle.store_core.specs.Words.{Place, Base, RootCount, Root}
 use Rattle.store_core.specs.Calls.{Away, View}

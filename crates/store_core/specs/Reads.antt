@@ -1,7 +1,6 @@
 -- What a seat's view tells of what it has read, without a look at the words.
-use Rattle.std.specs.Prelude.{◌≡◌, ◌≢◌, ℕ, suc, ◌<◌, ◌≤◌, false, Option, Some, None, List, [], ◌∷◌, length, get_or}
-use Rattle.store_core.specs.Words.{Place}
-use Rattle.store_core.specs.Calls.{Content, words_of, Call, Idle, Comparing, Passing, Finding, Ended, Counting, Drawing, Placing, Filling, Numbering, Linking, Publishing, Loading, Storing, Passed, Refusal, View}
+use Rattle.std.specs.Prelude.{◌≡◌, ◌≢◌, ℕ, suc, ◌<◌, ◌≤◌, false, None, List, [], ◌∷◌, length, get_or}
+use Rattle.store_core.specs.Calls.{Content, words_of, Call, Comparing, Passing, Ended, Counting, Drawing, Passed, Refusal, View}
 use Rattle.store_core.specs.Machine.{Sizes, State, Each}
 use Rattle.store_core.specs.Seats.{RootsKnown}
 use Rattle.store_core.specs.Steps.{loads, worn_by}

@@ -1,5 +1,5 @@
 -- What every step keeps, and lists of steps from a new store.
-use Rattle.std.specs.Prelude.{◌≡◌, ℕ, ◌+◌, ◌<◌, ◌≤◌, ◌^◌, List, [], ◌∷◌}
+use Rattle.std.specs.Prelude.{◌≡◌, ℕ, ◌+◌, ◌<◌, ◌≤◌, ◌^◌}
 use Rattle.lock_core.specs.Lock as lock
 use Rattle.store_core.specs.Words.{Place, Base, FreeCount, Claim, InUse, FreePlace, Bucket, RootCount, Root}
 use Rattle.store_core.specs.Machine.{Sizes, State, Step}

@@ -1,5 +1,5 @@
 -- Which steps are in place, and what they do.
-use Rattle.std.specs.Prelude.{◌≡◌, ◌≢◌, ◌⊎◌, ◌↔◌, ℕ, zero, suc, pred, ◌+◌, ◌*◌, ◌<◌, ◌≤◌, ◌^◌, ◌==◌, nat_lt, min, if◌then◌else◌, Bool, true, false, List, [], ◌∷◌, ◌++◌, length, Option, Some, None, replicate}
+use Rattle.std.specs.Prelude.{◌≡◌, ◌⊎◌, ◌↔◌, ℕ, zero, suc, pred, ◌+◌, ◌*◌, ◌<◌, ◌≤◌, ◌^◌, ◌==◌, nat_lt, min, if◌then◌else◌, Bool, true, false, List, [], ◌∷◌, ◌++◌, length, Option, Some, None, replicate}
 use Rattle.lock_core.specs.declared.parts.Phase.TheVariants as phase
 use Rattle.lock_core.specs.declared.parts.LockStep.TheVariants.{Lower, Unask, Give}
 use Rattle.lock_core.specs.Lock.{Lock, seat_of}
@@ -11,7 +11,7 @@ use Rattle.store_core.specs.Words.{Place, Base, FreeCount, Claim, InUse, FreePla
 use Rattle.store_core.specs.Seats.{Where, index}
 use Rattle.store_core.specs.Calls.{Call, Idle, Loading, Storing, Away, Based, Ready, Leaving, View, bucket, Comparing, Passing, Finding, Ended, Counting, Drawing, Placing, Filling, Numbering, Linking, Publishing, Content}
 use Rattle.store_core.specs.Machine.{Sizes, State, acted, with_call, load, begins, action, Step, LockAlone, LowerShared, UnaskSeat, GiveGranted, LoadBase, LoadInUse, Begin, Go, LoadRoot, StoreRoot, StoreCount, ReadWord, ReadArgument, LoadAny, StoreAny, StoreClaim, InAccess, based, ready, leaving, left, protected_in, rooted, root_counted, knowing, roots_of, with_got, Each, MayName, MayBegin, IsCreation, widest}
-use Rattle.store_core.specs.Meaning.{Meaning, grown}
+use Rattle.store_core.specs.Meaning.{Meaning}
 use Rattle.store_core.specs.Invariant.{Holds, RowsHold, ChainsHold, span}
 use Rattle.store_core.specs.Collection.{collected}
 use Rattle.store_core.specs.Shown.{in_table}

@@ -1,5 +1,5 @@
 -- What a creation has walked stands in its chain, and lacks its tree.
-use Rattle.std.specs.Prelude.{◌≡◌, ◌≢◌, ℕ, suc, ◌+◌, ◌≤◌, List, [], ◌∷◌, ◌++◌, length}
+use Rattle.std.specs.Prelude.{◌≡◌, ◌≢◌, ℕ, ◌≤◌, List, ◌++◌}
 use Rattle.term_model.specs.Tree.{Tree}
 use Rattle.store_core.specs.Words.{Place, InUse, RowWords, row_at}
 use Rattle.store_core.specs.Calls.{Content, bucket, Call, Idle, Comparing, Passing, Finding, Ended, Counting, Drawing, Placing, Filling, Numbering, Linking, Publishing, Loading, Storing, View}

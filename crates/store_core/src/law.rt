@@ -1,6 +1,7 @@
 // What every step keeps.
-ghost use Rattle.store_core.specs.Laws.{ActsAreActions, StepsKeep, StartHolds, RunsHold, WritesAreShown, PlacesInside, PlacesApart, LockIsApart};
-ghost use Rattle.store_core.specs.Laws.{OthersStay, CreationEnds, RefusalsHaveCause, RowIsAsked, FullIsExact, WornIsExact, WornChangesNothing, CollectionKeepsReached, EqualContentEqualBucket};
+ghost use Rattle.store_core.specs.Laws.{ActsAreActions, StepsKeep, StartHolds, RunsHold, WritesAreShown, PlacesInside, PlacesApart, LockIsApart, TotalIs};
+ghost use Rattle.store_core.specs.Laws.{OthersStay, CreationEnds, RefusalsHaveCause, RowIsAsked, FullIsExact, WornIsExact, WornChangesNothing, CollectionKeepsReached, CollectionKeepsTrees, CollectionGrowsUse, EqualContentEqualBucket};
+ghost use Rattle.store_core.specs.ByView.{ViewShows, KnownWordsStand, CollectionSees};
 ghost use Rattle.store_core.specs.Worked.{RaceFinds, LostMakes, SweepKeeps, UseDoubles, WornAtLast};
 
 /// Each step keeps what holds, and it holds of a new store; so it holds after every list of steps, whatever the seats do
@@ -18,6 +19,7 @@ pub fn words_are_shown()
     ensures inside { PlacesInside }
     ensures apart { PlacesApart }
     ensures lock { LockIsApart }
+    ensures count { TotalIs }
 {}
 
 /// How a creation ends: with the row of the asked tree and exactly one entry, or with Full, and why; and that no other seat's view
@@ -34,8 +36,18 @@ pub fn creations_end()
 /// How a collection ends: it keeps exactly what is reached, or it is Worn by the numbers, and nothing has changed.
 pub fn collections_end()
     ensures kept { CollectionKeepsReached }
+    ensures trees { CollectionKeepsTrees }
+    ensures in_use { CollectionGrowsUse }
     ensures worn { WornIsExact }
     ensures unchanged { WornChangesNothing }
+{}
+
+/// A step that a seat's own view shows, and that the lock grants, is permitted: a running store needs no look at other words.
+/// What the view knows of a row's words, and what a collection has loaded and stored, is there.
+pub fn own_view_permits()
+    ensures permitted { ViewShows }
+    ensures known { KnownWordsStand }
+    ensures seen { CollectionSees }
 {}
 
 /// Worked runs, which the definitions compute: two seats that race for one bucket, a lost exchange that makes, a collection with

@@ -6,6 +6,8 @@ mod machine;
 mod step;
 mod view;
 
-pub use law::{collections_end, creations_end, steps_keep, words_are_shown, worked_runs};
+pub use law::{
+    collections_end, creations_end, own_view_permits, steps_keep, words_are_shown, worked_runs,
+};
 pub use step::StoreStep;
 pub use view::{Call, Content, KnownWord, Passed, Place, Refusal, Sizes, Stay, View};

@@ -1,4 +1,5 @@
-use Rattle.store_core.proofs.Ends.{collection_keeps_reached, worn_is_exact, worn_changes_nothing}
+use Rattle.store_core.proofs.Ends.{collection_grows_use, collection_keeps_reached, worn_is_exact, worn_changes_nothing}
+use Rattle.store_core.proofs.TreesKept.{collection_keeps_trees}
 use Rattle.store_core.proofs.law.collections_end.Goals as goal
 
 pub returns-clause-kept : goal.returns-clause-kept
@@ -9,3 +10,9 @@ returns-clause-worn c = worn_is_exact
 
 pub returns-clause-unchanged : goal.returns-clause-unchanged
 returns-clause-unchanged c = worn_changes_nothing
+
+pub returns-clause-trees : goal.returns-clause-trees
+returns-clause-trees c = collection_keeps_trees
+
+pub returns-clause-in_use : goal.returns-clause-in_use
+returns-clause-in_use c = collection_grows_use

@@ -1,4 +1,4 @@
-use Rattle.store_core.proofs.Shown.{shown_written, past_lock, place_inside, places_apart, shown_apart}
+use Rattle.store_core.proofs.Shown.{shown_written, past_lock, place_inside, places_apart, shown_apart, total_is}
 use Rattle.store_core.proofs.law.words_are_shown.Goals as goal
 
 pub returns-clause-written : goal.returns-clause-written
@@ -12,3 +12,6 @@ returns-clause-apart c = places_apart
 
 pub returns-clause-lock : goal.returns-clause-lock
 returns-clause-lock c = shown_apart
+
+pub returns-clause-count : goal.returns-clause-count
+returns-clause-count c = total_is
