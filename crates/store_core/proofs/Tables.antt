@@ -12,7 +12,7 @@ use Rattle.store_core.specs.Shown.{in_table, index_of, shown, total}
 use Rattle.store_core.specs.Table.{IsPlaceOf}
 use Rattle.store_core.proofs.Shown.{place_inside, shown_written}
 
-zero_at : (n i : ℕ) → get_or (replicate n 0) i 0 ≡ 0
+zero_at : (n i : ℕ) → ◌≡◌ {A = ℕ} (get_or (replicate n 0) i 0) 0
 zero_at zero i = refl
 zero_at (suc n) zero = refl
 zero_at (suc n) (suc i) = zero_at n i
@@ -32,7 +32,7 @@ pub write_same : (w : Place → ℕ) (p : Place) (n : ℕ) → n ≡ w p → w �
 write_same w p n e = fun_ext (λ q. choose (λ (k : ℕ). w q ≡ k) (same_place q p) n (w q) (λ s. ap w (same_is q p s) ∙ sym e) (λ s. refl))
 
 -- words that are all 0
-pub shows_none : (z : Sizes) (n : ℕ) (p : Place) → shown z (replicate n 0) p ≡ 0
+pub shows_none : (z : Sizes) (n : ℕ) (p : Place) → ◌≡◌ {A = ℕ} (shown z (replicate n 0) p) 0
 shows_none z n p = choose (λ (k : ℕ). k ≡ 0) (in_table z p) (get_or (replicate n 0) (index_of z p) 0) 0 (λ e. zero_at n (index_of z p)) (λ e. refl)
 
 -- a new store with no free place yet
@@ -51,3 +51,18 @@ begun_next z w n h = record {
   root_count = h.root_count;
   root = h.root;
 }
+
+-- the three stores of a new store before its free places
+pub begun_by : (z : Sizes) (w a b d : Place → ℕ) (rows start : ℕ) → ((p : Place) → w p ≡ 0) → a ≡ write w Base z.first → rows ≡ z.rows → b ≡ write a FreeCount rows → start ≡ z.start → d ≡ write b InUse start → IsBegun z 0 d
+begun_by z w a b d rows start h first count second used third =
+    let e : d ≡ write (write (write w Base z.first) FreeCount z.rows) InUse z.start =
+    third ∙ (ap (λ (n : ℕ). write b InUse n) used ∙ ap (λ (x : Place → ℕ). write x InUse z.start)
+    (second ∙ (ap (λ (n : ℕ). write a FreeCount n) count ∙ ap (λ (x : Place → ℕ). write x FreeCount z.rows) first))) in
+    subst (IsBegun z 0) (sym e) (begun_first z w h)
+
+-- one free place more, stored in a table of these sizes
+pub begun_more : (z y x : Sizes) (had has : List ℕ) (i n : ℕ) → y ≡ z → x ≡ y → n ≡ i → shown x has ≡ write (shown y had) (FreePlace i) n → IsBegun z i (shown z had) → IsBegun z (i + 1) (shown z has)
+begun_more z y x had has i n same again number stored h =
+    let e : shown z has ≡ write (shown z had) (FreePlace i) i =
+    ap (λ (t : Sizes). shown t has) (sym (again ∙ same)) ∙ (stored ∙ (ap (λ (t : Sizes). write (shown t had) (FreePlace i) n) same ∙ ap (write (shown z had) (FreePlace i)) number)) in
+    subst (IsBegun z (i + 1)) (sym e) (begun_next z (shown z had) i h)

@@ -17,6 +17,6 @@ pub record IsBegun (z : Sizes) (n : ℕ) (w : Place → ℕ) : Type 0 where
   pub root : (j k : ℕ) → w (Root j k) ≡ 0
 
 -- the next action of a seat's creation: on the words of the table, and on its view
-pub record Acts (z : Sizes) (words after : List ℕ) (v w : View) : Type 0 where
-  pub view : w ≡ (action v v.call).moved (shown z words (action v v.call).place)
-  pub words : shown z after ≡ write (shown z words) (action v v.call).place ((action v v.call).written (shown z words (action v v.call).place))
+pub record Acts (z : Sizes) (had has : List ℕ) (v w : View) : Type 0 where
+  pub view : w ≡ (action v v.call).moved (shown z had (action v v.call).place)
+  pub words : shown z has ≡ write (shown z had) (action v v.call).place ((action v v.call).written (shown z had (action v v.call).place))

@@ -16,7 +16,12 @@ pub(crate) fn words_of(content: &Content) -> Result<Vec<u64>, Memory>
 {
     let alloc = *content.arguments.allocator();
     match content.head {
-        Head::App(symbol) => over_rows(alloc, u64::from(symbol.0), content.arguments.len() as u64, &content.arguments),
+        Head::App(symbol) => over_rows(
+            alloc,
+            u64::from(symbol.0),
+            content.arguments.len() as u64,
+            &content.arguments,
+        ),
         Head::Int(value) => three_words(alloc, symbol_word(content.head), 0, value),
         Head::Nil => two_words(alloc, symbol_word(content.head), 0),
         Head::Cons => over_rows(alloc, symbol_word(content.head), 2, &content.arguments),
@@ -40,7 +45,12 @@ fn three_words(alloc: Global, symbol: u64, count: u64, value: u64) -> Result<Vec
     Ok(words)
 }
 
-fn over_rows(alloc: Global, symbol: u64, count: u64, rows: &LinkedList<u32>) -> Result<Vec<u64>, Memory>
+fn over_rows(
+    alloc: Global,
+    symbol: u64,
+    count: u64,
+    rows: &LinkedList<u32>,
+) -> Result<Vec<u64>, Memory>
     ensures { IfOk result (λ words. words.items ≡ symbol ∷ count ∷ rows.now) }
 {
     let mut words = two_words(alloc, symbol, count)?;

@@ -1,7 +1,7 @@
 //! A copy of what a seat knows.
 ghost use Rattle.std.specs.Prelude.{◌≡◌, IfOk};
 
-use crate::view::{Call, Content, KnownWord, Place, Passed, Refusal, View};
+use crate::view::{Call, Content, KnownWord, Passed, Place, Refusal, View};
 use history_core::Entry;
 use std::alloc::AllocError;
 use std::collections::LinkedList;
@@ -34,17 +34,42 @@ fn copy_call(call: &Call) -> Result<Call, AllocError>
 {
     match call {
         Call::Idle => Ok(Call::Idle),
-        Call::Comparing(c, d, from, old, at, k) => Ok(Call::Comparing(copy_content(c)?, *d, *from, *old, *at, *k)),
-        Call::Passing(c, d, from, old, at, differs) => Ok(Call::Passing(copy_content(c)?, *d, *from, *old, *at, *differs)),
+        Call::Comparing(c, d, from, old, at, k) => Ok(Call::Comparing(
+            copy_content(c)?,
+            *d,
+            *from,
+            *old,
+            *at,
+            *k,
+        )),
+        Call::Passing(c, d, from, old, at, differs) => Ok(Call::Passing(
+            copy_content(c)?,
+            *d,
+            *from,
+            *old,
+            *at,
+            *differs,
+        )),
         Call::Finding(c, d, row) => Ok(Call::Finding(copy_content(c)?, *d, *row)),
         Call::Ended(c, from) => Ok(Call::Ended(copy_content(c)?, *from)),
         Call::Counting(c, from, claim) => Ok(Call::Counting(copy_content(c)?, *from, *claim)),
         Call::Drawing(c, from, count) => Ok(Call::Drawing(copy_content(c)?, *from, *count)),
         Call::Placing(c, from, i) => Ok(Call::Placing(copy_content(c)?, *from, *i)),
-        Call::Filling(c, from, i, row, k) => Ok(Call::Filling(copy_content(c)?, *from, *i, *row, *k)),
+        Call::Filling(c, from, i, row, k) => Ok(Call::Filling(
+            copy_content(c)?,
+            *from,
+            *i,
+            *row,
+            *k,
+        )),
         Call::Numbering(c, from, i, row) => Ok(Call::Numbering(copy_content(c)?, *from, *i, *row)),
         Call::Linking(c, from, i, row) => Ok(Call::Linking(copy_content(c)?, *from, *i, *row)),
-        Call::Publishing(c, from, i, row) => Ok(Call::Publishing(copy_content(c)?, *from, *i, *row)),
+        Call::Publishing(c, from, i, row) => Ok(Call::Publishing(
+            copy_content(c)?,
+            *from,
+            *i,
+            *row,
+        )),
         Call::Loading(loads) => Ok(Call::Loading(copy_loads(loads)?)),
         Call::Storing(loads, stores) => Ok(Call::Storing(copy_loads(loads)?, copy_loads(stores)?)),
     }

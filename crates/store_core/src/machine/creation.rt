@@ -8,8 +8,8 @@ ghost use Rattle.store_core.specs.Words.{write};
 use crate::machine::contents::{bucket_of, word_at, words_of};
 use crate::machine::copies::copy;
 use crate::machine::moves::{
-    after_compared, after_counted, after_drawn, after_filled, after_found, after_passed, after_published, begun, narrow,
-    sum, with_call,
+    after_compared, after_counted, after_drawn, after_filled, after_found, after_passed,
+    after_published, begun, narrow, sum, with_call,
 };
 use crate::machine::table::Table;
 use crate::view::{Call, Content, Place, View};
@@ -53,7 +53,11 @@ pub(crate) fn written(view: &View, word: u64) -> Result<u64, Memory>
 fn exchanged(word: u64, from: u32, row: u32) -> Result<u64, Memory>
     ensures { IfOk result (λ n. n ≡ (if word == from then suc row else word)) }
 {
-    if word == u64::from(from) { sum(1, row) } else { Ok(word) }
+    if word == u64::from(from) {
+        sum(1, row)
+    } else {
+        Ok(word)
+    }
 }
 
 /// What the seat knows after the action, which found this word.
@@ -63,16 +67,29 @@ pub(crate) fn view_after(mut view: View, word: u64) -> Result<View, Memory>
     let call = mem::replace(&mut view.call, Call::Idle);
     match call {
         Call::Idle | Call::Loading(_) | Call::Storing(_, _) => Ok(with_call(view, call)),
-        Call::Comparing(c, drawn, from, old, at, k) => after_compared(view, c, drawn, from, old, at, k, word),
-        Call::Passing(c, drawn, from, old, at, differs) => after_passed(view, c, drawn, from, old, at, differs, word),
+        Call::Comparing(c, drawn, from, old, at, k) => after_compared(
+            view, c, drawn, from, old, at, k, word,
+        ),
+        Call::Passing(c, drawn, from, old, at, differs) => after_passed(
+            view, c, drawn, from, old, at, differs, word,
+        ),
         Call::Finding(c, drawn, row) => after_found(view, c, drawn, row, word),
         Call::Ended(c, from) => Ok(with_call(view, Call::Counting(c, from, word))),
         Call::Counting(c, from, claim) => after_counted(view, c, from, claim, word),
         Call::Drawing(c, from, count) => after_drawn(view, c, from, count, word),
-        Call::Placing(c, from, index) => Ok(with_call(view, Call::Filling(c, from, index, narrow(word)?, 0))),
+        Call::Placing(c, from, index) => Ok(with_call(
+            view,
+            Call::Filling(c, from, index, narrow(word)?, 0),
+        )),
         Call::Filling(c, from, index, row, k) => after_filled(view, c, from, index, row, k, word),
-        Call::Numbering(c, from, index, row) => Ok(with_call(view, Call::Linking(c, from, index, row))),
-        Call::Linking(c, from, index, row) => Ok(with_call(view, Call::Publishing(c, from, index, row))),
+        Call::Numbering(c, from, index, row) => Ok(with_call(
+            view,
+            Call::Linking(c, from, index, row),
+        )),
+        Call::Linking(c, from, index, row) => Ok(with_call(
+            view,
+            Call::Publishing(c, from, index, row),
+        )),
         Call::Publishing(c, from, index, row) => after_published(view, c, from, index, row, word),
     }
 }

@@ -50,7 +50,13 @@ fn ended(content: Content, drawn: Option<(u32, u32)>, from: u32) -> Call
 }
 
 // The call when the walk comes to a word of the chain.
-pub(crate) fn arrived(content: Content, drawn: Option<(u32, u32)>, from: u32, old: u32, at: u32) -> Call
+pub(crate) fn arrived(
+    content: Content,
+    drawn: Option<(u32, u32)>,
+    from: u32,
+    old: u32,
+    at: u32,
+) -> Call
     ensures { result ≡ machine.arrived content drawn from old at }
 {
     if at == old {
@@ -61,7 +67,14 @@ pub(crate) fn arrived(content: Content, drawn: Option<(u32, u32)>, from: u32, ol
 }
 
 // The call after the first k + 1 words were found the same.
-fn compared(content: Content, drawn: Option<(u32, u32)>, from: u32, old: u32, at: u32, k: u32) -> Result<Call, Memory>
+fn compared(
+    content: Content,
+    drawn: Option<(u32, u32)>,
+    from: u32,
+    old: u32,
+    at: u32,
+    k: u32,
+) -> Result<Call, Memory>
     ensures { IfOk result (λ call. call ≡ machine.compared content drawn from old at k) }
 {
     let after = next(k)?;
@@ -95,7 +108,11 @@ pub(crate) fn with_path(mut view: View, passed: u32, path: LinkedList<Passed>) -
 
 // The words of row r, before those that are known already.
 #[tactic(auto, using(crate::proofs::Contents::known_more, crate::proofs::Contents::known_none))]
-fn with_words(known: LinkedList<KnownWord>, row: u32, words: &[u64]) -> Result<LinkedList<KnownWord>, Memory>
+fn with_words(
+    known: LinkedList<KnownWord>,
+    row: u32,
+    words: &[u64],
+) -> Result<LinkedList<KnownWord>, Memory>
     ensures { IfOk result (λ k. k ≡ machine.words_known row 0 words.now ++ known) }
 {
     let mut known = known;
@@ -112,7 +129,13 @@ fn with_words(known: LinkedList<KnownWord>, row: u32, words: &[u64]) -> Result<L
 }
 
 // A creation ends with a row.
-fn gained(mut view: View, words: &[u64], row: u32, number: u64, entry: Entry) -> Result<View, Memory>
+fn gained(
+    mut view: View,
+    words: &[u64],
+    row: u32,
+    number: u64,
+    entry: Entry,
+) -> Result<View, Memory>
     ensures { (c : Content) → words_of c ≡ words.now → IfOk result (λ v. v ≡ machine.gained view c row number entry) }
 {
     view.call = Call::Idle;
@@ -124,7 +147,13 @@ fn gained(mut view: View, words: &[u64], row: u32, number: u64, entry: Entry) ->
 }
 
 // A creation ends with Full.
-fn refusing(mut view: View, content: Content, head: u32, claim: u64, count: u64) -> Result<View, Memory>
+fn refusing(
+    mut view: View,
+    content: Content,
+    head: u32,
+    claim: u64,
+    count: u64,
+) -> Result<View, Memory>
     ensures { IfOk result (λ v. v ≡ machine.refusing view content head claim count) }
 {
     view.call = Call::Idle;
@@ -140,7 +169,13 @@ fn refusing(mut view: View, content: Content, head: u32, claim: u64, count: u64)
 }
 
 // A creation ends with Full by a draw past the free count.
-fn overdrawn(view: View, content: Content, head: u32, claim: u64, count: u64) -> Result<View, Memory>
+fn overdrawn(
+    view: View,
+    content: Content,
+    head: u32,
+    claim: u64,
+    count: u64,
+) -> Result<View, Memory>
     ensures { IfOk result (λ v. v ≡ machine.overdrawn view content head claim count) }
 {
     let base = view.base;
@@ -212,19 +247,40 @@ pub(crate) fn left(mut view: View, rows: LinkedList<u32>) -> Result<View, Memory
 }
 
 /// A word of the row that the walk is at was loaded.
-pub(crate) fn after_compared(view: View, content: Content, drawn: Option<(u32, u32)>, from: u32, old: u32, at: u32, k: u32, word: u64) -> Result<View, Memory>
+pub(crate) fn after_compared(
+    view: View,
+    content: Content,
+    drawn: Option<(u32, u32)>,
+    from: u32,
+    old: u32,
+    at: u32,
+    k: u32,
+    word: u64,
+) -> Result<View, Memory>
     ensures { IfOk result (λ v. v ≡ (machine.action view (Comparing content drawn from old at k)).moved word) }
 {
     let same = word == word_at(words_of(&content)?.as_slice(), k);
     if same {
         Ok(with_call(view, compared(content, drawn, from, old, at, k)?))
     } else {
-        Ok(with_call(view, Call::Passing(content, drawn, from, old, at, (k, word))))
+        Ok(with_call(
+            view,
+            Call::Passing(content, drawn, from, old, at, (k, word)),
+        ))
     }
 }
 
 /// The next word of the chain was loaded.
-pub(crate) fn after_passed(mut view: View, content: Content, drawn: Option<(u32, u32)>, from: u32, old: u32, at: u32, differs: (u32, u64), word: u64) -> Result<View, Memory>
+pub(crate) fn after_passed(
+    mut view: View,
+    content: Content,
+    drawn: Option<(u32, u32)>,
+    from: u32,
+    old: u32,
+    at: u32,
+    differs: (u32, u64),
+    word: u64,
+) -> Result<View, Memory>
     ensures { IfOk result (λ v. v ≡ (machine.action view (Passing content drawn from old at differs)).moved word) }
 {
     let next_at = narrow(word)?;
@@ -241,7 +297,13 @@ pub(crate) fn after_passed(mut view: View, content: Content, drawn: Option<(u32,
 }
 
 /// The birth number of an equal row was loaded.
-pub(crate) fn after_found(view: View, content: Content, drawn: Option<(u32, u32)>, row: u32, word: u64) -> Result<View, Memory>
+pub(crate) fn after_found(
+    view: View,
+    content: Content,
+    drawn: Option<(u32, u32)>,
+    row: u32,
+    word: u64,
+) -> Result<View, Memory>
     ensures { IfOk result (λ v. v ≡ (machine.action view (Finding content drawn row)).moved word) }
 {
     let words = words_of(&content)?;
@@ -255,7 +317,13 @@ pub(crate) fn after_found(view: View, content: Content, drawn: Option<(u32, u32)
 }
 
 /// The free count was loaded.
-pub(crate) fn after_counted(view: View, content: Content, from: u32, claim: u64, word: u64) -> Result<View, Memory>
+pub(crate) fn after_counted(
+    view: View,
+    content: Content,
+    from: u32,
+    claim: u64,
+    word: u64,
+) -> Result<View, Memory>
     ensures { IfOk result (λ v. v ≡ (machine.action view (Counting content from claim)).moved word) }
 {
     if claim < word {
@@ -266,7 +334,13 @@ pub(crate) fn after_counted(view: View, content: Content, from: u32, claim: u64,
 }
 
 /// The claim was drawn.
-pub(crate) fn after_drawn(view: View, content: Content, from: u32, count: u64, word: u64) -> Result<View, Memory>
+pub(crate) fn after_drawn(
+    view: View,
+    content: Content,
+    from: u32,
+    count: u64,
+    word: u64,
+) -> Result<View, Memory>
     ensures { IfOk result (λ v. v ≡ (machine.action view (Drawing content from count)).moved word) }
 {
     if word < count {
@@ -277,7 +351,15 @@ pub(crate) fn after_drawn(view: View, content: Content, from: u32, count: u64, w
 }
 
 /// A word of the own row was stored.
-pub(crate) fn after_filled(view: View, content: Content, from: u32, index: u32, row: u32, k: u32, word: u64) -> Result<View, Memory>
+pub(crate) fn after_filled(
+    view: View,
+    content: Content,
+    from: u32,
+    index: u32,
+    row: u32,
+    k: u32,
+    word: u64,
+) -> Result<View, Memory>
     ensures { IfOk result (λ v. v ≡ (machine.action view (Filling content from index row k)).moved word) }
 {
     let _stored = word;
@@ -285,7 +367,14 @@ pub(crate) fn after_filled(view: View, content: Content, from: u32, index: u32, 
 }
 
 /// The bucket's head was exchanged for the own row, or another head was found there.
-pub(crate) fn after_published(view: View, content: Content, from: u32, index: u32, row: u32, word: u64) -> Result<View, Memory>
+pub(crate) fn after_published(
+    view: View,
+    content: Content,
+    from: u32,
+    index: u32,
+    row: u32,
+    word: u64,
+) -> Result<View, Memory>
     ensures { IfOk result (λ v. v ≡ (machine.action view (Publishing content from index row)).moved word) }
 {
     if word == u64::from(from) {
@@ -300,7 +389,10 @@ pub(crate) fn after_published(view: View, content: Content, from: u32, index: u3
         gained(view, words.as_slice(), row, number, entry)
     } else {
         let found = narrow(word)?;
-        Ok(with_call(view, arrived(content, Some((index, row)), found, from, found)))
+        Ok(with_call(
+            view,
+            arrived(content, Some((index, row)), found, from, found),
+        ))
     }
 }
 

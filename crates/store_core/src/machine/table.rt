@@ -1,5 +1,5 @@
 //! The words of a store, in their places.
-ghost use Rattle.std.specs.Prelude.{◌≡◌, ◌+◌, ◌*◌, ◌<◌, ◌≤◌, ◌^◌, true, false, length, vec_len, slice_index, slice_set, MatchOption, IfOk};
+ghost use Rattle.std.specs.Prelude.{◌≡◌, ◌+◌, ◌*◌, ◌<◌, ◌≤◌, ◌^◌, true, false, length, vec_len, slice_index, slice_set, replicate, MatchOption, IfOk};
 ghost use Rattle.store_core.specs.Shown.{in_table, index_of, shown, total};
 ghost use Rattle.store_core.specs.Machine.{widest};
 ghost use Rattle.store_core.specs.Table.{IsPlaceOf};
@@ -44,7 +44,11 @@ fn first_word(sizes: &Sizes) -> usize
 fn widest(sizes: &Sizes) -> usize
     ensures { result ≡ widest sizes.now }
 {
-    if sizes.arity < 2 { 2 } else { sizes.arity as usize }
+    if sizes.arity < 2 {
+        2
+    } else {
+        sizes.arity as usize
+    }
 }
 
 // How many words the first rows have.
@@ -173,34 +177,61 @@ fn root(sizes: &Sizes, j: u32, k: u32) -> Option<usize>
     Some(roots_start(sizes, j) + 1 + k as usize)
 }
 
+fn zero_words(alloc: Global, count: usize) -> Result<Vec<u64>, Memory>
+    ensures items { IfOk result (λ v. v.items ≡ replicate count 0) }
+    ensures len { IfOk result (λ v. vec_len v ≡ count) }
+{
+    Ok(vec![in alloc; 0; count]?)
+}
+
 impl Table {
     /// The words of a new store: each row is free.
-    #[tactic(auto, using(crate::proofs::Tables::begun_first, crate::proofs::Tables::begun_next))]
     pub(crate) fn new(alloc: Global, sizes: &Sizes) -> Result<Table, Memory>
         requires { total sizes.now < 2 ^ 62 }
         ensures sizes { IfOk result (λ t. t.sizes ≡ sizes.now) }
-        ensures words { IfOk result (λ t. IsBegun sizes.now sizes.now.rows (shown sizes.now t.words.items)) }
+        ensures words { IfOk result (λ t. IsBegun t.sizes t.sizes.rows (shown t.sizes t.words.items)) }
     {
-        let mut table = Table::zeros(alloc, sizes)?;
-        table.store(&Place::Base, sizes.first);
-        table.store(&Place::FreeCount, u64::from(sizes.rows));
-        table.store(&Place::InUse, u64::from(sizes.start));
-        for i in 0..sizes.rows {
-            table.store(&Place::FreePlace(i), u64::from(i));
-        }
-        Ok(table)
+        let zeros = Table::zeros(alloc, sizes)?;
+        Ok(zeros.begun().with_free_places())
     }
 
     // All words are 0.
     fn zeros(alloc: Global, sizes: &Sizes) -> Result<Table, Memory>
         requires { total sizes.now < 2 ^ 62 }
         ensures sizes { IfOk result (λ t. t.sizes ≡ sizes.now) }
-        ensures words { IfOk result (λ t. (p : Place) → shown sizes.now t.words.items p ≡ 0) }
+        ensures words { IfOk result (λ t. (p : Place) → shown t.sizes t.words.items p ≡ 0) }
     {
+        let words = zero_words(alloc, count_words(sizes))?;
         Ok(Table {
             sizes: *sizes,
-            words: vec![in alloc; 0; count_words(sizes)]?,
+            words,
         })
+    }
+
+    // The single words are stored.
+    fn begun(mut self) -> Table
+        requires { (p : Place) → shown self.sizes self.words.items p ≡ 0 }
+        ensures sizes { result.sizes ≡ self.sizes }
+        ensures words { IsBegun self.sizes 0 (shown result.sizes result.words.items) }
+    {
+        let sizes = self.sizes;
+        self.store(&Place::Base, sizes.first);
+        self.store(&Place::FreeCount, u64::from(sizes.rows));
+        self.store(&Place::InUse, u64::from(sizes.start));
+        self
+    }
+
+    // The free places are stored.
+    fn with_free_places(mut self) -> Table
+        requires { IsBegun self.sizes 0 (shown self.sizes self.words.items) }
+        ensures sizes { result.sizes ≡ self.sizes }
+        ensures words { IsBegun self.sizes self.sizes.rows (shown self.sizes result.words.items) }
+    {
+        let rows = self.sizes.rows;
+        for i in 0..rows {
+            self.store(&Place::FreePlace(i), u64::from(i));
+        }
+        self
     }
 
     /// The word at a place; 0 where the table hasn't got it.

@@ -1,5 +1,5 @@
-use crate::machine::creation::{begin, go};
 use crate::machine::copies::copy;
+use crate::machine::creation::{begin, go};
 use crate::machine::moves::{based, ready};
 use crate::machine::table::Table;
 use crate::view::{Call, Content, Place, Sizes, Stay, View};
@@ -85,7 +85,11 @@ fn is_over(creator: &Creator) -> bool {
 // The creator after its next action.
 fn stepped(table: &mut Table, creator: &Creator) -> Result<Creator, Memory> {
     let view = match creator.todo {
-        Some(symbol) => begin(table, &creator.view, constant(*creator.view.got.allocator(), symbol))?,
+        Some(symbol) => begin(
+            table,
+            &creator.view,
+            constant(*creator.view.got.allocator(), symbol),
+        )?,
         None => go(table, &creator.view)?,
     };
     Ok(Creator { view, todo: None })
@@ -141,7 +145,13 @@ fn added(a: Tally, b: Tally) -> Tally {
 }
 
 // All orders from here on, each to at most so many actions.
-fn explored(table: &Table, one: &Creator, other: &Creator, same: bool, actions: u32) -> Result<Tally, Memory> {
+fn explored(
+    table: &Table,
+    one: &Creator,
+    other: &Creator,
+    same: bool,
+    actions: u32,
+) -> Result<Tally, Memory> {
     if actions == 0 || (is_over(one) && is_over(other)) {
         let bad = u32::from(!is_legal(&one.view, &other.view, same));
         return Ok(Tally { orders: 1, bad });
@@ -193,7 +203,13 @@ fn a_creation_alone_takes_ten_actions(rt: HostRuntime) -> Result<(), Fail> {
 #[test]
 fn every_order_of_two_creations_in_two_buckets_is_legal(rt: HostRuntime) -> Result<(), Fail> {
     let tally = all_orders(rt.alloc(), 0, 1)?;
-    assert_eq!(rt; tally, Tally { orders: 184756, bad: 0 });
+    assert_eq!(rt;
+        tally,
+        Tally {
+            orders: 184756,
+            bad: 0
+        }
+    );
     Ok(())
 }
 
