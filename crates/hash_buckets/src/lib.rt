@@ -51,8 +51,8 @@ pub fn symbol_word(head: Head) -> u64
     }
 }
 
-// The hash with one more word.
-fn with_word(hash: u64, word: u64) -> u64
+/// A hash with one more word.
+pub fn with_word(hash: u64, word: u64) -> u64
     ensures { result ≡ mixed hash word }
 {
     (hash ^ word).wrapping_mul(PRIME)

@@ -174,6 +174,9 @@ fn needs_are_those_worked_out_by_hand(rt: HostRuntime) -> Result<(), Fail> {
     }
     let plan = one_rule(alloc, &[X, F], &[X, X, PLUS])?;
     let term = flat(alloc, &[Z, F, F, F])?;
-    assert_eq!(rt; need(alloc, plan.rules(), &term, AMPLE.fuel, AMPLE.depth)?, 4);
+    assert_eq!(rt;
+        need(alloc, plan.rules(), &term, AMPLE.fuel, AMPLE.depth)?,
+        4
+    );
     Ok(())
 }

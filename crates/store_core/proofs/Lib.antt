@@ -30,6 +30,8 @@ pub mod Runs
 pub mod Shown
 pub mod Short
 pub mod Acts
+pub mod Tables
+pub mod Contents
 pub mod Eight
 pub mod Creations
 pub mod Full

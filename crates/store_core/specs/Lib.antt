@@ -21,5 +21,7 @@ pub mod HistoryMatches
 pub mod CollectionUnderWay
 pub mod StoreHolds
 pub mod Laws
+pub mod Table
 pub mod Worked
+pub mod Running
 pub mod ByView

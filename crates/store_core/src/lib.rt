@@ -2,6 +2,7 @@
 #![tactic(auto)]
 
 mod law;
+mod machine;
 mod step;
 mod view;
 

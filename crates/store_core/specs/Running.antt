@@ -1,0 +1,22 @@
+-- The machine that runs: its words at the start, and what one action of a creation changes.
+use Rattle.std.specs.Prelude.{◌≡◌, ℕ, ◌<◌, List}
+use Rattle.store_core.specs.Words.{Place, Base, FreeCount, Claim, InUse, FreePlace, Bucket, RootCount, Root, write}
+use Rattle.store_core.specs.Calls.{View}
+use Rattle.store_core.specs.Machine.{Sizes, action}
+use Rattle.store_core.specs.Shown.{shown}
+
+-- the words of a new store, but that only the first n free places are stored
+pub record IsBegun (z : Sizes) (n : ℕ) (w : Place → ℕ) : Type 0 where
+  pub base : w Base ≡ z.first
+  pub count : w FreeCount ≡ z.rows
+  pub claim : w Claim ≡ 0
+  pub in_use : w InUse ≡ z.start
+  pub place : (i : ℕ) → i < n → w (FreePlace i) ≡ i
+  pub bucket : (b : ℕ) → w (Bucket b) ≡ 0
+  pub root_count : (j : ℕ) → w (RootCount j) ≡ 0
+  pub root : (j k : ℕ) → w (Root j k) ≡ 0
+
+-- the next action of a seat's creation: on the words of the table, and on its view
+pub record Acts (z : Sizes) (had has : List ℕ) (v w : View) : Type 0 where
+  pub view : w ≡ (action v v.call).moved (shown z had (action v v.call).place)
+  pub words : shown z has ≡ write (shown z had) (action v v.call).place ((action v v.call).written (shown z had (action v v.call).place))

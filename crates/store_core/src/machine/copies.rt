@@ -1,0 +1,118 @@
+//! A copy of what a seat knows.
+ghost use Rattle.std.specs.Prelude.{◌≡◌, IfOk};
+
+use crate::view::{Call, Content, KnownWord, Passed, Place, Refusal, View};
+use history_core::Entry;
+use std::alloc::AllocError;
+use std::collections::LinkedList;
+
+/// The same view.
+pub(crate) fn copy(view: &View) -> Result<View, AllocError>
+    ensures { IfOk result (λ v. v ≡ view.now) }
+{
+    Ok(View {
+        call: copy_call(&view.call)?,
+        stay: view.stay,
+        base: view.base,
+        in_use: view.in_use,
+        roots: copy_rows(&view.roots)?,
+        root_count: view.root_count,
+        got: copy_rows(&view.got)?,
+        knows: copy_words(&view.knows)?,
+        seen: view.seen,
+        overdraw: view.overdraw,
+        entries: copy_entries(&view.entries)?,
+        fresh: view.fresh,
+        passed: view.passed,
+        path: copy_path(&view.path)?,
+        refused: copy_refusals(&view.refused)?,
+    })
+}
+
+fn copy_call(call: &Call) -> Result<Call, AllocError>
+    ensures { IfOk result (λ c. c ≡ call.now) }
+{
+    match call {
+        Call::Idle => Ok(Call::Idle),
+        Call::Comparing(c, d, from, old, at, k) => Ok(Call::Comparing(
+            copy_content(c)?,
+            *d,
+            *from,
+            *old,
+            *at,
+            *k,
+        )),
+        Call::Passing(c, d, from, old, at, differs) => Ok(Call::Passing(
+            copy_content(c)?,
+            *d,
+            *from,
+            *old,
+            *at,
+            *differs,
+        )),
+        Call::Finding(c, d, row) => Ok(Call::Finding(copy_content(c)?, *d, *row)),
+        Call::Ended(c, from) => Ok(Call::Ended(copy_content(c)?, *from)),
+        Call::Counting(c, from, claim) => Ok(Call::Counting(copy_content(c)?, *from, *claim)),
+        Call::Drawing(c, from, count) => Ok(Call::Drawing(copy_content(c)?, *from, *count)),
+        Call::Placing(c, from, i) => Ok(Call::Placing(copy_content(c)?, *from, *i)),
+        Call::Filling(c, from, i, row, k) => Ok(Call::Filling(
+            copy_content(c)?,
+            *from,
+            *i,
+            *row,
+            *k,
+        )),
+        Call::Numbering(c, from, i, row) => Ok(Call::Numbering(copy_content(c)?, *from, *i, *row)),
+        Call::Linking(c, from, i, row) => Ok(Call::Linking(copy_content(c)?, *from, *i, *row)),
+        Call::Publishing(c, from, i, row) => Ok(Call::Publishing(
+            copy_content(c)?,
+            *from,
+            *i,
+            *row,
+        )),
+        Call::Loading(loads) => Ok(Call::Loading(copy_loads(loads)?)),
+        Call::Storing(loads, stores) => Ok(Call::Storing(copy_loads(loads)?, copy_loads(stores)?)),
+    }
+}
+
+fn copy_content(content: &Content) -> Result<Content, AllocError>
+    ensures { IfOk result (λ c. c ≡ content.now) }
+{
+    content.clone()
+}
+
+fn copy_loads(loads: &LinkedList<(Place, u64)>) -> Result<LinkedList<(Place, u64)>, AllocError>
+    ensures { IfOk result (λ l. l ≡ loads.now) }
+{
+    loads.clone()
+}
+
+pub(crate) fn copy_rows(rows: &LinkedList<u32>) -> Result<LinkedList<u32>, AllocError>
+    ensures { IfOk result (λ r. r ≡ rows.now) }
+{
+    rows.clone()
+}
+
+fn copy_words(words: &LinkedList<KnownWord>) -> Result<LinkedList<KnownWord>, AllocError>
+    ensures { IfOk result (λ w. w ≡ words.now) }
+{
+    words.clone()
+}
+
+fn copy_entries(entries: &LinkedList<Entry>) -> Result<LinkedList<Entry>, AllocError>
+    ensures { IfOk result (λ e. e ≡ entries.now) }
+{
+    entries.clone()
+}
+
+pub(crate) fn copy_path(path: &LinkedList<Passed>) -> Result<LinkedList<Passed>, AllocError>
+    ensures { IfOk result (λ p. p ≡ path.now) }
+{
+    path.clone()
+}
+
+fn copy_refusals(refusals: &LinkedList<Refusal>) -> Result<LinkedList<Refusal>, AllocError>
+    ensures { IfOk result (λ r. r ≡ refusals.now) }
+{
+    refusals.clone()
+}

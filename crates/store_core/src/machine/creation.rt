@@ -1,0 +1,136 @@
+//! The next atomic action of a creation.
+ghost use Rattle.std.specs.Prelude.{◌≡◌, suc, ◌+◌, ◌==◌, if◌then◌else◌, IfOk, OnOk, OnErr};
+ghost use Rattle.store_core.specs.Machine as machine;
+ghost use Rattle.store_core.specs.Running.{Acts};
+ghost use Rattle.store_core.specs.Shown.{shown};
+ghost use Rattle.store_core.specs.Words.{write};
+
+use crate::machine::contents::{bucket_of, word_at, words_of};
+use crate::machine::copies::copy;
+use crate::machine::moves::{
+    after_compared, after_counted, after_drawn, after_filled, after_found, after_passed,
+    after_published, begun, narrow, sum, with_call,
+};
+use crate::machine::table::Table;
+use crate::view::{Call, Content, Place, View};
+use faults::Memory;
+use std::mem;
+
+/// The word that the action is on.
+pub(crate) fn place_of(view: &View) -> Result<Place, Memory>
+    ensures { IfOk result (λ p. p ≡ (machine.action view.now view.now.call).place) }
+{
+    match &view.call {
+        Call::Idle | Call::Loading(_) | Call::Storing(_, _) => Ok(Place::Base),
+        Call::Comparing(_, _, _, _, at, k) => Ok(Place::RowWord(at.saturating_sub(1), *k)),
+        Call::Passing(_, _, _, _, at, _) => Ok(Place::Next(at.saturating_sub(1))),
+        Call::Finding(_, _, row) => Ok(Place::Birth(*row)),
+        Call::Ended(_, _) | Call::Drawing(_, _, _) => Ok(Place::Claim),
+        Call::Counting(_, _, _) => Ok(Place::FreeCount),
+        Call::Placing(_, _, index) => Ok(Place::FreePlace(*index)),
+        Call::Filling(_, _, _, row, k) => Ok(Place::RowWord(*row, *k)),
+        Call::Numbering(_, _, _, row) => Ok(Place::Birth(*row)),
+        Call::Linking(_, _, _, row) => Ok(Place::Next(*row)),
+        Call::Publishing(content, _, _, _) => Ok(Place::Bucket(bucket_of(content, view.in_use)?)),
+    }
+}
+
+/// What the word becomes.
+pub(crate) fn written(view: &View, word: u64) -> Result<u64, Memory>
+    ensures { IfOk result (λ n. n ≡ (machine.action view.now view.now.call).written word) }
+{
+    match &view.call {
+        Call::Drawing(_, _, _) => sum(word, 1),
+        Call::Filling(content, _, _, _, k) => Ok(word_at(words_of(content)?.as_slice(), *k)),
+        Call::Numbering(_, _, index, _) => sum(view.base, *index),
+        Call::Linking(_, from, _, _) => Ok(u64::from(*from)),
+        Call::Publishing(_, from, _, row) => exchanged(word, *from, *row),
+        _ => Ok(word),
+    }
+}
+
+// What a bucket becomes by the exchange of its head for a row.
+fn exchanged(word: u64, from: u32, row: u32) -> Result<u64, Memory>
+    ensures { IfOk result (λ n. n ≡ (if word == from then suc row else word)) }
+{
+    if word == u64::from(from) {
+        sum(1, row)
+    } else {
+        Ok(word)
+    }
+}
+
+/// What the seat knows after the action, which found this word.
+pub(crate) fn view_after(mut view: View, word: u64) -> Result<View, Memory>
+    ensures { IfOk result (λ v. v ≡ (machine.action view view.call).moved word) }
+{
+    let call = mem::replace(&mut view.call, Call::Idle);
+    match call {
+        Call::Idle | Call::Loading(_) | Call::Storing(_, _) => Ok(with_call(view, call)),
+        Call::Comparing(c, drawn, from, old, at, k) => after_compared(
+            view, c, drawn, from, old, at, k, word,
+        ),
+        Call::Passing(c, drawn, from, old, at, differs) => after_passed(
+            view, c, drawn, from, old, at, differs, word,
+        ),
+        Call::Finding(c, drawn, row) => after_found(view, c, drawn, row, word),
+        Call::Ended(c, from) => Ok(with_call(view, Call::Counting(c, from, word))),
+        Call::Counting(c, from, claim) => after_counted(view, c, from, claim, word),
+        Call::Drawing(c, from, count) => after_drawn(view, c, from, count, word),
+        Call::Placing(c, from, index) => Ok(with_call(
+            view,
+            Call::Filling(c, from, index, narrow(word)?, 0),
+        )),
+        Call::Filling(c, from, index, row, k) => after_filled(view, c, from, index, row, k, word),
+        Call::Numbering(c, from, index, row) => Ok(with_call(
+            view,
+            Call::Linking(c, from, index, row),
+        )),
+        Call::Linking(c, from, index, row) => Ok(with_call(
+            view,
+            Call::Publishing(c, from, index, row),
+        )),
+        Call::Publishing(c, from, index, row) => after_published(view, c, from, index, row, word),
+    }
+}
+
+/// One atomic action of a creation. Where there is no memory, nothing has changed.
+pub(crate) fn go(table: &mut Table, view: &View) -> Result<View, Memory>
+    ensures sizes { table.new.sizes ≡ table.old.sizes }
+    ensures action { IfOk result (λ v. Acts table.old.sizes table.old.words.items table.new.words.items view.now v) }
+    ensures memory { OnErr result (table.new ≡ table.old) }
+{
+    let place = place_of(view)?;
+    let found = table.load(&place);
+    let word = written(view, found)?;
+    let after = view_after(copy(view)?, found)?;
+    put(table, &place, found, word)?;
+    Ok(after)
+}
+
+// Stores a word at a place that has another.
+
+fn put(table: &mut Table, place: &Place, found: u64, word: u64) -> Result<(), Memory>
+    requires { found ≡ shown table.old.sizes table.old.words.items place.now }
+    ensures sizes { table.new.sizes ≡ table.old.sizes }
+    ensures written { OnOk result (shown table.new.sizes table.new.words.items ≡ write (shown table.old.sizes table.old.words.items) place.now word) }
+    ensures memory { OnErr result (table.new ≡ table.old) }
+{
+    if word == found {
+        return Ok(());
+    }
+    if !table.has(place) {
+        return Err(Memory);
+    }
+    table.store(place, word);
+    Ok(())
+}
+
+/// The first action of a creation.
+pub(crate) fn begin(table: &Table, view: &View, content: Content) -> Result<View, Memory>
+    ensures { IfOk result (λ v. v ≡ (machine.begins view.now content).moved (shown table.now.sizes table.now.words.items (machine.begins view.now content).place)) }
+{
+    let bucket = bucket_of(&content, view.in_use)?;
+    let head = table.load(&Place::Bucket(bucket));
+    begun(copy(view)?, content, head)
+}
