@@ -7,6 +7,7 @@ pub mod Ahead
 pub mod Viable
 pub mod Verdicts
 pub mod Pool
+pub mod TakingTerms
 pub mod TakingUp
 pub mod Spelling
 pub mod Numbering
