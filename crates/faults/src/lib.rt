@@ -5,7 +5,6 @@ pub mod kinds;
 mod refusal;
 
 pub use refusal::Refusal;
-
 use std::alloc::{AllocError, AllocFailed};
 
 /// There is no memory. It is the one answer that needs no cause, and no call merges it with another.
