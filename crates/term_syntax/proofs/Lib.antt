@@ -16,6 +16,7 @@ pub mod GoodTokens
 pub mod Writable
 pub mod Readings
 pub mod Arriving
+pub mod CellCounts
 pub mod Writings
 pub mod TokensBack
 pub mod TermsBack
