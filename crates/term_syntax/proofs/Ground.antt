@@ -8,7 +8,8 @@ use Rattle.symbol_pool.specs.Pool.{Named}
 use Rattle.term_syntax.specs.declared.machine.Kind.TheVariants.{Symbol, Brackets}
 use Rattle.term_syntax.specs.declared.machine.Part.{Part}
 use Rattle.term_syntax.specs.Written.{Written, Call, Digits, Listed, Writtens, End, More, count_of}
-use Rattle.term_syntax.specs.Parts.{parts_of, parts_of_all, parts_of_input, tree_in, trees_in, cells_in}
+use Rattle.term_syntax.specs.Parts.{parts_of, parts_of_all, parts_of_input}
+use Rattle.term_syntax.specs.TakenUp.{tree_in, trees_in, cells_in}
 use Rattle.term_syntax.specs.Items.{IsThere}
 use Rattle.term_syntax.specs.Text.{has_names, all_have_names, HasNames}
 

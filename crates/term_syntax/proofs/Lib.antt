@@ -7,6 +7,7 @@ pub mod Ahead
 pub mod Viable
 pub mod Verdicts
 pub mod Pool
+pub mod TakingTerms
 pub mod TakingUp
 pub mod Spelling
 pub mod Numbering
@@ -15,6 +16,7 @@ pub mod GoodTokens
 pub mod Writable
 pub mod Readings
 pub mod Arriving
+pub mod CellCounts
 pub mod Writings
 pub mod TokensBack
 pub mod TermsBack

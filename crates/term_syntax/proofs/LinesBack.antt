@@ -7,12 +7,14 @@ use Rattle.term_syntax.specs.declared.token.Token.{Token}
 use Rattle.term_syntax.specs.Tokens.{tokens_from}
 use Rattle.term_syntax.specs.Written.{Written}
 use Rattle.term_syntax.specs.TermGrammar.{IsInput, none, next}
-use Rattle.term_syntax.specs.Parts.{parts_of_input, taken_up, tree_in}
+use Rattle.term_syntax.specs.Parts.{parts_of_input, taken_up}
+use Rattle.term_syntax.specs.TakenUp.{tree_in}
 use Rattle.term_syntax.specs.Canonical.{canonical, canonical_lines, IsWritable}
 use Rattle.term_syntax.specs.Reading.{IsReading}
 use Rattle.term_syntax.proofs.Cutting.{after_tokens}
 use Rattle.term_syntax.proofs.TokensBack.{line_feed_back}
 use Rattle.term_syntax.proofs.TermsBack.{tree_back}
+use Rattle.term_syntax.proofs.TakingTerms.{taking_input}
 use Rattle.term_syntax.proofs.Readings.{only_one}
 
 module _ (names : List Named) (pool : IsPool names) where
@@ -47,7 +49,7 @@ module _ (names : List Named) (pool : IsPool names) where
       record {
         terms = x.terms;
         spelled = record { tokens = x.tokens; cut = x.cut; spelled = x.spelled };
-        taken = x.taken;
+        taken = sym (taking_input x.terms names) ∙ x.taken;
         trees_are = x.are;
       }
 
@@ -61,7 +63,7 @@ module _ (names : List Named) (pool : IsPool names) where
           cut = sym (ap (tokens_from 0 0) (append-nil (canonical names t))) ∙ x.cut;
           spelled = next (x.spelled []) none;
         };
-        taken = x.harmless (parts_of_input []);
+        taken = sym (taking_input (x.term ∷ []) names) ∙ x.harmless (parts_of_input []);
         trees_are = λ i. sym x.is i ∷ [];
       }
 

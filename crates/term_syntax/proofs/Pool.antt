@@ -6,7 +6,7 @@ use Rattle.std.proofs.lemmas.Bool.{eqb-true, eq-eqb, ltb-true, lt-ltb, le-ltb}
 use Rattle.std.proofs.lemmas.Option.{slice_get_within}
 use Rattle.symbol_pool.specs.Pool.{Named, named, most_symbols, Lacks, Has, IsFullFor, IsPool, Holds}
 use Rattle.term_model.specs.declared.Symbol.{Symbol}
-use Rattle.term_syntax.specs.Parts.{named_eq, number_of, has, with_symbol, is_full_for}
+use Rattle.term_syntax.specs.TakenUp.{named_eq, number_of, has, with_symbol, is_full_for}
 use Rattle.term_syntax.specs.Items.{GrowsPool}
 use Rattle.term_syntax.specs.Named.{IsSymbolTaken}
 use Rattle.term_model.specs.declared.Item.TheVariants.{App}

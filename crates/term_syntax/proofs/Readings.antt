@@ -18,7 +18,9 @@ use Rattle.term_syntax.specs.Tokens.{tokens_of}
 use Rattle.term_syntax.specs.Written.{Written}
 use Rattle.term_syntax.specs.TermGrammar.{IsInput}
 use Rattle.term_syntax.specs.Refusal.{AreRefused, IsSyntaxRefusal}
-use Rattle.term_syntax.specs.Parts.{parts_of_input, taken_up, tree_in}
+use Rattle.term_syntax.specs.Parts.{parts_of_input, taken_up, symbols_of_parts}
+use Rattle.term_syntax.specs.TakenUp.{take_input, TookFront, tree_in}
+use Rattle.term_syntax.proofs.TakingTerms.{taking_input, symbols_input}
 use Rattle.term_syntax.specs.Nodes.{nodes_of_input}
 use Rattle.term_syntax.specs.Steps.{start, IsRead}
 use Rattle.term_syntax.specs.Items.{item_in, items_at, trees_at, IsThere, AreWithin}
@@ -27,7 +29,7 @@ use Rattle.term_syntax.specs.Canonical.{IsWritable}
 use Rattle.term_syntax.proofs.GoodTokens.{tokens_good}
 use Rattle.term_syntax.proofs.Writable.{input_writable}
 use Rattle.term_syntax.proofs.Ground.{all_are_named}
-use Rattle.term_syntax.specs.Reading.{Spells, IsReading, IsRefusal}
+use Rattle.term_syntax.specs.Reading.{Spells, IsReading, IsRefusal, TookFrontOf}
 use Rattle.term_syntax.proofs.Outcome.{Read, outcome}
 use Rattle.term_syntax.proofs.Complete.{complete}
 use Rattle.term_syntax.proofs.Spelling.{spells_input}
@@ -92,7 +94,7 @@ module _ (tokens : List Token) (parts : List Part) (nodes : List (List Node)) (r
     reading old new items trees t e f = record {
       terms = r.0;
       spelled = spelled;
-      taken = ap (taken_up old) (sym parts_are) ∙ t;
+      taken = sym (taking_input r.0 old) ∙ ap (taken_up old) (sym parts_are) ∙ t;
       trees_are = same_somes trees (map (tree_in new) r.0) (f ∙ trees_are new items e);
     }
 
@@ -108,9 +110,13 @@ module _ (tokens : List Token) (parts : List Part) (nodes : List (List Node)) (r
         subst (All (IsWritable new)) (sym (same_somes trees (map (tree_in new) r.0) (f ∙ trees_are new items e)))
         (input_writable old new r.1 (tokens_good bytes tokens cut) (ap (taken_up old) (sym parts_are) ∙ t) (subst (All (IsThere new)) parts_are there))
 
+    -- a front of the symbols of the parts is one of those that the bytes spell
+    pub front_taken : (old new : List Named) → TookFront (symbols_of_parts parts) old new → TookFrontOf bytes old new
+    front_taken old new t = inr (r.0, spelled, subst (λ ss. TookFront ss old new) (ap symbols_of_parts parts_are ∙ symbols_input r.0) t)
+
     -- the parts are refused
     pub part_refusal : (old : List Named) (e : ReadFail) → IsDue (taken_up old parts) e → IsRefusal bytes old e
-    part_refusal old (Refused kind offset) due = inr (inr (record { terms = r.0; spelled = spelled; refused = ap (taken_up old) (sym parts_are) ∙ due }))
+    part_refusal old (Refused kind offset) due = inr (inr (record { terms = r.0; spelled = spelled; refused = sym (taking_input r.0 old) ∙ ap (taken_up old) (sym parts_are) ∙ due }))
     part_refusal old Memory due = tt
 
 pub byte_refusal : (bytes : List ℕ) (old : List Named) (e : ReadFail) → IsDue (tokens_of bytes) e → IsRefusal bytes old e
@@ -132,11 +138,14 @@ same_read bytes ws vs s t =
     let same : a ≡ b = ap (λ (o : Option Read). unwrap_or o a) e in
     (ap (λ (p : Read). p.0) same, ap (λ (p : Read). p.1) same)
 
+same_taken : (old : List Named) (ws vs : List Written) → parts_of_input ws ≡ parts_of_input vs → take_input ws old ≡ take_input vs old
+same_taken old ws vs e = sym (taking_input ws old) ∙ ap (taken_up old) e ∙ taking_input vs old
+
 -- there is one reading
 pub only_one : (bytes : List ℕ) (old a b : List Named) (xs ys : List Tree) → IsReading bytes old a xs → IsReading bytes old b ys → (b ≡ a) × (ys ≡ xs)
 only_one bytes old a b xs ys r s =
     let same = same_read bytes r.terms s.terms r.spelled s.spelled in
-    let taken : Ok a ≡ Ok b = sym r.taken ∙ ap (taken_up old) same.0 ∙ s.taken in
+    let taken : Ok a ≡ Ok b = sym r.taken ∙ same_taken old r.terms s.terms same.0 ∙ s.taken in
     let pool : a ≡ b = cc in
     let trees : map Some (map (tree_in a) r.terms) ≡ map Some (map (tree_in b) s.terms) =
     sym (spelled_trees a r.terms)
@@ -160,4 +169,4 @@ no_refusal bytes old new trees (Refused kind offset) (inr (inl t)) r =
     absurd (no_input (length bytes) t.tokens kind offset r.terms t.refused (subst (λ ts. IsInput ts r.terms) (sym tokens) r.spelled.spelled))
 no_refusal bytes old new trees (Refused kind offset) (inr (inr p)) r =
     let same = same_read bytes p.terms r.terms p.spelled r.spelled in
-    absurd (let bad : Err (fault kind offset) ≡ Ok new = sym p.refused ∙ ap (taken_up old) same.0 ∙ r.taken in cc)
+    absurd (let bad : Err (fault kind offset) ≡ Ok new = sym p.refused ∙ same_taken old p.terms r.terms same.0 ∙ r.taken in cc)

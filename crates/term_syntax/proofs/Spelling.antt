@@ -13,7 +13,8 @@ use Rattle.term_syntax.specs.declared.machine.Part.{Part}
 use Rattle.term_syntax.specs.declared.machine.Node.{Node}
 use Rattle.term_syntax.specs.Written.{Written, Call, Digits, Listed, Writtens, End, More, count_of}
 use Rattle.term_syntax.specs.declared.machine.Kind.TheVariants.{Symbol, Integer, Brackets}
-use Rattle.term_syntax.specs.Parts.{parts_of, parts_of_all, parts_of_input, number_of, value_or_zero, tree_in, trees_in, cells_in}
+use Rattle.term_syntax.specs.Parts.{parts_of, parts_of_all, parts_of_input}
+use Rattle.term_syntax.specs.TakenUp.{number_of, value_or_zero, tree_in, trees_in, cells_in}
 use Rattle.term_syntax.specs.Nodes.{node, size_of, nodes_of, nodes_of_all, nodes_of_input}
 use Rattle.term_syntax.specs.Items.{item_in, node_items, items_at, trees_at}
 use Rattle.term_syntax.proofs.Complete.{same_size}

@@ -12,8 +12,10 @@ use Rattle.term_syntax.specs.declared.machine.Kind.TheVariants.{Symbol, Integer,
 use Rattle.term_syntax.specs.declared.machine.Part.{Part}
 use Rattle.faults.specs.declared.refusal.Refusal.{Refusal}
 use Rattle.term_syntax.specs.Fault.{fault, IsDue}
-use Rattle.term_syntax.specs.Parts.{pool_after, part_fault, unless_fault, taken_up}
+use Rattle.term_syntax.specs.Parts.{pool_after, part_fault, unless_fault, taken_up, symbols_of_parts}
 use Rattle.term_syntax.specs.Items.{is_there, IsThere, item_of_kind, item_in, IsTakenUp, IsPartFault, GrowsPool}
+use Rattle.term_syntax.specs.TakenUp.{with_symbols, TookFront}
+use Rattle.term_syntax.proofs.TakingTerms.{after_symbol, with_more, symbols_append, front_of}
 use Rattle.term_syntax.proofs.Pool.{with_symbol_grows, stays_in, has_taken, grows_itself, grows_on}
 
 after_grows : (pool : List Named) (kind : Kind) (count : ℕ) → GrowsPool pool (pool_after pool kind count)
@@ -53,9 +55,10 @@ pub record Taking (old pool : List Named) (parts : List Part) (i : ℕ) (items :
   pub items_are : items ≡ map (item_in pool) (take i parts)
   pub there : All (IsThere pool) (take i parts)
   pub grows : GrowsPool old pool
+  pub pool_is : pool ≡ with_symbols old (symbols_of_parts (take i parts))
 
 pub taking_none : (old : List Named) (parts : List Part) → Taking old old parts 0 []
-taking_none old parts = record { rest = refl; items_are = refl; there = All-nil (IsThere old); grows = grows_itself old }
+taking_none old parts = record { rest = refl; items_are = refl; there = All-nil (IsThere old); grows = grows_itself old; pool_is = refl }
 
 pub taking_more : (old pool new : List Named) (parts : List Part) (i : ℕ) (items : List Item) (p : Part) (item : Item) → Taking old pool parts i items → i < length parts → p ≡ get_or parts i p → IsTakenUp pool p item new → Taking old new parts (i + 1) (items ++ item ∷ [])
 taking_more old pool new parts i items p item t l at u =
@@ -77,6 +80,13 @@ taking_more old pool new parts i items p item t l at u =
           ∙ ap (map (item_in new)) (sym front);
       there = subst (All (IsThere new)) (sym front) (All-push (IsThere new) (take i parts) p stay.1 here);
       grows = grows_on old pool new t.grows g;
+      pool_is =
+          u.pool_is
+          ∙ after_symbol pool p.kind p.count
+          ∙ ap (λ q. with_symbols q (symbols_of_parts (p ∷ []))) t.pool_is
+          ∙ sym (with_more old (symbols_of_parts (take i parts)) (symbols_of_parts (p ∷ [])))
+          ∙ ap (with_symbols old) (sym (symbols_append (take i parts) (p ∷ [])))
+          ∙ ap (λ qs. with_symbols old (symbols_of_parts qs)) (sym front);
     }
 
 -- a part is refused
@@ -93,3 +103,7 @@ taking_all old pool parts i items t l =
 
 pub part_grows : (pool new : List Named) (p : Part) (item : Item) → IsTakenUp pool p item new → GrowsPool pool new
 part_grows pool new p item u = subst (GrowsPool pool) (sym u.pool_is) (after_grows pool p.kind p.count)
+
+-- the symbols of a front of the parts were taken up
+pub took_front : (old pool : List Named) (parts : List Part) (i : ℕ) (items : List Item) → Taking old pool parts i items → TookFront (symbols_of_parts parts) old pool
+took_front old pool parts i items t = front_of parts i old pool t.pool_is

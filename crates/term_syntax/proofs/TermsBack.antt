@@ -21,7 +21,8 @@ use Rattle.term_syntax.specs.Fault.{fault}
 use Rattle.term_syntax.specs.Tokens.{is_printable, tokens_from, after_token}
 use Rattle.term_syntax.specs.Written.{Written, Call, Digits, Listed, Writtens, End, More, count_of}
 use Rattle.term_syntax.specs.TermGrammar.{IsTerm, constant, call, number, empty, list, AreTerms, only, more}
-use Rattle.term_syntax.specs.Parts.{parts_of, parts_of_all, number_of, has, is_full_for, part_fault, taken_up, tree_in, trees_in, cells_in}
+use Rattle.term_syntax.specs.Parts.{parts_of, parts_of_all, part_fault, taken_up}
+use Rattle.term_syntax.specs.TakenUp.{number_of, has, is_full_for, tree_in, trees_in, cells_in}
 use Rattle.term_syntax.specs.Text.{text_by, after_commas, further_elements}
 use Rattle.term_syntax.specs.Canonical.{spelled_name, spelling, is_writable_symbol, is_writable, all_writable}
 use Rattle.term_syntax.proofs.Cutting.{after_tokens}

@@ -14,7 +14,8 @@ use Rattle.term_syntax.specs.declared.machine.Part.{Part}
 use Rattle.term_syntax.specs.Tokens.{is_printable}
 use Rattle.term_syntax.specs.Written.{Written, Call, Digits, Listed, Writtens, End, More, count_of}
 use Rattle.term_syntax.specs.TermGrammar.{IsTerm, constant, call, number, empty, list, AreTerms, only, more, IsInput, none, next}
-use Rattle.term_syntax.specs.Parts.{parts_of, parts_of_all, parts_of_input, has, number_of, is_full_for, is_too_much, is_bad_number, part_fault, pool_after, unless_fault, taken_up, tree_in, trees_in, cells_in}
+use Rattle.term_syntax.specs.Parts.{parts_of, parts_of_all, parts_of_input, is_too_much, is_bad_number, part_fault, pool_after, unless_fault, taken_up}
+use Rattle.term_syntax.specs.TakenUp.{has, number_of, is_full_for, tree_in, trees_in, cells_in}
 use Rattle.term_syntax.specs.Items.{IsThere}
 use Rattle.term_syntax.specs.Canonical.{is_writable_symbol, is_writable, all_writable, IsWritable}
 use Rattle.term_syntax.proofs.Pool.{number_holds}

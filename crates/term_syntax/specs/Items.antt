@@ -13,7 +13,8 @@ use Rattle.term_syntax.specs.declared.machine.Kind.TheVariants.{Symbol, Integer,
 use Rattle.term_syntax.specs.declared.machine.Part.{Part}
 use Rattle.term_syntax.specs.declared.machine.Node.{Node}
 use Rattle.term_syntax.specs.Fault.{fault}
-use Rattle.term_syntax.specs.Parts.{number_of, has, value_or_zero, part_fault, pool_after}
+use Rattle.term_syntax.specs.Parts.{part_fault, pool_after}
+use Rattle.term_syntax.specs.TakenUp.{number_of, has, value_or_zero}
 
 -- the item of a part, of which a list has the empty list that ends it
 abbrev pub item_of_kind : List Named → Kind → ℕ → Item

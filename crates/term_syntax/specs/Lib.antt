@@ -4,6 +4,7 @@ pub mod Written
 pub mod TermGrammar
 pub mod Refusal
 pub mod Counts
+pub mod TakenUp
 pub mod Parts
 pub mod Named
 pub mod Nodes

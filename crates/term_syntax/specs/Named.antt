@@ -5,7 +5,7 @@ use Rattle.rec_reader.specs.declared.fail.ReadFail.TheVariants.{Refused, Memory}
 use Rattle.term_model.specs.declared.Item.{Item}
 use Rattle.term_model.specs.declared.Item.TheVariants.{App}
 use Rattle.symbol_pool.specs.Pool.{Named, named}
-use Rattle.term_syntax.specs.Parts.{number_of, with_symbol, is_full_for}
+use Rattle.term_syntax.specs.TakenUp.{number_of, with_symbol, is_full_for}
 
 pub record IsSymbolTaken (old : List Named) (name : List ℕ) (count : ℕ) (item : Item)
     (new : List Named) : Type 0 where

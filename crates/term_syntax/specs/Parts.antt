@@ -1,16 +1,13 @@
--- The parts of written terms, one for each term in the order of the text, and what they say of the symbols.
-use Rattle.std.specs.Prelude.{ℕ, ◌+◌, List, [], ◌∷◌, ◌++◌, length, Bool, true, false, not, ◌&&◌, ◌||◌, ◌==◌, nat_lt, if◌then◌else◌, Option, Some, None, Result, Ok, Err}
-use Rattle.std.specs.Str.{bytes_eq}
-use Rattle.term_model.specs.Tree as tree
-use Rattle.term_model.specs.Tree.{Tree, Trees, Node}
-use Rattle.term_model.specs.declared.Head.TheVariants.{App, Int, Nil, Cons}
-use Rattle.symbol_pool.specs.Pool.{Named, named, most_symbols}
+-- The parts of written terms, as the machine has them: one for each term in the order of the text.
+use Rattle.std.specs.Prelude.{ℕ, ◌+◌, List, [], ◌∷◌, ◌++◌, length, Bool, true, false, ◌&&◌, ◌||◌, ◌==◌, nat_lt, if◌then◌else◌, Option, Some, None, Result, Ok, Err}
+use Rattle.symbol_pool.specs.Pool.{Named, named}
 use Rattle.term_syntax.specs.declared.machine.Kind.{Kind}
 use Rattle.term_syntax.specs.declared.machine.Kind.TheVariants.{Symbol, Integer, Brackets}
 use Rattle.term_syntax.specs.declared.machine.Part.{Part}
 use Rattle.faults.specs.declared.refusal.Refusal.{Refusal}
 use Rattle.term_syntax.specs.Fault.{fault}
 use Rattle.term_syntax.specs.Written.{Written, Call, Digits, Listed, Writtens, End, More, count_of}
+use Rattle.term_syntax.specs.TakenUp.{with_symbol, is_full_for}
 
 -- the parts of a term, and of terms of which so many came before; of a name's arguments the 17th is marked
 abbrev mutual
@@ -31,24 +28,6 @@ abbrev mutual
 abbrev pub parts_of_input : List Written → List Part
 parts_of_input [] = []
 parts_of_input (w ∷ ws) = parts_of false w ++ parts_of_input ws
-
-abbrev pub named_eq : Named → Named → Bool
-named_eq a b = bytes_eq a.name b.name && a.arity == b.arity
-
--- the number of the symbol that is this, or how many there are
-abbrev pub number_of : List Named → Named → ℕ
-number_of [] s = 0
-number_of (r ∷ pool) s = if named_eq r s then 0 else number_of pool s + 1
-
-abbrev pub has : List Named → Named → Bool
-has pool s = nat_lt (number_of pool s) (length pool)
-
--- a symbol that isn't there is taken up as the last
-abbrev pub with_symbol : List Named → Named → List Named
-with_symbol pool s = if has pool s then pool else pool ++ s ∷ []
-
-abbrev pub is_full_for : List Named → Named → Bool
-is_full_for pool s = not (has pool s) && length pool == most_symbols
 
 -- the symbols after a part
 abbrev pub pool_after : List Named → Kind → ℕ → List Named
@@ -85,24 +64,12 @@ taken_up pool [] = Ok pool
 taken_up pool (p ∷ ps) =
     unless_fault (part_fault pool p) (taken_up (pool_after pool p.kind p.count) ps)
 
-abbrev pub value_or_zero : Option ℕ → ℕ
-value_or_zero (Some v) = v
-value_or_zero None = 0
+-- the symbol of a part, if it has one
+abbrev pub symbol_of : Kind → ℕ → List Named
+symbol_of (Symbol n) count = named n count ∷ []
+symbol_of (Integer v) count = []
+symbol_of Brackets count = []
 
--- the tree that a written term is, where a name with its number of arguments is a symbol of the pool, and a list
--- is cells that end in the empty list
-abbrev mutual
-  pub tree_in : List Named → Written → Tree
-  tree_in pool (Call p n ws) =
-      Node (App (record { 0 = number_of pool (named n (count_of ws)) })) (trees_in pool ws)
-  tree_in pool (Digits p v) = Node (Int (value_or_zero v)) tree.End
-  tree_in pool (Listed p ws) = cells_in pool ws
-
-  pub trees_in : List Named → Writtens → Trees
-  trees_in pool End = tree.End
-  trees_in pool (More w ws) = tree.More (tree_in pool w) (trees_in pool ws)
-
-  pub cells_in : List Named → Writtens → Tree
-  cells_in pool End = Node Nil tree.End
-  cells_in pool (More w ws) =
-      Node Cons (tree.More (tree_in pool w) (tree.More (cells_in pool ws) tree.End))
+abbrev pub symbols_of_parts : List Part → List Named
+symbols_of_parts [] = []
+symbols_of_parts (p ∷ ps) = symbol_of p.kind p.count ++ symbols_of_parts ps

@@ -16,3 +16,9 @@ mutual
 abbrev pub count_of : Writtens → ℕ
 count_of End = 0
 count_of (More w ws) = count_of ws + 1
+
+-- the place of its first byte
+abbrev pub place_of : Written → ℕ
+place_of (Call p n ws) = p
+place_of (Digits p v) = p
+place_of (Listed p ws) = p

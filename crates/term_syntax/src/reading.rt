@@ -1,12 +1,12 @@
 //! Reads term text.
-ghost use Rattle.std.specs.Prelude.{◌≡◌, List, IfOk, IfErr, All};
+ghost use Rattle.std.specs.Prelude.{◌≡◌, List, IfOk, IfErr, OnErr, All};
 ghost use Rattle.rec_reader.specs.declared.fail.ReadFail.TheVariants.{Memory};
 ghost use Rattle.term_model.specs.Tree.{Tree, IsGround};
 ghost use Rattle.symbol_pool.specs.Pool.{Named};
 ghost use Rattle.term_syntax.specs.Items.{GrowsPool};
 ghost use Rattle.term_syntax.specs.Text.{HasNames};
 ghost use Rattle.term_syntax.specs.Canonical.{IsWritable};
-ghost use Rattle.term_syntax.specs.Reading.{IsReading, IsRefusal};
+ghost use Rattle.term_syntax.specs.Reading.{IsReading, IsRefusal, TookFrontOf};
 
 use crate::flats::{Flats, flats};
 use crate::parser::syntax;
@@ -23,8 +23,8 @@ use symbol_pool::Symbols;
 /// white space may stand between any two tokens. Refuses with a place in bytes from 0: first kind 1, a byte
 /// that begins nothing, or kind 3, quotes that aren't closed; else kind 2, the first token that no input has
 /// there, or kind 3, an input that ends within a term; else, at the least place, kind 13, a 17th argument, a
-/// name of more than 255 bytes or a symbol too many, or kind 17, a number that isn't such an integer. After a
-/// refusal some symbols may have been taken up.
+/// name of more than 255 bytes or a symbol too many, or kind 17, a number that isn't such an integer. After an
+/// error a front of the symbols that the text spells may have been taken up, and nothing else was.
 pub fn read_terms(alloc: Global, bytes: &[u8], symbols: &mut Symbols) -> Result<Flats, ReadFail>
     ensures read { IfOk result (IsReading bytes.now symbols.old symbols.new) }
     ensures ground { IfOk result (All IsGround) }
@@ -38,6 +38,7 @@ pub fn read_terms(alloc: Global, bytes: &[u8], symbols: &mut Symbols) -> Result<
         → IsReading bytes.now symbols.old new trees → IfErr result (λ e. e ≡ Memory) }
     ensures refused { IfErr result (IsRefusal bytes.now symbols.old) }
     ensures grows { GrowsPool symbols.old symbols.new }
+    ensures front_where_not_read { OnErr result (TookFrontOf bytes.now symbols.old symbols.new) }
 {
     let tokens = tokens(alloc, bytes)?;
     let (parts, terms) = syntax(alloc, tokens, bytes.len())?;

@@ -1,7 +1,8 @@
 //! Takes up the symbols of parts in the order of the text.
 ghost use Rattle.std.specs.Prelude.{◌≡◌, map, Ok, IfOk, IfErr, OnOk, OnErr, All};
 ghost use Rattle.term_syntax.specs.Fault.{IsDue};
-ghost use Rattle.term_syntax.specs.Parts.{taken_up};
+ghost use Rattle.term_syntax.specs.Parts.{taken_up, symbols_of_parts};
+ghost use Rattle.term_syntax.specs.TakenUp.{TookFront};
 ghost use Rattle.term_syntax.specs.Items.{item_in, IsTakenUp, IsPartFault, IsThere, GrowsPool};
 ghost use Rattle.term_syntax.specs.Named.{IsSymbolTaken, IsSymbolRefused};
 
@@ -68,6 +69,7 @@ pub(crate) fn items_of(
     ensures there { OnOk result (All (IsThere symbols.new) parts.now) }
     ensures refused { IfErr result (IsDue (taken_up symbols.old parts.now)) }
     ensures grows { GrowsPool symbols.old symbols.new }
+    ensures front { TookFront (symbols_of_parts parts.now) symbols.old symbols.new }
 {
     let mut items = Vec::new(alloc);
     for part in parts {

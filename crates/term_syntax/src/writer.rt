@@ -20,7 +20,7 @@ use term_model::{Item, Symbol};
 #[derive(Clone, Copy)]
 pub(crate) struct Frame {
     pub(crate) symbol: Option<Symbol>,
-    pub(crate) left: u32,
+    pub(crate) left: usize,
 }
 
 /// The text so far, the open groups, and how many cells came where the rest of a list is due.
@@ -28,7 +28,7 @@ pub(crate) struct Frame {
 pub(crate) struct Writer {
     pub(crate) text: Backwards,
     pub(crate) frames: Stack<Frame>,
-    pub(crate) cells: u32,
+    pub(crate) cells: usize,
 }
 
 // Whether a name can be plain.
@@ -139,7 +139,7 @@ impl Writer {
         self.arrive(symbols)
     }
 
-    fn close_group(&mut self, symbol: Option<Symbol>, left: u32, mark: u8) -> Result<(), Memory>
+    fn close_group(&mut self, symbol: Option<Symbol>, left: usize, mark: u8) -> Result<(), Memory>
         ensures { OnOk result (self.new ≡ steps.close_group symbol left mark self.old) }
     {
         self.text.put_byte(mark)?;
@@ -161,7 +161,7 @@ impl Writer {
         match item {
             Item::Var(_) => self.arrive_with(symbols, b""),
             Item::App(symbol, 0) => self.write_constant(symbols, symbol),
-            Item::App(symbol, left) => self.close_group(Some(symbol), left, b')'),
+            Item::App(symbol, left) => self.close_group(Some(symbol), left as usize, b')'),
             Item::Int(value) => {
                 let mut buffer = Buffer::new();
                 self.arrive_with(symbols, buffer.format(value).as_bytes())
@@ -187,11 +187,12 @@ impl Writer {
 
     // Writes an item where the rest of a list stands.
     fn write_rest(&mut self, item: Item) -> Result<(), Memory>
+        requires { self.old.cells < usize.MAX }
         ensures written { OnOk result (self.new ≡ steps.rest_written item self.old) }
     {
         match item {
             Item::Cons => {
-                self.cells = self.cells.checked_add(1).ok_or(Memory)?;
+                self.cells += 1;
                 Ok(())
             }
             _ => self.close_group(None, self.cells, b']'),
@@ -202,6 +203,7 @@ impl Writer {
     pub(crate) fn write(&mut self, symbols: &Symbols, item: Item) -> Result<(), Memory>
         requires held { AreHeld symbols.now self.old.frames }
         requires item { IsItemHeld symbols.now item }
+        requires cells { self.old.cells < usize.MAX }
         ensures written { OnOk result
             (self.new ≡ steps.written (spelling symbols.now) item self.old) }
         ensures held { OnOk result (AreHeld symbols.now self.new.frames) }

@@ -1,4 +1,4 @@
-use Rattle.std.proofs.Common.{◌≡◌, ◌≤◌, [], length, take, reverse}
+use Rattle.std.proofs.Common.{◌≡◌, ◌≤◌, ◌+◌, [], length, take, reverse}
 use Rattle.term_syntax.specs.Canonical.{spelling}
 use Rattle.term_syntax.specs.Writing.{all_written, AreHeld}
 use Rattle.term_syntax.proofs.Writings.{writer}
@@ -9,6 +9,7 @@ invariant-loop-at l = record {
   within : l.at ≤ length l.items;
   written : all_written (spelling l.symbols) (reverse (take l.at l.items)) l.writer ≡ all_written (spelling l.symbols) (reverse l.items) (writer [] [] 0);
   held : AreHeld l.symbols l.writer.frames;
+  cells : l.writer.cells + l.at ≤ length l.items;
 }
 
 abbrev pub decreases-loop-at : goal.decreases-loop-at

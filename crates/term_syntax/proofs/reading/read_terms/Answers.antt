@@ -7,9 +7,10 @@ use Rattle.term_syntax.proofs.Ground.{all_are_ground}
 use Rattle.term_syntax.specs.declared.machine.Node.{Node}
 use Rattle.term_model.specs.declared.Item.{Item}
 use Rattle.term_syntax.specs.Fault.{IsDue}
-use Rattle.term_syntax.specs.Parts.{taken_up}
+use Rattle.term_syntax.specs.Parts.{taken_up, symbols_of_parts}
+use Rattle.term_syntax.specs.TakenUp.{TookFront}
 use Rattle.term_syntax.specs.Items.{item_in, items_at, trees_at, IsThere, AreWithin}
-use Rattle.term_syntax.proofs.Readings.{held, can_be_written, within, can_spell, reading, part_refusal, token_refusal, only_one, no_refusal}
+use Rattle.term_syntax.proofs.Readings.{held, can_be_written, within, can_spell, reading, part_refusal, front_taken, token_refusal, only_one, no_refusal}
 use Rattle.term_syntax.proofs.reading.read_terms.Goals as goal
 
 pub returns-in_err-parts-clause-accepted : goal.returns-in_err-parts-clause-accepted
@@ -72,3 +73,27 @@ returns-clause-writable c =
     let spelled = c.in_ok-flats.ensures ∙ ap (λ is. trees_at is c.as_slice-3.result.now) c.as_slice-2.ensures.value ∙ ap (trees_at c.in_ok-items.items.items) c.as_slice-3.ensures in
     let there = subst (All (IsThere new)) c.as_slice.ensures c.in_ok-items.ensures.there in
     can_be_written c.in_ok-tokens.tokens.items c.in_ok-parts.parts c.in_ok-parts.terms c.in_ok-parts.ensures.read c.args.bytes.now c.in_ok-tokens.ensures.tokens c.args.symbols.now new c.in_ok-items.items.items c.in_ok-flats.flats taken items spelled there
+
+pub returns-in_err-items-clause-refused : goal.returns-in_err-items-clause-refused
+returns-in_err-items-clause-refused c =
+    let p = err_from_is_err_and c.from_residual-in_err-items.result c.from_residual-in_err-items.ensures.1 in
+    let e = c.in_err-items.field-0.0 in
+    let old = c.args.symbols.now in
+    let due : IsDue (taken_up old c.in_ok-parts.parts) e = subst (λ ps. IsDue (taken_up old ps) e) c.as_slice.ensures c.in_err-items.ensures.refused in
+    rw (p.1, p.2) (part_refusal c.in_ok-tokens.tokens.items c.in_ok-parts.parts c.in_ok-parts.terms c.in_ok-parts.ensures.read c.args.bytes.now c.in_ok-tokens.ensures.tokens old e due)
+
+pub returns-in_err-items-clause-front_where_not_read : goal.returns-in_err-items-clause-front_where_not_read
+returns-in_err-items-clause-front_where_not_read c =
+    let p = err_from_is_err_and c.from_residual-in_err-items.result c.from_residual-in_err-items.ensures.1 in
+    let old = c.args.symbols.now in
+    let new = c.items_of.new.symbols in
+    let front : TookFront (symbols_of_parts c.in_ok-parts.parts) old new = subst (λ ps. TookFront (symbols_of_parts ps) old new) c.as_slice.ensures c.items_of.ensures.front in
+    rw p.1 (front_taken c.in_ok-tokens.tokens.items c.in_ok-parts.parts c.in_ok-parts.terms c.in_ok-parts.ensures.read c.args.bytes.now c.in_ok-tokens.ensures.tokens old new front)
+
+pub returns-in_err-flats-clause-front_where_not_read : goal.returns-in_err-flats-clause-front_where_not_read
+returns-in_err-flats-clause-front_where_not_read c =
+    let p = err_from_is_err_and c.from_residual-in_err-flats.result c.from_residual-in_err-flats.ensures.1 in
+    let old = c.args.symbols.now in
+    let new = c.items_of.new.symbols in
+    let front : TookFront (symbols_of_parts c.in_ok-parts.parts) old new = subst (λ ps. TookFront (symbols_of_parts ps) old new) c.as_slice.ensures c.items_of.ensures.front in
+    rw p.1 (front_taken c.in_ok-tokens.tokens.items c.in_ok-parts.parts c.in_ok-parts.terms c.in_ok-parts.ensures.read c.args.bytes.now c.in_ok-tokens.ensures.tokens old new front)
