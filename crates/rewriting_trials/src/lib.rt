@@ -11,6 +11,10 @@ mod building;
 #[cfg(test)]
 mod chance;
 #[cfg(test)]
+mod counting;
+#[cfg(test)]
+mod counts;
+#[cfg(test)]
 mod matching;
 #[cfg(test)]
 mod needs;
