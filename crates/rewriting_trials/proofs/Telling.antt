@@ -82,6 +82,3 @@ not_built_told s t h n a b c k least most =
       rows = loses_told s t a b c b k.rows;
       counts = counts_told s t h n a b c b k.counts least most (omega arith) (omega arith);
     }
-
-false_lemma : 0 ≡ 1
-false_lemma = refl
