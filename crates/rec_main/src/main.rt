@@ -3,17 +3,21 @@
 
 mod streams;
 
-ghost use Rattle.std.specs.Prelude.{◌≡◌, ◌≢◌, [], IfOk, IfErr, IsErr, IsOkAnd};
+ghost use Rattle.std.specs.Prelude.{◌≡◌, ◌≢◌, [], IfOk, IfErr, IsErr, IsOkAnd, OnErr};
 ghost use Rattle.std.specs.IoError.{error_kind};
 ghost use Rattle.std.specs.Process.{exit_status};
 ghost use Rattle.std.specs.Vec.Iter.{into_iter_items};
+ghost use Rattle.rec_top.specs.Lines.{status_line, TookLine};
+ghost use Rattle.rec_top.specs.Run.{IsStatus};
 
-use ends::{Memory, OpenGate};
+use ends::{Memory, OpenGate, Sink, Source};
 use rec_top::{Outcome, out_of_memory, run};
 use std::alloc::Global;
 use std::env::Args;
 use std::io::ErrorKind;
 use std::process::ExitCode;
+use std::sync::Wait;
+use std::thread::Threads;
 use std::{env, io};
 use streams::{Reading, Writing};
 
@@ -42,6 +46,28 @@ fn all_words(alloc: Global, args: Args) -> Result<Vec<String>, Memory>
     Ok(words)
 }
 
+// Runs the program on the words of the command line. Where there was no memory for them, `err` is
+// told, and `out` gets nothing.
+fn run_words<R: Threads + Wait + Sync, S: Source, O: Sink, E: Sink>(
+    rt: &R,
+    alloc: Global,
+    words: Result<Vec<String>, Memory>,
+    source: &mut S,
+    out: &mut O,
+    err: &mut E,
+) -> Outcome
+    ensures statuses { IsStatus result.status }
+    ensures no_memory { OnErr words (result.status ≡ 7) }
+    ensures line { OnErr words (TookLine E.taken E.faults err.old err.new (status_line 7)) }
+    ensures silent { OnErr words (out.new ≡ out.old) }
+    ensures unread { OnErr words (source.new ≡ source.old) }
+{
+    match words {
+        Ok(words) => run(rt, alloc, &words, source, out, err, &OpenGate),
+        Err(Memory) => out_of_memory(alloc, err),
+    }
+}
+
 // The exit code of a run.
 fn code_of(outcome: Outcome) -> ExitCode
     ensures { exit_status result ≡ outcome.status }
@@ -54,16 +80,6 @@ fn main(rt: HostRuntime) -> ExitCode {
     let mut source = Reading::new(rt.stdin());
     let mut out = Writing::new(rt.stdout());
     let mut err = Writing::new(rt.stderr());
-    code_of(match words_of(alloc, env::args(&rt)) {
-        Ok(words) => run(
-            &rt,
-            alloc,
-            &words,
-            &mut source,
-            &mut out,
-            &mut err,
-            &OpenGate,
-        ),
-        Err(Memory) => out_of_memory(alloc, &mut err),
-    })
+    let words = words_of(alloc, env::args(&rt));
+    code_of(run_words(&rt, alloc, words, &mut source, &mut out, &mut err))
 }

@@ -1,10 +1,9 @@
 use crate::run;
 use crate::trial::{SUM, words_of};
-use ends::{Gate, MemSink, MemSource, OpenGate};
+use ends::{MemSink, MemSource, OpenGate};
 use std::alloc::Global;
 use std::process::Abort;
 use std::sync::Wait;
-use std::sync::atomic::{AtomicU32, Ordering};
 use std::test::Fail;
 use std::thread::Threads;
 
@@ -20,7 +19,8 @@ fn expect<R: Abort + Alloc<A = Global> + Threads + Wait + Sync>(
     let alloc = rt.alloc();
     let words = words_of(alloc, words)?;
     let mut source = MemSource::new(alloc, input, 1_000_000, &[])?;
-    let mut output = MemSink::new(alloc, 200_000, 1_000_000, &[])?;
+    let space = out.len().saturating_add(100);
+    let mut output = MemSink::new(alloc, space, 1_000_000, &[])?;
     let mut errors = MemSink::new(alloc, 100, 100, &[])?;
     let outcome = run(
         rt,
@@ -96,6 +96,33 @@ fn shared_values_are_counted_and_not_walked(rt: HostRuntime) -> Result<(), Fail>
     expect(&rt, &["rewrite"], &many, 1, b"too large\n", b"")?;
     let most = b"distinct 65 nodes 18446744073709551615\n";
     expect(&rt, &sizes, &many, 0, most, b"")
+}
+
+// The text of a constant that was doubled so many times.
+fn doubled(alloc: Global, times: usize) -> Result<Vec<u8>, Fail> {
+    let mut text = b"z".to_vec(alloc)?;
+    for _ in 0..times {
+        let mut twice = b"p(".to_vec(alloc)?;
+        twice.extend_from_slice(&text)?;
+        twice.push(b',')?;
+        twice.extend_from_slice(&text)?;
+        twice.push(b')')?;
+        text = twice;
+    }
+    Ok(text)
+}
+
+#[test]
+fn an_output_past_four_mebibytes_is_written_whole(rt: HostRuntime) -> Result<(), Fail> {
+    let alloc = rt.alloc();
+    let mut input = nested(alloc, BEFORE_DOUBLES, b"d", 19, b"z", b" ")?;
+    input.extend_from_slice(&nested(alloc, b"", b"d", 19, b"z", END)?)?;
+    let mut lines = doubled(alloc, 19)?;
+    lines.push(b'\n')?;
+    let second = lines.clone()?;
+    lines.extend_from_slice(&second)?;
+    assert!(rt; lines.len() > 4 * 1_048_576);
+    expect(&rt, &["rewrite"], &input, 0, &lines, b"")
 }
 
 #[test]
@@ -184,47 +211,6 @@ fn each_read_that_fails_is_told(rt: HostRuntime) -> Result<(), Fail> {
         assert_eq!(rt; outcome.status, 5);
         assert_eq!(rt; errors.taken(), b"read fault\n".as_slice());
         assert!(rt; output.taken().is_empty());
-    }
-    Ok(())
-}
-
-// Notes the numbers that it is told, each one more than the term's.
-#[derive(Drop)]
-struct Noting {
-    before: AtomicU32,
-    after: AtomicU32,
-}
-
-impl Gate for Noting {
-    fn before(&self, term: u32) {
-        self.before
-            .fetch_add(term.wrapping_add(1), Ordering::SeqCst);
-    }
-
-    fn after(&self, term: u32) {
-        let begun = self.before.load(Ordering::SeqCst);
-        self.after
-            .fetch_add(term.wrapping_add(begun), Ordering::SeqCst);
-    }
-}
-
-#[test]
-fn the_gate_is_told_round_each_term(rt: HostRuntime) -> Result<(), Fail> {
-    let alloc = rt.alloc();
-    let words = words_of(alloc, &["rewrite"])?;
-    let three = b"REC-SPEC A SORTS S CONS a : -> S EVAL a a a END-SPEC";
-    // Before: 1, 2 and 3. After: 0 + 1, 1 + 3 and 2 + 6.
-    for (input, before, after) in [(three.as_slice(), 6, 13), (b"".as_slice(), 0, 0)] {
-        let gate = Noting {
-            before: AtomicU32::new(0),
-            after: AtomicU32::new(0),
-        };
-        let mut source = MemSource::new(alloc, input, 4096, &[])?;
-        let mut out = MemSink::new(alloc, 100, 100, &[])?;
-        let mut err = MemSink::new(alloc, 100, 100, &[])?;
-        let _ = run(&rt, alloc, &words, &mut source, &mut out, &mut err, &gate);
-        assert_eq!(rt; gate.before.load(Ordering::SeqCst), before);
-        assert_eq!(rt; gate.after.load(Ordering::SeqCst), after);
     }
     Ok(())
 }

@@ -15,6 +15,8 @@ pub use stops::out_of_memory;
 pub use top::run;
 
 #[cfg(test)]
+mod gate_tests;
+#[cfg(test)]
 mod large_tests;
 #[cfg(test)]
 mod row_tests;

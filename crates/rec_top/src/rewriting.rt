@@ -1,6 +1,7 @@
 // The command `rewrite`: from a specification to the lines of its terms.
 ghost use Rattle.std.specs.Prelude.{◌≡◌, ◌++◌, [], All, IfOk, IfErr, OnOk};
 ghost use Rattle.plain_store.specs.Contents.{store_of};
+ghost use Rattle.rewrite_model.specs.Built.{built_list, built_of_all};
 ghost use Rattle.term_lines.specs.Line.{line_text, is_value};
 ghost use Rattle.term_lines.specs.Written.{ended};
 ghost use Rattle.rec_top.specs.Lines.{line};
@@ -62,6 +63,8 @@ fn add_line(
         (ended plan.now.rules term.now settings.fuel settings.depth))) }
     ensures value { IfOk result (λ value. value
         ≡ is_value settings.sizes (ended plan.now.rules term.now settings.fuel settings.depth)) }
+    ensures built { OnOk result ((store_of store.new).built ≡ (store_of store.old).built
+        ++ built_list plan.now.rules term.now settings.fuel settings.depth) }
     ensures stopped { IfErr result (StopsTerm settings plan.now.rules term.now) }
     ensures rewriter { rewriter.new ≡ rewriter.old }
     ensures ready { IsReadyStore settings plan.now (store_of store.new) }
@@ -100,6 +103,8 @@ fn add_lines<G: Gate>(
     ensures lines { OnOk result (output.new.items
         ≡ lines_of settings symbols.now plan.now.rules terms.now) }
     ensures values { IfOk result (λ values. values ≡ all_values settings plan.now.rules terms.now) }
+    ensures built { OnOk result ((store_of store.new).built ≡ (store_of store.old).built
+        ++ built_of_all plan.now.rules terms.now settings.fuel settings.depth) }
     ensures stopped { IfErr result (StopsTerms settings plan.now.rules terms.now) }
 {
     let mut values = true;
