@@ -1,5 +1,5 @@
 -- A number in unary, cut at its `z`.
-use Rattle.std.proofs.Common.{◌≡◌, ℕ, zero, suc, ◌+◌, ◌*◌, codes, List, [], ◌∷◌, ◌++◌, length, sym, ap, ◌∙◌, refl, append_assoc, append-nil, length-append, arith}
+use Rattle.std.proofs.Common.{◌≡◌, ℕ, zero, suc, ◌+◌, ◌*◌, codes, List, [], ◌++◌, length, sym, ap, ◌∙◌, refl, append_assoc, length-append, arith}
 use Rattle.rec_drill.specs.Drill.{numeral}
 
 -- `s(`, so many times

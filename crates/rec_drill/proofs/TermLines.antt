@@ -58,7 +58,7 @@ term_among n i h =
     let opening = length-opening_lines in
     let place : 12 + i ≡ length opening_lines + i = omega arith in
     get_front (opening_lines ++ term_lines n) _ (12 + i) (term_line i)
-        (get_behind opening_lines (term_lines n) i (12 + i) place ∙ term_at n i h)
+    (get_behind opening_lines (term_lines n) i (12 + i) place ∙ term_at n i h)
 
 -- one more term adds its line and a line feed
 pub bytes_more : (i : ℕ) → flat_map ended (opening_lines ++ term_lines (i + 1)) ≡ flat_map ended (opening_lines ++ term_lines i) ++ ended (term_line i)

@@ -5,10 +5,12 @@ use std::test::Fail;
 #[test]
 fn one_and_two_terms_have_their_texts(rt: HostRuntime) -> Result<(), Fail> {
     let one = drill_text(rt.alloc(), 1)?;
-    let want_one: &[u8] = b"REC-SPEC DRILL\nSORTS Nat\nCONS z : -> Nat\ns : Nat -> Nat\nOPNS plus mult : Nat Nat -> Nat\nVARS X Y : Nat\nRULES\nplus(X,z) -> X\nplus(X,s(Y)) -> s(plus(X,Y))\nmult(X,z) -> z\nmult(X,s(Y)) -> plus(mult(X,Y),X)\nEVAL\nmult(s(s(s(z))),s(z))\nEND-SPEC\n";
+    let want_one: &[u8] =
+        b"REC-SPEC DRILL\nSORTS Nat\nCONS z : -> Nat\ns : Nat -> Nat\nOPNS plus mult : Nat Nat -> Nat\nVARS X Y : Nat\nRULES\nplus(X,z) -> X\nplus(X,s(Y)) -> s(plus(X,Y))\nmult(X,z) -> z\nmult(X,s(Y)) -> plus(mult(X,Y),X)\nEVAL\nmult(s(s(s(z))),s(z))\nEND-SPEC\n";
     assert_eq!(rt; one.as_slice(), want_one);
     let two = drill_text(rt.alloc(), 2)?;
-    let want_two: &[u8] = b"REC-SPEC DRILL\nSORTS Nat\nCONS z : -> Nat\ns : Nat -> Nat\nOPNS plus mult : Nat Nat -> Nat\nVARS X Y : Nat\nRULES\nplus(X,z) -> X\nplus(X,s(Y)) -> s(plus(X,Y))\nmult(X,z) -> z\nmult(X,s(Y)) -> plus(mult(X,Y),X)\nEVAL\nmult(s(s(s(z))),s(z))\nmult(s(s(s(s(s(s(s(s(s(s(z)))))))))),s(s(s(s(s(s(z)))))))\nEND-SPEC\n";
+    let want_two: &[u8] =
+        b"REC-SPEC DRILL\nSORTS Nat\nCONS z : -> Nat\ns : Nat -> Nat\nOPNS plus mult : Nat Nat -> Nat\nVARS X Y : Nat\nRULES\nplus(X,z) -> X\nplus(X,s(Y)) -> s(plus(X,Y))\nmult(X,z) -> z\nmult(X,s(Y)) -> plus(mult(X,Y),X)\nEVAL\nmult(s(s(s(z))),s(z))\nmult(s(s(s(s(s(s(s(s(s(s(z)))))))))),s(s(s(s(s(s(z)))))))\nEND-SPEC\n";
     assert_eq!(rt; two.as_slice(), want_two);
     Ok(())
 }

@@ -1,4 +1,4 @@
-use Rattle.std.proofs.Common.{◌≡◌, ◌++◌, List, ℕ, sym, ap, ◌∙◌}
+use Rattle.std.proofs.Common.{◌++◌, List, ℕ, sym, ap, ◌∙◌}
 use Rattle.std.specs.List.{flat_map}
 use Rattle.rec_drill.specs.Drill.{opening_lines, term_line, ended}
 use Rattle.rec_drill.proofs.TermLines.{bytes_more}
