@@ -17,9 +17,6 @@ use faults::{Memory, Refusal, kinds};
 use rec_reader::{Name, Specification};
 use std::alloc::Global;
 
-
-
-
 /// The sorts of arguments, symbols and variables.
 fn used_sorts(alloc: Global, specification: &Specification) -> Result<Vec<Name>, Memory>
     ensures { IfOk result (λ v. v.items ≡ used_sorts specification.now) }
@@ -64,7 +61,12 @@ pub(crate) fn note_unknown_includes(
         specification.now.includes)) }
 {
     for entry in specification.includes.as_slice() {
-        note_if(found, kinds::INCLUDE, *entry, !headers.has_before(number, *entry));
+        note_if(
+            found,
+            kinds::INCLUDE,
+            *entry,
+            !headers.has_before(number, *entry),
+        );
     }
 }
 
@@ -96,7 +98,12 @@ fn declare<'a>(
         (repeated scope.old.bytes (names_of scope.old.entries) (names_of (entries_of own.now))))) }
 {
     for signature in own {
-        note_if(found, kinds::REPEATED, signature.name, scope.has(signature.name));
+        note_if(
+            found,
+            kinds::REPEATED,
+            signature.name,
+            scope.has(signature.name),
+        );
         scope.add(*signature)?;
     }
     Ok(())
@@ -107,7 +114,12 @@ fn note_repeated_header(found: &mut Option<Refusal>, headers: &Directory, number
     ensures { found.new ≡ least_with found.old (of_kind 6
         (filter (is_among headers.now.bytes (take number headers.now.names)) (name ∷ []))) }
 {
-    note_if(found, kinds::REPEATED, name, headers.has_before(number, name));
+    note_if(
+        found,
+        kinds::REPEATED,
+        name,
+        headers.has_before(number, name),
+    );
 }
 
 fn note_clashing_entries(found: &mut Option<Refusal>, verdicts: &[Verdict])

@@ -15,7 +15,6 @@ use crate::signatures::Signature;
 use faults::{Refusal, kinds};
 use rec_reader::{Declaration, Name, Node, Rule, Sequence, Specification, Variables};
 
-
 /// How many symbols, rules or terms there may be.
 pub(crate) const MOST: usize = 65_535;
 
@@ -33,7 +32,12 @@ fn note_long_name(found: &mut Option<Refusal>, text: &[u8], name: Name)
     ensures { found.new ≡ least_with found.old
         (of_kind 13 (filter (is_long text.now) (name ∷ []))) }
 {
-    note_if(found, kinds::LIMIT, name, text_of(text, name).len() > LONGEST_NAME);
+    note_if(
+        found,
+        kinds::LIMIT,
+        name,
+        text_of(text, name).len() > LONGEST_NAME,
+    );
 }
 
 fn note_long(found: &mut Option<Refusal>, text: &[u8], names: &[Name])
@@ -199,6 +203,10 @@ pub(crate) fn note_past_limits(
         kinds::LIMIT,
         past_rule(before_rules, specification.rules.as_slice()),
     );
-    note_some(found, kinds::LIMIT, past_term(specification.terms.as_slice()));
+    note_some(
+        found,
+        kinds::LIMIT,
+        past_term(specification.terms.as_slice()),
+    );
     note_passing_entries(found, verdicts);
 }

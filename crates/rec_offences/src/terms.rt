@@ -14,9 +14,6 @@ use faults::{Memory, Refusal, kinds};
 use rec_reader::{Name, Node, Rule, Sequence, Specification};
 use std::alloc::Global;
 
-
-
-
 /// Whether a head is declared with another sort than is wanted.
 fn has_other_sort(scope: &Scope, wanted: Name, head: Name) -> bool
     ensures { result ≡ has_other_sort scope.now.bytes scope.now.entries wanted head }

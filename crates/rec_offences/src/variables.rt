@@ -15,9 +15,6 @@ use faults::{Memory, Refusal, kinds};
 use rec_reader::{Condition, Node, Rule, Sequence, Specification};
 use std::alloc::Global;
 
-
-
-
 fn note_bare_variable(found: &mut Option<Refusal>, scope: &Scope, left: &[Node])
     ensures { found.new ≡ least_with found.old (of_kind 9
         (filter (is_variable scope.now.bytes scope.now.entries) (option_to_list (root left.now)))) }
@@ -111,7 +108,12 @@ fn note_variables(found: &mut Option<Refusal>, scope: &Scope, nodes: &[Node])
         (filter (is_variable scope.now.bytes scope.now.entries) (heads nodes.now))) }
 {
     for node in nodes {
-        note_if(found, kinds::NOT_GROUND, node.head, scope.is_variable(node.head));
+        note_if(
+            found,
+            kinds::NOT_GROUND,
+            node.head,
+            scope.is_variable(node.head),
+        );
     }
 }
 
