@@ -68,5 +68,5 @@ all_lines (line ∷ lines) h =
 pub text_cut : (n : ℕ) → slice_split (λ y. y == 10) (drill_bytes n) ≡ drill_lines n ++ [] ∷ []
 text_cut n =
     all_lines (drill_lines n)
-        (no_feeds-append (opening_lines ++ term_lines n) (codes "END-SPEC" ∷ [])
-            (no_feeds-append opening_lines (term_lines n) no_feeds-opening (no_feeds-terms n)) (refl, tt))
+    (no_feeds-append (opening_lines ++ term_lines n) (codes "END-SPEC" ∷ [])
+    (no_feeds-append opening_lines (term_lines n) no_feeds-opening (no_feeds-terms n)) (refl, tt))
