@@ -1,3 +1,4 @@
 pub mod Numerals
 pub mod TermLines
 pub mod Lengths
+pub mod Cutting

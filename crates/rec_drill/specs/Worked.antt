@@ -1,5 +1,5 @@
 -- Texts worked by hand, which the check computes.
-use Rattle.std.specs.Prelude.{ℕ, codes, List, [], ◌∷◌, ◌++◌}
+use Rattle.std.specs.Prelude.{ℕ, zero, suc, codes, List, [], ◌∷◌, ◌++◌}
 
 -- the whole text of one term
 unfoldable pub text_of_one : List ℕ
@@ -15,3 +15,15 @@ three_terms =
     ∷ codes "mult(s(s(s(s(s(s(s(s(s(s(z)))))))))),s(s(s(s(s(s(z)))))))"
     ∷ codes "mult(s(s(s(s(s(s(z)))))),s(s(s(s(s(s(s(s(s(s(s(z))))))))))))"
     ∷ []
+
+-- what a function gives of 0 to n - 1
+abbrev pub counts : (ℕ → ℕ) → ℕ → List ℕ
+counts f zero = []
+counts f (suc n) = counts f n ++ f n ∷ []
+
+-- the first numbers of terms 0 to 10, and the second numbers of terms 0 to 12
+abbrev pub first_turn : List ℕ
+first_turn = 3 ∷ 10 ∷ 6 ∷ 2 ∷ 9 ∷ 5 ∷ 1 ∷ 8 ∷ 4 ∷ 0 ∷ 7 ∷ []
+
+abbrev pub second_turn : List ℕ
+second_turn = 1 ∷ 6 ∷ 11 ∷ 3 ∷ 8 ∷ 0 ∷ 5 ∷ 10 ∷ 2 ∷ 7 ∷ 12 ∷ 4 ∷ 9 ∷ []

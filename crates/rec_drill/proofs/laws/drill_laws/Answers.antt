@@ -2,8 +2,12 @@ use Rattle.std.proofs.Common.{◌≡◌, ℕ, ◌+◌, ◌*◌, ◌%◌, ap, ◌
 use Rattle.std.proofs.Math.Nat.{add-mul-mod_self_right}
 use Rattle.rec_drill.proofs.Numerals.{numeral_length}
 use Rattle.rec_drill.proofs.TermLines.{length-drill_lines, term_among}
+use Rattle.rec_drill.proofs.Cutting.{text_cut}
 use Rattle.rec_drill.proofs.Lengths.{text_short}
 use Rattle.rec_drill.proofs.laws.drill_laws.Goals as goal
+
+pub returns-clause-cut : goal.returns-clause-cut
+returns-clause-cut c = text_cut
 
 pub returns-clause-lines : goal.returns-clause-lines
 returns-clause-lines c = length-drill_lines
