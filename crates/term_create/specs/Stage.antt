@@ -1,0 +1,118 @@
+-- The stages of a creation, as they show in the own view.
+use Rattle.std.specs.Prelude.{◌≡◌, ◌≢◌, ◌⊎◌, ◌==◌, if◌then◌else◌, ℕ, suc, pred, max, ◌<◌, ◌≤◌, ◌+◌, ◌^◌, Option, List, [], ◌∷◌, ◌++◌, length}
+use Rattle.atomic_table.specs.Seated.{TableId}
+use Rattle.atomic_table.specs.declared.shared.Seat.{Seat}
+use Rattle.term_model.specs.declared.Head.{Head}
+use Rattle.history_core.specs.declared.entry.Entry.TheVariants.{Make, Find}
+use Rattle.store_core.specs.declared.view.Sizes.{Sizes}
+use Rattle.store_core.specs.declared.view.View.{View}
+use Rattle.store_core.specs.declared.view.Content.{Content}
+use Rattle.store_core.specs.declared.view.Passed.{Passed}
+use Rattle.store_core.specs.declared.view.Call.{Call}
+use Rattle.store_core.specs.declared.view.Call.TheVariants.{Comparing, Passing, Finding, Filling, Numbering}
+use Rattle.store_core.specs.Calls.{words_of}
+use Rattle.store_core.specs.Machine.{with_call, with_path, passing, gained, refusing, overdrawn, arrived, widest}
+use Rattle.store_core.specs.Shown.{total}
+use Rattle.store_core.specs.Reads.{Differs, PathTo}
+use Rattle.busy_forbidden.specs.Calls.{IsSame}
+use Rattle.node_rows.specs.declared.view.NodeView.{NodeView}
+use Rattle.node_rows.specs.Steps.{IsOf, Known, with_store, over}
+
+-- the seat is one of this store, and what its view says by itself holds
+pub record IsAt (t : TableId) (key z : Sizes) (seat : Seat (Unit {0}) NodeView) : Type 0 where
+  pub of : IsOf t key seat
+  pub told : key ≡ z
+  pub small : total z < 2 ^ 62
+  pub known : Known z seat.me.0.store
+
+-- the same seat of the same store
+pub record SameSeat (a b : Seat (Unit {0}) NodeView) (i j m n : ℕ) : Type 0 where
+  pub same : IsSame a b
+  pub number : j ≡ i
+  pub seats : n ≡ m
+
+-- a row has room for the words of a head over rows
+abbrev pub Fits : Sizes → Head → List ℕ → Type 0
+Fits z f rs = length (words_of (over f rs)) ≤ widest z + 2
+
+-- the view v with this call
+abbrev pub at_call : NodeView → Call → NodeView
+at_call v x = with_store v (with_call v.store x)
+
+-- the view v with this call, whose walks have passed these rows
+abbrev pub at_walk : NodeView → ℕ → List Passed → Call → NodeView
+at_walk v n ps x = with_store v (with_call (with_path v.store n ps) x)
+
+-- the first k words were compared
+abbrev pub stage : Content → Option (ℕ × ℕ) → ℕ → ℕ → ℕ → ℕ → Call
+stage c d from old at k = if k == length (words_of c) then Finding c d (pred at) else Comparing c d from old at k
+
+-- the first k words of the drawn row were stored
+abbrev pub storing : Content → ℕ → ℕ → ℕ → ℕ → Call
+storing c from i r k = if k == length (words_of c) then Numbering c from i r else Filling c from i r k
+
+-- the row that the walk is at differs in a word
+pub record IsOther (v w : NodeView) (c : Content) (d : Option (ℕ × ℕ)) (from old at : ℕ) : Type 0 where
+  pub word : ℕ
+  pub found : ℕ
+  pub differs : Differs c word found
+  pub view : w ≡ at_call v (Passing c d from old at (word, found))
+
+-- and the walk has gone on to the next one
+pub record GoesOn (v w : NodeView) (c : Content) (d : Option (ℕ × ℕ)) (from old at next : ℕ) : Type 0 where
+  pub word : ℕ
+  pub found : ℕ
+  pub differs : Differs c word found
+  pub view : w ≡ at_walk v (suc v.store.passed) (v.store.path ++ passing at (word, found) next ∷ []) (arrived c d from old next)
+
+-- a walk from the head `from` has come to the word `at`, past n rows that each differ in a word
+pub record HasWalked (v w : NodeView) (c : Content) (d : Option (ℕ × ℕ)) (from old at n : ℕ) : Type 0 where
+  pub path : List Passed
+  pub leads : PathTo c from path at
+  pub view : w ≡ at_walk v (v.store.passed + n) (v.store.path ++ path) (arrived c d from old at)
+
+-- The walk has come to its end, the word `old`, without the row. Where it began elsewhere it has passed some.
+pub record HasPassed (v w : NodeView) (c : Content) (x : Call) (from old : ℕ) : Type 0 where
+  pub passed : ℕ
+  pub path : List Passed
+  pub no_fewer : v.store.passed ≤ passed
+  pub some : from ≢ old → v.store.passed < passed
+  pub leads : PathTo c from path old
+  pub view : w ≡ at_walk v passed (v.store.path ++ path) x
+
+-- the exchange was lost, and the walk from there has passed some row
+pub record Relinks (v w : NodeView) (x : Call) : Type 0 where
+  pub passed : ℕ
+  pub path : List Passed
+  pub more : v.store.passed < passed
+  pub view : w ≡ at_walk v passed path x
+
+-- the walk has found the row, and noted it
+pub record Finds (v w : NodeView) (f : Head) (rs : List ℕ) (r : ℕ) : Type 0 where
+  pub passed : ℕ
+  pub path : List Passed
+  pub birth : ℕ
+  pub view : w ≡ with_store v (gained (with_path v.store passed path) (over f rs) r birth (Find (max v.store.seen birth) f rs r))
+
+-- the row was made, and that was noted
+pub record Makes (v w : NodeView) (f : Head) (rs : List ℕ) (r : ℕ) : Type 0 where
+  pub passed : ℕ
+  pub path : List Passed
+  pub number : ℕ
+  pub later : v.store.seen < number
+  pub view : w ≡ with_store v (gained (with_path v.store passed path) (over f rs) r number (Make number f rs r))
+
+-- a step of the call read the claim, or drew a number, of at least the free count, after the whole chain from the head `from`
+pub record IsFull (v w : NodeView) (c : Content) (from : ℕ) : Type 0 where
+  pub claim : ℕ
+  pub count : ℕ
+  pub full : count ≤ claim
+  pub view : (w ≡ with_store v (refusing v.store c from claim count)) ⊎ (w ≡ with_store v (overdrawn v.store c from claim count))
+
+-- and that chain was walked to its end, by rows that each differ
+pub record IsRefused (v w : NodeView) (c : Content) : Type 0 where
+  pub head : ℕ
+  pub passed : ℕ
+  pub path : List Passed
+  pub leads : PathTo c head path 0
+  pub full : IsFull (with_store v (with_path v.store passed (v.store.path ++ path))) w c head
