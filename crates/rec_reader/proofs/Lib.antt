@@ -1,5 +1,7 @@
 pub mod Reading
 pub mod Pieces
+pub mod Parted
+pub mod Cutting
 pub mod Runs
 pub mod Outcome
 pub mod Leaving

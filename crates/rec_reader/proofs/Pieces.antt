@@ -15,11 +15,17 @@ run_more bytes at h n =
     let front = drop_more bytes at 0 h in
     ap run_length front ∙ run_front (get_or bytes at 0) (drop (at + 1) bytes) (sym (ap is_name_byte front) ∙ n)
 
-third : {A : Type 0} (s c n : Bool) (x y z w : A) → s ≡ false → c ≡ false → n ≡ true → cond s x (cond c y (cond n z w)) ≡ z
+pub first : {A : Type 0} (s : Bool) (x y : A) → s ≡ true → cond s x y ≡ x
+first s x y e = ap (λ t. cond t x y) e
+
+pub second : {A : Type 0} (s c : Bool) (x y z : A) → s ≡ false → c ≡ true → cond s x (cond c y z) ≡ y
+second s c x y z e f = ap (λ t. cond t x (cond c y z)) e ∙ ap (λ t. cond t y z) f
+
+pub third : {A : Type 0} (s c n : Bool) (x y z w : A) → s ≡ false → c ≡ false → n ≡ true → cond s x (cond c y (cond n z w)) ≡ z
 third s c n x y z w e f g =
     ap (λ t. cond t x (cond c y (cond n z w))) e ∙ ap (λ t. cond t y (cond n z w)) f ∙ ap (λ t. cond t z w) g
 
-fourth : {A : Type 0} (s c n : Bool) (x y z w : A) → s ≡ false → c ≡ false → n ≡ false → cond s x (cond c y (cond n z w)) ≡ w
+pub fourth : {A : Type 0} (s c n : Bool) (x y z w : A) → s ≡ false → c ≡ false → n ≡ false → cond s x (cond c y (cond n z w)) ≡ w
 fourth s c n x y z w e f g =
     ap (λ t. cond t x (cond c y (cond n z w))) e ∙ ap (λ t. cond t y (cond n z w)) f ∙ ap (λ t. cond t z w) g
 

@@ -1,5 +1,6 @@
 pub mod Scanned
 pub mod Tokens
+pub mod Cut
 pub mod Syntax
 pub mod Parsed
 pub mod Grammar

@@ -2,6 +2,7 @@
 #![tactic(auto)]
 
 mod fail;
+mod laws;
 mod machine;
 mod parser;
 mod scanner;
@@ -11,6 +12,7 @@ mod token;
 
 pub use fail::ReadFail;
 pub use faults::Memory;
+pub use laws::token_laws;
 pub use parser::syntax;
 pub use scanner::tokens;
 pub use sequence::Sequence;

@@ -1,0 +1,9 @@
+use Rattle.std.proofs.Common.{refl}
+use Rattle.rec_reader.proofs.Cutting.{tokens_are_cut}
+use Rattle.rec_reader.proofs.laws.token_laws.Goals as goal
+
+pub returns-clause-cut : goal.returns-clause-cut
+returns-clause-cut c = tokens_are_cut
+
+pub returns-clause-worked : goal.returns-clause-worked
+returns-clause-worked c = record { arrow = refl; dash = refl; joins = refl; parts = refl; word = refl; comment = refl; bad = refl }
