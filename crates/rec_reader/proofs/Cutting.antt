@@ -20,7 +20,7 @@ split true then' else' = then' refl
 split false then' else' = else' refl
 
 -- what follows a part is read from its end on
-passed : (b : ℕ) (bs text rest : List ℕ) (at more : ℕ) → b ∷ bs ≡ text ++ rest → length text ≡ more + 1 → tokens_from (at + 1) more bs ≡ tokens_from (at + length text) 0 rest
+pub passed : (b : ℕ) (bs text rest : List ℕ) (at more : ℕ) → b ∷ bs ≡ text ++ rest → length text ≡ more + 1 → tokens_from (at + 1) more bs ≡ tokens_from (at + length text) 0 rest
 passed b bs text rest at more e n =
     let whole : length (b ∷ bs) ≡ length text + length rest = ap length e ∙ length-append text rest in
     let fits : more ≤ length bs = omega (arith, whole, n) in

@@ -2,6 +2,7 @@ pub mod Reading
 pub mod Pieces
 pub mod Parted
 pub mod Cutting
+pub mod Joined
 pub mod Runs
 pub mod Outcome
 pub mod Leaving

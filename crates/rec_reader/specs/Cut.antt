@@ -103,6 +103,10 @@ pub record IsCut (at : ℕ) (bytes : List ℕ) (tokens : List Token) : Type 0 wh
 abbrev pub TokensAreCut : Type 0
 TokensAreCut = (bytes : List ℕ) (tokens : List Token) → tokens_of bytes ≡ Ok tokens → IsCut 0 bytes tokens
 
+-- No other tokens have such parts.
+abbrev pub OthersAreNoCut : Type 0
+OthersAreNoCut = (bytes : List ℕ) (tokens : List Token) → IsCut 0 bytes tokens → tokens_of bytes ≡ Ok tokens
+
 abbrev pub name_at : (start end : ℕ) → Token
 name_at start end = Named (record { start = start; end = end })
 

@@ -1,5 +1,6 @@
 use Rattle.std.proofs.Common.{refl}
 use Rattle.rec_reader.proofs.Cutting.{tokens_are_cut}
+use Rattle.rec_reader.proofs.Joined.{others_are_no_cut}
 use Rattle.rec_reader.proofs.laws.token_laws.Goals as goal
 
 pub returns-clause-cut : goal.returns-clause-cut
@@ -7,3 +8,6 @@ returns-clause-cut c = tokens_are_cut
 
 pub returns-clause-worked : goal.returns-clause-worked
 returns-clause-worked c = record { arrow = refl; dash = refl; joins = refl; parts = refl; word = refl; comment = refl; bad = refl }
+
+pub returns-clause-only : goal.returns-clause-only
+returns-clause-only c = others_are_no_cut
