@@ -25,3 +25,4 @@ pub mod Walk
 pub mod AnyOrder
 pub mod Steps
 pub mod Weight
+pub mod Visits

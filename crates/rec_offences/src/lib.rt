@@ -35,4 +35,4 @@ mod variables;
 pub use faults::{Memory, Refusal};
 pub use gathering::material_of;
 pub use input::fault;
-pub use laws::fault_laws;
+pub use laws::{fault_laws, visit_laws};
