@@ -11,6 +11,10 @@ mod building;
 #[cfg(test)]
 mod chance;
 #[cfg(test)]
+mod counted;
+#[cfg(test)]
+mod counting;
+#[cfg(test)]
 mod matching;
 #[cfg(test)]
 mod reading;
