@@ -5,19 +5,15 @@ ghost use Rattle.rule_match.specs.Planned.{HasRoom};
 
 use crate::Plan;
 use faults::Memory;
-use smallvec::SmallVec;
 use std::alloc::Global;
 use std::marker::Model;
 use term_model::Row;
-
-/// The rows of variables, with room in place for eight. Few rules have more variables.
-pub(crate) type Substitution = SmallVec<Row, 8>;
 
 /// The rows to which a match binds the variables of a rule, in their order, with the room that a
 /// match needs.
 #[derive(Drop)]
 pub struct Binds {
-    pub(crate) rows: Substitution,
+    pub(crate) rows: Vec<Row>,
     pub(crate) stack: Vec<Row>,
     room: usize,
 }
@@ -32,7 +28,7 @@ impl Model for Binds {
 
     ghost view = { λ b. record { rows = b.rows.items; room = b.room } };
 
-    ghost invariant = { λ b. (b.room ≤ b.rows.capacity) × (b.room ≤ vec_capacity b.stack) };
+    ghost invariant = { λ b. (b.room ≤ vec_capacity b.rows) × (b.room ≤ vec_capacity b.stack) };
 }
 
 impl Binds {
@@ -45,10 +41,8 @@ impl Binds {
         for rule in plan.rules() {
             room = room.max(rule.left().node_count());
         }
-        let mut rows = SmallVec::new(alloc);
-        rows.reserve(room)?;
         Ok(Binds {
-            rows,
+            rows: Vec::with_capacity(alloc, room)?,
             stack: Vec::with_capacity(alloc, room)?,
             room,
         })
@@ -58,6 +52,6 @@ impl Binds {
     pub fn rows(&self) -> &[Row]
         ensures { result.now ≡ self.now.rows }
     {
-        self.rows.as_slice()
+        &self.rows
     }
 }

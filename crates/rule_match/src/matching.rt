@@ -1,6 +1,6 @@
 //! Matching the left side of a rule against a stored term.
 
-ghost use Rattle.std.specs.Prelude.{◌≡◌, ℕ, ◌+◌, ◌<◌, ◌≤◌, List, [], ◌∷◌, ◌++◌, length, map, reverse, slice_get, Some, None, true, All, vec_len, vec_capacity};
+ghost use Rattle.std.specs.Prelude.{◌≡◌, ℕ, ◌+◌, ◌<◌, ◌≤◌, List, [], ◌∷◌, ◌++◌, length, map, reverse, Some, None, true, All, vec_len, vec_capacity};
 ghost use Rattle.std.specs.Bool.{OnTrue, OnFalse};
 ghost use Rattle.term_model.specs.Tree.{Tree, nodes, arguments};
 ghost use Rattle.term_model.specs.declared.Head.TheVariants.{App};
@@ -10,7 +10,6 @@ ghost use Rattle.rule_match.specs.Planned.{match_at, HasRoom};
 ghost use Rattle.rule_match.specs.Preorder.{left_at};
 ghost use Rattle.rule_match.specs.Stands.{stands};
 
-use crate::binding::Substitution;
 use crate::heads::is_symbol;
 use crate::{Binds, Plan};
 use term_model::{Item, Row, Symbol};
@@ -53,14 +52,14 @@ fn run<T: Terms>(
     terms: &mut T,
     row: Row,
     stack: &mut Vec<Row>,
-    rows: &mut Substitution,
+    rows: &mut Vec<Row>,
 ) -> bool
     requires inside { (T.store terms.old).inside ≡ true }
     requires sound { IsSound (T.store terms.old) }
     requires rule { rule < length plan.now.rules }
     requires held { IsHeld (T.store terms.old) row }
     requires stack_room { nodes (left_at plan.now.rules rule) ≤ vec_capacity stack.old }
-    requires rows_room { nodes (left_at plan.now.rules rule) ≤ rows.old.capacity }
+    requires rows_room { nodes (left_at plan.now.rules rule) ≤ vec_capacity rows.old }
     requires stack_empty { stack.old.items ≡ [] }
     requires rows_empty { rows.old.items ≡ [] }
     ensures bound { OnTrue result
@@ -70,7 +69,7 @@ fn run<T: Terms>(
         (match_of (left_at plan.now.rules rule) (tree_at (T.store terms.old) row) ≡ None) }
     ensures held { All (IsHeld (T.store terms.old)) rows.new.items }
     ensures stack_room { vec_capacity stack.new ≡ vec_capacity stack.old }
-    ensures rows_room { rows.new.capacity ≡ rows.old.capacity }
+    ensures rows_room { vec_capacity rows.new ≡ vec_capacity rows.old }
     ensures unchanged { T.store terms.new ≡ T.store terms.old }
     ensures same { T.same terms.old terms.new }
 {
@@ -131,20 +130,12 @@ fn push_arguments<T: Terms>(terms: &mut T, row: Row, count: u32, stack: &mut Vec
     }
 }
 
-/// The row of a variable.
-fn row_at(rows: &Substitution, at: usize) -> Row
-    requires { at < length rows.now.items }
-    ensures { slice_get rows.now.items at ≡ Some result }
-{
-    rows.as_slice()[at]
-}
-
 /// Binds a new variable to a row, or tests that it is bound to it. Equal trees have one row.
-fn bind<T: Terms>(variable: u32, row: Row, terms: &T, rows: &mut Substitution) -> bool
+fn bind<T: Terms>(variable: u32, row: Row, terms: &T, rows: &mut Vec<Row>) -> bool
     requires sound { IsSound (T.store terms.now) }
     requires held { IsHeld (T.store terms.now) row }
     requires rows_held { All (IsHeld (T.store terms.now)) rows.old.items }
-    requires room { length rows.old.items < rows.old.capacity }
+    requires room { vec_len rows.old < vec_capacity rows.old }
     ensures bound { OnTrue result
         (bind_of variable (tree_at (T.store terms.now) row)
         (map (tree_at (T.store terms.now)) rows.old.items)
@@ -153,12 +144,12 @@ fn bind<T: Terms>(variable: u32, row: Row, terms: &T, rows: &mut Substitution) -
         (bind_of variable (tree_at (T.store terms.now) row)
         (map (tree_at (T.store terms.now)) rows.old.items) ≡ None) }
     ensures held { All (IsHeld (T.store terms.now)) rows.new.items }
-    ensures size { length rows.new.items ≤ length rows.old.items + 1 }
-    ensures room { rows.new.capacity ≡ rows.old.capacity }
+    ensures size { vec_len rows.new ≤ vec_len rows.old + 1 }
+    ensures room { vec_capacity rows.new ≡ vec_capacity rows.old }
 {
     let at = variable as usize;
     if at < rows.len() {
-        return row_at(rows, at) == row;
+        return rows[at] == row;
     }
     if at > rows.len() {
         return false;

@@ -1,5 +1,5 @@
-use Rattle.std.proofs.Common.{◌≡◌, ◌≤◌, length}
-use Rattle.std.specs.Prelude.{All, vec_capacity}
+use Rattle.std.proofs.Common.{◌≡◌, ◌≤◌}
+use Rattle.std.specs.Prelude.{All, vec_len, vec_capacity}
 use Rattle.terms_api.specs.Terms.{IsHeld, tree_at}
 use Rattle.rule_match.specs.Preorder.{left_at}
 use Rattle.rule_match.proofs.Pending.{Left}
@@ -15,7 +15,7 @@ invariant-loop-item g l =
       left : Left s l.plan.widest (left_at l.plan.rules l.rule) (tree_at s l.fn.row) l.item-items l.item-index l.stack.items l.rows.items;
       stack_held : All (IsHeld s) l.stack.items;
       rows_held : All (IsHeld s) l.rows.items;
-      rows_size : length l.rows.items ≤ l.item-index;
+      rows_size : vec_len l.rows ≤ l.item-index;
       stack_room : vec_capacity l.stack ≡ vec_capacity l.fn.stack;
-      rows_room : l.rows.capacity ≡ l.fn.rows.capacity;
+      rows_room : vec_capacity l.rows ≡ vec_capacity l.fn.rows;
     }
