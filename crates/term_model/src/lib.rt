@@ -13,7 +13,7 @@ pub use flattened::Flat;
 pub use laws::{distinct_laws, equality_laws, postorder_laws, subtree_laws};
 
 /// The name of a stored term.
-#[derive(Clone, Copy, Debug, PartialEq, Eq, PartialOrd, Ord, Hash)]
+#[derive(Clone, Copy, Debug, Default, PartialEq, Eq, PartialOrd, Ord, Hash)]
 pub struct Row(pub u32);
 
 /// The name of a function symbol.
