@@ -1,0 +1,90 @@
+-- How workers end, and which terms each drew.
+use Rattle.std.specs.Prelude.{◌≡◌, ℕ, ◌<◌, ◌≤◌, ◌⊎◌, List, [], ◌∷◌, ◌++◌, Option, Some, None, Result, Ok, Err, All, Contains, length, slice_get, slice_index_or}
+use Rattle.std.specs.List.{flat_map}
+use Rattle.term_model.specs.Tree.{Tree, Leaf}
+use Rattle.terms_api.specs.Terms.{Store}
+use Rattle.rewrite_model.specs.Rule.{Rule}
+use Rattle.rewrite_model.specs.Built.{built_of_all}
+use Rattle.settings.specs.declared.parts.Settings.{Settings}
+use Rattle.innermost.specs.Normalized.{WasRefused}
+use Rattle.innermost.specs.declared.normal.RunFault.{RunFault}
+use Rattle.innermost.specs.declared.normal.RunFault.TheVariants as fault
+use Rattle.term_lines.specs.Written.{points_of}
+use Rattle.term_lines.specs.declared.stop.LineStop.{LineStop}
+use Rattle.term_lines.specs.declared.stop.LineStop.TheVariants as stop
+use Rattle.rewrite_workers.specs.declared.fault.AllFault.{AllFault}
+use Rattle.rewrite_workers.specs.declared.fault.AllFault.TheVariants.{StoreFull, Worn, Memory}
+use Rattle.rewrite_workers.specs.Dealt.{times}
+use Rattle.rewrite_workers.specs.Desks.{EachDesk}
+
+-- the terms with these numbers, in their order
+abbrev pub numbered : List Tree → List ℕ → List Tree
+numbered terms [] = []
+numbered terms (i ∷ is) = slice_index_or terms i (Leaf 0) ∷ numbered terms is
+
+-- a list that rises
+abbrev pub Rises : List ℕ → Type 0
+Rises [] = Unit {0}
+Rises (i ∷ is) = All (λ j. i < j) is × Rises is
+
+-- What each worker drew: numbers of terms, upwards, none of them twice.
+pub record AreApart (count workers : ℕ) (hands : List (List ℕ)) : Type 0 where
+  pub one_each : length hands ≡ workers
+  pub below : All (λ hand. All (λ i. i < count) hand) hands
+  pub upwards : All Rises hands
+  pub once : (i : ℕ) → times i (flat_map (λ hand. hand) hands) ≤ 1
+
+-- the desk built all that these terms build, in order, and nothing else
+abbrev pub BuiltAll : Settings → List Rule → List Tree → Store → Store → Type 0
+BuiltAll s rules drawn old new = new.built ≡ old.built ++ built_of_all rules drawn s.fuel s.depth
+
+-- The desk refused a tree of the last of these terms, and built all that they build before it.
+pub record RefusedLast (s : Settings) (rules : List Rule) (drawn : List Tree) (old new : Store) (fault : RunFault) : Type 0 where
+  pub before : List Tree
+  pub term : Tree
+  pub drawn_is : drawn ≡ before ++ term ∷ []
+  pub begun : Store
+  pub built : BuiltAll s rules before old begun
+  pub empty : begun.stack ≡ []
+  pub refused : WasRefused (points_of rules term s.fuel s.depth) begun new fault
+  pub refusals : old.refusals < new.refusals
+
+-- How a worker ended that drew these terms: none was left to draw, or it stopped at the last one, or before it drew any.
+abbrev pub Ended : Settings → List Rule → List Tree → Store → Store → Result (Unit {0}) LineStop → Type 0
+Ended s rules drawn old new (Ok _) = BuiltAll s rules drawn old new × (new.refusals ≡ old.refusals)
+Ended s rules drawn old new (Err stop.StoreFull) = RefusedLast s rules drawn old new fault.StoreFull
+Ended s rules drawn old new (Err stop.Worn) = RefusedLast s rules drawn old new fault.Worn
+Ended s rules drawn old new (Err stop.Memory) = BuiltAll s rules drawn old new × (new.refusals ≡ old.refusals)
+
+-- the fault of several ends: want of memory goes before want of numbers, and that before want of rows
+abbrev pub worse : Option AllFault → Option AllFault → Option AllFault
+worse None other = other
+worse (Some Memory) other = Some Memory
+worse (Some Worn) (Some Memory) = Some Memory
+worse (Some Worn) (Some Worn) = Some Worn
+worse (Some Worn) (Some StoreFull) = Some Worn
+worse (Some Worn) None = Some Worn
+worse (Some StoreFull) (Some Memory) = Some Memory
+worse (Some StoreFull) (Some Worn) = Some Worn
+worse (Some StoreFull) (Some StoreFull) = Some StoreFull
+worse (Some StoreFull) None = Some StoreFull
+
+abbrev pub fault_of : Result (Unit {0}) LineStop → Option AllFault
+fault_of (Ok _) = None
+fault_of (Err stop.StoreFull) = Some StoreFull
+fault_of (Err stop.Worn) = Some Worn
+fault_of (Err stop.Memory) = Some Memory
+
+abbrev pub worst : List (Result (Unit {0}) LineStop) → Option AllFault
+worst [] = None
+worst (end ∷ ends) = worse (fault_of end) (worst ends)
+
+-- Each worker drew some of the terms and ended so, with its desk. The fault is the worst of their ends, where they all began.
+pub record Stopped {D : Type 0} (store : D → Store) (s : Settings) (rules : List Rule) (terms : List Tree) (olds news : List D) (fault : AllFault) : Type 0 where
+  pub hands : List (List ℕ)
+  pub ends : List (Result (Unit {0}) LineStop)
+  pub apart : AreApart (length terms) (length olds) hands
+  pub desks : EachDesk (λ k old new. (hand : List ℕ) × (end : Result (Unit {0}) LineStop)
+    × (slice_get hands k ≡ Some hand) × (slice_get ends k ≡ Some end)
+    × Ended s rules (numbered terms hand) (store old) (store new) end) olds news
+  pub worst_is : (worst ends ≡ Some fault) ⊎ (fault ≡ Memory)

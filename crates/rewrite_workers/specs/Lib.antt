@@ -1,0 +1,5 @@
+pub mod Dealt
+pub mod Works
+pub mod Lined
+pub mod Desks
+pub mod Ends

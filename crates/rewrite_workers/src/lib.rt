@@ -1,0 +1,15 @@
+//! Workers that rewrite the terms of one list at the same time, each on a desk of its own.
+#![tactic(auto)]
+
+mod all;
+mod draws;
+mod fault;
+
+mod lines;
+mod work;
+
+pub use all::rewrite_all;
+pub use draws::{Drawing, Drawn, Extent};
+pub use fault::AllFault;
+pub use lines::{Line, Lines};
+pub use work::Work;
