@@ -1,7 +1,7 @@
 -- How workers end, and which terms each drew.
-use Rattle.std.specs.Prelude.{◌≡◌, ℕ, ◌<◌, ◌≤◌, ◌⊎◌, List, [], ◌∷◌, ◌++◌, Option, Some, None, Result, Ok, Err, All, Contains, length, slice_get, slice_index_or}
+use Rattle.std.specs.Prelude.{◌≡◌, ℕ, ◌<◌, ◌≤◌, ◌⊎◌, List, [], ◌∷◌, ◌++◌, Option, Some, None, Result, Ok, Err, All, Contains, length, slice_get}
 use Rattle.std.specs.List.{flat_map}
-use Rattle.term_model.specs.Tree.{Tree, Leaf}
+use Rattle.term_model.specs.Tree.{Tree}
 use Rattle.terms_api.specs.Terms.{Store}
 use Rattle.rewrite_model.specs.Rule.{Rule}
 use Rattle.rewrite_model.specs.Built.{built_of_all}
@@ -16,11 +16,12 @@ use Rattle.rewrite_workers.specs.declared.fault.AllFault.{AllFault}
 use Rattle.rewrite_workers.specs.declared.fault.AllFault.TheVariants.{StoreFull, Worn, Memory}
 use Rattle.rewrite_workers.specs.Dealt.{times}
 use Rattle.rewrite_workers.specs.Desks.{EachDesk}
+use Rattle.rewrite_workers.specs.Works.{term_at}
 
 -- the terms with these numbers, in their order
 abbrev pub numbered : List Tree → List ℕ → List Tree
 numbered terms [] = []
-numbered terms (i ∷ is) = slice_index_or terms i (Leaf 0) ∷ numbered terms is
+numbered terms (i ∷ is) = term_at terms i ∷ numbered terms is
 
 -- a list that rises
 abbrev pub Rises : List ℕ → Type 0
@@ -50,7 +51,7 @@ pub record RefusedLast (s : Settings) (rules : List Rule) (drawn : List Tree) (o
   pub refusals : old.refusals < new.refusals
 
 -- How a worker ended that drew these terms: none was left to draw, or it stopped at the last one, or before it drew any.
-abbrev pub Ended : Settings → List Rule → List Tree → Store → Store → Result (Unit {0}) LineStop → Type 0
+abbrev pub Ended : {A : Type 0} → Settings → List Rule → List Tree → Store → Store → Result A LineStop → Type 0
 Ended s rules drawn old new (Ok _) = BuiltAll s rules drawn old new × (new.refusals ≡ old.refusals)
 Ended s rules drawn old new (Err stop.StoreFull) = RefusedLast s rules drawn old new fault.StoreFull
 Ended s rules drawn old new (Err stop.Worn) = RefusedLast s rules drawn old new fault.Worn

@@ -4,9 +4,10 @@
 mod all;
 mod draws;
 mod fault;
-
 mod lines;
+mod threads;
 mod work;
+mod worker;
 
 pub use all::rewrite_all;
 pub use draws::{Drawing, Drawn, Extent};
