@@ -1,5 +1,5 @@
 -- Each step of the draws keeps their rule.
-use Rattle.std.proofs.Common.{◌≡◌, ◌≢◌, ℕ, zero, suc, ◌+◌, ◌-◌, ◌%◌, ◌^◌, ◌<◌, ◌≤◌, ◌⊎◌, ◌==◌, eq-eqb, ne_eqb, Bool, true, false, cond, List, [], ◌∷◌, ◌++◌, length, get_or, set, sum_by, count_by, nat_lt, refl, sym, ap, ap₂, subst, ◌∙◌, inl, inr, ⊎_elim, arith, length-set, get_or-set_same, All}
+use Rattle.std.proofs.Common.{◌≡◌, ◌≢◌, ℕ, zero, suc, ◌+◌, ◌-◌, ◌%◌, ◌^◌, ◌<◌, ◌≤◌, ◌⊎◌, ◌==◌, eq-eqb, ne_eqb, Bool, true, false, cond, List, [], ◌∷◌, ◌++◌, length, get_or, set, sum_by, count_by, nat_lt, refl, sym, ap, ap₂, subst, ◌∙◌, inl, inr, ⊎_elim, arith, length-set, zero-add, get_or-set_same, All}
 use mathlib.Core.Logic.{dite}
 use mathlib.Core.Option.{none, some, some-injective, some-ne-none}
 use native.Mathlib.Decide.{ℕ_discrete}
@@ -9,10 +9,10 @@ use Rattle.std.proofs.lemmas.Bool.{lt-ltb, le-ltb, cases_lt}
 use Rattle.std.proofs.lemmas.List.Elements.{All-from_get_or}
 use Rattle.std.proofs.lemmas.List.Sums.{sum_by-append, sum_by-set}
 use Rattle.atomic_table.specs.Table.{State, Step, Me, Act, keeps, step, stepped, Allows, Splits, Joins, opening}
-use Rattle.atomic_table.proofs.Lists.{at_set, at_snoc, set_again, set_else, at_index}
+use Rattle.atomic_table.proofs.Lists.{at_set, at_snoc, set_again, set_else}
 use Rattle.rewrite_workers.specs.declared.draws.Drawn.{Drawn}
 use Rattle.rewrite_workers.specs.declared.draws.Extent.{Extent}
-use Rattle.rewrite_workers.specs.Dealt.{times, once_below, IsDealt, drew, Draws, Looks, one_less, one_share, joined, spent, undrawn}
+use Rattle.rewrite_workers.specs.Dealt.{times, once_below, IsDealt, drew, Draws, Looks, one_less, one_share, joined, spent, undrawn, IsInOne}
 
 -- a view that is there is at its place
 pub there : {A : Type 0} (l : List A) (i : ℕ) (a d : A) → get_elem? l i ≡ some a → (i < length l) × (get_or l i d ≡ a)
@@ -27,10 +27,10 @@ sum_set f l i a b e =
     subst (λ (y : _). sum_by f (set l i b) + f y ≡ sum_by f l + f b) t.1 (sum_by-set f l i b b t.0)
 
 pub sum_cons : {A : Type 0} (f : A → ℕ) (x : A) (xs : List A) → sum_by f (x ∷ xs) ≡ f x + sum_by f xs
-sum_cons f x xs = sum_by-append f (x ∷ []) xs
+sum_cons f x xs = sum_by-append f (x ∷ []) xs ∙ ap (λ n. n + sum_by f xs) (zero-add (f x))
 
 pub sum_snoc : {A : Type 0} (f : A → ℕ) (x : A) (xs : List A) → sum_by f (xs ++ x ∷ []) ≡ sum_by f xs + f x
-sum_snoc f x xs = sum_by-append f xs (x ∷ [])
+sum_snoc f x xs = sum_by-append f xs (x ∷ []) ∙ ap (λ n. sum_by f xs + n) (zero-add (f x))
 
 -- a sum is no more than another where each part is no more
 pub sum_most : {A : Type 0} (f g : A → ℕ) (l : List A) → ((k : ℕ) (a : A) → get_elem? l k ≡ some a → f a ≤ g a) → sum_by f l ≤ sum_by g l
@@ -101,8 +101,8 @@ one_more : (n x : ℕ) → once_below n x + hit x n ≡ once_below (n + 1) x
 one_more n x = ⊎_elim
     (λ (lt : x < n). let a = below_yes n x lt in let b = hit_other x n (λ e. omega arith) in let c = below_yes (n + 1) x (omega arith) in omega arith)
     (λ (le : n ≤ x). dite (ℕ_discrete n x)
-        (λ e. let a = below_no n x le in let b : hit x n ≡ 1 = ap (hit x) e ∙ hit_same x in let c = below_yes (n + 1) x (omega arith) in omega arith)
-        (λ ne. let a = below_no n x le in let b = hit_other x n ne in let c = below_no (n + 1) x (omega arith) in omega arith))
+    (λ e. let a = below_no n x le in let b : hit x n ≡ 1 = ap (hit x) e ∙ hit_same x in let c = below_yes (n + 1) x (omega arith) in omega arith)
+    (λ ne. let a = below_no n x le in let b = hit_other x n ne in let c = below_no (n + 1) x (omega arith) in omega arith))
     (cases_lt x n)
 
 -- a number of a list is in it
@@ -113,9 +113,9 @@ is_in (x ∷ xs) (suc k) h = let y : ℕ = get_or xs k 0 in let a = times_cons y
 
 -- where a draw is past the end or not
 step_to : (n e p : ℕ) (P : ℕ → Type 0) → (n < e → P p) → (e ≤ n → P (p + 1)) → P (cond (nat_lt n e) p (p + 1))
-step_to n e p P yes no = ⊎_elim
-    (λ h. subst (λ b. P (cond b p (p + 1))) (sym (lt-ltb n e h)) (yes h))
-    (λ h. subst (λ b. P (cond b p (p + 1))) (sym (le-ltb n e h)) (no h)) (cases_lt n e)
+step_to n e p P inside outside = ⊎_elim
+    (λ h. subst (λ b. P (cond b p (p + 1))) (sym (lt-ltb n e h)) (inside h))
+    (λ h. subst (λ b. P (cond b p (p + 1))) (sym (le-ltb n e h)) (outside h)) (cases_lt n e)
 
 -- what two numbers come to, where the shares of one are none and all are there
 module _ (about : Extent) (s : State (Unit {0}) Drawn) (holds : IsDealt about s) (id : ℕ) (v : Drawn) (at : get_elem? s.views id ≡ some v) where
@@ -174,7 +174,7 @@ module _ (about : Extent) (s : State (Unit {0}) Drawn) (holds : IsDealt about s)
       one_word = length-set s.words 0 ((word + 1) % 2 ^ 64) ∙ holds.one_word;
       once = λ x. once_each x ∙ ap (λ n. once_below n x) (sym new_word);
       shares = shares_same;
-      idle = each_set (λ (u : Drawn). u.shares ≡ 0 → u.numbers ≡ []) s.views id after holds.idle (λ none. absurd (omega arith));
+      idle = each_set (λ (u : Drawn). u.shares ≡ 0 → u.numbers ≡ []) s.views id after holds.idle (λ unshared. absurd (omega arith));
       end = each_set (λ (u : Drawn). 0 < u.shares → u.end ≡ about.end) s.views id after holds.end (λ h. holds.end id v at h);
       past = past_each;
       word = subst (λ n. n ≤ about.end + sum_by (λ (u : Drawn). u.past) views) (sym new_word) word_most;
@@ -184,9 +184,13 @@ module _ (about : Extent) (s : State (Unit {0}) Drawn) (holds : IsDealt about s)
 -- what a draw owes
 pub draw_allowed : (about : Extent) (slots id : ℕ) (me : Me (Unit {0}) Drawn) → me.1 ≡ [] → me.0.past < me.0.shares →
     Allows (IsDealt about) slots id me 0 (λ n. (n + 1) % 2 ^ 64) (Draws (step slots 0 1 0 none) me)
-draw_allowed about slots id me empty share = λ s holds homes at fits.
-    (drew me.0 (get_or s.words 0 0), keeps, tt, draw_keeps about s holds id me.0 at share,
-      (ap (λ c. (drew me.0 (get_or s.words 0 0), c)) empty, above about s holds id me.0 at))
+draw_allowed about slots id me empty share = λ s holds homes at fits. (
+  drew me.0 (get_or s.words 0 0),
+  keeps,
+  tt,
+  draw_keeps about s holds id me.0 at share,
+  (ap (λ c. (drew me.0 (get_or s.words 0 0), c)) empty, above about s holds id me.0 at),
+)
 
 -- one who has all shares has all numbers
 pub whole : (about : Extent) (s : State (Unit {0}) Drawn) → IsDealt about s → (id : ℕ) (v : Drawn) → get_elem? s.views id ≡ some v → v.shares ≡ about.shares →
@@ -194,30 +198,34 @@ pub whole : (about : Extent) (s : State (Unit {0}) Drawn) → IsDealt about s �
 whole about s holds id v at all x =
     let others : List Drawn = set s.views id spent in
     let a = sum_set (λ (u : Drawn). u.shares) s.views id v spent at in
-    let none : sum_by (λ (u : Drawn). u.shares) others ≡ 0 = let b = holds.shares in omega arith in
+    let nothing : sum_by (λ (u : Drawn). u.shares) others ≡ 0 = let b = holds.shares in omega arith in
     let idle : (k : ℕ) (u : Drawn) → get_elem? others k ≡ some u → u.shares ≡ 0 → u.numbers ≡ [] =
-        each_set (λ (u : Drawn). u.shares ≡ 0 → u.numbers ≡ []) s.views id spent holds.idle (λ _. refl) in
+    each_set (λ (u : Drawn). u.shares ≡ 0 → u.numbers ≡ []) s.views id spent holds.idle (λ _. refl) in
     let zero_each : sum_by (λ (u : Drawn). times x u.numbers) others ≡ 0 =
-        sum_none (λ (u : Drawn). times x u.numbers) others (λ k u e. ap (times x) (idle k u e (none_of_sum (λ (u : Drawn). u.shares) others none k u e))) in
+    sum_none (λ (u : Drawn). times x u.numbers) others (λ k u e. ap (times x) (idle k u e (none_of_sum (λ (u : Drawn). u.shares) others nothing k u e))) in
     let b = sum_set (λ (u : Drawn). times x u.numbers) s.views id v spent at in
     let c = holds.once x in omega arith
+
+first_again : (l : List ℕ) → length l ≡ 1 → set l 0 (get_or l 0 0) ≡ l
+first_again [] one = absurd (omega arith)
+first_again (x ∷ xs) one = refl
 
 pub look_allowed : (about : Extent) (slots id : ℕ) (me : Me (Unit {0}) Drawn) → me.0.shares ≡ about.shares →
     Allows (IsDealt about) slots id me 0 (λ n. n) (Looks (step slots 0 0 0 none) me)
 look_allowed about slots id me all = λ s holds homes at fits.
     (me.0, keeps, tt, kept s holds at, (refl, whole about s holds id me.0 at all))
-    where
-      kept : (s : State (Unit {0}) Drawn) → IsDealt about s → get_elem? s.views id ≡ some me.0 →
-          IsDealt about (stepped s 0 (get_or s.words 0 0) id me.1 me.0 keeps)
-      kept s holds at =
-          let same_words : set s.words 0 (get_or s.words 0 0) ≡ s.words = set_again s.words 0 (get_or s.words 0 0) (at_index s.words 0 (get_or s.words 0 0) (let one = holds.one_word in omega arith) refl) in
-          let same_views : set s.views id me.0 ≡ s.views = set_again s.views id me.0 at in
-          subst (λ ws. IsDealt about (record { words = ws; homes = s.homes; views = set s.views id me.0 })) (sym same_words)
-          (subst (λ vs. IsDealt about (record { words = s.words; homes = s.homes; views = vs })) (sym same_views) holds)
+  where
+    kept : (s : State (Unit {0}) Drawn) → IsDealt about s → get_elem? s.views id ≡ some me.0 →
+        IsDealt about (stepped s 0 (get_or s.words 0 0) id me.1 me.0 keeps)
+    kept s holds at =
+        let same_words : set s.words 0 (get_or s.words 0 0) ≡ s.words = first_again s.words holds.one_word in
+        let same_views : set s.views id me.0 ≡ s.views = set_again s.views id me.0 at in
+        subst (λ ws. IsDealt about (record { words = ws; homes = s.homes; views = set s.views id me.0 })) (sym same_words)
+        (subst (λ vs. IsDealt about (record { words = s.words; homes = s.homes; views = vs })) (sym same_views) holds)
 
 -- one share is cut off a seat that has drawn nothing
 pub cut_allowed : (about : Extent) (id : ℕ) (v : Drawn) → 0 < v.shares → v.numbers ≡ [] → v.past ≡ 0 → Splits (IsDealt about) id v (one_less v) (one_share v)
-cut_allowed about id v share none past = λ s holds at.
+cut_allowed about id v share undrawn_yet past = λ s holds at.
     let mid : List Drawn = set s.views id (one_less v) in
     record {
       one_word = holds.one_word;
@@ -230,7 +238,7 @@ cut_allowed about id v share none past = λ s holds at.
           let b = sum_snoc (λ (u : Drawn). u.shares) (one_share v) mid in
           let c = holds.shares in omega arith;
       idle = each_snoc (λ (u : Drawn). u.shares ≡ 0 → u.numbers ≡ []) mid (one_share v)
-          (each_set (λ (u : Drawn). u.shares ≡ 0 → u.numbers ≡ []) s.views id (one_less v) holds.idle (λ _. none)) (λ _. refl);
+          (each_set (λ (u : Drawn). u.shares ≡ 0 → u.numbers ≡ []) s.views id (one_less v) holds.idle (λ _. undrawn_yet)) (λ _. refl);
       end = each_snoc (λ (u : Drawn). 0 < u.shares → u.end ≡ about.end) mid (one_share v)
           (each_set (λ (u : Drawn). 0 < u.shares → u.end ≡ about.end) s.views id (one_less v) holds.end (λ _. holds.end id v at share)) (λ _. holds.end id v at share);
       past = each_snoc (λ (u : Drawn). u.past ≤ u.shares) mid (one_share v)
@@ -260,12 +268,12 @@ join_allowed about id v other w share = λ s holds at apart at_other.
           let b = sum_set (λ (u : Drawn). u.shares) mid other w spent at_other in
           let c = holds.shares in omega arith;
       idle = each_set (λ (u : Drawn). u.shares ≡ 0 → u.numbers ≡ []) mid other spent
-          (each_set (λ (u : Drawn). u.shares ≡ 0 → u.numbers ≡ []) s.views id (joined v w) holds.idle (λ none. absurd (omega arith))) (λ _. refl);
+          (each_set (λ (u : Drawn). u.shares ≡ 0 → u.numbers ≡ []) s.views id (joined v w) holds.idle (λ unshared. absurd (omega arith))) (λ _. refl);
       end = each_set (λ (u : Drawn). 0 < u.shares → u.end ≡ about.end) mid other spent
           (each_set (λ (u : Drawn). 0 < u.shares → u.end ≡ about.end) s.views id (joined v w) holds.end (λ _. end)) (λ h. absurd (omega arith));
       past = each_set (λ (u : Drawn). u.past ≤ u.shares) mid other spent
           (each_set (λ (u : Drawn). u.past ≤ u.shares) s.views id (joined v w) holds.past
-              (let a = holds.past id v at in let b = holds.past other w old_other in omega arith)) (omega arith);
+          (let a = holds.past id v at in let b = holds.past other w old_other in omega arith)) (omega arith);
       word =
           let a = sum_set (λ (u : Drawn). u.past) s.views id v (joined v w) at in
           let b = sum_set (λ (u : Drawn). u.past) mid other w spent at_other in
@@ -278,17 +286,48 @@ pub opens : (about : Extent) → about.end + about.shares < 2 ^ 64 → IsDealt a
 opens about fits = record {
   one_word = refl;
   once = λ x. sym (below_no 0 x (omega arith));
-  shares = refl;
+  shares = zero-add about.shares;
   idle = each_one (λ (u : Drawn). u.shares ≡ 0 → u.numbers ≡ []) (undrawn about) (λ _. refl);
   end = each_one (λ (u : Drawn). 0 < u.shares → u.end ≡ about.end) (undrawn about) (λ _. refl);
   past = each_one (λ (u : Drawn). u.past ≤ u.shares) (undrawn about) (omega arith);
   word = omega arith;
   fits = fits;
 }
-    where
-      each_one : (P : Drawn → Type 0) (w : Drawn) → P w → (k : ℕ) (v : Drawn) → get_elem? (w ∷ []) k ≡ some v → P v
-      each_one P w h zero v e = subst P (some-injective w v e) h
-      each_one P w h (suc k) v e = absurd (some-ne-none v (sym e))
+  where
+    each_one : (P : Drawn → Type 0) (w : Drawn) → P w → (k : ℕ) (v : Drawn) → get_elem? (w ∷ []) k ≡ some v → P v
+    each_one P w h zero v e = subst P (some-injective w v e) h
+    each_one P w h (suc k) v e = absurd (some-ne-none v (sym e))
+
+-- where a sum is one, one part is, and no other is anything
+pub sum_one : {A : Type 0} (f : A → ℕ) (l : List A) → sum_by f l ≡ 1 →
+    (k : ℕ) × (a : A) × (get_elem? l k ≡ some a) × (f a ≡ 1) × ((j : ℕ) (b : A) → get_elem? l j ≡ some b → j ≢ k → f b ≡ 0)
+sum_one f [] h = absurd (omega arith)
+sum_one f (x ∷ xs) h = ⊎_elim
+    (λ (first : f x ≡ 1).
+    let p = sum_cons f x xs in let rest : sum_by f xs ≡ 0 = omega arith in
+    (0, x, refl, first, others_none x xs rest))
+    (λ (first : f x ≡ 0).
+    let p = sum_cons f x xs in let found = sum_one f xs (omega arith) in
+    (suc found.0, found.1, found.2, found.3, shifted x xs found.0 first found.4))
+    (first_is (f x) (let p = sum_cons f x xs in omega arith))
+  where
+    first_is : (n : ℕ) → n ≤ 1 → (n ≡ 1) ⊎ (n ≡ 0)
+    first_is zero h = inr refl
+    first_is (suc n) h = inl (omega arith)
+
+    others_none : (x : _) (xs : List _) → sum_by f xs ≡ 0 → (j : ℕ) (b : _) → get_elem? (x ∷ xs) j ≡ some b → j ≢ 0 → f b ≡ 0
+    others_none x xs rest zero b e ne = absurd (ne refl)
+    others_none x xs rest (suc j) b e ne = none_of_sum f xs rest j b e
+
+    shifted : (x : _) (xs : List _) (k : ℕ) → f x ≡ 0 → ((j : ℕ) (b : _) → get_elem? xs j ≡ some b → j ≢ k → f b ≡ 0) →
+        (j : ℕ) (b : _) → get_elem? (x ∷ xs) j ≡ some b → j ≢ suc k → f b ≡ 0
+    shifted x xs k first rest zero b e ne = ap f (sym (some-injective x b e)) ∙ first
+    shifted x xs k first rest (suc j) b e ne = rest j b e (λ same. ne (ap suc same))
+
+pub in_one : (about : Extent) (s : State (Unit {0}) Drawn) → IsDealt about s → (x : ℕ) → x < get_or s.words 0 0 → IsInOne x s.views
+in_one about s holds x below =
+    let found = sum_one (λ (v : Drawn). times x v.numbers) s.views (holds.once x ∙ below_yes (get_or s.words 0 0) x below) in
+    record { place = found.0; view = found.1; at = found.2; once = found.3; others = found.4 }
 
 -- a false one, to see that the file is read
 planted : (n : ℕ) → n ≡ n + 1

@@ -1,5 +1,5 @@
 -- The rule of the draws: which numbers were drawn, and by whom.
-use Rattle.std.specs.Prelude.{◌≡◌, ℕ, ◌+◌, ◌-◌, ◌<◌, ◌≤◌, ◌^◌, ◌==◌, List, [], ◌∷◌, ◌++◌, length, count_by, sum_by, nat_lt, slice_index, if◌then◌else◌, All}
+use Rattle.std.specs.Prelude.{◌≡◌, ◌≢◌, ℕ, ◌+◌, ◌-◌, ◌<◌, ◌≤◌, ◌^◌, ◌==◌, List, [], ◌∷◌, ◌++◌, length, count_by, sum_by, nat_lt, slice_index, if◌then◌else◌, All}
 use mathlib.Core.Option.{some}
 use lib.ListN.{get_elem?}
 use Rattle.atomic_table.specs.Table.{State, Me, Step}
@@ -62,3 +62,11 @@ pub record IsIn (table of : TableId) (me : Me (Unit {0}) Drawn) (v : Drawn) : Ty
   pub table_is : of ≡ table
   pub one_word : table.words ≡ 1
   pub me_is : me ≡ (v, [])
+
+-- a number is once in the list of one view, and in no other
+pub record IsInOne (x : ℕ) (views : List Drawn) : Type 0 where
+  pub place : ℕ
+  pub view : Drawn
+  pub at : get_elem? views place ≡ some view
+  pub once : times x view.numbers ≡ 1
+  pub others : (j : ℕ) (v : Drawn) → get_elem? views j ≡ some v → j ≢ place → times x v.numbers ≡ 0

@@ -57,35 +57,20 @@ Ended s rules drawn old new (Err stop.StoreFull) = RefusedLast s rules drawn old
 Ended s rules drawn old new (Err stop.Worn) = RefusedLast s rules drawn old new fault.Worn
 Ended s rules drawn old new (Err stop.Memory) = BuiltAll s rules drawn old new × (new.refusals ≡ old.refusals)
 
--- the fault of several ends: want of memory goes before want of numbers, and that before want of rows
-abbrev pub worse : Option AllFault → Option AllFault → Option AllFault
-worse None other = other
-worse (Some Memory) other = Some Memory
-worse (Some Worn) (Some Memory) = Some Memory
-worse (Some Worn) (Some Worn) = Some Worn
-worse (Some Worn) (Some StoreFull) = Some Worn
-worse (Some Worn) None = Some Worn
-worse (Some StoreFull) (Some Memory) = Some Memory
-worse (Some StoreFull) (Some Worn) = Some Worn
-worse (Some StoreFull) (Some StoreFull) = Some StoreFull
-worse (Some StoreFull) None = Some StoreFull
+-- The fault of several ends: want of memory goes before want of numbers, and that before want of rows.
+abbrev pub IsWorst : List (Result (Unit {0}) LineStop) → Option AllFault → Type 0
+IsWorst ends None = All (λ end. end ≡ Ok tt) ends
+IsWorst ends (Some Memory) = Contains ends (Err stop.Memory)
+IsWorst ends (Some Worn) = Contains ends (Err stop.Worn) × (Contains ends (Err stop.Memory) → ⊥)
+IsWorst ends (Some StoreFull) = Contains ends (Err stop.StoreFull) × (Contains ends (Err stop.Worn) → ⊥) × (Contains ends (Err stop.Memory) → ⊥)
 
-abbrev pub fault_of : Result (Unit {0}) LineStop → Option AllFault
-fault_of (Ok _) = None
-fault_of (Err stop.StoreFull) = Some StoreFull
-fault_of (Err stop.Worn) = Some Worn
-fault_of (Err stop.Memory) = Some Memory
-
-abbrev pub worst : List (Result (Unit {0}) LineStop) → Option AllFault
-worst [] = None
-worst (end ∷ ends) = worse (fault_of end) (worst ends)
-
--- Each worker drew some of the terms and ended so, with its desk. The fault is the worst of their ends, where they all began.
+-- Each worker drew some of the terms and ended so, with its desk. The fault is the worst of their ends, or there was no memory to begin
+-- or to end with.
 pub record Stopped {D : Type 0} (store : D → Store) (s : Settings) (rules : List Rule) (terms : List Tree) (olds news : List D) (fault : AllFault) : Type 0 where
   pub hands : List (List ℕ)
   pub ends : List (Result (Unit {0}) LineStop)
   pub apart : AreApart (length terms) (length olds) hands
   pub desks : EachDesk (λ k old new. (hand : List ℕ) × (end : Result (Unit {0}) LineStop)
-    × (slice_get hands k ≡ Some hand) × (slice_get ends k ≡ Some end)
-    × Ended s rules (numbered terms hand) (store old) (store new) end) olds news
-  pub worst_is : (worst ends ≡ Some fault) ⊎ (fault ≡ Memory)
+      × (slice_get hands k ≡ Some hand) × (slice_get ends k ≡ Some end)
+      × Ended s rules (numbered terms hand) (store old) (store new) end) olds news
+  pub worst : IsWorst ends (Some fault) ⊎ (fault ≡ Memory)

@@ -6,3 +6,5 @@ pub mod Ends
 pub mod Working
 pub mod Worked
 pub mod Shares
+pub mod Gathered
+pub mod Crews

@@ -7,6 +7,11 @@ ghost use Rattle.rewrite_workers.specs.Desks.{IsReady, EachDesk, KeepsDesk};
 ghost use Rattle.rewrite_workers.specs.Ends.{Stopped, BuiltAll};
 ghost use Rattle.rewrite_workers.specs.Works.{IsTermFor, WriteNames};
 
+use crate::crew::{Crew, crew_of};
+use crate::draws::count_drawn;
+use crate::gather::{gather, worst_of};
+use crate::threads::work_all;
+use crate::worker::Job;
 use crate::{AllFault, Lines, Work};
 use ends::Gate;
 use std::alloc::Global;
@@ -49,5 +54,28 @@ pub fn rewrite_all<R: Threads + Sync, T: Terms + Send, G: Gate>(
         work.now.settings.fuel work.now.settings.depth) (T.store old) (T.store new)) desks.old desks.new }
     ensures same { EachDesk (λ _ old new. T.same old new) desks.old desks.new }
 {
-    Err(AllFault::Memory)
+    let workers = desks.len() as u32;
+    let Ok(crew) = crew_of(alloc, workers, work.terms.len() as u32) else {
+        return Err(AllFault::Memory);
+    };
+    let Crew {
+        draws,
+        mut all,
+        mut shares,
+        mut lines,
+    } = crew;
+    let job = Job {
+        alloc,
+        work: *work,
+        draws: &draws,
+        gate,
+    };
+    work_all(rt, &job, desks, &mut shares);
+    let worst = worst_of(&shares);
+    gather(&draws, &mut all, shares, &mut lines);
+    count_drawn(&draws, &mut all);
+    match worst {
+        None => Ok(Lines { list: lines }),
+        Some(fault) => Err(fault),
+    }
 }

@@ -1,0 +1,114 @@
+// What the workers leave, put together.
+ghost use Rattle.std.specs.Prelude.{◌≡◌, ℕ, ◌+◌, ◌<◌, ◌×◌, ◌↔◌, All, Contains, Err, IfOk, IsTrue, length, map, sum_by, vec_len};
+ghost use Rattle.rewrite_workers.specs.Dealt.{IsIn, times};
+ghost use Rattle.rewrite_workers.specs.Ends.{IsWorst};
+ghost use Rattle.rewrite_workers.specs.Worked.{drawn_of};
+ghost use Rattle.rewrite_workers.specs.Gathered.{HasOneShare, HasPlaces, Places, PlacesAll, end_of_share};
+ghost use Rattle.rewrite_workers.specs.declared.fault.AllFault.TheVariants as all;
+
+use crate::draws::{Draws, Seat, join};
+use crate::worker::{Numbered, Share};
+use crate::{AllFault, Line};
+use faults::Memory;
+use std::alloc::Global;
+use term_lines::{LineKind, LineStop};
+
+// Whether a worker stopped so.
+fn is_stop(share: &Share, stop: LineStop) -> bool
+    ensures { IsTrue result ↔ (share.now.end ≡ Err stop) }
+{
+    match (share.end, stop) {
+        (Err(LineStop::StoreFull), LineStop::StoreFull) => true,
+        (Err(LineStop::Worn), LineStop::Worn) => true,
+        (Err(LineStop::Memory), LineStop::Memory) => true,
+        _ => false,
+    }
+}
+
+// Whether some worker stopped so.
+fn any_stops(shares: &[Share], stop: LineStop) -> bool
+    ensures { IsTrue result ↔ Contains (map end_of_share shares.now) (Err stop) }
+{
+    shares.iter().any(|share| is_stop(share, stop))
+}
+
+/// The worst of the ends of all workers.
+pub(crate) fn worst_of(shares: &[Share]) -> Option<AllFault>
+    ensures { IsWorst (map end_of_share shares.now) result }
+{
+    if any_stops(shares, LineStop::Memory) {
+        Some(AllFault::Memory)
+    } else if any_stops(shares, LineStop::Worn) {
+        Some(AllFault::Worn)
+    } else if any_stops(shares, LineStop::StoreFull) {
+        Some(AllFault::StoreFull)
+    } else {
+        None
+    }
+}
+
+/// So many lines that aren't made yet.
+pub(crate) fn blank_lines(alloc: Global, count: usize) -> Result<Vec<Line>, Memory>
+    ensures { IfOk result (λ lines. vec_len lines ≡ count) }
+{
+    let mut lines = Vec::with_capacity(alloc, count)?;
+    for _ in 0..count {
+        lines.push(Line {
+            kind: LineKind::TooDeep,
+            text: Vec::new(alloc),
+            spent: 0,
+            worker: 0,
+        })?;
+    }
+    Ok(lines)
+}
+
+// Puts lines at the places of their terms.
+fn place(mut made: Vec<Numbered>, lines: &mut Vec<Line>)
+    requires { HasPlaces (vec_len lines.old) made.items }
+    ensures length { vec_len lines.new ≡ vec_len lines.old }
+    ensures placed { Places made.items lines.old.items lines.new.items }
+{
+    while let Some(Numbered { number, line }) = made.pop() {
+        lines[number as usize] = line;
+    }
+}
+
+// Takes in what a worker leaves: what its seat drew, and its lines.
+fn take_in(draws: &Draws, all: &mut Seat, share: Share, lines: &mut Vec<Line>)
+    requires all { IsIn draws.now.shared.table_id all.old.table_id all.old.me all.old.me.0 }
+    requires share { HasOneShare draws.now.shared.table_id share }
+    requires places { HasPlaces (vec_len lines.old) share.lines.items }
+    ensures all { IsIn draws.now.shared.table_id all.new.table_id all.new.me all.new.me.0 }
+    ensures shares { all.new.me.0.shares ≡ all.old.me.0.shares + 1 }
+    ensures drawn { (x : ℕ) → times x all.new.me.0.numbers
+        ≡ times x all.old.me.0.numbers + times x (drawn_of share) }
+    ensures length { vec_len lines.new ≡ vec_len lines.old }
+    ensures placed { Places share.lines.items lines.old.items lines.new.items }
+{
+    let Share {
+        worker: _,
+        seat,
+        lines: made,
+        end: _,
+    } = share;
+    join(draws, all, seat);
+    place(made, lines);
+}
+
+/// Takes in what all workers leave.
+pub(crate) fn gather(draws: &Draws, all: &mut Seat, mut shares: Vec<Share>, lines: &mut Vec<Line>)
+    requires all { IsIn draws.now.shared.table_id all.old.table_id all.old.me all.old.me.0 }
+    requires shares { All (HasOneShare draws.now.shared.table_id) shares.items }
+    requires places { All (λ s. HasPlaces (vec_len lines.old) s.lines.items) shares.items }
+    ensures all { IsIn draws.now.shared.table_id all.new.table_id all.new.me all.new.me.0 }
+    ensures shares { all.new.me.0.shares ≡ all.old.me.0.shares + vec_len shares }
+    ensures drawn { (x : ℕ) → times x all.new.me.0.numbers
+        ≡ times x all.old.me.0.numbers + sum_by (λ s. times x (drawn_of s)) shares.items }
+    ensures length { vec_len lines.new ≡ vec_len lines.old }
+    ensures placed { PlacesAll shares.items lines.old.items lines.new.items }
+{
+    while let Some(share) = shares.pop() {
+        take_in(draws, all, share, lines);
+    }
+}
