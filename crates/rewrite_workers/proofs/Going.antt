@@ -156,7 +156,7 @@ module _ (table : TableId) (s : Settings) (symbols : List Named) (rules : List R
 
   -- it stopped at the term that it drew
   pub halt : (a b c : Store) (begun share next last : Share) (n : ℕ) (e : LineStop) → Going table s symbols rules terms a b begun share → Draws table share next n → n < length terms →
-      KeepsSeat next last → Ended {Unit {0}} s rules (term_at terms n ∷ []) b c (Err e) → WorksOn {Unit {0}} (need_at s rules terms n) b c (Err e) →
+      KeepsSeat next last → Ended {A = Unit {0}} s rules (term_at terms n ∷ []) b c (Err e) → WorksOn {A = Unit {0}} (need_at s rules terms n) b c (Err e) →
       Drew table begun last × Worked s symbols rules terms a c last (Err e)
   halt a b c begun share next last n e g d inside keeps ended works =
       let kept : drawn_of last ≡ drawn_of next = ap (λ x. x.me.0.numbers) keeps.seat in
@@ -178,7 +178,7 @@ module _ (table : TableId) (s : Settings) (symbols : List Named) (rules : List R
   -- the line of the term was made
   pub go_on : (a b c : Store) (begun share next last : Share) (n : ℕ) → Going table s symbols rules terms a b begun share → Draws table share next n → n < length terms →
       KeepsSeat next last → AddsLine next last n (line_of s symbols rules (term_at terms n)) →
-      Ended {Unit {0}} s rules (term_at terms n ∷ []) b c (Ok tt) → WorksOn {Unit {0}} (need_at s rules terms n) b c (Ok tt) →
+      Ended {A = Unit {0}} s rules (term_at terms n ∷ []) b c (Ok tt) → WorksOn {A = Unit {0}} (need_at s rules terms n) b c (Ok tt) →
       Going table s symbols rules terms a c begun last
   go_on a b c begun share next last n g d inside keeps adds ended works =
       let kept : drawn_of last ≡ drawn_of next = ap (λ x. x.me.0.numbers) keeps.seat in
@@ -197,9 +197,9 @@ module _ (table : TableId) (s : Settings) (symbols : List Named) (rules : List R
             ∙ (ap (λ (xs : List ℕ). xs ++ n ∷ []) (ap (λ l. map number_of l.items) d.lines ∙ g.numbers) ∙ sym drawn));
         lines = subst (All (IsLineAt s symbols rules terms last.worker)) (sym adds.lines)
             (All-push (IsLineAt s symbols rules terms last.worker) next.lines.items (record { number = n; line = adds.line })
-                (subst (λ l. All (IsLineAt s symbols rules terms last.worker) l.items) (sym d.lines)
-                    (subst (λ w. All (IsLineAt s symbols rules terms w) share.lines.items) (sym (keeps.worker ∙ d.worker)) g.lines))
-                (record { said_is = adds.said_is; worker = adds.worker ∙ sym keeps.worker }));
+            (subst (λ l. All (IsLineAt s symbols rules terms last.worker) l.items) (sym d.lines)
+            (subst (λ w. All (IsLineAt s symbols rules terms w) share.lines.items) (sym (keeps.worker ∙ d.worker)) g.lines))
+            (record { said_is = adds.said_is; worker = adds.worker ∙ sym keeps.worker }));
         worker = keeps.worker ∙ (d.worker ∙ g.worker);
         built = subst (λ (ts : List Tree). BuiltAll s rules ts a c) (sym (ap (numbered terms) kept ∙ on_numbered share next n d)) whole.0;
         refusals = whole.1;
