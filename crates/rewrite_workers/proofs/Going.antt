@@ -70,6 +70,7 @@ pub record Going (table : TableId) (s : Settings) (symbols : List Named) (rules 
   pub below : All (λ i. i < length terms) (drawn_of share)
   pub numbers : map number_of share.lines.items ≡ drawn_of share
   pub lines : All (IsLineAt s symbols rules terms share.worker) share.lines.items
+  pub places : All (λ (x : Numbered). x.number < length terms) share.lines.items
   pub worker : share.worker ≡ begun.worker
   pub built : BuiltAll s rules (numbered terms (drawn_of share)) old now
   pub refusals : now.refusals ≡ old.refusals
@@ -93,6 +94,7 @@ module _ (table : TableId) (s : Settings) (symbols : List Named) (rules : List R
     below = subst (All (λ i. i < length terms)) (sym fresh.none) (All-nil (λ i. i < length terms));
     numbers = ap (map number_of) fresh.no_lines ∙ sym fresh.none;
     lines = subst (All (IsLineAt s symbols rules terms share.worker)) (sym fresh.no_lines) (All-nil (IsLineAt s symbols rules terms share.worker));
+    places = subst (All (λ (x : Numbered). x.number < length terms)) (sym fresh.no_lines) (All-nil (λ (x : Numbered). x.number < length terms));
     worker = refl;
     built = sym (ap (λ (xs : List ℕ). a.built ++ built_of_all rules (numbered terms xs) s.fuel s.depth) fresh.none ∙ append-nil a.built);
     refusals = refl;
@@ -130,6 +132,7 @@ module _ (table : TableId) (s : Settings) (symbols : List Named) (rules : List R
         record {
           ended = (subst (λ (xs : List ℕ). BuiltAll s rules (numbered terms xs) a b) (sym same) g.built, g.refusals);
           works = g.works;
+          places = subst (λ l. All (λ (x : Numbered). x.number < length terms) l.items) (sym d.lines) g.places;
           lines = record {
             numbers = ap (λ l. map number_of l.items) d.lines ∙ (g.numbers ∙ sym same);
             lines = subst (λ l. All (IsLineAt s symbols rules terms next.worker) l.items) (sym d.lines)
@@ -156,9 +159,9 @@ module _ (table : TableId) (s : Settings) (symbols : List Named) (rules : List R
 
   -- it stopped at the term that it drew
   pub halt : (a b c : Store) (begun share next last : Share) (n : ℕ) (e : LineStop) → Going table s symbols rules terms a b begun share → Draws table share next n → n < length terms →
-      KeepsSeat next last → Ended {A = Unit {0}} s rules (term_at terms n ∷ []) b c (Err e) → WorksOn {A = Unit {0}} (need_at s rules terms n) b c (Err e) →
+      KeepsSeat next last → last.lines.items ≡ next.lines.items → Ended {A = Unit {0}} s rules (term_at terms n ∷ []) b c (Err e) → WorksOn {A = Unit {0}} (need_at s rules terms n) b c (Err e) →
       Drew table begun last × Worked s symbols rules terms a c last (Err e)
-  halt a b c begun share next last n e g d inside keeps ended works =
+  halt a b c begun share next last n e g d inside keeps unmade ended works =
       let kept : drawn_of last ≡ drawn_of next = ap (λ x. x.me.0.numbers) keeps.seat in
       let same : of_terms (length terms) (drawn_of last) ≡ drawn_of next = ap (of_terms (length terms)) kept ∙ on_terms share next n d inside g.below in (
         record {
@@ -171,6 +174,7 @@ module _ (table : TableId) (s : Settings) (symbols : List Named) (rules : List R
           ended = subst (λ (ts : List Tree). Ended s rules ts a c (Err e)) (sym (ap (numbered terms) same ∙ on_numbered share next n d))
               (ended_after s rules (numbered terms (drawn_of share)) (term_at terms n) a b c (Err e) g.built g.refusals ended);
           works = works_after (need_of s rules terms) (need_at s rules terms n) a b c tt (Err e) (need_most s rules terms n inside) g.works works;
+          places = subst (All (λ (x : Numbered). x.number < length terms)) (sym (unmade ∙ ap (λ l. l.items) d.lines)) g.places;
           lines = tt;
         },
       )
@@ -200,6 +204,9 @@ module _ (table : TableId) (s : Settings) (symbols : List Named) (rules : List R
             (subst (λ l. All (IsLineAt s symbols rules terms last.worker) l.items) (sym d.lines)
             (subst (λ w. All (IsLineAt s symbols rules terms w) share.lines.items) (sym (keeps.worker ∙ d.worker)) g.lines))
             (record { said_is = adds.said_is; worker = adds.worker ∙ sym keeps.worker }));
+        places = subst (All (λ (x : Numbered). x.number < length terms)) (sym adds.lines)
+            (All-push (λ (x : Numbered). x.number < length terms) next.lines.items (record { number = n; line = adds.line })
+            (subst (λ l. All (λ (x : Numbered). x.number < length terms) l.items) (sym d.lines) g.places) inside);
         worker = keeps.worker ∙ (d.worker ∙ g.worker);
         built = subst (λ (ts : List Tree). BuiltAll s rules ts a c) (sym (ap (numbered terms) kept ∙ on_numbered share next n d)) whole.0;
         refusals = whole.1;
@@ -214,6 +221,7 @@ module _ (table : TableId) (s : Settings) (symbols : List Named) (rules : List R
         record {
           ended = (subst (λ (xs : List ℕ). BuiltAll s rules (numbered terms xs) a a) (sym (all_of_terms (length terms) (drawn_of share) g.below)) g.built, refl);
           works = works_unbegun (need_of s rules terms) a;
+          places = g.places;
           lines = tt;
         },
       )

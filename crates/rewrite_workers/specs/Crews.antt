@@ -1,5 +1,5 @@
 -- The workers before they begin.
-use Rattle.std.specs.Prelude.{◌≡◌, ℕ, ◌<◌, ◌×◌, List, [], Some, length, slice_get, vec_len}
+use Rattle.std.specs.Prelude.{◌≡◌, ℕ, ◌<◌, List, [], Some, length, slice_get, vec_len}
 use Rattle.atomic_table.specs.Table.{Me}
 use Rattle.atomic_table.specs.Seated.{TableId}
 use Rattle.rewrite_workers.specs.declared.draws.Drawn.{Drawn}

@@ -1,5 +1,5 @@
 -- Lines at the places of their terms.
-use Rattle.std.specs.Prelude.{◌≡◌, ◌⊎◌, ℕ, ◌<◌, ◌×◌, List, Result, Some, Contains, All, length, map, slice_get}
+use Rattle.std.specs.Prelude.{◌≡◌, ◌⊎◌, ℕ, ◌<◌, List, Result, Some, Contains, All, length, map, slice_get}
 use Rattle.atomic_table.specs.Seated.{TableId}
 use Rattle.term_lines.specs.declared.stop.LineStop.{LineStop}
 use Rattle.rewrite_workers.specs.declared.lines.Line.{Line}

@@ -1,5 +1,5 @@
 -- What a worker's share has, before and after it draws terms.
-use Rattle.std.specs.Prelude.{◌≡◌, ◌≢◌, ℕ, ◌<◌, ◌≤◌, ◌×◌, List, [], ◌∷◌, ◌++◌, Result, Ok, Err, map, length, filter, nat_lt, All, max}
+use Rattle.std.specs.Prelude.{◌≡◌, ◌≢◌, ℕ, ◌<◌, ◌≤◌, List, [], ◌∷◌, ◌++◌, Result, Ok, Err, map, length, filter, nat_lt, All, max}
 use Rattle.term_model.specs.Tree.{Tree}
 use Rattle.terms_api.specs.Terms.{Store}
 use Rattle.symbol_pool.specs.Pool.{Named}
@@ -76,4 +76,5 @@ HasLinesWhere s symbols rules terms share (Err stop) = Unit {0}
 pub record Worked (s : Settings) (symbols : List Named) (rules : List Rule) (terms : List Tree) (old new : Store) (share : Share) (end : Result (Unit {0}) LineStop) : Type 0 where
   pub ended : Ended s rules (numbered terms (of_terms (length terms) (drawn_of share))) old new end
   pub works : WorksOn (need_of s rules terms) old new end
+  pub places : All (λ x. x.number < length terms) share.lines.items
   pub lines : HasLinesWhere s symbols rules terms share end

@@ -35,7 +35,7 @@ fn shares_of(
     ensures left { OnOk result (all.new.me.0.shares + workers ≡ all.old.me.0.shares) }
 {
     let mut shares = Vec::with_capacity(alloc, workers as usize)?;
-    for worker in 0..workers {
+    'workers: for worker in 0..workers {
         shares.push(Share {
             worker,
             seat: cut(draws, all),

@@ -8,6 +8,7 @@ use std::alloc::Global;
 use std::collections::LinkedList;
 
 /// How many shares there are in the draws, one for each worker, and how many terms.
+#[derive(Clone, Copy)]
 pub struct Extent {
     pub shares: u64,
     pub end: u64,

@@ -1,5 +1,5 @@
 // What the workers leave, put together.
-ghost use Rattle.std.specs.Prelude.{◌≡◌, ℕ, ◌+◌, ◌<◌, ◌×◌, ◌↔◌, All, Contains, Err, IfOk, IsTrue, length, map, sum_by, vec_len};
+ghost use Rattle.std.specs.Prelude.{◌≡◌, ℕ, ◌+◌, ◌<◌, ◌↔◌, All, Contains, Err, IfOk, IsTrue, length, map, sum_by, vec_len};
 ghost use Rattle.rewrite_workers.specs.Dealt.{IsIn, times};
 ghost use Rattle.rewrite_workers.specs.Ends.{IsWorst};
 ghost use Rattle.rewrite_workers.specs.Worked.{drawn_of};
@@ -69,7 +69,7 @@ fn place(mut made: Vec<Numbered>, lines: &mut Vec<Line>)
     ensures length { vec_len lines.new ≡ vec_len lines.old }
     ensures placed { Places made.items lines.old.items lines.new.items }
 {
-    while let Some(Numbered { number, line }) = made.pop() {
+    'lines: while let Some(Numbered { number, line }) = made.pop() {
         lines[number as usize] = line;
     }
 }
@@ -108,7 +108,7 @@ pub(crate) fn gather(draws: &Draws, all: &mut Seat, mut shares: Vec<Share>, line
     ensures length { vec_len lines.new ≡ vec_len lines.old }
     ensures placed { PlacesAll shares.items lines.old.items lines.new.items }
 {
-    while let Some(share) = shares.pop() {
+    'shares: while let Some(share) = shares.pop() {
         take_in(draws, all, share, lines);
     }
 }

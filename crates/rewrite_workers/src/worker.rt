@@ -1,5 +1,5 @@
 // What one worker does: it draws terms until none is left, and makes the line of each.
-ghost use Rattle.std.specs.Prelude.{◌≡◌, ◌<◌, [], ◌∷◌, IfOk, OnOk, length};
+ghost use Rattle.std.specs.Prelude.{◌≡◌, ◌<◌, [], ◌∷◌, IfOk, OnErr, OnOk, length};
 ghost use Rattle.rewrite_workers.specs.Works.{MayWork, term_at, need_at};
 ghost use Rattle.rewrite_workers.specs.Lined.{said, line_of};
 ghost use Rattle.rewrite_workers.specs.Desks.{IsReady};
@@ -39,6 +39,17 @@ pub(crate) struct Job<'a, G> {
     pub work: Work<'a>,
     pub draws: &'a Draws,
     pub gate: &'a G,
+}
+
+impl<'a, G> Drop for Job<'a, G> {
+    fn drop(self) {
+        let Job {
+            alloc: _,
+            work: _,
+            draws: _,
+            gate: _,
+        } = self;
+    }
 }
 
 // What rewrites the terms of some work.
@@ -106,6 +117,7 @@ fn add_line<T: Terms, G: Gate>(
     requires ready { IsReady job.now.work.settings job.now.work.plan.now (T.store desk.old) }
     ensures line { OnOk result (AddsLine share.old share.new number (line_of job.now.work.settings
         job.now.work.symbols.now job.now.work.plan.now.rules (term_at job.now.work.terms.now number))) }
+    ensures unmade { OnErr result (share.new.lines.items ≡ share.old.lines.items) }
     ensures seat { KeepsSeat share.old share.new }
     ensures ended { Ended job.now.work.settings job.now.work.plan.now.rules
         (term_at job.now.work.terms.now number ∷ []) (T.store desk.old) (T.store desk.new) result }
@@ -116,8 +128,10 @@ fn add_line<T: Terms, G: Gate>(
     ensures same { T.same desk.old desk.new }
 {
     let line = make_line(job, rewriter, desk, number, share.worker)?;
-    share.lines.push(Numbered { number, line })?;
-    Ok(())
+    match share.lines.push(Numbered { number, line }) {
+        Ok(()) => Ok(()),
+        Err(_) => Err(LineStop::Memory),
+    }
 }
 
 // Draws terms until none is left, and makes the line of each.
@@ -138,7 +152,7 @@ fn draw_terms<T: Terms, G: Gate>(
     ensures same { T.same desk.old desk.new }
 {
     let count = job.work.terms.len() as u64;
-    loop {
+    'terms: loop {
         let number = draw(job.draws, &mut share.seat);
         if number >= count {
             return Ok(());
