@@ -103,6 +103,7 @@ module _ {D : Type 0} (store : D → Store) (same : D → D → Type 0) (s : Set
     hands = map hand shares;
     ends = map end_of_share shares;
     apart = apart;
+    one_end = length-map shares end_of_share ∙ shares_long;
     desks = each_desk Each (λ k old new. (h : List ℕ) × (end : Result (Unit {0}) LineStop) × (slice_get (map hand shares) k ≡ Some h)
         × (slice_get (map end_of_share shares) k ≡ Some end) × Ended s plan.rules (numbered terms h) (store old) (store new) end) olds news f.begun shares f.each
         (λ k p. (
@@ -199,7 +200,7 @@ module _ {D : Type 0} (store : D → Store) (same : D → D → Type 0) (s : Set
     worker_is : (i : ℕ) (h : i < length terms) → get_or (map worker_of lines) i 0 ≡ (line_at i h).place
     worker_is i h = let l = line_at i h in
         get_or_from_slice_get (map worker_of lines) i l.line.worker 0 (slice_get-map worker_of lines i ∙ ap (option_map worker_of) l.at)
-        ∙ ((is_line i h).worker ∙ worker_at l.place l.share l.share_at)
+        ∙ ((is_line i h).drawn_by ∙ worker_at l.place l.share l.share_at)
 
     pub workers_below : All (λ w. w < length olds) (map worker_of lines)
     workers_below = All-from_get_or (λ w. w < length olds) (map worker_of lines) 0 (λ i h.

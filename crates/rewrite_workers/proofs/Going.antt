@@ -203,7 +203,7 @@ module _ (table : TableId) (s : Settings) (symbols : List Named) (rules : List R
             (All-push (IsLineAt s symbols rules terms last.worker) next.lines.items (record { number = n; line = adds.line })
             (subst (λ l. All (IsLineAt s symbols rules terms last.worker) l.items) (sym d.lines)
             (subst (λ w. All (IsLineAt s symbols rules terms w) share.lines.items) (sym (keeps.worker ∙ d.worker)) g.lines))
-            (record { said_is = adds.said_is; worker = adds.worker ∙ sym keeps.worker }));
+            (record { said_is = adds.said_is; drawn_by = adds.worker ∙ sym keeps.worker }));
         places = subst (All (λ (x : Numbered). x.number < length terms)) (sym adds.lines)
             (All-push (λ (x : Numbered). x.number < length terms) next.lines.items (record { number = n; line = adds.line })
             (subst (λ l. All (λ (x : Numbered). x.number < length terms) l.items) (sym d.lines) g.places) inside);

@@ -70,6 +70,7 @@ pub record Stopped {D : Type 0} (store : D → Store) (s : Settings) (rules : Li
   pub hands : List (List ℕ)
   pub ends : List (Result (Unit {0}) LineStop)
   pub apart : AreApart (length terms) (length olds) hands
+  pub one_end : length ends ≡ length olds
   pub desks : EachDesk (λ k old new. (hand : List ℕ) × (end : Result (Unit {0}) LineStop)
       × (slice_get hands k ≡ Some hand) × (slice_get ends k ≡ Some end)
       × Ended s rules (numbered terms hand) (store old) (store new) end) olds news

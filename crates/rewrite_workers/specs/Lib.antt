@@ -8,3 +8,4 @@ pub mod Worked
 pub mod Shares
 pub mod Gathered
 pub mod Crews
+pub mod Trials

@@ -58,7 +58,7 @@ pub record Drew (table : TableId) (old new : Share) : Type 0 where
 -- the line is that of the term with its number, by this worker
 pub record IsLineAt (s : Settings) (symbols : List Named) (rules : List Rule) (terms : List Tree) (worker : ℕ) (x : Numbered) : Type 0 where
   pub said_is : said x.line ≡ line_of s symbols rules (term_at terms x.number)
-  pub worker : x.line.worker ≡ worker
+  pub drawn_by : x.line.worker ≡ worker
 
 -- the lines of all terms that were drawn, and that no term was left to draw
 pub record HasLines (s : Settings) (symbols : List Named) (rules : List Rule) (terms : List Tree) (share : Share) : Type 0 where

@@ -33,5 +33,5 @@ need_of s rules terms = need_of_all rules terms s.fuel s.depth
 -- the terms are few, and may be rewritten by the plan
 pub record MayWork (plan : Planned) (symbols : List Named) (terms : List Tree) : Type 0 where
   pub few : length terms < 2 ^ 32
-  pub terms : All (IsTermFor plan symbols) terms
+  pub each_term : All (IsTermFor plan symbols) terms
   pub names : WriteNames symbols plan.rules
