@@ -328,7 +328,3 @@ pub in_one : (about : Extent) (s : State (Unit {0}) Drawn) → IsDealt about s �
 in_one about s holds x below =
     let found = sum_one (λ (v : Drawn). times x v.numbers) s.views (holds.once x ∙ below_yes (get_or s.words 0 0) x below) in
     record { place = found.0; view = found.1; at = found.2; once = found.3; others = found.4 }
-
--- a false one, to see that the file is read
-planted : (n : ℕ) → n ≡ n + 1
-planted n = refl

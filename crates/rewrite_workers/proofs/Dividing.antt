@@ -62,17 +62,17 @@ module _ (terms : List Tree) (k : ℕ) where
       let b : x < o + length ts = All-head (λ i. i < o + length ts) x xs p.most in
       let c = p.long in absurd (omega arith)
   drawn_hand o (w ∷ ws) [] hand p = let c = p.long in absurd (omega arith)
-  drawn_hand o (w ∷ ws) (t ∷ ts) hand p = dite (ℕ_discrete w k) (mine hand p) (other hand p)
+  drawn_hand o (w ∷ ws) (t ∷ ts) hand p = dite (ℕ_discrete w k) (mine (λ xs q. drawn_hand (o + 1) ws ts xs q) hand p) (other (λ xs q. drawn_hand (o + 1) ws ts xs q) hand p)
     where
       -- the term at o is in the hand
-      mine : (hand : List ℕ) → Parts o (w ∷ ws) (t ∷ ts) hand → w ≡ k → drawn_by k (w ∷ ws) (t ∷ ts) ≡ numbered terms hand
-      mine [] p e = let a = p.there 0 (omega arith) e in absurd (omega arith)
-      mine (x ∷ xs) p e =
+      mine : ((xs : List ℕ) → Parts (o + 1) ws ts xs → drawn_by k ws ts ≡ numbered terms xs) → (hand : List ℕ) → Parts o (w ∷ ws) (t ∷ ts) hand → w ≡ k → drawn_by k (w ∷ ws) (t ∷ ts) ≡ numbered terms hand
+      mine again [] p e = let a = p.there 0 (omega arith) e in absurd (omega arith)
+      mine again (x ∷ xs) p e =
           let there : 0 < times o (x ∷ xs) = subst (λ n. 0 < times n (x ∷ xs)) (add-zero o) (p.there 0 (omega arith) e) in
           let least : o ≤ x = All-head (λ i. o ≤ i) x xs p.least in
           let same : x ≡ o = first_is o x xs least p.rises.0 there in
           let first : t ≡ term_at terms x = p.at 0 (omega arith) ∙ ap (term_at terms) (add-zero o ∙ sym same) in
-          let rest : drawn_by k ws ts ≡ numbered terms xs = drawn_hand (o + 1) ws ts xs (record {
+          let rest : drawn_by k ws ts ≡ numbered terms xs = again xs (record {
             long = let c = p.long in omega arith;
             rises = p.rises.1;
             least = All-weaker (λ j. x < j) (λ j. o + 1 ≤ j) (λ j h. omega arith) xs p.rises.0;
@@ -88,11 +88,11 @@ module _ (terms : List Tree) (k : ℕ) where
           ∙ (ap (λ u. u ∷ drawn_by k ws ts) first ∙ ap (λ (us : List Tree). term_at terms x ∷ us) rest)
 
       -- it isn't
-      other : (hand : List ℕ) → Parts o (w ∷ ws) (t ∷ ts) hand → w ≢ k → drawn_by k (w ∷ ws) (t ∷ ts) ≡ numbered terms hand
-      other hand p ne =
+      other : ((xs : List ℕ) → Parts (o + 1) ws ts xs → drawn_by k ws ts ≡ numbered terms xs) → (hand : List ℕ) → Parts o (w ∷ ws) (t ∷ ts) hand → w ≢ k → drawn_by k (w ∷ ws) (t ∷ ts) ≡ numbered terms hand
+      other again hand p ne =
           let away : times o hand ≡ 0 = none_of (times o hand) (λ there. ne (p.here 0 (omega arith) (subst (λ n. 0 < times n hand) (sym (add-zero o)) there))) in
           ap (λ b. cond b (t ∷ drawn_by k ws ts) (drawn_by k ws ts)) (ne_eqb w k ne)
-          ∙ drawn_hand (o + 1) ws ts hand (record {
+          ∙ again hand (record {
             long = let c = p.long in omega arith;
             rises = p.rises;
             least = all_next o hand p.least away;

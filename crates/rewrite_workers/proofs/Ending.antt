@@ -54,15 +54,15 @@ module _ (s : Settings) (rules : List Rule) where
   ended_after ts t a b c (Err stop.Memory) one same e = (built_after ts (t ∷ []) a b c one e.0, e.1 ∙ same)
 
   -- a stop is the same, whatever the other answer would be
-  pub ended_stop : {A B : Type 0} (ts : List Tree) (a b : Store) (e : LineStop) → Ended {A = A} s rules ts a b (Err e) → Ended {A = B} s rules ts a b (Err e)
-  ended_stop ts a b stop.StoreFull e = e
-  ended_stop ts a b stop.Worn e = e
-  ended_stop ts a b stop.Memory e = e
+  pub ended_stop : (A B : Type 0) (ts : List Tree) (a b : Store) (e : LineStop) → Ended {A = A} s rules ts a b (Err e) → Ended {A = B} s rules ts a b (Err e)
+  ended_stop A B ts a b stop.StoreFull e = e
+  ended_stop A B ts a b stop.Worn e = e
+  ended_stop A B ts a b stop.Memory e = e
 
-pub works_stop : {A B : Type 0} (n : ℕ) (a b : Store) (e : LineStop) → WorksOn {A = A} n a b (Err e) → WorksOn {A = B} n a b (Err e)
-works_stop n a b stop.StoreFull w = record { rows = w.rows; widest = w.widest; room = w.room; least_sweeps = w.least_sweeps; most_sweeps = w.most_sweeps; least_load = w.least_load; most_load = w.most_load }
-works_stop n a b stop.Worn w = record { rows = w.rows; widest = w.widest; room = w.room; least_sweeps = w.least_sweeps; most_sweeps = w.most_sweeps; least_load = w.least_load; most_load = w.most_load }
-works_stop n a b stop.Memory w = record { rows = w.rows; widest = w.widest; room = w.room; least_sweeps = w.least_sweeps; most_sweeps = w.most_sweeps; least_load = w.least_load; most_load = w.most_load }
+pub works_stop : (A B : Type 0) (n : ℕ) (a b : Store) (e : LineStop) → WorksOn {A = A} n a b (Err e) → WorksOn {A = B} n a b (Err e)
+works_stop A B n a b stop.StoreFull w = record { rows = w.rows; widest = w.widest; room = w.room; least_sweeps = w.least_sweeps; most_sweeps = w.most_sweeps; least_load = w.least_load; most_load = w.most_load }
+works_stop A B n a b stop.Worn w = record { rows = w.rows; widest = w.widest; room = w.room; least_sweeps = w.least_sweeps; most_sweeps = w.most_sweeps; least_load = w.least_load; most_load = w.most_load }
+works_stop A B n a b stop.Memory w = record { rows = w.rows; widest = w.widest; room = w.room; least_sweeps = w.least_sweeps; most_sweeps = w.most_sweeps; least_load = w.least_load; most_load = w.most_load }
 
 pub works_after : {A B : Type 0} (n m : ℕ) (a b c : Store) (x : A) (r : Result B LineStop) → m ≤ n → WorksOn n a b (Ok x) → WorksOn m b c r → WorksOn n a c r
 works_after n m a b c x r most one two = record {
@@ -87,8 +87,8 @@ works_begin n a x = record {
 }
 
 -- there was no memory to begin
-pub works_unbegun : {A : Type 0} (n : ℕ) (a : Store) → WorksOn {A = A} n a a (Err stop.Memory)
-works_unbegun n a = record {
+pub works_unbegun : (A : Type 0) (n : ℕ) (a : Store) → WorksOn {A = A} n a a (Err stop.Memory)
+works_unbegun A n a = record {
   rows = refl;
   widest = refl;
   room = refl;

@@ -1,11 +1,11 @@
 -- From what the workers leave to the answer.
-use Rattle.std.proofs.Common.{◌≡◌, ◌⊎◌, ℕ, zero, suc, ◌+◌, ◌<◌, ◌≤◌, List, [], ◌∷◌, length, map, get_or, sum_by, refl, sym, ap, subst, ◌∙◌, inl, inr, ⊎_elim, arith, length-map, zero-add, All}
+use Rattle.std.proofs.Common.{◌≡◌, ◌⊎◌, ℕ, zero, suc, ◌+◌, ◌<◌, ◌≤◌, List, [], ◌∷◌, length, map, get_or, sum_by, refl, sym, ap, subst, ◌∙◌, inl, inr, ⊎_elim, arith, zero-add, All}
 use mathlib.Core.Logic.{dite}
 use native.Mathlib.Decide.{ℕ_discrete}
 use Rattle.std.specs.Prelude.{Option, Some, None, Result, Ok, Err, Contains, slice_get, option_map}
 use Rattle.std.specs.List.{flat_map}
 use Rattle.std.proofs.lemmas.Option.{slice_get_within, slice_get-get_or, get_or_from_slice_get, slice_get-map}
-use Rattle.std.proofs.lemmas.List.{ext_get_or}
+use Rattle.std.proofs.lemmas.List.{ext_get_or, length-map}
 use Rattle.std.proofs.lemmas.Bool.{cases_lt}
 use Rattle.std.proofs.lemmas.List.Elements.{All-nil, All-weaker, All-map, All-contains, All-from_get_or}
 use Rattle.term_model.specs.Tree.{Tree, Leaf}
@@ -251,7 +251,7 @@ module _ {D : Type 0} (store : D → Store) (same : D → D → Type 0) (s : Set
     built = each_desk Each (λ k old new. BuiltAll s plan.rules (drawn_by k (map worker_of lines) terms) (store old) (store new)) olds news f.begun shares f.each
         (λ k p. subst (λ (ts : List Tree). BuiltAll s plan.rules ts (store p.d) (store p.e)) (sym (hand_is k p.y p.at_y)) (finished k p).0)
       where
-        finished : (k : ℕ) (p : Spot k) → Ended s plan.rules (numbered terms (hand p.y)) (store p.d) (store p.e) (Ok tt)
+        finished : (k : ℕ) (p : Spot k) → Ended {A = Unit {0}} s plan.rules (numbered terms (hand p.y)) (store p.d) (store p.e) (Ok tt)
         finished k p = subst (Ended s plan.rules (numbered terms (hand p.y)) (store p.d) (store p.e)) (ended_well k p.y p.at_y) p.holds.1.worked.ended
 
     pub unrefused : EachDesk (λ k old new. (store new).refusals ≡ (store old).refusals) olds news

@@ -1,8 +1,8 @@
 -- Lines are put at the places of their terms, one share after another.
-use Rattle.std.proofs.Common.{◌≡◌, ◌≢◌, ◌⊎◌, ℕ, zero, suc, ◌+◌, ◌<◌, ◌≤◌, List, [], ◌∷◌, ◌++◌, length, map, set, sum_by, cond, refl, sym, ap, subst, ◌∙◌, inl, inr, ⊎_elim, arith, length-set, add-zero, All}
+use Rattle.std.proofs.Common.{◌≡◌, ◌≢◌, ◌⊎◌, ℕ, zero, suc, ◌+◌, ◌<◌, ◌≤◌, List, [], ◌∷◌, ◌++◌, length, map, set, sum_by, cond, true, false, refl, sym, ap, subst, ◌∙◌, inl, inr, ⊎_elim, arith, length-set, add-zero, All}
 use mathlib.Core.Logic.{dite}
 use native.Mathlib.Decide.{ℕ_discrete}
-use Rattle.std.specs.Prelude.{Option, Some, None, Contains, slice_get}
+use Rattle.std.specs.Prelude.{Option, Some, None, Contains, IsSome, is_some, slice_get}
 use Rattle.std.proofs.lemmas.List.{append-nil, append_assoc}
 use Rattle.std.proofs.lemmas.List.Elements.{All-nil, All-cons, All-head, All-tail, All-contains, Contains-append_left, Contains-append_right, Contains-get_or, Contains-push}
 use Rattle.std.proofs.lemmas.Option.{slice_get_within}
@@ -34,6 +34,15 @@ contains_first x xs = Contains-append_left (x ∷ []) xs x (Contains-push [] x)
 
 pub contains_rest : {A : Type 0} (x : A) (xs : List A) (y : A) → Contains xs y → Contains (x ∷ xs) y
 contains_rest x xs y c = Contains-append_right (x ∷ []) xs y c
+
+-- where nothing was taken, nothing is left
+pub none_left : {A : Type 0} (o : Option A) (xs : List A) (n : ℕ) → ((a : A) → o ≡ Some a → ⊥) → (0 < n → IsSome o) → n ≡ length xs → xs ≡ []
+none_left (Some a) xs n none_taken some e = absurd (none_taken a refl)
+none_left None [] n none_taken some e = refl
+none_left None (x ∷ xs) n none_taken some e = absurd (let h : is_some {T = _} None ≡ true = some (omega arith) in no_some h)
+  where
+    no_some : false ≡ true → ⊥
+    no_some h = cc
 
 -- some lines are placed, and these are left
 pub record Placing (made rest : List Numbered) (old new : List Line) : Type 0 where
@@ -165,3 +174,8 @@ module _ (table : TableId) (shares : List Share) (begun : Drawn) (old : List Lin
       front_of : (xs : List Share) (y : Share) (P : Share → Type 0) → All P (xs ++ y ∷ []) → All P xs
       front_of [] y P all = All-nil P
       front_of (z ∷ zs) y P all = All-cons P z zs (All-head P z (zs ++ y ∷ []) all) (front_of zs y P (All-tail P z (zs ++ y ∷ []) all))
+
+-- nothing is left
+pub gathering_ends : (table : TableId) (shares : List Share) (begun : Drawn) (of : TableId) (me : Me (Unit {0}) Drawn) (old new : List Line) →
+    Gathering table shares [] begun of me old new → PlacesAll shares old new
+gathering_ends table shares begun of me old new g = subst (λ (xs : List Share). PlacesAll xs old new) (sym g.split) g.placed

@@ -74,7 +74,7 @@ pub record Going (table : TableId) (s : Settings) (symbols : List Named) (rules 
   pub worker : share.worker ≡ begun.worker
   pub built : BuiltAll s rules (numbered terms (drawn_of share)) old now
   pub refusals : now.refusals ≡ old.refusals
-  pub works : WorksOn (need_of s rules terms) old now (Ok tt)
+  pub works : WorksOn {A = Unit {0}} (need_of s rules terms) old now (Ok tt)
 
 -- a number was drawn
 pub record Draws (table : TableId) (share next : Share) (n : ℕ) : Type 0 where
@@ -220,8 +220,17 @@ module _ (table : TableId) (s : Settings) (symbols : List Named) (rules : List R
         record { seat = fresh.seat; shares = fresh.shares; rises = g.rises; worker = refl },
         record {
           ended = (subst (λ (xs : List ℕ). BuiltAll s rules (numbered terms xs) a a) (sym (all_of_terms (length terms) (drawn_of share) g.below)) g.built, refl);
-          works = works_unbegun (need_of s rules terms) a;
+          works = works_unbegun (Unit {0}) (need_of s rules terms) a;
           places = g.places;
           lines = tt;
         },
       )
+
+-- how it ended is noted
+pub worked_end : (s : Settings) (symbols : List Named) (rules : List Rule) (terms : List Tree) (a b : Store) (share : Share) (r : Result (Unit {0}) LineStop) →
+    Worked s symbols rules terms a b share r → Worked s symbols rules terms a b (record share { end = r }) r
+worked_end s symbols rules terms a b share r w = record { ended = w.ended; works = w.works; places = w.places; lines = lines r w.lines }
+  where
+    lines : (q : Result (Unit {0}) LineStop) → HasLinesWhere s symbols rules terms share q → HasLinesWhere s symbols rules terms (record share { end = r }) q
+    lines (Ok _) l = record { numbers = l.numbers; lines = l.lines; last = l.last; past = l.past; drawn = l.drawn }
+    lines (Err e) l = tt

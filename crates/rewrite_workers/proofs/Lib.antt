@@ -5,3 +5,7 @@ pub mod Gathering
 pub mod Dividing
 pub mod Eachwise
 pub mod Finishing
+pub mod Lining
+pub mod Stopping
+pub mod Crewing
+pub mod Unbegun

@@ -1,5 +1,5 @@
 -- The workers before they begin.
-use Rattle.std.specs.Prelude.{◌≡◌, ℕ, ◌<◌, List, [], Some, length, slice_get, vec_len}
+use Rattle.std.specs.Prelude.{◌≡◌, ℕ, ◌<◌, List, [], Some, length, slice_get}
 use Rattle.atomic_table.specs.Table.{Me}
 use Rattle.atomic_table.specs.Seated.{TableId}
 use Rattle.rewrite_workers.specs.declared.draws.Drawn.{Drawn}
@@ -26,6 +26,6 @@ pub record IsCrew (workers terms : ℕ) (crew : Crew) : Type 0 where
   pub all : IsUncut crew.draws.shared.table_id crew.all.table_id crew.all.me crew.all.me.0
   pub cut : crew.all.me.0.shares ≡ 0
   pub key : crew.draws.shared.key.shares ≡ workers
-  pub count : vec_len crew.shares ≡ workers
+  pub count : length crew.shares.items ≡ workers
   pub shares : (k : ℕ) → k < workers → IsAt crew.draws.shared.table_id terms k crew.shares.items
-  pub lines : vec_len crew.lines ≡ terms
+  pub lines : length crew.lines.items ≡ terms

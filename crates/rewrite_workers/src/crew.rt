@@ -1,5 +1,5 @@
 // What the workers need before they begin.
-ghost use Rattle.std.specs.Prelude.{◌≡◌, ℕ, ◌+◌, ◌-◌, ◌<◌, ◌≤◌, ◌^◌, [], All, IfOk, OnOk, length, vec_len};
+ghost use Rattle.std.specs.Prelude.{◌≡◌, ℕ, ◌+◌, ◌-◌, ◌<◌, ◌≤◌, ◌^◌, [], All, IfOk, OnOk, length};
 ghost use Rattle.rewrite_workers.specs.Dealt.{IsIn, undrawn};
 ghost use Rattle.rewrite_workers.specs.Crews.{IsAt, IsUncut, IsCrew};
 
@@ -28,7 +28,7 @@ fn shares_of(
 ) -> Result<Vec<Share>, Memory>
     requires all { IsUncut draws.now.shared.table_id all.old.table_id all.old.me all.old.me.0 }
     requires enough { workers ≤ all.old.me.0.shares }
-    ensures count { IfOk result (λ v. vec_len v ≡ workers) }
+    ensures count { IfOk result (λ v. length v.items ≡ workers) }
     ensures shares { IfOk result (λ v. (k : ℕ) → k < workers
         → IsAt draws.now.shared.table_id all.old.me.0.end k v.items) }
     ensures all { IsUncut draws.now.shared.table_id all.new.table_id all.new.me all.new.me.0 }

@@ -1,5 +1,5 @@
 // What the workers leave, put together.
-ghost use Rattle.std.specs.Prelude.{◌≡◌, ℕ, ◌+◌, ◌<◌, ◌↔◌, All, Contains, Err, IfOk, IsTrue, length, map, sum_by, vec_len};
+ghost use Rattle.std.specs.Prelude.{◌≡◌, ℕ, ◌+◌, ◌<◌, ◌↔◌, All, Contains, Err, IfOk, IsTrue, length, map, sum_by};
 ghost use Rattle.rewrite_workers.specs.Dealt.{IsIn, times};
 ghost use Rattle.rewrite_workers.specs.Ends.{IsWorst};
 ghost use Rattle.rewrite_workers.specs.Worked.{drawn_of};
@@ -29,7 +29,12 @@ fn is_stop(share: &Share, stop: LineStop) -> bool
 fn any_stops(shares: &[Share], stop: LineStop) -> bool
     ensures { IsTrue result ↔ Contains (map end_of_share shares.now) (Err stop) }
 {
-    shares.iter().any(|share| is_stop(share, stop))
+    'shares: for share in shares {
+        if is_stop(share, stop) {
+            return true;
+        }
+    }
+    false
 }
 
 /// The worst of the ends of all workers.
@@ -49,10 +54,10 @@ pub(crate) fn worst_of(shares: &[Share]) -> Option<AllFault>
 
 /// So many lines that aren't made yet.
 pub(crate) fn blank_lines(alloc: Global, count: usize) -> Result<Vec<Line>, Memory>
-    ensures { IfOk result (λ lines. vec_len lines ≡ count) }
+    ensures { IfOk result (λ lines. length lines.items ≡ count) }
 {
     let mut lines = Vec::with_capacity(alloc, count)?;
-    for _ in 0..count {
+    'blank: while lines.len() < count {
         lines.push(Line {
             kind: LineKind::TooDeep,
             text: Vec::new(alloc),
@@ -65,8 +70,8 @@ pub(crate) fn blank_lines(alloc: Global, count: usize) -> Result<Vec<Line>, Memo
 
 // Puts lines at the places of their terms.
 fn place(mut made: Vec<Numbered>, lines: &mut Vec<Line>)
-    requires { HasPlaces (vec_len lines.old) made.items }
-    ensures length { vec_len lines.new ≡ vec_len lines.old }
+    requires { HasPlaces (length lines.old.items) made.items }
+    ensures length { length lines.new.items ≡ length lines.old.items }
     ensures placed { Places made.items lines.old.items lines.new.items }
 {
     'lines: while let Some(Numbered { number, line }) = made.pop() {
@@ -78,12 +83,12 @@ fn place(mut made: Vec<Numbered>, lines: &mut Vec<Line>)
 fn take_in(draws: &Draws, all: &mut Seat, share: Share, lines: &mut Vec<Line>)
     requires all { IsIn draws.now.shared.table_id all.old.table_id all.old.me all.old.me.0 }
     requires share { HasOneShare draws.now.shared.table_id share }
-    requires places { HasPlaces (vec_len lines.old) share.lines.items }
+    requires places { HasPlaces (length lines.old.items) share.lines.items }
     ensures all { IsIn draws.now.shared.table_id all.new.table_id all.new.me all.new.me.0 }
     ensures shares { all.new.me.0.shares ≡ all.old.me.0.shares + 1 }
     ensures drawn { (x : ℕ) → times x all.new.me.0.numbers
         ≡ times x all.old.me.0.numbers + times x (drawn_of share) }
-    ensures length { vec_len lines.new ≡ vec_len lines.old }
+    ensures length { length lines.new.items ≡ length lines.old.items }
     ensures placed { Places share.lines.items lines.old.items lines.new.items }
 {
     let Share {
@@ -100,12 +105,12 @@ fn take_in(draws: &Draws, all: &mut Seat, share: Share, lines: &mut Vec<Line>)
 pub(crate) fn gather(draws: &Draws, all: &mut Seat, mut shares: Vec<Share>, lines: &mut Vec<Line>)
     requires all { IsIn draws.now.shared.table_id all.old.table_id all.old.me all.old.me.0 }
     requires shares { All (HasOneShare draws.now.shared.table_id) shares.items }
-    requires places { All (λ s. HasPlaces (vec_len lines.old) s.lines.items) shares.items }
+    requires places { All (λ s. HasPlaces (length lines.old.items) s.lines.items) shares.items }
     ensures all { IsIn draws.now.shared.table_id all.new.table_id all.new.me all.new.me.0 }
-    ensures shares { all.new.me.0.shares ≡ all.old.me.0.shares + vec_len shares }
+    ensures shares { all.new.me.0.shares ≡ all.old.me.0.shares + length shares.items }
     ensures drawn { (x : ℕ) → times x all.new.me.0.numbers
         ≡ times x all.old.me.0.numbers + sum_by (λ s. times x (drawn_of s)) shares.items }
-    ensures length { vec_len lines.new ≡ vec_len lines.old }
+    ensures length { length lines.new.items ≡ length lines.old.items }
     ensures placed { PlacesAll shares.items lines.old.items lines.new.items }
 {
     'shares: while let Some(share) = shares.pop() {

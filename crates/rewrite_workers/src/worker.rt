@@ -94,13 +94,15 @@ fn make_line<T: Terms, G: Gate>(
     let made = rewriter.write_line(job.work.plan, job.work.symbols, term, desk, &mut text);
     desk.leave();
     job.gate.after(number);
-    let ending = made?;
-    Ok(Line {
-        kind: ending.kind,
-        text,
-        spent: ending.spent,
-        worker,
-    })
+    match made {
+        Ok(ending) => Ok(Line {
+            kind: ending.kind,
+            text,
+            spent: ending.spent,
+            worker,
+        }),
+        Err(stop) => Err(stop),
+    }
 }
 
 // Makes the line of a term that was drawn, and puts it behind the worker's others.

@@ -1,0 +1,4 @@
+use Rattle.rewrite_workers.proofs.worker.make_line.Goals as goal
+
+pub returns-in-Err-clause-ended : goal.returns-in-Err-clause-ended
+returns-in-Err-clause-ended g c = ?
