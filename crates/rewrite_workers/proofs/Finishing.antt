@@ -16,7 +16,6 @@ use Rattle.settings.specs.declared.parts.Settings.{Settings}
 use Rattle.atomic_table.specs.Seated.{TableId}
 use Rattle.term_lines.specs.declared.stop.LineStop.{LineStop}
 use Rattle.rewrite_workers.specs.declared.fault.AllFault.{AllFault}
-use Rattle.rewrite_workers.specs.declared.draws.Drawn.{Drawn}
 use Rattle.rewrite_workers.specs.declared.lines.Line.{Line}
 use Rattle.rewrite_workers.specs.declared.worker.Numbered.{Numbered}
 use Rattle.rewrite_workers.specs.declared.worker.Share.{Share}
@@ -37,23 +36,17 @@ use Rattle.rewrite_workers.proofs.Eachwise.{Place, lengths, place_at, all_after,
 once_most : (n x : ℕ) → once_below n x ≤ 1
 once_most n x = ⊎_elim (λ lt. let a = below_yes n x lt in omega arith) (λ le. let a = below_no n x le in omega arith) (cases_lt x n)
 
--- what all workers left, and what was gathered of it
-pub record Finished {D : Type 0} (store : D → Store) (same : D → D → Type 0) (s : Settings) (plan : Planned) (symbols : List Named) (terms : List Tree)
-    (olds news : List D) (shares : List Share) (blank lines : List Line) : Type 0 where
+-- what all workers left, and how often each number was drawn
+pub record Finished {D : Type 0} (store : D → Store) (same : D → D → Type 0) (s : Settings) (plan : Planned) (symbols : List Named) (terms : List Tree) (olds news : List D) (shares : List Share) : Type 0 where
   pub table : TableId
   pub begun : List Share
   pub each : EachShare (λ d e x y. same d e × Works s plan symbols terms table (store d) (store e) x y) olds news begun shares
   pub places : (k : ℕ) → k < length olds → IsAt table (length terms) k begun
-  pub all : Drawn
-  pub drawn : (x : ℕ) → times x all.numbers ≡ sum_by (λ (y : Share). times x (drawn_of y)) shares
   pub count : ℕ
-  pub once : (x : ℕ) → times x all.numbers ≡ once_below count x
-  pub long : length blank ≡ length terms
-  pub lines_long : length lines ≡ length blank
-  pub placed : PlacesAll shares blank lines
+  pub once : (x : ℕ) → sum_by (λ (y : Share). times x (drawn_of y)) shares ≡ once_below count x
 
-module _ {D : Type 0} (store : D → Store) (same : D → D → Type 0) (s : Settings) (plan : Planned) (symbols : List Named) (terms : List Tree)
-    (olds news : List D) (shares : List Share) (blank lines : List Line) (f : Finished store same s plan symbols terms olds news shares blank lines) where
+module _ {D : Type 0} (store : D → Store) (same : D → D → Type 0) (s : Settings) (plan : Planned) (symbols : List Named) (terms : List Tree) (olds news : List D) (shares : List Share)
+    (f : Finished store same s plan symbols terms olds news shares) where
   abbrev Each : D → D → Share → Share → Type 0
   Each d e x y = same d e × Works s plan symbols terms f.table (store d) (store e) x y
 
@@ -72,7 +65,7 @@ module _ {D : Type 0} (store : D → Store) (same : D → D → Type 0) (s : Set
 
   -- whoever drew a number
   total : (x : ℕ) → sum_by (λ (y : Share). times x (drawn_of y)) shares ≡ once_below f.count x
-  total x = sym (f.drawn x) ∙ f.once x
+  total x = f.once x
 
   pub ready : All (λ d. IsReady s plan (store d)) news
   ready = all_desks Each (λ d. IsReady s plan (store d)) (λ d e x y p. p.1.ready) olds news f.begun shares f.each
@@ -117,7 +110,8 @@ module _ {D : Type 0} (store : D → Store) (same : D → D → Type 0) (s : Set
   }
 
   -- each worker went on until no term was left
-  module _ (some_desk : 0 < length olds) (well : All (λ (end : Result (Unit {0}) LineStop). end ≡ Ok tt) (map end_of_share shares)) where
+  module _ (blank lines : List Line) (some_desk : 0 < length olds) (well : All (λ (end : Result (Unit {0}) LineStop). end ≡ Ok tt) (map end_of_share shares))
+      (long : length blank ≡ length terms) (lines_long : length lines ≡ length blank) (placed : PlacesAll shares blank lines) where
     abbrev lined : Share → Type 0
     lined y = y.end ≡ Ok tt → HasLines s symbols plan.rules terms y
 
@@ -161,7 +155,7 @@ module _ {D : Type 0} (store : D → Store) (same : D → D → Type 0) (s : Set
         let nobody : sum_by (λ (y : Share). times i (drawn_of y)) shares ≡ 0 =
         sum_none_all (λ (y : Share). times i (drawn_of y)) shares (all_of (λ k y at. nothing i h k y at (All-contains (λ (z : Share). times i (map number_of z.lines.items) ≡ 0) shares y p.1 (contained shares k y at)))) in
         let one = drawn_once i h in absurd (omega arith))
-        (f.placed i (let l = f.long in omega arith))
+        (placed i (let l = long in omega arith))
       where
         nothing : (i : ℕ) → i < length terms → (k : ℕ) (y : Share) → slice_get shares k ≡ Some y → times i (map number_of y.lines.items) ≡ 0 → times i (drawn_of y) ≡ 0
         nothing i h k y at none_made = sym (times_of_terms (length terms) i (drawn_of y) h) ∙ (ap (times i) (sym (lines_of k y at).numbers) ∙ none_made)
@@ -184,7 +178,7 @@ module _ {D : Type 0} (store : D → Store) (same : D → D → Type 0) (s : Set
         ap (λ (z : Share). z.worker) (sym same_y) ∙ (p.holds.1.seat.worker ∙ (ap (λ (z : Share). z.worker) same_x ∙ first.worker))
 
     lines_length : length lines ≡ length terms
-    lines_length = f.lines_long ∙ f.long
+    lines_length = lines_long ∙ long
 
     pub told : map said lines ≡ map (line_of s symbols plan.rules) terms
     told = ext_get_or (line_of s symbols plan.rules (Leaf 0)) (map said lines) (map (line_of s symbols plan.rules) terms)

@@ -1,12 +1,13 @@
 -- Lines at the places of their terms.
-use Rattle.std.specs.Prelude.{◌≡◌, ◌⊎◌, ℕ, ◌<◌, List, Result, Some, Contains, All, length, map, slice_get}
+use Rattle.std.specs.Prelude.{◌≡◌, ◌⊎◌, ℕ, ◌<◌, List, Result, Some, None, Contains, All, length, map, slice_get, sum_by}
 use Rattle.atomic_table.specs.Seated.{TableId}
 use Rattle.term_lines.specs.declared.stop.LineStop.{LineStop}
 use Rattle.rewrite_workers.specs.declared.lines.Line.{Line}
 use Rattle.rewrite_workers.specs.declared.worker.Numbered.{Numbered}
 use Rattle.rewrite_workers.specs.declared.worker.Share.{Share}
-use Rattle.rewrite_workers.specs.Dealt.{IsIn, times}
-use Rattle.rewrite_workers.specs.Worked.{number_of}
+use Rattle.rewrite_workers.specs.Dealt.{IsIn, times, once_below}
+use Rattle.rewrite_workers.specs.Worked.{number_of, drawn_of}
+use Rattle.rewrite_workers.specs.Ends.{IsWorst}
 
 abbrev pub end_of_share : Share → Result (Unit {0}) LineStop
 end_of_share share = share.end
@@ -34,3 +35,14 @@ abbrev pub PlacesAll : List Share → List Line → List Line → Type 0
 PlacesAll shares old new = (i : ℕ) → i < length old →
     ((share : Share) × Contains shares share × IsPlaced share.lines.items new i)
     ⊎ ((slice_get new i ≡ slice_get old i) × All (λ (share : Share). times i (map number_of share.lines.items) ≡ 0) shares)
+
+-- some count of numbers was drawn, each of those below it once
+pub record DrawnOnce (shares : List Share) : Type 0 where
+  pub count : ℕ
+  pub once : (x : ℕ) → sum_by (λ (y : Share). times x (drawn_of y)) shares ≡ once_below count x
+
+-- no worker stopped, and the lines of all shares are at their places
+pub record IsCollected (shares : List Share) (blank lines : List Line) : Type 0 where
+  pub well : IsWorst (map end_of_share shares) None
+  pub long : length lines ≡ length blank
+  pub placed : PlacesAll shares blank lines

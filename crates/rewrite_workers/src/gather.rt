@@ -1,14 +1,15 @@
 // What the workers leave, put together.
-ghost use Rattle.std.specs.Prelude.{◌≡◌, ℕ, ◌+◌, ◌<◌, ◌↔◌, All, Contains, Err, IfOk, IsTrue, length, map, sum_by};
+ghost use Rattle.std.specs.Prelude.{◌≡◌, ℕ, ◌+◌, ◌<◌, ◌↔◌, All, Contains, Err, IfErr, IfOk, IsTrue, Some, length, map, sum_by};
 ghost use Rattle.rewrite_workers.specs.Dealt.{IsIn, times};
 ghost use Rattle.rewrite_workers.specs.Ends.{IsWorst};
 ghost use Rattle.rewrite_workers.specs.Worked.{drawn_of};
-ghost use Rattle.rewrite_workers.specs.Gathered.{HasOneShare, HasPlaces, Places, PlacesAll, end_of_share};
+ghost use Rattle.rewrite_workers.specs.Gathered.{DrawnOnce, HasOneShare, HasPlaces, IsCollected, Places, PlacesAll, end_of_share};
+ghost use Rattle.rewrite_workers.specs.Crews.{IsUncut};
 ghost use Rattle.rewrite_workers.specs.declared.fault.AllFault.TheVariants as all;
 
-use crate::draws::{Draws, Seat, join};
+use crate::draws::{Draws, Seat, count_drawn, join};
 use crate::worker::{Numbered, Share};
-use crate::{AllFault, Line};
+use crate::{AllFault, Line, Lines};
 use faults::Memory;
 use std::alloc::Global;
 use term_lines::{LineKind, LineStop};
@@ -37,8 +38,8 @@ fn any_stops(shares: &[Share], stop: LineStop) -> bool
     false
 }
 
-/// The worst of the ends of all workers.
-pub(crate) fn worst_of(shares: &[Share]) -> Option<AllFault>
+// The worst of the ends of all workers.
+fn worst_of(shares: &[Share]) -> Option<AllFault>
     ensures { IsWorst (map end_of_share shares.now) result }
 {
     if any_stops(shares, LineStop::Memory) {
@@ -101,8 +102,8 @@ fn take_in(draws: &Draws, all: &mut Seat, share: Share, lines: &mut Vec<Line>)
     place(made, lines);
 }
 
-/// Takes in what all workers leave.
-pub(crate) fn gather(draws: &Draws, all: &mut Seat, mut shares: Vec<Share>, lines: &mut Vec<Line>)
+// Takes in what all workers leave.
+fn gather(draws: &Draws, all: &mut Seat, mut shares: Vec<Share>, lines: &mut Vec<Line>)
     requires all { IsIn draws.now.shared.table_id all.old.table_id all.old.me all.old.me.0 }
     requires shares { All (HasOneShare draws.now.shared.table_id) shares.items }
     requires places { All (λ s. HasPlaces (length lines.old.items) s.lines.items) shares.items }
@@ -115,5 +116,29 @@ pub(crate) fn gather(draws: &Draws, all: &mut Seat, mut shares: Vec<Share>, line
 {
     'shares: while let Some(share) = shares.pop() {
         take_in(draws, all, share, lines);
+    }
+}
+
+/// The lines of all terms, or the worst of the ends of all workers.
+pub(crate) fn collect(
+    draws: &Draws,
+    mut all: Seat,
+    shares: Vec<Share>,
+    mut lines: Vec<Line>,
+) -> Result<Lines, AllFault>
+    requires all { IsUncut draws.now.shared.table_id all.table_id all.me all.me.0 × (all.me.0.shares ≡ 0) }
+    requires count { length shares.items ≡ draws.now.shared.key.shares }
+    requires shares { All (HasOneShare draws.now.shared.table_id) shares.items }
+    requires places { All (λ s. HasPlaces (length lines.items) s.lines.items) shares.items }
+    ensures once { DrawnOnce shares.items }
+    ensures ok { IfOk result (λ l. IsCollected shares.items lines.items l.list.items) }
+    ensures err { IfErr result (λ fault. IsWorst (map end_of_share shares.items) (Some fault)) }
+{
+    let worst = worst_of(&shares);
+    gather(draws, &mut all, shares, &mut lines);
+    count_drawn(draws, &mut all);
+    match worst {
+        None => Ok(Lines { list: lines }),
+        Some(fault) => Err(fault),
     }
 }
