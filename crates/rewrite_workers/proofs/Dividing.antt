@@ -40,6 +40,10 @@ first_is n x xs least rises there = dite (ℕ_discrete x n) (λ e. e)
     let b = hit_other n x ne in
     let c = times_cons n x xs in absurd (omega arith))
 
+none_of : (n : ℕ) → (0 < n → ⊥) → n ≡ 0
+none_of zero h = refl
+none_of (suc n) h = absurd (h (omega arith))
+
 module _ (terms : List Tree) (k : ℕ) where
   -- who drew the terms from place o on
   pub record Parts (o : ℕ) (ws : List ℕ) (ts : List Tree) (hand : List ℕ) : Type 0 where
@@ -101,10 +105,6 @@ module _ (terms : List Tree) (k : ℕ) where
             there = λ j h e. subst (λ n. 0 < times n hand) (let z : o + suc j ≡ o + 1 + j = omega arith in z) (p.there (suc j) (omega arith) e);
             here = λ j h there. p.here (suc j) (omega arith) (subst (λ n. 0 < times n hand) (let z : o + 1 + j ≡ o + suc j = omega arith in z) there);
           })
-
-      none_of : (n : ℕ) → (0 < n → ⊥) → n ≡ 0
-      none_of zero h = refl
-      none_of (suc n) h = absurd (h (omega arith))
 
 -- the numbers of terms are numbers of terms
 pub terms_below : (count : ℕ) (xs : List ℕ) → All (λ i. i < count) (of_terms count xs)

@@ -1,11 +1,11 @@
 -- From what the workers leave to the answer.
-use Rattle.std.proofs.Common.{◌≡◌, ◌⊎◌, ℕ, zero, suc, ◌+◌, ◌<◌, ◌≤◌, List, [], ◌∷◌, length, map, get_or, sum_by, refl, sym, ap, subst, ◌∙◌, inl, inr, ⊎_elim, arith, zero-add, All}
+use Rattle.std.proofs.Common.{◌≡◌, ◌⊎◌, ℕ, zero, suc, ◌+◌, ◌<◌, ◌≤◌, List, [], ◌∷◌, ◌++◌, length, take, drop, map, get_or, sum_by, refl, sym, ap, subst, ◌∙◌, inl, inr, ⊎_elim, arith, zero-add, All}
 use mathlib.Core.Logic.{dite}
 use native.Mathlib.Decide.{ℕ_discrete}
-use Rattle.std.specs.Prelude.{Option, Some, None, Result, Ok, Err, Contains, slice_get, option_map}
+use Rattle.std.specs.Prelude.{Option, Some, None, Result, Ok, Err, IfOk, IfErr, Contains, slice_get, option_map}
 use Rattle.std.specs.List.{flat_map}
 use Rattle.std.proofs.lemmas.Option.{slice_get_within, slice_get-get_or, get_or_from_slice_get, slice_get-map}
-use Rattle.std.proofs.lemmas.List.{ext_get_or, length-map}
+use Rattle.std.proofs.lemmas.List.{ext_get_or, length-map, append-nil, take_all, drop_all}
 use Rattle.std.proofs.lemmas.Bool.{cases_lt}
 use Rattle.std.proofs.lemmas.List.Elements.{All-nil, All-weaker, All-map, All-contains, All-from_get_or}
 use Rattle.term_model.specs.Tree.{Tree, Leaf}
@@ -24,9 +24,9 @@ use Rattle.rewrite_workers.specs.Works.{term_at, need_of}
 use Rattle.rewrite_workers.specs.Lined.{Said, said, worker_of, line_of, drawn_by}
 use Rattle.rewrite_workers.specs.Desks.{IsReady, EachDesk, KeepsDesk}
 use Rattle.rewrite_workers.specs.Ends.{AreApart, BuiltAll, Ended, IsWorst, Rises, Stopped, numbered}
-use Rattle.rewrite_workers.specs.Worked.{drawn_of, number_of, of_terms, IsLineAt, HasLines, HasLinesWhere}
+use Rattle.rewrite_workers.specs.Worked.{IsFresh, drawn_of, number_of, of_terms, IsLineAt, HasLines, HasLinesWhere}
 use Rattle.rewrite_workers.specs.Shares.{EachShare, Works}
-use Rattle.rewrite_workers.specs.Gathered.{end_of_share, IsPlaced, PlacesAll}
+use Rattle.rewrite_workers.specs.Gathered.{end_of_share, HasOneShare, HasPlaces, IsPlaced, PlacesAll}
 use Rattle.rewrite_workers.specs.Crews.{IsAt}
 use Rattle.rewrite_workers.proofs.Dealing.{sum_most, below_yes, below_no, is_below, is_in}
 use Rattle.rewrite_workers.proofs.Ending.{keeps_desk}
@@ -35,6 +35,26 @@ use Rattle.rewrite_workers.proofs.Eachwise.{Place, lengths, place_at, all_after,
 
 once_most : (n x : ℕ) → once_below n x ≤ 1
 once_most n x = ⊎_elim (λ lt. let a = below_yes n x lt in omega arith) (λ le. let a = below_no n x le in omega arith) (cases_lt x n)
+
+-- a clause on an answer from another
+pub by_ok : {A E : Type 0} (r : Result A E) (P Q : A → Type 0) → IfOk r P → ((a : A) → P a → Q a) → IfOk r Q
+by_ok (Ok a) P Q p f = f a p
+by_ok (Err e) P Q p f = tt
+
+pub by_err : {A E : Type 0} (r : Result A E) (P Q : E → Type 0) → IfErr r P → ((e : E) → P e → Q e) → IfErr r Q
+by_err (Ok a) P Q p f = tt
+by_err (Err e) P Q p f = f e p
+
+-- what was written through a slice is the whole
+pub write_back : {A : Type 0} (items new : List A) (n : ℕ) → n ≡ length items → length new ≡ length items → take n (new ++ drop (length new) items) ≡ new
+write_back {A = A} items new n long same =
+    ap (λ (xs : List A). take n (new ++ xs)) (drop_all (length new) items (omega arith)) ∙ (ap (take n) (append-nil new) ∙ take_all n new (omega arith))
+
+-- each share of a crew is fresh
+pub all_fresh : (table : TableId) (count workers : ℕ) (shares : List Share) → length shares ≡ workers → ((k : ℕ) → k < workers → IsAt table count k shares) → All (IsFresh table count) shares
+all_fresh table count workers shares long at = λ k d h.
+    let a = at k (omega (arith, long)) in
+    subst (IsFresh table count) (sym (get_or_from_slice_get shares k a.share d a.at)) a.fresh
 
 -- what all workers left, and how often each number was drawn
 pub record Finished {D : Type 0} (store : D → Store) (same : D → D → Type 0) (s : Settings) (plan : Planned) (symbols : List Named) (terms : List Tree) (olds news : List D) (shares : List Share) : Type 0 where
@@ -251,3 +271,15 @@ module _ {D : Type 0} (store : D → Store) (same : D → D → Type 0) (s : Set
     pub unrefused : EachDesk (λ k old new. (store new).refusals ≡ (store old).refusals) olds news
     unrefused = each_desk Each (λ k old new. (store new).refusals ≡ (store old).refusals) olds news f.begun shares f.each
         (λ k p. (subst (Ended s plan.rules (numbered terms (hand p.y)) (store p.d) (store p.e)) (ended_well k p.y p.at_y) p.holds.1.worked.ended).1)
+
+-- what gathering asks of all shares
+module _ {D : Type 0} (store : D → Store) (same : D → D → Type 0) (s : Settings) (plan : Planned) (symbols : List Named) (terms : List Tree) (table : TableId)
+    (olds news : List D) (begun shares : List Share) (each : EachShare (λ d e x y. same d e × Works s plan symbols terms table (store d) (store e) x y) olds news begun shares) where
+  pub one_share_each : All (HasOneShare table) shares
+  one_share_each = all_after (λ d e x y. same d e × Works s plan symbols terms table (store d) (store e) x y) (HasOneShare table)
+      (λ d e x y p. record { seat = p.1.seat.seat; shares = p.1.seat.shares }) olds news begun shares each
+
+  pub places_each : (count : ℕ) → count ≡ length terms → All (λ (y : Share). HasPlaces count y.lines.items) shares
+  places_each count e = subst (λ n. All (λ (y : Share). HasPlaces n y.lines.items) shares) (sym e)
+      (all_after (λ d e x y. same d e × Works s plan symbols terms table (store d) (store e) x y) (λ y. HasPlaces (length terms) y.lines.items)
+      (λ d e x y p. p.1.worked.places) olds news begun shares each)

@@ -2,7 +2,7 @@
 use Rattle.std.proofs.Common.{◌≡◌, ◌≢◌, ◌⊎◌, ℕ, zero, suc, ◌+◌, ◌<◌, ◌≤◌, List, [], ◌∷◌, ◌++◌, length, map, set, sum_by, cond, true, false, refl, sym, ap, subst, ◌∙◌, inl, inr, ⊎_elim, arith, length-set, add-zero, All}
 use mathlib.Core.Logic.{dite}
 use native.Mathlib.Decide.{ℕ_discrete}
-use Rattle.std.specs.Prelude.{Option, Some, None, Contains, IsSome, is_some, slice_get}
+use Rattle.std.specs.Prelude.{Option, Some, None, Contains, IsSome, slice_get}
 use Rattle.std.proofs.lemmas.List.{append-nil, append_assoc}
 use Rattle.std.proofs.lemmas.List.Elements.{All-nil, All-cons, All-head, All-tail, All-contains, Contains-append_left, Contains-append_right, Contains-get_or, Contains-push}
 use Rattle.std.proofs.lemmas.Option.{slice_get_within}
@@ -12,9 +12,9 @@ use Rattle.rewrite_workers.specs.declared.draws.Drawn.{Drawn}
 use Rattle.rewrite_workers.specs.declared.lines.Line.{Line}
 use Rattle.rewrite_workers.specs.declared.worker.Numbered.{Numbered}
 use Rattle.rewrite_workers.specs.declared.worker.Share.{Share}
-use Rattle.rewrite_workers.specs.Dealt.{IsIn, times}
+use Rattle.rewrite_workers.specs.Dealt.{IsIn, times, once_below}
 use Rattle.rewrite_workers.specs.Worked.{number_of, drawn_of}
-use Rattle.rewrite_workers.specs.Gathered.{HasOneShare, HasPlaces, IsPlaced, Places, PlacesAll}
+use Rattle.rewrite_workers.specs.Gathered.{DrawnOnce, HasOneShare, HasPlaces, IsPlaced, Places, PlacesAll}
 use Rattle.rewrite_workers.proofs.Dealing.{times_cons, hit_same, hit_other, sum_cons}
 
 pub get_set : {A : Type 0} (l : List A) (i : ℕ) (a : A) → i < length l → slice_get (set l i a) i ≡ Some a
@@ -35,14 +35,14 @@ contains_first x xs = Contains-append_left (x ∷ []) xs x (Contains-push [] x)
 pub contains_rest : {A : Type 0} (x : A) (xs : List A) (y : A) → Contains xs y → Contains (x ∷ xs) y
 contains_rest x xs y c = Contains-append_right (x ∷ []) xs y c
 
+pub falsity : false ≡ true → ⊥
+falsity h = cc
+
 -- where nothing was taken, nothing is left
 pub none_left : {A : Type 0} (o : Option A) (xs : List A) (n : ℕ) → ((a : A) → o ≡ Some a → ⊥) → (0 < n → IsSome o) → n ≡ length xs → xs ≡ []
 none_left (Some a) xs n none_taken some e = absurd (none_taken a refl)
 none_left None [] n none_taken some e = refl
-none_left None (x ∷ xs) n none_taken some e = absurd (let h : is_some {T = _} None ≡ true = some (omega arith) in no_some h)
-  where
-    no_some : false ≡ true → ⊥
-    no_some h = cc
+none_left None (x ∷ xs) n none_taken some e = absurd (falsity (some (omega arith)))
 
 -- some lines are placed, and these are left
 pub record Placing (made rest : List Numbered) (old new : List Line) : Type 0 where
@@ -179,3 +179,15 @@ module _ (table : TableId) (shares : List Share) (begun : Drawn) (old : List Lin
 pub gathering_ends : (table : TableId) (shares : List Share) (begun : Drawn) (of : TableId) (me : Me (Unit {0}) Drawn) (old new : List Line) →
     Gathering table shares [] begun of me old new → PlacesAll shares old new
 gathering_ends table shares begun of me old new g = subst (λ (xs : List Share). PlacesAll xs old new) (sym g.split) g.placed
+
+-- who has all shares knows how often each number was drawn
+pub drawn_once : (shares : List Share) (old new last : Drawn) (n : ℕ) → old.numbers ≡ [] →
+    ((x : ℕ) → times x new.numbers ≡ times x old.numbers + sum_by (λ (s : Share). times x (drawn_of s)) shares) → last ≡ new → ((x : ℕ) → times x last.numbers ≡ once_below n x) → DrawnOnce shares
+drawn_once shares old new last n begun drawn same once = record {
+  count = n;
+  once = λ x.
+      let a : times x old.numbers ≡ 0 = ap (times x) begun in
+      let b = drawn x in
+      let c : times x last.numbers ≡ times x new.numbers = ap (λ (v : Drawn). times x v.numbers) same in
+      let d = once x in omega arith;
+}
