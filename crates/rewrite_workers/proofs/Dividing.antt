@@ -70,7 +70,7 @@ module _ (terms : List Tree) (k : ℕ) where
     where
       -- the term at o is in the hand
       mine : ((xs : List ℕ) → Parts (o + 1) ws ts xs → drawn_by k ws ts ≡ numbered terms xs) → (hand : List ℕ) → Parts o (w ∷ ws) (t ∷ ts) hand → w ≡ k → drawn_by k (w ∷ ws) (t ∷ ts) ≡ numbered terms hand
-      mine again [] p e = let a = p.there 0 (omega arith) e in absurd (omega arith)
+      mine again [] p e = let a : 0 < 0 = p.there 0 (omega arith) e in absurd (omega arith)
       mine again (x ∷ xs) p e =
           let there : 0 < times o (x ∷ xs) = subst (λ n. 0 < times n (x ∷ xs)) (add-zero o) (p.there 0 (omega arith) e) in
           let least : o ≤ x = All-head (λ i. o ≤ i) x xs p.least in

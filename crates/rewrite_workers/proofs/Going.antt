@@ -1,6 +1,6 @@
 -- A worker that draws one term after another.
 use Rattle.std.proofs.Common.{◌≡◌, ℕ, zero, suc, ◌+◌, ◌-◌, ◌<◌, ◌≤◌, cond, true, false, List, [], ◌∷◌, ◌++◌, length, map, filter, max, nat_lt, refl, sym, ap, subst, ◌∙◌, arith, All}
-use Rattle.std.specs.Prelude.{Result, Ok, Err, OnOk, is_ok, if◌then◌else◌}
+use Rattle.std.specs.Prelude.{Result, Ok, Err, is_ok, if◌then◌else◌}
 use Rattle.std.proofs.lemmas.List.{append-nil, map-append}
 use Rattle.std.proofs.lemmas.Bool.{lt-ltb, le-ltb}
 use Rattle.std.proofs.lemmas.List.Elements.{All-nil, All-head, All-tail, All-cons, All-push, All-weaker, filter-append}
@@ -172,7 +172,7 @@ module _ (table : TableId) (s : Settings) (symbols : List Named) (rules : List R
         },
         record {
           ended = subst (λ (ts : List Tree). Ended {A = Unit {0}} s rules ts a c (Err e)) (sym (ap (numbered terms) same ∙ on_numbered share next n d))
-              (ended_after {A = Unit {0}} s rules (numbered terms (drawn_of share)) (term_at terms n) a b c (Err e) g.built g.refusals ended);
+              (ended_after s rules {A = Unit {0}} (numbered terms (drawn_of share)) (term_at terms n) a b c (Err e) g.built g.refusals ended);
           works = works_after (need_of s rules terms) (need_at s rules terms n) a b c tt (Err e) (need_most s rules terms n inside) g.works works;
           places = subst (All (λ (x : Numbered). x.number < length terms)) (sym (unmade ∙ ap (λ l. l.items) d.lines)) g.places;
           lines = tt;
@@ -187,7 +187,7 @@ module _ (table : TableId) (s : Settings) (symbols : List Named) (rules : List R
   go_on a b c begun share next last n g d inside keeps adds ended works =
       let kept : drawn_of last ≡ drawn_of next = ap (λ x. x.me.0.numbers) keeps.seat in
       let drawn : drawn_of last ≡ drawn_of share ++ n ∷ [] = kept ∙ drew_numbers share next n d in
-      let whole = ended_after {A = Unit {0}} s rules (numbered terms (drawn_of share)) (term_at terms n) a b c (Ok tt) g.built g.refusals ended in
+      let whole = ended_after s rules {A = Unit {0}} (numbered terms (drawn_of share)) (term_at terms n) a b c (Ok tt) g.built g.refusals ended in
       let at = view next in
       record {
         seat = subst (λ x. IsIn table x.table_id x.me x.me.0) (sym keeps.seat) (drew_in share next n d);
@@ -244,9 +244,5 @@ worked_end s symbols rules terms a b share r w = record { ended = w.ended; works
     lines (Err e) l = tt
 
 -- what was put behind, where it was put
-pub pushed_ok : {A E : Type 0} (r : Result (Unit {0}) E) (u : Unit {0}) (xs ys zs : List A) → zs ≡ (if is_ok r then ys else xs) → r ≡ Ok u → zs ≡ ys
-pushed_ok r u xs ys zs e is = e ∙ ap (λ q. if is_ok q then ys else xs) is
-
-pub on_ok : {E X Y : Type 0} (r : Result (Unit {0}) E) → OnOk r X → (X → Y) → OnOk r Y
-on_ok (Ok u) x f = f x
-on_ok (Err e) x f = tt
+pub pushed_ok : {A E : Type 0} (r : Result (Unit {0}) E) (xs ys zs : List A) → zs ≡ (if is_ok r then ys else xs) → is_ok r ≡ true → zs ≡ ys
+pushed_ok r xs ys zs e is = e ∙ ap (λ b. if b then ys else xs) is

@@ -9,3 +9,4 @@ pub mod Lining
 pub mod Stopping
 pub mod Crewing
 pub mod Unbegun
+pub mod Trying

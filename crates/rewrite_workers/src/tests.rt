@@ -1,5 +1,7 @@
 //! Workers on one desk and on two, by stores that tell when they build and gates that wait.
-ghost use Rattle.std.specs.Prelude.{◌≡◌, ◌<◌, ◌≤◌, ◌^◌, [], ◌∷◌, All, IfOk, length};
+ghost use Rattle.std.specs.Prelude.{◌≡◌, ◌<◌, ◌≤◌, ◌^◌, [], ◌∷◌, All, IfOk, IsTrue, length};
+ghost use Rattle.term_model.specs.Tree.{IsGround};
+ghost use Rattle.rule_match.specs.Planned.{IsPlain};
 ghost use Rattle.plain_store.specs.Contents.{store_of};
 ghost use Rattle.rewrite_workers.specs.Works.{MayWork};
 ghost use Rattle.rewrite_workers.specs.Trials.{IsEmptyDesk};
@@ -13,11 +15,11 @@ use settings::{Command, Settings};
 use std::alloc::Global;
 use std::process::Abort;
 use std::sync::atomic::{AtomicU32, AtomicU64, Ordering};
-use std::sync::yield_now;
 use std::test::Fail;
-use std::thread::Threads;
+use std::thread::{Threads, yield_now};
 use symbol_pool::Symbols;
 use term_lines::LineKind;
+use term_model::Flat;
 use term_syntax::{Flats, read_terms};
 
 /// How often one who waits for another looks, before it gives up.
@@ -29,6 +31,18 @@ struct Input {
     plan: Plan,
     symbols: Symbols,
     terms: Flats,
+}
+
+// Whether all terms are of symbols alone, of no more than two arguments, without variables.
+fn are_plain(terms: &[Flat]) -> bool
+    ensures { IsTrue result → All (λ t. IsGround t × IsPlain 2 t) terms.now }
+{
+    'terms: for term in terms {
+        if !may_be_normalized(term, 2) {
+            return false;
+        }
+    }
+    true
 }
 
 // The terms of a text.

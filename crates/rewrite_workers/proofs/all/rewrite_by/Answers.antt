@@ -16,7 +16,7 @@ use Rattle.rewrite_workers.proofs.Finishing.{Finished, by_ok, by_err, write_back
 use Rattle.rewrite_workers.proofs.all.rewrite_by.Goals as goal
 
 pub work_all-requires-clause-fresh : goal.work_all-requires-clause-fresh
-work_all-requires-clause-fresh g c =
+work_all-requires-clause-fresh g c κs within =
     let crew = c.args.crew in
     let table = crew.draws.shared.table_id in
     let count = length c.args.work.now.terms.now in

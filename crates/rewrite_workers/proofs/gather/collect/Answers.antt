@@ -7,7 +7,7 @@ returns-in-None-clause-once c =
     drawn_once c.args.shares.items c.args.all.me.0 c.gather.new.all.me.0 c.count_drawn.new.seat.me.0 c.count_drawn.result c.requires.all.0.none c.gather.ensures.drawn
     (ap (λ m. m.0) c.count_drawn.ensures.same) c.count_drawn.ensures.once
 
-pub returns-in-Some-clause-once : goal.returns-in-Some-clause-once
-returns-in-Some-clause-once c =
+pub returns-clause-once : goal.returns-clause-once
+returns-clause-once c =
     drawn_once c.args.shares.items c.args.all.me.0 c.gather.new.all.me.0 c.count_drawn.new.seat.me.0 c.count_drawn.result c.requires.all.0.none c.gather.ensures.drawn
     (ap (λ m. m.0) c.count_drawn.ensures.same) c.count_drawn.ensures.once

@@ -1,5 +1,5 @@
-use Rattle.std.proofs.Common.{◌≡◌, ◌∷◌, ◌++◌, [], sym, subst}
-use Rattle.std.specs.Prelude.{OnOk}
+use Rattle.std.proofs.Common.{◌≡◌, ◌∷◌, ◌++◌, [], ap, sym, subst}
+use Rattle.std.specs.Prelude.{OnOk, is_ok}
 use Rattle.rewrite_workers.specs.Works.{term_at}
 use Rattle.rewrite_workers.specs.Lined.{line_of}
 use Rattle.rewrite_workers.specs.Worked.{AddsLine}
@@ -19,7 +19,7 @@ returns-clause-line g c =
     elim c.match-push.branch [
       | in-Ok w ↦ subst (λ r. OnOk r X) (sym w.result-is) (record {
         line = c.in_ok-line.line;
-        lines = pushed_ok c.push.result w.in-Ok.field-0 old.lines.items (old.lines.items ++ added ∷ []) c.push.new.self.items c.push.ensures.items w.in-Ok.is;
+        lines = pushed_ok c.push.result old.lines.items (old.lines.items ++ added ∷ []) c.push.new.self.items c.push.ensures.items (ap is_ok w.in-Ok.is);
         said_is = c.in_ok-line.ensures.line;
         worker = c.in_ok-line.ensures.worker;
       })

@@ -11,7 +11,7 @@ terms-init g c =
       begin c.args.job.now.draws.now.shared.table_id work.settings work.symbols.now work.plan.now.rules work.terms.now (g.T.Terms.store c.args.desk.now) c.args.share.now c.requires.fresh,
       c.requires.ready,
       c.requires.rewriter,
-      g.T.Terms.same_as_itself c.args.desk.now,
+      g.met.T.Terms.same_as_itself c.args.desk.now,
     )
 
 pub returns-then-number-count-clause-seat : goal.returns-then-number-count-clause-seat
@@ -53,7 +53,7 @@ terms-preserved g c =
           c.add_line.new.share c.draw-number.result c.terms.invariant.0 d (omega (arith, c.if-number-count.false)) e.seat e.line e.ended e.works,
       e.ready,
       subst (IsRewriterOf work.settings work.plan.now) (sym e.rewriter) c.terms.invariant.2,
-      g.T.Terms.same_in_turn c.args.desk.now c.terms.desk c.add_line.new.desk c.terms.invariant.3 e.same,
+      g.met.T.Terms.same_in_turn c.args.desk.now c.terms.desk c.add_line.new.desk c.terms.invariant.3 e.same,
     )
 
 pub returns-in_err-add_line-clause-seat : goal.returns-in_err-add_line-clause-seat
