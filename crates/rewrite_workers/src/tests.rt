@@ -27,7 +27,7 @@ const MOST_TURNS: u32 = 1_000_000;
 
 /// Terms without rules, and the names of their symbols.
 #[derive(Drop)]
-struct Input {
+struct Trial {
     plan: Plan,
     symbols: Symbols,
     terms: Flats,
@@ -46,7 +46,7 @@ fn are_plain(terms: &[Flat]) -> bool
 }
 
 // The terms of a text.
-fn input(rt: &impl Abort, alloc: Global, text: &[u8]) -> Result<Input, Fail>
+fn input(rt: &impl Abort, alloc: Global, text: &[u8]) -> Result<Trial, Fail>
     ensures { IfOk result (λ i. MayWork i.plan i.symbols i.terms × (i.plan.widest ≡ 2)) }
 {
     let mut symbols = Symbols::new(alloc);
@@ -59,7 +59,7 @@ fn input(rt: &impl Abort, alloc: Global, text: &[u8]) -> Result<Input, Fail>
             .iter()
             .all(|term| may_be_normalized(term, 2))
     );
-    Ok(Input {
+    Ok(Trial {
         plan,
         symbols,
         terms,

@@ -1,6 +1,7 @@
 // A store of a test, which tells what is done with it.
-ghost use Rattle.std.specs.Prelude.{◌≡◌, max, IfOk};
-ghost use Rattle.plain_store.specs.Contents.{empty};
+ghost use Rattle.std.specs.Prelude.{IfOk};
+ghost use Rattle.plain_store.specs.Contents.{store_of};
+ghost use Rattle.rewrite_workers.specs.Trials.{IsEmptyDesk};
 
 use faults::Memory;
 use plain_store::PlainStore;
@@ -30,8 +31,9 @@ pub(crate) struct Told<'a, H> {
 
 impl<'a, H: Hears> Told<'a, H> {
     /// An empty store, for one that is outside, of so many rows, with 8 places on its stack.
+    #[tactic(auto, using(crate::proofs::Trying::empty_desk))]
     pub(crate) fn new(alloc: Global, rows: u32, number: u32, hears: &'a H) -> Result<Self, Memory>
-        ensures { IfOk result (λ told. told.store ≡ empty rows 8 2) }
+        ensures { IfOk result (λ told. IsEmptyDesk rows (store_of told.store)) }
     {
         Ok(Told {
             store: PlainStore::new(alloc, rows, 8, 2)?,
