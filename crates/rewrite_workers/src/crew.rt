@@ -10,7 +10,8 @@ use crate::worker::Share;
 use faults::Memory;
 use std::alloc::Global;
 
-/// The draws, the seat to which all others are joined in the end, a share for each worker, and a place for each line.
+/// The draws, the seat to which all others are joined in the end, a share for each worker, and a
+/// place for each line.
 #[derive(Drop)]
 pub(crate) struct Crew {
     pub draws: Draws,

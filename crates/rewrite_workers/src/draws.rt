@@ -119,7 +119,8 @@ pub(crate) fn join(draws: &Draws, seat: &mut Seat, other: Seat)
     draws.shared.join_seat::<Together>(seat, other);
 }
 
-// How many numbers are drawn, told to who has all shares: each number below is drawn once, and no other is.
+// How many numbers are drawn, told to who has all shares: each number below is drawn once, and no
+// other is.
 pub(crate) fn count_drawn(draws: &Draws, seat: &mut Seat) -> u64
     requires seat { IsIn draws.now.shared.table_id seat.old.table_id seat.old.me seat.old.me.0 }
     requires all { seat.old.me.0.shares ≡ draws.now.shared.key.shares }

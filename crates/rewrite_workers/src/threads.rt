@@ -11,8 +11,8 @@ use ends::Gate;
 use std::thread::{Threads, join_mut};
 use terms_api::Terms;
 
-/// Each worker works on its desk, all at the same time: the first in this thread, and each other in one of its own where one
-/// can be made.
+/// Each worker works on its desk, all at the same time: the first in this thread, and each other in
+/// one of its own where one can be made.
 #[cycle(threads)]
 pub(crate) fn work_all<R: Threads + Sync, T: Terms + Send, G: Gate>(
     rt: &R,

@@ -24,7 +24,8 @@ pub(crate) struct Numbered {
     pub line: Line,
 }
 
-/// What a worker has of its own: its number, its seat in the draws, the lines that it made, in order, and how it ended.
+/// What a worker has of its own: its number, its seat in the draws, the lines that it made, in order,
+/// and how it ended.
 #[derive(Drop)]
 pub(crate) struct Share {
     pub worker: u32,
@@ -182,7 +183,8 @@ fn work_through<T: Terms, G: Gate>(
     draw_terms(job, &mut rewriter, desk, share)
 }
 
-/// One worker: draws terms until none is left or it must stop, and makes the line of each. How it ended stands in its share.
+/// One worker: draws terms until none is left or it must stop, and makes the line of each. How it
+/// ended stands in its share.
 pub(crate) fn work<T: Terms, G: Gate>(job: &Job<G>, desk: &mut T, share: &mut Share)
     requires may { MayWork job.now.work.plan.now job.now.work.symbols.now job.now.work.terms.now }
     requires ready { IsReady job.now.work.settings job.now.work.plan.now (T.store desk.old) }
