@@ -5,3 +5,6 @@ pub mod Named
 pub mod Sufficing
 pub mod Failing
 pub mod Fullness
+pub mod FewTerms
+pub mod Joined
+pub mod Refusals
