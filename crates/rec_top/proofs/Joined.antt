@@ -1,16 +1,18 @@
 -- What is read of lines is what the definition says of the terms.
-use Rattle.std.proofs.Common.{◌≡◌, ℕ, ◌+◌, ◌<◌, List, [], ◌∷◌, length, map, Bool, cond, refl, sym, ap, subst, ◌∙◌}
+use Rattle.std.proofs.Common.{◌≡◌, ℕ, ◌+◌, ◌<◌, List, [], ◌∷◌, length, map, Bool, cond, refl, sym, ap, subst, ◌∙◌, arith}
 use Rattle.std.specs.Prelude.{All, fold, count_by, sum_by}
 use Rattle.std.specs.List.{flat_map, list_all}
 use Rattle.std.proofs.lemmas.List.{length-map}
 use Rattle.std.proofs.lemmas.List.Folds.{flat_map-map, list_all-map}
+use Rattle.term_model.specs.Tree.{Tree}
+use Rattle.rule_match.specs.Planned.{Planned, planned}
 use Rattle.term_lines.specs.Line.{is_value_kind}
 use Rattle.settings.specs.declared.parts.Settings.{Settings}
 use Rattle.rec_check.specs.Spelled.{Specified}
 use Rattle.rewrite_workers.specs.declared.lines.Line.{Line}
 use Rattle.rewrite_workers.specs.Lined.{Said, said, line_of, worker_of}
 use Rattle.rec_top.specs.Lines.{line}
-use Rattle.rec_top.specs.Sequence.{AreLinesOf}
+use Rattle.rec_top.specs.Sequence.{AreLinesOf, IsSplit}
 
 fold-map : {A : Type 0} (g : ℕ → Said → ℕ) (f : A → Said) (n : ℕ) (xs : List A) → fold g n (map f xs) ≡ fold (λ m x. g m (f x)) n xs
 fold-map g f n [] = refl
@@ -36,3 +38,14 @@ are_lines s spec lines workers e below same =
       spent = sym (sum_by-map (λ (d : Said). d.spent) said lines) ∙ ap (sum_by (λ (d : Said). d.spent)) e ∙ sum_by-map (λ (d : Said). d.spent) f spec.terms;
       workers = record { each = count; below = subst (λ n. All (λ w. w < n) (map worker_of lines)) same below };
     }
+
+-- the same, where the rules are those of a plan, and the terms are lent
+pub lines_made : (s : Settings) (spec : Specified) (plan : Planned) (widest : ℕ) (terms : List Tree) (lines : List Line) (workers : ℕ) → plan ≡ planned spec.rules widest → terms ≡ spec.terms
+    → map said lines ≡ map (line_of s spec.symbols plan.rules) terms → All (λ w. w < workers) (map worker_of lines) → workers ≡ s.workers → AreLinesOf s spec lines
+lines_made s spec plan widest terms lines workers p t e below same =
+    are_lines s spec lines workers
+    (e ∙ ap (λ (q : Planned). map (line_of s spec.symbols q.rules) terms) p ∙ ap (map (line_of s spec.symbols spec.rules)) t) below same
+
+-- where there are no terms there are no workers
+pub no_workers : (count : ℕ) (workers : List ℕ) → workers ≡ [] → IsSplit count workers 0
+no_workers count workers e = subst (λ ws. IsSplit count ws 0) (sym e) (record { each = refl; below = λ k d l. absurd (omega (arith, l)) })

@@ -1,13 +1,13 @@
 -- Where workers on stores of their own stop for want of rows, some term needs more rows than there are.
 use Rattle.std.proofs.Common.{◌≡◌, ◌⊎◌, inl, inr, ℕ, ◌+◌, ◌<◌, ◌≤◌, zero, suc, List, [], ◌∷◌, ◌++◌, length, slice_get, get_or, Option, Some, None, Bool, true, false, refl, sym, ap, subst, ◌∙◌, arith}
-use Rattle.std.specs.Prelude.{Result, Ok, Err, All, slice_index_or}
+use Rattle.std.specs.Prelude.{Result, Err, All, Contains}
 use Rattle.std.specs.List.{flat_map}
 use Rattle.std.proofs.lemmas.List.Elements.{All-head, All-tail}
 use Rattle.std.proofs.lemmas.Option.{slice_get-get_or, slice_get_within, same_Some}
 use Rattle.term_model.specs.Tree.{Tree, Leaf}
 use Rattle.terms_api.specs.Terms.{Store}
 use Rattle.plain_store.specs.Contents.{Contents, store_of}
-use Rattle.rule_match.specs.Planned.{Planned}
+use Rattle.rule_match.specs.Planned.{Planned, planned}
 use Rattle.rewrite_model.specs.Rule.{Rule}
 use Rattle.rewrite_model.specs.Built.{need, need_of_all}
 use Rattle.innermost.specs.declared.normal.RunFault.{RunFault}
@@ -18,7 +18,7 @@ use Rattle.term_lines.specs.declared.stop.LineStop.TheVariants as stop
 use Rattle.rewrite_workers.specs.declared.fault.AllFault.{AllFault}
 use Rattle.rewrite_workers.specs.declared.fault.AllFault.TheVariants.{StoreFull, Worn, Memory}
 use Rattle.rewrite_workers.specs.Desks.{EachDesk, KeepsDesk}
-use Rattle.rewrite_workers.specs.Ends.{numbered, RefusedLast, Ended, worse, fault_of, worst, Stopped}
+use Rattle.rewrite_workers.specs.Ends.{numbered, RefusedLast, Ended, IsWorst, Stopped}
 use Rattle.rec_top.specs.Desks.{IsDesk, AreDesks}
 use Rattle.rec_top.proofs.Fullness.{full, never_worn}
 use Rattle.rec_top.proofs.Sufficing.{need_among}
@@ -26,39 +26,12 @@ use Rattle.rec_top.proofs.Sufficing.{need_among}
 abbrev End : Type 0
 End = Result (Unit {0}) LineStop
 
--- ---- the fault of several ends is that of one
-never_full : {A : Type 0} (o : Option AllFault) → worse (Some Worn) o ≡ Some StoreFull → A
-never_full None h = absurd cc
-never_full (Some StoreFull) h = absurd cc
-never_full (Some Worn) h = absurd cc
-never_full (Some Memory) h = absurd cc
-
-not_worn : {A : Type 0} (o : Option AllFault) → worse (Some StoreFull) o ≡ Some Worn → (o ≡ Some Worn → A) → A
-not_worn None h f = absurd cc
-not_worn (Some StoreFull) h f = absurd cc
-not_worn (Some Worn) h f = f refl
-not_worn (Some Memory) h f = absurd cc
-
 -- an end in a list, by its place
 abbrev IsAt : List End → LineStop → Type 0
 IsAt ends s = (k : ℕ) × (slice_get ends k ≡ Some (Err s))
 
-further : (e : End) (ends : List End) (s : LineStop) → IsAt ends s → IsAt (e ∷ ends) s
-further e ends s (k, at) = (suc k, at)
-
-full_among : (ends : List End) → worst ends ≡ Some StoreFull → IsAt ends stop.StoreFull
-full_among [] h = absurd cc
-full_among (Ok u ∷ ends) h = further (Ok u) ends stop.StoreFull (full_among ends h)
-full_among (Err stop.StoreFull ∷ ends) h = (0, refl)
-full_among (Err stop.Worn ∷ ends) h = never_full (worst ends) h
-full_among (Err stop.Memory ∷ ends) h = absurd cc
-
-worn_among : (ends : List End) → worst ends ≡ Some Worn → IsAt ends stop.Worn
-worn_among [] h = absurd cc
-worn_among (Ok u ∷ ends) h = further (Ok u) ends stop.Worn (worn_among ends h)
-worn_among (Err stop.StoreFull ∷ ends) h = not_worn (worst ends) h (λ e. further (Err stop.StoreFull) ends stop.Worn (worn_among ends e))
-worn_among (Err stop.Worn ∷ ends) h = (0, refl)
-worn_among (Err stop.Memory ∷ ends) h = absurd cc
+place_of : (ends : List End) (s : LineStop) → Contains ends (Err s) → IsAt ends s
+place_of ends s c = (c.0, slice_get-get_or ends c.0 (Err s) c.1 ∙ ap Some c.2)
 
 -- ---- the desk of an end
 all_at : {A : Type 0} (P : A → Type 0) (xs : List A) (k : ℕ) (x : A) → All P xs → slice_get xs k ≡ Some x → P x
@@ -81,20 +54,20 @@ module _ (s : Settings) (plan : Planned) (terms : List Tree) (olds news : List C
     rows : (store_of new).rows ≡ s.rows
     last : RefusedLast s plan.rules (numbered terms hand) (store_of old) (store_of new) fault
 
-  refused_at : (of : AllFault) (why : LineStop) (fault : RunFault) → ((hand : List ℕ) (old new : Contents) → Ended s plan.rules (numbered terms hand) (store_of old) (store_of new) (Err why) → RefusedLast s plan.rules (numbered terms hand) (store_of old) (store_of new) fault)
+  refused_at : (of : AllFault) (why : LineStop) (fault : RunFault) → ((hand : List ℕ) (old new : Contents) → Ended {A = Unit {0}} s plan.rules (numbered terms hand) (store_of old) (store_of new) (Err why) → RefusedLast s plan.rules (numbered terms hand) (store_of old) (store_of new) fault)
       → (needed : ℕ) → AreDesks s plan olds → EachDesk (λ _ old new. KeepsDesk needed (store_of old) (store_of new)) olds news
       → (st : Stopped store_of s plan.rules terms olds news of) → (k : ℕ) → slice_get st.ends k ≡ Some (Err why) → Refused fault
   refused_at of why fault last needed desks keep st k at =
       let l = slice_get_within st.ends k (Err why) at in
-      let e = st.each_ends in
+      let e = st.one_end in
       let n = keep.0 in
       let o = there olds k (omega (arith, l, e)) in
       let w = there news k (omega (arith, l, e, n)) in
       let d = st.desks.1 k o.0 w.0 o.1 w.1 in
-      let same : d.1.0 ≡ Err why = same_Some d.1.0 (Err why) (sym d.1.1.1.0 ∙ at) in
-      let ended = subst (λ r. Ended s plan.rules (numbered terms d.0) (store_of o.0) (store_of w.0) r) same d.1.1.1.1 in
-      let rows = (keep.1 k o.0 w.0 o.1 w.1).rows ∙ (all_at (λ d. IsDesk s plan (store_of d)) olds k o.0 desks.desks o.1).rows in
-      record { hand = d.0; below = all_at (λ hand. All (λ i. i < length terms) hand) st.hands k d.0 st.apart.below d.1.1.0; old = o.0; new = w.0; rows = rows; last = last d.0 o.0 w.0 ended }
+      let same : d.1 ≡ Err why = same_Some d.1 (Err why) (sym d.3 ∙ at) in
+      let ended = subst (λ (r : End). Ended s plan.rules (numbered terms d.0) (store_of o.0) (store_of w.0) r) same d.4 in
+      let rows = (keep.1 k o.0 w.0 o.1 w.1).rows ∙ (all_at (λ d. IsDesk s plan (store_of d)) olds k o.0 desks.each o.1).rows in
+      record { hand = d.0; below = all_at (λ hand. All (λ i. i < length terms) hand) st.hands k d.0 st.apart.below d.2; old = o.0; new = w.0; rows = rows; last = last d.0 o.0 w.0 ended }
 
   -- the term at which it was refused is one of the terms
   drawn_in : (hand : List ℕ) (before : List Tree) (t : Tree) → All (λ i. i < length terms) hand → numbered terms hand ≡ before ++ t ∷ [] → (i : ℕ) × (i < length terms) × (get_or terms i (Leaf 0) ≡ t)
@@ -108,26 +81,39 @@ module _ (s : Settings) (plan : Planned) (terms : List Tree) (olds news : List C
   needs_more r =
       let d = drawn_in r.hand r.last.before r.last.term r.below r.last.drawn_is in
       let few = full s plan.rules r.last.term r.last.begun (store_of r.new) r.last.refused refl r.last.empty r.rows in
-      let among = need_among s plan.rules terms d.0 (Leaf 0) d.1.0 in
-      let same = ap (λ t. need plan.rules t s.fuel s.depth) d.1.1 in
+      let among = need_among s plan.rules terms d.0 (Leaf 0) d.1 in
+      let same = ap (λ t. need plan.rules t s.fuel s.depth) d.2 in
       omega (arith, few, among, same)
 
   -- where the workers are told to have stopped for want of rows
   pub full_needs : (needed : ℕ) → AreDesks s plan olds → EachDesk (λ _ old new. KeepsDesk needed (store_of old) (store_of new)) olds news → Stopped store_of s plan.rules terms olds news StoreFull
       → s.rows < need_of_all plan.rules terms s.fuel s.depth
-  full_needs needed desks keep st = by st.worst_is
+  full_needs needed desks keep st = by st.worst
     where
-      by : (worst st.ends ≡ Some StoreFull) ⊎ (StoreFull ≡ Memory) → s.rows < need_of_all plan.rules terms s.fuel s.depth
-      by (inl w) = let at = full_among st.ends w in needs_more (refused_at StoreFull stop.StoreFull fault.StoreFull (λ hand old new e. e) needed desks keep st at.0 at.1)
+      by : IsWorst st.ends (Some StoreFull) ⊎ (StoreFull ≡ Memory) → s.rows < need_of_all plan.rules terms s.fuel s.depth
+      by (inl w) = let at = place_of st.ends stop.StoreFull w.0 in needs_more (refused_at StoreFull stop.StoreFull fault.StoreFull (λ hand old new e. e) needed desks keep st at.0 at.1)
       by (inr e) = absurd cc
 
   -- want of numbers is never told
   pub never_stops_worn : (needed : ℕ) → AreDesks s plan olds → EachDesk (λ _ old new. KeepsDesk needed (store_of old) (store_of new)) olds news → Stopped store_of s plan.rules terms olds news Worn → ⊥
-  never_stops_worn needed desks keep st = by st.worst_is
+  never_stops_worn needed desks keep st = by st.worst
     where
-      by : (worst st.ends ≡ Some Worn) ⊎ (Worn ≡ Memory) → ⊥
+      by : IsWorst st.ends (Some Worn) ⊎ (Worn ≡ Memory) → ⊥
       by (inl w) =
-          let at = worn_among st.ends w in
+          let at = place_of st.ends stop.Worn w.0 in
           let r = refused_at Worn stop.Worn fault.Worn (λ hand old new e. e) needed desks keep st at.0 at.1 in
-          never_worn r.last.refused.1.1
+          never_worn r.last.refused.2
       by (inr e) = absurd cc
+
+-- The same, where the rules are those of a plan, and the terms and the desks are lent.
+pub full_needs_of : (s : Settings) (rules : List Rule) (given : List Tree) (plan : Planned) (widest : ℕ) (terms : List Tree) (items olds news : List Contents) (of : AllFault) (needed : ℕ) → plan ≡ planned rules widest → terms ≡ given → olds ≡ items
+    → AreDesks s plan items → EachDesk (λ _ old new. KeepsDesk needed (store_of old) (store_of new)) olds news → Stopped store_of s plan.rules terms olds news of → of ≡ StoreFull → s.rows < need_of_all rules given s.fuel s.depth
+full_needs_of s rules given plan widest terms items olds news of needed p t d desks keep st is =
+    let few = full_needs s plan terms olds news needed (subst (AreDesks s plan) (sym d) desks) keep (subst (λ (f : AllFault). Stopped store_of s plan.rules terms olds news f) is st) in
+    let same = ap (λ (q : Planned). need_of_all q.rules terms s.fuel s.depth) p ∙ ap (λ ts. need_of_all rules ts s.fuel s.depth) t in
+    omega (arith, few, same)
+
+pub never_worn_of : (s : Settings) (plan : Planned) (terms : List Tree) (items olds news : List Contents) (of : AllFault) (needed : ℕ) → olds ≡ items
+    → AreDesks s plan items → EachDesk (λ _ old new. KeepsDesk needed (store_of old) (store_of new)) olds news → Stopped store_of s plan.rules terms olds news of → of ≡ Worn → ⊥
+never_worn_of s plan terms items olds news of needed d desks keep st is =
+    never_stops_worn s plan terms olds news needed (subst (AreDesks s plan) (sym d) desks) keep (subst (λ (f : AllFault). Stopped store_of s plan.rules terms olds news f) is st)

@@ -7,6 +7,7 @@ use Rattle.settings.specs.declared.parts.Settings.{Settings}
 use Rattle.rec_top.specs.Written.{Output}
 use Rattle.rec_top.specs.Rewritten.{IsSpecificationFault, RowsAreFew}
 use Rattle.rec_top.specs.Output.{IsFaultWithin, IsScheduleFault, LacksRows, length_limit, too_long}
+use Rattle.rec_top.specs.Input.{ReadsSource}
 use Rattle.rec_top.specs.Run.{GaveFault, GaveTooMuch}
 use Rattle.rec_top.specs.Sequence.{IsSplit}
 use Rattle.rec_top.specs.declared.answers.Answer.{Answer}
@@ -85,7 +86,7 @@ abbrev pub StopsAnswering : {S : Type 0} (settings : Settings) (left : S → Opt
 StopsAnswering settings left faults old new Usage = ⊥
 StopsAnswering settings left faults old new (Refused fault) = GaveFault settings left old new fault
 StopsAnswering settings left faults old new StoreFull = GaveTooMuch settings left old new
-StopsAnswering settings left faults old new ReadFault = Rose (faults old) (faults new)
+StopsAnswering settings left faults old new ReadFault = ReadsSource settings.command × Rose (faults old) (faults new)
 StopsAnswering settings left faults old new WriteFault = ⊥
 StopsAnswering settings left faults old new Memory = Unit {0}
 

@@ -14,4 +14,4 @@ pub record IsDesk (s : Settings) (plan : Planned) (desk : Store) : Type 0 where
 -- one for each worker
 pub record AreDesks (s : Settings) (plan : Planned) (desks : List Contents) : Type 0 where
   pub one_each : length desks ≡ s.workers
-  pub desks : All (λ d. IsDesk s plan (store_of d)) desks
+  pub each : All (λ d. IsDesk s plan (store_of d)) desks

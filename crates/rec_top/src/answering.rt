@@ -130,7 +130,8 @@ pub fn answer_of<R: Threads + Wait + Sync, S: Source, G: Gate>(
     ensures later { S.faults source.old ≤ S.faults source.new }
 {
     match settings.command {
+        Command::Rewrite => answer_read(rt, alloc, settings, source, gate),
         Command::Drill => drilled(rt, alloc, settings, gate),
-        Command::Rewrite | Command::Schedule => answer_read(rt, alloc, settings, source, gate),
+        Command::Schedule => answer_read(rt, alloc, settings, source, gate),
     }
 }

@@ -76,7 +76,7 @@ fn push_count(text: &mut Vec<u8>, name: &[u8], number: u128) -> Result<(), Memor
 {
     text.extend_from_slice(name)?;
     text.extend_from_slice(Buffer::new().format(number).as_bytes())?;
-    text.push(b'\n')?;
+    text.extend_from_slice(b"\n")?;
     Ok(())
 }
 
