@@ -222,5 +222,12 @@ fn each_read_that_fails_is_told(rt: HostRuntime) -> Result<(), Fail> {
 fn the_largest_drill_has_a_value_for_each_term(rt: HostRuntime) -> Result<(), Fail> {
     let counts: &[u8] = b"terms 65535\nvalues 65535\nspent 2817995\n";
     expect(&rt, &["drill", "65535"], b"", 0, counts, b"")?;
-    expect(&rt, &["drill", "65535", "--workers", "4"], b"", 0, counts, b"")
+    expect(
+        &rt,
+        &["drill", "65535", "--workers", "4"],
+        b"",
+        0,
+        counts,
+        b"",
+    )
 }

@@ -6,8 +6,7 @@ use std::test::Fail;
 const FOUR: &[u8] =
     b"REC-SPEC NAT SORTS Nat CONS z : -> Nat  s : Nat -> Nat OPNS plus : Nat Nat -> Nat VARS X Y : Nat RULES plus(X, z) -> X plus(X, s(Y)) -> s(plus(X, Y)) EVAL plus(s(z), s(z)) plus(s(z), s(z)) plus(s(z), s(z)) plus(s(z), s(z)) END-SPEC";
 
-const CONSTANTS: &[u8] =
-    b"REC-SPEC C SORTS S CONS a b c d e : -> S EVAL a b c d e END-SPEC";
+const CONSTANTS: &[u8] = b"REC-SPEC C SORTS S CONS a b c d e : -> S EVAL a b c d e END-SPEC";
 
 // Words for one, two, four and sixteen workers.
 type Numbers = [(&'static [&'static str], u32); 4];

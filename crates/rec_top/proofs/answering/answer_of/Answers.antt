@@ -29,3 +29,9 @@ returns-in-Schedule-clause-accepted g c = λ input output has o rows quiet.
     let s = c.args.settings.now in
     let reads : ReadsSource s.command = subst ReadsSource (sym c.in-Schedule.is) tt in
     c.answer_read-in-Schedule.ensures.accepted input output (has_left s.command s.count g.S.Source.left c.args.source.now input reads has) o rows quiet
+
+pub returns-in-Rewrite-clause-refused : goal.returns-in-Rewrite-clause-refused
+returns-in-Rewrite-clause-refused g c = λ input fault reads has f quiet. c.answer_read.ensures.refused input fault has f quiet
+
+pub returns-in-Schedule-clause-refused : goal.returns-in-Schedule-clause-refused
+returns-in-Schedule-clause-refused g c = λ input fault reads has f quiet. c.answer_read-in-Schedule.ensures.refused input fault has f quiet

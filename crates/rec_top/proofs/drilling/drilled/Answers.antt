@@ -9,4 +9,4 @@ returns-in-Ok-clause-accepted g c = λ output d rows.
     let spells = subst (λ t. Spells t d.spec) (sym text) d.spelled in
     let suffice = subst (RowsSuffice c.args.settings.now) (sym text) rows in
     let lines = c.in-Ok.ensures.accepted d.spec spells suffice in
-    subst (IsAnswer c.args.settings.now.workers c.in_ok-told.field-0) (sym d.output_is) (c.in_ok-told.ensures d.spec lines)
+    subst (IsAnswer c.args.settings.now.workers c.in_ok-told-in-Ok.field-0) (sym d.output_is) (c.in_ok-told-in-Ok.ensures d.spec lines)
