@@ -18,7 +18,6 @@ use ends::{Gate, ReadAllFault, Source, read_all};
 use faults::{Refusal, kinds};
 use settings::{Command, Settings};
 use std::alloc::Global;
-use std::sync::Wait;
 use std::thread::Threads;
 
 // How many bytes an input may have.
@@ -51,7 +50,7 @@ fn input_of<S: Source>(alloc: Global, source: &mut S) -> Result<Vec<u8>, Stop>
 }
 
 // The output of the command for an input.
-fn output_for<R: Threads + Wait + Sync, G: Gate>(
+fn output_for<R: Threads + Sync, G: Gate>(
     rt: &R,
     alloc: Global,
     settings: &Settings,
@@ -78,7 +77,7 @@ fn output_for<R: Threads + Wait + Sync, G: Gate>(
 }
 
 // The output of a command that reads the source, for all that it has left.
-fn answer_read<R: Threads + Wait + Sync, S: Source, G: Gate>(
+fn answer_read<R: Threads + Sync, S: Source, G: Gate>(
     rt: &R,
     alloc: Global,
     settings: &Settings,
@@ -106,7 +105,7 @@ fn answer_read<R: Threads + Wait + Sync, S: Source, G: Gate>(
 }
 
 /// The output of the command for all that the source has left, or for a drill's text.
-pub fn answer_of<R: Threads + Wait + Sync, S: Source, G: Gate>(
+pub fn answer_of<R: Threads + Sync, S: Source, G: Gate>(
     rt: &R,
     alloc: Global,
     settings: &Settings,

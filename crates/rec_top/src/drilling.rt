@@ -19,7 +19,6 @@ use rec_drill::drill_text;
 use rewrite_workers::Line;
 use settings::Settings;
 use std::alloc::Global;
-use std::sync::Wait;
 use std::thread::Threads;
 
 // What is told of the lines of a drill.
@@ -43,7 +42,7 @@ fn told(alloc: Global, settings: &Settings, lines: &[Line]) -> Result<Answer, Me
 
 /// Rewrites the terms of a drill's text, and answers how many there were, how many have a value, and
 /// the fuel that those took.
-pub fn drilled<R: Threads + Wait + Sync, G: Gate>(
+pub fn drilled<R: Threads + Sync, G: Gate>(
     rt: &R,
     alloc: Global,
     settings: &Settings,

@@ -25,7 +25,6 @@ use rewrite_workers::{AllFault, Line, Lines, Work, rewrite_all};
 use rule_match::Plan;
 use settings::Settings;
 use std::alloc::Global;
-use std::sync::Wait;
 use std::thread::Threads;
 
 // A store of its own for each worker, with all rows.
@@ -42,7 +41,7 @@ fn desks_of(alloc: Global, settings: &Settings, plan: &Plan) -> Result<Vec<Plain
 }
 
 // Rewrites the terms of a specification by the workers that the settings ask for.
-fn rewrite<R: Threads + Wait + Sync, G: Gate>(
+fn rewrite<R: Threads + Sync, G: Gate>(
     rt: &R,
     alloc: Global,
     settings: &Settings,
@@ -74,7 +73,7 @@ fn rewrite<R: Threads + Wait + Sync, G: Gate>(
 }
 
 /// Reads a specification, and makes the lines of its terms.
-pub fn lines_for<R: Threads + Wait + Sync, G: Gate>(
+pub fn lines_for<R: Threads + Sync, G: Gate>(
     rt: &R,
     alloc: Global,
     settings: &Settings,
@@ -108,7 +107,7 @@ fn told(alloc: Global, lines: &[Line]) -> Result<Answer, Memory>
 }
 
 /// Reads a specification, and answers the lines of its terms.
-pub fn rewritten<R: Threads + Wait + Sync, G: Gate>(
+pub fn rewritten<R: Threads + Sync, G: Gate>(
     rt: &R,
     alloc: Global,
     settings: &Settings,

@@ -1,0 +1,132 @@
+-- What a desk built over several terms, one after another.
+use Rattle.std.proofs.Common.{◌≡◌, ℕ, zero, suc, ◌+◌, ◌<◌, ◌≤◌, List, [], ◌∷◌, ◌++◌, length, map, get_or, max, refl, sym, ap, subst, ◌∙◌, arith, All}
+use Rattle.std.specs.Prelude.{Result, Ok, Err}
+use Rattle.std.specs.List.{flat_map}
+use Rattle.std.proofs.lemmas.List.{append-nil, append_assoc}
+use Rattle.std.proofs.lemmas.Grind.{flat_map-append}
+use Rattle.term_model.specs.Tree.{Tree, Leaf}
+use Rattle.terms_api.specs.Terms.{Store}
+use Rattle.rewrite_model.specs.Rule.{Rule}
+use Rattle.rewrite_model.specs.Built.{built_list, built_of_all, need, greatest, need_of_all}
+use Rattle.settings.specs.declared.parts.Settings.{Settings}
+use Rattle.innermost.specs.declared.normal.RunFault.{RunFault}
+use Rattle.term_lines.specs.declared.stop.LineStop.{LineStop}
+use Rattle.term_lines.specs.declared.stop.LineStop.TheVariants as stop
+use Rattle.rewrite_workers.specs.Desks.{KeepsDesk}
+use Rattle.rewrite_workers.specs.Ends.{BuiltAll, RefusedLast, Ended, numbered}
+use Rattle.rewrite_workers.specs.Works.{term_at, need_at, need_of}
+use Rattle.rewrite_workers.specs.Working.{WorksOn, more_sweeps}
+
+pub numbered-append : (terms : List Tree) (xs ys : List ℕ) → numbered terms (xs ++ ys) ≡ numbered terms xs ++ numbered terms ys
+numbered-append terms [] ys = refl
+numbered-append terms (x ∷ xs) ys = ap (λ (ts : List Tree). term_at terms x ∷ ts) (numbered-append terms xs ys)
+
+module _ (s : Settings) (rules : List Rule) where
+  abbrev built : List Tree → List Tree
+  built ts = built_of_all rules ts s.fuel s.depth
+
+  built-append : (ts us : List Tree) → built (ts ++ us) ≡ built ts ++ built us
+  built-append ts us = flat_map-append (λ t. built_list rules t s.fuel s.depth) ts us
+
+  pub built_after : (ts us : List Tree) (a b c : Store) → BuiltAll s rules ts a b → BuiltAll s rules us b c → BuiltAll s rules (ts ++ us) a c
+  built_after ts us a b c one two =
+      two ∙ ap (λ (xs : List Tree). xs ++ built us) one ∙ append_assoc a.built (built ts) (built us) ∙ ap (λ (xs : List Tree). a.built ++ xs) (sym (built-append ts us))
+
+  refused_after : (ts : List Tree) (t : Tree) (a b c : Store) (fault : RunFault) → BuiltAll s rules ts a b → b.refusals ≡ a.refusals →
+      RefusedLast s rules (t ∷ []) b c fault → RefusedLast s rules (ts ++ t ∷ []) a c fault
+  refused_after ts t a b c fault one same r = record {
+    before = ts ++ r.before;
+    term = r.term;
+    drawn_is = ap (λ (xs : List Tree). ts ++ xs) r.drawn_is ∙ sym (append_assoc ts r.before (r.term ∷ []));
+    begun = r.begun;
+    built = built_after ts r.before a b r.begun one r.built;
+    empty = r.empty;
+    refused = r.refused;
+    refusals = let h = r.refusals in omega (arith, same);
+  }
+
+  -- a term more, after terms at which nothing was refused
+  pub ended_after : {A : Type 0} (ts : List Tree) (t : Tree) (a b c : Store) (r : Result A LineStop) → BuiltAll s rules ts a b → b.refusals ≡ a.refusals →
+      Ended s rules (t ∷ []) b c r → Ended s rules (ts ++ t ∷ []) a c r
+  ended_after ts t a b c (Ok x) one same e = (built_after ts (t ∷ []) a b c one e.0, e.1 ∙ same)
+  ended_after ts t a b c (Err stop.StoreFull) one same e = refused_after ts t a b c _ one same e
+  ended_after ts t a b c (Err stop.Worn) one same e = refused_after ts t a b c _ one same e
+  ended_after ts t a b c (Err stop.Memory) one same e = (built_after ts (t ∷ []) a b c one e.0, e.1 ∙ same)
+
+  -- a stop is the same, whatever the other answer would be
+  pub ended_stop : (A B : Type 0) (ts : List Tree) (a b : Store) (e : LineStop) → Ended {A = A} s rules ts a b (Err e) → Ended {A = B} s rules ts a b (Err e)
+  ended_stop A B ts a b stop.StoreFull e = e
+  ended_stop A B ts a b stop.Worn e = e
+  ended_stop A B ts a b stop.Memory e = e
+
+pub works_stop : (A B : Type 0) (n : ℕ) (a b : Store) (e : LineStop) → WorksOn {A = A} n a b (Err e) → WorksOn {A = B} n a b (Err e)
+works_stop A B n a b stop.StoreFull w = record { rows = w.rows; widest = w.widest; room = w.room; least_sweeps = w.least_sweeps; most_sweeps = w.most_sweeps; least_load = w.least_load; most_load = w.most_load }
+works_stop A B n a b stop.Worn w = record { rows = w.rows; widest = w.widest; room = w.room; least_sweeps = w.least_sweeps; most_sweeps = w.most_sweeps; least_load = w.least_load; most_load = w.most_load }
+works_stop A B n a b stop.Memory w = record { rows = w.rows; widest = w.widest; room = w.room; least_sweeps = w.least_sweeps; most_sweeps = w.most_sweeps; least_load = w.least_load; most_load = w.most_load }
+
+pub works_after : {A B : Type 0} (n m : ℕ) (a b c : Store) (x : A) (r : Result B LineStop) → m ≤ n → WorksOn n a b (Ok x) → WorksOn m b c r → WorksOn n a c r
+works_after n m a b c x r most one two = record {
+  rows = two.rows ∙ one.rows;
+  widest = two.widest ∙ one.widest;
+  room = two.room ∙ one.room;
+  least_sweeps = let p = one.least_sweeps in let q = two.least_sweeps in omega arith;
+  most_sweeps = let p = one.most_sweeps in let q = two.most_sweeps in omega arith;
+  least_load = let p = one.least_load in let q = two.least_load in omega arith;
+  most_load = let p = one.most_load in let q = two.most_load in omega arith;
+}
+
+pub works_begin : {A : Type 0} (n : ℕ) (a : Store) (x : A) → WorksOn n a a (Ok x)
+works_begin n a x = record {
+  rows = refl;
+  widest = refl;
+  room = refl;
+  least_sweeps = omega arith;
+  most_sweeps = omega arith;
+  least_load = omega arith;
+  most_load = omega arith;
+}
+
+-- there was no memory to begin
+pub works_unbegun : (A : Type 0) (n : ℕ) (a : Store) → WorksOn {A = A} n a a (Err stop.Memory)
+works_unbegun A n a = record {
+  rows = refl;
+  widest = refl;
+  room = refl;
+  least_sweeps = omega arith;
+  most_sweeps = omega arith;
+  least_load = omega arith;
+  most_load = omega arith;
+}
+
+-- one of some numbers is no more than the greatest
+greatest_most : (s : Settings) (rules : List Rule) (terms : List Tree) (i : ℕ) → i < length terms → need_at s rules terms i ≤ need_of s rules terms
+greatest_most s rules [] i h = absurd (omega arith)
+greatest_most s rules (t ∷ ts) zero h = omega arith
+greatest_most s rules (t ∷ ts) (suc i) h = let p = greatest_most s rules ts i (omega arith) in omega arith
+
+pub need_most : (s : Settings) (rules : List Rule) (terms : List Tree) (i : ℕ) → i < length terms → need_at s rules terms i ≤ need_of s rules terms
+need_most = greatest_most
+
+few_sweeps : {A : Type 0} (r : Result A LineStop) → more_sweeps r ≤ 1
+few_sweeps (Ok x) = omega arith
+few_sweeps (Err stop.StoreFull) = omega arith
+few_sweeps (Err stop.Worn) = omega arith
+few_sweeps (Err stop.Memory) = omega arith
+
+more_refusals : {A : Type 0} (s : Settings) (rules : List Rule) (ts : List Tree) (a b : Store) (r : Result A LineStop) → Ended s rules ts a b r → a.refusals ≤ b.refusals
+more_refusals s rules ts a b (Ok x) e = let h = e.1 in omega arith
+more_refusals s rules ts a b (Err stop.StoreFull) e = let h = e.refusals in omega arith
+more_refusals s rules ts a b (Err stop.Worn) e = let h = e.refusals in omega arith
+more_refusals s rules ts a b (Err stop.Memory) e = let h = e.1 in omega arith
+
+pub keeps_desk : {A : Type 0} (n : ℕ) (s : Settings) (rules : List Rule) (ts : List Tree) (a b : Store) (r : Result A LineStop) → WorksOn n a b r → Ended s rules ts a b r → KeepsDesk n a b
+keeps_desk n s rules ts a b r w e = record {
+  rows = w.rows;
+  widest = w.widest;
+  room = w.room;
+  least_sweeps = w.least_sweeps;
+  most_sweeps = let p = w.most_sweeps in let q = few_sweeps r in omega arith;
+  least_load = w.least_load;
+  most_load = w.most_load;
+  refusals = more_refusals s rules ts a b r e;
+}

@@ -1,0 +1,77 @@
+-- How workers end, and which terms each drew.
+use Rattle.std.specs.Prelude.{◌≡◌, ℕ, ◌<◌, ◌≤◌, ◌⊎◌, List, [], ◌∷◌, ◌++◌, Option, Some, None, Result, Ok, Err, All, Contains, length, slice_get}
+use Rattle.std.specs.List.{flat_map}
+use Rattle.term_model.specs.Tree.{Tree}
+use Rattle.terms_api.specs.Terms.{Store}
+use Rattle.rewrite_model.specs.Rule.{Rule}
+use Rattle.rewrite_model.specs.Built.{built_of_all}
+use Rattle.settings.specs.declared.parts.Settings.{Settings}
+use Rattle.innermost.specs.Normalized.{WasRefused}
+use Rattle.innermost.specs.declared.normal.RunFault.{RunFault}
+use Rattle.innermost.specs.declared.normal.RunFault.TheVariants as fault
+use Rattle.term_lines.specs.Written.{points_of}
+use Rattle.term_lines.specs.declared.stop.LineStop.{LineStop}
+use Rattle.term_lines.specs.declared.stop.LineStop.TheVariants as stop
+use Rattle.rewrite_workers.specs.declared.fault.AllFault.{AllFault}
+use Rattle.rewrite_workers.specs.declared.fault.AllFault.TheVariants.{StoreFull, Worn, Memory}
+use Rattle.rewrite_workers.specs.Dealt.{times}
+use Rattle.rewrite_workers.specs.Desks.{EachDesk}
+use Rattle.rewrite_workers.specs.Works.{term_at}
+
+-- the terms with these numbers, in their order
+abbrev pub numbered : List Tree → List ℕ → List Tree
+numbered terms [] = []
+numbered terms (i ∷ is) = term_at terms i ∷ numbered terms is
+
+-- a list that rises
+abbrev pub Rises : List ℕ → Type 0
+Rises [] = Unit {0}
+Rises (i ∷ is) = All (λ j. i < j) is × Rises is
+
+-- What each worker drew: numbers of terms, upwards, none of them twice.
+pub record AreApart (count workers : ℕ) (hands : List (List ℕ)) : Type 0 where
+  pub one_each : length hands ≡ workers
+  pub below : All (λ hand. All (λ i. i < count) hand) hands
+  pub upwards : All Rises hands
+  pub once : (i : ℕ) → times i (flat_map (λ hand. hand) hands) ≤ 1
+
+-- the desk built all that these terms build, in order, and nothing else
+abbrev pub BuiltAll : Settings → List Rule → List Tree → Store → Store → Type 0
+BuiltAll s rules drawn old new = new.built ≡ old.built ++ built_of_all rules drawn s.fuel s.depth
+
+-- The desk refused a tree of the last of these terms, and built all that they build before it.
+pub record RefusedLast (s : Settings) (rules : List Rule) (drawn : List Tree) (old new : Store) (fault : RunFault) : Type 0 where
+  pub before : List Tree
+  pub term : Tree
+  pub drawn_is : drawn ≡ before ++ term ∷ []
+  pub begun : Store
+  pub built : BuiltAll s rules before old begun
+  pub empty : begun.stack ≡ []
+  pub refused : WasRefused (points_of rules term s.fuel s.depth) begun new fault
+  pub refusals : old.refusals < new.refusals
+
+-- How a worker ended that drew these terms: none was left to draw, or it stopped at the last one, or before it drew any.
+abbrev pub Ended : {A : Type 0} → Settings → List Rule → List Tree → Store → Store → Result A LineStop → Type 0
+Ended s rules drawn old new (Ok _) = BuiltAll s rules drawn old new × (new.refusals ≡ old.refusals)
+Ended s rules drawn old new (Err stop.StoreFull) = RefusedLast s rules drawn old new fault.StoreFull
+Ended s rules drawn old new (Err stop.Worn) = RefusedLast s rules drawn old new fault.Worn
+Ended s rules drawn old new (Err stop.Memory) = BuiltAll s rules drawn old new × (new.refusals ≡ old.refusals)
+
+-- The fault of several ends: want of memory goes before want of numbers, and that before want of rows.
+abbrev pub IsWorst : List (Result (Unit {0}) LineStop) → Option AllFault → Type 0
+IsWorst ends None = All (λ end. end ≡ Ok tt) ends
+IsWorst ends (Some Memory) = Contains ends (Err stop.Memory)
+IsWorst ends (Some Worn) = Contains ends (Err stop.Worn) × (Contains ends (Err stop.Memory) → ⊥)
+IsWorst ends (Some StoreFull) = Contains ends (Err stop.StoreFull) × (Contains ends (Err stop.Worn) → ⊥) × (Contains ends (Err stop.Memory) → ⊥)
+
+-- Each worker drew some of the terms and ended so, with its desk. The fault is the worst of their ends, or there was no memory to begin
+-- or to end with.
+pub record Stopped {D : Type 0} (store : D → Store) (s : Settings) (rules : List Rule) (terms : List Tree) (olds news : List D) (fault : AllFault) : Type 0 where
+  pub hands : List (List ℕ)
+  pub ends : List (Result (Unit {0}) LineStop)
+  pub apart : AreApart (length terms) (length olds) hands
+  pub one_end : length ends ≡ length olds
+  pub desks : EachDesk (λ k old new. (hand : List ℕ) × (end : Result (Unit {0}) LineStop)
+      × (slice_get hands k ≡ Some hand) × (slice_get ends k ≡ Some end)
+      × Ended s rules (numbered terms hand) (store old) (store new) end) olds news
+  pub worst : IsWorst ends (Some fault) ⊎ (fault ≡ Memory)

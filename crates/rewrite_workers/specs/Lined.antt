@@ -1,0 +1,41 @@
+-- The lines of terms, and which worker drew which term.
+use Rattle.std.specs.Prelude.{ℕ, ◌==◌, List, [], ◌∷◌, map, if◌then◌else◌}
+use Rattle.term_model.specs.Tree.{Tree}
+use Rattle.symbol_pool.specs.Pool.{Named}
+use Rattle.rewrite_model.specs.Rule.{Rule}
+use Rattle.rewrite_model.specs.Run.{Ended}
+use Rattle.settings.specs.declared.parts.Settings.{Settings}
+use Rattle.term_lines.specs.Line.{line_text, kind_of, spent_of}
+use Rattle.term_lines.specs.Written.{ended}
+use Rattle.term_lines.specs.declared.ending.LineKind.{LineKind}
+use Rattle.rewrite_workers.specs.declared.lines.Line.{Line}
+
+-- what a line says of its term
+pub record Said : Type 0 where
+  pub kind : LineKind
+  pub text : List ℕ
+  pub spent : ℕ
+
+abbrev pub said : Line → Said
+said l = record { kind = l.kind; text = l.text.items; spent = l.spent }
+
+abbrev pub worker_of : Line → ℕ
+worker_of l = l.worker
+
+-- how a term ends with the fuel and the room of the settings
+abbrev pub end_of : Settings → List Rule → Tree → Ended Tree
+end_of s rules term = ended rules term s.fuel s.depth
+
+-- the line of a term
+abbrev pub line_of : Settings → List Named → List Rule → Tree → Said
+line_of s symbols rules term = record {
+  kind = kind_of s.sizes (end_of s rules term);
+  text = line_text s.sizes symbols (end_of s rules term);
+  spent = spent_of s.sizes s.fuel (end_of s rules term);
+}
+
+-- The terms that a worker drew, in order: those at whose places the list of workers has it.
+abbrev pub drawn_by : ℕ → (workers : List ℕ) → (terms : List Tree) → List Tree
+drawn_by j [] terms = []
+drawn_by j (w ∷ ws) [] = []
+drawn_by j (w ∷ ws) (t ∷ ts) = if w == j then t ∷ drawn_by j ws ts else drawn_by j ws ts

@@ -1,0 +1,80 @@
+-- What a worker's share has, before and after it draws terms.
+use Rattle.std.specs.Prelude.{◌≡◌, ◌≢◌, ℕ, ◌<◌, ◌≤◌, List, [], ◌∷◌, ◌++◌, Result, Ok, Err, map, length, filter, nat_lt, All, max}
+use Rattle.term_model.specs.Tree.{Tree}
+use Rattle.terms_api.specs.Terms.{Store}
+use Rattle.symbol_pool.specs.Pool.{Named}
+use Rattle.rewrite_model.specs.Rule.{Rule}
+use Rattle.settings.specs.declared.parts.Settings.{Settings}
+use Rattle.atomic_table.specs.Seated.{TableId}
+use Rattle.term_lines.specs.declared.stop.LineStop.{LineStop}
+use Rattle.rewrite_workers.specs.declared.lines.Line.{Line}
+use Rattle.rewrite_workers.specs.declared.worker.Numbered.{Numbered}
+use Rattle.rewrite_workers.specs.declared.worker.Share.{Share}
+use Rattle.rewrite_workers.specs.Dealt.{IsIn, times}
+use Rattle.rewrite_workers.specs.Works.{term_at, need_of}
+use Rattle.rewrite_workers.specs.Lined.{Said, said, line_of}
+use Rattle.rewrite_workers.specs.Ends.{Ended, Rises, numbered}
+use Rattle.rewrite_workers.specs.Working.{WorksOn}
+
+-- what a share's seat has drawn
+abbrev pub drawn_of : Share → List ℕ
+drawn_of share = share.seat.me.0.numbers
+
+abbrev pub number_of : Numbered → ℕ
+number_of x = x.number
+
+-- the numbers that are those of terms
+abbrev pub of_terms : ℕ → List ℕ → List ℕ
+of_terms count numbers = filter (λ i. nat_lt i count) numbers
+
+-- one share of the draws, which has drawn nothing, and no lines
+pub record IsFresh (table : TableId) (count : ℕ) (share : Share) : Type 0 where
+  pub seat : IsIn table share.seat.table_id share.seat.me share.seat.me.0
+  pub shares : share.seat.me.0.shares ≡ 1
+  pub end : share.seat.me.0.end ≡ count
+  pub past : share.seat.me.0.past ≡ 0
+  pub none : drawn_of share ≡ []
+  pub no_lines : share.lines.items ≡ []
+
+-- the seat and the worker's number are as before
+pub record KeepsSeat (old new : Share) : Type 0 where
+  pub seat : new.seat ≡ old.seat
+  pub worker : new.worker ≡ old.worker
+
+-- one line more, of the term with this number
+pub record AddsLine (old new : Share) (number : ℕ) (wanted : Said) : Type 0 where
+  pub line : Line
+  pub lines : new.lines.items ≡ old.lines.items ++ record { number = number; line = line } ∷ []
+  pub said_is : said line ≡ wanted
+  pub worker : line.worker ≡ old.worker
+
+-- the same seat with what it has drawn, upwards, and the same worker
+pub record Drew (table : TableId) (old new : Share) : Type 0 where
+  pub seat : IsIn table new.seat.table_id new.seat.me new.seat.me.0
+  pub shares : new.seat.me.0.shares ≡ 1
+  pub rises : Rises (drawn_of new)
+  pub worker : new.worker ≡ old.worker
+
+-- the line is that of the term with its number, by this worker
+pub record IsLineAt (s : Settings) (symbols : List Named) (rules : List Rule) (terms : List Tree) (worker : ℕ) (x : Numbered) : Type 0 where
+  pub said_is : said x.line ≡ line_of s symbols rules (term_at terms x.number)
+  pub drawn_by : x.line.worker ≡ worker
+
+-- the lines of all terms that were drawn, and that no term was left to draw
+pub record HasLines (s : Settings) (symbols : List Named) (rules : List Rule) (terms : List Tree) (share : Share) : Type 0 where
+  pub numbers : map number_of share.lines.items ≡ of_terms (length terms) (drawn_of share)
+  pub lines : All (IsLineAt s symbols rules terms share.worker) share.lines.items
+  pub last : ℕ
+  pub past : length terms ≤ last
+  pub drawn : 0 < times last (drawn_of share)
+
+abbrev pub HasLinesWhere : Settings → List Named → List Rule → List Tree → Share → Result (Unit {0}) LineStop → Type 0
+HasLinesWhere s symbols rules terms share (Ok _) = HasLines s symbols rules terms share
+HasLinesWhere s symbols rules terms share (Err stop) = Unit {0}
+
+-- What a worker leaves: the lines of the terms that it drew, or why it stopped, and its desk.
+pub record Worked (s : Settings) (symbols : List Named) (rules : List Rule) (terms : List Tree) (old new : Store) (share : Share) (end : Result (Unit {0}) LineStop) : Type 0 where
+  pub ended : Ended s rules (numbered terms (of_terms (length terms) (drawn_of share))) old new end
+  pub works : WorksOn (need_of s rules terms) old new end
+  pub places : All (λ x. x.number < length terms) share.lines.items
+  pub lines : HasLinesWhere s symbols rules terms share end

@@ -1,0 +1,38 @@
+-- What a worker has, and what it leaves of its desk.
+use Rattle.std.specs.Prelude.{◌≡◌, ◌≢◌, ℕ, ◌+◌, ◌<◌, ◌≤◌, List, [], ◌∷◌, Result, Ok, Err, max, map, length, filter, nat_lt, slice_index_or, All}
+use Rattle.term_model.specs.Tree.{Tree, Leaf}
+use Rattle.terms_api.specs.Terms.{Store}
+use Rattle.symbol_pool.specs.Pool.{Named}
+use Rattle.rewrite_model.specs.Rule.{Rule}
+use Rattle.rule_match.specs.Planned.{Planned}
+use Rattle.innermost.specs.Machines.{IsFor}
+use Rattle.settings.specs.declared.parts.Settings.{Settings}
+use Rattle.term_lines.specs.Written.{SweepsMore}
+use Rattle.term_lines.specs.declared.rewriter.Rewriter.{Rewriter}
+use Rattle.term_lines.specs.declared.stop.LineStop.{LineStop}
+use Rattle.term_lines.specs.declared.stop.LineStop.TheVariants as stop
+
+-- a rewriter of a plan, with the settings' fuel, depth and rows
+pub record IsRewriterOf (s : Settings) (plan : Planned) (rewriter : Rewriter) : Type 0 where
+  pub machine : IsFor plan rewriter.machine
+  pub depth : rewriter.machine.depth ≡ s.depth
+  pub rows : rewriter.marks ≡ s.rows
+  pub fuel : rewriter.fuel ≡ s.fuel
+  pub sizes : rewriter.sizes ≡ s.sizes
+
+-- how much more often than it built trees a desk may have collected: once, where it refused one
+abbrev pub more_sweeps : {A : Type 0} → Result A LineStop → ℕ
+more_sweeps (Ok _) = 0
+more_sweeps (Err stop.StoreFull) = 1
+more_sweeps (Err stop.Worn) = 1
+more_sweeps (Err stop.Memory) = 0
+
+-- The numbers of a desk stay. It collected so often, and no more was protected at once than a term needs.
+pub record WorksOn {A : Type 0} (needed : ℕ) (old new : Store) (result : Result A LineStop) : Type 0 where
+  pub rows : new.rows ≡ old.rows
+  pub widest : new.widest ≡ old.widest
+  pub room : new.room ≡ old.room
+  pub least_sweeps : old.sweeps ≤ new.sweeps
+  pub most_sweeps : SweepsMore old new (more_sweeps result)
+  pub least_load : old.load ≤ new.load
+  pub most_load : new.load ≤ max old.load needed

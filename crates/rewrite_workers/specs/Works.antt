@@ -1,0 +1,37 @@
+-- What workers ask of the terms and the rules.
+use Rattle.std.specs.Prelude.{ℕ, ◌<◌, ◌^◌, List, All, length, slice_index_or}
+use Rattle.term_model.specs.Tree.{Tree, Leaf, IsGround}
+use Rattle.symbol_pool.specs.Pool.{Named}
+use Rattle.rewrite_model.specs.Rule.{Rule}
+use Rattle.rewrite_model.specs.Built.{need, need_of_all}
+use Rattle.settings.specs.declared.parts.Settings.{Settings}
+use Rattle.rule_match.specs.Planned.{Planned, IsPlain}
+use Rattle.term_text.specs.Text.{HasNames}
+use Rattle.term_lines.specs.Laws.{WritesNames}
+
+-- A term without variables, of symbols alone that have names and no more arguments than the plan's width.
+pub record IsTermFor (plan : Planned) (symbols : List Named) (term : Tree) : Type 0 where
+  pub free : IsGround term
+  pub plain : IsPlain plan.widest term
+  pub named : HasNames symbols term
+
+-- the right sides of all rules have names
+abbrev pub WriteNames : List Named → List Rule → Type 0
+WriteNames symbols rules = All (WritesNames symbols) rules
+
+-- the term with a number
+abbrev pub term_at : List Tree → ℕ → Tree
+term_at terms i = slice_index_or terms i (Leaf 0)
+
+-- how many trees are in hand at once, at the term with a number, and at any term
+abbrev pub need_at : Settings → List Rule → List Tree → ℕ → ℕ
+need_at s rules terms i = need rules (term_at terms i) s.fuel s.depth
+
+abbrev pub need_of : Settings → List Rule → List Tree → ℕ
+need_of s rules terms = need_of_all rules terms s.fuel s.depth
+
+-- the terms are few, and may be rewritten by the plan
+pub record MayWork (plan : Planned) (symbols : List Named) (terms : List Tree) : Type 0 where
+  pub few : length terms < 2 ^ 32
+  pub each_term : All (IsTermFor plan symbols) terms
+  pub names : WriteNames symbols plan.rules

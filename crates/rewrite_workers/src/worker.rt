@@ -1,0 +1,199 @@
+// What one worker does: it draws terms until none is left, and makes the line of each.
+ghost use Rattle.std.specs.Prelude.{◌≡◌, ◌<◌, [], ◌∷◌, IfOk, OnErr, OnOk, length};
+ghost use Rattle.rewrite_workers.specs.Works.{MayWork, term_at, need_at};
+ghost use Rattle.rewrite_workers.specs.Lined.{said, line_of};
+ghost use Rattle.rewrite_workers.specs.Desks.{IsReady};
+ghost use Rattle.rewrite_workers.specs.Ends.{Ended};
+ghost use Rattle.rewrite_workers.specs.Working.{IsRewriterOf, WorksOn};
+ghost use Rattle.rewrite_workers.specs.Worked.{IsFresh, AddsLine, KeepsSeat, Drew, Worked};
+
+use crate::draws::{Draws, Seat, draw};
+use crate::{Line, Work};
+use ends::Gate;
+use faults::Memory;
+use innermost::Machine;
+use std::alloc::Global;
+use term_lines::{LineStop, Rewriter};
+use term_text::SizeMarks;
+use terms_api::Terms;
+
+/// The line of a term, with the term's number.
+#[derive(Drop)]
+pub(crate) struct Numbered {
+    pub number: u32,
+    pub line: Line,
+}
+
+/// What a worker has of its own: its number, its seat in the draws, the lines that it made, in order,
+/// and how it ended.
+#[derive(Drop)]
+pub(crate) struct Share {
+    pub worker: u32,
+    pub seat: Seat,
+    pub lines: Vec<Numbered>,
+    pub end: Result<(), LineStop>,
+}
+
+/// What all workers share: the work, the draws and the gate.
+pub(crate) struct Job<'a, G> {
+    pub alloc: Global,
+    pub work: Work<'a>,
+    pub draws: &'a Draws,
+    pub gate: &'a G,
+}
+
+impl<'a, G> Drop for Job<'a, G> {
+    fn drop(self) {
+        let Job {
+            alloc: _,
+            work: _,
+            draws: _,
+            gate: _,
+        } = self;
+    }
+}
+
+// What rewrites the terms of some work.
+fn rewriter_of<G>(job: &Job<G>) -> Result<Rewriter, Memory>
+    ensures { IfOk result (IsRewriterOf job.now.work.settings job.now.work.plan.now) }
+{
+    Ok(Rewriter {
+        machine: Machine::new(job.alloc, job.work.plan, job.work.settings.depth)?,
+        marks: SizeMarks::new(job.alloc, job.work.settings.rows)?,
+        fuel: job.work.settings.fuel,
+        sizes: job.work.settings.sizes,
+    })
+}
+
+// Makes the line of a term on a desk. The gate is told before and after, while nobody is inside.
+fn make_line<T: Terms, G: Gate>(
+    job: &Job<G>,
+    rewriter: &mut Rewriter,
+    desk: &mut T,
+    number: u32,
+    worker: u32,
+) -> Result<Line, LineStop>
+    requires number { number < length job.now.work.terms.now }
+    requires may { MayWork job.now.work.plan.now job.now.work.symbols.now job.now.work.terms.now }
+    requires rewriter { IsRewriterOf job.now.work.settings job.now.work.plan.now rewriter.old }
+    requires ready { IsReady job.now.work.settings job.now.work.plan.now (T.store desk.old) }
+    ensures line { IfOk result (λ l. said l ≡ line_of job.now.work.settings job.now.work.symbols.now
+        job.now.work.plan.now.rules (term_at job.now.work.terms.now number)) }
+    ensures worker { IfOk result (λ l. l.worker ≡ worker) }
+    ensures ended { Ended job.now.work.settings job.now.work.plan.now.rules
+        (term_at job.now.work.terms.now number ∷ []) (T.store desk.old) (T.store desk.new) result }
+    ensures works { WorksOn (need_at job.now.work.settings job.now.work.plan.now.rules job.now.work.terms.now number)
+        (T.store desk.old) (T.store desk.new) result }
+    ensures ready { IsReady job.now.work.settings job.now.work.plan.now (T.store desk.new) }
+    ensures rewriter { rewriter.new ≡ rewriter.old }
+    ensures same { T.same desk.old desk.new }
+{
+    let mut text = Vec::new(job.alloc);
+    let term = &job.work.terms[number as usize];
+    job.gate.before(number);
+    desk.enter();
+    let made = rewriter.write_line(job.work.plan, job.work.symbols, term, desk, &mut text);
+    desk.leave();
+    job.gate.after(number);
+    match made {
+        Ok(ending) => Ok(Line {
+            kind: ending.kind,
+            text,
+            spent: ending.spent,
+            worker,
+        }),
+        Err(stop) => Err(stop),
+    }
+}
+
+// Makes the line of a term that was drawn, and puts it behind the worker's others.
+fn add_line<T: Terms, G: Gate>(
+    job: &Job<G>,
+    rewriter: &mut Rewriter,
+    desk: &mut T,
+    share: &mut Share,
+    number: u32,
+) -> Result<(), LineStop>
+    requires number { number < length job.now.work.terms.now }
+    requires may { MayWork job.now.work.plan.now job.now.work.symbols.now job.now.work.terms.now }
+    requires rewriter { IsRewriterOf job.now.work.settings job.now.work.plan.now rewriter.old }
+    requires ready { IsReady job.now.work.settings job.now.work.plan.now (T.store desk.old) }
+    ensures line { OnOk result (AddsLine share.old share.new number (line_of job.now.work.settings
+        job.now.work.symbols.now job.now.work.plan.now.rules (term_at job.now.work.terms.now number))) }
+    ensures unmade { OnErr result (share.new.lines.items ≡ share.old.lines.items) }
+    ensures seat { KeepsSeat share.old share.new }
+    ensures ended { Ended job.now.work.settings job.now.work.plan.now.rules
+        (term_at job.now.work.terms.now number ∷ []) (T.store desk.old) (T.store desk.new) result }
+    ensures works { WorksOn (need_at job.now.work.settings job.now.work.plan.now.rules job.now.work.terms.now number)
+        (T.store desk.old) (T.store desk.new) result }
+    ensures ready { IsReady job.now.work.settings job.now.work.plan.now (T.store desk.new) }
+    ensures rewriter { rewriter.new ≡ rewriter.old }
+    ensures same { T.same desk.old desk.new }
+{
+    let line = make_line(job, rewriter, desk, number, share.worker)?;
+    match share.lines.push(Numbered { number, line }) {
+        Ok(()) => Ok(()),
+        Err(_) => Err(LineStop::Memory),
+    }
+}
+
+// Draws terms until none is left, and makes the line of each.
+fn draw_terms<T: Terms, G: Gate>(
+    job: &Job<G>,
+    rewriter: &mut Rewriter,
+    desk: &mut T,
+    share: &mut Share,
+) -> Result<(), LineStop>
+    requires may { MayWork job.now.work.plan.now job.now.work.symbols.now job.now.work.terms.now }
+    requires rewriter { IsRewriterOf job.now.work.settings job.now.work.plan.now rewriter.old }
+    requires ready { IsReady job.now.work.settings job.now.work.plan.now (T.store desk.old) }
+    requires fresh { IsFresh job.now.draws.now.shared.table_id (length job.now.work.terms.now) share.old }
+    ensures seat { Drew job.now.draws.now.shared.table_id share.old share.new }
+    ensures worked { Worked job.now.work.settings job.now.work.symbols.now job.now.work.plan.now.rules
+        job.now.work.terms.now (T.store desk.old) (T.store desk.new) share.new result }
+    ensures ready { IsReady job.now.work.settings job.now.work.plan.now (T.store desk.new) }
+    ensures same { T.same desk.old desk.new }
+{
+    let count = job.work.terms.len() as u64;
+    'terms: loop {
+        let number = draw(job.draws, &mut share.seat);
+        if number >= count {
+            return Ok(());
+        }
+        add_line(job, rewriter, desk, share, number as u32)?;
+    }
+}
+
+// A worker's whole work.
+fn work_through<T: Terms, G: Gate>(
+    job: &Job<G>,
+    desk: &mut T,
+    share: &mut Share,
+) -> Result<(), LineStop>
+    requires may { MayWork job.now.work.plan.now job.now.work.symbols.now job.now.work.terms.now }
+    requires ready { IsReady job.now.work.settings job.now.work.plan.now (T.store desk.old) }
+    requires fresh { IsFresh job.now.draws.now.shared.table_id (length job.now.work.terms.now) share.old }
+    ensures seat { Drew job.now.draws.now.shared.table_id share.old share.new }
+    ensures worked { Worked job.now.work.settings job.now.work.symbols.now job.now.work.plan.now.rules
+        job.now.work.terms.now (T.store desk.old) (T.store desk.new) share.new result }
+    ensures ready { IsReady job.now.work.settings job.now.work.plan.now (T.store desk.new) }
+    ensures same { T.same desk.old desk.new }
+{
+    let mut rewriter = rewriter_of(job)?;
+    draw_terms(job, &mut rewriter, desk, share)
+}
+
+/// One worker: draws terms until none is left or it must stop, and makes the line of each. How it
+/// ended stands in its share.
+pub(crate) fn work<T: Terms, G: Gate>(job: &Job<G>, desk: &mut T, share: &mut Share)
+    requires may { MayWork job.now.work.plan.now job.now.work.symbols.now job.now.work.terms.now }
+    requires ready { IsReady job.now.work.settings job.now.work.plan.now (T.store desk.old) }
+    requires fresh { IsFresh job.now.draws.now.shared.table_id (length job.now.work.terms.now) share.old }
+    ensures seat { Drew job.now.draws.now.shared.table_id share.old share.new }
+    ensures worked { Worked job.now.work.settings job.now.work.symbols.now job.now.work.plan.now.rules
+        job.now.work.terms.now (T.store desk.old) (T.store desk.new) share.new share.new.end }
+    ensures ready { IsReady job.now.work.settings job.now.work.plan.now (T.store desk.new) }
+    ensures same { T.same desk.old desk.new }
+{
+    share.end = work_through(job, desk, share);
+}
