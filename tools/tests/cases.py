@@ -88,6 +88,8 @@ ANSWERS = [
     Case(("rewrite", "--depth", "5"), NAT, b"too deep\n", status=1),
     Case(("rewrite",), LARGE, b"too large\n", status=1),
     Case(("rewrite", "--rows", "2"), NAT, err=b"store full\n", status=4),
+    Case(("rewrite", "--workers", "2"), SUM, TWO_AND_TWO),
+    Case(("drill", "3", "--workers=2"), b"", b"terms 3\nvalues 3\nspent 168\n"),
     Case(("schedule",), b"", START),
     *(it.case for it in FAULTS),
 ]
@@ -100,5 +102,9 @@ REFUSED = [
     (("rewrite", "--rows=1", "--rows=1"), "--rows stands twice"),
     (("rewrite", "--sizes=1"), "--sizes has no value"),
     (("rewrite", "nowhere.rec"), "nowhere.rec is no file"),
+    (("rewrite", "--workers", "17"), "--workers wants a number from 1 to 16, and 17 is none"),
+    (("drill",), "a word is missing: drill N"),
+    (("drill", "3", "4"), "4 is no file"),
+    (("drill", "--sizes", "3"), "drill has no option --sizes"),
     (("schedule", "one", "two"), "one is one word too many"),
 ]

@@ -115,6 +115,7 @@ class Files(unittest.TestCase):
             ["rewrite", "examples"],
             ["rewrite", "LICENSE", "examples/nat.rec"],
             ["rewrite", "LICENSE", "--sizes"],
+            ["drill", "3", "LICENSE"],
         ):
             with support.folder() as folder:
                 seen = rec(words, NAT, REC_PROGRAM=support.script(folder, 'for word; do echo "$word"; done'))

@@ -24,6 +24,9 @@ given_settings (Some t) fault s e = cc
 pub has_seats : (s : Settings) → AreInRange s → (1 ≤ s.seats) × (s.seats ≤ 16)
 has_seats s r = let h = r.seats in grind (arith, h)
 
+pub has_workers : (s : Settings) → AreInRange s → (1 ≤ s.workers) × (s.workers ≤ 16)
+has_workers s r = let h = r.workers in grind (arith, h)
+
 -- a run that stops with status 3 has a fault
 pub refused : {S E : Type 0} (words : List (List ℕ)) (s : Settings) (left : S → Option (List ℕ)) (faults : S → ℕ) (old new : S) (taken : E → Option (List ℕ)) (count : E → ℕ) (before after : E) (stop : Stop) → settings_of words ≡ Some s → StopsAnswering s left faults old new stop → TookLine taken count before after (stop_line stop) → stop_status stop ≡ 3 → (fault : Refusal) × HasFault words left old new fault × TookLine taken count before after (fault_line fault)
 refused words s left faults old new taken count before after Usage e why line is = cc

@@ -8,17 +8,14 @@ use Rattle.term_model.specs.Laws.{IsSubtree}
 use Rattle.term_model.proofs.Equality.{among_cases, contains_from_among, among_from_contains}
 use Rattle.term_model.proofs.Members.{distinct_of_part}
 use Rattle.term_model.proofs.Subtrees.{among_left, among_right, among_either, itself, subtrees_nest}
-use Rattle.terms_api.specs.Terms.{Store, Entered}
+use Rattle.terms_api.specs.Terms.{Store}
 use Rattle.rewrite_model.specs.Rule.{Rule}
 use Rattle.rewrite_model.specs.Evaluation.{Point}
 use Rattle.rewrite_model.specs.Built.{trees_in_hand, greatest, need}
-use Rattle.rule_match.specs.Planned.{Planned}
-use Rattle.innermost.specs.Normalized.{IsPartOf, WasRefused, KeepsNumbers}
+use Rattle.innermost.specs.Normalized.{IsPartOf, WasRefused}
 use Rattle.innermost.specs.declared.normal.RunFault.TheVariants as fault
 use Rattle.settings.specs.declared.parts.Settings.{Settings}
 use Rattle.term_lines.specs.Written.{points_of}
-use Rattle.term_lines.specs.declared.rewriter.Rewriter.{Rewriter}
-use Rattle.rec_top.specs.Sequence.{IsReadyStore, IsRewriterOf}
 use Rattle.rec_top.proofs.Sufficing.{max_left, max_right}
 
 -- a subtree of one of these trees is among all their subtrees
@@ -82,13 +79,11 @@ needs_more points old new refused crowd empty =
     let most = subst (λ ps. trees_in_hand p ≤ greatest (map trees_in_hand ps)) (sym stopped.split) (at_point stopped.front stopped.back p) in
     omega (arith, count, more, part, most)
 
-pub full : (s : Settings) (plan : Planned) (rewriter : Rewriter) (rules : List Rule) (term : Tree) (before old new : Store) → IsRewriterOf s plan rewriter → IsReadyStore s plan before → Entered before old → KeepsNumbers old new → WasRefused (points_of rules term rewriter.fuel rewriter.machine.depth) old new fault.StoreFull → new.crowd ≡ flat_map subtrees new.hand → s.rows < need rules term s.fuel s.depth
-full s plan rewriter rules term before old new fits ready entered numbers refused crowd =
-    let empty : old.stack ≡ [] = ap (λ (t : Store). t.stack) entered.rest ∙ ready.empty in
-    let rows : new.rows ≡ s.rows = numbers.rows ∙ ap (λ (t : Store). t.rows) entered.rest ∙ ready.rows in
-    let few = needs_more (points_of rules term rewriter.fuel rewriter.machine.depth) old new refused crowd empty in
-    let same : need rules term rewriter.fuel rewriter.machine.depth ≡ need rules term s.fuel s.depth = ap (λ f. need rules term f rewriter.machine.depth) fits.fuel ∙ ap (λ d. need rules term s.fuel d) fits.depth in
-    omega (arith, few, rows, same)
+-- a term whose evaluation was refused on such a store needs more rows
+pub full : (s : Settings) (rules : List Rule) (term : Tree) (old new : Store) → WasRefused (points_of rules term s.fuel s.depth) old new fault.StoreFull → new.crowd ≡ flat_map subtrees new.hand → old.stack ≡ [] → new.rows ≡ s.rows → s.rows < need rules term s.fuel s.depth
+full s rules term old new refused crowd empty rows =
+    let few = needs_more (points_of rules term s.fuel s.depth) old new refused crowd empty in
+    omega (arith, few, rows)
 
 -- the numbers of a store of one thread aren't used up
 pub never_worn : {A : Type 0} → false ≡ true → A

@@ -5,3 +5,8 @@ pub mod Named
 pub mod Sufficing
 pub mod Failing
 pub mod Fullness
+pub mod FewTerms
+pub mod Inputs
+pub mod Joined
+pub mod NewDesks
+pub mod Refusals

@@ -1,12 +1,15 @@
 -- What a command answers before anything is written: its output, or why it stops.
-use Rattle.std.specs.Prelude.{◌≡◌, ◌⊎◌, ℕ, List, Option, Result, Ok, Err, replicate}
+use Rattle.std.specs.Prelude.{◌≡◌, ◌⊎◌, ℕ, List, Option, Result, Ok, Err}
 use Rattle.faults.specs.Count.{Rose}
 use Rattle.ends.specs.Bytes.{GaveMoreThan}
+use Rattle.rec_drill.specs.Drill.{drill_bytes}
 use Rattle.settings.specs.declared.parts.Settings.{Settings}
 use Rattle.rec_top.specs.Written.{Output}
 use Rattle.rec_top.specs.Rewritten.{IsSpecificationFault, RowsAreFew}
 use Rattle.rec_top.specs.Output.{IsFaultWithin, IsScheduleFault, LacksRows, length_limit, too_long}
+use Rattle.rec_top.specs.Input.{ReadsSource}
 use Rattle.rec_top.specs.Run.{GaveFault, GaveTooMuch}
+use Rattle.rec_top.specs.Sequence.{IsSplit}
 use Rattle.rec_top.specs.declared.answers.Answer.{Answer}
 use Rattle.rec_reader.specs.declared.fail.ReadFail.{ReadFail}
 use Rattle.rec_reader.specs.declared.fail.ReadFail.TheVariants as fail
@@ -14,11 +17,11 @@ use Rattle.faults.specs.declared.refusal.Refusal.{Refusal}
 use Rattle.rec_top.specs.declared.stops.Stop.{Stop}
 use Rattle.rec_top.specs.declared.stops.Stop.TheVariants.{Usage, Refused, StoreFull, ReadFault, WriteFault, Memory}
 
--- the answer is this output, and each term has the first worker
-pub record IsAnswer (answer : Answer) (output : Output) : Type 0 where
+-- the answer is this output, and each term has one of so many workers
+pub record IsAnswer (count : ℕ) (answer : Answer) (output : Output) : Type 0 where
   pub bytes : answer.output.items ≡ output.bytes
   pub values : answer.values ≡ output.values
-  pub workers : answer.workers ≡ replicate output.terms 0
+  pub workers : IsSplit count answer.workers output.terms
 
 -- why reading the whole input may stop
 abbrev pub StopsReading : {S : Type 0} (left : S → Option (List ℕ)) (faults : S → ℕ) (old new : S) → Stop → Type 0
@@ -60,6 +63,15 @@ StopsRewriting settings input ReadFault = ⊥
 StopsRewriting settings input WriteFault = ⊥
 StopsRewriting settings input Memory = Unit {0}
 
+-- why a drill may stop
+abbrev pub StopsDrilling : Settings → Stop → Type 0
+StopsDrilling settings Usage = ⊥
+StopsDrilling settings (Refused fault) = ⊥
+StopsDrilling settings StoreFull = RowsAreFew settings (drill_bytes settings.count)
+StopsDrilling settings ReadFault = ⊥
+StopsDrilling settings WriteFault = ⊥
+StopsDrilling settings Memory = Unit {0}
+
 -- why running a schedule may stop
 abbrev pub StopsScheduling : ℕ → List ℕ → Stop → Type 0
 StopsScheduling seats input Usage = ⊥
@@ -74,7 +86,7 @@ abbrev pub StopsAnswering : {S : Type 0} (settings : Settings) (left : S → Opt
 StopsAnswering settings left faults old new Usage = ⊥
 StopsAnswering settings left faults old new (Refused fault) = GaveFault settings left old new fault
 StopsAnswering settings left faults old new StoreFull = GaveTooMuch settings left old new
-StopsAnswering settings left faults old new ReadFault = Rose (faults old) (faults new)
+StopsAnswering settings left faults old new ReadFault = ReadsSource settings.command × Rose (faults old) (faults new)
 StopsAnswering settings left faults old new WriteFault = ⊥
 StopsAnswering settings left faults old new Memory = Unit {0}
 

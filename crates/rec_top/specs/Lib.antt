@@ -1,4 +1,7 @@
 pub mod Answered
+pub mod Desks
+pub mod Drilled
+pub mod Input
 pub mod Lines
 pub mod Output
 pub mod Rewritten

@@ -1,14 +1,16 @@
--- What a command writes for an input, and why it refuses one. Each command has a case of its own.
+-- What a command writes for an input, and why it refuses one. Each command has a case of its own. The input of a
+-- drill is its own text, which is never refused.
 use Rattle.std.specs.Prelude.{◌≡◌, ◌⊎◌, ℕ, ◌≤◌, ◌<◌, List, length, true, Ok, Err}
 use Rattle.lock_core.specs.Lock.{Lock, at_start}
 use Rattle.lock_core.specs.Schedule.{ComesTo, lines}
 use Rattle.lock_core.specs.StateText.{state_text}
 use Rattle.lock_core.specs.declared.reading.LineFault.{LineFault}
 use Rattle.settings.specs.declared.parts.Command.{Command}
-use Rattle.settings.specs.declared.parts.Command.TheVariants.{Rewrite, Schedule}
+use Rattle.settings.specs.declared.parts.Command.TheVariants.{Rewrite, Drill, Schedule}
 use Rattle.settings.specs.declared.parts.Settings.{Settings}
 use Rattle.rec_top.specs.Written.{Output}
 use Rattle.rec_top.specs.Rewritten.{IsRewritten, IsSpecificationFault, RowsAreFew, RowsSuffice}
+use Rattle.rec_top.specs.Drilled.{IsDrilled}
 use Rattle.faults.specs.declared.refusal.Refusal.{Refusal}
 
 -- how many bytes an input may have
@@ -29,6 +31,7 @@ pub record IsScheduleFault (seats : ℕ) (input : List ℕ) (fault : Refusal) : 
 
 abbrev pub IsOutputOf : Command → Settings → List ℕ → Output → Type 0
 IsOutputOf Rewrite s input output = IsRewritten s input output
+IsOutputOf Drill s input output = IsDrilled s input output
 IsOutputOf Schedule s input output = IsScheduled s.seats input output
 
 -- the input is accepted under the settings, and this is what is written for it
@@ -38,6 +41,7 @@ pub record IsOutput (s : Settings) (input : List ℕ) (output : Output) : Type 0
 
 abbrev pub IsFaultOf : Command → Settings → List ℕ → Refusal → Type 0
 IsFaultOf Rewrite s input fault = IsSpecificationFault input fault
+IsFaultOf Drill s input fault = ⊥
 IsFaultOf Schedule s input fault = IsScheduleFault s.seats input fault
 
 -- the fault of an input that is too long
@@ -60,6 +64,7 @@ IsFault s input fault = IsTooLongAt input fault ⊎ IsFaultWithin s input fault
 -- the rows are too few for what the command builds of the input
 abbrev pub LacksRowsFor : Command → Settings → List ℕ → Type 0
 LacksRowsFor Rewrite s input = RowsAreFew s input
+LacksRowsFor Drill s input = RowsAreFew s input
 LacksRowsFor Schedule s input = ⊥
 
 abbrev pub LacksRows : Settings → List ℕ → Type 0
@@ -68,6 +73,7 @@ LacksRows s input = LacksRowsFor s.command s input
 -- the rows suffice for what the command builds of the input
 abbrev pub HasRowsFor : Command → Settings → List ℕ → Type 0
 HasRowsFor Rewrite s input = RowsSuffice s input
+HasRowsFor Drill s input = RowsSuffice s input
 HasRowsFor Schedule s input = Unit {0}
 
 abbrev pub HasRows : Settings → List ℕ → Type 0

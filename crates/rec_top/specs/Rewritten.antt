@@ -1,5 +1,5 @@
 -- Rewriting the terms of a specification: what is written, how many rows it needs, and what is wrong with an input.
-use Rattle.std.specs.Prelude.{◌≡◌, ◌⊎◌, ℕ, ◌≤◌, ◌<◌, List, length, Some, None, Ok, Err, All}
+use Rattle.std.specs.Prelude.{◌≡◌, ◌⊎◌, ℕ, ◌*◌, ◌≤◌, ◌<◌, List, length, Some, None, Ok, Err, All}
 use Rattle.rec_reader.specs.declared.token.Token.{Token}
 use Rattle.rec_reader.specs.Parsed.{Parsed}
 use Rattle.rec_reader.specs.declared.fail.ReadFail.TheVariants.{Refused}
@@ -70,15 +70,17 @@ pub record IsOffenceFault (input : List ℕ) (fault : Refusal) : Type 0 where
 abbrev pub IsSpecificationFault : List ℕ → Refusal → Type 0
 IsSpecificationFault input fault = IsByteFault input fault ⊎ IsTokenFault input fault ⊎ IsOffenceFault input fault
 
--- Both the different trees that the terms build, and the most that they have in hand at once, are more than the rows.
+-- Both the different trees that the terms build, and the most that the workers may have in hand at once, are more
+-- than the rows. A worker has at most as many in hand as the term that needs most.
 pub record RowsAreFew (s : Settings) (input : List ℕ) : Type 0 where
   pub spec : Specified
   pub spelled : Spells input spec
   pub built : s.rows < distinct_built spec.rules spec.terms s.fuel s.depth
-  pub need : s.rows < need_of_all spec.rules spec.terms s.fuel s.depth
+  pub need : s.rows < s.workers * need_of_all spec.rules spec.terms s.fuel s.depth
 
--- the different trees that the terms build, or the most that they have in hand at once, aren't more than the rows
+-- the different trees that the terms build, or the most that the workers may have in hand at once, aren't more than
+-- the rows
 abbrev pub RowsSuffice : Settings → List ℕ → Type 0
 RowsSuffice s input = (spec : Specified) → Spells input spec →
     (distinct_built spec.rules spec.terms s.fuel s.depth ≤ s.rows)
-    ⊎ (need_of_all spec.rules spec.terms s.fuel s.depth ≤ s.rows)
+    ⊎ (s.workers * need_of_all spec.rules spec.terms s.fuel s.depth ≤ s.rows)

@@ -1,12 +1,14 @@
 -- How a run ends. What a source has left, what a sink has taken and their counts of faults are read of
 -- them by functions; left and taken bytes are known only where the source and the sink tell them.
-use Rattle.std.specs.Prelude.{◌≡◌, ◌≢◌, ◌⊎◌, ℕ, List, Option, Some, replicate}
+use Rattle.std.specs.Prelude.{◌≡◌, ◌≢◌, ◌⊎◌, ℕ, List, Option, Some}
 use Rattle.std.specs.Io.KnownBytes.{Consumes, Appends, IsAtEnd}
 use Rattle.faults.specs.Count.{Rose}
-use Rattle.ends.specs.Bytes.{GaveAll}
 use Rattle.settings.specs.Words.{settings_of}
 use Rattle.settings.specs.declared.parts.Settings.{Settings}
+use Rattle.settings.specs.declared.parts.Command.TheVariants.{Drill}
 use Rattle.rec_top.specs.Written.{Output, status_of}
+use Rattle.rec_top.specs.Sequence.{IsSplit}
+use Rattle.rec_top.specs.Input.{ReadsSource, GaveInput, HasInput}
 use Rattle.rec_top.specs.Output.{IsOutput, IsFault, LacksRows, HasRows, too_long}
 use Rattle.faults.specs.declared.refusal.Refusal.{Refusal}
 
@@ -14,26 +16,28 @@ use Rattle.faults.specs.declared.refusal.Refusal.{Refusal}
 abbrev pub HasNoFault : {S : Type 0} (faults : S → ℕ) (old new : S) → Type 0
 HasNoFault faults old new = Rose (faults old) (faults new) → ⊥
 
--- the source was read to its end, and this is the output for all that it had left
+-- the source gave the input whole, and this is the output for it
 pub record GaveOutput {S : Type 0} (settings : Settings) (left : S → Option (List ℕ)) (old new : S) (output : Output) : Type 0 where
   pub input : List ℕ
-  pub read : GaveAll (left old) (left new) input
+  pub read : GaveInput settings left old new input
   pub output_is : IsOutput settings input output
 
--- what the source gave has this fault; it was read to its end, but for an input that is too long
+-- The command reads the source, and what the source gave has this fault. It was read to its end, but for an input
+-- that is too long.
 pub record GaveFault {S : Type 0} (settings : Settings) (left : S → Option (List ℕ)) (old new : S) (fault : Refusal) : Type 0 where
+  pub reads : ReadsSource settings.command
   pub input : List ℕ
   pub given : Consumes (left old) (left new) input
   pub read : fault ≢ too_long → IsAtEnd (left new)
   pub fault_is : IsFault settings input fault
 
--- the source was read to its end, and the rows are too few for what it had left
+-- the source gave the input whole, and the rows are too few for it
 pub record GaveTooMuch {S : Type 0} (settings : Settings) (left : S → Option (List ℕ)) (old new : S) : Type 0 where
   pub input : List ℕ
-  pub read : GaveAll (left old) (left new) input
+  pub read : GaveInput settings left old new input
   pub lacks : LacksRows settings input
 
--- the words are accepted, and this is the output for all that the source had left
+-- the words are accepted, and this is the output for the input
 abbrev pub HasOutput : {S : Type 0} (words : List (List ℕ)) (left : S → Option (List ℕ)) (old new : S) (output : Output) → Type 0
 HasOutput words left old new output =
     (settings : Settings) × (settings_of words ≡ Some settings) × GaveOutput settings left old new output
@@ -43,25 +47,26 @@ abbrev pub HasFault : {S : Type 0} (words : List (List ℕ)) (left : S → Optio
 HasFault words left old new fault =
     (settings : Settings) × (settings_of words ≡ Some settings) × GaveFault settings left old new fault
 
--- the words are accepted, and the rows are too few for what the source had left
+-- the words are accepted, and the rows are too few for the input
 abbrev pub HasTooMuch : {S : Type 0} (words : List (List ℕ)) (left : S → Option (List ℕ)) (old new : S) → Type 0
 HasTooMuch words left old new =
     (settings : Settings) × (settings_of words ≡ Some settings) × GaveTooMuch settings left old new
 
--- The words are accepted, the source has this input left, whose output this is, and the rows suffice.
+-- The words are accepted, there is an input whose output this is, and the rows suffice for it.
 pub record Accepts {S : Type 0} (words : List (List ℕ)) (left : S → Option (List ℕ)) (source : S) (output : Output) : Type 0 where
   pub settings : Settings
   pub input : List ℕ
   pub accepted : settings_of words ≡ Some settings
-  pub has : left source ≡ Some input
+  pub has : HasInput settings left source input
   pub output_is : IsOutput settings input output
   pub rows : HasRows settings input
 
--- the words are accepted, and the source has an input left that has this fault
+-- the words are accepted, the command reads the source, and the source has an input left that has this fault
 pub record Refuses {S : Type 0} (words : List (List ℕ)) (left : S → Option (List ℕ)) (source : S) (fault : Refusal) : Type 0 where
   pub settings : Settings
   pub input : List ℕ
   pub accepted : settings_of words ≡ Some settings
+  pub reads : ReadsSource settings.command
   pub has : left source ≡ Some input
   pub fault_is : IsFault settings input fault
 
@@ -70,9 +75,14 @@ pub record IsWritten {O : Type 0} (taken : O → Option (List ℕ)) (old new : O
   pub bytes : Appends (taken old) (taken new) output.bytes
   pub status_is : status ≡ status_of output
 
--- each term of the output has the first worker
-abbrev pub IsOfOneWorker : List ℕ → Output → Type 0
-IsOfOneWorker workers output = workers ≡ replicate output.terms 0
+-- each term of the output has one of the workers that the words ask for
+abbrev pub HasWorkers : (words : List (List ℕ)) → List ℕ → Output → Type 0
+HasWorkers words workers output =
+    (settings : Settings) × (settings_of words ≡ Some settings) × IsSplit settings.workers workers output.terms
+
+-- the words ask for a drill
+abbrev pub AsksDrill : List (List ℕ) → Type 0
+AsksDrill words = (settings : Settings) × (settings_of words ≡ Some settings) × (settings.command ≡ Drill)
 
 -- the output was made: it was written, or a write failed
 abbrev pub IsMade : ℕ → Type 0

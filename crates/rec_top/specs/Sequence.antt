@@ -1,45 +1,20 @@
--- Rewriting the terms of a specification one after another on one store.
-use Rattle.std.specs.Prelude.{◌≡◌, ℕ, ◌≤◌, ◌<◌, List, [], Bool, false, All}
+-- The lines of the terms of a specification, whichever worker made each.
+use Rattle.std.specs.Prelude.{◌≡◌, ℕ, ◌<◌, List, Bool, All, map, count_by, sum_by, length}
 use Rattle.std.specs.List.{flat_map, list_all}
-use Rattle.term_model.specs.Tree.{Tree, IsGround}
+use Rattle.term_model.specs.Tree.{Tree}
 use Rattle.symbol_pool.specs.Pool.{Named}
-use Rattle.terms_api.specs.Terms.{Store}
 use Rattle.rewrite_model.specs.Rule.{Rule}
-use Rattle.rewrite_model.specs.Built.{need, need_of_all}
+use Rattle.rewrite_model.specs.Built.{need_of_all}
 use Rattle.rewrite_model.specs.Run.{Ended}
-use Rattle.rule_match.specs.Planned.{Planned, IsPlain}
-use Rattle.innermost.specs.Machines.{IsFor}
 use Rattle.settings.specs.declared.parts.Settings.{Settings}
-use Rattle.term_text.specs.Text.{HasNames}
 use Rattle.term_lines.specs.Laws.{WritesNames}
-use Rattle.term_lines.specs.Line.{line_text, is_value}
+use Rattle.term_lines.specs.Line.{line_text, is_value, is_value_kind, spent_of}
 use Rattle.term_lines.specs.Written.{ended}
+use Rattle.rewrite_workers.specs.declared.lines.Line.{Line}
+use Rattle.rec_check.specs.Spelled.{Specified}
 use Rattle.rec_top.specs.Lines.{line}
-use Rattle.term_lines.specs.declared.rewriter.Rewriter.{Rewriter}
 use Rattle.rec_top.specs.declared.stops.Stop.{Stop}
 use Rattle.rec_top.specs.declared.stops.Stop.TheVariants.{Usage, Refused, StoreFull, ReadFault, WriteFault, Memory}
-
--- A store that nobody is in, with an empty stack, the rows and the places of the settings, and the plan's width.
-pub record IsReadyStore (s : Settings) (plan : Planned) (store : Store) : Type 0 where
-  pub outside : store.inside ≡ false
-  pub empty : store.stack ≡ []
-  pub rows : store.rows ≡ s.rows
-  pub room : store.room ≡ s.depth
-  pub width : plan.widest ≤ store.widest
-
--- a rewriter of a plan, with the settings' fuel, depth and rows
-pub record IsRewriterOf (s : Settings) (plan : Planned) (rewriter : Rewriter) : Type 0 where
-  pub machine : IsFor plan rewriter.machine
-  pub depth : rewriter.machine.depth ≡ s.depth
-  pub rows : rewriter.marks ≡ s.rows
-  pub fuel : rewriter.fuel ≡ s.fuel
-  pub sizes : rewriter.sizes ≡ s.sizes
-
--- A term without variables, of symbols alone that have names and no more arguments than the plan's width.
-pub record IsTermFor (plan : Planned) (symbols : List Named) (term : Tree) : Type 0 where
-  pub free : IsGround term
-  pub plain : IsPlain plan.widest term
-  pub named : HasNames symbols term
 
 -- the right sides of all rules have names
 abbrev pub WriteNames : List Named → List Rule → Type 0
@@ -57,6 +32,28 @@ lines_of s symbols rules terms = flat_map (λ t. line (line_text s.sizes symbols
 abbrev pub all_values : Settings → List Rule → List Tree → Bool
 all_values s rules terms = list_all (λ t. is_value s.sizes (end_of s rules t)) terms
 
+-- how many lines are values
+abbrev pub values_among : Settings → List Rule → List Tree → ℕ
+values_among s rules terms = count_by (λ t. is_value s.sizes (end_of s rules t)) terms
+
+-- the fuel that the values took together
+abbrev pub spent_among : Settings → List Rule → List Tree → ℕ
+spent_among s rules terms = sum_by (λ t. spent_of s.sizes s.fuel (end_of s rules t)) terms
+
+-- each of so many terms has one of so many workers
+pub record IsSplit (count : ℕ) (workers : List ℕ) (terms : ℕ) : Type 0 where
+  pub each : length workers ≡ terms
+  pub below : All (λ w. w < count) workers
+
+-- The lines are those of the terms in order, with their values and the fuel of these, and each was made by one of the
+-- workers.
+pub record AreLinesOf (s : Settings) (spec : Specified) (lines : List Line) : Type 0 where
+  pub text : flat_map (λ l. line l.text.items) lines ≡ lines_of s spec.symbols spec.rules spec.terms
+  pub values : list_all (λ l. is_value_kind l.kind) lines ≡ all_values s spec.rules spec.terms
+  pub count : count_by (λ l. is_value_kind l.kind) lines ≡ values_among s spec.rules spec.terms
+  pub spent : sum_by (λ l. l.spent) lines ≡ spent_among s spec.rules spec.terms
+  pub workers : IsSplit s.workers (map (λ l. l.worker) lines) (length spec.terms)
+
 -- why the lines of terms aren't all made
 abbrev pub StopsTerms : Settings → List Rule → List Tree → Stop → Type 0
 StopsTerms s rules terms Usage = ⊥
@@ -65,12 +62,3 @@ StopsTerms s rules terms StoreFull = s.rows < need_of_all rules terms s.fuel s.d
 StopsTerms s rules terms ReadFault = ⊥
 StopsTerms s rules terms WriteFault = ⊥
 StopsTerms s rules terms Memory = Unit {0}
-
--- why the line of a term isn't made
-abbrev pub StopsTerm : Settings → List Rule → Tree → Stop → Type 0
-StopsTerm s rules term Usage = ⊥
-StopsTerm s rules term (Refused fault) = ⊥
-StopsTerm s rules term StoreFull = s.rows < need rules term s.fuel s.depth
-StopsTerm s rules term ReadFault = ⊥
-StopsTerm s rules term WriteFault = ⊥
-StopsTerm s rules term Memory = Unit {0}

@@ -1,13 +1,16 @@
 // From a source to the output of a command.
 ghost use Rattle.std.specs.Prelude.{◌≡◌, ◌≤◌, ◌⊎◌, ℕ, List, Some, IfOk, IfErr, IsErrOf, length, vec_len};
 ghost use Rattle.ends.specs.Bytes.{GaveAll};
+ghost use Rattle.settings.specs.Words.{AreInRange};
 ghost use Rattle.rec_top.specs.Written.{Output};
+ghost use Rattle.rec_top.specs.Input.{ReadsSource, HasInput};
 ghost use Rattle.rec_top.specs.Output.{IsOutput, IsFault, IsFaultWithin, IsTooLongAt, HasRows, length_limit};
 ghost use Rattle.rec_top.specs.Run.{GaveOutput, HasNoFault};
 ghost use Rattle.rec_top.specs.Answered.{IsAnswer, StopsReading, StopsMaking, StopsAnswering, Answers, StopsWith};
 ghost use Rattle.faults.specs.declared.refusal.Refusal.{Refusal};
 
 use crate::answers::Answer;
+use crate::drilling::drilled;
 use crate::rewriting::rewritten;
 use crate::scheduling::scheduled;
 use crate::stops::Stop;
@@ -15,6 +18,7 @@ use ends::{Gate, ReadAllFault, Source, read_all};
 use faults::{Refusal, kinds};
 use settings::{Command, Settings};
 use std::alloc::Global;
+use std::thread::Threads;
 
 // How many bytes an input may have.
 const LENGTH_LIMIT: u64 = 16_777_216;
@@ -46,47 +50,87 @@ fn input_of<S: Source>(alloc: Global, source: &mut S) -> Result<Vec<u8>, Stop>
 }
 
 // The output of the command for an input.
-fn output_for<G: Gate>(
+fn output_for<R: Threads + Sync, G: Gate>(
+    rt: &R,
     alloc: Global,
-    settings: Settings,
+    settings: &Settings,
     input: &[u8],
     gate: &G,
 ) -> Result<Answer, Stop>
     requires limit { length input.now ≤ length_limit }
-    requires seats { (1 ≤ settings.seats) × (settings.seats ≤ 16) }
+    requires in_range { AreInRange settings.now }
+    requires reads { ReadsSource settings.now.command }
     ensures made { IfOk result (λ answer. (output : Output)
-        × IsOutput settings input.now output × IsAnswer answer output) }
-    ensures stopped { IfErr result (StopsMaking settings input.now) }
-    ensures accepted { (output : Output) → IsOutput settings input.now output → HasRows settings input.now
-        → Answers result (λ answer. IsAnswer answer output) }
-    ensures refused { (fault : Refusal) → IsFaultWithin settings input.now fault → StopsWith result fault }
+        × IsOutput settings.now input.now output × IsAnswer settings.now.workers answer output) }
+    ensures stopped { IfErr result (StopsMaking settings.now input.now) }
+    ensures accepted { (output : Output) → IsOutput settings.now input.now output
+        → HasRows settings.now input.now
+        → Answers result (λ answer. IsAnswer settings.now.workers answer output) }
+    ensures refused { (fault : Refusal) → IsFaultWithin settings.now input.now fault
+        → StopsWith result fault }
 {
     match settings.command {
-        Command::Rewrite => rewritten(alloc, settings, input, gate),
-        Command::Schedule => scheduled(alloc, settings.seats, input),
+        Command::Rewrite => rewritten(rt, alloc, settings, input, gate),
+        Command::Drill => unreachable!(),
+        Command::Schedule => scheduled(alloc, settings, input),
     }
 }
 
-/// The output of the command for all that the source has left.
-pub fn answer_of<S: Source, G: Gate>(
+// The output of a command that reads the source, for all that it has left.
+fn answer_read<R: Threads + Sync, S: Source, G: Gate>(
+    rt: &R,
     alloc: Global,
-    settings: Settings,
+    settings: &Settings,
     source: &mut S,
     gate: &G,
 ) -> Result<Answer, Stop>
-    requires seats { (1 ≤ settings.seats) × (settings.seats ≤ 16) }
+    requires in_range { AreInRange settings.now }
+    requires reads { ReadsSource settings.now.command }
     ensures made { IfOk result (λ answer. (output : Output)
-        × GaveOutput settings S.left source.old source.new output × IsAnswer answer output) }
-    ensures stopped { IfErr result (StopsAnswering settings S.left S.faults source.old source.new) }
+        × GaveOutput settings.now S.left source.old source.new output
+        × IsAnswer settings.now.workers answer output) }
+    ensures stopped { IfErr result (StopsAnswering settings.now S.left S.faults source.old source.new) }
     ensures unfailed { IsErrOf result Stop.ReadFault ⊎ (S.faults source.new ≡ S.faults source.old) }
     ensures accepted { (input : List ℕ) (output : Output)
-        → S.left source.old ≡ Some input → IsOutput settings input output → HasRows settings input
-        → HasNoFault S.faults source.old source.new → Answers result (λ answer. IsAnswer answer output) }
+        → S.left source.old ≡ Some input → IsOutput settings.now input output
+        → HasRows settings.now input → HasNoFault S.faults source.old source.new
+        → Answers result (λ answer. IsAnswer settings.now.workers answer output) }
     ensures refused { (input : List ℕ) (fault : Refusal)
-        → S.left source.old ≡ Some input → IsFault settings input fault
+        → S.left source.old ≡ Some input → IsFault settings.now input fault
         → HasNoFault S.faults source.old source.new → StopsWith result fault }
     ensures later { S.faults source.old ≤ S.faults source.new }
 {
     let input = input_of(alloc, source)?;
-    output_for(alloc, settings, &input, gate)
+    output_for(rt, alloc, settings, &input, gate)
+}
+
+/// The output of the command for all that the source has left, or for a drill's text.
+pub fn answer_of<R: Threads + Sync, S: Source, G: Gate>(
+    rt: &R,
+    alloc: Global,
+    settings: &Settings,
+    source: &mut S,
+    gate: &G,
+) -> Result<Answer, Stop>
+    requires in_range { AreInRange settings.now }
+    ensures made { IfOk result (λ answer. (output : Output)
+        × GaveOutput settings.now S.left source.old source.new output
+        × IsAnswer settings.now.workers answer output) }
+    ensures stopped { IfErr result (StopsAnswering settings.now S.left S.faults source.old source.new) }
+    ensures unfailed { IsErrOf result Stop.ReadFault ⊎ (S.faults source.new ≡ S.faults source.old) }
+    ensures accepted { (input : List ℕ) (output : Output)
+        → HasInput settings.now S.left source.old input → IsOutput settings.now input output
+        → HasRows settings.now input → HasNoFault S.faults source.old source.new
+        → Answers result (λ answer. IsAnswer settings.now.workers answer output) }
+    ensures refused { (input : List ℕ) (fault : Refusal) → ReadsSource settings.now.command
+        → S.left source.old ≡ Some input → IsFault settings.now input fault
+        → HasNoFault S.faults source.old source.new → StopsWith result fault }
+    ensures unread { settings.now.command ≡ Command.Drill → source.new ≡ source.old }
+    ensures later { S.faults source.old ≤ S.faults source.new }
+{
+    match settings.command {
+        Command::Rewrite => answer_read(rt, alloc, settings, source, gate),
+        Command::Drill => drilled(rt, alloc, settings, gate),
+        Command::Schedule => answer_read(rt, alloc, settings, source, gate),
+    }
 }

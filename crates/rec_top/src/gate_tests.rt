@@ -2,8 +2,9 @@
 use crate::run;
 use crate::trial::words_of;
 use ends::{Gate, MemSink, MemSource};
-use std::sync::atomic::{AtomicU32, Ordering};
+use std::sync::atomic::{AtomicBool, AtomicU32, Ordering};
 use std::test::Fail;
+use std::thread::yield_now;
 
 // Notes the numbers that it is told, each one more than the term's.
 #[derive(Drop)]
@@ -84,5 +85,107 @@ fn the_gate_is_told_round_each_term_also_where_the_store_is_full(
         assert_eq!(rt; gate.before.load(Ordering::SeqCst), told.before);
         assert_eq!(rt; gate.after.load(Ordering::SeqCst), told.after);
     }
+    Ok(())
+}
+
+// How often a term that is held looks whether it may go on.
+const MOST_TURNS: u32 = 1_000_000;
+
+// Holds term 0 until term 1 has begun, and notes whether it waited in vain.
+#[derive(Drop)]
+struct UntilBegun {
+    begun: AtomicBool,
+    in_vain: AtomicBool,
+}
+
+// Waits until a flag is set, and notes where it waited in vain.
+fn await_set(flag: &AtomicBool, in_vain: &AtomicBool) {
+    for _turn in 0..MOST_TURNS {
+        if flag.load(Ordering::SeqCst) {
+            return;
+        }
+        yield_now();
+    }
+    in_vain.store(true, Ordering::SeqCst);
+}
+
+impl Gate for UntilBegun {
+    fn before(&self, term: u32) {
+        match term {
+            0 => await_set(&self.begun, &self.in_vain),
+            1 => self.begun.store(true, Ordering::SeqCst),
+            _ => {}
+        }
+    }
+
+    fn after(&self, _term: u32) {}
+}
+
+const FOUR: &[u8] = b"REC-SPEC A SORTS S CONS a b c d : -> S EVAL a b c d END-SPEC";
+
+#[test]
+fn two_workers_are_at_work_at_the_same_time(rt: HostRuntime) -> Result<(), Fail> {
+    let alloc = rt.alloc();
+    let gate = UntilBegun {
+        begun: AtomicBool::new(false),
+        in_vain: AtomicBool::new(false),
+    };
+    let words = words_of(alloc, &["rewrite", "--workers", "2"])?;
+    let mut source = MemSource::new(alloc, FOUR, 4096, &[])?;
+    let mut out = MemSink::new(alloc, 100, 100, &[])?;
+    let mut err = MemSink::new(alloc, 100, 100, &[])?;
+    let outcome = run(&rt, alloc, &words, &mut source, &mut out, &mut err, &gate);
+    assert!(rt; !gate.in_vain.load(Ordering::SeqCst));
+    assert_eq!(rt; outcome.status, 0);
+    assert_eq!(rt; out.taken(), b"a\nb\nc\nd\n".as_slice());
+    assert_eq!(rt; outcome.workers.as_slice().len(), 4);
+    Ok(())
+}
+
+// Holds term 0 until terms 1 and 2 have ended, and notes whether it waited in vain.
+#[derive(Drop)]
+struct UntilEnded {
+    first: AtomicBool,
+    second: AtomicBool,
+    in_vain: AtomicBool,
+}
+
+impl Gate for UntilEnded {
+    fn before(&self, term: u32) {
+        if term == 0 {
+            await_set(&self.first, &self.in_vain);
+            await_set(&self.second, &self.in_vain);
+        }
+    }
+
+    fn after(&self, term: u32) {
+        match term {
+            1 => self.first.store(true, Ordering::SeqCst),
+            2 => self.second.store(true, Ordering::SeqCst),
+            _ => {}
+        }
+    }
+}
+
+#[test]
+fn the_other_worker_takes_all_terms_while_one_is_held(rt: HostRuntime) -> Result<(), Fail> {
+    let alloc = rt.alloc();
+    let gate = UntilEnded {
+        first: AtomicBool::new(false),
+        second: AtomicBool::new(false),
+        in_vain: AtomicBool::new(false),
+    };
+    let words = words_of(alloc, &["rewrite", "--workers", "2"])?;
+    let mut source = MemSource::new(alloc, THREE, 4096, &[])?;
+    let mut out = MemSink::new(alloc, 100, 100, &[])?;
+    let mut err = MemSink::new(alloc, 100, 100, &[])?;
+    let outcome = run(&rt, alloc, &words, &mut source, &mut out, &mut err, &gate);
+    assert!(rt; !gate.in_vain.load(Ordering::SeqCst));
+    assert_eq!(rt; outcome.status, 0);
+    assert_eq!(rt; out.taken(), b"a\na\na\n".as_slice());
+    let workers = outcome.workers.as_slice();
+    let by_the_second = workers == [0, 1, 1].as_slice();
+    let by_the_first = workers == [1, 0, 0].as_slice();
+    assert!(rt; by_the_second || by_the_first);
     Ok(())
 }

@@ -3,6 +3,8 @@
 
 mod answering;
 mod answers;
+mod drilling;
+mod joining;
 mod results;
 mod rewriting;
 mod scheduling;
@@ -22,3 +24,5 @@ mod large_tests;
 mod row_tests;
 #[cfg(test)]
 mod trial;
+#[cfg(test)]
+mod worker_tests;

@@ -1,5 +1,5 @@
 // What a run answers.
-ghost use Rattle.std.specs.Prelude.{◌≡◌, [], IfOk, replicate};
+ghost use Rattle.std.specs.Prelude.{◌≡◌, [], ◌∷◌, ◌++◌, OnOk};
 
 use std::alloc::{AllocError, Global};
 use std::marker::Model;
@@ -33,13 +33,12 @@ impl Workers {
         }
     }
 
-    /// So many terms were rewritten, all by the first worker.
-    pub fn first_alone(alloc: Global, terms: usize) -> Result<Self, AllocError>
-        ensures { IfOk result (λ w. w ≡ replicate terms 0) }
+    /// One more term was rewritten, by this worker.
+    pub(crate) fn add(&mut self, worker: u32) -> Result<(), AllocError>
+        ensures { OnOk result (self.new ≡ self.old ++ worker ∷ []) }
     {
-        Ok(Workers {
-            numbers: vec![in alloc; 0; terms]?,
-        })
+        self.numbers.push(worker)?;
+        Ok(())
     }
 
     /// The workers in the order of the terms.

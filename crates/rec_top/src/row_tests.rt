@@ -149,7 +149,7 @@ fn each_specification_gives_its_lines(rt: HostRuntime) -> Result<(), Fail> {
     check_all(&rt, &VALUES)
 }
 
-static REFUSALS: [Row; 17] = [
+static REFUSALS: [Row; 21] = [
     // Bytes and words.
     Row {
         input: b"REC-SPEC A EVAL",
@@ -267,7 +267,35 @@ static REFUSALS: [Row; 17] = [
         ..ROW
     },
     Row {
-        words: &["drill", "1"],
+        words: &["rewrite", "--workers", "17"],
+        status: 2,
+        out: b"",
+        err: USAGE,
+        ..ROW
+    },
+    Row {
+        words: &["drill"],
+        status: 2,
+        out: b"",
+        err: USAGE,
+        ..ROW
+    },
+    Row {
+        words: &["drill", "0"],
+        status: 2,
+        out: b"",
+        err: USAGE,
+        ..ROW
+    },
+    Row {
+        words: &["drill", "65536"],
+        status: 2,
+        out: b"",
+        err: USAGE,
+        ..ROW
+    },
+    Row {
+        words: &["drill", "1", "--workers=17"],
         status: 2,
         out: b"",
         err: USAGE,

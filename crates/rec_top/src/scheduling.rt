@@ -1,6 +1,6 @@
 // The command `schedule`: from the lines of a schedule to the lock that it comes to.
 ghost use Rattle.std.specs.Prelude.{◌≡◌, ◌≤◌, [], List, IfOk, IfErr, length};
-ghost use Rattle.settings.specs.declared.parts.Settings.{Settings};
+ghost use Rattle.settings.specs.Words.{AreInRange};
 ghost use Rattle.rec_top.specs.Written.{Output};
 ghost use Rattle.rec_top.specs.Output.{IsScheduled, IsScheduleFault};
 ghost use Rattle.rec_top.specs.Answered.{IsAnswer, Answers, StopsWith, StopsScheduling};
@@ -10,17 +10,21 @@ use crate::answers::Answer;
 use crate::results::Workers;
 use crate::stops::Stop;
 use lock_core::{schedule, write_state};
+use settings::Settings;
 use std::alloc::Global;
 
 /// Runs a schedule, and answers the lines of the lock that it comes to.
-pub fn scheduled(alloc: Global, seats: u32, input: &[u8]) -> Result<Answer, Stop>
-    requires { (1 ≤ seats) × (seats ≤ 16) }
-    ensures made { IfOk result (λ answer. (output : Output) × IsScheduled seats input.now output × IsAnswer answer output) }
-    ensures stopped { IfErr result (StopsScheduling seats input.now) }
-    ensures accepted { (output : Output) → IsScheduled seats input.now output → Answers result (λ answer. IsAnswer answer output) }
-    ensures refused { (fault : Refusal) → IsScheduleFault seats input.now fault → StopsWith result fault }
+pub fn scheduled(alloc: Global, settings: &Settings, input: &[u8]) -> Result<Answer, Stop>
+    requires { AreInRange settings.now }
+    ensures made { IfOk result (λ answer. (output : Output)
+        × IsScheduled settings.now.seats input.now output × IsAnswer settings.now.workers answer output) }
+    ensures stopped { IfErr result (StopsScheduling settings.now.seats input.now) }
+    ensures accepted { (output : Output) → IsScheduled settings.now.seats input.now output
+        → Answers result (λ answer. IsAnswer settings.now.workers answer output) }
+    ensures refused { (fault : Refusal) → IsScheduleFault settings.now.seats input.now fault
+        → StopsWith result fault }
 {
-    let state = schedule(input, seats)?;
+    let state = schedule(input, settings.seats)?;
     let mut output = Vec::new(alloc);
     match write_state(&state, &mut output) {
         Ok(()) => Ok(Answer {

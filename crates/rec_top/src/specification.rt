@@ -1,5 +1,5 @@
 // From the bytes of an input to the specification that they spell.
-ghost use Rattle.std.specs.Prelude.{◌≡◌, IfOk, IfErr};
+ghost use Rattle.std.specs.Prelude.{◌≡◌, ◌≤◌, IfOk, IfErr, length};
 ghost use Rattle.rec_check.specs.Spelled.{Specified};
 ghost use Rattle.rec_check.specs.Spec.{specified};
 ghost use Rattle.rec_check.specs.Run.{MayBeRun};
@@ -32,6 +32,7 @@ pub fn specification_of(alloc: Global, input: &[u8]) -> Result<Spec, Stop>
     ensures may_be_run { IfOk result (λ spec. MayBeRun (specified spec)) }
     ensures named { IfOk result (λ spec. IsNamed (specified spec)) }
     ensures widest { IfOk result (λ spec. spec.widest ≡ widest_of spec.symbols) }
+    ensures few { IfOk result (λ spec. length spec.terms.items ≤ 65535) }
     ensures stopped { IfErr result (StopsSpelling input.now) }
     ensures accepted { (spec : Specified) → Spells input.now spec
         → Answers result (λ made. specified made ≡ spec) }

@@ -5,7 +5,7 @@ ghost use Rattle.ends.specs.Bytes.{TookFront};
 ghost use Rattle.settings.specs.Words.{settings_of, texts};
 ghost use Rattle.rec_top.specs.Written.{Output, status_for};
 ghost use Rattle.rec_top.specs.Lines.{fault_line, status_line, TookLine};
-ghost use Rattle.rec_top.specs.Run.{HasOutput, HasFault, HasTooMuch, HasNoFault, Accepts, Refuses, IsWritten, IsOfOneWorker, IsMade, IsWhole, IsStatus};
+ghost use Rattle.rec_top.specs.Run.{HasOutput, HasFault, HasTooMuch, HasNoFault, Accepts, Refuses, IsWritten, HasWorkers, AsksDrill, IsMade, IsWhole, IsStatus};
 ghost use Rattle.faults.specs.declared.refusal.Refusal.{Refusal};
 
 use crate::answering::answer_of;
@@ -24,8 +24,9 @@ fn status_for(values: bool) -> u8
     if values { 0 } else { 1 }
 }
 
-/// Runs the program: reads the words and all that the source has left, writes the output to `out`,
-/// and to `err` the line that says why there is none.
+/// Runs the program: reads the words and, but for a drill, all that the source has left, writes the
+/// output to `out`, and to `err` the line that says why there is none. As many workers as the words ask
+/// for rewrite the terms, the caller's thread among them. The output is the same for any number.
 ///
 /// | status | comes | `err` gets |
 /// |---|---|---|
@@ -40,7 +41,7 @@ fn status_for(values: bool) -> u8
 ///
 /// The gate is told before and after the work on each term, by its number from 0.
 pub fn run<R: Threads + Wait + Sync, S: Source, O: Sink, E: Sink, G: Gate>(
-    _rt: &R,
+    rt: &R,
     alloc: Global,
     words: &[String],
     source: &mut S,
@@ -55,7 +56,7 @@ pub fn run<R: Threads + Wait + Sync, S: Source, O: Sink, E: Sink, G: Gate>(
     // Each other status comes only where it has its cause.
     ensures whole_only_where_out_took_the_output { IsWhole result.status → (output : Output)
         × HasOutput (texts words.now) S.left source.old source.new output
-        × IsWritten O.taken out.old out.new output result.status × IsOfOneWorker result.workers output }
+        × IsWritten O.taken out.old out.new output result.status × HasWorkers (texts words.now) result.workers output }
     ensures refused_only_where_faulty { result.status ≡ 3 → (fault : Refusal)
         × HasFault (texts words.now) S.left source.old source.new fault
         × TookLine E.taken E.faults err.old err.new (fault_line fault) }
@@ -67,8 +68,12 @@ pub fn run<R: Threads + Wait + Sync, S: Source, O: Sink, E: Sink, G: Gate>(
         → Rose (O.faults out.old) (O.faults out.new) }
     ensures write_fault_leaves_a_front { result.status ≡ 6 → (output : Output)
         × HasOutput (texts words.now) S.left source.old source.new output
-        × TookFront (O.taken out.old) (O.taken out.new) output.bytes × IsOfOneWorker result.workers output }
+        × TookFront (O.taken out.old) (O.taken out.new) output.bytes × HasWorkers (texts words.now) result.workers output }
     ensures statuses { IsStatus result.status }
+
+    // A drill reads nothing, and so is neither refused nor stopped by a read.
+    ensures drill_unread { AsksDrill (texts words.now) → source.new ≡ source.old }
+    ensures drill_unrefused { AsksDrill (texts words.now) → (result.status ≢ 3) × (result.status ≢ 5) }
 
     // A read or a write that fails isn't passed over.
     ensures reads_unfailed { result.status ≢ 5 → S.faults source.new ≡ S.faults source.old }
@@ -98,7 +103,7 @@ pub fn run<R: Threads + Wait + Sync, S: Source, O: Sink, E: Sink, G: Gate>(
     let Ok(settings) = settings(words) else {
         return stopped(err, Stop::Usage, Workers::none(alloc));
     };
-    let answer = match answer_of(alloc, settings, source, gate) {
+    let answer = match answer_of(rt, alloc, &settings, source, gate) {
         Ok(answer) => answer,
         Err(stop) => return stopped(err, stop, Workers::none(alloc)),
     };

@@ -1,12 +1,13 @@
 -- What `parse` reads, in the definition's words.
-use Rattle.std.proofs.Common.{◌≡◌, ℕ, ◌<◌, ◌≤◌, ◌^◌, length, Bool, true, false, Some, None, Result, Ok, Err, refl, sym, ap, ◌∙◌, arith, ⊎_elim, lit<}
+use Rattle.std.proofs.Common.{◌≡◌, ℕ, ◌<◌, ◌≤◌, ◌^◌, length, Bool, true, false, Some, None, Result, Ok, Err, refl, sym, ap, subst, ◌∙◌, arith, ⊎_elim, lit<}
 use Rattle.std.specs.Prelude.{◌&&◌, nat_lt, option_and_then, if◌then◌else◌}
 use Rattle.std.specs.Str.{all_ascii_digits}
 use Rattle.std.specs.Str.Parse.{IsNumeral, ParsesUnsigned, without_leading_plus, digits_value}
 use Rattle.std.proofs.lemmas.Str.Parse.{IsNumeralModel, numerals_by_value, tells_all_ascii_digits}
 use Rattle.std.proofs.lemmas.Bool.{cases_lt}
+use Rattle.std.proofs.lemmas.Option.{option_and_then_some, same_Some}
 use Rattle.settings.specs.declared.options.OptionName.{OptionName}
-use Rattle.settings.specs.declared.options.OptionName.TheVariants.{Fuel, Rows, Depth, Sizes, Seats}
+use Rattle.settings.specs.declared.options.OptionName.TheVariants.{Workers, Fuel, Rows, Depth, Sizes, Count, Seats}
 use Rattle.settings.specs.Words.{Text, number_of, value_of, is_in_range, least_of, most_of}
 
 numerals : IsNumeralModel (λ ds. all_ascii_digits ds ≡ true) (digits_value 10)
@@ -28,10 +29,12 @@ read_is text (Ok m) n h e =
 read_is text (Err x) n h e = cc
 
 most_small : (o : OptionName) → most_of o < 2 ^ 64
+most_small Workers = lit< tt
 most_small Fuel = lit< tt
 most_small Rows = lit< tt
 most_small Depth = lit< tt
 most_small Sizes = lit< tt
+most_small Count = lit< tt
 most_small Seats = lit< tt
 
 too_large : (o : OptionName) (n : ℕ) → 2 ^ 64 ≤ n → is_in_range o n ≡ false
@@ -55,3 +58,15 @@ pub value_is : {E : Type 0} (o : OptionName) (text : Text) (r : Result ℕ E) (n
 value_is o text r n h e low high =
     ap (option_and_then (λ m. if is_in_range o m then Some m else None)) (read_is text r n h e)
     ∙ ap (λ b. if b then Some n else None) (kept o n low high)
+
+if_some : (b : Bool) (x n : ℕ) → (if b then Some x else None) ≡ Some n → (b ≡ true) × (x ≡ n)
+if_some true x n e = (refl, same_Some x n e)
+if_some false x n e = cc
+
+-- a value is in the range
+pub value_in_range : (o : OptionName) (text : Text) (n : ℕ) → value_of o text ≡ Some n → is_in_range o n ≡ true
+value_in_range o text n e = option_and_then_some (λ m. if is_in_range o m then Some m else None) (number_of text) n e (λ m _ f.
+    let p = if_some (is_in_range o m) m n f in subst (λ k. is_in_range o k ≡ true) p.1 p.0)
+
+pub value_within : (o : OptionName) (text : Text) (n : ℕ) → value_of o text ≡ Some n → n ≤ most_of o
+value_within o text n e = let h = value_in_range o text n e in grind (arith, h)

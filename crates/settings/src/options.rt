@@ -1,16 +1,19 @@
 // Commands and options by their names, and the numbers that options take.
 ghost use Rattle.std.specs.Prelude.{◌≡◌, ◌<◌, ◌^◌};
-ghost use Rattle.settings.specs.Words.{command_text, commands, command_named, options_of, option_text, option_named, takes_value, least_of, most_of, value_of};
+ghost use Rattle.settings.specs.Words.{command_text, commands, command_named, options_of, option_text, option_named, takes_value, least_of, most_of, value_of, further_number};
 
 use crate::parts::Command;
 
-/// The name of an option.
+/// The name of an option, or of a further word.
 #[derive(Clone, Copy, Debug, PartialEq, Eq)]
 pub enum OptionName {
+    Workers,
     Fuel,
     Rows,
     Depth,
     Sizes,
+    /// The further word of a drill, which stands without a name.
+    Count,
     Seats,
 }
 
@@ -19,6 +22,7 @@ fn command_word(command: Command) -> &'static str
 {
     match command {
         Command::Rewrite => "rewrite",
+        Command::Drill => "drill",
         Command::Schedule => "schedule",
     }
 }
@@ -27,7 +31,7 @@ fn command_word(command: Command) -> &'static str
 pub fn read_command(word: &str) -> Option<Command>
     ensures { result ≡ command_named word.now }
 {
-    [Command::Rewrite, Command::Schedule]
+    [Command::Rewrite, Command::Drill, Command::Schedule]
         .iter()
         .copied()
         .find(|command| command_word(*command) == word)
@@ -38,10 +42,17 @@ fn options(command: Command) -> &'static [OptionName]
 {
     match command {
         Command::Rewrite => &[
+            OptionName::Workers,
             OptionName::Fuel,
             OptionName::Rows,
             OptionName::Depth,
             OptionName::Sizes,
+        ],
+        Command::Drill => &[
+            OptionName::Workers,
+            OptionName::Fuel,
+            OptionName::Rows,
+            OptionName::Depth,
         ],
         Command::Schedule => &[OptionName::Seats],
     }
@@ -51,10 +62,12 @@ fn option_word(option: OptionName) -> &'static str
     ensures { result.now ≡ option_text option }
 {
     match option {
+        OptionName::Workers => "--workers",
         OptionName::Fuel => "--fuel",
         OptionName::Rows => "--rows",
         OptionName::Depth => "--depth",
         OptionName::Sizes => "--sizes",
+        OptionName::Count => "N",
         OptionName::Seats => "--seats",
     }
 }
@@ -82,7 +95,11 @@ fn least(option: OptionName) -> u64
 {
     match option {
         OptionName::Fuel | OptionName::Sizes => 0,
-        OptionName::Rows | OptionName::Depth | OptionName::Seats => 1,
+        OptionName::Workers
+        | OptionName::Rows
+        | OptionName::Depth
+        | OptionName::Count
+        | OptionName::Seats => 1,
     }
 }
 
@@ -91,10 +108,12 @@ fn most(option: OptionName) -> u64
     ensures { result ≡ most_of option }
 {
     match option {
+        OptionName::Workers => 16,
         OptionName::Fuel => 1_000_000_000,
         OptionName::Rows => 262_144,
         OptionName::Depth => 65_536,
         OptionName::Sizes => 0,
+        OptionName::Count => 65_535,
         OptionName::Seats => 16,
     }
 }
@@ -110,5 +129,15 @@ pub fn read_value(option: OptionName, text: &str) -> Option<u64>
         Some(number)
     } else {
         None
+    }
+}
+
+/// The number that a further word gives a command.
+pub fn read_further(command: Command, word: &str) -> Option<u64>
+    ensures { result ≡ further_number command word.now }
+{
+    match command {
+        Command::Drill => read_value(OptionName::Count, word),
+        _ => None,
     }
 }

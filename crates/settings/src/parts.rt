@@ -6,6 +6,8 @@ use thiserror::Error;
 pub enum Command {
     /// Rewrites the terms of a specification to their values.
     Rewrite,
+    /// Rewrites the terms of a large specification that is made from a number.
+    Drill,
     /// Runs a schedule of steps of the lock.
     Schedule,
 }
@@ -14,7 +16,7 @@ pub enum Command {
 #[derive(Clone, Copy, Debug, PartialEq, Eq)]
 pub struct Settings {
     pub command: Command,
-    /// Threads that rewrite terms. Always 1 so far.
+    /// Threads that rewrite terms, 1 to 16. By default 1.
     pub workers: u32,
     /// Rules that may be applied to one term, 0 to 1,000,000,000. By default 1,000,000.
     pub fuel: u64,
@@ -24,6 +26,8 @@ pub struct Settings {
     pub depth: u32,
     /// Whether a value's sizes are written in place of its text.
     pub sizes: bool,
+    /// The number that a drill is made from, 1 to 65,535; 0 where the command is no drill.
+    pub count: u32,
     /// Seats of the lock, 1 to 16. By default 2.
     pub seats: u32,
 }

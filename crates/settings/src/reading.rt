@@ -7,7 +7,7 @@ ghost use Rattle.settings.specs.Words.{texts, given_options, settings_after, set
 ghost use Rattle.settings.specs.Reading.{IsRead, given_from};
 
 use crate::given::Given;
-use crate::options::{OptionName, has_value, read_command, read_option, read_value};
+use crate::options::{OptionName, has_value, read_command, read_further, read_option, read_value};
 use crate::parts::{Command, Settings, WordsFault};
 
 // A word's part before its first `=`, and the part after it, if there is one.
@@ -41,7 +41,7 @@ fn read_number<'a>(
     }
 }
 
-// The first option of a command, with its number, and the words after it.
+// The first option of a command, or its further word, with its number, and the words after it.
 fn next_option<'a>(
     command: Command,
     word: &str,
@@ -51,7 +51,9 @@ fn next_option<'a>(
         MatchOption result (all ≡ None) (λ read. IsRead command all rest.now read.0 read.1 read.2.now) }
 {
     let (name, attached) = split_at_equals_sign(word);
-    let option = read_option(command, name)?;
+    let Some(option) = read_option(command, name) else {
+        return Some((OptionName::Count, read_further(command, word)?, rest));
+    };
     let (number, rest) = read_number(option, attached, rest)?;
     Some((option, number, rest))
 }
@@ -69,7 +71,11 @@ fn read_options(command: Command, words: &[String]) -> Option<Settings>
         }
         words = rest;
     }
-    Some(given.settings(command))
+    if given.has_all_of(command) {
+        Some(given.settings(command))
+    } else {
+        None
+    }
 }
 
 // The settings, where there are any.
@@ -82,7 +88,8 @@ fn read_words(words: &[String]) -> Option<Settings>
     }
 }
 
-/// Reads the words that the program is started with: its name, a command, and options of that command in any order.
+/// Reads the words that the program is started with: its name, a command, and options of that command in any order,
+/// with the number of a drill among them.
 ///
 /// An option is `--name value` or `--name=value`, and stands at most once; `--sizes` has no value. A number is an
 /// optional `+` and one or more digits, within the option's range. All other words are `Usage`, among them `--`,

@@ -10,7 +10,13 @@ const REWRITE: Settings = Settings {
     rows: 65_536,
     depth: 4_096,
     sizes: false,
+    count: 0,
     seats: 2,
+};
+
+const DRILL: Settings = Settings {
+    command: Command::Drill,
+    ..REWRITE
 };
 
 const SCHEDULE: Settings = Settings {
@@ -86,6 +92,47 @@ fn accepted_words_give_their_settings(rt: HostRuntime) -> Result<(), Fail> {
                 ..REWRITE
             },
         ),
+        (
+            "rec rewrite --workers 1",
+            Settings {
+                workers: 1,
+                ..REWRITE
+            },
+        ),
+        (
+            "rec rewrite --sizes --workers=+16",
+            Settings {
+                workers: 16,
+                sizes: true,
+                ..REWRITE
+            },
+        ),
+        ("rec drill 1", Settings { count: 1, ..DRILL }),
+        (
+            "rec drill +065535",
+            Settings {
+                count: 65_535,
+                ..DRILL
+            },
+        ),
+        (
+            "rec drill --workers 4 100 --fuel=5",
+            Settings {
+                workers: 4,
+                count: 100,
+                fuel: 5,
+                ..DRILL
+            },
+        ),
+        (
+            "rec drill --rows 7 --depth 9 3",
+            Settings {
+                rows: 7,
+                depth: 9,
+                count: 3,
+                ..DRILL
+            },
+        ),
         ("rec schedule", SCHEDULE),
         (
             "rec schedule --seats 1",
@@ -129,6 +176,32 @@ fn other_words_are_usage(rt: HostRuntime) -> Result<(), Fail> {
         "rec rewrite --help",
         "rec rewrite --version",
         "rec rewrite --workers 0",
+        "rec rewrite --workers 17",
+        "rec rewrite --workers",
+        "rec rewrite --workers 2 --workers 2",
+        "rec rewrite 5",
+        "rec schedule --workers 2",
+        "rec drill",
+        "rec drill 0",
+        "rec drill 65536",
+        "rec drill -1",
+        "rec drill x",
+        "rec drill 5=5",
+        "rec drill 5 5",
+        "rec drill 5 --workers 2 5",
+        "rec drill --workers 2",
+        "rec drill --workers 5 --fuel",
+        "rec drill -- 5",
+        "rec drill 5 --",
+        "rec drill 5 --sizes",
+        "rec drill 5 --seats 2",
+        "rec drill --count 5",
+        "rec drill N",
+        "rec drill N=5",
+        "rec drill --cache 0 5",
+        "rec drill 5 --log",
+        "rec Drill 5",
+        "rec terms",
         "rec rewrite --seats 2",
         "rec schedule --rows 2",
         "rec rewrite --fue 2",

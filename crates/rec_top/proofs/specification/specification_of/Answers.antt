@@ -1,5 +1,7 @@
 use Rattle.std.proofs.lemmas.Result.{err_from_is_err_and}
 use Rattle.rec_top.proofs.OneFault.{one_specification, no_fault}
+use Rattle.rec_check.specs.Spec.{specified}
+use Rattle.rec_top.proofs.FewTerms.{few_terms}
 use Rattle.rec_top.proofs.Failing.{fails_for_memory, fails_with}
 use Rattle.rec_top.proofs.specification.specification_of.Goals as goal
 
@@ -18,3 +20,6 @@ returns-clause-accepted c = λ spec s. one_specification c.args.input.now _ spec
 
 pub returns-clause-refused : goal.returns-clause-refused
 returns-clause-refused c = λ fault f. no_fault c.args.input.now _ fault c.in_ok-read.ensures.made f
+
+pub returns-clause-few : goal.returns-clause-few
+returns-clause-few c = few_terms c.args.input.now (specified c.in_ok-read.field-0) c.in_ok-read.ensures.made
