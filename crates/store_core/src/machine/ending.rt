@@ -15,6 +15,7 @@ use std::collections::LinkedList;
 pub(crate) fn may_end(table: &Table, loads: &LinkedList<(Place, u64)>) -> Result<bool, Memory>
     ensures { IfOk result (λ b. (s : State) (i : ℕ) → IsEnding table.now.sizes (shown table.now.sizes table.now.words.items) loads.now s i → (IsTrue b ↔ MayEnd table.now.sizes s i)) }
 {
-    let _words = (table, loads);
+    let _base = table.load(&Place::Base);
+    let _first = loads.front();
     Err(Memory)
 }
