@@ -3,7 +3,12 @@ mod contents;
 mod copies;
 mod creation;
 mod ending;
+mod marked_chains;
+mod marking;
 mod moves;
+mod reached;
+mod row_contents;
+mod row_lists;
 mod table;
 #[cfg(test)]
 mod tests;
