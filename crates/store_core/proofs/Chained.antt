@@ -1,8 +1,8 @@
 -- Walks that make a chain, and the chains of marked rows.
-use Rattle.std.proofs.Common.{◌≡◌, ◌≢◌, ◌⊎◌, ℕ, zero, suc, ◌+◌, ◌-◌, ◌<◌, ◌≤◌, Bool, true, false, List, [], ◌∷◌, ◌++◌, length, get_or, refl, sym, ap, ◌∙◌, subst, ⊎_elim, inl, inr, arith, append-nil, append_assoc, length-append}
-use Rattle.std.specs.Prelude.{replicate}
+use Rattle.std.proofs.Common.{◌≡◌, ◌≢◌, ◌⊎◌, ◌↔◌, ℕ, zero, suc, ◌+◌, ◌-◌, ◌<◌, ◌≤◌, Bool, true, false, List, [], ◌∷◌, ◌++◌, length, get_or, take, drop, refl, sym, ap, ◌∙◌, subst, ⊎_elim, inl, inr, arith, append-nil, append_assoc, length-append}
+use Rattle.std.specs.Prelude.{replicate, MatchBool}
 use Rattle.std.proofs.lemmas.Bool.{cases_lt}
-use Rattle.std.proofs.lemmas.List.{length-replicate, length_push, get_or_push, get_or_append_left}
+use Rattle.std.proofs.lemmas.List.{length-replicate, drop_all, take_all, length_push, get_or_push, get_or_append_left}
 use Rattle.store_core.specs.Words.{Place, Claim, InUse, Bucket, Birth, Next, row_at, write}
 use Rattle.store_core.specs.Calls.{Content, IsOver, bucket, bucket_below}
 use Rattle.store_core.specs.Machine.{Sizes, Each, In}
@@ -14,6 +14,7 @@ use Rattle.store_core.proofs.Basics.{each_in, each_map, each_right}
 use Rattle.store_core.proofs.Chains.{linked_once}
 use Rattle.store_core.proofs.Short.{chain_few}
 use Rattle.store_core.proofs.Gains.{in_at}
+use Rattle.store_core.proofs.Outcomes.{match_by, never}
 use Rattle.store_core.proofs.Reached.{none_marked}
 
 more_below : (P : ℕ → Type 0) (xs : List ℕ) (x : ℕ) → P x → ((k : ℕ) → k < length xs → P (get_or xs k 0)) → (k : ℕ) → k < length (xs ++ x ∷ []) → P (get_or (xs ++ x ∷ []) k 0)
@@ -129,3 +130,14 @@ module _ (z : Sizes) (w : Place → ℕ) (marks : List Bool) (u : ℕ) where
     only = λ r k. ⊎_elim (λ t. let c = h.only r t in record { bucket = c.bucket; used = (let l = c.used in omega arith); rows = c.rows; linked = c.linked; at = c.at; within = c.within; is = c.is })
         (λ (t : (k : ℕ) × (k < length xs) × (get_or xs k 0 ≡ r)). record { bucket = n; used = omega arith; rows = xs; linked = s.chain.linked; at = t.0; within = t.1; is = t.2 }) (m.only r k);
   }
+
+-- a slice that was written whole
+pub whole : (n : ℕ) (xs ys : List Bool) → n ≡ length ys → length xs ≡ length ys → take n (xs ++ drop (length xs) ys) ≡ xs
+whole n xs ys e f = ap (λ (zs : List Bool). take n (xs ++ zs)) (drop_all (length xs) ys (omega arith)) ∙ (ap (take n) (append-nil xs) ∙ take_all n xs (omega arith))
+
+pub chains_by : (z : Sizes) (w : Place → ℕ) (marks : List Bool) (u : ℕ) (standing : List Bool) (b : Bool) → u ≡ w InUse → UsesBuckets z w → StandInFirst z w marks u u standing → ((b ≡ true) ↔ AllStand marks standing) → MatchBool b (ChainsMarked z w marks) (NotMeant z w marks)
+chains_by z w marks u standing b is uses first all =
+    let h : StandInFirst z w marks (w InUse) (w InUse) standing = subst (λ (v : ℕ). StandInFirst z w marks v v standing) is first in
+    match_by b (ChainsMarked z w marks) (NotMeant z w marks)
+    (λ e. record { uses = uses; standing = standing; chains = h; all = all.0 e })
+    (λ e n m. never b e (all.1 (meant_all z w marks n m standing h)))

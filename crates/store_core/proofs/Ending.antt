@@ -1,19 +1,20 @@
 -- What decides whether a collection may end.
-use Rattle.std.proofs.Common.{◌≡◌, ◌≢◌, ◌⊎◌, ◌↔◌, ℕ, zero, suc, ◌+◌, ◌<◌, ◌≤◌, eqb, Bool, true, false, cond, List, [], ◌∷◌, length, get_or, refl, sym, ap, ◌∙◌, subst, ⊎_elim, inl, inr, arith, true≢false, eq-eqb}
+use Rattle.std.proofs.Common.{◌≡◌, ◌≢◌, ◌⊎◌, ◌↔◌, ℕ, zero, suc, ◌+◌, ◌<◌, ◌≤◌, eqb, Bool, true, false, cond, Option, None, Some, List, [], ◌∷◌, ◌++◌, length, get_or, refl, sym, ap, ◌∙◌, subst, ⊎_elim, inl, inr, arith, true≢false, eq-eqb}
+use Rattle.std.specs.Prelude.{is_some}
 use Rattle.std.proofs.lemmas.Bool.{cases_lt, ltb-true}
 use Rattle.std.proofs.lemmas.List.{get_or_past}
-use Rattle.store_core.specs.Words.{Place, Base, FreeCount, Claim, InUse, FreePlace, Bucket, RowWord, Birth, row_at, write}
+use Rattle.store_core.specs.Words.{Place, Base, FreeCount, Claim, InUse, FreePlace, Bucket, RowWord, Birth, Next, RootCount, Root, row_at, same_place, write}
 use Rattle.store_core.specs.Calls.{Content, words_of, bucket}
 use Rattle.store_core.specs.Machine.{Sizes, State, Each, In}
 use Rattle.store_core.specs.Meaning.{Meaning, Linked, Stands, IsOlder}
 use Rattle.store_core.specs.Invariant.{Holds, RowsHold, ChainsHold}
 use Rattle.store_core.specs.Collection.{Reaches, argument}
 use Rattle.store_core.specs.Shown.{shown, in_table, index_of}
-use Rattle.store_core.specs.Steps.{loads, is_stored, is_storing, is_free, ReachesByWords, names_left, grown_use, MayEnd, CoreHolds}
+use Rattle.store_core.specs.Steps.{loads, is_stored, is_storing, is_free, ReachesByWords, value_at, names_left, grown_use, MayEnd, CoreHolds}
 use Rattle.store_core.specs.Marks.{IsMarked, MarksReached, MarksFree, ReachesPast, AreNotApart, AreOpposite}
 use Rattle.store_core.specs.MarkedChains.{IsMeant, NotMeant, HasContent, IsNoted, UsesBuckets, ChainsMarked}
 use Rattle.store_core.specs.Ending.{IsEnding, IsWholeAgain, IsBroken, Keeps, BaseFollows, UseFollows}
-use Rattle.store_core.proofs.Basics.{choose, each_in, both_true}
+use Rattle.store_core.proofs.Basics.{choose, each_in, same_is}
 use Rattle.store_core.proofs.Chains.{linked_once}
 use Rattle.store_core.proofs.Chained.{chain_is}
 use Rattle.store_core.proofs.Collects.{each_of, reached_live}
@@ -44,6 +45,39 @@ free_at place (suc n) i l = ⊎_elim
 marked_below : (m : List Bool) (r : ℕ) → IsMarked m r → r < length m
 marked_below m r h = ⊎_elim (λ l. l) (λ past. absurd (true≢false (sym h ∙ get_or_past m r false past))) (cases_lt r (length m))
 
+same_itself : (p : Place) → same_place p p ≡ true
+same_itself Base = refl
+same_itself FreeCount = refl
+same_itself Claim = refl
+same_itself InUse = refl
+same_itself (FreePlace i) = eq-eqb i i refl
+same_itself (Bucket i) = eq-eqb i i refl
+same_itself (RowWord r k) = ap (λ (b : Bool). cond b (eqb k k) false) (eq-eqb r r refl) ∙ eq-eqb k k refl
+same_itself (Birth i) = eq-eqb i i refl
+same_itself (Next i) = eq-eqb i i refl
+same_itself (RootCount i) = eq-eqb i i refl
+same_itself (Root j k) = ap (λ (b : Bool). cond b (eqb k k) false) (eq-eqb j j refl) ∙ eq-eqb k k refl
+
+-- what was loaded first, after one more load
+module _ (p : Place) where
+  joined : (ls : List (Place × ℕ)) (x : Place × ℕ) (o : Option ℕ) → o ≡ value_at p ls → (is_some o ≡ true → o ≡ value_at p (ls ++ x ∷ [])) × (is_some o ≡ false → value_at p (x ∷ []) ≡ value_at p (ls ++ x ∷ []))
+  joined [] x o e = ((λ s. absurd (true≢false (sym s ∙ ap is_some e))), λ _. refl)
+  joined (y ∷ ls) x o e = choose (λ (v : Option ℕ). o ≡ v → (is_some o ≡ true → o ≡ cond (same_place y.0 p) (Some y.1) (value_at p (ls ++ x ∷ []))) × (is_some o ≡ false → value_at p (x ∷ []) ≡ cond (same_place y.0 p) (Some y.1) (value_at p (ls ++ x ∷ []))))
+      (same_place y.0 p) (Some y.1) (value_at p ls)
+      (λ t f. ((λ _. f ∙ ap (λ (b : Bool). cond b (Some y.1) (value_at p (ls ++ x ∷ []))) (sym t)), λ n. absurd (true≢false (ap is_some (sym f) ∙ n))))
+      (λ t f. let k = joined ls x o f in
+          ((λ s. k.0 s ∙ ap (λ (b : Bool). cond b (Some y.1) (value_at p (ls ++ x ∷ []))) (sym t)), λ s. k.1 s ∙ ap (λ (b : Bool). cond b (Some y.1) (value_at p (ls ++ x ∷ []))) (sym t))) e
+
+  pub value_old : (ls : List (Place × ℕ)) (x : Place × ℕ) (o : Option ℕ) → o ≡ value_at p ls → {b : Bool} → b ≡ is_some o → b ≡ true → o ≡ value_at p (ls ++ x ∷ [])
+  value_old ls x o e is t = (joined ls x o e).0 (sym is ∙ t)
+
+  pub value_here : (ls : List (Place × ℕ)) (x : Place × ℕ) (o : Option ℕ) → o ≡ value_at p ls → {b : Bool} → b ≡ is_some o → b ≡ false → x.0 ≡ p → Some x.1 ≡ value_at p (ls ++ x ∷ [])
+  value_here ls x o e is f same = ap (λ (b : Bool). cond b (Some x.1) None) (sym (ap (λ (q : Place). same_place q p) same ∙ same_itself p)) ∙ (joined ls x o e).1 (sym is ∙ f)
+
+  pub value_none : (ls : List (Place × ℕ)) (x : Place × ℕ) (o : Option ℕ) → o ≡ value_at p ls → {b : Bool} → b ≡ is_some o → b ≡ false → {d : Bool} → (x.0 ≡ p → d ≡ true) → d ≡ false → None ≡ value_at p (ls ++ x ∷ [])
+  value_none ls x o e is f other no =
+      ap (λ (b : Bool). cond b (Some x.1) None) (sym (not_true (same_place x.0 p) (λ t. true≢false (sym (other (same_is x.0 p t)) ∙ no)))) ∙ (joined ls x o e).1 (sym is ∙ f)
+
 -- what isn't a row of the store isn't reached
 pub broken_past : (z : Sizes) (w : Place → ℕ) → ReachesPast w z.rows → IsBroken z w
 broken_past z w p n h = let a = h.chains.below p.row ((h.live p.row).1 p.reached) in let b = p.past in omega arith
@@ -70,7 +104,7 @@ module _ (z : Sizes) (w : Place → ℕ) (live : List Bool) (reached : MarksReac
 -- heads past the buckets are 0
 pub no_heads : (z : Sizes) (words : List ℕ) (b : ℕ) → z.buckets ≤ b → shown z words (Bucket b) ≡ 0
 no_heads z words b past = choose (λ (n : ℕ). n ≡ 0) (in_table z (Bucket b)) (get_or words (index_of z (Bucket b)) 0) 0
-    (λ e. let l = ltb-true b z.buckets (both_true _ _ e).1 in absurd (omega arith)) (λ _. refl)
+    (λ e. let l = ltb-true b z.buckets e in absurd (omega arith)) (λ _. refl)
 
 module _ (z : Sizes) (s : State) (k : CoreHolds z s) (i : ℕ) (storing : is_storing (s.view i).call ≡ true) (heads : (b : ℕ) → z.buckets ≤ b → s.words (Bucket b) ≡ 0) where
   still : (p : Place) → is_stored p ≡ false → s.words p ≡ k.kept p

@@ -1,5 +1,6 @@
 -- What a row's words are the words of.
-use Rattle.std.proofs.Common.{◌≡◌, ◌≢◌, ◌⊎◌, ℕ, zero, suc, ◌+◌, ◌<◌, ◌≤◌, List, [], ◌∷◌, length, get_or, refl, sym, ap, ◌∙◌, subst, ⊎_elim, inl, inr, arith}
+use Rattle.std.proofs.Common.{◌≡◌, ◌≢◌, ◌⊎◌, ℕ, zero, suc, ◌+◌, ◌<◌, ◌≤◌, eqb, List, [], ◌∷◌, length, get_or, refl, sym, ap, ◌∙◌, subst, ⊎_elim, inl, inr, arith}
+use Rattle.std.specs.Prelude.{MatchBool}
 use Rattle.term_model.specs.declared.Head.{Head}
 use Rattle.term_model.specs.declared.Head.TheVariants.{App, Int, Nil, Cons}
 use Rattle.hash_buckets.specs.Spelled.{spelled}
@@ -9,16 +10,17 @@ use Rattle.store_core.specs.Machine.{Sizes, Each, In}
 use Rattle.store_core.specs.Meaning.{Matches}
 use Rattle.store_core.specs.RowLists.{IsList, IsPast}
 use Rattle.store_core.specs.declared.machine.row_lists.RowList.TheVariants.{Arguments}
-use Rattle.store_core.specs.MarkedChains.{HasWords, HasContent, HasNone, Strays}
-use Rattle.store_core.proofs.Basics.{each_in}
+use Rattle.store_core.specs.MarkedChains.{HasWords, HasContent, HasNone, StandsIn, Strays}
+use Rattle.store_core.proofs.Basics.{each_in, eqb_is, eqb_not}
 use Rattle.store_core.proofs.Gains.{argument_at, two_words, enough_words}
 use Rattle.store_core.proofs.Histories.{content_once}
+use Rattle.store_core.proofs.Outcomes.{match_by}
 
-none_of : (xs : List ℕ) → length xs ≡ 0 → xs ≡ []
+pub none_of : (xs : List ℕ) → length xs ≡ 0 → xs ≡ []
 none_of [] e = refl
 none_of (x ∷ xs) e = absurd (omega arith)
 
-abbrev content : Head → List ℕ → Content
+abbrev pub content : Head → List ℕ → Content
 content f xs = record { head = f; arguments = xs }
 
 -- by its first two words, and the others
@@ -68,3 +70,8 @@ module _ (z : Sizes) (w : Place → ℕ) (r : ℕ) where
 
   pub strays_other : (u b : ℕ) (c : Content) → HasContent w r c → (bucket c u ≢ b) → Strays z w u b r
   strays_other u b c has ne d k below e = ne (ap (λ (x : Content). bucket x u) (content_once (row_at w r) c d has.over k.over has.words k.words) ∙ e)
+
+  pub stands_by : (u b n : ℕ) (c : Content) → HasContent w r c → n ≡ bucket c u → MatchBool (eqb n b) (StandsIn w u b r) (Strays z w u b r)
+  stands_by u b n c has is = match_by (eqb n b) (StandsIn w u b r) (Strays z w u b r)
+      (λ e. record { content = c; has = has; bucket = sym is ∙ eqb_is n b e })
+      (λ e. strays_other u b c has (λ same. eqb_not n b e (is ∙ same)))

@@ -45,3 +45,4 @@ pub mod Reached
 pub mod HasContents
 pub mod Chained
 pub mod Ending
+pub mod Outcomes

@@ -2,7 +2,7 @@
 use Rattle.std.proofs.Common.{◌≡◌, ◌≢◌, ◌⊎◌, ℕ, zero, suc, ◌+◌, ◌<◌, ◌≤◌, eqb, Bool, true, false, cond, List, [], ◌∷◌, ◌++◌, length, get_or, set, refl, sym, ap, ◌∙◌, subst, ⊎_elim, inl, inr, arith, true≢false, get_or-set_same, get_or-set_other}
 use Rattle.std.specs.Prelude.{replicate}
 use Rattle.std.proofs.lemmas.Bool.{cases_lt}
-use Rattle.std.proofs.lemmas.List.{length-replicate, get_or-replicate, length-set, length_push}
+use Rattle.std.proofs.lemmas.List.{length-replicate, get_or-replicate, get_or_read, length-set, length_push}
 use Rattle.store_core.specs.Words.{Place, FreeCount, FreePlace}
 use Rattle.store_core.specs.Machine.{Sizes}
 use Rattle.store_core.specs.Meaning.{RowsApart}
@@ -83,3 +83,7 @@ left_same place n r e =
     subst (λ (k : ℕ). length (rows_left place n k) ≡ length (rows_left place n r)) next
     (choose (λ (xs : List ℕ). length xs ≡ length (rows_left place n r)) (is_free place n r) (rows_left place n r) (rows_left place n r ++ r ∷ [])
         (λ _. refl) (λ f. absurd (true≢false (sym e ∙ f))))
+
+-- a mark that was read
+pub read_mark : (m : List Bool) (i : ℕ) (a b : Bool) → i < length m → a ≡ get_or m i a → a ≡ b → get_or m i false ≡ b
+read_mark m i a b l e is = sym (get_or_read m i a l e false) ∙ is

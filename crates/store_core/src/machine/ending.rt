@@ -1,6 +1,7 @@
 //! Whether a collection may end.
-ghost use Rattle.std.specs.Prelude.{◌≡◌, ℕ, ◌↔◌, IfOk, IsTrue, MatchOption};
+ghost use Rattle.std.specs.Prelude.{◌≡◌, ℕ, ◌↔◌, List, [], ◌∷◌, ◌++◌, IfOk, IsTrue, MatchOption};
 ghost use Rattle.store_core.specs.Machine.{State};
+ghost use Rattle.store_core.specs.Words.{Place};
 ghost use Rattle.store_core.specs.Shown.{shown};
 ghost use Rattle.store_core.specs.Steps.{MayEnd, grown_use, value_at};
 ghost use Rattle.store_core.specs.Ending.{BaseFollows, IsBroken, IsEnding, Keeps, UseFollows};
@@ -14,15 +15,34 @@ use faults::Memory;
 use std::alloc::Global;
 use std::collections::LinkedList;
 
+// Whether two places are the same.
+fn is_same(p: Place, q: Place) -> bool
+    ensures { IsTrue result ↔ (p ≡ q) }
+{
+    p == q
+}
+
+// What was loaded first from a place, by what was before a load.
+fn with_load(value: Option<u64>, place: Place, load: (Place, u64)) -> Option<u64>
+    ensures { (before : List (Place × ℕ)) → value ≡ value_at place before → result ≡ value_at place (before ++ load ∷ []) }
+{
+    if value.is_some() {
+        return value;
+    }
+    if is_same(load.0, place) {
+        Some(load.1)
+    } else {
+        None
+    }
+}
+
 // What was loaded first from a place.
 fn value_at(place: Place, loads: &LinkedList<(Place, u64)>) -> Option<u64>
     ensures { result ≡ value_at place loads.now }
 {
     let mut value = None;
     for load in loads {
-        if value.is_none() && load.0 == place {
-            value = Some(load.1);
-        }
+        value = with_load(value, place, *load);
     }
     value
 }
@@ -31,16 +51,14 @@ fn value_at(place: Place, loads: &LinkedList<(Place, u64)>) -> Option<u64>
 fn base_follows(table: &Table, loads: &LinkedList<(Place, u64)>) -> bool
     ensures { IsTrue result ↔ BaseFollows (shown table.now.sizes table.now.words.items) loads.now }
 {
+    let word = table.load(&Place::Base);
     let Some(base) = value_at(Place::Base, loads) else {
         return false;
     };
     let Some(claim) = value_at(Place::Claim, loads) else {
         return false;
     };
-    match base.checked_add(claim) {
-        Some(number) => number.checked_add(1) == Some(table.load(&Place::Base)),
-        None => false,
-    }
+    word > base && word - base - 1 == claim
 }
 
 // The buckets in use after a collection that keeps so many rows.
@@ -93,5 +111,8 @@ pub(crate) fn may_end(table: &Table, loads: &LinkedList<(Place, u64)>) -> Result
     let Some(kept) = kept_rows(*loads.allocator(), table)? else {
         return Ok(false);
     };
-    Ok(base_follows(table, loads) && use_follows(table, loads, kept))
+    if !base_follows(table, loads) {
+        return Ok(false);
+    }
+    Ok(use_follows(table, loads, kept))
 }
