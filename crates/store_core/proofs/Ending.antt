@@ -66,7 +66,7 @@ module _ (p : Place) where
       (same_place y.0 p) (Some y.1) (value_at p ls)
       (λ t f. ((λ _. f ∙ ap (λ (b : Bool). cond b (Some y.1) (value_at p (ls ++ x ∷ []))) (sym t)), λ n. absurd (true≢false (ap is_some (sym f) ∙ n))))
       (λ t f. let k = joined ls x o f in
-          ((λ s. k.0 s ∙ ap (λ (b : Bool). cond b (Some y.1) (value_at p (ls ++ x ∷ []))) (sym t)), λ s. k.1 s ∙ ap (λ (b : Bool). cond b (Some y.1) (value_at p (ls ++ x ∷ []))) (sym t))) e
+      ((λ s. k.0 s ∙ ap (λ (b : Bool). cond b (Some y.1) (value_at p (ls ++ x ∷ []))) (sym t)), λ s. k.1 s ∙ ap (λ (b : Bool). cond b (Some y.1) (value_at p (ls ++ x ∷ []))) (sym t))) e
 
   pub value_old : (ls : List (Place × ℕ)) (x : Place × ℕ) (o : Option ℕ) → o ≡ value_at p ls → {b : Bool} → b ≡ is_some o → b ≡ true → o ≡ value_at p (ls ++ x ∷ [])
   value_old ls x o e is t = (joined ls x o e).0 (sym is ∙ t)
@@ -75,8 +75,8 @@ module _ (p : Place) where
   value_here ls x o e is f same = ap (λ (b : Bool). cond b (Some x.1) None) (sym (ap (λ (q : Place). same_place q p) same ∙ same_itself p)) ∙ (joined ls x o e).1 (sym is ∙ f)
 
   pub value_none : (ls : List (Place × ℕ)) (x : Place × ℕ) (o : Option ℕ) → o ≡ value_at p ls → {b : Bool} → b ≡ is_some o → b ≡ false → {d : Bool} → (x.0 ≡ p → d ≡ true) → d ≡ false → None ≡ value_at p (ls ++ x ∷ [])
-  value_none ls x o e is f other no =
-      ap (λ (b : Bool). cond b (Some x.1) None) (sym (not_true (same_place x.0 p) (λ t. true≢false (sym (other (same_is x.0 p t)) ∙ no)))) ∙ (joined ls x o e).1 (sym is ∙ f)
+  value_none ls x o e is f other ne =
+      ap (λ (b : Bool). cond b (Some x.1) None) (sym (not_true (same_place x.0 p) (λ t. true≢false (sym (other (same_is x.0 p t)) ∙ ne)))) ∙ (joined ls x o e).1 (sym is ∙ f)
 
 -- what isn't a row of the store isn't reached
 pub broken_past : (z : Sizes) (w : Place → ℕ) → ReachesPast w z.rows → IsBroken z w
@@ -93,10 +93,10 @@ module _ (z : Sizes) (w : Place → ℕ) (live : List Bool) (reached : MarksReac
       let place : ℕ → ℕ = λ i. w (FreePlace i) in
       ⊎_elim
       (λ e. let t = free_some place (w FreeCount) r e in
-          let there : n.live r ≡ true = (h.live r).1 ((reached.marked r).0 (same ∙ (is ∙ e))) in
-          true≢false (sym there ∙ (ap n.live (sym t.2) ∙ h.rows.free t.0 (omega arith) t.1)))
+      let there : n.live r ≡ true = (h.live r).1 ((reached.marked r).0 (same ∙ (is ∙ e))) in
+      true≢false (sym there ∙ (ap n.live (sym t.2) ∙ h.rows.free t.0 (omega arith) t.1)))
       (λ e. let there : n.live r ≡ true = h.rows.others r inside (free_none place (w FreeCount) r e) in
-          true≢false (sym ((reached.marked r).1 ((h.live r).0 there)) ∙ (same ∙ (is ∙ e)))) (by_bool (is_free place (w FreeCount) r))
+      true≢false (sym ((reached.marked r).1 ((h.live r).0 there)) ∙ (same ∙ (is ∙ e)))) (by_bool (is_free place (w FreeCount) r))
 
   pub broken_chains : NotMeant z w live → IsBroken z w
   broken_chains f n h = f n record { chains = h.chains; live = λ r. ((λ l. (reached.marked r).1 ((h.live r).0 l)), λ k. (h.live r).1 ((reached.marked r).0 k)) }

@@ -75,14 +75,14 @@ left_more place n r e =
     let next : suc r ≡ r + 1 = omega arith in
     subst (λ (k : ℕ). length (rows_left place n k) ≡ length (rows_left place n r) + 1) next
     (choose (λ (xs : List ℕ). length xs ≡ length (rows_left place n r) + 1) (is_free place n r) (rows_left place n r) (rows_left place n r ++ r ∷ [])
-        (λ t. absurd (true≢false (sym t ∙ e))) (λ _. length_push (rows_left place n r) r))
+    (λ t. absurd (true≢false (sym t ∙ e))) (λ _. length_push (rows_left place n r) r))
 
 pub left_same : (place : ℕ → ℕ) (n r : ℕ) → is_free place n r ≡ true → length (rows_left place n (r + 1)) ≡ length (rows_left place n r)
 left_same place n r e =
     let next : suc r ≡ r + 1 = omega arith in
     subst (λ (k : ℕ). length (rows_left place n k) ≡ length (rows_left place n r)) next
     (choose (λ (xs : List ℕ). length xs ≡ length (rows_left place n r)) (is_free place n r) (rows_left place n r) (rows_left place n r ++ r ∷ [])
-        (λ _. refl) (λ f. absurd (true≢false (sym e ∙ f))))
+    (λ _. refl) (λ f. absurd (true≢false (sym e ∙ f))))
 
 -- a mark that was read
 pub read_mark : (m : List Bool) (i : ℕ) (a b : Bool) → i < length m → a ≡ get_or m i a → a ≡ b → get_or m i false ≡ b

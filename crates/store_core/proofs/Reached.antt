@@ -113,8 +113,8 @@ module _ (z : Sizes) (w : Place → ℕ) where
     waits = λ r c. ⊎_elim (λ d. k.marks.kept r (h.waits r (Contains-append_left us (row ∷ []) r d))) (λ d. d) (k.from r c);
     roots = λ i q l b. k.marks.kept (w (Root i q)) (h.roots i q l b);
     closed = λ r t. ⊎_elim (λ s. ⊎_elim
-            (λ c. ⊎_elim (λ d. inl (k.waiting_on r d)) (λ is. inr (subst (λ (p : ℕ). (q : ℕ) → q < w (RowWord p 1) → IsMarked n (w (RowWord p (suc (suc q))))) is k.marks.all)) (Contains-push_cases us row r c))
-            (closes m n vs (λ q. w (RowWord row (suc (suc q)))) (w (RowWord row 1)) r k.marks) (h.closed r s)) inl (k.waiting r t);
+        (λ c. ⊎_elim (λ d. inl (k.waiting_on r d)) (λ is. inr (subst (λ (p : ℕ). (q : ℕ) → q < w (RowWord p 1) → IsMarked n (w (RowWord p (suc (suc q))))) is k.marks.all)) (Contains-push_cases us row r c))
+        (closes m n vs (λ q. w (RowWord row (suc (suc q)))) (w (RowWord row 1)) r k.marks) (h.closed r s)) inl (k.waiting r t);
   }
 
   pub protected_past : (j : ℕ) → IsPast z w (Protected j) → ReachesPast w z.rows

@@ -33,7 +33,13 @@ fn chain_of(alloc: Global, table: &Table, number: u32) -> Result<Option<Vec<u32>
 }
 
 // Whether the contents of these rows are all of this bucket.
-fn all_stand(alloc: Global, table: &Table, rows: &[u32], number: u32, in_use: u32) -> Result<bool, Memory>
+fn all_stand(
+    alloc: Global,
+    table: &Table,
+    rows: &[u32],
+    number: u32,
+    in_use: u32,
+) -> Result<bool, Memory>
     ensures { IfOk result (λ b. MatchBool b
         ((k : ℕ) → k < length rows.now → StandsIn (shown table.now.sizes table.now.words.items) in_use number (get_or rows.now k 0))
         (OneStrays table.now.sizes (shown table.now.sizes table.now.words.items) in_use number rows.now)) }
@@ -47,7 +53,13 @@ fn all_stand(alloc: Global, table: &Table, rows: &[u32], number: u32, in_use: u3
 }
 
 // The chain of a bucket, where its rows are marked and stand in it.
-fn sound_chain(alloc: Global, table: &Table, live: &[bool], number: u32, in_use: u32) -> Result<Option<Vec<u32>>, Memory>
+fn sound_chain(
+    alloc: Global,
+    table: &Table,
+    live: &[bool],
+    number: u32,
+    in_use: u32,
+) -> Result<Option<Vec<u32>>, Memory>
     requires size { length live.now ≡ table.now.sizes.rows }
     requires in_use { in_use ≡ shown table.now.sizes table.now.words.items InUse }
     ensures { IfOk result (λ o. MatchOption o
@@ -67,7 +79,12 @@ fn sound_chain(alloc: Global, table: &Table, live: &[bool], number: u32, in_use:
 }
 
 // Marks the rows in the chains of the buckets in use.
-fn standing_rows(alloc: Global, table: &Table, live: &[bool], in_use: u32) -> Result<Option<Vec<bool>>, Memory>
+fn standing_rows(
+    alloc: Global,
+    table: &Table,
+    live: &[bool],
+    in_use: u32,
+) -> Result<Option<Vec<bool>>, Memory>
     requires size { length live.now ≡ table.now.sizes.rows }
     requires in_use { in_use ≡ shown table.now.sizes table.now.words.items InUse }
     ensures { IfOk result (λ o. MatchOption o

@@ -3,6 +3,8 @@ mod contents;
 mod copies;
 mod creation;
 mod ending;
+#[cfg(test)]
+mod ending_tests;
 mod marked_chains;
 mod marking;
 mod moves;

@@ -51,7 +51,12 @@ fn mark_all(marking: &mut Marking, rows: &[u32]) -> Result<(), Memory>
 }
 
 // Marks the rows of a list; false where one of them isn't a row of the store.
-fn mark_list(alloc: Global, table: &Table, marking: &mut Marking, list: RowList) -> Result<bool, Memory>
+fn mark_list(
+    alloc: Global,
+    table: &Table,
+    marking: &mut Marking,
+    list: RowList,
+) -> Result<bool, Memory>
     requires { length marking.old.marked.items ≡ table.now.sizes.rows }
     ensures { IfOk result (λ b. MatchBool b
         (Adds (λ k. shown table.now.sizes table.now.words.items (item_place list k)) (shown table.now.sizes table.now.words.items (count_place list)) marking.old.marked.items marking.old.waiting.items marking.new.marked.items marking.new.waiting.items)
@@ -80,7 +85,11 @@ fn with_protected(alloc: Global, table: &Table) -> Result<Option<Marking>, Memor
 }
 
 // The arguments of the rows that wait are marked, until none waits.
-fn with_arguments(alloc: Global, table: &Table, marking: Marking) -> Result<Option<Vec<bool>>, Memory>
+fn with_arguments(
+    alloc: Global,
+    table: &Table,
+    marking: Marking,
+) -> Result<Option<Vec<bool>>, Memory>
     requires { Halfway table.now.sizes (shown table.now.sizes table.now.words.items) table.now.sizes.seats marking.marked.items marking.waiting.items }
     ensures { IfOk result (λ o. MatchOption o
         (ReachesPast (shown table.now.sizes table.now.words.items) table.now.sizes.rows)

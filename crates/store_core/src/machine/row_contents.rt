@@ -45,7 +45,12 @@ fn listed(alloc: Global, rows: &[u32]) -> Result<LinkedList<u32>, Memory>
     Ok(list)
 }
 
-fn content_over(alloc: Global, table: &Table, row: u32, arguments: &[u32]) -> Result<Option<Content>, Memory>
+fn content_over(
+    alloc: Global,
+    table: &Table,
+    row: u32,
+    arguments: &[u32],
+) -> Result<Option<Content>, Memory>
     requires { IsList table.now.sizes (shown table.now.sizes table.now.words.items) (Arguments row) arguments.now }
     ensures { IfOk result (λ o. MatchOption o
         (HasNone table.now.sizes (shown table.now.sizes table.now.words.items) row)
@@ -75,7 +80,13 @@ fn content_of(alloc: Global, table: &Table, row: u32) -> Result<Option<Content>,
 }
 
 /// Whether a row's content is of this bucket, of so many in use.
-pub(crate) fn stands_in(alloc: Global, table: &Table, row: u32, number: u32, in_use: u32) -> Result<bool, Memory>
+pub(crate) fn stands_in(
+    alloc: Global,
+    table: &Table,
+    row: u32,
+    number: u32,
+    in_use: u32,
+) -> Result<bool, Memory>
     ensures { IfOk result (λ b. MatchBool b
         (StandsIn (shown table.now.sizes table.now.words.items) in_use number row)
         (Strays table.now.sizes (shown table.now.sizes table.now.words.items) in_use number row)) }

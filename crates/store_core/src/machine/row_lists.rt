@@ -59,7 +59,11 @@ fn count(table: &Table, list: RowList) -> Result<u32, Memory>
 }
 
 /// The rows of a list; None where one of them isn't a row of the store.
-pub(crate) fn rows_of(alloc: Global, table: &Table, list: RowList) -> Result<Option<Vec<u32>>, Memory>
+pub(crate) fn rows_of(
+    alloc: Global,
+    table: &Table,
+    list: RowList,
+) -> Result<Option<Vec<u32>>, Memory>
     ensures { IfOk result (λ o. MatchOption o (IsPast table.now.sizes (shown table.now.sizes table.now.words.items) list) (λ v. IsList table.now.sizes (shown table.now.sizes table.now.words.items) list v.items)) }
 {
     let mut rows = Vec::new(alloc);
