@@ -39,3 +39,10 @@ pub mod Ends
 pub mod Worked
 pub mod Showing
 pub mod TreesKept
+pub mod Marked
+pub mod MarkedPlaces
+pub mod Reached
+pub mod HasContents
+pub mod Chained
+pub mod Ending
+pub mod Outcomes
