@@ -1,7 +1,6 @@
 // A store that runs, on plain data.
 ghost use Rattle.std.specs.Prelude.{◌≡◌, IfOk, OnErr, OnOk, MatchBool};
 ghost use Rattle.store_core.specs.StoreValue.{MayMake, IsNew, Stepped, Stayed, Replays, state_of};
-ghost use Rattle.store_core.specs.StoreHolds.{StoreHolds};
 
 use crate::machine::change::{commit, planned};
 use crate::machine::fresh::{new_lock, new_views};
@@ -51,8 +50,8 @@ impl StoreState {
 
     /// Makes one step of a seat. False exactly where the step is out of place, as that of a seat that isn't there; the store is then
     /// as it was, and so it is where there is no memory.
-    pub fn apply(&mut self, seat: u32, step: &StoreStep) -> Result<bool, Memory>
-        ensures step { OnOk result (λ made. MatchBool made (Stepped seat step.now self.old self.new) (Stayed seat step.now self.old self.new)) }
+    pub fn apply(&mut self, seat: u32, step: StoreStep) -> Result<bool, Memory>
+        ensures step { OnOk result (λ made. MatchBool made (Stepped seat step self.old self.new) (Stayed seat step self.old self.new)) }
         ensures memory { OnErr result (self.new ≡ self.old) }
     {
         if seat >= self.table.sizes.seats {
@@ -79,7 +78,7 @@ pub fn replay(
 {
     let mut store = StoreState::new(alloc, sizes)?;
     for (seat, step) in steps {
-        if !store.apply(*seat, step)? {
+        if !store.apply(*seat, step.clone()?)? {
             return Ok(None);
         }
     }
