@@ -25,3 +25,4 @@ pub mod Table
 pub mod Worked
 pub mod Running
 pub mod ByView
+pub mod Ending

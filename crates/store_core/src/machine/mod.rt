@@ -2,6 +2,7 @@
 mod contents;
 mod copies;
 mod creation;
+mod ending;
 mod moves;
 mod table;
 #[cfg(test)]
