@@ -39,3 +39,8 @@ pub mod Ends
 pub mod Worked
 pub mod Showing
 pub mod TreesKept
+pub mod Naming
+pub mod Deciding
+pub mod Planning
+pub mod Made
+pub mod Applied

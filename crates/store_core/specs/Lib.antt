@@ -26,3 +26,9 @@ pub mod Worked
 pub mod Running
 pub mod ByView
 pub mod Ending
+pub mod StoreValue
+pub mod StoreInside
+pub mod Planning
+pub mod NextActs
+pub mod Naming
+pub mod Lines

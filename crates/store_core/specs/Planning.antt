@@ -5,13 +5,16 @@ use Rattle.lock_core.specs.Lock.{Lock}
 use Rattle.store_core.specs.Words.{Place, Base, InUse, RowWord, Root, write, put}
 use Rattle.store_core.specs.Calls.{View, Storing}
 use Rattle.store_core.specs.Machine.{Sizes, State, Step, LockAlone, LowerShared, UnaskSeat, GiveGranted, LoadBase, LoadInUse, Begin, Go, LoadRoot, StoreRoot, StoreCount, ReadWord, ReadArgument, LoadAny, StoreAny, StoreClaim, action, begins, based, ready, leaving, left, protected_in, rooted, root_counted, knowing, with_got, with_call}
-use Rattle.store_core.specs.Steps.{loads, stores, loading, names_left, Permits, after, newcomer}
+use Rattle.store_core.specs.Steps.{loads, stores, loading, names_left, MayEnd, Permits, after, newcomer}
 use Rattle.store_core.specs.Collection.{collected}
 use Rattle.store_core.specs.Seats.{Where}
+use Rattle.store_core.specs.StoreHolds.{StoreHolds}
+use Rattle.store_core.specs.Ending.{IsEnding}
 use Rattle.store_core.specs.Shown.{shown, in_table}
 use Rattle.store_core.specs.StoreSteps as steps
-use Rattle.store_core.specs.StoreSteps.{meant, Fits, Act, Loads, Stores, Draws, Exchanges}
+use Rattle.store_core.specs.StoreSteps.{meant, Fits}
 use Rattle.store_core.specs.declared.step.StoreStep.{StoreStep}
+use Rattle.store_core.specs.declared.step.StoreStep.TheVariants as step
 use Rattle.store_core.specs.declared.machine.change.Change.{Change}
 use Rattle.store_core.specs.declared.machine.change.Sight.{Sight}
 
@@ -78,7 +81,36 @@ PlansStep s x r = PlansIf s (meant (state_seen s) s.seat x) (Fits (sizes_seen s)
 abbrev pub state_by : Sizes → Lock → List ℕ → List View → State
 state_by z l words views = record { lock = l; words = shown z words; view = λ j. get_or views j (newcomer z) }
 
+-- a change stores at a place that the table has
+abbrev pub IsInside : Sizes → Option (Place × ℕ) → Type 0
+IsInside z stored = Where stored (λ q. in_table z q.0 ≡ true)
+
+abbrev pub HasPlace : Sizes → Option Change → Type 0
+HasPlace z o = Where o (λ c. IsInside z c.stored)
+
 -- what a whole plan answers
+abbrev pub IsPlanOf : Sizes → State → ℕ → StoreStep → Option Change → Type 0
+IsPlanOf z s i x o = MatchOption o (steps.IsInPlace z s i x → ⊥) (λ c. steps.IsInPlace z s i x × (steps.after z s i x ≡ changed s i c))
+
 abbrev pub Planned : Sizes → State → ℕ → StoreStep → Result (Option Change) Memory → Type 0
-Planned z s i x r = IfOk r (λ o. MatchOption o (steps.IsInPlace z s i x → ⊥)
-    (λ c. steps.IsInPlace z s i x × (steps.after z s i x ≡ changed s i c) × Where c.stored (λ q. in_table z q.0 ≡ true)))
+Planned z s i x r = IfOk r (λ o. IsPlanOf z s i x o × HasPlace z o)
+
+-- s is what the seat sees of the state
+pub record IsSeen (g : Sight) (s : State) : Type 0 where
+  pub lock : s.lock ≡ g.lock.now
+  pub words : s.words ≡ (state_seen g).words
+  pub view : s.view g.seat ≡ g.view.now
+
+-- The end of a collection that has loaded ls, of a state of which the facts hold
+abbrev pub PlansEnd : Sight → List (Place × ℕ) → ℕ → Result (Option Change) Memory → Type 0
+PlansEnd g ls n r = IfOk r (λ o. (s : State) → IsEnding (sizes_seen g) (state_seen g).words ls s g.seat →
+    MatchOption o (MayEnd (sizes_seen g) s g.seat × (n ≡ 0) → ⊥) (λ c. MayEnd (sizes_seen g) s g.seat × (n ≡ 0) × Makes g StoreClaim c))
+
+abbrev pub PlansClaim : Sight → ℕ → Result (Option Change) Memory → Type 0
+PlansClaim g n r = IfOk r (λ o. (s : State) → StoreHolds (sizes_seen g) s → IsSeen g s →
+    MatchOption o (Permits (sizes_seen g) s g.seat StoreClaim × (n ≡ 0) → ⊥) (λ c. Permits (sizes_seen g) s g.seat StoreClaim × (n ≡ 0) × Makes g StoreClaim c))
+
+-- a plan of any step
+abbrev pub Serves : Sight → StoreStep → Result (Option Change) Memory → Type 0
+Serves g (step.StoreClaim n) r = PlansClaim g n r
+Serves g x r = PlansStep g x r

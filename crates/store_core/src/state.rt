@@ -1,12 +1,12 @@
 // A store that runs, on plain data.
-ghost use Rattle.std.specs.Prelude.{◌≡◌, IfOk, OnErr, OnOk, MatchBool};
-ghost use Rattle.store_core.specs.StoreValue.{MayMake, IsNew, Stepped, Stayed, Replays, state_of};
+ghost use Rattle.std.specs.Prelude.{◌≡◌, IfOk, OnErr, MatchBool};
+ghost use Rattle.store_core.specs.StoreValue.{MayMake, IsNew, Stepped, Stayed, Replays};
 
-use crate::machine::change::{commit, planned};
-use crate::machine::fresh::{new_lock, new_views};
+use crate::machine::fresh::new_views;
+use crate::machine::planning::{commit, planned};
 use crate::machine::table::Table;
 use crate::step::StoreStep;
-use crate::view::{Place, Sizes, View};
+use crate::view::{Sizes, View};
 use faults::Memory;
 use lock_core::LockState;
 use std::alloc::Global;
@@ -51,7 +51,7 @@ impl StoreState {
     /// Makes one step of a seat. False exactly where the step is out of place, as that of a seat that isn't there; the store is then
     /// as it was, and so it is where there is no memory.
     pub fn apply(&mut self, seat: u32, step: StoreStep) -> Result<bool, Memory>
-        ensures step { OnOk result (λ made. MatchBool made (Stepped seat step self.old self.new) (Stayed seat step self.old self.new)) }
+        ensures step { IfOk result (λ made. MatchBool made (Stepped seat step self.old self.new) (Stayed seat step self.old self.new)) }
         ensures memory { OnErr result (self.new ≡ self.old) }
     {
         if seat >= self.table.sizes.seats {
@@ -60,7 +60,13 @@ impl StoreState {
         match planned(&self.table, &self.lock, &self.views, seat, step)? {
             None => Ok(false),
             Some(change) => {
-                commit(&mut self.table, &mut self.lock, &mut self.views, seat, change);
+                commit(
+                    &mut self.table,
+                    &mut self.lock,
+                    &mut self.views,
+                    seat,
+                    change,
+                );
                 Ok(true)
             }
         }

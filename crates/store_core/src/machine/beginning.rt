@@ -37,11 +37,7 @@ pub(crate) fn plan_begin(
         return Ok(None);
     }
     let head = sight.table.load(&Place::Bucket(bucket));
-    Ok(Some(Change::of_view(begun(
-        copy(sight.view)?,
-        content,
-        head,
-    )?)))
+    Ok(Some(Change::of_view(begun(copy(sight.view)?, content, head)?)))
 }
 
 // In shared access, or in an exclusive one after a collection of it.

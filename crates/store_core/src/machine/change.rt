@@ -6,6 +6,7 @@ use crate::view::{Place, View};
 use lock_core::LockState;
 
 /// What one seat sees: the words, the lock, and its own view.
+#[derive(Drop)]
 pub(crate) struct Sight<'a> {
     pub(crate) table: &'a Table,
     pub(crate) lock: &'a LockState,

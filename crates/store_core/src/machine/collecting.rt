@@ -12,7 +12,7 @@ ghost use Rattle.store_core.specs.declared.step.StoreStep.TheVariants.{LoadAny};
 
 use crate::machine::acting::same_place;
 use crate::machine::change::{Change, Sight};
-use crate::machine::copies::copy;
+use crate::machine::copies::{copy, copy_loads};
 use crate::machine::locking::is_exclusive;
 use crate::machine::moves::with_call;
 use crate::machine::rooting::protected_rows;
@@ -21,9 +21,7 @@ use crate::machine::whole::{first_loaded, is_whole};
 use crate::view::{Call, Place, Sizes, Stay, View};
 use faults::Memory;
 use history_core::Entry;
-use std::alloc::Global;
 use std::collections::LinkedList;
-use std::mem;
 
 /// A load.
 pub(crate) fn plan_load_any(sight: &Sight, place: Place) -> Result<Option<Change>, Memory>
@@ -33,7 +31,7 @@ pub(crate) fn plan_load_any(sight: &Sight, place: Place) -> Result<Option<Change
         return Ok(None);
     }
     let value = sight.table.load(&place);
-    let view = loaded(copy(sight.view)?, &sight.table.sizes, place, value)?;
+    let view = loaded(sight.view, &sight.table.sizes, place, value)?;
     Ok(Some(Change::of_view(view)))
 }
 
@@ -93,6 +91,7 @@ fn are_same(one: &[u32], other: &[u32]) -> bool
 }
 
 // The rows of the last Roots; none, where there is none.
+#[tactic(auto, using(crate::proofs::Deciding::last_on))]
 fn last_roots(entries: &LinkedList<Entry>) -> Result<Vec<u32>, Memory>
     ensures { IfOk result (λ rows. rows.items ≡ last_roots [] entries.now) }
 {
@@ -134,27 +133,44 @@ fn leaves_no_room(sizes: &Sizes, base: u64, claim: u64) -> bool
 }
 
 // What a seat knows after a load of its collection.
-fn loaded(mut view: View, sizes: &Sizes, place: Place, value: u64) -> Result<View, Memory>
-    ensures { IfOk result (λ v. v ≡ machine.with_call view (loading sizes.now (loads view.call ++ (place, value) ∷ []))) }
+fn loaded(view: &View, sizes: &Sizes, place: Place, value: u64) -> Result<View, Memory>
+    ensures { IfOk result (λ v. v ≡ machine.with_call view.now (loading sizes.now (loads view.now.call ++ (place, value) ∷ []))) }
 {
-    let alloc = *view.got.allocator();
-    let mut list = loads_in(alloc, mem::replace(&mut view.call, Call::Idle));
+    let mut list = loads_in(view)?;
     list.push_back((place, value))?;
+    let call = next_call(sizes, list)?;
+    Ok(with_call(copy(view)?, call))
+}
+
+// A collection that has loaded so much: Worn ends it.
+fn next_call(sizes: &Sizes, list: LinkedList<(Place, u64)>) -> Result<Call, Memory>
+    ensures { IfOk result (λ call. call ≡ loading sizes.now list) }
+{
     let words = words_in(&list)?;
     if is_worn(sizes, words.as_slice()) {
-        Ok(with_call(view, Call::Idle))
+        Ok(Call::Idle)
     } else {
-        Ok(with_call(view, Call::Loading(list)))
+        Ok(Call::Loading(list))
     }
 }
 
 // What a collection has loaded.
-fn loads_in(alloc: Global, call: Call) -> LinkedList<(Place, u64)>
-    ensures { result ≡ loads call }
+fn loads_in(view: &View) -> Result<LinkedList<(Place, u64)>, Memory>
+    ensures { IfOk result (λ list. list ≡ loads view.now.call) }
 {
-    match call {
-        Call::Loading(list) | Call::Storing(list, _) => list,
-        _ => LinkedList::new(alloc),
+    match &view.call {
+        Call::Loading(list) | Call::Storing(list, _) => Ok(copy_loads(list)?),
+        _ => Ok(LinkedList::new(*view.got.allocator())),
+    }
+}
+
+// What a collection has stored, the last one first.
+fn stores_in(view: &View) -> Result<LinkedList<(Place, u64)>, Memory>
+    ensures { IfOk result (λ list. list ≡ stores view.now.call) }
+{
+    match &view.call {
+        Call::Storing(_, list) => Ok(copy_loads(list)?),
+        _ => Ok(LinkedList::new(*view.got.allocator())),
     }
 }
 
@@ -169,7 +185,7 @@ pub(crate) fn plan_store_any(
     if !sight.table.has(&place) || !is_stored(&place) || !may_store(sight)? {
         return Ok(None);
     }
-    let view = stored(copy(sight.view)?, place, value)?;
+    let view = stored(sight.view, place, value)?;
     Ok(Some(Change::of_word(place, value, view)))
 }
 
@@ -203,15 +219,11 @@ fn may_store(sight: &Sight) -> Result<bool, Memory>
 }
 
 // What a seat knows after a store of its collection.
-fn stored(mut view: View, place: Place, value: u64) -> Result<View, Memory>
-    ensures { IfOk result (λ v. v ≡ machine.with_call view (Storing (loads view.call) ((place, value) ∷ stores view.call))) }
+fn stored(view: &View, place: Place, value: u64) -> Result<View, Memory>
+    ensures { IfOk result (λ v. v ≡ machine.with_call view.now (Storing (loads view.now.call) ((place, value) ∷ stores view.now.call))) }
 {
-    let alloc = *view.got.allocator();
-    let (loads, mut stores) = match mem::replace(&mut view.call, Call::Idle) {
-        Call::Loading(loads) => (loads, LinkedList::new(alloc)),
-        Call::Storing(loads, stores) => (loads, stores),
-        _ => (LinkedList::new(alloc), LinkedList::new(alloc)),
-    };
+    let loads = loads_in(view)?;
+    let mut stores = stores_in(view)?;
     stores.push_front((place, value))?;
-    Ok(with_call(view, Call::Storing(loads, stores)))
+    Ok(with_call(copy(view)?, Call::Storing(loads, stores)))
 }

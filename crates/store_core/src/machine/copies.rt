@@ -81,7 +81,9 @@ fn copy_content(content: &Content) -> Result<Content, AllocError>
     content.clone()
 }
 
-fn copy_loads(loads: &LinkedList<(Place, u64)>) -> Result<LinkedList<(Place, u64)>, AllocError>
+pub(crate) fn copy_loads(
+    loads: &LinkedList<(Place, u64)>,
+) -> Result<LinkedList<(Place, u64)>, AllocError>
     ensures { IfOk result (λ l. l ≡ loads.now) }
 {
     loads.clone()

@@ -1,17 +1,16 @@
 //! The rows that a seat may name.
-ghost use Rattle.std.specs.Prelude.{◌≡◌, ◌↔◌, ◌<◌, ℕ, suc, List, [], ◌∷◌, true, false, get_or, IfOk, OnOk, IsTrue, replicate};
-ghost use Rattle.store_core.specs.Words.{RowWord, RootCount, Root};
-ghost use Rattle.store_core.specs.Calls.{View};
-ghost use Rattle.store_core.specs.Machine.{Each, In, MayName};
+ghost use Rattle.std.specs.Prelude.{◌≡◌, ◌↔◌, ◌<◌, ℕ, List, [], ◌∷◌, false, get_or, IfOk, OnOk, replicate};
+ghost use Rattle.store_core.specs.Words.{RootCount, Root};
+ghost use Rattle.store_core.specs.Machine.{Each, MayName};
 ghost use Rattle.store_core.specs.Shown.{shown};
-ghost use Rattle.store_core.specs.Naming.{IsMarked, AreMarked, Halfway, Visits};
+ghost use Rattle.store_core.specs.Naming.{IsMarked, Halfway, Visits};
 
 use crate::machine::moves::narrow;
+use crate::machine::rows::rows_of;
 use crate::machine::table::Table;
 use crate::view::{Place, View};
 use faults::Memory;
 use std::alloc::Global;
-use std::collections::LinkedList;
 
 /// Marked rows, and those of them whose arguments are still to be marked.
 #[derive(Drop)]
@@ -36,7 +35,7 @@ pub(crate) fn named_rows(table: &Table, seat: u32, view: &View) -> Result<Vec<bo
 
 /// Whether a row is marked.
 pub(crate) fn is_named(marks: &[bool], row: u64) -> bool
-    ensures { IsTrue result ↔ IsMarked marks.now row }
+    ensures { result ≡ get_or marks.now row false }
 {
     if row < marks.len() as u64 {
         marks[row as usize]
@@ -83,17 +82,20 @@ impl Naming {
     }
 
     // Marks the rows that the seat got.
+    #[tactic(auto, using(crate::proofs::Naming::got_named, crate::proofs::Naming::each_marked))]
     fn mark_got(&mut self, table: &Table, seat: u32, view: &View) -> Result<(), Memory>
         ensures marked { OnOk result (Each (IsMarked self.new.marks.items) view.now.got) }
         ensures halfway { OnOk result (Halfway (shown table.now.sizes table.now.words.items) seat view.now self.old.marks.items self.old.waiting.items [] → Halfway (shown table.now.sizes table.now.words.items) seat view.now self.new.marks.items self.new.waiting.items []) }
     {
-        for row in &view.got {
-            self.visit(table, seat, view, u64::from(*row))?;
+        let rows = rows_of(&view.got)?;
+        for k in 0..rows.len() {
+            self.visit(table, seat, view, u64::from(rows[k]))?;
         }
         Ok(())
     }
 
     // Marks the rows that the seat has protected.
+    #[tactic(auto, using(crate::proofs::Naming::root_named))]
     fn mark_protected(&mut self, table: &Table, seat: u32, view: &View) -> Result<(), Memory>
         ensures kept { OnOk result ((r : ℕ) → IsMarked self.old.marks.items r → IsMarked self.new.marks.items r) }
         ensures marked { OnOk result ((k : ℕ) → k < shown table.now.sizes table.now.words.items (RootCount seat) → IsMarked self.new.marks.items (shown table.now.sizes table.now.words.items (Root seat k))) }
@@ -108,6 +110,7 @@ impl Naming {
     }
 
     // Marks the arguments of a row.
+    #[tactic(auto, using(crate::proofs::Naming::argument_named, crate::proofs::Naming::looked, crate::proofs::Naming::are_marked))]
     fn mark_arguments(
         &mut self,
         table: &Table,

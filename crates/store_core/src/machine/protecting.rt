@@ -39,11 +39,7 @@ pub(crate) fn plan_store_root(sight: &Sight, k: u32, row: u32) -> Result<Option<
         return Ok(None);
     }
     let view = rooted(copy(sight.view)?, k, row)?;
-    Ok(Some(Change::of_word(
-        Place::Root(sight.seat, k),
-        u64::from(row),
-        view,
-    )))
+    Ok(Some(Change::of_word(Place::Root(sight.seat, k), u64::from(row), view)))
 }
 
 // Whether a seat may name a row.
@@ -62,11 +58,7 @@ pub(crate) fn plan_store_count(sight: &Sight, count: u32) -> Result<Option<Chang
         return Ok(None);
     }
     let view = root_counted(copy(sight.view)?, count)?;
-    Ok(Some(Change::of_word(
-        Place::RootCount(sight.seat),
-        u64::from(count),
-        view,
-    )))
+    Ok(Some(Change::of_word(Place::RootCount(sight.seat), u64::from(count), view)))
 }
 
 // Whether each of the first own rows was protected, or may be named.
@@ -126,12 +118,7 @@ fn plan_read_word(sight: &Sight, row: u32, word: u32) -> Result<Option<Change>, 
         return Ok(None);
     }
     let value = sight.table.load(&Place::RowWord(row, word));
-    Ok(Some(Change::of_view(knowing(
-        copy(sight.view)?,
-        row,
-        word,
-        value,
-    )?)))
+    Ok(Some(Change::of_view(knowing(copy(sight.view)?, row, word, value)?)))
 }
 
 // The argument is the word less 2.

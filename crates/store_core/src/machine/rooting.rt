@@ -1,5 +1,5 @@
 //! What a seat knows after a store of its protected rows.
-ghost use Rattle.std.specs.Prelude.{◌≡◌, ◌++◌, IfOk, set, drop};
+ghost use Rattle.std.specs.Prelude.{◌≡◌, ◌≤◌, ◌++◌, IfOk, length, drop};
 ghost use Rattle.store_core.specs.Machine as machine;
 ghost use Rattle.store_core.specs.Machine.{protected_in};
 
@@ -38,13 +38,23 @@ pub(crate) fn root_counted(mut view: View, count: u32) -> Result<View, Memory>
     ensures { IfOk result (λ v. v ≡ machine.root_counted view count) }
 {
     let rows = protected_rows(&view)?;
-    view.got = with_rows(view.got, rows.as_slice(), count as usize)?;
+    view.got = dropped(view.got, rows.as_slice(), count as usize)?;
     view.root_count = count;
     Ok(view)
 }
 
 // The rows from the n-th on, before those of the list.
+fn dropped(list: LinkedList<u32>, rows: &[u32], n: usize) -> Result<LinkedList<u32>, Memory>
+    ensures { IfOk result (λ l. l ≡ drop n rows.now ++ list) }
+{
+    if n > rows.len() {
+        return Ok(list);
+    }
+    with_rows(list, rows, n)
+}
+
 fn with_rows(list: LinkedList<u32>, rows: &[u32], n: usize) -> Result<LinkedList<u32>, Memory>
+    requires { n ≤ length rows.now }
     ensures { IfOk result (λ l. l ≡ drop n rows.now ++ list) }
 {
     let mut list = list;

@@ -107,10 +107,12 @@ pub(crate) fn is_whole(table: &Table, loads: &[(Place, u64)]) -> Result<bool, Me
 {
     let count = narrow(table.load(&Place::FreeCount))?;
     let width = narrow(widest_of(&table.sizes) + 2)?;
-    Ok(are_singles_loaded(table, loads)
-        && are_lines_loaded(table, loads, count)
-        && are_words_loaded(table, loads, width)
-        && are_roots_loaded(table, loads)?)
+    Ok(
+        are_singles_loaded(table, loads)
+            && are_lines_loaded(table, loads, count)
+            && are_words_loaded(table, loads, width)
+            && are_roots_loaded(table, loads)?,
+    )
 }
 
 fn are_singles_loaded(table: &Table, loads: &[(Place, u64)]) -> bool
