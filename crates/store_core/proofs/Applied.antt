@@ -1,7 +1,9 @@
 -- What a store that runs keeps, and lists of its steps.
-use Rattle.std.proofs.Common.{◌≡◌, ◌≢◌, ℕ, zero, suc, ◌+◌, ◌*◌, ◌<◌, ◌≤◌, ◌^◌, Bool, true, false, cond, Option, None, Some, List, [], ◌∷◌, ◌++◌, length, get_or, take, set, replicate, refl, sym, ap, ◌∙◌, subst, ⊎_elim, arith, ltb-true, ltb-false}
+use Rattle.std.proofs.Common.{◌≡◌, ◌≢◌, ℕ, zero, suc, ◌+◌, ◌*◌, ◌<◌, ◌≤◌, ◌^◌, Bool, true, false, cond, Option, None, Some, List, [], ◌∷◌, ◌++◌, length, get_or, take, drop, replicate, add-one, refl, sym, ap, ◌∙◌, subst, ⊎_elim, arith, ltb-true, ltb-false}
 use Rattle.std.specs.Prelude.{nat_lt}
 use Rattle.std.proofs.lemmas.Bool.{cases_lt}
+use Rattle.std.proofs.lemmas.List.{take-append-drop}
+use Rattle.std.proofs.Math.Seq.{take-suc, drop-cons}
 use Rattle.std.proofs.Math.Nat.{mul-le-mul_left, mul-le-mul_right, le_trans}
 use mathlib.Core.Path.{fun_ext}
 use Rattle.lock_core.specs.Lock.{Lock}
@@ -17,7 +19,9 @@ use Rattle.store_core.specs.StoreHolds.{StoreHolds}
 use Rattle.store_core.specs.StoreSteps as steps
 use Rattle.store_core.specs.StoreSteps.{meant, IsInPlace, Leads}
 use Rattle.store_core.specs.StoreValue.{StoreValue, state_of, MayMake, first_words, start_of, IsNew, Stepped, Stayed, Replays}
-use Rattle.store_core.specs.Planning.{state_by, changed}
+use Rattle.store_core.specs.Planning.{state_by, changed, IsPlanOf}
+use Rattle.store_core.specs.StoreInside.{value_of, IsHeld}
+use Rattle.store_core.specs.declared.state.StoreState.TheInside.{Inside}
 use Rattle.store_core.specs.declared.step.StoreStep.{StoreStep}
 use Rattle.store_core.specs.declared.machine.change.Change.{Change}
 use Rattle.store_core.proofs.Eight.{eight, inductive}
@@ -120,3 +124,42 @@ total_small z m =
     let rows : z.rows * (widest z + 4) ≤ 262144 * 20 = le_trans (mul-le-mul_left z.rows wide) (mul-le-mul_right 20 a) in
     let seats : z.seats * (z.depth + 1) ≤ 16 * 65537 = le_trans (mul-le-mul_left z.seats (let e : z.depth + 1 ≤ 65537 = omega arith in e)) (mul-le-mul_right 65537 s) in
     let is = total_is z in omega arith
+
+-- a seat that isn't there makes no step
+pub stayed_absent : (n : Inside) (i : ℕ) (x : StoreStep) → n.table.sizes.seats ≤ i → Stayed i x (value_of n) (value_of n)
+stayed_absent n i x l = record { place = λ k. let a = k.step.present in absurd (omega arith); same = refl }
+
+-- nor is one made that has no plan
+pub stayed_none : (n : Inside) (i : ℕ) (x : StoreStep) → IsPlanOf n.table.sizes (state_of (value_of n)) i x None → Stayed i x (value_of n) (value_of n)
+stayed_none n i x none = record { place = none; same = refl }
+
+-- a plan that was made
+pub stepped_some : (n m : Inside) (i : ℕ) (x : StoreStep) (c : Change) → m.table.sizes ≡ n.table.sizes → IsPlanOf n.table.sizes (state_of (value_of n)) i x (Some c) → state_by n.table.sizes m.lock m.table.words.items m.views.items ≡ changed (state_of (value_of n)) i c → Stepped i x (value_of n) (value_of m)
+stepped_some n m i x c same plan made = record {
+  place = plan.0;
+  sizes = same;
+  state = stepped_to n.table.sizes m.table.sizes n.lock m.lock n.table.words.items m.table.words.items n.views.items m.views.items i x c same plan.1 made;
+}
+
+pub held_some : (n m : Inside) (i : ℕ) (x : StoreStep) (c : Change) → IsHeld n → m.table.sizes ≡ n.table.sizes → length m.views.items ≡ length n.views.items → IsPlanOf n.table.sizes (state_of (value_of n)) i x (Some c) → state_by n.table.sizes m.lock m.table.words.items m.views.items ≡ changed (state_of (value_of n)) i c → IsHeld m
+held_some n m i x c held same long plan made = record {
+  views = long ∙ (held.views ∙ ap (λ (z : Sizes). z.seats) (sym same));
+  holds = held_after n.table.sizes m.table.sizes n.lock m.lock n.table.words.items m.table.words.items n.views.items m.views.items i x c same held.holds plan.0 plan.1 made;
+}
+
+-- a new store is held
+pub held_new : (z : Sizes) (n : Inside) → MayMake z → IsNew z (value_of n) → length n.views.items ≡ z.seats → IsHeld n
+held_new z n may new long = record { views = long ∙ ap (λ (y : Sizes). y.seats) (sym new.sizes); holds = new_holds z (value_of n) may new }
+
+-- a replay goes on, and stops
+pub replays_more : (z : Sizes) (xs : List (ℕ × StoreStep)) (k : ℕ) (t u : StoreValue) (y : ℕ × StoreStep) → k < length xs → y ≡ get_or xs k y → t.sizes ≡ z → Leads z (start_of z) (take k xs) (state_of t) → Stepped y.0 y.1 t u → (u.sizes ≡ z) × Leads z (start_of z) (take (k + 1) xs) (state_of u)
+replays_more z xs k t u y l is same path h = (
+  h.sizes ∙ same,
+  subst (λ (ys : List (ℕ × StoreStep)). Leads z (start_of z) ys (state_of u)) (sym (ap (λ (n : ℕ). take n xs) (add-one k) ∙ (take-suc xs k y l ∙ ap (λ (x : ℕ × StoreStep). take k xs ++ x ∷ []) (sym is))))
+      (leads_more z (take k xs) (start_of z) (state_of t) (state_of u) y.0 y.1 path (subst (λ (s : Sizes). IsInPlace s (state_of t) y.0 y.1) same h.place) (h.state ∙ ap (λ (s : Sizes). steps.after s (state_of t) y.0 y.1) same)),
+)
+
+pub replays_stop : (z : Sizes) (xs : List (ℕ × StoreStep)) (k : ℕ) (t u : StoreValue) (y : ℕ × StoreStep) → k < length xs → y ≡ get_or xs k y → t.sizes ≡ z → Leads z (start_of z) (take k xs) (state_of t) → Stayed y.0 y.1 t u → Replays z xs None
+replays_stop z xs k t u y l is same path h = λ s all.
+    leads_stuck z (take k xs) (drop (suc k) xs) (start_of z) (state_of t) s y.0 y.1 path (λ p. h.place (subst (λ (a : Sizes). IsInPlace a (state_of t) y.0 y.1) (sym same) p))
+    (subst (λ (ys : List (ℕ × StoreStep)). Leads z (start_of z) ys s) (sym (take-append-drop k xs) ∙ ap (λ (ys : List (ℕ × StoreStep)). take k xs ++ ys) (drop-cons xs k y l ∙ ap (λ (x : ℕ × StoreStep). x ∷ drop (suc k) xs) (sym is))) all)

@@ -1,5 +1,5 @@
 -- Lists and lines that a step's condition reads.
-use Rattle.std.proofs.Common.{◌≡◌, ◌≢◌, ◌⊎◌, ℕ, zero, suc, ◌+◌, ◌<◌, ◌≤◌, Bool, true, false, cond, Option, None, Some, List, [], ◌∷◌, ◌++◌, length, get_or, drop, take, refl, sym, ap, ◌∙◌, subst, ⊎_elim, inl, inr, arith, true≢false, eqb, eq-eqb, ne_eqb, add-one, map, Bor}
+use Rattle.std.proofs.Common.{◌≡◌, ◌≢◌, ◌⊎◌, ℕ, zero, suc, ◌+◌, ◌<◌, ◌≤◌, Bool, true, false, cond, Option, None, Some, List, [], ◌∷◌, ◌++◌, length, get_or, drop, take, refl, sym, ap, ◌∙◌, subst, ⊎_elim, inl, inr, arith, true≢false, eqb, eq-eqb, ne_eqb, add-one, map, Bor, replicate}
 use Rattle.std.specs.Prelude.{◌↔◌, ◌&&◌, IsTrue}
 use Rattle.std.specs.List.{list_all}
 use Rattle.std.proofs.Math.Seq.{drop-cons, drop-length}
@@ -13,7 +13,7 @@ use Rattle.store_core.specs.Steps.{value_at, IsNextLoad, IsWhole, is_free, rows_
 use Rattle.store_core.specs.Naming.{IsMarked}
 use Rattle.store_core.specs.Lines.{IsLoadedRight, LoadsLine}
 use Rattle.store_core.specs.declared.machine.whole.Line.TheVariants.{FreePlaces, Buckets, Births, Nexts, RootCounts, Words, Roots}
-use Rattle.store_core.proofs.Basics.{choose, eqb_not}
+use Rattle.store_core.proofs.Basics.{choose, eqb_not, each_map}
 
 both : (a b : Bool) → a ≡ true → b ≡ true → cond a b false ≡ true
 both true b e f = f
@@ -118,3 +118,25 @@ rows_of z w ls width e h r l k m = h.row_words r k l (omega arith)
 
 pub roots_of : (z : Sizes) (w : Place → ℕ) (ls : List (Place × ℕ)) → IsWhole z w ls → (j : ℕ) → j < z.seats → LoadsLine w ls (Roots j) (w (RootCount j))
 roots_of z w ls h j l k m = h.roots j k l m
+
+-- a creation may begin where its content is formed and its rows are marked
+pub may_begin_by : (z : Sizes) (w : Place → ℕ) (i : ℕ) (v : View) (c : Content) (a b : List ℕ) (m : List Bool) (named' : Bool) → a ≡ c.arguments → b ≡ c.arguments
+    → (length a ≤ widest z) × IsOver c.head a × SecondIsList w c.head a → ((r : ℕ) → IsMarked m r ↔ MayName w i v r) → named' ≡ list_all (λ r. get_or m r false) b → IsTrue named' ↔ MayBegin z w i v c
+may_begin_by z w i v c a b m named' ea eb formed marked is =
+    let f = subst (λ (rs : List ℕ). (length rs ≤ widest z) × IsOver c.head rs × SecondIsList w c.head rs) ea formed in
+    let tells : named' ≡ list_all (λ r. get_or m r false) c.arguments = is ∙ ap (list_all (λ r. get_or m r false)) eb in (
+      λ t. record { few = f.0; second = f.2; over = f.1; named = each_map (IsMarked m) (MayName w i v) c.arguments (λ r h. (marked r).0 h) (all_is m c.arguments (sym tells ∙ t)) },
+      λ h. tells ∙ is_all m c.arguments (each_map (MayName w i v) (IsMarked m) c.arguments (λ r k. (marked r).1 k) h.named),
+    )
+
+-- and it may not where its content isn't formed
+pub not_formed : (z : Sizes) (w : Place → ℕ) (i : ℕ) (v : View) (c : Content) (a : List ℕ) → a ≡ c.arguments → ((length a ≤ widest z) × IsOver c.head a × SecondIsList w c.head a → ⊥) → MayBegin z w i v c → ⊥
+not_formed z w i v c a ea none h = none (subst (λ (rs : List ℕ). (length rs ≤ widest z) × IsOver c.head rs × SecondIsList w c.head rs) (sym ea) (h.few, h.over, h.second))
+
+last_of : (n : ℕ) (v : View) → replicate n v ++ v ∷ [] ≡ replicate (suc n) v
+last_of zero v = refl
+last_of (suc n) v = ap (λ (vs : List View). v ∷ vs) (last_of n v)
+
+-- one view more
+pub views_more : (n : ℕ) (v u : View) (vs us : List View) → vs ≡ replicate n v → u ≡ v → us ≡ vs ++ u ∷ [] → us ≡ replicate (n + 1) v
+views_more n v u vs us e f g = g ∙ (ap (λ (xs : List View). xs ++ u ∷ []) e ∙ (ap (λ (x : View). replicate n v ++ x ∷ []) f ∙ (last_of n v ∙ ap (λ (k : ℕ). replicate k v) (sym (add-one n)))))

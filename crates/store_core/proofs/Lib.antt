@@ -43,4 +43,5 @@ pub mod Naming
 pub mod Deciding
 pub mod Planning
 pub mod Made
+pub mod Meant
 pub mod Applied

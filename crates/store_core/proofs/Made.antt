@@ -10,6 +10,9 @@ use Rattle.store_core.specs.declared.machine.change.Sight.{Sight}
 use Rattle.store_core.specs.Planning.{state_seen, sizes_seen, view_after, lock_with, words_with, Makes}
 use Rattle.store_core.proofs.Basics.{write_same}
 
+pub two : (f : View → ℕ → View) (v u : View) (m n : ℕ) → v ≡ u → m ≡ n → f v m ≡ f u n
+two f v u m n e k = ap (λ (x : View). f x m) e ∙ ap (f u) k
+
 -- nothing but the own view
 pub made_view : (g : Sight) (x : Step) (c : Change) (v : View) → c ≡ record { lock = None; stored = None; view = v } → (after (sizes_seen g) (state_seen g) g.seat x).lock ≡ g.lock.now → (after (sizes_seen g) (state_seen g) g.seat x).words ≡ (state_seen g).words → v ≡ view_after (sizes_seen g) (state_seen g).words g.seat g.view.now x → Makes g x c
 made_view g x c v e a b d = record {

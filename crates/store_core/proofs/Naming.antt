@@ -55,6 +55,11 @@ in_at [] k l = absurd (omega arith)
 in_at (x ∷ xs) zero l = inl refl
 in_at (x ∷ xs) (suc k) l = inr (in_at xs k (omega arith))
 
+get_or_any : (xs : List ℕ) (k d : ℕ) → k < length xs → get_or xs k d ≡ get_or xs k 0
+get_or_any [] k d l = absurd (omega arith)
+get_or_any (x ∷ xs) zero d l = refl
+get_or_any (x ∷ xs) (suc k) d l = get_or_any xs k d (omega arith)
+
 -- the rows of a list are marked where each is by its place
 pub each_marked : (m : List Bool) (xs : List ℕ) → ((k : ℕ) → k < length xs → IsMarked m (get_or xs k 0)) → Each (IsMarked m) xs
 each_marked m [] h = tt
@@ -120,6 +125,9 @@ module _ (w : Place → ℕ) (i : ℕ) (v : View) where
 
   pub got_named : (k n : ℕ) → k < length v.got → n ≡ get_or v.got k 0 → MayName w i v n
   got_named k n l e = subst (MayName w i v) (sym e) (has_got (get_or v.got k 0) (in_at v.got k l))
+
+  pub got_read : (rows : List ℕ) (k m n : ℕ) → rows ≡ v.got → k < length rows → m ≡ get_or rows k m → n ≡ m → MayName w i v n
+  got_read rows k m n e l is same = got_named k n (subst (λ (rs : List ℕ). k < length rs) e l) (same ∙ (is ∙ (get_or_any rows k m l ∙ ap (λ (rs : List ℕ). get_or rs k 0) e)))
 
   -- a row that waits may be named
   pub waits_named : (m : List Bool) (ws here : List ℕ) (r : ℕ) → Halfway w i v m (ws ++ r ∷ []) here → MayName w i v r

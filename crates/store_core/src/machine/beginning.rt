@@ -1,5 +1,5 @@
 //! The step that begins a creation.
-ghost use Rattle.std.specs.Prelude.{◌≡◌, ◌⊎◌, ◌↔◌, ℕ, ◌≤◌, false, length, get_or, IfOk, IsTrue};
+ghost use Rattle.std.specs.Prelude.{◌≡◌, ◌⊎◌, ◌↔◌, ℕ, ◌<◌, ◌≤◌, false, length, get_or, IfOk, IsTrue};
 ghost use Rattle.std.specs.List.{list_all};
 ghost use Rattle.term_model.specs.declared.Head.TheVariants.{Cons};
 ghost use Rattle.store_core.specs.Calls.{IsOver};
@@ -82,7 +82,8 @@ fn is_formed(table: &Table, head: Head, rows: &[u32]) -> bool
 
 /// How many arguments a row has room for.
 pub(crate) fn widest_of(sizes: &Sizes) -> u64
-    ensures { result ≡ widest sizes.now }
+    ensures count { result ≡ widest sizes.now }
+    ensures small { result < 4294967296 }
 {
     u64::from(sizes.arity.max(2))
 }

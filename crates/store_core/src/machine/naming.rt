@@ -82,7 +82,7 @@ impl Naming {
     }
 
     // Marks the rows that the seat got.
-    #[tactic(auto, using(crate::proofs::Naming::got_named, crate::proofs::Naming::each_marked))]
+    #[tactic(auto, using(crate::proofs::Naming::each_marked))]
     fn mark_got(&mut self, table: &Table, seat: u32, view: &View) -> Result<(), Memory>
         ensures marked { OnOk result (Each (IsMarked self.new.marks.items) view.now.got) }
         ensures halfway { OnOk result (Halfway (shown table.now.sizes table.now.words.items) seat view.now self.old.marks.items self.old.waiting.items [] → Halfway (shown table.now.sizes table.now.words.items) seat view.now self.new.marks.items self.new.waiting.items []) }
@@ -95,7 +95,6 @@ impl Naming {
     }
 
     // Marks the rows that the seat has protected.
-    #[tactic(auto, using(crate::proofs::Naming::root_named))]
     fn mark_protected(&mut self, table: &Table, seat: u32, view: &View) -> Result<(), Memory>
         ensures kept { OnOk result ((r : ℕ) → IsMarked self.old.marks.items r → IsMarked self.new.marks.items r) }
         ensures marked { OnOk result ((k : ℕ) → k < shown table.now.sizes table.now.words.items (RootCount seat) → IsMarked self.new.marks.items (shown table.now.sizes table.now.words.items (Root seat k))) }
@@ -110,7 +109,6 @@ impl Naming {
     }
 
     // Marks the arguments of a row.
-    #[tactic(auto, using(crate::proofs::Naming::argument_named, crate::proofs::Naming::looked, crate::proofs::Naming::are_marked))]
     fn mark_arguments(
         &mut self,
         table: &Table,
