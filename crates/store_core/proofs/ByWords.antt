@@ -50,10 +50,10 @@ module _ (z : Sizes) (s : State) (k : CoreHolds z s) (i : ℕ) (storing : is_sto
   before : Holds z (record { lock = s.lock; words = k.kept; view = s.view }) k.meaning
   before = k.holds
 
-  word : (r j : ℕ) → k.meaning.live r ≡ true → j < length (words_of (k.meaning.content r)) → s.words (RowWord r j) ≡ get_or (words_of (k.meaning.content r)) j 0
+  pub word : (r j : ℕ) → k.meaning.live r ≡ true → j < length (words_of (k.meaning.content r)) → s.words (RowWord r j) ≡ get_or (words_of (k.meaning.content r)) j 0
   word r j l b = still (RowWord r j) refl ∙ before.chains.words r l j b
 
-  from_words : (r : ℕ) → ReachesByWords s.words r → Reaches k.kept k.meaning r
+  pub from_words : (r : ℕ) → ReachesByWords s.words r → Reaches k.kept k.meaning r
   from_words r (protected_row j q l) = subst (Reaches k.kept k.meaning) (sym (still (Root j q) refl)) (protected j q (let e = still (RootCount j) refl in omega arith))
   from_words r (argument_row t q y l) =
       let up = from_words t y in
@@ -65,7 +65,7 @@ module _ (z : Sizes) (s : State) (k : CoreHolds z s) (i : ℕ) (storing : is_sto
       let is = word t (suc (suc q)) live (enough_words c.head c.arguments q over below) in
       subst (Reaches k.kept k.meaning) (sym is) (argument t (get_or (words_of c) (suc (suc q)) 0) up (argument_at c.head c.arguments q over below))
 
-  to_words : (r : ℕ) → Reaches k.kept k.meaning r → ReachesByWords s.words r
+  pub to_words : (r : ℕ) → Reaches k.kept k.meaning r → ReachesByWords s.words r
   to_words r (protected j q l) = subst (ReachesByWords s.words) (still (Root j q) refl) (protected_row j q (let e = still (RootCount j) refl in omega arith))
   to_words a (argument t _ y inside) =
       let live = reached_live z (record { lock = s.lock; words = k.kept; view = s.view }) k.meaning before t y in

@@ -56,7 +56,7 @@ formed z w m h Cons (a ∷ []) o second live = absurd (omega arith)
 formed z w m h Cons (a ∷ b ∷ []) o second live = let l = live.1.0 in list_head (m.content b).head (m.content b).arguments (m.tree b) (w (RowWord b 0)) second (h.words b l 0 (has_words (m.content b))) (h.over b l) m.tree (h.trees b l)
 formed z w m h Cons (a ∷ b ∷ c ∷ rs) o second live = absurd (omega arith)
 
-in_at : (rs : List ℕ) (k : ℕ) → k < length rs → In (get_or rs k 0) rs
+pub in_at : (rs : List ℕ) (k : ℕ) → k < length rs → In (get_or rs k 0) rs
 in_at [] k l = absurd (omega arith)
 in_at (r ∷ rs) zero l = inl refl
 in_at (r ∷ rs) (suc k) l = inr (in_at rs k (omega arith))

@@ -45,3 +45,10 @@ pub mod Planning
 pub mod Made
 pub mod Meant
 pub mod Applied
+pub mod Marked
+pub mod MarkedPlaces
+pub mod Reached
+pub mod HasContents
+pub mod Chained
+pub mod Ending
+pub mod Outcomes

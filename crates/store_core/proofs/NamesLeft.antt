@@ -13,13 +13,13 @@ use Rattle.store_core.specs.Collection.{AreKept}
 use Rattle.store_core.specs.Steps.{is_free, rows_left, names_left}
 use Rattle.store_core.proofs.Basics.{choose, each_map, each_join, eqb_is, eqb_not}
 
-free_none : (place : ℕ → ℕ) (n r : ℕ) → is_free place n r ≡ false → (i : ℕ) → i < n → place i ≢ r
+pub free_none : (place : ℕ → ℕ) (n r : ℕ) → is_free place n r ≡ false → (i : ℕ) → i < n → place i ≢ r
 free_none place zero r e i l is = absurd (omega arith)
 free_none place (suc n) r e i l is = choose (λ (b : Bool). b ≡ false → ⊥) (eqb (place n) r) true (is_free place n r)
     (λ _ f. true≢false f)
     (λ ne f. ⊎_elim (λ below. free_none place n r f i below is) (λ past. eqb_not (place n) r ne (let same : i ≡ n = omega arith in ap place (sym same) ∙ is)) (cases_lt i n)) e
 
-free_some : (place : ℕ → ℕ) (n r : ℕ) → is_free place n r ≡ true → (i : ℕ) × (i < n) × (place i ≡ r)
+pub free_some : (place : ℕ → ℕ) (n r : ℕ) → is_free place n r ≡ true → (i : ℕ) × (i < n) × (place i ≡ r)
 free_some place zero r e = absurd (true≢false (sym e))
 free_some place (suc n) r e = choose (λ (b : Bool). b ≡ true → (i : ℕ) × (i < suc n) × (place i ≡ r)) (eqb (place n) r) true (is_free place n r)
     (λ is _. (n, omega arith, eqb_is (place n) r is))
@@ -51,7 +51,7 @@ module _ (place : ℕ → ℕ) (count : ℕ) where
       (λ _ d. let t = left_only n r d in ((let l = t.0 in omega arith), t.1))
       (λ e d. ⊎_elim (λ f. let t = left_only n r f in ((let l = t.0 in omega arith), t.1)) (λ (same : n ≡ r). (omega arith, ap (is_free place count) (sym same) ∙ e)) (Contains-push_cases (rows_left place count n) n r d)) c
 
-by_bool : (b : Bool) → (b ≡ true) ⊎ (b ≡ false)
+pub by_bool : (b : Bool) → (b ≡ true) ⊎ (b ≡ false)
 by_bool true = inl refl
 by_bool false = inr refl
 

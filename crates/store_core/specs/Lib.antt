@@ -25,6 +25,9 @@ pub mod Table
 pub mod Worked
 pub mod Running
 pub mod ByView
+pub mod RowLists
+pub mod Marks
+pub mod MarkedChains
 pub mod Ending
 pub mod StoreValue
 pub mod StoreInside

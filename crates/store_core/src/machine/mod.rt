@@ -8,13 +8,20 @@ mod contents;
 mod copies;
 mod creation;
 mod ending;
+#[cfg(test)]
+mod ending_tests;
 pub(crate) mod fresh;
 mod locking;
+mod marked_chains;
+mod marking;
 mod moves;
 mod naming;
 pub(crate) mod planning;
 mod protecting;
+mod reached;
 mod rooting;
+mod row_contents;
+mod row_lists;
 mod rows;
 pub(crate) mod table;
 #[cfg(test)]
