@@ -1,5 +1,6 @@
 // A store that runs, on plain data.
-ghost use Rattle.std.specs.Prelude.{◌≡◌, IfOk, OnErr, MatchBool};
+ghost use Rattle.std.specs.Prelude.{◌≡◌, IfOk, OnErr, MatchBool, slice_get};
+ghost use Rattle.std.specs.Option.{option_copied};
 ghost use Rattle.store_core.specs.StoreValue.{MayMake, IsNew, Stepped, Stayed, Replays};
 
 use crate::machine::fresh::new_views;
@@ -46,6 +47,20 @@ impl StoreState {
             lock: LockState::new(sizes.seats),
             views,
         })
+    }
+
+    /// What a seat knows; nothing of one that isn't there.
+    pub fn view(&self, seat: u32) -> Option<&View>
+        ensures { option_copied result ≡ slice_get self.now.views seat }
+    {
+        self.views.get(seat as usize)
+    }
+
+    /// The lock.
+    pub fn lock(&self) -> &LockState
+        ensures { result.now ≡ self.now.lock }
+    {
+        &self.lock
     }
 
     /// Makes one step of a seat. False exactly where the step is out of place, as that of a seat that isn't there; the store is then

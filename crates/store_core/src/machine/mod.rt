@@ -19,6 +19,8 @@ mod naming;
 pub(crate) mod planning;
 mod protecting;
 mod reached;
+#[cfg(test)]
+mod replays;
 mod rooting;
 mod row_contents;
 mod row_lists;
