@@ -76,14 +76,14 @@ fn plan_publish(sight: &Sight, bucket: u32, old: u32, new: u32) -> Result<Option
 pub(crate) fn planned(
     table: &Table,
     lock: &LockState,
-    views: &[View],
+    views: &Vec<View>,
     seat: u32,
     step: StoreStep,
 ) -> Result<Option<Change>, Memory>
     requires seat { seat < table.now.sizes.seats }
-    requires views { length views.now ≡ table.now.sizes.seats }
-    requires holds { StoreHolds table.now.sizes (state_by table.now.sizes lock.now table.now.words.items views.now) }
-    ensures { Planned table.now.sizes (state_by table.now.sizes lock.now table.now.words.items views.now) seat step result }
+    requires views { length views.now.items ≡ table.now.sizes.seats }
+    requires holds { StoreHolds table.now.sizes (state_by table.now.sizes lock.now table.now.words.items views.now.items) }
+    ensures { Planned table.now.sizes (state_by table.now.sizes lock.now table.now.words.items views.now.items) seat step result }
 {
     let sight = Sight {
         table,
@@ -128,15 +128,15 @@ fn has_place(table: &Table, stored: &Option<(Place, u64)>) -> bool
 pub(crate) fn commit(
     table: &mut Table,
     lock: &mut LockState,
-    views: &mut [View],
+    views: &mut Vec<View>,
     seat: u32,
     change: Change,
 )
-    requires seat { seat < length views.old }
+    requires seat { seat < length views.old.items }
     requires place { IsInside table.old.sizes change.stored }
     ensures sizes { table.new.sizes ≡ table.old.sizes }
-    ensures views { length views.new ≡ length views.old }
-    ensures state { state_by table.old.sizes lock.new table.new.words.items views.new ≡ changed (state_by table.old.sizes lock.old table.old.words.items views.old) seat change }
+    ensures views { length views.new.items ≡ length views.old.items }
+    ensures state { state_by table.old.sizes lock.new table.new.words.items views.new.items ≡ changed (state_by table.old.sizes lock.old table.old.words.items views.old.items) seat change }
 {
     let Change {
         lock: next,
