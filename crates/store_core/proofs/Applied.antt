@@ -1,6 +1,6 @@
 -- What a store that runs keeps, and lists of its steps.
-use Rattle.std.proofs.Common.{◌≡◌, ◌≢◌, ℕ, zero, suc, ◌+◌, ◌*◌, ◌<◌, ◌≤◌, ◌^◌, Bool, true, false, cond, Option, None, Some, List, [], ◌∷◌, ◌++◌, length, get_or, take, drop, replicate, add-one, refl, sym, ap, ◌∙◌, subst, ⊎_elim, arith, ltb-true, ltb-false}
-use Rattle.std.specs.Prelude.{nat_lt}
+use Rattle.std.proofs.Common.{◌≡◌, ◌≢◌, ℕ, zero, suc, ◌+◌, ◌*◌, ◌<◌, ◌≤◌, ◌^◌, Bool, true, false, cond, Option, None, Some, List, [], ◌∷◌, ◌++◌, length, get_or, take, drop, replicate, add-one, refl, sym, ap, ◌∙◌, subst, ⊎_elim, arith, ltb-true, ltb-false, true≢false}
+use Rattle.std.specs.Prelude.{nat_lt, MatchBool}
 use Rattle.std.proofs.lemmas.Bool.{cases_lt}
 use Rattle.std.proofs.lemmas.List.{take-append-drop}
 use Rattle.std.proofs.Math.Seq.{take-suc, drop-cons}
@@ -163,3 +163,19 @@ pub replays_stop : (z : Sizes) (xs : List (ℕ × StoreStep)) (k : ℕ) (t u : S
 replays_stop z xs k t u y l is same path h = λ s all.
     leads_stuck z (take k xs) (drop (suc k) xs) (start_of z) (state_of t) s y.0 y.1 path (λ p. h.place (subst (λ (a : Sizes). IsInPlace a (state_of t) y.0 y.1) (sym same) p))
     (subst (λ (ys : List (ℕ × StoreStep)). Leads z (start_of z) ys s) (sym (take-append-drop k xs) ∙ ap (λ (ys : List (ℕ × StoreStep)). take k xs ++ ys) (drop-cons xs k y l ∙ ap (λ (x : ℕ × StoreStep). x ∷ drop (suc k) xs) (sym is))) all)
+
+-- what was answered
+pub if_made : (b : Bool) (P Q : Type 0) → MatchBool b P Q → b ≡ true → P
+if_made true P Q h e = h
+if_made false P Q h e = absurd (true≢false (sym e))
+
+pub if_not_made : (b : Bool) (P Q : Type 0) → MatchBool b P Q → b ≡ false → Q
+if_not_made true P Q h e = absurd (true≢false e)
+if_not_made false P Q h e = h
+
+-- all of a list
+pub take_whole : (xs : List (ℕ × StoreStep)) (n : ℕ) → length xs ≤ n → take n xs ≡ xs
+take_whole [] zero l = refl
+take_whole [] (suc n) l = refl
+take_whole (x ∷ xs) zero l = absurd (omega arith)
+take_whole (x ∷ xs) (suc n) l = ap (λ (ys : List (ℕ × StoreStep)). x ∷ ys) (take_whole xs n (omega arith))

@@ -82,6 +82,11 @@ visits_none m ws = record { kept = λ q h. h; less = omega arith }
 pub visits_on : (a b c : List Bool) (ws xs ys : List ℕ) → Visits a b ws xs → Visits b c xs ys → Visits a c ws ys
 visits_on a b c ws xs ys p q = record { kept = λ r h. q.kept r (p.kept r h); less = let x = p.less in let y = q.less in omega arith }
 
+-- a list without items
+pub no_items : (xs : List ℕ) → length xs ≡ 0 → xs ≡ []
+no_items [] e = refl
+no_items (x ∷ xs) e = absurd (omega arith)
+
 module _ (w : Place → ℕ) (i : ℕ) (v : View) where
   pub visited : (m : List Bool) (ws here : List ℕ) (r : ℕ) → r < length m → MayName w i v r → Halfway w i v m ws here → Halfway w i v (set m r true) (ws ++ r ∷ []) here
   visited m ws here r l may h = record {

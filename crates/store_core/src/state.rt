@@ -3,6 +3,7 @@ ghost use Rattle.std.specs.Prelude.{◌≡◌, IfOk, OnErr, MatchBool, slice_get
 ghost use Rattle.std.specs.Option.{option_copied};
 ghost use Rattle.store_core.specs.StoreValue.{MayMake, IsNew, Stepped, Stayed, Replays};
 
+use crate::machine::copies::copy_step;
 use crate::machine::fresh::new_views;
 use crate::machine::planning::{commit, planned};
 use crate::machine::table::Table;
@@ -99,7 +100,8 @@ pub fn replay(
 {
     let mut store = StoreState::new(alloc, sizes)?;
     for (seat, step) in steps {
-        if !store.apply(*seat, step.clone()?)? {
+        let made = store.apply(*seat, copy_step(step)?)?;
+        if !made {
             return Ok(None);
         }
     }

@@ -5,7 +5,7 @@ mod change;
 mod claiming;
 mod collecting;
 mod contents;
-mod copies;
+pub(crate) mod copies;
 mod creation;
 mod ending;
 #[cfg(test)]

@@ -1,8 +1,8 @@
-use Rattle.std.proofs.Common.{List, ℕ, ◌≡◌, ◌++◌, ◌∷◌, [], ◌<◌, subst, sym}
+use Rattle.std.proofs.Common.{List, ℕ, ◌≡◌, ◌++◌, ◌∷◌, [], length, subst, arith}
 use Rattle.store_core.specs.Words.{Root}
 use Rattle.store_core.specs.Shown.{shown}
 use Rattle.store_core.specs.Naming.{Halfway}
-use Rattle.store_core.proofs.Naming.{waits_named, taken, got_kept, named}
+use Rattle.store_core.proofs.Naming.{waits_named, taken, got_kept, named, no_items}
 use Rattle.store_core.proofs.machine.naming.named_rows.Goals as goal
 
 pub mark_arguments-requires : goal.mark_arguments-requires
@@ -22,4 +22,8 @@ loop-row-preserved c =
     }
 
 pub returns : goal.returns
-returns c = let a = c.in_default.ensures.items in let b = c.in_default.not-Some in let d = c.in_default.is in let e = c.in_default.ensures.cases in ?
+returns c =
+    let w = shown c.args.table.now.sizes c.args.table.now.words.items in
+    let none : length c.loop-row.naming.waiting.items ≡ 0 = (let a = c.loop-row.naming.waiting.ok.0 in let e = c.in_default.ensures.cases.0 in omega arith) in
+    let half = subst (λ (ws : List ℕ). Halfway w c.args.seat c.args.view.now c.loop-row.naming.marks.items ws []) (no_items c.loop-row.naming.waiting.items none) c.loop-row.invariant.halfway in
+    named w c.args.seat c.args.view.now c.loop-row.naming.marks.items half c.loop-row.invariant.got c.loop-row.invariant.roots

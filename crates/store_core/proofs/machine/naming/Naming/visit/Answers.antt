@@ -1,5 +1,4 @@
-use Rattle.std.proofs.Common.{List, ℕ, ◌≡◌, ◌++◌, ◌∷◌, [], ◌<◌, Bool, true, false, length, get_or, set, sym, subst, arith, rules}
-use Rattle.std.proofs.lemmas.Grind.{common_steps}
+use Rattle.std.proofs.Common.{List, ℕ, ◌≡◌, ◌++◌, ◌∷◌, [], ◌<◌, Bool, true, false, length, get_or, set, sym, subst, arith}
 use Rattle.store_core.specs.Machine.{MayName}
 use Rattle.store_core.specs.Shown.{shown}
 use Rattle.store_core.specs.Naming.{Visits, Halfway}
@@ -9,7 +8,7 @@ use Rattle.store_core.proofs.machine.naming.Naming.visit.Goals as goal
 pub returns-clause-visits : goal.returns-clause-visits
 returns-clause-visits c =
     let there : c.in_ok-row.row < length c.args.self.now.marks.items = (let e = c.args.self.now.marks.ok.0 in let l = c.len.ensures in omega arith) in
-    let off : get_or c.args.self.now.marks.items c.in_ok-row.row false ≡ false = first_of (sym (subst (λ (x : Bool). x ≡ get_or c.args.self.now.marks.items c.in_ok-row.row x) c.if-index.false c.index.ensures), search rules, grind (arith, common_steps)) in
+    let off : get_or c.args.self.now.marks.items c.in_ok-row.row false ≡ false = sym (subst (λ (x : Bool). x ≡ get_or c.args.self.now.marks.items c.in_ok-row.row x) c.if-index.false c.index.ensures) in
     subst (λ (ws : List ℕ). Visits c.args.self.now.marks.items (set c.args.self.now.marks.items c.in_ok-row.row true) c.args.self.now.waiting.items ws) (sym c.in_ok-push.ensures.items) (visits_one c.args.self.now.marks.items c.in_ok-row.row c.args.self.now.waiting.items there off)
 
 pub returns-clause-halfway : goal.returns-clause-halfway
