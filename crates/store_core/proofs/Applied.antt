@@ -172,10 +172,3 @@ if_made false P Q h e = absurd (true≢false (sym e))
 pub if_not_made : (b : Bool) (P Q : Type 0) → MatchBool b P Q → b ≡ false → Q
 if_not_made true P Q h e = absurd (true≢false e)
 if_not_made false P Q h e = h
-
--- all of a list
-pub take_whole : (xs : List (ℕ × StoreStep)) (n : ℕ) → length xs ≤ n → take n xs ≡ xs
-take_whole [] zero l = refl
-take_whole [] (suc n) l = refl
-take_whole (x ∷ xs) zero l = absurd (omega arith)
-take_whole (x ∷ xs) (suc n) l = ap (λ (ys : List (ℕ × StoreStep)). x ∷ ys) (take_whole xs n (omega arith))

@@ -1,9 +1,10 @@
 use Rattle.std.proofs.Common.{◌≡◌, ◌<◌, Bool, true, false, List, ℕ, length, take, subst, sym, rules, arith}
 use Rattle.std.proofs.lemmas.Grind.{common_steps}
+use Rattle.std.proofs.lemmas.List.{take_all}
 use Rattle.store_core.specs.StoreSteps.{Leads}
 use Rattle.store_core.specs.StoreValue.{start_of, state_of, Stepped, Stayed}
 use Rattle.store_core.specs.declared.step.StoreStep.{StoreStep}
-use Rattle.store_core.proofs.Applied.{replays_more, replays_stop, if_made, if_not_made, take_whole}
+use Rattle.store_core.proofs.Applied.{replays_more, replays_stop, if_made, if_not_made}
 use Rattle.store_core.proofs.state.replay.Goals as goal
 
 pub returns-then-not-made : goal.returns-then-not-made
@@ -23,4 +24,4 @@ loop-seat-preserved c =
     (subst (λ (x : StoreStep). Stepped c.loop-seat-item.result.0 x c.loop-seat.store c.apply.new.self) c.in_ok-copy_step.ensures stepped)
 
 pub returns : goal.returns
-returns c = (c.loop-seat.invariant.0, subst (λ (xs : List (ℕ × StoreStep)). Leads c.args.sizes (start_of c.args.sizes) xs (state_of c.loop-seat.store)) (take_whole c.args.steps.now c.loop-seat.seat-index (let t = c.loop-seat-test.false in omega arith)) c.loop-seat.invariant.1)
+returns c = (c.loop-seat.invariant.0, subst (λ (xs : List (ℕ × StoreStep)). Leads c.args.sizes (start_of c.args.sizes) xs (state_of c.loop-seat.store)) (take_all c.loop-seat.seat-index c.args.steps.now (let t = c.loop-seat-test.false in omega arith)) c.loop-seat.invariant.1)
