@@ -33,11 +33,6 @@ marked_only (x ∷ m) zero (suc r) h = inr h
 marked_only (x ∷ m) (suc k) zero h = inr h
 marked_only (x ∷ m) (suc k) (suc r) h = ⊎_elim (λ e. inl (ap suc e)) (λ n. inr n) (marked_only m k r h)
 
-pub none_marked : (n r : ℕ) → IsMarked (replicate n false) r → ⊥
-none_marked zero r h = true≢false (sym h)
-none_marked (suc n) zero h = true≢false (sym h)
-none_marked (suc n) (suc r) h = none_marked n r h
-
 pub in_left : (r : ℕ) (xs ys : List ℕ) → In r xs → In r (xs ++ ys)
 in_left r [] ys h = absurd h
 in_left r (x ∷ xs) ys h = ⊎_elim (λ e. inl e) (λ k. inr (in_left r xs ys k)) h
@@ -73,15 +68,6 @@ length_last (x ∷ ws) r = ap suc (length_last ws r)
 pub visits_one : (m : List Bool) (r : ℕ) (ws : List ℕ) → r < length m → get_or m r false ≡ false → Visits m (set m r true) ws (ws ++ r ∷ [])
 visits_one m r ws l e = record { kept = λ q h. marked_kept m r q h; less = let a = unmarked_set m r l e in let b = length_last ws r in omega arith }
 
-pub marks_one : (m : List Bool) (r : ℕ) → r < length m → IsMarked (set m r true) r
-marks_one m r l = marked_at m r l
-
-pub visits_none : (m : List Bool) (ws : List ℕ) → Visits m m ws ws
-visits_none m ws = record { kept = λ q h. h; less = omega arith }
-
-pub visits_on : (a b c : List Bool) (ws xs ys : List ℕ) → Visits a b ws xs → Visits b c xs ys → Visits a c ws ys
-visits_on a b c ws xs ys p q = record { kept = λ r h. q.kept r (p.kept r h); less = let x = p.less in let y = q.less in omega arith }
-
 -- a list without items
 pub no_items : (xs : List ℕ) → length xs ≡ 0 → xs ≡ []
 no_items [] e = refl
@@ -96,9 +82,6 @@ module _ (w : Place → ℕ) (i : ℕ) (v : View) where
         (λ n. ⊎_elim (λ a. inl (⊎_elim (λ b. inl (in_left q ws (r ∷ []) b)) (λ b. inr b) a)) (λ a. inr (λ j l. marked_kept m r (w (RowWord q (suc (suc j)))) (a j l))) (h.closed q n))
         (marked_only m r q k);
   }
-
-  pub begun : (m : List Bool) → ((r : ℕ) → IsMarked m r → ⊥) → Halfway w i v m [] []
-  begun m none = record { sound = λ r h. absurd (none r h); waits = λ r h. absurd h; closed = λ r h. absurd (none r h) }
 
   pub taken : (m : List Bool) (ws : List ℕ) (r : ℕ) → Halfway w i v m (ws ++ r ∷ []) [] → Halfway w i v m ws (r ∷ [])
   taken m ws r h = record {
