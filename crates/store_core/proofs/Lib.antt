@@ -39,6 +39,12 @@ pub mod Ends
 pub mod Worked
 pub mod Showing
 pub mod TreesKept
+pub mod Naming
+pub mod Deciding
+pub mod Planning
+pub mod Made
+pub mod Meant
+pub mod Applied
 pub mod Marked
 pub mod MarkedPlaces
 pub mod Reached

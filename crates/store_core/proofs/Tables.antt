@@ -2,7 +2,7 @@
 use Rattle.std.proofs.Common.{◌≡◌, ◌≢◌, ℕ, zero, suc, ◌+◌, ◌<◌, Bool, cond, List, [], ◌∷◌, length, get_or, refl, sym, ap, ◌∙◌, subst, arith, eqb}
 use Rattle.std.specs.Prelude.{slice_set, replicate}
 use mathlib.Core.Path.{fun_ext}
-use Rattle.store_core.specs.Words.{Base, FreeCount, Claim, InUse, FreePlace, Bucket, RootCount, Root, same_place}
+use Rattle.store_core.specs.Words.{Base, FreeCount, Claim, InUse, FreePlace, Bucket, RowWord, Birth, Next, RootCount, Root, same_place}
 use Rattle.store_core.specs.Running.{IsBegun}
 use Rattle.store_core.proofs.Basics.{choose, same_is, eqb_is, eqb_not}
 use Rattle.std.proofs.lemmas.List.{get_or_read}
@@ -37,7 +37,7 @@ shows_none z n p = choose (λ (k : ℕ). k ≡ 0) (in_table z p) (get_or (replic
 
 -- a new store with no free place yet
 pub begun_first : (z : Sizes) (w : Place → ℕ) → ((p : Place) → w p ≡ 0) → IsBegun z 0 (write (write (write w Base z.first) FreeCount z.rows) InUse z.start)
-begun_first z w h = record { base = refl; count = refl; claim = h Claim; in_use = refl; place = λ i l. absurd (omega arith); bucket = λ b. h (Bucket b); root_count = λ j. h (RootCount j); root = λ j k. h (Root j k) }
+begun_first z w h = record { base = refl; count = refl; claim = h Claim; in_use = refl; place = λ i l. absurd (omega arith); bucket = λ b. h (Bucket b); root_count = λ j. h (RootCount j); root = λ j k. h (Root j k); word = λ r k. h (RowWord r k); birth = λ r. h (Birth r); next = λ r. h (Next r) }
 
 -- one free place more
 pub begun_next : (z : Sizes) (w : Place → ℕ) (n : ℕ) → IsBegun z n w → IsBegun z (n + 1) (write w (FreePlace n) n)
@@ -50,6 +50,9 @@ begun_next z w n h = record {
   bucket = h.bucket;
   root_count = h.root_count;
   root = h.root;
+  word = h.word;
+  birth = h.birth;
+  next = h.next;
 }
 
 -- the three stores of a new store before its free places

@@ -29,3 +29,9 @@ pub mod RowLists
 pub mod Marks
 pub mod MarkedChains
 pub mod Ending
+pub mod StoreValue
+pub mod StoreInside
+pub mod Planning
+pub mod NextActs
+pub mod Naming
+pub mod Lines

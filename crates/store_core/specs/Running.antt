@@ -1,6 +1,6 @@
 -- The machine that runs: its words at the start, and what one action of a creation changes.
 use Rattle.std.specs.Prelude.{◌≡◌, ℕ, ◌<◌, List}
-use Rattle.store_core.specs.Words.{Place, Base, FreeCount, Claim, InUse, FreePlace, Bucket, RootCount, Root, write}
+use Rattle.store_core.specs.Words.{Place, Base, FreeCount, Claim, InUse, FreePlace, Bucket, RowWord, Birth, Next, RootCount, Root, write}
 use Rattle.store_core.specs.Calls.{View}
 use Rattle.store_core.specs.Machine.{Sizes, action}
 use Rattle.store_core.specs.Shown.{shown}
@@ -15,6 +15,9 @@ pub record IsBegun (z : Sizes) (n : ℕ) (w : Place → ℕ) : Type 0 where
   pub bucket : (b : ℕ) → w (Bucket b) ≡ 0
   pub root_count : (j : ℕ) → w (RootCount j) ≡ 0
   pub root : (j k : ℕ) → w (Root j k) ≡ 0
+  pub word : (r k : ℕ) → w (RowWord r k) ≡ 0
+  pub birth : (r : ℕ) → w (Birth r) ≡ 0
+  pub next : (r : ℕ) → w (Next r) ≡ 0
 
 -- the next action of a seat's creation: on the words of the table, and on its view
 pub record Acts (z : Sizes) (had has : List ℕ) (v w : View) : Type 0 where

@@ -3,11 +3,13 @@
 
 mod law;
 mod machine;
+mod state;
 mod step;
 mod view;
 
 pub use law::{
     collections_end, creations_end, own_view_permits, steps_keep, words_are_shown, worked_runs,
 };
+pub use state::{StoreState, replay};
 pub use step::StoreStep;
 pub use view::{Call, Content, KnownWord, Passed, Place, Refusal, Sizes, Stay, View};

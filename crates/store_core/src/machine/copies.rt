@@ -1,6 +1,7 @@
-//! A copy of what a seat knows.
+//! Copies of what a seat knows, and of its steps.
 ghost use Rattle.std.specs.Prelude.{◌≡◌, IfOk};
 
+use crate::step::StoreStep;
 use crate::view::{Call, Content, KnownWord, Passed, Place, Refusal, View};
 use history_core::Entry;
 use std::alloc::AllocError;
@@ -81,7 +82,9 @@ fn copy_content(content: &Content) -> Result<Content, AllocError>
     content.clone()
 }
 
-fn copy_loads(loads: &LinkedList<(Place, u64)>) -> Result<LinkedList<(Place, u64)>, AllocError>
+pub(crate) fn copy_loads(
+    loads: &LinkedList<(Place, u64)>,
+) -> Result<LinkedList<(Place, u64)>, AllocError>
     ensures { IfOk result (λ l. l ≡ loads.now) }
 {
     loads.clone()
@@ -115,4 +118,60 @@ fn copy_refusals(refusals: &LinkedList<Refusal>) -> Result<LinkedList<Refusal>, 
     ensures { IfOk result (λ r. r ≡ refusals.now) }
 {
     refusals.clone()
+}
+
+/// The same step.
+pub(crate) fn copy_step(step: &StoreStep) -> Result<StoreStep, AllocError>
+    ensures { IfOk result (λ s. s ≡ step.now) }
+{
+    match step {
+        StoreStep::Lock(step) => Ok(StoreStep::Lock(*step)),
+        StoreStep::LoadBase => Ok(StoreStep::LoadBase),
+        StoreStep::LoadFreeCount => Ok(StoreStep::LoadFreeCount),
+        StoreStep::LoadClaim => Ok(StoreStep::LoadClaim),
+        StoreStep::LoadInUse => Ok(StoreStep::LoadInUse),
+        StoreStep::Draw => Ok(StoreStep::Draw),
+        StoreStep::LoadFreePlace(index) => Ok(StoreStep::LoadFreePlace(*index)),
+        StoreStep::StoreDrawn { row, word, value } => Ok(StoreStep::StoreDrawn {
+            row: *row,
+            word: *word,
+            value: *value,
+        }),
+        StoreStep::LoadBucket { bucket, content } => Ok(StoreStep::LoadBucket {
+            bucket: *bucket,
+            content: copy_content(content)?,
+        }),
+        StoreStep::LoadRow { row, word } => Ok(StoreStep::LoadRow {
+            row: *row,
+            word: *word,
+        }),
+        StoreStep::Publish { bucket, old, new } => Ok(StoreStep::Publish {
+            bucket: *bucket,
+            old: *old,
+            new: *new,
+        }),
+        StoreStep::StoreRoot { place, row } => Ok(StoreStep::StoreRoot {
+            place: *place,
+            row: *row,
+        }),
+        StoreStep::StoreRootCount(count) => Ok(StoreStep::StoreRootCount(*count)),
+        StoreStep::LoadRoot(place) => Ok(StoreStep::LoadRoot(*place)),
+        StoreStep::LoadAny(place) => Ok(StoreStep::LoadAny(*place)),
+        StoreStep::StoreNext { row, value } => Ok(StoreStep::StoreNext {
+            row: *row,
+            value: *value,
+        }),
+        StoreStep::StoreBucket { bucket, value } => Ok(StoreStep::StoreBucket {
+            bucket: *bucket,
+            value: *value,
+        }),
+        StoreStep::StoreFreePlace { index, value } => Ok(StoreStep::StoreFreePlace {
+            index: *index,
+            value: *value,
+        }),
+        StoreStep::StoreFreeCount(value) => Ok(StoreStep::StoreFreeCount(*value)),
+        StoreStep::StoreBase(value) => Ok(StoreStep::StoreBase(*value)),
+        StoreStep::StoreInUse(value) => Ok(StoreStep::StoreInUse(*value)),
+        StoreStep::StoreClaim(value) => Ok(StoreStep::StoreClaim(*value)),
+    }
 }

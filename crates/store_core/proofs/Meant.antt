@@ -1,0 +1,36 @@
+-- The end of a collection by what it has loaded, and plans that are handed on.
+use Rattle.std.proofs.Common.{◌≡◌, ◌≢◌, ℕ, true≢false, true, List, None, Some, refl, sym, ap, ◌∙◌, subst}
+use Rattle.std.specs.Prelude.{Option, Result, Ok, Err, IfOk, MatchOption}
+use Rattle.faults.specs.declared.Memory.{Memory}
+use Rattle.lock_core.specs.declared.parts.LockStep.{LockStep}
+use Rattle.lock_core.specs.declared.parts.LockStep.TheVariants.{Raise, Look, Lower, Take, Ask, Peek, Unask, Give}
+use Rattle.store_core.specs.Words.{Place}
+use Rattle.store_core.specs.Calls.{Call, Storing, Stay, Away, Based, Ready, Leaving, View}
+use Rattle.store_core.specs.Machine.{Sizes, State, Step, LockAlone, LowerShared, UnaskSeat, GiveGranted, StoreClaim}
+use Rattle.store_core.specs.Steps.{is_storing, loads, MayEnd, Permits}
+use Rattle.store_core.specs.Ending.{IsEnding}
+use Rattle.store_core.specs.StoreHolds.{StoreHolds}
+use Rattle.store_core.specs.StoreSteps.{lock_meant}
+use Rattle.store_core.specs.declared.step.StoreStep.TheVariants as step
+use Rattle.store_core.specs.declared.machine.change.Change.{Change}
+use Rattle.store_core.specs.declared.machine.change.Sight.{Sight}
+use Rattle.store_core.specs.Planning.{Plans, PlansIf, PlansStep, PlansEnd, PlansClaim, IsSeen, sizes_seen, state_seen, Allows, Makes}
+
+-- the end of a collection by what it has loaded is one of the whole state
+pub claims : (g : Sight) (ls ss : List (Place × ℕ)) (n : ℕ) (o : Option Change) → g.view.now.call ≡ Storing ls ss → PlansEnd g ls n (Ok o) → PlansClaim g n (Ok o)
+claims g ls ss n None e h = λ s k seen. let is : (s.view g.seat).call ≡ Storing ls ss = ap (λ (v : View). v.call) seen.view ∙ e in
+    let ending : IsEnding (sizes_seen g) (state_seen g).words ls s g.seat = record { holds = k; words = seen.words; storing = ap is_storing is; loaded = ap loads is } in
+    λ p. h s ending (p.0.1, p.1)
+claims g ls ss n (Some c) e h = λ s k seen. let is : (s.view g.seat).call ≡ Storing ls ss = ap (λ (v : View). v.call) seen.view ∙ e in
+    let ending : IsEnding (sizes_seen g) (state_seen g).words ls s g.seat = record { holds = k; words = seen.words; storing = ap is_storing is; loaded = ap loads is } in
+    let q = h s ending in ((ap is_storing is, q.0), q.1, q.2)
+
+-- a plan that is handed on
+pub ok_map : {A E : Type 0} (r : Result A E) (P Q : A → Type 0) → IfOk r P → ((a : A) → P a → Q a) → IfOk r Q
+ok_map (Ok a) P Q h f = f a h
+ok_map (Err e) P Q h f = tt
+
+-- the plan of the end is one of the claim's store
+pub claims_all : (g : Sight) (ls ss : List (Place × ℕ)) (n : ℕ) (r : Result (Option Change) Memory) → g.view.now.call ≡ Storing ls ss → PlansEnd g ls n r → PlansClaim g n r
+claims_all g ls ss n (Ok o) e h = claims g ls ss n o e h
+claims_all g ls ss n (Err x) e h = tt

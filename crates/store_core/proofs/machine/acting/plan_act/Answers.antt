@@ -1,0 +1,18 @@
+use Rattle.std.proofs.Common.{◌≡◌, ℕ, suc, ◌-◌, refl, sym, ap, subst, ◌∙◌, rules, arith}
+use Rattle.std.proofs.lemmas.Grind.{common_steps}
+use Rattle.store_core.specs.Words.{Place, Base, InUse, Claim, Root, RowWord, Bucket, write}
+use Rattle.store_core.specs.Calls.{View}
+use Rattle.store_core.specs.Machine as machine
+use Rattle.store_core.specs.Machine.{action, begins, based, ready, with_got, knowing, with_call}
+use Rattle.store_core.specs.Planning.{state_seen}
+use Rattle.store_core.proofs.Basics.{write_same}
+use Rattle.store_core.proofs.Made.{two, made_view, made_word, went_view}
+use Rattle.store_core.proofs.machine.acting.plan_act.Goals as goal
+
+pub returns-then-word-found : goal.returns-then-word-found
+returns-then-word-found c = (
+  first_of (search rules, grind (arith, common_steps)),
+  first_of (search rules, grind (arith, common_steps)),
+  went_view c.args.sight.now c.of_view.result c.in_ok-place.place c.load-found.result c.in_ok-word.word c.in_ok-view.view c.in_ok-place.ensures c.load-found.ensures c.in_ok-word.ensures
+      (c.in_ok-view.ensures ∙ ap (λ (v : View). (action v v.call).moved c.load-found.result) c.in_ok-copy.ensures) c.if-word-found.true c.of_view.ensures,
+)

@@ -1,0 +1,8 @@
+use Rattle.std.proofs.Common.{◌≡◌}
+use Rattle.store_core.specs.Words.{FreePlace}
+use Rattle.store_core.specs.Steps.{rows_left}
+use Rattle.store_core.specs.Shown.{shown}
+use Rattle.store_core.proofs.machine.claiming.names_left.Given as goal
+
+abbrev pub invariant-loop-row : goal.invariant-loop-row
+invariant-loop-row l = l.kept ≡ rows_left (λ i. shown l.table.sizes l.table.words.items (FreePlace i)) l.count l.row

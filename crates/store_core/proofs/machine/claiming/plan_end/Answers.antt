@@ -1,0 +1,24 @@
+use Rattle.std.proofs.Common.{◌≡◌, ℕ, suc, ◌-◌, refl, sym, ap, subst, ◌∙◌, rules, arith}
+use Rattle.std.proofs.lemmas.Grind.{common_steps}
+use Rattle.store_core.specs.Words.{Place, Base, InUse, Claim, Root, RowWord, Bucket, write}
+use Rattle.store_core.specs.Calls.{View}
+use Rattle.store_core.specs.Machine as machine
+use Rattle.store_core.specs.Machine.{action, begins, based, ready, with_got, knowing, with_call}
+use Rattle.store_core.specs.Planning.{state_seen}
+use Rattle.store_core.proofs.Basics.{write_same}
+use Rattle.store_core.proofs.Made.{two, made_view, made_word, went_view}
+use Rattle.std.specs.Prelude.{IsTrue, pred}
+use Rattle.store_core.specs.Steps.{names_left}
+use Rattle.store_core.specs.Collection.{collected}
+use Rattle.store_core.proofs.machine.claiming.plan_end.Goals as goal
+
+pub returns : goal.returns
+returns c = λ s ending.
+    let w = (state_seen c.args.sight.now).words in
+    let yes : IsTrue c.in_ok-may_end.field-0 = first_of (search rules, grind (arith, common_steps)) in (
+      (c.in_ok-may_end.ensures s c.args.sight.now.seat ending).0 yes,
+      first_of (search rules, grind (arith, common_steps)),
+      made_word c.args.sight.now machine.StoreClaim c.of_word.result Claim 0 c.in_ok-view.view c.of_word.ensures refl refl
+          (c.in_ok-view.ensures ∙ (ap (λ (v : View). collected v ((state_seen c.args.sight.now).words Base) (pred ((state_seen c.args.sight.now).words Base)) ((state_seen c.args.sight.now).words InUse) c.in_ok-kept.kept) c.in_ok-copy.ensures
+          ∙ ap (collected c.args.sight.now.view.now (w Base) (pred (w Base)) (w InUse)) c.in_ok-kept.ensures)),
+    )

@@ -1,0 +1,21 @@
+use Rattle.std.proofs.Common.{◌≡◌, ℕ, suc, ◌-◌, refl, sym, ap, subst, ◌∙◌, rules, arith}
+use Rattle.std.proofs.lemmas.Grind.{common_steps}
+use Rattle.store_core.specs.Words.{Place, Base, InUse, Claim, Root, RowWord, Bucket, write}
+use Rattle.store_core.specs.Calls.{View}
+use Rattle.store_core.specs.Machine as machine
+use Rattle.store_core.specs.Machine.{action, begins, based, ready, with_got, knowing, with_call}
+use Rattle.store_core.specs.Planning.{state_seen}
+use Rattle.store_core.proofs.Basics.{write_same}
+use Rattle.store_core.proofs.Made.{two, made_view, made_word, went_view}
+use Rattle.std.proofs.Common.{List, ◌++◌, ◌∷◌, []}
+use Rattle.store_core.specs.Steps.{loading, loads}
+use Rattle.store_core.proofs.machine.collecting.plan_load_any.Goals as goal
+
+pub returns : goal.returns
+returns c =
+    let g = c.args.sight.now in (
+      first_of (search rules, grind (arith, common_steps)),
+      tt,
+      made_view g (machine.LoadAny c.args.place) c.of_view.result c.in_ok-view.view c.of_view.ensures refl (write_same (state_seen c.args.sight.now).words c.args.place)
+          (c.in_ok-view.ensures ∙ ap (λ (n : ℕ). with_call c.args.sight.now.view.now (loading c.args.sight.now.table.now.sizes (loads c.args.sight.now.view.now.call ++ (c.args.place, n) ∷ []))) c.load-value.ensures),
+    )

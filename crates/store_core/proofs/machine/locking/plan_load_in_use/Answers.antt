@@ -1,0 +1,18 @@
+use Rattle.std.proofs.Common.{◌≡◌, ℕ, suc, ◌-◌, refl, sym, ap, subst, ◌∙◌, rules, arith}
+use Rattle.std.proofs.lemmas.Grind.{common_steps}
+use Rattle.store_core.specs.Words.{Place, Base, InUse, Claim, Root, RowWord, Bucket, write}
+use Rattle.store_core.specs.Calls.{View}
+use Rattle.store_core.specs.Machine as machine
+use Rattle.store_core.specs.Machine.{action, begins, based, ready, with_got, knowing, with_call}
+use Rattle.store_core.specs.Planning.{state_seen}
+use Rattle.store_core.proofs.Basics.{write_same}
+use Rattle.store_core.proofs.Made.{two, made_view, made_word, went_view}
+use Rattle.store_core.proofs.machine.locking.plan_load_in_use.Goals as goal
+
+pub returns : goal.returns
+returns c = (
+  first_of (search rules, grind (arith, common_steps)),
+  tt,
+  made_view c.args.sight.now machine.LoadInUse c.of_view.result c.ready.result c.of_view.ensures refl (write_same (state_seen c.args.sight.now).words InUse)
+      (c.ready.ensures ∙ two ready c.in_ok-copy.field-0 c.args.sight.now.view.now c.in_ok-in_use.in_use ((state_seen c.args.sight.now).words InUse) c.in_ok-copy.ensures (c.in_ok-in_use.ensures ∙ c.load.ensures)),
+)

@@ -1,0 +1,25 @@
+use Rattle.std.proofs.Common.{◌≡◌, ℕ, suc, ◌-◌, refl, sym, ap, subst, ◌∙◌, rules, arith}
+use Rattle.std.proofs.lemmas.Grind.{common_steps}
+use Rattle.store_core.specs.Words.{Place, Base, InUse, Claim, Root, RowWord, Bucket, write}
+use Rattle.store_core.specs.Calls.{View}
+use Rattle.store_core.specs.Machine as machine
+use Rattle.store_core.specs.Machine.{action, begins, based, ready, with_got, knowing, with_call}
+use Rattle.store_core.specs.Planning.{state_seen}
+use Rattle.store_core.proofs.Basics.{write_same}
+use Rattle.store_core.proofs.Made.{two, made_view, made_word, went_view}
+use Rattle.store_core.proofs.machine.protecting.plan_read_argument.Goals as goal
+
+pub returns : goal.returns
+returns c =
+    let g = c.args.sight.now in
+    let w = (state_seen c.args.sight.now).words in
+    let same : suc (suc (c.args.word - 2)) ≡ c.args.word = (let l = c.requires.word in omega arith) in
+    let view : c.in_ok-with_got.field-0 ≡ with_got (knowing c.args.sight.now.view.now c.args.row c.args.word ((state_seen c.args.sight.now).words (RowWord c.args.row c.args.word))) ((state_seen c.args.sight.now).words (RowWord c.args.row c.args.word)) =
+    c.in_ok-with_got.ensures ∙ two with_got c.in_ok-view.view (knowing c.args.sight.now.view.now c.args.row c.args.word ((state_seen c.args.sight.now).words (RowWord c.args.row c.args.word))) c.in_ok-argument.argument ((state_seen c.args.sight.now).words (RowWord c.args.row c.args.word))
+    (c.in_ok-view.ensures ∙ two (λ v n. knowing v c.args.row c.args.word n) c.in_ok-copy.field-0 c.args.sight.now.view.now c.load-value.result ((state_seen c.args.sight.now).words (RowWord c.args.row c.args.word)) c.in_ok-copy.ensures c.load-value.ensures)
+    (c.in_ok-argument.ensures ∙ c.load-value.ensures) in (
+      first_of (search rules, grind (arith, common_steps)),
+      tt,
+      made_view g (machine.ReadArgument c.args.row (c.args.word - 2)) c.of_view.result c.in_ok-with_got.field-0 c.of_view.ensures refl (write_same w (RowWord c.args.row (suc (suc (c.args.word - 2)))))
+          (subst (λ (m : ℕ). c.in_ok-with_got.field-0 ≡ with_got (knowing c.args.sight.now.view.now c.args.row m ((state_seen c.args.sight.now).words (RowWord c.args.row m))) ((state_seen c.args.sight.now).words (RowWord c.args.row m))) (sym same) view),
+    )

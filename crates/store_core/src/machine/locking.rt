@@ -1,0 +1,179 @@
+//! The steps of the lock, and those that begin a granted access.
+ghost use Rattle.std.specs.Prelude.{◌≡◌, ◌≢◌, ◌⊎◌, ◌↔◌, ℕ, ◌<◌, IfOk, IsTrue, MatchBool, length};
+ghost use Rattle.lock_core.specs.Lock.{seat_of};
+ghost use Rattle.lock_core.specs.Exclusion.{IsExclusive};
+ghost use Rattle.lock_core.specs.declared.parts.Standing.TheVariants.{Held};
+ghost use Rattle.store_core.specs.Calls.{Idle, Away};
+ghost use Rattle.store_core.specs.Machine.{left, InAccess, LockAlone, LowerShared, UnaskSeat, GiveGranted, protected_in};
+ghost use Rattle.store_core.specs.Steps.{IsAtRest, MayLeave};
+ghost use Rattle.store_core.specs.Planning.{Plans, PlansStep};
+ghost use Rattle.store_core.specs.declared.step.StoreStep.TheVariants.{Lock, LoadBase, LoadInUse};
+
+use crate::machine::change::{Change, Sight};
+use crate::machine::copies::copy;
+use crate::machine::moves::{based, leaving, left, narrow, ready};
+use crate::machine::rooting::protected_rows;
+use crate::machine::rows::list_of;
+use crate::view::{Call, Place, Stay, View};
+use faults::Memory;
+use lock_core::{LockState, LockStep, Phase, Standing};
+
+/// The phase of a seat; one that isn't there is out.
+pub(crate) fn phase_of(lock: &LockState, seat: u32) -> Phase
+    ensures { result ≡ (seat_of lock.now seat).phase }
+{
+    if seat < lock.count() {
+        lock.seat(seat).phase
+    } else {
+        Phase::Out
+    }
+}
+
+// Whether each other seat is held.
+fn others_held(lock: &LockState, seat: u32) -> bool
+    ensures { MatchBool result ((j : ℕ) → j < length lock.now.seats → j ≢ seat → (seat_of lock.now j).standing ≡ Held) ((j : ℕ) × (j < length lock.now.seats) × (j ≢ seat) × ((seat_of lock.now j).standing ≢ Held)) }
+{
+    for j in 0..lock.count() {
+        if j != seat && lock.seat(j).standing != Standing::Held {
+            return false;
+        }
+    }
+    true
+}
+
+/// Whether a seat is in exclusive access.
+pub(crate) fn is_exclusive(lock: &LockState, seat: u32) -> bool
+    ensures { IsTrue result ↔ IsExclusive lock.now seat }
+{
+    seat < lock.count() && lock.seat(seat).phase == Phase::Holder && others_held(lock, seat)
+}
+
+/// Whether a seat is in shared or in exclusive access.
+pub(crate) fn is_in_access(lock: &LockState, seat: u32) -> bool
+    ensures { IsTrue result ↔ InAccess lock.now seat }
+{
+    phase_of(lock, seat) == Phase::Shared || is_exclusive(lock, seat)
+}
+
+/// Whether no call is under way.
+pub(crate) fn is_idle(view: &View) -> bool
+    ensures { IsTrue result ↔ (view.now.call ≡ Idle) }
+{
+    matches!(view.call, Call::Idle)
+}
+
+/// Whether a seat is in a granted access with no call under way.
+pub(crate) fn is_at_rest(view: &View) -> bool
+    ensures { IsTrue result ↔ IsAtRest view.now }
+{
+    is_idle(view) && view.stay == Stay::Ready
+}
+
+// Whether the end of an exclusive access may begin, or go on.
+fn may_leave(view: &View) -> bool
+    ensures { IsTrue result ↔ (view.now.call ≡ Idle) × MayLeave view.now }
+{
+    is_idle(view) && (view.stay == Stay::Ready || view.stay == Stay::Leaving)
+}
+
+/// A step of the lock.
+pub(crate) fn plan_lock(sight: &Sight, step: LockStep) -> Result<Option<Change>, Memory>
+    ensures { PlansStep sight.now (Lock step) result }
+{
+    if sight.view.stay == Stay::Away {
+        return plan_alone(sight, step);
+    }
+    match step {
+        LockStep::Lower => plan_lower(sight),
+        LockStep::Unask(other) => plan_unask(sight, other),
+        LockStep::Give => plan_give(sight),
+        _ => Ok(None),
+    }
+}
+
+// A step of a seat that is in no granted access: it lowers its flag only where it is blocked.
+fn plan_alone(sight: &Sight, step: LockStep) -> Result<Option<Change>, Memory>
+    requires { sight.now.view.now.stay ≡ Away }
+    ensures { Plans sight.now (LockAlone step) result }
+{
+    if step == LockStep::Lower && phase_of(sight.lock, sight.seat) != Phase::Blocked {
+        return Ok(None);
+    }
+    match lock_core::step(sight.lock, sight.seat, step) {
+        Some(lock) => Ok(Some(Change::of_lock(lock, copy(sight.view)?))),
+        None => Ok(None),
+    }
+}
+
+// The end of a shared access.
+fn plan_lower(sight: &Sight) -> Result<Option<Change>, Memory>
+    ensures { Plans sight.now LowerShared result }
+{
+    if phase_of(sight.lock, sight.seat) != Phase::Shared || !is_at_rest(sight.view) {
+        return Ok(None);
+    }
+    match lock_core::step(sight.lock, sight.seat, LockStep::Lower) {
+        Some(lock) => Ok(Some(Change::of_lock(lock, left_view(sight.view)?))),
+        None => Ok(None),
+    }
+}
+
+// A part of the end of an exclusive access.
+fn plan_unask(sight: &Sight, other: u32) -> Result<Option<Change>, Memory>
+    ensures { Plans sight.now (UnaskSeat other) result }
+{
+    if !may_leave(sight.view) {
+        return Ok(None);
+    }
+    match lock_core::step(sight.lock, sight.seat, LockStep::Unask(other)) {
+        Some(lock) => Ok(Some(Change::of_lock(lock, leaving(copy(sight.view)?)))),
+        None => Ok(None),
+    }
+}
+
+// The end of an exclusive access.
+fn plan_give(sight: &Sight) -> Result<Option<Change>, Memory>
+    ensures { Plans sight.now GiveGranted result }
+{
+    if !may_leave(sight.view) {
+        return Ok(None);
+    }
+    match lock_core::step(sight.lock, sight.seat, LockStep::Give) {
+        Some(lock) => Ok(Some(Change::of_lock(lock, left_view(sight.view)?))),
+        None => Ok(None),
+    }
+}
+
+// What a seat knows at the end of its access.
+fn left_view(view: &View) -> Result<View, Memory>
+    ensures { IfOk result (λ v. v ≡ left view.now (protected_in view.now)) }
+{
+    let rows = protected_rows(view)?;
+    let list = list_of(*view.got.allocator(), rows.as_slice())?;
+    left(copy(view)?, list)
+}
+
+/// The load of the base, first of a granted access.
+pub(crate) fn plan_load_base(sight: &Sight) -> Result<Option<Change>, Memory>
+    ensures { PlansStep sight.now LoadBase result }
+{
+    if !is_in_access(sight.lock, sight.seat)
+        || !is_idle(sight.view)
+        || sight.view.stay != Stay::Away
+    {
+        return Ok(None);
+    }
+    let base = sight.table.load(&Place::Base);
+    Ok(Some(Change::of_view(based(copy(sight.view)?, base))))
+}
+
+/// The load of the number of buckets in use, after it.
+pub(crate) fn plan_load_in_use(sight: &Sight) -> Result<Option<Change>, Memory>
+    ensures { PlansStep sight.now LoadInUse result }
+{
+    if !is_idle(sight.view) || sight.view.stay != Stay::Based {
+        return Ok(None);
+    }
+    let in_use = narrow(sight.table.load(&Place::InUse))?;
+    Ok(Some(Change::of_view(ready(copy(sight.view)?, in_use))))
+}

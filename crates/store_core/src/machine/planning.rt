@@ -1,0 +1,169 @@
+//! The plan of any step of a seat, and its making.
+ghost use Rattle.std.specs.Prelude.{◌≡◌, ◌<◌, length, IfOk, IsTrue};
+ghost use Rattle.store_core.specs.Shown.{shown};
+ghost use Rattle.store_core.specs.StoreHolds.{StoreHolds};
+ghost use Rattle.store_core.specs.Planning.{Serves, PlansStep, Planned, HasPlace, IsInside, state_by, changed, words_with, lock_with};
+ghost use Rattle.store_core.specs.declared.step.StoreStep.TheVariants.{StoreDrawn, Publish};
+
+use crate::machine::acting::{NextAct, plan_act, row_place};
+use crate::machine::beginning::plan_begin;
+use crate::machine::change::{Change, Sight};
+use crate::machine::claiming::plan_claim;
+use crate::machine::collecting::{plan_load_any, plan_store_any};
+use crate::machine::locking::{plan_load_base, plan_load_in_use, plan_lock};
+use crate::machine::protecting::{
+    plan_load_root, plan_load_row, plan_store_count, plan_store_root,
+};
+use crate::machine::table::Table;
+use crate::step::StoreStep;
+use crate::view::{Place, View};
+use faults::Memory;
+use lock_core::LockState;
+
+// The plan of a step, by what the seat sees.
+fn plan(sight: &Sight, step: StoreStep) -> Result<Option<Change>, Memory>
+    ensures { Serves sight.now step result }
+{
+    match step {
+        StoreStep::Lock(step) => plan_lock(sight, step),
+        StoreStep::LoadBase => plan_load_base(sight),
+        StoreStep::LoadFreeCount => plan_act(sight, &NextAct::Loads(Place::FreeCount)),
+        StoreStep::LoadClaim => plan_act(sight, &NextAct::Loads(Place::Claim)),
+        StoreStep::LoadInUse => plan_load_in_use(sight),
+        StoreStep::Draw => plan_act(sight, &NextAct::Draws),
+        StoreStep::LoadFreePlace(i) => plan_act(sight, &NextAct::Loads(Place::FreePlace(i))),
+        StoreStep::StoreDrawn { row, word, value } => plan_drawn(sight, row, word, value),
+        StoreStep::LoadBucket { bucket, content } => plan_begin(sight, bucket, content),
+        StoreStep::LoadRow { row, word } => plan_load_row(sight, row, word),
+        StoreStep::Publish { bucket, old, new } => plan_publish(sight, bucket, old, new),
+        StoreStep::StoreRoot { place, row } => plan_store_root(sight, place, row),
+        StoreStep::StoreRootCount(count) => plan_store_count(sight, count),
+        StoreStep::LoadRoot(place) => plan_load_root(sight, place),
+        StoreStep::LoadAny(place) => plan_load_any(sight, place),
+        StoreStep::StoreNext { row, value } => plan_store_any(sight, Place::Next(row), value),
+        StoreStep::StoreBucket { bucket, value } => {
+            plan_store_any(sight, Place::Bucket(bucket), value)
+        }
+        StoreStep::StoreFreePlace { index, value } => {
+            plan_store_any(sight, Place::FreePlace(index), value)
+        }
+        StoreStep::StoreFreeCount(value) => plan_store_any(sight, Place::FreeCount, value),
+        StoreStep::StoreBase(value) => plan_store_any(sight, Place::Base, value),
+        StoreStep::StoreInUse(value) => plan_store_any(sight, Place::InUse, value),
+        StoreStep::StoreClaim(value) => plan_claim(sight, value),
+    }
+}
+
+// The store of a word of the drawn row.
+fn plan_drawn(sight: &Sight, row: u32, word: u32, value: u64) -> Result<Option<Change>, Memory>
+    ensures { PlansStep sight.now (StoreDrawn row word value) result }
+{
+    let place = row_place(&sight.table.sizes, row, word);
+    plan_act(sight, &NextAct::Stores(place, value))
+}
+
+// The exchange on a bucket.
+fn plan_publish(sight: &Sight, bucket: u32, old: u32, new: u32) -> Result<Option<Change>, Memory>
+    ensures { PlansStep sight.now (Publish bucket old new) result }
+{
+    plan_act(
+        sight,
+        &NextAct::Exchanges(Place::Bucket(bucket), u64::from(old), u64::from(new)),
+    )
+}
+
+/// The plan of a step of a seat.
+pub(crate) fn planned(
+    table: &Table,
+    lock: &LockState,
+    views: &Vec<View>,
+    seat: u32,
+    step: StoreStep,
+) -> Result<Option<Change>, Memory>
+    requires seat { seat < table.now.sizes.seats }
+    requires views { length views.now.items ≡ table.now.sizes.seats }
+    requires holds { StoreHolds table.now.sizes (state_by table.now.sizes lock.now table.now.words.items views.now.items) }
+    ensures { Planned table.now.sizes (state_by table.now.sizes lock.now table.now.words.items views.now.items) seat step result }
+{
+    let sight = Sight {
+        table,
+        lock,
+        view: &views[seat as usize],
+        seat,
+    };
+    let change = plan(&sight, step)?;
+    with_place(table, change)
+}
+
+// The change, where the table has the place that it stores at.
+fn with_place(table: &Table, change: Option<Change>) -> Result<Option<Change>, Memory>
+    ensures { IfOk result (λ o. (o ≡ change) × HasPlace table.now.sizes o) }
+{
+    if stores_inside(table, &change) {
+        Ok(change)
+    } else {
+        Err(Memory)
+    }
+}
+
+fn stores_inside(table: &Table, change: &Option<Change>) -> bool
+    ensures { IsTrue result → HasPlace table.now.sizes change.now }
+{
+    match change {
+        Some(change) => has_place(table, &change.stored),
+        None => true,
+    }
+}
+
+fn has_place(table: &Table, stored: &Option<(Place, u64)>) -> bool
+    ensures { IsTrue result → IsInside table.now.sizes stored.now }
+{
+    match stored {
+        Some((place, _)) => table.has(place),
+        None => true,
+    }
+}
+
+/// Makes a change that was planned.
+pub(crate) fn commit(
+    table: &mut Table,
+    lock: &mut LockState,
+    views: &mut Vec<View>,
+    seat: u32,
+    change: Change,
+)
+    requires seat { seat < length views.old.items }
+    requires place { IsInside table.old.sizes change.stored }
+    ensures sizes { table.new.sizes ≡ table.old.sizes }
+    ensures views { length views.new.items ≡ length views.old.items }
+    ensures state { state_by table.old.sizes lock.new table.new.words.items views.new.items ≡ changed (state_by table.old.sizes lock.old table.old.words.items views.old.items) seat change }
+{
+    let Change {
+        lock: next,
+        stored,
+        view,
+    } = change;
+    store(table, stored);
+    set_lock(lock, next);
+    views[seat as usize] = view;
+}
+
+// Stores a word, if there is one.
+fn store(table: &mut Table, stored: Option<(Place, u64)>)
+    requires { IsInside table.old.sizes stored }
+    ensures sizes { table.new.sizes ≡ table.old.sizes }
+    ensures words { shown table.new.sizes table.new.words.items ≡ words_with (shown table.old.sizes table.old.words.items) stored }
+{
+    if let Some((place, word)) = stored {
+        table.store(&place, word);
+    }
+}
+
+// Puts another lock in the place of a lock, if there is one.
+fn set_lock(lock: &mut LockState, next: Option<LockState>)
+    ensures { lock.new ≡ lock_with lock.old next }
+{
+    if let Some(next) = next {
+        *lock = next;
+    }
+}
