@@ -31,6 +31,8 @@ use Rattle.store_core.specs.Calls.{bucket}
 use Rattle.store_core.proofs.Short.{chain_few, walks_few, walked_few}
 use Rattle.node_rows.specs.declared.view.NodeView.{NodeView}
 use Rattle.node_rows.specs.Shown.{lock_of, store_at, state_of, Shows}
+use Rattle.node_rows.specs.Joining.{with_views, ShowsJoined}
+use Rattle.node_rows.specs.Gathering.{not_spent, known_at, step_gathers}
 use Rattle.node_rows.specs.Locking.{keeps_store, store_here, store_set, inside, below, sized_set, some_set, count_set}
 use Rattle.node_rows.specs.Steps.{with_store, place_of, written_by, moved_by, act, Acts, Stands, Few, Known}
 
@@ -198,15 +200,25 @@ abbrev pub Tells : core.Step → Me (Unit {0}) NodeView → ℕ → Me (Unit {0}
 Tells x me n me' = (me' ≡ (with_store me.0 (moved_by x me.0.store n), me.1)) × Known me.0.sizes me'.0.store
 
 pub own_allows : (z : Sizes) (slots id : ℕ) (me : Me (Unit {0}) NodeView) (i : ℕ) (x : core.Step) (k : ℕ) (f : ℕ → ℕ) → me.0.lock.number ≡ Some i → Owes z me.0 i x k f
-    → Allows (Shows z) slots id me k f (Tells x me)
-own_allows z slots id me i x k f is o = subst (λ (q : ℕ). Allows (Shows z) slots id me q f (Tells x me)) (sym o.word)
+    → Allows (ShowsJoined z) slots id me k f (Tells x me)
+unfolding lock_left
+own_allows z slots id me i x k f is o = subst (λ (q : ℕ). Allows (ShowsJoined z) slots id me q f (Tells x me)) (sym o.word)
     (λ s rule _ at0 _.
-    let same : i ≡ id = same_place s id i me.0 rule.lock at0 is in
-    let at : get_elem? s.views i ≡ some me.0 = subst (λ (q : ℕ). get_elem? s.views q ≡ some me.0) (sym same) at0 in
+    let lives = not_spent me.0 i is in
+    let t : State (Unit {0}) NodeView = with_views s rule.known in
+    let known_here : get_elem? t.views id ≡ some me.0 = known_at rule.known s.views rule.joins id me.0 at0 lives in
+    let same : i ≡ id = same_place t id i me.0 rule.shows.lock known_here is in
+    let at : get_elem? t.views i ≡ some me.0 = subst (λ (q : ℕ). get_elem? t.views q ≡ some me.0) (sym same) known_here in
     let q : ℕ = index_of z (place_of i x me.0.store) in
     let n : ℕ = get_or s.words q 0 in
     let w : NodeView = with_store me.0 (moved_by x me.0.store n) in
-    let new : Shows z (stepped s q (f n) i me.1 w keeps) = own_keeps z s i me.0 rule at x o.is o.there (o.permitted s rule at) (f n) (o.writes s rule at) in
-    let there : ℕ → Type 0 = λ j. Shows z (stepped s q (f n) j me.1 w keeps) in
-    let k = known z (stepped s q (f n) i me.1 w keeps) i w new (set_here s.views i w (inside z s i me.0 rule at)) in
-    (w, keeps, tt, subst there same new, (refl, subst (λ (y : Sizes). Known y w.store) (sym (rule.sized i me.0 at)) k)))
+    let new : Shows z (stepped t q (f n) i me.1 w keeps) = own_keeps z t i me.0 rule.shows at x o.is o.there (o.permitted t rule.shows at) (f n) (o.writes t rule.shows at) in
+    let there : Shows z (stepped t q (f n) id me.1 w keeps) = subst (λ (j : ℕ). Shows z (stepped t q (f n) j me.1 w keeps)) same new in
+    let tells = known z (stepped t q (f n) i me.1 w keeps) i w new (set_here t.views i w (inside z t i me.0 rule.shows at)) in
+    let whole : ShowsJoined z (stepped s q (f n) id me.1 w keeps) = record {
+      known = set rule.known id w;
+      joins = step_gathers rule.known s.views rule.joins id me.0 at0 lives w refl;
+      lock = lock_left lock_of z.seats s id q (f n) me.0 w rule.lock at0 refl (past_lock z (place_of i x me.0.store));
+      shows = there;
+    } in
+    (w, keeps, tt, whole, (refl, subst (λ (y : Sizes). Known y w.store) (sym (rule.shows.sized i me.0 at)) tells)))
