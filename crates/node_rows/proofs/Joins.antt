@@ -1,7 +1,8 @@
 -- A seat is joined into another; and what a seat then knows of all that were joined into it.
-use Rattle.std.proofs.Common.{◌≡◌, ◌≢◌, ◌⊎◌, ℕ, zero, suc, ◌+◌, ◌<◌, ◌≤◌, eqb, true, false, ◌||◌, Some, None, List, [], ◌∷◌, length, map, get_or, set, refl, sym, ap, ◌∙◌, subst, inl, inr, ⊎_elim, arith, length-set, ne_eqb, zero-add}
+use Rattle.std.proofs.Common.{◌≡◌, ◌≢◌, ◌⊎◌, ℕ, zero, suc, ◌+◌, ◌<◌, ◌≤◌, eqb, true, false, ◌||◌, Some, None, List, [], ◌∷◌, ◌++◌, length, map, get_or, set, refl, sym, ap, ◌∙◌, subst, inl, inr, ⊎_elim, arith, length-set, ne_eqb, zero-add}
 use mathlib.Core.Logic.{dite}
 use mathlib.Core.Path.{fun_ext}
+use mathlib.Core.List.{map-append}
 use mathlib.Core.Option.{some}
 use native.Mathlib.Decide.{ℕ_discrete}
 use lib.ListN.{get_elem?}
@@ -27,11 +28,14 @@ use Rattle.store_core.specs.Machine.{Each, In}
 use Rattle.store_core.specs.Invariant.{listed}
 use Rattle.store_core.specs.StoreHolds.{StoreHolds}
 use Rattle.store_core.specs.Shown.{shown}
-use Rattle.store_core.proofs.Basics.{choose, eqb_is, eqb_not, each_map, each_in}
+use Rattle.store_core.proofs.Basics.{choose, eqb_is, eqb_not, each_map, each_both}
+use Rattle.store_core.proofs.Histories.{listed_at}
+use Rattle.node_rows.specs.declared.store.Pass.{Pass}
+use Rattle.node_rows.specs.Told.{HasEntries, view_of}
 use Rattle.node_rows.specs.declared.view.JoinedSeat.{JoinedSeat}
 use Rattle.node_rows.specs.declared.view.NodeView.{NodeView}
 use Rattle.node_rows.specs.Shown.{lock_of, store_at, Shows}
-use Rattle.node_rows.specs.Joining.{spent_view, number_in, known_seat, both_views, seats_in, AreApart, IsSpent, Gathers, with_views, ShowsJoined, gathered, all_views, entries_at, lists_in, TellsAll}
+use Rattle.node_rows.specs.Joining.{spent_view, number_in, known_seat, both_views, seats_in, AreApart, IsSpent, Gathers, with_views, ShowsJoined, gathered, all_views, entries_at, lists_in, HasBase, AllTold, TellsAll}
 use Rattle.node_rows.specs.Gathering.{not_spent, at_inside, known_at, apart_else, join_gathers}
 use Rattle.node_rows.specs.Locking.{store_here, store_set, put_again, inside, below, sized_set, some_set, count_set}
 
@@ -44,6 +48,7 @@ module _ (z : Sizes) (s : State (Unit {0}) NodeView) (i : ℕ) (v : NodeView) (a
 
   -- another view of a seat, which knows the same of lock and store
   pub shows_again : Shows z s → w.made ≡ v.made → w.sizes ≡ v.sizes → w.store ≡ v.store → Shows z (with_views s (set s.views i w))
+  unfolding lock_again
   shows_again rule made sizes store =
       let same : store_at z (set s.views i w) ≡ store_at z s.views = store_set z s.views i w (inside z s i v rule at) ∙ put_again (store_at z s.views) i w.store (store_here z s.views i v at ∙ sym store) in
       record {
@@ -158,11 +163,19 @@ tells_all z s id v i rule at is =
     record {
       own = each_own z rule.known (gathered v) all (gathered v) all (each_itself (seats_in (gathered v)));
       below = small;
-      legal = λ count.
+      whole = λ count.
           let long : z.seats ≤ length (seats_in (gathered v)) = let e = length-map v.joined (λ (x : JoinedSeat). x.seat) in omega arith in
-          let same : lists_in z.seats v ≡ listed z.seats (λ j. (store_at z rule.known j).entries) =
+          let view : ℕ → View = store_at z rule.known in
+          let same : lists_in z.seats v ≡ listed z.seats (λ j. (view j).entries) =
           listed_below z.seats _ _ (λ j l. found z rule.known (gathered v) all j (covers z.seats (seats_in (gathered v)) apart (each_seat (λ q. q < z.seats) (gathered v) small) long j l)) in
-          subst (λ (ls : List (List Entry)). IsLegal z.rows (chronicle ls)) (sym same) rule.shows.holds.history.legal;
+          let bases = rule.shows.holds.strengthened.bases in
+          subst (λ (ls : List (List Entry)). AllTold z ls (gathered v)) (sym same) record {
+            legal = rule.shows.holds.history.legal;
+            numbers = bases.numbers;
+            bases = each_map _ _ (gathered v) (λ x t.
+                let store : view x.seat ≡ x.store = store_here z rule.known x.seat t.0 t.1 ∙ t.2 in
+                subst (λ (b : ℕ). HasBase z (listed z.seats (λ j. (view j).entries)) b) (ap (λ (u : View). u.base) store) (bases.seats x.seat)) all;
+          };
     }
 
 -- A look at a word leaves the table as it is.
@@ -176,13 +189,54 @@ looks_at z slots id me i k is sizes s rule homes at small =
     (me.0, keeps, tt, subst (ShowsJoined z) same rule, (refl, subst (λ (y : Sizes). TellsAll y me.0) (sym sizes) (tells_all z s id me.0 i rule at is)))
 
 -- what holds of a seat that has others joined into it, and of those, holds of each of them
-pub each_joined : (P : JoinedSeat → Type 0) (ws : List NodeView) (v : NodeView) → Each P (gathered (all_views v ws)) → P (known_seat v) × Each (λ w. P (known_seat w)) ws × Each P v.joined
-each_joined P [] v h = (h.0, tt, h.1)
-each_joined P (w ∷ ws) v h = let r = each_joined P ws (both_views v w) h in (r.0, (r.2.0, r.1), r.2.1)
+each_joined : (P : JoinedSeat → Type 0) (ws : List NodeView) (v : NodeView) → Each P (gathered (all_views v ws)) → P (known_seat v) × Each (λ w. P (known_seat w)) ws
+each_joined P [] v h = (h.0, tt)
+each_joined P (w ∷ ws) v h = let r = each_joined P ws v (h.0, h.1.1) in (r.0, (h.1.0, r.1))
 
 all_count : (ws : List NodeView) (v : NodeView) → length (all_views v ws).joined ≡ length ws + length v.joined
 all_count [] v = sym (zero-add (length v.joined))
-all_count (w ∷ ws) v = let e = all_count ws (both_views v w) in omega arith
+all_count (w ∷ ws) v = let e = all_count ws v in omega arith
 
-pub joined_count : (ws : List NodeView) (v : NodeView) → length ws ≤ length (all_views v ws).joined
-joined_count ws v = let e = all_count ws v in omega arith
+pub joined_count : (ws : List NodeView) (v V : NodeView) → V ≡ all_views v ws → length ws ≤ length V.joined
+joined_count ws v V is = let e = all_count ws v in let j = ap (λ (u : NodeView). length u.joined) is in omega arith
+
+all_snoc : (v : NodeView) (ws : List NodeView) (w : NodeView) → all_views v (ws ++ w ∷ []) ≡ all_views (both_views v w) ws
+all_snoc v [] w = refl
+all_snoc v (x ∷ ws) w = ap (λ (u : NodeView). both_views u x) (all_snoc v ws w)
+
+-- the last pass of a list is joined
+pub all_next : (v : NodeView) (xs ys : List Pass) (p : Pass) → xs ≡ ys ++ p ∷ [] → all_views (both_views v (view_of p)) (map view_of ys) ≡ all_views v (map view_of xs)
+all_next v xs ys p is = sym (ap (λ ps. all_views v (map view_of ps)) is ∙ (ap (all_views v) (map-append view_of ys (p ∷ [])) ∙ all_snoc v (map view_of ys) (view_of p)))
+
+each_of_map : {A B : Type 0} (P : B → Type 0) (f : A → B) (xs : List A) → Each P (map f xs) → Each (λ x. P (f x)) xs
+each_of_map P f [] h = tt
+each_of_map P f (x ∷ xs) h = (h.0, each_of_map P f xs h.1)
+
+pub lists_are : (z : Sizes) (V W : NodeView) (lists : List (List Entry)) → lists ≡ lists_in W.sizes.seats W → W ≡ V → V.sizes ≡ z → lists ≡ lists_in z.seats V
+lists_are z V W lists is same sizes = is ∙ (ap (λ (u : NodeView). lists_in u.sizes.seats u) same ∙ ap (λ (y : Sizes). lists_in y.seats V) sizes)
+
+-- each seat of those that were joined finds its entries under its number
+module _ (z : Sizes) (V : NodeView) (tells : TellsAll z V) (lists : List (List Entry)) (is : lists ≡ lists_in z.seats V) where
+  abbrev Finds : JoinedSeat → Type 0
+  Finds x = get_or lists x.seat [] ≡ x.store.entries
+
+  each_finds : Each Finds (gathered V)
+  each_finds = each_both _ _ _ (gathered V)
+      (λ x small own. ap (λ (ls : List (List Entry)). get_or ls x.seat []) is ∙ (listed_at z.seats (λ j. entries_at j (gathered V)) x.seat [] small ∙ own))
+      tells.below tells.own
+
+  of_pass : (p : Pass) → Finds (known_seat (view_of p)) → HasEntries lists p
+  of_pass p h = ap (λ (k : ℕ). get_or lists k []) (sym (ap number_in p.seat.fits.number)) ∙ h
+
+  pub finds : (first : Pass) (rest : List Pass) → V ≡ all_views (view_of first) (map view_of rest) → HasEntries lists first × Each (HasEntries lists) rest
+  finds first rest e =
+      let h = each_joined Finds (map view_of rest) (view_of first) (subst (λ (u : NodeView). Each Finds (gathered u)) e each_finds) in
+      (of_pass first h.0, each_map _ _ rest (λ p k. of_pass p k) (each_of_map (λ w. Finds (known_seat w)) view_of rest h.1))
+
+-- and its base is known
+pub bases : (z : Sizes) (V : NodeView) (lists : List (List Entry)) → Each (λ x. HasBase z lists x.store.base) (gathered V) → (first : Pass) (rest : List Pass) → V ≡ all_views (view_of first) (map view_of rest)
+    → HasBase z lists (view_of first).store.base × Each (λ p. HasBase z lists (view_of p).store.base) rest
+bases z V lists h first rest e =
+    let P : JoinedSeat → Type 0 = λ x. HasBase z lists x.store.base in
+    let t = each_joined P (map view_of rest) (view_of first) (subst (λ (u : NodeView). Each P (gathered u)) e h) in
+    (t.0, each_of_map (λ w. P (known_seat w)) view_of rest t.1)

@@ -4,3 +4,4 @@ pub mod Entering
 pub mod Opens
 pub mod Joins
 pub mod Tellings
+pub mod Collects

@@ -6,6 +6,8 @@ use lib.ListN.{get_elem?}
 use Rattle.atomic_table.specs.Table.{State, Me, Allows}
 use Rattle.atomic_table.specs.Seated.{TableId}
 use Rattle.atomic_table.specs.declared.shared.Seat.{Seat}
+use Rattle.lock_core.specs.Exclusion.{IsExclusive}
+use Rattle.busy_forbidden.specs.Exclusive.{IsGranted}
 use Rattle.term_model.specs.declared.Head.{Head}
 use Rattle.store_core.specs.declared.view.Sizes.{Sizes}
 use Rattle.store_core.specs.declared.view.View.{View}
@@ -105,12 +107,15 @@ module _ (z : Sizes) (s : State (Unit {0}) NodeView) (i : ℕ) (v : NodeView) (r
       let r = q.numbers.room in
       omega arith
 
-  in_access : MayLoad v.lock i z.seats → InAccess rule.lock.state i
-  in_access may = ⊎_elim (λ p. inl (phase_is z s i v rule at ∙ p)) (λ g. inr (record {
+  pub exclusive : IsGranted v.lock i z.seats → IsExclusive rule.lock.state i
+  exclusive g = record {
     present = let b = below z s i v rule at in let c = rule.lock.shows.count in omega arith;
     holder = phase_is z s i v rule at ∙ g.holder;
     others = λ j l ne. stands_is z s i v rule at g.holder j ∙ g.held j (let c = rule.lock.shows.count in omega arith) ne;
-  })) may
+  }
+
+  in_access : MayLoad v.lock i z.seats → InAccess rule.lock.state i
+  in_access may = ⊎_elim (λ p. inl (phase_is z s i v rule at ∙ p)) (λ g. inr (exclusive g)) may
 
   pub permits_base : MayLoad v.lock i z.seats → IsAway v.store → Permits z t i LoadBase
   permits_base may away = (in_access may, ap (λ (u : View). u.call) here ∙ away.call, ap (λ (u : View). u.stay) here ∙ away.stay)

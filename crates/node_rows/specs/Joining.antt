@@ -9,7 +9,8 @@ use Rattle.busy_forbidden.specs.Shown.{nobody}
 use Rattle.busy_forbidden.specs.Rules.{ShowsLock}
 use Rattle.store_core.specs.declared.view.Sizes.{Sizes}
 use Rattle.store_core.specs.Machine.{Each}
-use Rattle.store_core.specs.Invariant.{listed}
+use Rattle.store_core.specs.Invariant.{listed, span}
+use Rattle.store_core.specs.Bases.{collect_numbers, StaysBelow, IsBase}
 use Rattle.store_core.specs.Steps.{newcomer}
 use Rattle.node_rows.specs.declared.view.JoinedSeat.{JoinedSeat}
 use Rattle.node_rows.specs.declared.view.NodeView.{NodeView}
@@ -76,20 +77,31 @@ abbrev pub entries_at : ℕ → List JoinedSeat → List Entry
 entries_at j [] = []
 entries_at j (x ∷ xs) = if x.seat == j then x.store.entries else entries_at j xs
 
--- the view of a seat, once the seats with these views were joined into it, one after another
+-- the view of a seat, once the seats with these views were joined into it, the last one first
 abbrev pub all_views : NodeView → List NodeView → NodeView
 all_views v [] = v
-all_views v (w ∷ ws) = all_views (both_views v w) ws
+all_views v (w ∷ ws) = both_views (all_views v ws) w
 
 -- the entries of each of n seats, in order
 abbrev pub lists_in : ℕ → NodeView → List (List Entry)
 lists_in n v = listed n (λ j. entries_at j (gathered v))
 
--- Each seat of them has its own entries there, and where they are all seats, the entries are a legal history of one thread.
+-- a base that a seat has loaded or stored, 0 where it has none: the first base, or one more than the number of a collection in the lists
+abbrev pub HasBase : Sizes → List (List Entry) → ℕ → Type 0
+HasBase z lists b = (b ≡ 0) ⊎ IsBase z.first (collect_numbers (chronicle lists)) b
+
+-- Of the entries of all seats: they are a legal history of one thread; the number of its c-th collection is below `first` and c times
+-- what an epoch may use; and bases come from collections.
+pub record AllTold (z : Sizes) (lists : List (List Entry)) (xs : List JoinedSeat) : Type 0 where
+  pub legal : IsLegal z.rows (chronicle lists)
+  pub numbers : StaysBelow z.first (span z) 1 (collect_numbers (chronicle lists))
+  pub bases : Each (λ x. HasBase z lists x.store.base) xs
+
+-- Each seat of them has its own entries in the lists; and where they are all seats, all of this is told.
 pub record TellsAll (z : Sizes) (v : NodeView) : Type 0 where
   pub own : Each (λ x. entries_at x.seat (gathered v) ≡ x.store.entries) (gathered v)
   pub below : Each (λ x. x.seat < z.seats) (gathered v)
-  pub legal : z.seats ≤ suc (length v.joined) → IsLegal z.rows (chronicle (lists_in z.seats v))
+  pub whole : z.seats ≤ suc (length v.joined) → AllTold z (lists_in z.seats v) (gathered v)
 
 -- a look at the table leaves the own view, and tells this of it
 abbrev pub looks : Step (Unit {0}) → Me (Unit {0}) NodeView → ℕ → Me (Unit {0}) NodeView → Type 0

@@ -6,3 +6,4 @@ pub mod Steps
 pub mod Passes
 pub mod Opening
 pub mod Told
+pub mod Collecting

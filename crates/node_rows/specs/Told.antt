@@ -1,5 +1,5 @@
 -- What a pass tells of its own entries, and the chronicle of all passes.
-use Rattle.std.specs.Prelude.{◌≡◌, ◌↔◌, ℕ, Bool, Option, Some, None, List, [], ◌∷◌, length, Contains}
+use Rattle.std.specs.Prelude.{◌≡◌, ◌↔◌, ℕ, Bool, Option, Some, None, List, [], ◌∷◌, length, slice_index_or, Contains}
 use Rattle.atomic_table.specs.declared.shared.Seat.{Seat}
 use Rattle.term_model.specs.declared.Row.{Row}
 use Rattle.history_core.specs.declared.entry.Entry.{Entry}
@@ -59,3 +59,7 @@ lists_told (Some s) = lists_in s.me.0.sizes.seats s.me.0
 -- what a pass knows of lock and store
 abbrev pub view_of : Pass → NodeView
 view_of p = p.seat.seat.me.0
+
+-- a pass has its own entries in the lists, under its number
+abbrev pub HasEntries : List (List Entry) → Pass → Type 0
+HasEntries lists p = slice_index_or lists p.seat.number [] ≡ p.seat.seat.me.0.store.entries

@@ -1,9 +1,11 @@
 //! The end of a store, and the chronicle of its passes.
-ghost use Rattle.std.specs.Prelude.{◌≡◌, [], All, length, map, reverse, slice_index_or, vec_len};
+ghost use Rattle.std.specs.Prelude.{◌≡◌, ◌+◌, [], All, length, map};
 ghost use Rattle.history_core.specs.Chronicle.{chronicle, IsLegal};
+ghost use Rattle.store_core.specs.Bases.{StaysBelow, collect_numbers};
+ghost use Rattle.store_core.specs.Invariant.{span};
 ghost use Rattle.node_rows.specs.Passes.{IsStore, IsPass, IsOut};
-ghost use Rattle.node_rows.specs.Joining.{TellsAll, all_views, both_views, lists_in};
-ghost use Rattle.node_rows.specs.Told.{view_of};
+ghost use Rattle.node_rows.specs.Joining.{HasBase, TellsAll, all_views, both_views, lists_in};
+ghost use Rattle.node_rows.specs.Told.{HasEntries, view_of};
 
 use crate::rule::{Gather, OnLook};
 use crate::store::{Pass, Store};
@@ -73,7 +75,7 @@ fn gather_all(store: &Store, first: &mut Pass, passes: Vec<Pass>)
     requires passes { All (λ p. IsPass store.now.table.shared.table_id store.now.sizes p.seat.seat p.seat.seats × IsOut p.seat.seat.me.0) passes.items }
     ensures first { IsPass store.now.table.shared.table_id store.now.sizes first.new.seat.seat first.new.seat.seats }
     ensures number { first.new.seat.number ≡ first.old.seat.number }
-    ensures view { view_of first.new ≡ all_views (view_of first.old) (map view_of (reverse passes.items)) }
+    ensures view { view_of first.new ≡ all_views (view_of first.old) (map view_of passes.items) }
 {
     let mut rest = passes;
     while let Some(pass) = rest.pop() {
@@ -89,10 +91,7 @@ fn look(store: &Store, pass: &mut Pass)
     ensures view { view_of pass.new ≡ view_of pass.old }
     ensures tells { TellsAll store.now.sizes (view_of pass.old) }
 {
-    store
-        .table
-        .shared
-        .load::<OnLook>(&mut pass.seat.seat, 0);
+    store.table.shared.load::<OnLook>(&mut pass.seat.seat, 0);
 }
 
 // The chronicle that a pass knows.
@@ -116,23 +115,42 @@ fn chronicle_of(pass: Pass) -> Chronicle
     Chronicle { seat: Some(seat) }
 }
 
+// Ends a store whose passes are these.
+fn close_from(store: &Store, mut first: Pass, rest: Vec<Pass>) -> Chronicle
+    requires store { IsStore store.now.table.shared.table_id store.now.table.shared.key store.now.sizes }
+    requires first { IsPass store.now.table.shared.table_id store.now.sizes first.seat.seat first.seat.seats }
+    requires rest { All (λ p. IsPass store.now.table.shared.table_id store.now.sizes p.seat.seat p.seat.seats × IsOut p.seat.seat.me.0) rest.items }
+    requires all { length rest.items + 1 ≡ store.now.sizes.seats }
+    ensures count { length result ≡ store.now.sizes.seats }
+    ensures own { HasEntries result first × All (HasEntries result) rest.items }
+    ensures legal { IsLegal store.now.sizes.rows (chronicle result) }
+    ensures numbers { StaysBelow store.now.sizes.first (span store.now.sizes) 1 (collect_numbers (chronicle result)) }
+    ensures bases { HasBase store.now.sizes result (view_of first).store.base × All (λ p. HasBase store.now.sizes result (view_of p).store.base) rest.items }
+{
+    gather_all(store, &mut first, rest);
+    look(store, &mut first);
+    chronicle_of(first)
+}
+
 impl Store {
     /// Ends a store. It needs all of its passes, each out, in whatever order, and takes no memory. The chronicle has the entries
-    /// of each pass under its number, and merged they are a legal history of one thread.
+    /// of each pass under its number, and merged they are a legal history of one thread. The number of its c-th collection is
+    /// below `first` and c times `rows + seats + 1`; each pass's base is `first`, or one more than such a number, or 0 where it
+    /// has entered nothing.
     pub fn close(self, passes: Vec<Pass>) -> Chronicle
         requires store { IsStore self.table.shared.table_id self.table.shared.key self.sizes }
         requires passes { All (λ p. IsPass self.table.shared.table_id self.sizes p.seat.seat p.seat.seats × IsOut p.seat.seat.me.0) passes.items }
-        requires all { vec_len passes ≡ self.sizes.seats }
+        requires all { length passes.items ≡ self.sizes.seats }
         ensures count { length result ≡ self.sizes.seats }
-        ensures own { All (λ p. slice_index_or result p.seat.number [] ≡ p.seat.seat.me.0.store.entries) passes.items }
+        ensures own { All (HasEntries result) passes.items }
         ensures legal { IsLegal self.sizes.rows (chronicle result) }
+        ensures numbers { StaysBelow self.sizes.first (span self.sizes) 1 (collect_numbers (chronicle result)) }
+        ensures bases { All (λ p. HasBase self.sizes result (view_of p).store.base) passes.items }
     {
         let mut rest = passes;
-        let Some(mut first) = rest.pop() else {
-            return Chronicle::empty();
-        };
-        gather_all(&self, &mut first, rest);
-        look(&self, &mut first);
-        chronicle_of(first)
+        match rest.pop() {
+            Some(first) => close_from(&self, first, rest),
+            None => Chronicle::empty(),
+        }
     }
 }

@@ -1,6 +1,9 @@
 //! What a pass tells of its own entries, as plain data.
-ghost use Rattle.std.specs.Prelude.{◌≡◌, ◌∷◌, ◌++◌, ◌↔◌, ◌≤◌, ℕ, List, [], false, IsTrue, Contains};
+ghost use Rattle.std.specs.Prelude.{◌≡◌, ◌∷◌, ◌++◌, ◌↔◌, ◌<◌, ◌≤◌, ℕ, pred, List, [], false, length, IsTrue, Contains};
 ghost use Rattle.term_model.specs.declared.Head.{Head};
+ghost use Rattle.term_model.specs.declared.Row.{Row};
+ghost use Rattle.history_core.specs.declared.entry.Entry.{Entry};
+ghost use Rattle.mark_phase.specs.Reachable.{IsMarked};
 ghost use Rattle.history_core.specs.declared.entry.Entry.TheVariants as entry;
 ghost use Rattle.store_core.specs.declared.view.View.{View};
 ghost use Rattle.node_rows.specs.Told.{Tells, IsTold, last_in, kept_in};
@@ -45,4 +48,19 @@ pub fn tell_find(pass: &mut Pass, after: u64)
 {
     pass.seen = after;
     pass.last = Last::Find(after);
+}
+
+/// Keeps as plain data that the pass has just ended a collection, which stored this base and this number of buckets in use: its
+/// Collect has the number before the base. The rows that it kept have to be those that are marked.
+pub fn tell_collect(pass: &mut Pass, base: u64, in_use: u64)
+    requires base { 0 < base }
+    ensures seat { (pass.new.seat ≡ pass.old.seat) × (pass.new.base ≡ base) × (pass.new.in_use ≡ in_use) }
+    ensures told { (es : List Entry) (kept : List ℕ) → pass.old.seat.seat.me.0.store.entries ≡ es ++ entry.Collect (pred base) kept ∷ []
+        → pred base ≡ pass.old.seat.seat.me.0.store.seen → length pass.old.marks ≡ pass.old.rows
+        → ((r : Row) → IsMarked pass.old.marks r ↔ Contains kept r.0) → Tells pass.new }
+{
+    pass.base = base;
+    pass.in_use = in_use;
+    pass.seen = base - 1;
+    pass.last = Last::Collect(base - 1);
 }
