@@ -7,3 +7,4 @@ pub mod Passes
 pub mod Opening
 pub mod Told
 pub mod Collecting
+pub mod Belonging
