@@ -1,5 +1,10 @@
 pub mod Shown
+pub mod Joining
+pub mod Gathering
 pub mod Locking
 pub mod Steps
 pub mod Passes
 pub mod Opening
+pub mod Told
+pub mod Collecting
+pub mod Belonging

@@ -1,3 +1,4 @@
+use Rattle.node_rows.proofs.Tellings.{told_same}
 use Rattle.std.proofs.Common.{◌∙◌}
 use Rattle.node_rows.proofs.Entering.{came_from, enters_shared_stays}
 use Rattle.node_rows.proofs.store.Store.enter_shared.Goals as goal
@@ -5,7 +6,7 @@ use Rattle.node_rows.proofs.store.Store.enter_shared.Goals as goal
 pub arrive-requires-clause-pass : goal.arrive-requires-clause-pass
 arrive-requires-clause-pass g c =
     let t = enters_shared_stays c.args.pass.now.seat.seat.me.0 c.enter_shared.new.seat.seat.me.0 c.enter_shared.ensures.steps c.requires.out.away in
-    record { table = c.enter_shared.ensures.of.0; sizes = t.sizes ∙ c.requires.pass.sizes; count = c.enter_shared.ensures.same.2 ∙ c.requires.pass.count }
+    record { table = c.enter_shared.ensures.of.0; sizes = t.sizes ∙ c.requires.of.pass.sizes; count = c.enter_shared.ensures.same.2 ∙ c.requires.of.pass.count; none = c.enter_shared.ensures.same.0.slots ∙ c.requires.of.pass.none }
 
 pub arrive-requires-clause-away : goal.arrive-requires-clause-away
 arrive-requires-clause-away g c = (enters_shared_stays c.args.pass.now.seat.seat.me.0 c.enter_shared.new.seat.seat.me.0 c.enter_shared.ensures.steps c.requires.out.away).away
@@ -14,3 +15,6 @@ pub returns-clause-came : goal.returns-clause-came
 returns-clause-came g c =
     let t = enters_shared_stays c.args.pass.now.seat.seat.me.0 c.enter_shared.new.seat.seat.me.0 c.enter_shared.ensures.steps c.requires.out.away in
     came_from c.args.pass.now.seat.seat.me.0 _ _ _ _ t c.arrive.ensures.came
+
+pub returns-clause-told : goal.returns-clause-told
+returns-clause-told g c = λ h. c.arrive.ensures.told (told_same c.args.pass.now.seat.seat.me.0.store c.enter_shared.new.seat.seat.me.0.store c.args.pass.now.rows c.args.pass.now.seen c.args.pass.now.last c.args.pass.now.marks (enters_shared_stays c.args.pass.now.seat.seat.me.0 c.enter_shared.new.seat.seat.me.0 c.enter_shared.ensures.steps c.requires.out.away).store h)

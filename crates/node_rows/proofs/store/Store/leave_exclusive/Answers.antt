@@ -1,3 +1,4 @@
+use Rattle.node_rows.proofs.Tellings.{told_left_as}
 use Rattle.std.proofs.Common.{◌∙◌}
 use Rattle.node_rows.proofs.Entering.{ends_exclusive, granted_closed, may_release}
 use Rattle.node_rows.proofs.store.Store.leave_exclusive.Goals as goal
@@ -10,10 +11,13 @@ leave_exclusive-requires-clause-may c =
 pub returns-clause-pass : goal.returns-clause-pass
 returns-clause-pass c =
     let t = ends_exclusive c.args.pass.now.seat.number c.args.pass.now.seat.seats c.args.pass.now.seat.seat.me.0 c.leave_exclusive.new.seat.seat.me.0 c.requires.ready.rest c.leave_exclusive.ensures.view in
-    record { table = c.leave_exclusive.ensures.of.0; sizes = t.sizes ∙ c.requires.pass.sizes; count = c.leave_exclusive.ensures.same.2 ∙ c.requires.pass.count }
+    record { table = c.leave_exclusive.ensures.of.0; sizes = t.sizes ∙ c.requires.of.pass.sizes; count = c.leave_exclusive.ensures.same.2 ∙ c.requires.of.pass.count; none = c.leave_exclusive.ensures.same.0.slots ∙ c.requires.of.pass.none }
 
 pub returns-clause-left : goal.returns-clause-left
 returns-clause-left c = (ends_exclusive c.args.pass.now.seat.number c.args.pass.now.seat.seats c.args.pass.now.seat.seat.me.0 c.leave_exclusive.new.seat.seat.me.0 c.requires.ready.rest c.leave_exclusive.ensures.view).store
 
 pub returns-clause-out : goal.returns-clause-out
 returns-clause-out c = record { phase = c.leave_exclusive.ensures.out.phase; away = (ends_exclusive c.args.pass.now.seat.number c.args.pass.now.seat.seats c.args.pass.now.seat.seat.me.0 c.leave_exclusive.new.seat.seat.me.0 c.requires.ready.rest c.leave_exclusive.ensures.view).away }
+
+pub returns-clause-told : goal.returns-clause-told
+returns-clause-told c = told_left_as c.args.pass.now.seat.seat.me.0.store c.leave_exclusive.new.seat.seat.me.0.store c.args.pass.now.rows c.args.pass.now.seen c.args.pass.now.last c.args.pass.now.marks (ends_exclusive c.args.pass.now.seat.number c.args.pass.now.seat.seats c.args.pass.now.seat.seat.me.0 c.leave_exclusive.new.seat.seat.me.0 c.requires.ready.rest c.leave_exclusive.ensures.view).store
