@@ -65,6 +65,7 @@ fn first_pass(alloc: Global, sizes: &Sizes) -> Result<(Store, Pass), Memory>
             seat,
             base: 0,
             in_use: 0,
+            root_count: 0,
         },
     ))
 }
@@ -86,6 +87,7 @@ fn next_pass(store: &Store, first: &mut Pass, k: u32) -> Pass
         },
         base: 0,
         in_use: 0,
+        root_count: 0,
     }
 }
 

@@ -22,12 +22,14 @@ pub struct Store {
     pub sizes: Sizes,
 }
 
-/// A seat of a store, with what its access has loaded.
+/// A seat of a store, with what its access has loaded, and how many rows it protects.
 #[derive(Drop)]
 pub struct Pass {
     pub seat: Seat<NodeRows>,
     pub base: u64,
     pub in_use: u64,
+    pub root_count: u32,
+    ghost counted: { root_count ≡ seat.seat.me.0.store.root_count },
 }
 
 // Loads what each granted access loads first.

@@ -1,2 +1,5 @@
+pub mod Fitting
+pub mod Counted
 pub mod Stage
 pub mod Created
+pub mod Read

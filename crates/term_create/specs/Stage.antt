@@ -1,39 +1,40 @@
 -- The stages of a creation, as they show in the own view.
-use Rattle.std.specs.Prelude.{◌≡◌, ◌≢◌, ◌⊎◌, ◌==◌, if◌then◌else◌, ℕ, suc, pred, max, ◌<◌, ◌≤◌, ◌+◌, ◌^◌, Option, List, [], ◌∷◌, ◌++◌, length}
-use Rattle.atomic_table.specs.Seated.{TableId}
+use Rattle.std.specs.Prelude.{◌≡◌, ◌≢◌, ◌⊎◌, ◌==◌, if◌then◌else◌, ℕ, suc, pred, max, ◌<◌, ◌≤◌, ◌+◌, Option, List, [], ◌∷◌, ◌++◌, length}
 use Rattle.atomic_table.specs.declared.shared.Seat.{Seat}
 use Rattle.term_model.specs.declared.Head.{Head}
 use Rattle.history_core.specs.declared.entry.Entry.TheVariants.{Make, Find}
-use Rattle.store_core.specs.declared.view.Sizes.{Sizes}
 use Rattle.store_core.specs.declared.view.View.{View}
 use Rattle.store_core.specs.declared.view.Content.{Content}
 use Rattle.store_core.specs.declared.view.Passed.{Passed}
 use Rattle.store_core.specs.declared.view.Call.{Call}
 use Rattle.store_core.specs.declared.view.Call.TheVariants.{Comparing, Passing, Finding, Filling, Numbering}
-use Rattle.store_core.specs.Calls.{words_of}
-use Rattle.store_core.specs.Machine.{with_call, with_path, passing, gained, refusing, overdrawn, arrived, widest}
-use Rattle.store_core.specs.Shown.{total}
+use Rattle.store_core.specs.Calls.{words_of, bucket}
+use Rattle.store_core.specs.Machine.{with_call, with_path, passing, gained, refusing, overdrawn, arrived}
 use Rattle.store_core.specs.Reads.{Differs, PathTo}
 use Rattle.busy_forbidden.specs.Calls.{IsSame}
 use Rattle.node_rows.specs.declared.view.NodeView.{NodeView}
+use Rattle.term_create.specs.declared.asked.Asked.{Asked}
 use Rattle.node_rows.specs.Steps.{IsOf, Known, with_store, over}
 
--- the seat is one of this store, and what its view says by itself holds
-pub record IsAt (t : TableId) (key z : Sizes) (seat : Seat (Unit {0}) NodeView) : Type 0 where
-  pub of : IsOf t key seat
-  pub told : key ≡ z
-  pub small : total z < 2 ^ 62
-  pub known : Known z seat.me.0.store
+-- what is asked
+abbrev pub content : Asked → Content
+content a = over a.head a.args.now
+
+-- the seat is one of the store, and what its view says by itself holds
+pub record IsAt (a : Asked) (seat : Seat (Unit {0}) NodeView) : Type 0 where
+  pub of : IsOf a.store.now.table.shared.table_id a.store.now.table.shared.key seat
+  pub known : Known a.store.now.sizes seat.me.0.store
+
+-- it is at the base, and has the bucket, that are told
+pub record IsBased (a : Asked) (v : View) : Type 0 where
+  pub base : a.base ≡ v.base
+  pub place : a.place ≡ bucket (content a) v.in_use
 
 -- the same seat of the same store
 pub record SameSeat (a b : Seat (Unit {0}) NodeView) (i j m n : ℕ) : Type 0 where
   pub same : IsSame a b
   pub number : j ≡ i
   pub seats : n ≡ m
-
--- a row has room for the words of a head over rows
-abbrev pub Fits : Sizes → Head → List ℕ → Type 0
-Fits z f rs = length (words_of (over f rs)) ≤ widest z + 2
 
 -- the view v with this call
 abbrev pub at_call : NodeView → Call → NodeView

@@ -1,0 +1,35 @@
+//! What a creation asks for, and where.
+ghost use Rattle.std.specs.Prelude.{◌<◌, length};
+ghost use Rattle.node_rows.specs.Passes.{IsStore};
+ghost use Rattle.term_create.specs.Fitting.{Fits};
+
+use node_rows::Store;
+use term_model::Head;
+
+/// A head over rows that is asked of a store, at the base of the pass, and the bucket of it.
+pub(crate) struct Asked<'a> {
+    pub(crate) store: &'a Store,
+    pub(crate) head: Head,
+    pub(crate) args: &'a [u64],
+    pub(crate) base: u64,
+    pub(crate) place: u64,
+    ghost at: { IsStore store.now.table.shared.table_id store.now.table.shared.key store.now.sizes },
+    ghost fits: { Fits store.now.sizes head args.now },
+    ghost within: { place < store.now.sizes.buckets },
+}
+
+/// A walk: the drawn row with its index, the head of the chain that was read, and the word where the walk is to end.
+#[derive(Clone, Copy)]
+pub(crate) struct Walk {
+    pub(crate) drawn: Option<(u64, u64)>,
+    pub(crate) from: u64,
+    pub(crate) old: u64,
+}
+
+/// A drawn row with its index, and the head of the chain that was read last.
+#[derive(Clone, Copy)]
+pub(crate) struct Drawn {
+    pub(crate) from: u64,
+    pub(crate) index: u64,
+    pub(crate) row: u64,
+}
