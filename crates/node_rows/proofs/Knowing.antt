@@ -3,7 +3,7 @@ use Rattle.std.proofs.Common.{◌≡◌, ◌≢◌, ◌⊎◌, ℕ, zero, suc, �
 use Rattle.term_model.specs.Tree.{Tree, Leaf, Node, Trees, End, More}
 use Rattle.term_model.specs.declared.Head.{Head}
 use Rattle.term_model.specs.declared.Head.TheVariants.{App, Int, Nil, Cons}
-use Rattle.history_core.specs.TermSet.{Names, Holds, Lacks, tree_over}
+use Rattle.history_core.specs.TermSet.{Names, Lacks, tree_over}
 use Rattle.history_core.specs.Chronicle.{chronicle, set_of}
 use Rattle.hash_buckets.specs.Spelled.{spelled}
 use Rattle.store_core.specs.declared.view.Sizes.{Sizes}
@@ -22,7 +22,7 @@ use Rattle.store_core.specs.Machine.{Each, In, with_call}
 use Rattle.store_core.specs.Meaning as meaning
 use Rattle.store_core.specs.Meaning.{Meaning, Linked, grown}
 use Rattle.store_core.specs.Seats.{Lacks as Misses, Walked, IsKnown, IsSeen, SeatHolds}
-use Rattle.store_core.specs.Invariant.{Holds, ChainsHold, names_of}
+use Rattle.store_core.specs.Invariant.{ChainsHold, names_of}
 use Rattle.store_core.specs.ByView.{KnowsWord}
 use Rattle.store_core.proofs.Basics.{each_map, each_in}
 use Rattle.store_core.proofs.Chains.{linked_once}

@@ -138,7 +138,7 @@ module _ (z : Sizes) (s : core.State) (i : ℕ) (store : Inductive z s) where
       let lists : listed z.seats (λ j. (s.view j).entries) ≡ v.entries ∷ [] = ap (λ (n : ℕ). listed n (λ j. (s.view j).entries)) one ∙ ap (λ (j : ℕ). (s.view j).entries ∷ []) (let zero_is : 0 ≡ i = omega arith in zero_is) in
       let names : held_alone v.entries ≡ names_of m = ap (λ (ls : List (List Entry)). (set_of (chronicle ls)).held) (sym lists) ∙ q.history.pairs in
       subst (λ (h : Names). Lacks h (tree_over h c.head c.arguments)) (sym names)
-          (names_lack z s.words m q.chains c live from v.passed (walks (row_at s.words) m.chain (s.words InUse) v.passed seat.walks.walk) (where_at (head_read x) _ (c, from) head now.head))
+      (names_lack z s.words m q.chains c live from v.passed (walks (row_at s.words) m.chain (s.words InUse) v.passed seat.walks.walk) (where_at (head_read x) _ (c, from) head now.head))
 
   ends_absent : i < z.seats → z.seats ≡ 1 → (x : Call) → (s.view i).call ≡ x → EndsAbsent (s.view i).entries x
   ends_absent there one (Ended c from) e = absent_at there one (Ended c from) e tt c from refl refl (λ row chain u n h. h)

@@ -19,7 +19,8 @@ use Rattle.store_core.proofs.Basics.{choose}
 use Rattle.node_rows.specs.declared.view.NodeView.{NodeView}
 use Rattle.node_rows.specs.Steps.{with_store, over, Known, Few}
 use Rattle.atomic_table.specs.declared.shared.Seat.{Seat}
-use Rattle.term_create.specs.Stage.{SameSeat, Fits, at_call, at_walk, HasWalked, HasPassed, GoesOn, IsOther, Finds, Makes, IsFull, IsRefused, Relinks}
+use Rattle.term_create.specs.Fitting.{Fits}
+use Rattle.term_create.specs.Stage.{SameSeat, at_call, at_walk, HasWalked, HasPassed, GoesOn, IsOther, Finds, Makes, IsFull, IsRefused, Relinks}
 use Rattle.history_core.specs.declared.entry.Entry.TheVariants.{Make, Find}
 use Rattle.term_create.specs.Created.{NotesOne, Gets, KeepsCause, GetsNone, KeepsRest}
 

@@ -260,6 +260,36 @@ pub fn create_counted<L: Ledger>(
     create_whole(store, pass, head, args, steps)
 }
 
+// Creates a head over rows with a count of its own, which nobody reads.
+fn create_uncounted<L: Ledger>(
+    store: &Store,
+    pass: &mut Pass,
+    head: Head,
+    args: &[u64],
+    blank: Blank,
+) -> Result<u64, Full>
+    requires name { blank.name ≡ L.name }
+    requires parts { (blank.parts ≡ L.parts) × (0 < L.parts) }
+    requires inside { IsInside store.now pass.old }
+    requires shared { pass.old.seat.seat.me.0.lock.phase ≡ Shared }
+    requires may { MayCreate store.now.sizes pass.old.seat.seat.me.0.store head args.now }
+    ensures inside { IsInside store.now pass.new }
+    ensures same { IsSame pass.old.seat.seat pass.new.seat.seat × (pass.new.seat.number ≡ pass.old.seat.number) }
+    ensures only { pass.new.seat.seat.me.0 ≡ with_store pass.old.seat.seat.me.0 pass.new.seat.seat.me.0.store }
+    ensures notes { IfOk result (λ row.
+        NotesOne pass.old.seat.seat.me.0.store pass.new.seat.seat.me.0.store head args.now row) }
+    ensures gets { IfOk result (λ row.
+        Gets pass.old.seat.seat.me.0.store pass.new.seat.seat.me.0.store head args.now row) }
+    ensures full_only_where_read_full { IfErr result (λ _.
+        KeepsCause pass.old.seat.seat.me.0.store pass.new.seat.seat.me.0.store head args.now) }
+    ensures full_alone_only_where_absent { IfErr result (λ _. store.now.sizes.seats ≡ 1 →
+        IsAbsent pass.old.seat.seat.me.0.store.entries (over head args.now)) }
+    ensures full_gets_none { IfErr result (λ _. GetsNone pass.old.seat.seat.me.0.store pass.new.seat.seat.me.0.store) }
+    ensures rest { KeepsRest pass.old.seat.seat.me.0.store pass.new.seat.seat.me.0.store }
+{
+    create_counted(store, pass, head, args, &mut Steps::<L>::new(blank))
+}
+
 /// Creates a head over rows as `create_counted` does, and counts no step.
 pub fn create(store: &Store, pass: &mut Pass, head: Head, args: &[u64]) -> Result<u64, Full>
     requires inside { IsInside store.now pass.old }
@@ -279,6 +309,5 @@ pub fn create(store: &Store, pass: &mut Pass, head: Head, args: &[u64]) -> Resul
     ensures full_gets_none { IfErr result (λ _. GetsNone pass.old.seat.seat.me.0.store pass.new.seat.seat.me.0.store) }
     ensures rest { KeepsRest pass.old.seat.seat.me.0.store pass.new.seat.seat.me.0.store }
 {
-    let mut steps = Steps::<Brand>::new(Blank::new(1));
-    create_counted::<Brand>(store, pass, head, args, &mut steps)
+    create_uncounted::<Brand>(store, pass, head, args, Blank::new(1))
 }

@@ -38,7 +38,11 @@ pub(crate) fn compare_one<L: Ledger>(
     ensures tick { steps.new ≡ steps.old + 1 }
 {
     steps.tick();
-    let found = go_load(&asked.store.table, seat, row_word(&asked.store.sizes, at - 1, k));
+    let found = go_load(
+        &asked.store.table,
+        seat,
+        row_word(&asked.store.sizes, at - 1, k),
+    );
     if found == word_at(asked.head, asked.args, k) {
         return None;
     }
@@ -62,7 +66,11 @@ pub(crate) fn pass_on<L: Ledger>(
     ensures tick { steps.new ≡ steps.old + 1 }
 {
     steps.tick();
-    go_load(&asked.store.table, seat, next_word(&asked.store.sizes, at - 1))
+    go_load(
+        &asked.store.table,
+        seat,
+        next_word(&asked.store.sizes, at - 1),
+    )
 }
 
 // Notes the row that is the same, with its birth number.
@@ -83,7 +91,11 @@ pub(crate) fn find<L: Ledger>(
     ensures tick { steps.new ≡ steps.old + 1 }
 {
     steps.tick();
-    go_load(&asked.store.table, seat, birth_word(&asked.store.sizes, row))
+    go_load(
+        &asked.store.table,
+        seat,
+        birth_word(&asked.store.sizes, row),
+    )
 }
 
 // Loads the claim, at the chain's end.
@@ -124,7 +136,11 @@ pub(crate) fn read_count<L: Ledger>(
     ensures tick { steps.new ≡ steps.old + 1 }
 {
     steps.tick();
-    go_load(&asked.store.table, seat, free_count_word(&asked.store.sizes))
+    go_load(
+        &asked.store.table,
+        seat,
+        free_count_word(&asked.store.sizes),
+    )
 }
 
 // Draws a number.
@@ -166,7 +182,11 @@ pub(crate) fn read_place<L: Ledger>(
     ensures tick { steps.new ≡ steps.old + 1 }
 {
     steps.tick();
-    go_load(&asked.store.table, seat, free_place_word(&asked.store.sizes, index))
+    go_load(
+        &asked.store.table,
+        seat,
+        free_place_word(&asked.store.sizes, index),
+    )
 }
 
 // Stores word k of the drawn row.
@@ -188,7 +208,12 @@ pub(crate) fn fill_one<L: Ledger>(
 {
     steps.tick();
     let word = row_word(&asked.store.sizes, drawn.row, k);
-    go_store(&asked.store.table, seat, word, word_at(asked.head, asked.args, k));
+    go_store(
+        &asked.store.table,
+        seat,
+        word,
+        word_at(asked.head, asked.args, k),
+    );
 }
 
 // Stores the birth number of the drawn row.
@@ -228,7 +253,12 @@ pub(crate) fn link<L: Ledger>(
     ensures tick { steps.new ≡ steps.old + 1 }
 {
     steps.tick();
-    go_store(&asked.store.table, seat, next_word(&asked.store.sizes, drawn.row), drawn.from);
+    go_store(
+        &asked.store.table,
+        seat,
+        next_word(&asked.store.sizes, drawn.row),
+        drawn.from,
+    );
 }
 
 // Publishes the row where its chain has the same head still.
@@ -246,9 +276,9 @@ pub(crate) fn publish<L: Ledger>(
         seat.old.number seat.new.number seat.old.seats seat.new.seats }
     ensures view { seat.new.seat.me.0 ≡ with_store seat.old.seat.me.0 (if result == drawn.from
         then gained seat.old.seat.me.0.store (content asked.now) drawn.row (asked.now.base + drawn.index)
-            (Make (asked.now.base + drawn.index) asked.now.head asked.now.args.now drawn.row)
+        (Make (asked.now.base + drawn.index) asked.now.head asked.now.args.now drawn.row)
         else with_call seat.old.seat.me.0.store
-            (arrived (content asked.now) (Some (drawn.index, drawn.row)) result drawn.from result)) }
+        (arrived (content asked.now) (Some (drawn.index, drawn.row)) result drawn.from result)) }
     ensures tick { steps.new ≡ steps.old + 1 }
 {
     steps.tick();

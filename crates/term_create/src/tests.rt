@@ -1,13 +1,20 @@
-//! Passes of one store, on one thread and on two.
-ghost use Rattle.std.specs.Prelude.{◌≡◌, All};
+//! Passes of one store, on one thread, on two and on four.
+ghost use Rattle.std.specs.Prelude.{◌≡◌, ◌<◌, ◌+◌, All, IfOk};
+ghost use Rattle.std.specs.Thread.{IsSync};
 ghost use Rattle.lock_core.specs.declared.parts.Phase.TheVariants.{Shared};
+ghost use Rattle.store_core.specs.Machine.{In};
+ghost use Rattle.node_rows.specs.Inside.{IsInside};
 ghost use Rattle.node_rows.specs.Passes.{IsStore, IsPass, IsReady, IsOut};
 
-use crate::{Full, create};
+use crate::{Full, child_of, count_of, create, head_of};
 use node_rows::{Pass, Store};
+use std::alloc::{AllocError, Global};
+use std::hint::spin_loop;
 use std::process::Abort;
+use std::sync::atomic::{AtomicBool, Ordering};
 use std::test::Fail;
 use std::thread;
+use std::thread::Threads;
 use store_core::Sizes;
 use term_model::{Head, Symbol};
 
@@ -27,9 +34,8 @@ fn last_pass(rt: &impl Abort, store: &Store, passes: &mut Vec<Pass>) -> Pass
 fn enter(rt: &impl Abort, store: &Store, pass: &mut Pass)
     requires store { IsStore store.now.table.shared.table_id store.now.table.shared.key store.now.sizes }
     requires pass { IsPass store.now.table.shared.table_id store.now.sizes pass.old.seat.seat pass.old.seat.seats × IsOut pass.old.seat.seat.me.0 }
-    ensures pass { IsPass store.now.table.shared.table_id store.now.sizes pass.new.seat.seat pass.new.seat.seats }
+    ensures inside { IsInside store.now pass.new }
     ensures shared { pass.new.seat.seat.me.0.lock.phase ≡ Shared }
-    ensures ready { IsReady store.now.sizes pass.new.seat.seat.me.0.store pass.new.base pass.new.in_use }
 {
     match store.try_enter_shared(pass) {
         Ok(()) => {}
@@ -39,13 +45,11 @@ fn enter(rt: &impl Abort, store: &Store, pass: &mut Pass)
 
 // Creates a symbol over an integer and the empty list.
 fn create_three(store: &Store, pass: &mut Pass) -> Result<u64, Full>
-    requires store { IsStore store.now.table.shared.table_id store.now.table.shared.key store.now.sizes }
-    requires pass { IsPass store.now.table.shared.table_id store.now.sizes pass.old.seat.seat pass.old.seat.seats }
+    requires inside { IsInside store.now pass.old }
     requires shared { pass.old.seat.seat.me.0.lock.phase ≡ Shared }
-    requires ready { IsReady store.now.sizes pass.old.seat.seat.me.0.store pass.old.base pass.old.in_use }
-    ensures pass { IsPass store.now.table.shared.table_id store.now.sizes pass.new.seat.seat pass.new.seat.seats }
+    ensures inside { IsInside store.now pass.new }
     ensures shared { pass.new.seat.seat.me.0.lock.phase ≡ Shared }
-    ensures ready { IsReady store.now.sizes pass.new.seat.seat.me.0.store pass.new.base pass.new.in_use }
+    ensures gets { IfOk result (λ row. In row pass.new.seat.seat.me.0.store.got) }
 {
     let a = create(store, pass, Head::Int(5), &[])?;
     let b = create(store, pass, Head::Nil, &[])?;
@@ -84,6 +88,54 @@ fn two_passes_share_a_term(rt: HostRuntime) -> Result<(), Fail> {
     Ok(())
 }
 
+// The head of a row, and its count of arguments.
+fn read_row(store: &Store, pass: &mut Pass, row: u64) -> (Head, u32)
+    requires inside { IsInside store.now pass.old }
+    requires uses { In row pass.old.seat.seat.me.0.store.got }
+    ensures inside { IsInside store.now pass.new }
+{
+    let head = head_of(store, pass, row);
+    (head, count_of(store, pass, row))
+}
+
+// The head of argument `j`, where there are so many.
+fn read_child(store: &Store, pass: &mut Pass, row: u64, j: u32) -> Option<Head>
+    requires inside { IsInside store.now pass.old }
+    requires uses { In row pass.old.seat.seat.me.0.store.got }
+    ensures inside { IsInside store.now pass.new }
+{
+    if j >= count_of(store, pass, row) {
+        return None;
+    }
+    let child = child_of(store, pass, row, j);
+    Some(head_of(store, pass, child))
+}
+
+#[test]
+fn reads_give_what_was_created(rt: HostRuntime) -> Result<(), Fail> {
+    let sizes = Sizes {
+        rows: 3,
+        buckets: 2,
+        start: 1,
+        seats: 1,
+        depth: 2,
+        arity: 0,
+        first: 1,
+    };
+    let (store, mut passes) = Store::make(rt.alloc(), sizes)?;
+    let mut pass = last_pass(&rt, &store, &mut passes);
+    enter(&rt, &store, &mut pass);
+    let Ok(row) = create_three(&store, &mut pass) else {
+        panic!(rt; "three rows suffice");
+    };
+    assert_eq!(rt; read_row(&store, &mut pass, row), (Head::App(Symbol(7)), 2));
+    assert_eq!(rt; read_child(&store, &mut pass, row, 0), Some(Head::Int(5)));
+    assert_eq!(rt; read_child(&store, &mut pass, row, 1), Some(Head::Nil));
+    assert_eq!(rt; read_child(&store, &mut pass, row, 2), None);
+    store.leave_shared(&mut pass);
+    Ok(())
+}
+
 // In one shared access: a constant, and its row.
 fn constant(rt: &impl Abort, store: &Store, pass: &mut Pass, symbol: u32) -> Result<u64, Full>
     requires store { IsStore store.now.table.shared.table_id store.now.table.shared.key store.now.sizes }
@@ -94,55 +146,6 @@ fn constant(rt: &impl Abort, store: &Store, pass: &mut Pass, symbol: u32) -> Res
     let row = create(store, pass, Head::App(Symbol(symbol)), &[]);
     store.leave_shared(pass);
     row
-}
-
-// Two constants, and a symbol over the first.
-fn create_past_the_room(
-    store: &Store,
-    pass: &mut Pass,
-) -> (Result<u64, Full>, Result<u64, Full>, Result<u64, Full>)
-    requires store { IsStore store.now.table.shared.table_id store.now.table.shared.key store.now.sizes }
-    requires pass { IsPass store.now.table.shared.table_id store.now.sizes pass.old.seat.seat pass.old.seat.seats }
-    requires shared { pass.old.seat.seat.me.0.lock.phase ≡ Shared }
-    requires ready { IsReady store.now.sizes pass.old.seat.seat.me.0.store pass.old.base pass.old.in_use }
-    ensures pass { IsPass store.now.table.shared.table_id store.now.sizes pass.new.seat.seat pass.new.seat.seats }
-    ensures shared { pass.new.seat.seat.me.0.lock.phase ≡ Shared }
-    ensures ready { IsReady store.now.sizes pass.new.seat.seat.me.0.store pass.new.base pass.new.in_use }
-{
-    let other = create(store, pass, Head::App(Symbol(1)), &[]);
-    match create(store, pass, Head::App(Symbol(0)), &[]) {
-        Ok(row) => (
-            Ok(row),
-            other,
-            create(store, pass, Head::App(Symbol(2)), &[row]),
-        ),
-        Err(full) => (Err(full), other, Ok(0)),
-    }
-}
-
-#[test]
-fn a_store_of_two_rows_is_full(rt: HostRuntime) -> Result<(), Fail> {
-    let sizes = Sizes {
-        rows: 2,
-        buckets: 1,
-        start: 1,
-        seats: 2,
-        depth: 4,
-        arity: 1,
-        first: 1,
-    };
-    let (store, mut passes) = Store::make(rt.alloc(), sizes)?;
-    let mut second = last_pass(&rt, &store, &mut passes);
-    let mut first = last_pass(&rt, &store, &mut passes);
-    let made = constant(&rt, &store, &mut first, 0);
-    enter(&rt, &store, &mut second);
-    let (row, other, third) = create_past_the_room(&store, &mut second);
-    assert!(rt; row.is_ok() && other.is_ok());
-    assert_eq!(rt; row, made);
-    assert!(rt; other != row);
-    assert_eq!(rt; third, Err(Full));
-    store.leave_shared(&mut second);
-    Ok(())
 }
 
 // In one shared access: the constants of ten symbols in order, and their rows.
@@ -160,8 +163,22 @@ fn create_ten<R: Abort>(rt: &R, store: &Store, mut pass: Pass) -> [u64; 10]
     rows
 }
 
+// Waits for the other thread, for at most a million turns: whether it came.
+fn meet(mine: &AtomicBool, other: &AtomicBool) -> bool {
+    mine.store(true, Ordering::SeqCst);
+    for _ in 0..1_000_000 {
+        if other.load(Ordering::SeqCst) {
+            return true;
+        }
+        for _ in 0..100 {
+            spin_loop();
+        }
+    }
+    false
+}
+
 #[test]
-fn two_threads_share_ten_constants(rt: HostRuntime) -> Result<(), Fail> {
+fn two_threads_at_once_share_ten_constants(rt: HostRuntime) -> Result<(), Fail> {
     let sizes = Sizes {
         rows: 20,
         buckets: 1,
@@ -175,22 +192,158 @@ fn two_threads_share_ten_constants(rt: HostRuntime) -> Result<(), Fail> {
     let two = last_pass(&rt, &store, &mut passes);
     let one = last_pass(&rt, &store, &mut passes);
     let (handle, shared) = (&rt, &store);
+    let (first_came, second_came) = (AtomicBool::new(false), AtomicBool::new(false));
+    let (came, went) = (&first_came, &second_came);
     let (first, second) = thread::join(
         handle,
-        move || -> [u64; 10]
+        move || -> (bool, [u64; 10])
             requires { IsStore shared.now.table.shared.table_id shared.now.table.shared.key shared.now.sizes
                 × IsPass shared.now.table.shared.table_id shared.now.sizes one.seat.seat one.seat.seats × IsOut one.seat.seat.me.0 }
-        { create_ten(handle, shared, one) },
-        move || -> [u64; 10]
+        { (meet(came, went), create_ten(handle, shared, one)) },
+        move || -> (bool, [u64; 10])
             requires { IsStore shared.now.table.shared.table_id shared.now.table.shared.key shared.now.sizes
                 × IsPass shared.now.table.shared.table_id shared.now.sizes two.seat.seat two.seat.seats × IsOut two.seat.seat.me.0 }
-        { create_ten(handle, shared, two) },
+        { (meet(went, came), create_ten(handle, shared, two)) },
     );
-    assert_eq!(rt; first, second);
+    assert!(rt; first.0 && second.0, "both threads run at once");
+    assert_eq!(rt; first.1, second.1);
     for i in 0..10usize {
         for j in 0..i {
-            assert!(rt; first[i] != first[j]);
+            assert!(rt; first.1[i] != first.1[j]);
         }
+    }
+    Ok(())
+}
+
+const PAIRS: u32 = 12_500;
+
+const ROWS: u32 = 50_000;
+
+// The row of a head over rows.
+fn row_of(rt: &impl Abort, made: Result<u64, Full>) -> u64
+    ensures { IfOk made (λ row. result ≡ row) }
+{
+    match made {
+        Ok(row) => row,
+        Err(_) => panic!(rt; "the rows suffice"),
+    }
+}
+
+// A constant, and a symbol over it: the rows of both.
+fn create_pair(rt: &impl Abort, store: &Store, pass: &mut Pass, symbol: u32) -> (u64, u64)
+    requires inside { IsInside store.now pass.old }
+    requires shared { pass.old.seat.seat.me.0.lock.phase ≡ Shared }
+    ensures inside { IsInside store.now pass.new }
+    ensures shared { pass.new.seat.seat.me.0.lock.phase ≡ Shared }
+{
+    match create(store, pass, Head::App(Symbol(symbol)), &[]) {
+        Ok(row) => {
+            let over = create(store, pass, Head::App(Symbol(PAIRS)), &[row]);
+            (row, row_of(rt, over))
+        }
+        Err(_) => panic!(rt; "the rows suffice"),
+    }
+}
+
+// In one shared access: so many constants, from one on and around, each with a symbol over it; their rows in order.
+fn create_pairs<R: Abort>(
+    rt: &R,
+    alloc: Global,
+    store: &Store,
+    mut pass: Pass,
+    from: u32,
+) -> Result<Vec<(u64, u64)>, AllocError>
+    requires store { IsStore store.now.table.shared.table_id store.now.table.shared.key store.now.sizes }
+    requires pass { IsPass store.now.table.shared.table_id store.now.sizes pass.seat.seat pass.seat.seats × IsOut pass.seat.seat.me.0 }
+    requires from { from < 12500 }
+{
+    let mut pairs = Vec::from_elem(alloc, (0, 0), PAIRS as usize)?;
+    enter(rt, store, &mut pass);
+    for i in 0..PAIRS {
+        let symbol = (from + i) % PAIRS;
+        pairs[symbol as usize] = create_pair(rt, store, &mut pass, symbol);
+    }
+    store.leave_shared(&mut pass);
+    Ok(pairs)
+}
+
+// The same on two threads at once, each from a constant of its own.
+fn create_on_two<R: Abort + Threads + Sync>(
+    rt: &R,
+    alloc: Global,
+    store: &Store,
+    first: Pass,
+    second: Pass,
+    from: u32,
+) -> (Result<Vec<(u64, u64)>, AllocError>, Result<Vec<(u64, u64)>, AllocError>)
+    requires store { IsStore store.now.table.shared.table_id store.now.table.shared.key store.now.sizes }
+    requires first { IsPass store.now.table.shared.table_id store.now.sizes first.seat.seat first.seat.seats × IsOut first.seat.seat.me.0 }
+    requires second { IsPass store.now.table.shared.table_id store.now.sizes second.seat.seat second.seat.seats × IsOut second.seat.seat.me.0 }
+    requires from { from + 3000 < 12500 }
+{
+    thread::join(
+        rt,
+        move || -> Result<Vec<(u64, u64)>, AllocError>
+            requires { IsSync R.row × IsStore store.now.table.shared.table_id store.now.table.shared.key store.now.sizes
+                × IsPass store.now.table.shared.table_id store.now.sizes first.seat.seat first.seat.seats × IsOut first.seat.seat.me.0 × (from < 12500) }
+        { create_pairs(rt, alloc, store, first, from) },
+        move || -> Result<Vec<(u64, u64)>, AllocError>
+            requires { IsSync R.row × IsStore store.now.table.shared.table_id store.now.table.shared.key store.now.sizes
+                × IsPass store.now.table.shared.table_id store.now.sizes second.seat.seat second.seat.seats × IsOut second.seat.seat.me.0 × (from + 3000 < 12500) }
+        { create_pairs(rt, alloc, store, second, from + 3_000) },
+    )
+}
+
+// Notes that a term has this row, which no other has.
+fn note(rt: &impl Abort, seen: &mut Vec<bool>, row: u64) {
+    match seen.get_mut(row as usize) {
+        Some(place) => {
+            assert!(rt; !*place, "row {row} has two terms");
+            *place = true;
+        }
+        None => panic!(rt; "row {row} is none of the store"),
+    }
+}
+
+#[test]
+fn four_threads_have_one_row_a_term(rt: HostRuntime) -> Result<(), Fail> {
+    let sizes = Sizes {
+        rows: ROWS,
+        buckets: 1024,
+        start: 1024,
+        seats: 4,
+        depth: 4,
+        arity: 1,
+        first: 1,
+    };
+    let alloc = rt.alloc();
+    let (store, mut passes) = Store::make(alloc, sizes)?;
+    let four = last_pass(&rt, &store, &mut passes);
+    let three = last_pass(&rt, &store, &mut passes);
+    let two = last_pass(&rt, &store, &mut passes);
+    let one = last_pass(&rt, &store, &mut passes);
+    let (handle, shared) = (&rt, &store);
+    let (low, high) = thread::join(
+        handle,
+        move || -> (Result<Vec<(u64, u64)>, AllocError>, Result<Vec<(u64, u64)>, AllocError>)
+            requires { IsStore shared.now.table.shared.table_id shared.now.table.shared.key shared.now.sizes
+                × IsPass shared.now.table.shared.table_id shared.now.sizes one.seat.seat one.seat.seats × IsOut one.seat.seat.me.0
+                × IsPass shared.now.table.shared.table_id shared.now.sizes two.seat.seat two.seat.seats × IsOut two.seat.seat.me.0 }
+        { create_on_two(handle, alloc, shared, one, two, 0) },
+        move || -> (Result<Vec<(u64, u64)>, AllocError>, Result<Vec<(u64, u64)>, AllocError>)
+            requires { IsStore shared.now.table.shared.table_id shared.now.table.shared.key shared.now.sizes
+                × IsPass shared.now.table.shared.table_id shared.now.sizes three.seat.seat three.seat.seats × IsOut three.seat.seat.me.0
+                × IsPass shared.now.table.shared.table_id shared.now.sizes four.seat.seat four.seat.seats × IsOut four.seat.seat.me.0 }
+        { create_on_two(handle, alloc, shared, three, four, 6_000) },
+    );
+    let pairs = low.0?;
+    assert_eq!(rt; low.1?, pairs);
+    assert_eq!(rt; high.0?, pairs);
+    assert_eq!(rt; high.1?, pairs);
+    let mut seen = Vec::from_elem(alloc, false, ROWS as usize)?;
+    for pair in &pairs {
+        note(&rt, &mut seen, pair.0);
+        note(&rt, &mut seen, pair.1);
     }
     Ok(())
 }

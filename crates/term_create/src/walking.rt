@@ -54,7 +54,7 @@ pub(crate) fn walk<L: Ledger>(
         seat.old.number seat.new.number seat.old.seats seat.new.seats }
     ensures view { MatchOption result
         (HasPassed seat.old.seat.me.0 seat.new.seat.me.0 (content asked.now)
-            (ended (content asked.now) walk.drawn walk.from) walk.from walk.old)
+        (ended (content asked.now) walk.drawn walk.from) walk.from walk.old)
         (λ row. Finds seat.old.seat.me.0 seat.new.seat.me.0 asked.now.head asked.now.args.now row) }
     ensures cost { let z = asked.now.store.now.sizes in let before = seat.old.seat.me.0.store.passed in MatchOption result
         (Takes z 0 before seat.new.seat.me.0.store.passed steps.old steps.new)

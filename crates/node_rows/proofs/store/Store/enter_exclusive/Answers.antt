@@ -1,4 +1,5 @@
-use Rattle.std.proofs.Common.{◌∙◌}
+use Rattle.std.proofs.Common.{sym, ap, ◌∙◌}
+use Rattle.store_core.specs.declared.view.View.{View}
 use Rattle.node_rows.proofs.Entering.{came_from, enters_exclusive_stays}
 use Rattle.node_rows.proofs.store.Store.enter_exclusive.Goals as goal
 
@@ -14,3 +15,8 @@ pub returns-clause-came : goal.returns-clause-came
 returns-clause-came g c =
     let t = enters_exclusive_stays c.args.pass.now.seat.number c.args.pass.now.seat.seats c.args.pass.now.seat.seat.me.0 c.enter_exclusive.new.seat.seat.me.0 c.enter_exclusive.ensures.steps c.requires.out.away in
     came_from c.args.pass.now.seat.seat.me.0 _ _ _ _ t c.arrive.ensures.came
+
+pub invariant_of-pass : goal.invariant_of-pass
+invariant_of-pass g c = record {
+  counted = c.args.pass.now.counted ∙ ap (λ (v : View). v.root_count) (sym (enters_exclusive_stays c.args.pass.now.seat.number c.args.pass.now.seat.seats c.args.pass.now.seat.seat.me.0 c.enter_exclusive.new.seat.seat.me.0 c.enter_exclusive.ensures.steps c.requires.out.away).store);
+}

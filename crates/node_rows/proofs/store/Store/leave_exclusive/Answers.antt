@@ -1,4 +1,5 @@
-use Rattle.std.proofs.Common.{◌∙◌}
+use Rattle.std.proofs.Common.{◌∙◌, sym, ap}
+use Rattle.store_core.specs.declared.view.View.{View}
 use Rattle.node_rows.proofs.Entering.{ends_exclusive, granted_closed, may_release}
 use Rattle.node_rows.proofs.store.Store.leave_exclusive.Goals as goal
 
@@ -17,3 +18,8 @@ returns-clause-left c = (ends_exclusive c.args.pass.now.seat.number c.args.pass.
 
 pub returns-clause-out : goal.returns-clause-out
 returns-clause-out c = record { phase = c.leave_exclusive.ensures.out.phase; away = (ends_exclusive c.args.pass.now.seat.number c.args.pass.now.seat.seats c.args.pass.now.seat.seat.me.0 c.leave_exclusive.new.seat.seat.me.0 c.requires.ready.rest c.leave_exclusive.ensures.view).away }
+
+pub invariant_of-pass : goal.invariant_of-pass
+invariant_of-pass c = record {
+  counted = c.args.pass.now.counted ∙ ap (λ (v : View). v.root_count) (sym (ends_exclusive c.args.pass.now.seat.number c.args.pass.now.seat.seats c.args.pass.now.seat.seat.me.0 c.leave_exclusive.new.seat.seat.me.0 c.requires.ready.rest c.leave_exclusive.ensures.view).store);
+}

@@ -1,4 +1,5 @@
-use Rattle.std.proofs.Common.{◌∙◌, Ok, Err}
+use Rattle.std.proofs.Common.{sym, ap, ◌∙◌, Ok, Err}
+use Rattle.store_core.specs.declared.view.View.{View}
 use Rattle.node_rows.proofs.Entering.{came_from, tries_exclusive_stays}
 use Rattle.node_rows.proofs.store.Store.try_enter_exclusive.Goals as goal
 
@@ -25,3 +26,8 @@ returns-in-Err-clause-came c = (tries_exclusive_stays c.args.pass.now.seat.numbe
 
 pub returns-in-Err-clause-access : goal.returns-in-Err-clause-access
 returns-in-Err-clause-access c = record { phase = c.in-Err.ensures.shows.0.phase; away = (tries_exclusive_stays c.args.pass.now.seat.number c.args.pass.now.seat.seats c.args.pass.now.seat.seat.me.0 c.try_enter_exclusive.new.seat.seat.me.0 (Err c.in-Err.busy) c.in-Err.ensures.steps c.requires.out.away).away }
+
+pub invariant_of-pass : goal.invariant_of-pass
+invariant_of-pass c = record {
+  counted = c.args.pass.now.counted ∙ ap (λ (v : View). v.root_count) (sym (tries_exclusive_stays c.args.pass.now.seat.number c.args.pass.now.seat.seats c.args.pass.now.seat.seat.me.0 c.try_enter_exclusive.new.seat.seat.me.0 c.try_enter_exclusive.result c.try_enter_exclusive.ensures.steps c.requires.out.away).store);
+}
