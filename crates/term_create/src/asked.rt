@@ -7,6 +7,7 @@ use node_rows::Store;
 use term_model::Head;
 
 /// A head over rows that is asked of a store, at the base of the pass, and the bucket of it.
+#[derive(Drop)]
 pub(crate) struct Asked<'a> {
     pub(crate) store: &'a Store,
     pub(crate) head: Head,

@@ -1,6 +1,5 @@
 //! Passes of one store, on one thread, on two and on four.
 ghost use Rattle.std.specs.Prelude.{◌≡◌, ◌<◌, ◌+◌, All, IfOk};
-ghost use Rattle.std.specs.Thread.{IsSync};
 ghost use Rattle.lock_core.specs.declared.parts.Phase.TheVariants.{Shared};
 ghost use Rattle.store_core.specs.Machine.{In};
 ghost use Rattle.node_rows.specs.Inside.{IsInside};
@@ -14,7 +13,6 @@ use std::process::Abort;
 use std::sync::atomic::{AtomicBool, Ordering};
 use std::test::Fail;
 use std::thread;
-use std::thread::Threads;
 use store_core::Sizes;
 use term_model::{Head, Symbol};
 
@@ -245,18 +243,18 @@ fn create_pair(rt: &impl Abort, store: &Store, pass: &mut Pass, symbol: u32) -> 
     }
 }
 
-// In one shared access: so many constants, from one on and around, each with a symbol over it; their rows in order.
+// In one shared access: so many constants, from one of the pass's own on and around, each with a symbol over it; their rows in
+// order.
 fn create_pairs<R: Abort>(
     rt: &R,
     alloc: Global,
     store: &Store,
     mut pass: Pass,
-    from: u32,
 ) -> Result<Vec<(u64, u64)>, AllocError>
     requires store { IsStore store.now.table.shared.table_id store.now.table.shared.key store.now.sizes }
     requires pass { IsPass store.now.table.shared.table_id store.now.sizes pass.seat.seat pass.seat.seats × IsOut pass.seat.seat.me.0 }
-    requires from { from < 12500 }
 {
+    let from = pass.seat.number % 4 * 3_000;
     let mut pairs = Vec::from_elem(alloc, (0, 0), PAIRS as usize)?;
     enter(rt, store, &mut pass);
     for i in 0..PAIRS {
@@ -265,33 +263,6 @@ fn create_pairs<R: Abort>(
     }
     store.leave_shared(&mut pass);
     Ok(pairs)
-}
-
-// The same on two threads at once, each from a constant of its own.
-fn create_on_two<R: Abort + Threads + Sync>(
-    rt: &R,
-    alloc: Global,
-    store: &Store,
-    first: Pass,
-    second: Pass,
-    from: u32,
-) -> (Result<Vec<(u64, u64)>, AllocError>, Result<Vec<(u64, u64)>, AllocError>)
-    requires store { IsStore store.now.table.shared.table_id store.now.table.shared.key store.now.sizes }
-    requires first { IsPass store.now.table.shared.table_id store.now.sizes first.seat.seat first.seat.seats × IsOut first.seat.seat.me.0 }
-    requires second { IsPass store.now.table.shared.table_id store.now.sizes second.seat.seat second.seat.seats × IsOut second.seat.seat.me.0 }
-    requires from { from + 3000 < 12500 }
-{
-    thread::join(
-        rt,
-        move || -> Result<Vec<(u64, u64)>, AllocError>
-            requires { IsSync R.row × IsStore store.now.table.shared.table_id store.now.table.shared.key store.now.sizes
-                × IsPass store.now.table.shared.table_id store.now.sizes first.seat.seat first.seat.seats × IsOut first.seat.seat.me.0 × (from < 12500) }
-        { create_pairs(rt, alloc, store, first, from) },
-        move || -> Result<Vec<(u64, u64)>, AllocError>
-            requires { IsSync R.row × IsStore store.now.table.shared.table_id store.now.table.shared.key store.now.sizes
-                × IsPass store.now.table.shared.table_id store.now.sizes second.seat.seat second.seat.seats × IsOut second.seat.seat.me.0 × (from + 3000 < 12500) }
-        { create_pairs(rt, alloc, store, second, from + 3_000) },
-    )
 }
 
 // Notes that a term has this row, which no other has.
@@ -303,6 +274,16 @@ fn note(rt: &impl Abort, seen: &mut Vec<bool>, row: u64) {
         }
         None => panic!(rt; "row {row} is none of the store"),
     }
+}
+
+// Each term has a row of its own.
+fn differ(rt: &impl Abort, alloc: Global, pairs: &[(u64, u64)]) -> Result<(), AllocError> {
+    let mut seen = Vec::from_elem(alloc, false, ROWS as usize)?;
+    for pair in pairs {
+        note(rt, &mut seen, pair.0);
+        note(rt, &mut seen, pair.1);
+    }
+    Ok(())
 }
 
 #[test]
@@ -317,33 +298,22 @@ fn four_threads_have_one_row_a_term(rt: HostRuntime) -> Result<(), Fail> {
         first: 1,
     };
     let alloc = rt.alloc();
-    let (store, mut passes) = Store::make(alloc, sizes)?;
-    let four = last_pass(&rt, &store, &mut passes);
-    let three = last_pass(&rt, &store, &mut passes);
-    let two = last_pass(&rt, &store, &mut passes);
-    let one = last_pass(&rt, &store, &mut passes);
+    let (store, passes) = Store::make(alloc, sizes)?;
     let (handle, shared) = (&rt, &store);
-    let (low, high) = thread::join(
-        handle,
-        move || -> (Result<Vec<(u64, u64)>, AllocError>, Result<Vec<(u64, u64)>, AllocError>)
-            requires { IsStore shared.now.table.shared.table_id shared.now.table.shared.key shared.now.sizes
-                × IsPass shared.now.table.shared.table_id shared.now.sizes one.seat.seat one.seat.seats × IsOut one.seat.seat.me.0
-                × IsPass shared.now.table.shared.table_id shared.now.sizes two.seat.seat two.seat.seats × IsOut two.seat.seat.me.0 }
-        { create_on_two(handle, alloc, shared, one, two, 0) },
-        move || -> (Result<Vec<(u64, u64)>, AllocError>, Result<Vec<(u64, u64)>, AllocError>)
-            requires { IsStore shared.now.table.shared.table_id shared.now.table.shared.key shared.now.sizes
-                × IsPass shared.now.table.shared.table_id shared.now.sizes three.seat.seat three.seat.seats × IsOut three.seat.seat.me.0
-                × IsPass shared.now.table.shared.table_id shared.now.sizes four.seat.seat four.seat.seats × IsOut four.seat.seat.me.0 }
-        { create_on_two(handle, alloc, shared, three, four, 6_000) },
-    );
-    let pairs = low.0?;
-    assert_eq!(rt; low.1?, pairs);
-    assert_eq!(rt; high.0?, pairs);
-    assert_eq!(rt; high.1?, pairs);
-    let mut seen = Vec::from_elem(alloc, false, ROWS as usize)?;
-    for pair in &pairs {
-        note(&rt, &mut seen, pair.0);
-        note(&rt, &mut seen, pair.1);
+    let made = thread::map_vec(handle, passes, &|pass: Pass| -> Result<Vec<(u64, u64)>, AllocError>
+        requires { IsStore shared.now.table.shared.table_id shared.now.table.shared.key shared.now.sizes
+            × IsPass shared.now.table.shared.table_id shared.now.sizes pass.seat.seat pass.seat.seats × IsOut pass.seat.seat.me.0 }
+    { create_pairs(handle, alloc, shared, pass) })?;
+    let mut first: Option<Vec<(u64, u64)>> = None;
+    for pairs in made {
+        let pairs = pairs?;
+        match &first {
+            Some(one) => assert_eq!(rt; pairs, *one),
+            None => {
+                differ(&rt, alloc, &pairs)?;
+                first = Some(pairs);
+            }
+        }
     }
     Ok(())
 }
