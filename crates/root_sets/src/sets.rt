@@ -84,8 +84,9 @@ pub fn keep_roots(store: &Store, pass: &mut Pass, from: u32, top: u32)
     ensures keeps { Keeps pass.old.seat.seat.me.0 pass.new.seat.seat.me.0 }
 {
     let last = pass.root_count - top;
-    if from < last {
-        copy_roots(store, pass, last, from, top);
-        set_count(store, pass, from + top);
+    if from >= last {
+        return;
     }
+    copy_roots(store, pass, last, from, top);
+    set_count(store, pass, from + top);
 }

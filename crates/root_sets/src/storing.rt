@@ -18,7 +18,10 @@ fn has_root(store: &Store, pass: &mut Pass, k: u32, row: u64) -> bool
     ensures has { IsTrue result → get_or pass.old.seat.seat.me.0.store.roots k 0 ≡ row }
     ensures keeps { Keeps pass.old.seat.seat.me.0 pass.new.seat.seat.me.0 }
 {
-    k < pass.root_count && load_root(store, pass, k) == row
+    if k >= pass.root_count {
+        return false;
+    }
+    load_root(store, pass, k) == row
 }
 
 // Makes protected row k this one, by a store where it is another.
@@ -32,9 +35,10 @@ fn put_root(store: &Store, pass: &mut Pass, k: u32, row: u64)
     ensures roots { pass.new.seat.seat.me.0.store.roots ≡ set pass.old.seat.seat.me.0.store.roots k row }
     ensures keeps { Keeps pass.old.seat.seat.me.0 pass.new.seat.seat.me.0 }
 {
-    if !has_root(store, pass, k, row) {
-        set_root(store, pass, k, row);
+    if has_root(store, pass, k, row) {
+        return;
     }
+    set_root(store, pass, k, row);
 }
 
 // Makes the first protected rows these.

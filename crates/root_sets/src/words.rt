@@ -17,8 +17,8 @@ pub(crate) fn load_root(store: &Store, pass: &mut Pass, k: u32) -> u64
     ensures view { pass.new.seat.seat.me.0 ≡ with_store pass.old.seat.seat.me.0 (with_got pass.old.seat.seat.me.0.store result) }
     ensures row { result ≡ get_or pass.old.seat.seat.me.0.store.roots k 0 }
 {
-    let word = root_word(&store.sizes, pass.seat.number, u64::from(k));
-    node_rows::load_root(&store.table, &mut pass.seat, word, u64::from(k))
+    let word = root_word(&store.sizes, pass.seat.number, k as u64);
+    node_rows::load_root(&store.table, &mut pass.seat, word, k as u64)
 }
 
 // Stores a row that the pass may use as protected row k.
@@ -31,8 +31,8 @@ pub(crate) fn set_root(store: &Store, pass: &mut Pass, k: u32, row: u64)
     ensures count { pass.new.root_count ≡ pass.old.root_count }
     ensures view { pass.new.seat.seat.me.0 ≡ with_store pass.old.seat.seat.me.0 (rooted pass.old.seat.seat.me.0.store k row) }
 {
-    let word = root_word(&store.sizes, pass.seat.number, u64::from(k));
-    node_rows::store_root(&store.table, &mut pass.seat, word, u64::from(k), row);
+    let word = root_word(&store.sizes, pass.seat.number, k as u64);
+    node_rows::store_root(&store.table, &mut pass.seat, word, k as u64, row);
 }
 
 // Stores how many rows are protected.
@@ -47,6 +47,6 @@ pub(crate) fn set_count(store: &Store, pass: &mut Pass, count: u32)
     ensures view { pass.new.seat.seat.me.0 ≡ with_store pass.old.seat.seat.me.0 (root_counted pass.old.seat.seat.me.0.store count) }
 {
     let word = root_count_word(&store.sizes, pass.seat.number);
-    node_rows::store_root_count(&store.table, &mut pass.seat, word, u64::from(count));
+    node_rows::store_root_count(&store.table, &mut pass.seat, word, count as u64);
     pass.root_count = count;
 }

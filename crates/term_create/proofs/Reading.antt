@@ -14,7 +14,8 @@ use Rattle.store_core.specs.Machine.{Each, In}
 use Rattle.store_core.specs.ByView.{KnowsWord}
 use Rattle.store_core.proofs.Basics.{each_in}
 use Rattle.node_rows.specs.Knowing.{KnowsRow, KnowsTree, KnowsTrees}
-use Rattle.node_rows.specs.Steps.{Known}
+use Rattle.node_rows.specs.declared.view.NodeView.{NodeView}
+use Rattle.node_rows.specs.Steps.{Known, with_store}
 use Rattle.term_create.specs.Read.{word, head_words}
 
 -- a row that the pass has got is one of the store
@@ -82,7 +83,7 @@ same_head ks r Cons (Int n) rs once h l = absurd (let e : 4294967298 ≡ 4294967
 same_head ks r Cons Nil rs once h l = absurd (let e : 4294967298 ≡ 4294967297 = once r 0 4294967298 4294967297 (inr (h.words 0 (omega arith))) (inl (refl, refl, refl)) in omega arith)
 same_head ks r Cons Cons rs once h l = refl
 
-pub root_is : (ks : List KnownWord) (r : ℕ) (g : Head) → Once (head_words r g ++ ks) → InRange g → (t : Tree) → KnowsTree ks r t → root t ≡ Some g
+root_is : (ks : List KnownWord) (r : ℕ) (g : Head) → Once (head_words r g ++ ks) → InRange g → (t : Tree) → KnowsTree ks r t → root t ≡ Some g
 root_is ks r g once range (Leaf x) h = absurd h
 root_is ks r g once range (Node f ts) h = ap Some (same_head ks r f g h.0 once h.1 range)
 
@@ -113,7 +114,7 @@ words_long Nil rs j o l = absurd (let e = ap length o in omega arith)
 words_long Cons rs j o l = omega arith
 
 -- the count that was read is that of the row
-pub count_is : (ks : List KnownWord) (r n : ℕ) → Once (word r 1 n ∷ ks) → (t : Tree) → KnowsTree ks r t → length (arguments t) ≡ n
+count_is : (ks : List KnownWord) (r n : ℕ) → Once (word r 1 n ∷ ks) → (t : Tree) → KnowsTree ks r t → length (arguments t) ≡ n
 count_is ks r n once (Leaf x) h = absurd h
 count_is ks r n once (Node f ts) h =
     trees_long ks ts h.0 h.2 ∙ (sym (counted f h.0 h.1.over) ∙ once r 1 (get_or (spelled f h.0) 1 0) n (inr (h.1.words 1 (two_words f h.0))) (inl (refl, refl, refl)))
@@ -126,7 +127,7 @@ tree_in ks (More t ts) (r ∷ rs) zero h l = h.0
 tree_in ks (More t ts) (r ∷ rs) (suc j) h l = tree_in ks ts rs j h.1 (omega arith)
 
 -- the argument that was read has the tree of that argument
-pub child_is : (ks : List KnownWord) (r j n child : ℕ) → Once (word r (suc (suc j)) child ∷ ks) → KnowsWord r 1 n ks → j < n → (t : Tree) → KnowsTree ks r t → KnowsTree (word r (suc (suc j)) child ∷ ks) child (get_or (arguments t) j (Leaf 0))
+child_is : (ks : List KnownWord) (r j n child : ℕ) → Once (word r (suc (suc j)) child ∷ ks) → KnowsWord r 1 n ks → j < n → (t : Tree) → KnowsTree ks r t → KnowsTree (word r (suc (suc j)) child ∷ ks) child (get_or (arguments t) j (Leaf 0))
 child_is ks r j n child once known below (Leaf x) h = absurd h
 child_is ks r j n child once known below (Node f ts) h =
     let rs : List ℕ = h.0 in
@@ -135,4 +136,24 @@ child_is ks r j n child once known below (Node f ts) h =
     let a : get_or (spelled f rs) (suc (suc j)) 0 ≡ child = once r (suc (suc j)) (get_or (spelled f rs) (suc (suc j)) 0) child (inr (h.1.words (suc (suc j)) (words_long f rs j h.1.over l))) (inl (refl, refl, refl)) in
     let b : get_or rs j 0 ≡ child = sym (argument_word f rs j h.1.over l) ∙ a in
     subst (λ (q : ℕ). KnowsTree (word r (suc (suc j)) child ∷ ks) q (get_or (list_of ts) j (Leaf 0))) b
-        (tree_after (word r (suc (suc j)) child ∷ []) ks (get_or (list_of ts) j (Leaf 0)) (get_or rs j 0) (tree_in ks ts rs j h.2 l))
+    (tree_after (word r (suc (suc j)) child ∷ []) ks (get_or (list_of ts) j (Leaf 0)) (get_or rs j 0) (tree_in ks ts rs j h.2 l))
+
+module _ (z : Sizes) (v w : NodeView) (rest : IsAtRest v.store) (known : Known z w.store) where
+  once_in : (xs : List KnownWord) → w ≡ with_store v (record v.store { knows = xs ++ v.store.knows }) → Once (xs ++ v.store.knows)
+  once_in xs e = subst (λ (u : NodeView). Once u.store.knows) e (known.words (subst (λ (u : NodeView). IsAtRest u.store) (sym e) record { call = rest.call; stay = rest.stay }))
+
+  pub head_tree : (r : ℕ) (g : Head) → w ≡ with_store v (record v.store { knows = head_words r g ++ v.store.knows }) → InRange g → (t : Tree) → KnowsTree v.store.knows r t → root t ≡ Some g
+  head_tree r g e range t k = root_is v.store.knows r g (once_in (head_words r g) e) range t k
+
+  -- the symbol word is that of a head
+  pub head_bound : (r n : ℕ) → w ≡ with_store v (record v.store { knows = word r 0 n ∷ v.store.knows }) → n ≤ 4294967298
+  head_bound r n e = subst (λ (u : NodeView). IsAtRest u.store → (q m : ℕ) → KnowsWord q 0 m u.store.knows → m ≤ 4294967298) e known.heads record { call = rest.call; stay = rest.stay } r n (inl (refl, refl, refl))
+
+  pub count_tree : (r n : ℕ) → w ≡ with_store v (record v.store { knows = word r 1 n ∷ v.store.knows }) → (t : Tree) → KnowsTree v.store.knows r t → length (arguments t) ≡ n
+  count_tree r n e t k = count_is v.store.knows r n (once_in (word r 1 n ∷ []) e) t k
+
+  pub child_tree : (r j n child : ℕ) → w ≡ with_store v (record v.store { knows = word r (suc (suc j)) child ∷ v.store.knows; got = child ∷ v.store.got }) → KnowsWord r 1 n v.store.knows → j < n
+      → (t : Tree) → KnowsTree v.store.knows r t → KnowsTree w.store.knows child (get_or (arguments t) j (Leaf 0))
+  child_tree r j n child e counted below t k =
+      let once : Once (word r (suc (suc j)) child ∷ v.store.knows) = subst (λ (u : NodeView). Once u.store.knows) e (known.words (subst (λ (u : NodeView). IsAtRest u.store) (sym e) record { call = rest.call; stay = rest.stay })) in
+      subst (λ (u : NodeView). KnowsTree u.store.knows child (get_or (arguments t) j (Leaf 0))) (sym e) (child_is v.store.knows r j n child once counted below t k)

@@ -1,6 +1,6 @@
 //! Reads of a row that the pass may use: its head, its count of arguments, and its arguments. Each takes one atomic step, or two where
 //! it reads an integer; none of them takes memory or waits.
-ghost use Rattle.std.specs.Prelude.{◌≡◌, ◌<◌, ◌≤◌, ◌+◌, true, Some, length, get_or};
+ghost use Rattle.std.specs.Prelude.{◌≡◌, ◌<◌, ◌≤◌, ◌+◌, true, Some, length, get_or, min};
 ghost use Rattle.term_model.specs.Tree.{Tree, Leaf, root, arguments};
 ghost use Rattle.store_core.specs.Machine.{In, widest};
 ghost use Rattle.store_core.specs.declared.view.Place.TheVariants.{RowWord};
@@ -11,6 +11,7 @@ ghost use Rattle.node_rows.specs.Knowing.{KnowsTree};
 ghost use Rattle.term_create.specs.Read.{Reads, ReadsChild, ReadsCount, HasArgument, head_words};
 
 use node_rows::{Pass, Store, read_argument, read_word, row_word};
+use store_core::Sizes;
 use term_model::{Head, Symbol};
 
 // The symbol words past those of symbols.
@@ -27,6 +28,13 @@ fn place_of(store: &Store, pass: &Pass, row: u64, k: usize) -> usize
     ensures there { in_table store.now.sizes (RowWord row k) ≡ true }
 {
     row_word(&store.sizes, row, k)
+}
+
+// A count, as far as a row has room for so many arguments.
+fn at_most_width(sizes: &Sizes, count: u64) -> u32
+    ensures { result ≡ min count (widest sizes.now) }
+{
+    count.min(u64::from(sizes.arity.max(2))) as u32
 }
 
 /// The head of a row that the pass may use: exactly that of its tree, where the pass knows the tree.
@@ -65,7 +73,7 @@ pub fn count_of(store: &Store, pass: &mut Pass, row: u64) -> u32
 {
     let place = place_of(store, pass, row, 1);
     let count = read_word(&store.table, &mut pass.seat, place, row, 1);
-    count.min(u64::from(store.sizes.arity.max(2))) as u32
+    at_most_width(&store.sizes, count)
 }
 
 /// The row of argument `j` of a row that the pass may use; the pass may use it then. It is exactly the row of that subtree, where
@@ -81,5 +89,5 @@ pub fn child_of(store: &Store, pass: &mut Pass, row: u64, j: u32) -> u64
         → KnowsTree pass.new.seat.seat.me.0.store.knows result (get_or (arguments t) j (Leaf 0)) }
 {
     let place = place_of(store, pass, row, j as usize + 2);
-    read_argument(&store.table, &mut pass.seat, place, row, u64::from(j))
+    read_argument(&store.table, &mut pass.seat, place, row, j as u64)
 }

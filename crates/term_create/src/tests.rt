@@ -300,10 +300,14 @@ fn four_threads_have_one_row_a_term(rt: HostRuntime) -> Result<(), Fail> {
     let alloc = rt.alloc();
     let (store, passes) = Store::make(alloc, sizes)?;
     let (handle, shared) = (&rt, &store);
-    let made = thread::map_vec(handle, passes, &|pass: Pass| -> Result<Vec<(u64, u64)>, AllocError>
-        requires { IsStore shared.now.table.shared.table_id shared.now.table.shared.key shared.now.sizes
-            × IsPass shared.now.table.shared.table_id shared.now.sizes pass.seat.seat pass.seat.seats × IsOut pass.seat.seat.me.0 }
-    { create_pairs(handle, alloc, shared, pass) })?;
+    let made = thread::map_vec(
+        handle,
+        passes,
+        &|pass: Pass| -> Result<Vec<(u64, u64)>, AllocError>
+            requires { IsStore shared.now.table.shared.table_id shared.now.table.shared.key shared.now.sizes
+                × IsPass shared.now.table.shared.table_id shared.now.sizes pass.seat.seat pass.seat.seats × IsOut pass.seat.seat.me.0 }
+        { create_pairs(handle, alloc, shared, pass) },
+    )?;
     let mut first: Option<Vec<(u64, u64)>> = None;
     for pairs in made {
         let pairs = pairs?;

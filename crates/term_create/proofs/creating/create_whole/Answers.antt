@@ -19,4 +19,4 @@ returns-clause-alone g c =
 
 pub returns-clause-cost : goal.returns-clause-cost
 returns-clause-cost g c =
-    whole_cost (widest c.args.store.now.sizes) c.args.store.now.sizes.rows c.args.steps.now c.tick.new.steps c.create_from.new.steps c.tick.ensures c.create_from.ensures.cost
+    whole_cost (widest c.args.store.now.sizes) c.args.store.now.sizes.rows c.args.steps.now c.tick.new.self c.create_from.new.steps c.tick.ensures c.create_from.ensures.cost

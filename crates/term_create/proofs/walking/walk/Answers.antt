@@ -1,5 +1,7 @@
-use Rattle.std.proofs.Common.{ℕ, ◌≡◌, ◌+◌, ◌<◌, pred, refl, sym, ap, ◌∙◌, arith, subst}
+use Rattle.std.proofs.Common.{ℕ, ◌≡◌, ◌+◌, ◌<◌, suc, eqb, false, refl, sym, ap, ◌∙◌, arith, subst}
 use Rattle.store_core.specs.Machine.{widest}
+use Rattle.std.proofs.lemmas.Bool.Decides.{nat_tests}
+use Rattle.store_core.specs.declared.view.Call.{Call}
 use Rattle.node_rows.specs.Steps.{Stands, Few}
 use Rattle.node_rows.specs.declared.view.NodeView.{NodeView}
 use Rattle.term_create.specs.Stage.{content}
@@ -26,3 +28,17 @@ loop-step-preserved g c =
           c.loop-step.invariant.cost c.if-compare_row.ensures.cost c.pass_on-at.ensures.tick
           (ap (λ (q : NodeView). q.store.passed) on.view ∙ ap (λ (q : NodeView). suc q.store.passed) other.view);
     }
+
+pub returns-then-compare_row-clause-cost : goal.returns-then-compare_row-clause-cost
+returns-then-compare_row-clause-cost g c =
+    let z = c.args.asked.now.store.now.sizes in
+    let v = c.args.seat.now.seat.me.0 in
+    let u = c.loop-step.seat.seat.me.0 in
+    let f = c.if-at-walk.false in
+    let other : eqb c.loop-step.at c.args.walk.old ≡ false = grind (arith, nat_tests) in
+    let few : Few z.rows u.store.passed u.store.call = c.loop-step.invariant.at.known.few in
+    walk_found (widest z) z.rows v.store.passed c.args.steps.now c.loop-step.steps c.compare_row.new.steps c.find.new.steps u.store.passed
+    c.loop-step.invariant.cost
+    (few_before z.rows u.store.passed (content c.args.asked.now) c.args.walk.drawn c.args.walk.from c.args.walk.old c.loop-step.at other
+    (subst (λ (x : Call). Few z.rows u.store.passed x) (ap (λ (q : NodeView). q.store.call) c.loop-step.invariant.view.view) few))
+    c.if-compare_row.ensures.cost c.find.ensures.tick
