@@ -1,5 +1,5 @@
 -- What the steps on protected rows leave of a view.
-use Rattle.std.proofs.Common.{◌≡◌, ◌⊎◌, inl, inr, ℕ, ◌+◌, ◌<◌, ◌≤◌, Bool, true, false, cond, List, [], ◌∷◌, ◌++◌, length, get_or, set, take, drop, refl, sym, ap, ◌∙◌, subst, arith}
+use Rattle.std.proofs.Common.{◌≡◌, ◌⊎◌, inl, inr, ℕ, zero, suc, ◌+◌, ◌<◌, ◌≤◌, Bool, true, false, cond, List, [], ◌∷◌, ◌++◌, length, get_or, set, take, drop, refl, sym, ap, ◌∙◌, subst, arith}
 use Rattle.std.specs.Prelude.{nat_lt}
 use Rattle.store_core.specs.declared.view.View.{View}
 use Rattle.store_core.specs.Machine.{In, Each, with_got, rooted, root_counted, protected_in}
@@ -40,4 +40,5 @@ each_kept v w rs k h = each_map (λ r. In r v.store.got) (λ r. In r w.store.got
 
 pub each_got : (got rs : List ℕ) (k : ℕ) → Each (λ r. In r got) rs → k < length rs → In (get_or rs k 0) got
 each_got got [] k h l = absurd (omega arith)
-each_got got (r ∷ rs) k h l = elim k as (λ j. j < length (r ∷ rs) → In (get_or (r ∷ rs) j 0) got) [ zero ↦ (λ _. h.0) | suc j ↦ (λ m. each_got got rs j h.1 (omega arith)) ] l
+each_got got (r ∷ rs) zero h l = h.0
+each_got got (r ∷ rs) (suc k) h l = each_got got rs k h.1 (omega arith)

@@ -1,5 +1,5 @@
 //! Calls on the protected rows of a pass. Each is made in shared or exclusive access, and none takes memory or waits.
-ghost use Rattle.std.specs.Prelude.{◌≡◌, ◌<◌, ◌≤◌, ◌+◌, ◌↔◌, ℕ, [], ◌∷◌, ◌++◌, IfOk, IfErr, IsErr, length, get_or, set};
+ghost use Rattle.std.specs.Prelude.{◌≡◌, ◌<◌, ◌≤◌, ◌+◌, ◌-◌, ◌↔◌, ℕ, [], ◌∷◌, ◌++◌, IfOk, IfErr, IsErr, length, get_or, set};
 ghost use Rattle.store_core.specs.Machine.{In, with_got, protected_in};
 ghost use Rattle.busy_forbidden.specs.Calls.{IsSame};
 ghost use Rattle.node_rows.specs.Inside.{IsInside};
@@ -58,16 +58,18 @@ fn copy_root(store: &Store, pass: &mut Pass, k: u32, to: u32)
     set_root(store, pass, to, row);
 }
 
-// Copies so many protected rows from the place `last` on to the places from `from` on, which is below it.
-fn copy_roots(store: &Store, pass: &mut Pass, last: u32, from: u32, top: u32)
+// Copies the last so many protected rows to the places from `from` on.
+fn copy_roots(store: &Store, pass: &mut Pass, from: u32, top: u32)
     requires inside { IsInside store.now pass.old }
-    requires below { (last + top ≡ pass.old.root_count) × (from < last) }
+    requires below { from + top < pass.old.root_count }
     ensures inside { IsInside store.now pass.new }
     ensures same { IsSame pass.old.seat.seat pass.new.seat.seat × (pass.new.seat.number ≡ pass.old.seat.number) }
     ensures count { pass.new.root_count ≡ pass.old.root_count }
-    ensures moved { Moved pass.old.seat.seat.me.0.store.roots pass.new.seat.seat.me.0.store.roots last from top }
+    ensures moved { Moved pass.old.seat.seat.me.0.store.roots pass.new.seat.seat.me.0.store.roots
+        (pass.old.root_count - top) from top }
     ensures keeps { Keeps pass.old.seat.seat.me.0 pass.new.seat.seat.me.0 }
 {
+    let last = pass.root_count - top;
     for k in 0..top {
         copy_root(store, pass, last + k, from + k);
     }
@@ -83,10 +85,10 @@ pub fn keep_roots(store: &Store, pass: &mut Pass, from: u32, top: u32)
         protected_in pass.new.seat.seat.me.0.store ≡ ends_of rows (length rows) from top }
     ensures keeps { Keeps pass.old.seat.seat.me.0 pass.new.seat.seat.me.0 }
 {
-    let last = pass.root_count - top;
-    if from >= last {
+    let count = pass.root_count;
+    if from + top == count {
         return;
     }
-    copy_roots(store, pass, last, from, top);
+    copy_roots(store, pass, from, top);
     set_count(store, pass, from + top);
 }

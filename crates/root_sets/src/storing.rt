@@ -7,6 +7,7 @@ ghost use Rattle.root_sets.specs.Protected.{Keeps};
 
 use crate::words::{load_root, set_count, set_root};
 use node_rows::{Pass, Store};
+use store_core::Sizes;
 
 // Whether protected row k is this one.
 fn has_root(store: &Store, pass: &mut Pass, k: u32, row: u64) -> bool
@@ -41,6 +42,14 @@ fn put_root(store: &Store, pass: &mut Pass, k: u32, row: u64)
     set_root(store, pass, k, row);
 }
 
+// How many rows these are, of which the store has room for each.
+fn count_rows(sizes: &Sizes, rows: &[u64]) -> u32
+    requires { length rows.now ≤ sizes.now.depth }
+    ensures { result ≡ length rows.now }
+{
+    rows.len().min(sizes.depth as usize) as u32
+}
+
 // Makes the first protected rows these.
 fn put_roots(store: &Store, pass: &mut Pass, rows: &[u64])
     requires inside { IsInside store.now pass.old }
@@ -52,8 +61,8 @@ fn put_roots(store: &Store, pass: &mut Pass, rows: &[u64])
     ensures roots { take (length rows.now) pass.new.seat.seat.me.0.store.roots ≡ rows.now }
     ensures keeps { Keeps pass.old.seat.seat.me.0 pass.new.seat.seat.me.0 }
 {
-    for k in 0..rows.len() {
-        put_root(store, pass, k as u32, rows[k]);
+    for k in 0..count_rows(&store.sizes, rows) {
+        put_root(store, pass, k, rows[k as usize]);
     }
 }
 
@@ -69,5 +78,5 @@ pub fn store_roots(store: &Store, pass: &mut Pass, rows: &[u64])
     ensures keeps { Keeps pass.old.seat.seat.me.0 pass.new.seat.seat.me.0 }
 {
     put_roots(store, pass, rows);
-    set_count(store, pass, rows.len() as u32);
+    set_count(store, pass, count_rows(&store.sizes, rows));
 }

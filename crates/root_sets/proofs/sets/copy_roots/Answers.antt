@@ -1,4 +1,4 @@
-use Rattle.std.proofs.Common.{◌≡◌, ◌∙◌, ◌+◌, ◌<◌, length, refl, arith}
+use Rattle.std.proofs.Common.{◌≡◌, ◌∙◌, ◌+◌, ◌-◌, ◌<◌, length, refl, arith}
 use Rattle.root_sets.proofs.Keeping.{keeps_all, keeps_on}
 use Rattle.root_sets.proofs.Ends.{moved_none, moved_more}
 use Rattle.root_sets.proofs.sets.copy_roots.Goals as goal
@@ -8,7 +8,7 @@ loop-k-init c = let v = c.args.pass.now.seat.seat.me.0 in record {
   inside = c.requires.inside;
   same = (record { table = refl; id = refl; slots = refl }, refl);
   count = refl;
-  moved = moved_none v.store.roots c.args.last c.args.from;
+  moved = moved_none v.store.roots (c.args.pass.now.root_count - c.args.top) c.args.from;
   keeps = keeps_all v;
 }
 
@@ -23,7 +23,7 @@ loop-k-preserved c =
       inside = e.inside;
       same = (record { table = e.same.0.table ∙ i.same.0.table; id = e.same.0.id ∙ i.same.0.id; slots = e.same.0.slots ∙ i.same.0.slots }, e.same.1 ∙ i.same.1);
       count = e.count ∙ i.count;
-      moved = moved_more v.store.roots u.store.roots w.store.roots c.args.last c.args.from c.loop-k.k i.moved c.requires.below.1
-          (let a = c.requires.inside.ready.known.roots in let b = c.requires.inside.ready.known.root_count in let d = c.args.pass.now.counted in let f = c.requires.below.0 in omega arith) e.roots;
+      moved = moved_more v.store.roots u.store.roots w.store.roots (c.args.pass.now.root_count - c.args.top) c.args.from c.loop-k.k i.moved (let f = c.requires.below in omega arith)
+          (let a = c.requires.inside.ready.known.roots in let b = c.requires.inside.ready.known.root_count in let d = c.args.pass.now.counted in let f = c.requires.below in omega arith) e.roots;
       keeps = keeps_on v u w i.keeps e.keeps;
     }
