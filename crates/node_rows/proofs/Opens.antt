@@ -1,10 +1,10 @@
 -- A new store meets the rule, and so does one with a seat more.
-use Rattle.std.proofs.Common.{◌≡◌, ◌≢◌, ◌⊎◌, inl, inr, ℕ, zero, suc, ◌+◌, ◌*◌, ◌<◌, eqb, Bool, true, false, cond, List, [], ◌∷◌, ◌++◌, length, get_or, set, replicate, refl, sym, ap, ◌∙◌, subst, ⊎_elim, arith, length-set, length-append, get_or-set_other}
+use Rattle.std.proofs.Common.{◌≡◌, ◌≢◌, ◌⊎◌, inl, inr, ℕ, zero, suc, ◌+◌, ◌*◌, ◌<◌, eqb, Bool, true, false, cond, Some, List, [], ◌∷◌, ◌++◌, length, get_or, set, replicate, refl, sym, ap, ◌∙◌, subst, ⊎_elim, arith, length-set, length-append, get_or-set_other}
 use mathlib.Core.Path.{fun_ext}
 use mathlib.Core.Option.{some, some-injective, some-ne-none}
 use lib.ListN.{get_elem?}
 use Rattle.atomic_table.specs.Table.{Splits, opening}
-use Rattle.atomic_table.proofs.Lists.{at_set, set_here}
+use Rattle.atomic_table.proofs.Lists.{at_set, set_here, at_longer, at_last}
 use Rattle.lock_core.specs.Lock.{at_start}
 use Rattle.busy_forbidden.specs.Shown.{newcomer}
 use Rattle.busy_forbidden.proofs.Dealing.{lock_opens, lock_splits}
@@ -18,12 +18,16 @@ use Rattle.store_core.specs.Steps as core
 use Rattle.store_core.specs.Runs as runs
 use Rattle.store_core.specs.Runs.{AreSizes, StartsWith}
 use Rattle.store_core.specs.StoreHolds.{StoreHolds}
-use Rattle.store_core.proofs.Basics.{choose, eqb_is, eqb_not}
+use Rattle.store_core.proofs.Basics.{choose, each_map, eqb_is, eqb_not}
 use Rattle.store_core.proofs.Shown.{shown_written, past_lock, place_inside}
 use Rattle.store_core.proofs.Eight.{eight}
 use Rattle.store_core.proofs.Runs.{starts}
 use Rattle.node_rows.specs.declared.view.NodeView.{NodeView}
 use Rattle.node_rows.specs.Shown.{lock_of, first_view, one_made, next_seat, store_at, Shows}
+use Rattle.node_rows.specs.declared.view.JoinedSeat.{JoinedSeat}
+use Rattle.node_rows.specs.Joining.{spent_view, seats_in, AreApart, IsSpent, Gathers, with_views, ShowsJoined}
+use Rattle.node_rows.specs.Gathering.{not_spent, known_at, step_gathers}
+use Rattle.store_core.specs.Machine.{Each}
 use Rattle.node_rows.specs.Locking.{store_here, store_set, put_again}
 use Rattle.atomic_table.specs.Seated.{TableId}
 use Rattle.atomic_table.specs.declared.shared.Seat.{Seat}
@@ -159,9 +163,60 @@ splits_node z v room sizes s rule at =
           sym (ap (λ (a : NodeView). a.made) here) ∙ (ap (λ (k : ℕ). k + 1) count ∙ sym long);
     }
 
+pub opens_joined : (z : Sizes) (words : List ℕ) → UpTo z words z.rows → MaySize z → ShowsJoined z (opening words [] (first_view z))
+opens_joined z words h sizes = let shows = opens_node z words h sizes in record {
+  known = first_view z ∷ [];
+  joins = record {
+    long = refl;
+    own = λ j v e. inr e;
+    held = λ j v e. only_first z (λ i u. Each (IsSpent (first_view z ∷ []) (first_view z ∷ [])) u.joined) tt j v e;
+    apart = λ j v e. only_first z (λ i u. AreApart (seats_in u.joined)) tt j v e;
+  };
+  lock = shows.lock;
+  shows = shows;
+}
+
+more_kept : (known views : List NodeView) (k v : NodeView) (x : JoinedSeat) → IsSpent known views x → IsSpent (known ++ k ∷ []) (views ++ v ∷ []) x
+more_kept known views k v x s = record { view = s.view; knew = at_longer known (k ∷ []) x.seat s.view s.knew; store = s.store; spent = at_longer views (v ∷ []) x.seat spent_view s.spent }
+
+-- a seat more, into which none was joined
+more_gathers : (known views : List NodeView) (u : NodeView) → u.joined ≡ [] → Gathers known views → Gathers (known ++ u ∷ []) (views ++ u ∷ [])
+more_gathers known views u none g =
+    let new : List NodeView = known ++ u ∷ [] in let all : List NodeView = views ++ u ∷ [] in
+    record {
+      long = length-append views (u ∷ []) ∙ (ap (λ (n : ℕ). n + 1) g.long ∙ sym (length-append known (u ∷ [])));
+      own = λ j x e. ⊎_elim
+          (λ old. ⊎_elim inl (λ k. inr (at_longer known (u ∷ []) j x k)) (g.own j x old))
+          (λ (t : (j ≡ length views) × (u ≡ x)). inr (subst (λ (q : NodeView). get_elem? new j ≡ some q) t.1 (at_last known u j (sym (t.0 ∙ g.long)))))
+          (at_end views u x j e);
+      held = λ j x e. ⊎_elim
+          (λ old. each_map _ _ x.joined (more_kept known views u u) (g.held j x old))
+          (λ (t : (j ≡ length views) × (u ≡ x)). subst (λ (q : NodeView). Each (IsSpent new all) q.joined) t.1 (subst (Each (IsSpent new all)) (sym none) tt))
+          (at_end views u x j e);
+      apart = λ j x e. ⊎_elim
+          (λ old. g.apart j x old)
+          (λ (t : (j ≡ length views) × (u ≡ x)). subst (λ (q : NodeView). AreApart (seats_in q.joined)) t.1 (subst (λ xs. AreApart (seats_in xs)) (sym none) tt))
+          (at_end views u x j e);
+    }
+
+pub splits_joined : (z : Sizes) (v : NodeView) → v.lock.number ≡ Some 0 → v.made < z.seats → v.sizes ≡ z → Splits (ShowsJoined z) 0 v (one_made v) (next_seat v)
+unfolding lock_splits
+splits_joined z v number room sizes s rule at =
+    let lives = not_spent v 0 number in
+    let known = known_at rule.known s.views rule.joins 0 v at lives in
+    let w : NodeView = one_made v in let u : NodeView = next_seat v in
+    let count : v.made ≡ length s.views = rule.shows.count v known ∙ sym rule.joins.long in
+    let few : length s.views < z.seats = omega arith in
+    record {
+      known = set rule.known 0 w ++ u ∷ [];
+      joins = more_gathers (set rule.known 0 w) (set s.views 0 w) u refl (step_gathers rule.known s.views rule.joins 0 v at lives w refl);
+      lock = lock_splits lock_of z.seats s 0 v w u rule.lock at refl (ap newcomer count) few;
+      shows = splits_node z v room sizes (with_views s rule.known) rule.shows known;
+    }
+
 -- a new pass is out
 pub new_ready : (t : TableId) (z : Sizes) (j : ℕ) (seat : Seat (Unit {0}) NodeView) (number seats : ℕ) → IsNew t z j seat number seats → IsPass t z seat seats × IsOut seat.me.0
 new_ready t z j seat number seats new = (
-  record { table = new.table; sizes = ap (λ (v : NodeView). v.sizes) new.view; count = new.count },
+  record { table = new.table; sizes = ap (λ (v : NodeView). v.sizes) new.view; count = new.count; none = new.none },
   subst IsOut (sym new.view) record { phase = refl; away = record { stay = refl; call = refl } },
 )

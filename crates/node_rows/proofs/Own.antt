@@ -1,5 +1,5 @@
 -- An own step that the store permits keeps the rule.
-use Rattle.std.proofs.Common.{◌≡◌, ◌≢◌, false, ℕ, zero, suc, ◌<◌, ◌≤◌, Bool, true, cond, Some, None, List, [], ◌∷◌, length, get_or, set, take, refl, sym, ap, ◌∙◌, subst, arith, length-set}
+use Rattle.std.proofs.Common.{◌≡◌, ◌≢◌, false, ℕ, zero, suc, ◌<◌, ◌≤◌, Bool, true, cond, Option, Some, None, List, [], ◌∷◌, length, get_or, set, take, refl, sym, ap, ◌∙◌, subst, arith, length-set}
 use mathlib.Core.Option.{some}
 use lib.ListN.{get_elem?}
 use Rattle.atomic_table.specs.Table.{State, Me, keeps, stepped, Allows}
@@ -16,7 +16,7 @@ use Rattle.store_core.specs.declared.view.Call.TheVariants.{Idle, Comparing, Pas
 use Rattle.store_core.specs.declared.view.Stay.TheVariants.{Away, Ready}
 use Rattle.store_core.specs.Words.{write, put}
 use Rattle.store_core.specs.Machine as core
-use Rattle.store_core.specs.Machine.{acted, with_call, IsCreation, LoadBase, LoadInUse, Begin, Go, LoadRoot, StoreRoot, StoreCount, ReadWord, ReadArgument, Each}
+use Rattle.store_core.specs.Machine.{Action, acted, with_call, IsCreation, LoadBase, LoadInUse, Begin, Go, LoadRoot, StoreRoot, StoreCount, ReadWord, ReadArgument, Each}
 use Rattle.store_core.specs.Seats.{looked, index, drawn, index_in, wanted, IsWalk, Walked, IsKnown, SeatHolds}
 use Rattle.store_core.specs.Invariant.{Holds, listed, names_of}
 use Rattle.store_core.specs.Reads.{IsUndisturbed}
@@ -37,12 +37,15 @@ use Rattle.store_core.specs.Calls.{bucket}
 use Rattle.store_core.proofs.Short.{chain_few, walks_few, walked_few}
 use Rattle.node_rows.specs.declared.view.NodeView.{NodeView}
 use Rattle.node_rows.specs.Shown.{lock_of, store_at, state_of, Shows}
+use Rattle.node_rows.specs.Joining.{with_views, ShowsJoined}
+use Rattle.node_rows.specs.Gathering.{not_spent, known_at, step_gathers}
 use Rattle.node_rows.specs.Locking.{keeps_store, store_here, store_set, inside, below, sized_set, some_set, count_set}
 use Rattle.node_rows.specs.Knowing.{held_alone, IsAbsent, EndsAbsent}
 use Rattle.node_rows.proofs.Knowing.{word_once, head_word, tree_once, names_lack}
+use Rattle.node_rows.specs.Collecting.{HasStore}
 use Rattle.node_rows.specs.Steps.{with_store, place_of, written_by, moved_by, act, Acts, Stands, Few, Known}
 
-acts : (z : Sizes) (s : core.State) (i : ℕ) (x : core.Step) → Acts x → after z s i x ≡ acted s.words s.view i s.lock (act i x (s.view i))
+pub acts : (z : Sizes) (s : core.State) (i : ℕ) (x : core.Step) → Acts x → after z s i x ≡ acted s.words s.view i s.lock (act i x (s.view i))
 acts z s i LoadBase h = refl
 acts z s i LoadInUse h = refl
 acts z s i (Begin c) h = refl
@@ -195,13 +198,20 @@ known_of z s i there store =
 pub known : (z : Sizes) (s : State (Unit {0}) NodeView) (i : ℕ) (v : NodeView) → Shows z s → get_elem? s.views i ≡ some v → Known z v.store
 known z s i v rule at = subst (Known z) (store_here z s.views i v at) (known_of z (state_of z s.words s.views rule.lock.state) i (below z s i v rule at) (inductive z (state_of z s.words s.views rule.lock.state) rule.holds))
 
+some_one : {i j : ℕ} → ◌≡◌ {A = Option ℕ} (Some i) (Some j) → i ≡ j
+some_one e = grind arith
+
 -- a word of the table is shown
 pub shown_at : (z : Sizes) (words : List ℕ) (p : Place) → in_table z p ≡ true → shown z words p ≡ get_or words (index_of z p) 0
 shown_at z words p e = ap (λ (b : Bool). cond b (get_or words (index_of z p) 0) 0) e
 
-module _ (z : Sizes) (s : State (Unit {0}) NodeView) (i : ℕ) (v : NodeView) (rule : Shows z s) (at : get_elem? s.views i ≡ some v) (x : core.Step) (is : Acts x) (there : in_table z (place_of i x v.store) ≡ true) where
+-- A step x of seat i is this action by the own view, where the lock is l.
+abbrev pub IsAction : Sizes → core.State → ℕ → core.Step → (View → Action) → Type 0
+IsAction z t i x a = after z t i x ≡ acted t.words t.view i t.lock (a (t.view i))
+
+module _ (z : Sizes) (s : State (Unit {0}) NodeView) (i : ℕ) (v : NodeView) (rule : Shows z s) (at : get_elem? s.views i ≡ some v) (x : core.Step) (a : View → Action) (is : IsAction z (state_of z s.words s.views rule.lock.state) i x a) (there : in_table z (a v.store).place ≡ true) where
   abbrev p : Place
-  p = place_of i x v.store
+  p = (a v.store).place
 
   abbrev k : ℕ
   k = index_of z p
@@ -211,36 +221,89 @@ module _ (z : Sizes) (s : State (Unit {0}) NodeView) (i : ℕ) (v : NodeView) (r
   n = get_or s.words k 0
 
   abbrev w : NodeView
-  w = with_store v (moved_by x v.store n)
+  w = with_store v ((a v.store).moved n)
 
   abbrev t : core.State
   t = state_of z s.words s.views rule.lock.state
 
   -- the table shows the store after the step
-  pub own_after : (y : ℕ) → y ≡ written_by x v.store n → state_of z (set s.words k y) (set s.views i w) rule.lock.state ≡ after z t i x
-  own_after y is_y =
+  pub action_after : (y : ℕ) → y ≡ (a v.store).written n → state_of z (set s.words k y) (set s.views i w) rule.lock.state ≡ after z t i x
+  action_after y is_y =
       let inside_k : k < length s.words = (let q = place_inside z p there in let r = rule.wide in omega arith) in
-      let seen : shown z (set s.words k y) ≡ write (shown z s.words) p (written_by x v.store n) = shown_written z s.words p y there inside_k ∙ ap (write (shown z s.words) p) is_y in
+      let seen : shown z (set s.words k y) ≡ write (shown z s.words) p ((a v.store).written n) = shown_written z s.words p y there inside_k ∙ ap (write (shown z s.words) p) is_y in
       let views : store_at z (set s.views i w) ≡ put (store_at z s.views) i w.store = store_set z s.views i w (inside z s i v rule at) in
-      let done : ℕ → core.State = λ m. record { lock = rule.lock.state; words = write (shown z s.words) p (written_by x v.store m); view = put (store_at z s.views) i (moved_by x v.store m) } in
+      let done : ℕ → core.State = λ m. record { lock = rule.lock.state; words = write (shown z s.words) p ((a v.store).written m); view = put (store_at z s.views) i ((a v.store).moved m) } in
       let shows : state_of z (set s.words k y) (set s.views i w) rule.lock.state ≡ done n = λ q. record { lock = rule.lock.state; words = seen q; view = views q } in
-      let acted_is : after z t i x ≡ done (shown z s.words p) = acts z t i x is ∙ ap (λ (u : View). acted t.words t.view i t.lock (act i x u)) (store_here z s.views i v at) in
+      let acted_is : after z t i x ≡ done (shown z s.words p) = is ∙ ap (λ (u : View). acted t.words t.view i t.lock (a u)) (store_here z s.views i v at) in
       shows ∙ (sym (ap done (shown_at z s.words p there)) ∙ sym acted_is)
 
-  pub own_keeps : Permits z t i x → (y : ℕ) → y ≡ written_by x v.store n → Shows z (record { words = set s.words k y; homes = s.homes; views = set s.views i w })
+  pub action_keeps : Permits z t i x → (y : ℕ) → y ≡ (a v.store).written n → Shows z (record { words = set s.words k y; homes = s.homes; views = set s.views i w })
   unfolding lock_left
-  own_keeps ok y is_y =
+  action_keeps ok y is_y =
       record {
         lock = lock_left lock_of z.seats s i k y v w rule.lock at refl (past_lock z p);
         wide = let e = length-set s.words k y in let r = rule.wide in omega arith;
-        holds = subst (StoreHolds z) (sym (own_after y is_y)) (keeps_store z t i x rule.holds record { present = below z s i v rule at; permitted = ok });
+        holds = subst (StoreHolds z) (sym (action_after y is_y)) (keeps_store z t i x rule.holds record { present = below z s i v rule at; permitted = ok });
         sized = sized_set z s i v rule at w refl refl;
         some_made = some_set z s i v rule at w refl refl;
         count = count_set z s i v rule at w refl refl;
       }
 
--- What a caller owes for a step of the store on the word k: that it is in place by the own view, whatever the words are, and that
--- what it writes is what the step writes.
+-- What a caller owes for a step of the store on the word k, which is this action: that it is in place by the own view, whatever
+-- the words are, and that what it writes is what the step writes.
+pub record OwesAction (z : Sizes) (v : NodeView) (i : ℕ) (x : core.Step) (a : View → Action) (k : ℕ) (f : ℕ → ℕ) : Type 0 where
+  pub acts : (s : State (Unit {0}) NodeView) (rule : Shows z s) → get_elem? s.views i ≡ some v → IsAction z (state_of z s.words s.views rule.lock.state) i x a
+  pub there : in_table z (a v.store).place ≡ true
+  pub word : k ≡ index_of z (a v.store).place
+  pub permitted : (s : State (Unit {0}) NodeView) (rule : Shows z s) → get_elem? s.views i ≡ some v → Permits z (state_of z s.words s.views rule.lock.state) i x
+  pub writes : (s : State (Unit {0}) NodeView) → Shows z s → get_elem? s.views i ≡ some v → f (get_or s.words (index_of z (a v.store).place) 0) ≡ (a v.store).written (get_or s.words (index_of z (a v.store).place) 0)
+
+-- what such a step tells, and that there is a store in which the seat has its new view
+abbrev pub TellsAction : (View → Action) → Me (Unit {0}) NodeView → ℕ → Me (Unit {0}) NodeView → Type 0
+TellsAction a me n me' = (me' ≡ (with_store me.0 ((a me.0.store).moved n), me.1)) × Known me.0.sizes me'.0.store × ((j : ℕ) → me.0.lock.number ≡ Some j → HasStore me.0.sizes j me'.0.store)
+
+pub action_allows : (z : Sizes) (slots id : ℕ) (me : Me (Unit {0}) NodeView) (i : ℕ) (x : core.Step) (a : View → Action) (k : ℕ) (f : ℕ → ℕ) → me.0.lock.number ≡ Some i → OwesAction z me.0 i x a k f
+    → Allows (ShowsJoined z) slots id me k f (TellsAction a me)
+unfolding lock_left
+action_allows z slots id me i x a k f is o = subst (λ (q : ℕ). Allows (ShowsJoined z) slots id me q f (TellsAction a me)) (sym o.word)
+    (λ s rule _ at0 _.
+    let lives = not_spent me.0 i is in
+    let t : State (Unit {0}) NodeView = with_views s rule.known in
+    let known_here : get_elem? t.views id ≡ some me.0 = known_at rule.known s.views rule.joins id me.0 at0 lives in
+    let same : i ≡ id = same_place t id i me.0 rule.shows.lock known_here is in
+    let at : get_elem? t.views i ≡ some me.0 = subst (λ (q : ℕ). get_elem? t.views q ≡ some me.0) (sym same) known_here in
+    let q : ℕ = index_of z (a me.0.store).place in
+    let n : ℕ = get_or s.words q 0 in
+    let w : NodeView = with_store me.0 ((a me.0.store).moved n) in
+    let new : Shows z (stepped t q (f n) i me.1 w keeps) = action_keeps z t i me.0 rule.shows at x a (o.acts t rule.shows at) o.there (o.permitted t rule.shows at) (f n) (o.writes t rule.shows at) in
+    let there : Shows z (stepped t q (f n) id me.1 w keeps) = subst (λ (j : ℕ). Shows z (stepped t q (f n) j me.1 w keeps)) same new in
+    let here : get_elem? (set t.views i w) i ≡ some w = set_here t.views i w (inside z t i me.0 rule.shows at) in
+    let tells = known z (stepped t q (f n) i me.1 w keeps) i w new here in
+    let stands : HasStore z i w.store = record {
+      store = state_of z (set t.words q (f n)) (set t.views i w) new.lock.state;
+      holds = new.holds;
+      own = store_here z (set t.views i w) i w here;
+    } in
+    let whole : ShowsJoined z (stepped s q (f n) id me.1 w keeps) = record {
+      known = set rule.known id w;
+      joins = step_gathers rule.known s.views rule.joins id me.0 at0 lives w refl;
+      lock = lock_left lock_of z.seats s id q (f n) me.0 w rule.lock at0 refl (past_lock z (a me.0.store).place);
+      shows = there;
+    } in
+    let sizes : z ≡ me.0.sizes = sym (rule.shows.sized i me.0 at) in (
+      w,
+      keeps,
+      tt,
+      whole,
+      (
+        refl,
+        subst (λ (y : Sizes). Known y w.store) sizes tells,
+        (λ j e. subst (λ (y : Sizes × ℕ). HasStore y.0 y.1 w.store) (λ c. (sizes c, some_one (sym is ∙ e) c)) stands),
+      ),
+    ))
+
+-- What a caller owes for a step on the word k: that it is in place by the own view, whatever the words are, and that what it
+-- writes is what the step writes.
 pub record Owes (z : Sizes) (v : NodeView) (i : ℕ) (x : core.Step) (k : ℕ) (f : ℕ → ℕ) : Type 0 where
   pub is : Acts x
   pub there : in_table z (place_of i x v.store) ≡ true
@@ -253,15 +316,13 @@ abbrev pub Tells : core.Step → Me (Unit {0}) NodeView → ℕ → Me (Unit {0}
 Tells x me n me' = (me' ≡ (with_store me.0 (moved_by x me.0.store n), me.1)) × Known me.0.sizes me'.0.store
 
 pub own_allows : (z : Sizes) (slots id : ℕ) (me : Me (Unit {0}) NodeView) (i : ℕ) (x : core.Step) (k : ℕ) (f : ℕ → ℕ) → me.0.lock.number ≡ Some i → Owes z me.0 i x k f
-    → Allows (Shows z) slots id me k f (Tells x me)
-own_allows z slots id me i x k f is o = subst (λ (q : ℕ). Allows (Shows z) slots id me q f (Tells x me)) (sym o.word)
-    (λ s rule _ at0 _.
-    let same : i ≡ id = same_place s id i me.0 rule.lock at0 is in
-    let at : get_elem? s.views i ≡ some me.0 = subst (λ (q : ℕ). get_elem? s.views q ≡ some me.0) (sym same) at0 in
-    let q : ℕ = index_of z (place_of i x me.0.store) in
-    let n : ℕ = get_or s.words q 0 in
-    let w : NodeView = with_store me.0 (moved_by x me.0.store n) in
-    let new : Shows z (stepped s q (f n) i me.1 w keeps) = own_keeps z s i me.0 rule at x o.is o.there (o.permitted s rule at) (f n) (o.writes s rule at) in
-    let there : ℕ → Type 0 = λ j. Shows z (stepped s q (f n) j me.1 w keeps) in
-    let k = known z (stepped s q (f n) i me.1 w keeps) i w new (set_here s.views i w (inside z s i me.0 rule at)) in
-    (w, keeps, tt, subst there same new, (refl, subst (λ (y : Sizes). Known y w.store) (sym (rule.sized i me.0 at)) k)))
+    → Allows (ShowsJoined z) slots id me k f (Tells x me)
+own_allows z slots id me i x k f is o s rule homes at small =
+    let t = action_allows z slots id me i x (act i x) k f is record {
+      acts = λ u shows _. acts z (state_of z u.words u.views shows.lock.state) i x o.is;
+      there = o.there;
+      word = o.word;
+      permitted = o.permitted;
+      writes = o.writes;
+    } s rule homes at small in
+    (t.0, t.1, t.2, t.3, (t.4.0, t.4.1))

@@ -6,6 +6,8 @@ use lib.ListN.{get_elem?}
 use Rattle.atomic_table.specs.Table.{State, Me, Allows}
 use Rattle.atomic_table.specs.Seated.{TableId}
 use Rattle.atomic_table.specs.declared.shared.Seat.{Seat}
+use Rattle.lock_core.specs.Exclusion.{IsExclusive}
+use Rattle.busy_forbidden.specs.Exclusive.{IsGranted}
 use Rattle.term_model.specs.declared.Head.{Head}
 use Rattle.store_core.specs.declared.view.Sizes.{Sizes}
 use Rattle.store_core.specs.declared.view.View.{View}
@@ -30,6 +32,8 @@ use Rattle.store_core.proofs.Locks.{is_in}
 use Rattle.store_core.proofs.Wrapped.{quiet, creation_calm, creation_busy}
 use Rattle.node_rows.specs.declared.view.NodeView.{NodeView}
 use Rattle.node_rows.specs.Shown.{state_of, Shows, IsAway}
+use Rattle.node_rows.specs.Joining.{with_views, ShowsJoined}
+use Rattle.node_rows.specs.Gathering.{not_spent, known_at}
 use Rattle.node_rows.specs.Locking.{store_here, below, phase_is, stands_is}
 use Rattle.node_rows.specs.Steps.{with_store, written_by, moved_by, Acts, IsOwnRead, MayCreateBy, IsOf, Goes, Reads, Writes, IsDraw, Exchanges, MayLoad, MayMake, MayStepOn, over}
 use Rattle.busy_forbidden.proofs.Goes.{same_place}
@@ -104,12 +108,15 @@ module _ (z : Sizes) (s : State (Unit {0}) NodeView) (i : ℕ) (v : NodeView) (r
       let r = q.numbers.room in
       omega arith
 
-  in_access : MayLoad v.lock i z.seats → InAccess rule.lock.state i
-  in_access may = ⊎_elim (λ p. inl (phase_is z s i v rule at ∙ p)) (λ g. inr (record {
+  pub exclusive : IsGranted v.lock i z.seats → IsExclusive rule.lock.state i
+  exclusive g = record {
     present = let b = below z s i v rule at in let c = rule.lock.shows.count in omega arith;
     holder = phase_is z s i v rule at ∙ g.holder;
     others = λ j l ne. stands_is z s i v rule at g.holder j ∙ g.held j (let c = rule.lock.shows.count in omega arith) ne;
-  })) may
+  }
+
+  in_access : MayLoad v.lock i z.seats → InAccess rule.lock.state i
+  in_access may = ⊎_elim (λ p. inl (phase_is z s i v rule at ∙ p)) (λ g. inr (exclusive g)) may
 
   pub permits_base : MayLoad v.lock i z.seats → IsAway v.store → Permits z t i LoadBase
   permits_base may away = (in_access may, ap (λ (u : View). u.call) here ∙ away.call, ap (λ (u : View). u.stay) here ∙ away.stay)
@@ -144,15 +151,15 @@ goes_owes z v i k f g writes = record {
   writes = writes;
 }
 
-pub loads : (z : Sizes) (slots id : ℕ) (me : Me (Unit {0}) NodeView) (i k : ℕ) → me.0.lock.number ≡ Some i → Goes z me.0.store k → Reads me.0.store → Allows (Shows z) slots id me k (λ n. n) (Tells Go me)
+pub loads : (z : Sizes) (slots id : ℕ) (me : Me (Unit {0}) NodeView) (i k : ℕ) → me.0.lock.number ≡ Some i → Goes z me.0.store k → Reads me.0.store → Allows (ShowsJoined z) slots id me k (λ n. n) (Tells Go me)
 loads z slots id me i k is g r = own_allows z slots id me i Go k (λ n. n) is (goes_owes z me.0 i k (λ n. n) g (λ s _ _. sym (r _)))
 
-pub stores : (z : Sizes) (slots id : ℕ) (me : Me (Unit {0}) NodeView) (i k y : ℕ) → me.0.lock.number ≡ Some i → Goes z me.0.store k → Writes me.0.store y → Allows (Shows z) slots id me k (λ _. y) (λ _. Tells Go me y)
+pub stores : (z : Sizes) (slots id : ℕ) (me : Me (Unit {0}) NodeView) (i k y : ℕ) → me.0.lock.number ≡ Some i → Goes z me.0.store k → Writes me.0.store y → Allows (ShowsJoined z) slots id me k (λ _. y) (λ _. Tells Go me y)
 stores z slots id me i k y is g w s rule homes at small =
     let t = own_allows z slots id me i Go k (λ _. y) is (goes_owes z me.0 i k (λ _. y) g (λ s _ _. sym (w.written _))) s rule homes at small in
     (t.0, t.1, t.2, t.3, (t.4.0 ∙ ap (λ (q : View). (with_store me.0 q, me.1)) (w.moved (get_or s.words k 0) y), t.4.1))
 
-pub draws : (z : Sizes) (slots id : ℕ) (me : Me (Unit {0}) NodeView) (i k : ℕ) → me.0.lock.number ≡ Some i → Goes z me.0.store k → IsDraw me.0.store.call → Allows (Shows z) slots id me k (λ n. (n + 1) % 2 ^ 64) (Tells Go me)
+pub draws : (z : Sizes) (slots id : ℕ) (me : Me (Unit {0}) NodeView) (i k : ℕ) → me.0.lock.number ≡ Some i → Goes z me.0.store k → IsDraw me.0.store.call → Allows (ShowsJoined z) slots id me k (λ n. (n + 1) % 2 ^ 64) (Tells Go me)
 draws z slots id me i k is g d = own_allows z slots id me i Go k (λ n. (n + 1) % 2 ^ 64) is (goes_owes z me.0 i k (λ n. (n + 1) % 2 ^ 64) g (λ s rule at.
     let a = draws_is me.0.store me.0.store.call d in
     let n : ℕ = get_or s.words (index_of z (action me.0.store me.0.store.call).place) 0 in
@@ -166,11 +173,11 @@ either_is true x y = refl
 either_is false x y = refl
 
 pub exchanges : (z : Sizes) (slots id : ℕ) (me : Me (Unit {0}) NodeView) (i k old new : ℕ) → me.0.lock.number ≡ Some i → Goes z me.0.store k → Exchanges me.0.store old new
-    → Allows (Shows z) slots id me k (λ n. either (eqb n old) new n) (Tells Go me)
+    → Allows (ShowsJoined z) slots id me k (λ n. either (eqb n old) new n) (Tells Go me)
 exchanges z slots id me i k old new is g x = own_allows z slots id me i Go k (λ n. either (eqb n old) new n) is (goes_owes z me.0 i k (λ n. either (eqb n old) new n) g (λ s _ _. let n : ℕ = get_or s.words (index_of z (action me.0.store me.0.store.call).place) 0 in either_is (eqb n old) new n ∙ sym (x n)))
 
 pub bases : (z : Sizes) (slots id : ℕ) (me : Me (Unit {0}) NodeView) (i k : ℕ) → me.0.lock.number ≡ Some i → k ≡ index_of z Base → IsAway me.0.store → MayLoad me.0.lock i z.seats
-    → Allows (Shows z) slots id me k (λ n. n) (λ n me'. Tells LoadBase me n me' × (me.0.store.base ≤ n))
+    → Allows (ShowsJoined z) slots id me k (λ n. n) (λ n me'. Tells LoadBase me n me' × (me.0.store.base ≤ n))
 bases z slots id me i k is word away may s rule homes at small =
     let t = own_allows z slots id me i LoadBase k (λ n. n) is record {
       is = tt;
@@ -179,11 +186,13 @@ bases z slots id me i k is word away may s rule homes at small =
       permitted = λ s rule at. permits_base z s i me.0 rule at may away;
       writes = λ s _ _. refl;
     } s rule homes at small in
-    let same : i ≡ id = same_place s id i me.0 rule.lock at is in
-    let rises = base_rises z s i me.0 rule (subst (λ (q : ℕ). get_elem? s.views q ≡ some me.0) (sym same) at) may away in
+    let whole = with_views s rule.known in
+    let here : get_elem? whole.views id ≡ some me.0 = known_at rule.known s.views rule.joins id me.0 at (not_spent me.0 i is) in
+    let same : i ≡ id = same_place whole id i me.0 rule.shows.lock here is in
+    let rises = base_rises z whole i me.0 rule.shows (subst (λ (q : ℕ). get_elem? whole.views q ≡ some me.0) (sym same) here) may away in
     (t.0, t.1, t.2, t.3, (t.4, subst (λ (n : ℕ). me.0.store.base ≤ n) (shown_at z s.words Base refl ∙ ap (λ (q : ℕ). get_or s.words q 0) (sym word)) rises))
 
-pub in_uses : (z : Sizes) (slots id : ℕ) (me : Me (Unit {0}) NodeView) (i k : ℕ) → me.0.lock.number ≡ Some i → k ≡ index_of z InUse → me.0.store.call ≡ Idle → me.0.store.stay ≡ Based → Allows (Shows z) slots id me k (λ n. n) (Tells LoadInUse me)
+pub in_uses : (z : Sizes) (slots id : ℕ) (me : Me (Unit {0}) NodeView) (i k : ℕ) → me.0.lock.number ≡ Some i → k ≡ index_of z InUse → me.0.store.call ≡ Idle → me.0.store.stay ≡ Based → Allows (ShowsJoined z) slots id me k (λ n. n) (Tells LoadInUse me)
 in_uses z slots id me i k is word idle stay = own_allows z slots id me i LoadInUse k (λ n. n) is record {
   is = tt;
   there = refl;
@@ -192,7 +201,7 @@ in_uses z slots id me i k is word idle stay = own_allows z slots id me i LoadInU
   writes = λ s _ _. refl;
 }
 
-pub begins_with : (z : Sizes) (slots id : ℕ) (me : Me (Unit {0}) NodeView) (i k : ℕ) (f : Head) (rs : List ℕ) → me.0.lock.number ≡ Some i → MayMake z me.0 f rs k → Allows (Shows z) slots id me k (λ n. n) (Tells (Begin (over f rs)) me)
+pub begins_with : (z : Sizes) (slots id : ℕ) (me : Me (Unit {0}) NodeView) (i k : ℕ) (f : Head) (rs : List ℕ) → me.0.lock.number ≡ Some i → MayMake z me.0 f rs k → Allows (ShowsJoined z) slots id me k (λ n. n) (Tells (Begin (over f rs)) me)
 begins_with z slots id me i k f rs is may = own_allows z slots id me i (Begin (over f rs)) k (λ n. n) is record {
   is = tt;
   there = may.there;
@@ -202,7 +211,7 @@ begins_with z slots id me i k f rs is may = own_allows z slots id me i (Begin (o
 }
 
 -- a step on protected rows, or a read of a row
-pub own_reads : (z : Sizes) (slots id : ℕ) (me : Me (Unit {0}) NodeView) (i k : ℕ) (x : core.Step) (f : ℕ → ℕ) → me.0.lock.number ≡ Some i → MayStepOn z i me.0 x k → ((n : ℕ) → f n ≡ written_by x me.0.store n) → Allows (Shows z) slots id me k f (Tells x me)
+pub own_reads : (z : Sizes) (slots id : ℕ) (me : Me (Unit {0}) NodeView) (i k : ℕ) (x : core.Step) (f : ℕ → ℕ) → me.0.lock.number ≡ Some i → MayStepOn z i me.0 x k → ((n : ℕ) → f n ≡ written_by x me.0.store n) → Allows (ShowsJoined z) slots id me k f (Tells x me)
 own_reads z slots id me i k x f is may writes = own_allows z slots id me i x k f is record {
   is = own_reads_act x may.acts;
   there = may.there;
@@ -213,17 +222,19 @@ own_reads z slots id me i k x f is may writes = own_allows z slots id me i x k f
 
 -- the load of a protected row
 pub own_roots : (z : Sizes) (slots id : ℕ) (me : Me (Unit {0}) NodeView) (i k j : ℕ) → me.0.lock.number ≡ Some i → MayStepOn z i me.0 (LoadRoot j) k
-    → Allows (Shows z) slots id me k (λ n. n) (λ n me'. Tells (LoadRoot j) me n me' × (n ≡ get_or me.0.store.roots j 0))
+    → Allows (ShowsJoined z) slots id me k (λ n. n) (λ n me'. Tells (LoadRoot j) me n me' × (n ≡ get_or me.0.store.roots j 0))
 own_roots z slots id me i k j is may s rule homes at small =
     let t = own_reads z slots id me i k (LoadRoot j) (λ n. n) is may (λ n. refl) s rule homes at small in
-    let same : i ≡ id = same_place s id i me.0 rule.lock at is in
-    let here = store_here z s.views i me.0 (subst (λ (q : ℕ). get_elem? s.views q ≡ some me.0) (sym same) at) in
-    let own : RootsKnown z (shown z s.words) i me.0.store = subst (RootsKnown z (shown z s.words) i) here (rule.holds.strengthened.remembers.own i) in
+    let whole = with_views s rule.known in
+    let seated : get_elem? whole.views id ≡ some me.0 = known_at rule.known s.views rule.joins id me.0 at (not_spent me.0 i is) in
+    let same : i ≡ id = same_place whole id i me.0 rule.shows.lock seated is in
+    let here = store_here z whole.views i me.0 (subst (λ (q : ℕ). get_elem? whole.views q ≡ some me.0) (sym same) seated) in
+    let own : RootsKnown z (shown z s.words) i me.0.store = subst (RootsKnown z (shown z s.words) i) here (rule.shows.holds.strengthened.remembers.own i) in
     let below : j < z.depth = (let a = may.shown.1 in let b = own.few in omega arith) in
     (t.0, t.1, t.2, t.3, (t.4, ap (λ (q : ℕ). get_or s.words q 0) may.word ∙ (sym (shown_at z s.words (Root i j) may.there) ∙ own.root j below)))
 
 pub own_stores : (z : Sizes) (slots id : ℕ) (me : Me (Unit {0}) NodeView) (i k : ℕ) (x : core.Step) (y : ℕ) → me.0.lock.number ≡ Some i → MayStepOn z i me.0 x k → ((n : ℕ) → written_by x me.0.store n ≡ y)
-    → ((m n : ℕ) → moved_by x me.0.store m ≡ moved_by x me.0.store n) → Allows (Shows z) slots id me k (λ _. y) (λ _. Tells x me y)
+    → ((m n : ℕ) → moved_by x me.0.store m ≡ moved_by x me.0.store n) → Allows (ShowsJoined z) slots id me k (λ _. y) (λ _. Tells x me y)
 own_stores z slots id me i k x y is may writes moves s rule homes at small =
     let t = own_reads z slots id me i k x (λ _. y) is may (λ n. sym (writes n)) s rule homes at small in
     (t.0, t.1, t.2, t.3, (t.4.0 ∙ ap (λ (q : View). (with_store me.0 q, me.1)) (moves (get_or s.words k 0) y), t.4.1))

@@ -17,7 +17,7 @@ use Rattle.lock_core.specs.Lock.{seat_of}
 use Rattle.busy_forbidden.specs.declared.view.LockView.{LockView}
 use Rattle.busy_forbidden.specs.Shown.{standing, put, view_at}
 use Rattle.busy_forbidden.specs.Moves.{word_of, written, moved, MayStep}
-use Rattle.busy_forbidden.specs.Rules.{seen, Keeps, ShowsLock, IsNext}
+use Rattle.busy_forbidden.specs.Rules.{seen, Keeps, ShowsLock, IsNext, after_step}
 use Rattle.busy_forbidden.specs.Calls.{LeavesMore}
 use Rattle.busy_forbidden.specs.Views.{at_view, put_same, put_other}
 use Rattle.busy_forbidden.specs.OnlyKeeps.{lock_kept}
@@ -41,11 +41,13 @@ use Rattle.store_core.proofs.Eight.{eight, inductive}
 use Rattle.store_core.proofs.Runs.{step_kept}
 use Rattle.node_rows.specs.declared.view.NodeView.{NodeView}
 use Rattle.node_rows.specs.Shown.{lock_of, seats_of, store_at, state_of, Shows, IsStoreStep, IsAway, IsEnding, IsClosed, node_can, ended, freed, store_next, node_next, rest_of, is_out}
+use Rattle.node_rows.specs.Joining.{with_views, ShowsJoined}
+use Rattle.node_rows.specs.Gathering.{not_spent, known_at, step_gathers}
 
 pub node_moves : (v : NodeView) (x : LockStep) (n : ℕ) → lock_of (node_next x n v) ≡ moved (lock_of v) x n
 node_moves v x n = refl
 
-pub node_shows : (z : Sizes) (s : State (Unit {0}) NodeView) → Shows z s → ShowsLock lock_of (seats_of z) s
+pub node_shows : (z : Sizes) (s : State (Unit {0}) NodeView) → ShowsJoined z s → ShowsLock lock_of (seats_of z) s
 node_shows z s h = h.lock
 
 -- where one more seat is freed, each still stands as held or free
@@ -350,22 +352,34 @@ module _ (z : Sizes) (s : State (Unit {0}) NodeView) (i : ℕ) (v : NodeView) (r
 pub keeps_store : (z : Sizes) (t : core.State) (i : ℕ) (y : core.Step) → StoreHolds z t → InPlace z t i y → StoreHolds z (steps.after z t i y)
 keeps_store z t i y h ok = eight z (steps.after z t i y) (step_kept y z t i (inductive z t h) ok)
 
-pub node_keeps : (z : Sizes) → Keeps (Shows z) lock_of (seats_of z) node_can node_next
+-- and so does a step of the lock
+lock_keeps : (z : Sizes) (s : State (Unit {0}) NodeView) (i : ℕ) (v : NodeView) (x : LockStep) → Shows z s → get_elem? s.views i ≡ some v → MayStep z.seats i v.lock x → node_can x v → Shows z (after_step node_next s i v x)
 unfolding lock_kept
+lock_keeps z s i v x rule at ok may =
+    let k : ℕ = word_of i x in
+    let f : ℕ = get_or s.words k 0 in
+    let y : ℕ = written i x f in
+    let w : NodeView = node_next x (seen x f) v in
+    let step = lock_step_is z s i v rule at x ok may (seen x f) y in
+    record {
+      lock = lock_kept lock_of node_next node_moves z.seats s i v x rule.lock at ok;
+      wide = let e = length-set s.words k y in let r = rule.wide in omega arith;
+      holds = subst (StoreHolds z) (sym step.after) (keeps_store z (state_of z s.words s.views rule.lock.state) i (lock_meant v.store.stay x) rule.holds step.in_place);
+      sized = sized_set z s i v rule at w refl refl;
+      some_made = some_set z s i v rule at w refl refl;
+      count = count_set z s i v rule at w refl refl;
+    }
+
+pub node_keeps : (z : Sizes) → Keeps (ShowsJoined z) lock_of (seats_of z) node_can node_next
 node_keeps z = record {
-  step_keeps = λ s i v x rule at is ok may.
-      let k : ℕ = word_of i x in
-      let f : ℕ = get_or s.words k 0 in
-      let y : ℕ = written i x f in
-      let w : NodeView = node_next x (seen x f) v in
-      let step = lock_step_is z s i v rule at x ok may (seen x f) y in
+  step_keeps = λ s i v x rule at number ok may.
+      let w : NodeView = node_next x (seen x (get_or s.words (word_of i x) 0)) v in
+      let known = known_at rule.known s.views rule.joins i v at (not_spent v i number) in
       record {
+        known = set rule.known i w;
+        joins = step_gathers rule.known s.views rule.joins i v at (not_spent v i number) w refl;
         lock = lock_kept lock_of node_next node_moves z.seats s i v x rule.lock at ok;
-        wide = let e = length-set s.words k y in let r = rule.wide in omega arith;
-        holds = subst (StoreHolds z) (sym step.after) (keeps_store z (state_of z s.words s.views rule.lock.state) i (lock_meant v.store.stay x) rule.holds step.in_place);
-        sized = sized_set z s i v rule at w refl refl;
-        some_made = some_set z s i v rule at w refl refl;
-        count = count_set z s i v rule at w refl refl;
+        shows = lock_keeps z (with_views s rule.known) i v x rule.shows known ok may;
       };
 }
 

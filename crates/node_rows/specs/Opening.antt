@@ -1,5 +1,5 @@
 -- A new store and its passes.
-use Rattle.std.specs.Prelude.{◌≡◌, ℕ, ◌+◌, ◌*◌, ◌^◌, ◌<◌, ◌≤◌, List, length, slice_index}
+use Rattle.std.specs.Prelude.{◌≡◌, ℕ, ◌+◌, ◌*◌, ◌^◌, ◌<◌, ◌≤◌, List, [], length, slice_index}
 use Rattle.atomic_table.specs.Seated.{TableId}
 use Rattle.atomic_table.specs.declared.shared.Seat.{Seat}
 use Rattle.store_core.specs.declared.view.Sizes.{Sizes}
@@ -37,6 +37,7 @@ pub record IsNew (t : TableId) (z : Sizes) (j : ℕ) (seat : Seat (Unit {0}) Nod
   pub table : seat.table_id ≡ t
   pub place : number ≡ j
   pub count : seats ≡ z.seats
+  pub none : seat.me.1 ≡ []
   pub view : seat.me.0 ≡ seat_view z j seat.me.0.made
 
 -- the first seat, after k seats were split off

@@ -1,5 +1,5 @@
 -- A store and its passes, as their callers see them.
-use Rattle.std.specs.Prelude.{◌≡◌, ℕ, ◌<◌, ◌≤◌, ◌^◌}
+use Rattle.std.specs.Prelude.{◌≡◌, ℕ, ◌<◌, ◌≤◌, ◌^◌, []}
 use Rattle.atomic_table.specs.Seated.{TableId}
 use Rattle.atomic_table.specs.declared.shared.Seat.{Seat}
 use Rattle.lock_core.specs.declared.parts.Phase.TheVariants.{Out}
@@ -18,11 +18,12 @@ pub record IsStore (t : TableId) (key z : Sizes) : Type 0 where
   pub wide : total z ≤ t.words
   pub small : total z < 2 ^ 62
 
--- a pass of this store
+-- a pass of this store, which holds no slot
 pub record IsPass (t : TableId) (z : Sizes) (seat : Seat (Unit {0}) NodeView) (seats : ℕ) : Type 0 where
   pub table : seat.table_id ≡ t
   pub sizes : seat.me.0.sizes ≡ z
   pub count : seats ≡ z.seats
+  pub none : seat.me.1 ≡ []
 
 -- it is out
 pub record IsOut (v : NodeView) : Type 0 where

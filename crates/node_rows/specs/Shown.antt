@@ -53,7 +53,7 @@ pub record Shows (z : Sizes) (s : State (Unit {0}) NodeView) : Type 0 where
 
 -- seat j of a new store
 abbrev pub seat_view : Sizes → ℕ → ℕ → NodeView
-seat_view z j made = record { lock = lock.newcomer j; made = made; sizes = z; store = newcomer z }
+seat_view z j made = record { lock = lock.newcomer j; made = made; sizes = z; store = newcomer z; joined = [] }
 
 abbrev pub first_view : Sizes → NodeView
 first_view z = seat_view z 0 1
@@ -115,7 +115,7 @@ store_next Give v = ended v.stay v
 
 -- the own view after a step of the lock
 abbrev pub node_next : LockStep → ℕ → NodeView → NodeView
-node_next x n v = record { lock = moved v.lock x n; made = v.made; sizes = v.sizes; store = store_next x v.store }
+node_next x n v = record v { lock = moved v.lock x n; store = store_next x v.store }
 
 -- what the rule adds to a view of the lock, and which views are away
 abbrev pub rest_of : NodeView → Sizes × View

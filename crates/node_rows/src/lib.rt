@@ -1,6 +1,9 @@
 //! The running store: the words of a table and the views of its seats show a store.
 #![tactic(auto)]
 
+mod arriving;
+mod closing;
+mod collecting;
 mod law;
 mod make;
 mod places;
@@ -11,8 +14,11 @@ mod steps;
 mod store;
 #[cfg(test)]
 mod tests;
+mod told;
 mod view;
 
+pub use closing::Chronicle;
+pub use collecting::{load_any, store_any, store_claim};
 pub use law::{
     history_is_legal, lock_steps_are_the_stores, own_steps_are_in_place, own_steps_are_the_stores,
 };
@@ -24,5 +30,6 @@ pub use reading::{load_root, read_argument, read_word, store_root, store_root_co
 pub use root_words::{root_count_word, root_word};
 pub use rule::NodeRows;
 pub use steps::{begin, go_draw, go_load, go_publish, go_store, load_base, load_in_use};
-pub use store::{Pass, Store};
-pub use view::NodeView;
+pub use store::{Last, Pass, Store};
+pub use told::{kept, last, tell_collect, tell_find, tell_make};
+pub use view::{JoinedSeat, NodeView};

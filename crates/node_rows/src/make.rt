@@ -1,15 +1,18 @@
 //! A new store, and its passes.
-ghost use Rattle.std.specs.Prelude.{◌≡◌, ℕ, ◌+◌, ◌<◌, ◌^◌, IfOk, All};
+ghost use Rattle.std.specs.Prelude.{◌≡◌, ℕ, ◌+◌, ◌<◌, ◌^◌, IfOk, All, false, replicate};
 ghost use Rattle.store_core.specs.Shown.{total};
 ghost use Rattle.busy_forbidden.specs.Dealt.{EachPlace};
+ghost use Rattle.store_core.specs.Steps.{newcomer};
 ghost use Rattle.node_rows.specs.Passes.{IsStore, IsPass, IsOut};
+ghost use Rattle.node_rows.specs.Told.{Tells};
 ghost use Rattle.node_rows.specs.Opening.{MaySize, UpTo, IsNew, IsFirst};
 
 use crate::places::{base_word, free_count_word, free_place_word, in_use_word, row_width};
 use crate::rule::{Deal, NodeRows};
-use crate::store::{Pass, Store};
+use crate::store::{Last, Pass, Store};
 use busy_forbidden::{Seat, Table};
 use faults::Memory;
+use mark_phase::Marks;
 use std::alloc::Global;
 use store_core::Sizes;
 
@@ -42,13 +45,34 @@ fn first_words(alloc: Global, sizes: &Sizes) -> Result<Vec<u64>, Memory>
     Ok(words)
 }
 
+// A pass that has done nothing yet, with no mark.
+fn new_pass(seat: Seat<NodeRows>, rows: u32, marks: Marks) -> Pass
+    requires { seat.seat.me.0.store.root_count ≡ 0 }
+    ensures seat { result.seat ≡ seat }
+    ensures told { seat.seat.me.0.store ≡ newcomer seat.seat.me.0.sizes → seat.seat.me.0.sizes.rows ≡ rows
+        → marks ≡ replicate rows false → Tells result }
+{
+    Pass {
+        seat,
+        base: 0,
+        in_use: 0,
+        root_count: 0,
+        rows,
+        seen: 0,
+        last: Last::Nothing,
+        marks,
+    }
+}
+
 fn first_pass(alloc: Global, sizes: &Sizes) -> Result<(Store, Pass), Memory>
     requires small { total sizes.now < 2 ^ 62 }
     requires sizes { MaySize sizes.now }
     ensures store { IfOk result (λ t. IsStore t.0.table.shared.table_id t.0.table.shared.key t.0.sizes × (t.0.sizes ≡ sizes.now)) }
     ensures pass { IfOk result (λ t. IsNew t.0.table.shared.table_id sizes.now 0 t.1.seat.seat t.1.seat.number t.1.seat.seats × IsFirst 1 t.1.seat.seat) }
+    ensures told { IfOk result (λ t. Tells t.1) }
 {
     let words = first_words(alloc, sizes)?;
+    let marks = Marks::new(alloc, sizes.rows)?;
     let (table, seat) = Table::<NodeRows>::of_words(alloc, &words, sizes)?;
     let store = Store {
         table,
@@ -59,36 +83,27 @@ fn first_pass(alloc: Global, sizes: &Sizes) -> Result<(Store, Pass), Memory>
         number: 0,
         seats: sizes.seats,
     };
-    Ok((
-        store,
-        Pass {
-            seat,
-            base: 0,
-            in_use: 0,
-            root_count: 0,
-        },
-    ))
+    Ok((store, new_pass(seat, sizes.rows, marks)))
 }
 
 // Pass k, split off the first.
-fn next_pass(store: &Store, first: &mut Pass, k: u32) -> Pass
+fn next_pass(store: &Store, first: &mut Pass, k: u32, marks: Marks) -> Pass
     requires store { IsStore store.now.table.shared.table_id store.now.table.shared.key store.now.sizes }
     requires below { k < store.now.sizes.seats }
     requires first { IsNew store.now.table.shared.table_id store.now.sizes 0 first.old.seat.seat first.old.seat.number first.old.seat.seats × IsFirst k first.old.seat.seat }
+    requires marks { marks ≡ replicate store.now.sizes.rows false }
     ensures first { IsNew store.now.table.shared.table_id store.now.sizes 0 first.new.seat.seat first.new.seat.number first.new.seat.seats × IsFirst (k + 1) first.new.seat.seat }
+    ensures told { Tells first.old → Tells first.new }
     ensures new { IsNew store.now.table.shared.table_id store.now.sizes k result.seat.seat result.seat.number result.seat.seats }
+    ensures new_told { Tells result }
 {
     let seat = store.table.shared.split_seat::<Deal>(&mut first.seat.seat);
-    Pass {
-        seat: Seat {
-            seat,
-            number: k,
-            seats: first.seat.seats,
-        },
-        base: 0,
-        in_use: 0,
-        root_count: 0,
-    }
+    let seat = Seat {
+        seat,
+        number: k,
+        seats: first.seat.seats,
+    };
+    new_pass(seat, store.sizes.rows, marks)
 }
 
 impl Store {
@@ -99,11 +114,13 @@ impl Store {
         ensures store { IfOk result (λ t. IsStore t.0.table.shared.table_id t.0.table.shared.key t.0.sizes × (t.0.sizes ≡ sizes)) }
         ensures passes { IfOk result (λ t. EachPlace (λ j p. IsNew t.0.table.shared.table_id sizes j p.seat.seat p.seat.number p.seat.seats) sizes.seats t.1.items) }
         ensures ready { IfOk result (λ t. All (λ p. IsPass t.0.table.shared.table_id t.0.sizes p.seat.seat p.seat.seats × IsOut p.seat.seat.me.0) t.1.items) }
+        ensures told { IfOk result (λ t. All Tells t.1.items) }
     {
         let (store, mut first) = first_pass(alloc, &sizes)?;
         let mut rest = Vec::new(alloc);
         for k in 1..sizes.seats {
-            rest.push(next_pass(&store, &mut first, k))?;
+            let marks = Marks::new(alloc, sizes.rows)?;
+            rest.push(next_pass(&store, &mut first, k, marks))?;
         }
         rest.insert(0, first)?;
         Ok((store, rest))

@@ -1,6 +1,6 @@
 //! The rule: words and views show a store in which the facts of the store hold.
 use crate::view::NodeView;
-use atomic_table::{Split, TableRule};
+use atomic_table::{Join, Play, Split, TableRule};
 use busy_forbidden::{HasLock, HasMore};
 use store_core::{Sizes, View};
 
@@ -8,9 +8,10 @@ use store_core::{Sizes, View};
 pub struct NodeRows;
 
 impl TableRule<(), NodeView, Sizes> for NodeRows {
-    ghost use Rattle.node_rows.specs.Shown.{Shows, first_view};
+    ghost use Rattle.node_rows.specs.Shown.{first_view};
+    ghost use Rattle.node_rows.specs.Joining.{ShowsJoined};
 
-    ghost holds = { Shows };
+    ghost holds = { ShowsJoined };
 
     ghost first = { first_view };
 }
@@ -62,4 +63,24 @@ impl Split<NodeView> for Deal {
     ghost left = { one_made };
 
     ghost right = { next_seat };
+}
+
+// A seat takes in another one.
+pub(crate) struct Gather;
+
+impl Join<NodeView> for Gather {
+    ghost use Rattle.node_rows.specs.Joining.{both_views, spent_view};
+
+    ghost both = { both_views };
+
+    ghost spent = { spent_view };
+}
+
+// A seat looks at the table, and knows what all seats know that were joined into it.
+pub(crate) struct OnLook;
+
+impl Play<(), NodeView> for OnLook {
+    ghost use Rattle.node_rows.specs.Joining.{looks};
+
+    ghost then = { looks };
 }

@@ -4,14 +4,13 @@ ghost use Rattle.lock_core.specs.declared.parts.Phase.TheVariants.{Shared};
 ghost use Rattle.busy_forbidden.specs.Calls.{IsSame};
 ghost use Rattle.busy_forbidden.specs.Entries.{ShowsShared};
 ghost use Rattle.busy_forbidden.specs.Exclusive.{IsGranted, ShowsExclusive, TriesExclusive};
-ghost use Rattle.node_rows.specs.Steps.{MayLoad};
-ghost use Rattle.node_rows.specs.Shown.{IsAway, node_next};
+ghost use Rattle.node_rows.specs.Shown.{node_next};
 ghost use Rattle.node_rows.specs.Passes.{IsStore, IsPass, IsOut, IsReady, Came, Stayed, Left};
 
-use crate::places::{base_word, in_use_word};
+use crate::arriving::arrive;
 use crate::rule::NodeRows;
-use crate::steps::{load_base, load_in_use};
 use busy_forbidden::{Busy, Seat, Table};
+use mark_phase::Marks;
 use std::sync::Wait;
 use store_core::Sizes;
 
@@ -22,34 +21,37 @@ pub struct Store {
     pub sizes: Sizes,
 }
 
-/// A seat of a store, with what its access has loaded, and how many rows it protects.
+/// The last entry of a pass: its number, or the greatest that the pass had seen then.
+#[derive(Clone, Copy, Debug, PartialEq, Eq)]
+pub enum Last {
+    Nothing,
+    Make(u64),
+    Find(u64),
+    Roots(u64),
+    Collect(u64),
+}
+
+/// A seat of a store, with what its access has loaded, how many rows it protects, what it tells of its entries, and the room that a collection needs.
 #[derive(Drop)]
 pub struct Pass {
     pub seat: Seat<NodeRows>,
     pub base: u64,
     pub in_use: u64,
+    /// How many rows it protects.
     pub root_count: u32,
+    /// How many rows the store has.
+    pub rows: u32,
+    /// The greatest number that the pass has seen.
+    pub seen: u64,
+    pub last: Last,
+    /// A mark for each row: those that the pass's last collection kept. A collection marks here what it reaches.
+    pub marks: Marks,
     ghost counted: { root_count ≡ seat.seat.me.0.store.root_count },
 }
 
-// Loads what each granted access loads first.
-fn arrive(store: &Store, pass: &mut Pass)
-    requires store { IsStore store.now.table.shared.table_id store.now.table.shared.key store.now.sizes }
-    requires pass { IsPass store.now.table.shared.table_id store.now.sizes pass.old.seat.seat pass.old.seat.seats }
-    requires away { IsAway pass.old.seat.seat.me.0.store }
-    requires granted { MayLoad pass.old.seat.seat.me.0.lock pass.old.seat.number pass.old.seat.seats }
-    ensures pass { IsPass store.now.table.shared.table_id store.now.sizes pass.new.seat.seat pass.new.seat.seats }
-    ensures same { IsSame pass.old.seat.seat pass.new.seat.seat
-        × (pass.new.seat.number ≡ pass.old.seat.number) × (pass.new.seat.seats ≡ pass.old.seat.seats) }
-    ensures lock { pass.new.seat.seat.me.0.lock ≡ pass.old.seat.seat.me.0.lock }
-    ensures came { Came pass.old.seat.seat.me.0 pass.new.seat.seat.me.0 pass.new.base pass.new.in_use }
-    ensures ready { IsReady store.now.sizes pass.new.seat.seat.me.0.store pass.new.base pass.new.in_use }
-{
-    pass.base = load_base(&store.table, &mut pass.seat, base_word(&store.sizes));
-    pass.in_use = load_in_use(&store.table, &mut pass.seat, in_use_word(&store.sizes));
-}
-
 impl Store {
+    ghost use Rattle.node_rows.specs.Told.{Tells};
+
     /// Enters shared access, without a wait. `Busy::Forbidden` comes exactly where this call read the own forbidden word as
     /// set; the pass is then out. An entry loads the base and then the number of buckets in use.
     pub fn try_enter_shared(&self, pass: &mut Pass) -> Result<(), Busy>
@@ -65,6 +67,7 @@ impl Store {
         ensures access { MatchResult result
             (λ _. IsReady self.now.sizes pass.new.seat.seat.me.0.store pass.new.base pass.new.in_use)
             (λ _. IsOut pass.new.seat.seat.me.0) }
+        ensures told { Tells pass.old → Tells pass.new }
     {
         match busy_forbidden::try_enter_shared(&self.table, &mut pass.seat) {
             Ok(()) => {
@@ -85,6 +88,7 @@ impl Store {
         ensures shared { pass.new.seat.seat.me.0.lock.phase ≡ Shared }
         ensures came { Came pass.old.seat.seat.me.0 pass.new.seat.seat.me.0 pass.new.base pass.new.in_use }
         ensures ready { IsReady self.now.sizes pass.new.seat.seat.me.0.store pass.new.base pass.new.in_use }
+        ensures told { Tells pass.old → Tells pass.new }
     {
         busy_forbidden::enter_shared(rt, &self.table, &mut pass.seat);
         arrive(self, pass);
@@ -100,8 +104,10 @@ impl Store {
         ensures same { IsSame pass.old.seat.seat pass.new.seat.seat × (pass.new.seat.number ≡ pass.old.seat.number) }
         ensures left { Left pass.old.seat.seat.me.0 pass.new.seat.seat.me.0 }
         ensures out { IsOut pass.new.seat.seat.me.0 }
+        ensures told { Tells pass.old → Tells pass.new }
     {
         busy_forbidden::leave_shared(&self.table, &mut pass.seat);
+        pass.last = Last::Roots(pass.seen);
     }
 
     /// Enters exclusive access, without a wait. `Busy::Mutex` comes exactly where this call read the mutex as held, and
@@ -121,6 +127,7 @@ impl Store {
         ensures access { MatchResult result
             (λ _. IsReady self.now.sizes pass.new.seat.seat.me.0.store pass.new.base pass.new.in_use)
             (λ _. IsOut pass.new.seat.seat.me.0) }
+        ensures told { Tells pass.old → Tells pass.new }
     {
         match busy_forbidden::try_enter_exclusive(&self.table, &mut pass.seat) {
             Ok(()) => {
@@ -141,6 +148,7 @@ impl Store {
         ensures granted { IsGranted pass.new.seat.seat.me.0.lock pass.new.seat.number pass.new.seat.seats }
         ensures came { Came pass.old.seat.seat.me.0 pass.new.seat.seat.me.0 pass.new.base pass.new.in_use }
         ensures ready { IsReady self.now.sizes pass.new.seat.seat.me.0.store pass.new.base pass.new.in_use }
+        ensures told { Tells pass.old → Tells pass.new }
     {
         busy_forbidden::enter_exclusive(rt, &self.table, &mut pass.seat);
         arrive(self, pass);
@@ -156,7 +164,9 @@ impl Store {
         ensures same { IsSame pass.old.seat.seat pass.new.seat.seat × (pass.new.seat.number ≡ pass.old.seat.number) }
         ensures left { Left pass.old.seat.seat.me.0 pass.new.seat.seat.me.0 }
         ensures out { IsOut pass.new.seat.seat.me.0 }
+        ensures told { Tells pass.old → Tells pass.new }
     {
         busy_forbidden::leave_exclusive(&self.table, &mut pass.seat);
+        pass.last = Last::Roots(pass.seen);
     }
 }

@@ -1,12 +1,14 @@
 //! Passes of one store, on one thread.
 ghost use Rattle.std.specs.Prelude.{All};
 ghost use Rattle.node_rows.specs.Passes.{IsStore, IsPass, IsOut};
+ghost use Rattle.node_rows.specs.Told.{Tells};
 
-use crate::{Pass, Store};
+use crate::{Last, Pass, Store, kept, last};
 use busy_forbidden::Busy;
 use std::process::Abort;
 use std::test::Fail;
 use store_core::Sizes;
+use term_model::Row;
 
 const SMALL: Sizes = Sizes {
     rows: 4,
@@ -20,9 +22,12 @@ const SMALL: Sizes = Sizes {
 
 // The last of the passes that are left.
 fn last_pass(rt: &impl Abort, store: &Store, passes: &mut Vec<Pass>) -> Pass
-    requires { All (λ p. IsPass store.now.table.shared.table_id store.now.sizes p.seat.seat p.seat.seats × IsOut p.seat.seat.me.0) passes.old.items }
+    requires passes { All (λ p. IsPass store.now.table.shared.table_id store.now.sizes p.seat.seat p.seat.seats × IsOut p.seat.seat.me.0) passes.old.items }
+    requires told { All Tells passes.old.items }
     ensures left { All (λ p. IsPass store.now.table.shared.table_id store.now.sizes p.seat.seat p.seat.seats × IsOut p.seat.seat.me.0) passes.new.items }
+    ensures left_told { All Tells passes.new.items }
     ensures pass { IsPass store.now.table.shared.table_id store.now.sizes result.seat.seat result.seat.seats × IsOut result.seat.seat.me.0 }
+    ensures told { Tells result }
 {
     match passes.pop() {
         Some(pass) => pass,
@@ -35,6 +40,7 @@ fn visit(rt: &impl Abort, store: &Store, pass: &mut Pass) -> (u64, u64)
     requires store { IsStore store.now.table.shared.table_id store.now.table.shared.key store.now.sizes }
     requires pass { IsPass store.now.table.shared.table_id store.now.sizes pass.old.seat.seat pass.old.seat.seats × IsOut pass.old.seat.seat.me.0 }
     ensures pass { IsPass store.now.table.shared.table_id store.now.sizes pass.new.seat.seat pass.new.seat.seats × IsOut pass.new.seat.seat.me.0 }
+    ensures told { Tells pass.old → Tells pass.new }
 {
     match store.try_enter_shared(pass) {
         Ok(()) => {
@@ -79,5 +85,25 @@ fn passes_enter_and_leave(rt: HostRuntime) -> Result<(), Fail> {
     assert_eq!(rt; shared, Busy::Forbidden);
     assert_eq!(rt; exclusive, Busy::Mutex);
     assert_eq!(rt; visit(&rt, &store, &mut second), (1, 1));
+    Ok(())
+}
+
+// The first base is 1, so all that a pass without entries has seen is 0.
+#[test]
+fn a_leave_is_the_last_entry(rt: HostRuntime) -> Result<(), Fail> {
+    let (store, mut passes) = Store::make(rt.alloc(), SMALL)?;
+    let mut pass = last_pass(&rt, &store, &mut passes);
+    assert_eq!(rt; last(&pass), Last::Nothing);
+    visit(&rt, &store, &mut pass);
+    assert_eq!(rt; last(&pass), Last::Roots(0));
+    assert!(rt; !kept(&pass, Row(0)));
+    assert!(rt; !kept(&pass, Row(4)));
+    Ok(())
+}
+
+#[test]
+fn all_passes_close_a_store(rt: HostRuntime) -> Result<(), Fail> {
+    let (store, passes) = Store::make(rt.alloc(), SMALL)?;
+    let _ = store.close(passes);
     Ok(())
 }

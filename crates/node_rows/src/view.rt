@@ -1,6 +1,13 @@
 //! What a seat knows.
 use busy_forbidden::LockView;
+use std::collections::LinkedList;
 use store_core::{Sizes, View};
+
+/// What is known of a seat that was joined into another: its number, and what it knew of the store.
+pub struct JoinedSeat {
+    pub seat: u32,
+    pub store: View,
+}
 
 /// What a seat knows of the lock and of the store. No value of it is made.
 pub struct NodeView {
@@ -9,4 +16,6 @@ pub struct NodeView {
     pub made: u32,
     pub sizes: Sizes,
     pub store: View,
+    /// The seats that were joined into this one, the last one first.
+    pub joined: LinkedList<JoinedSeat>,
 }

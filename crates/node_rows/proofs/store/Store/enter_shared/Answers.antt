@@ -1,3 +1,4 @@
+use Rattle.node_rows.proofs.Tellings.{told_same}
 use Rattle.std.proofs.Common.{sym, ap, ◌∙◌}
 use Rattle.store_core.specs.declared.view.View.{View}
 use Rattle.node_rows.proofs.Entering.{came_from, enters_shared_stays}
@@ -6,7 +7,7 @@ use Rattle.node_rows.proofs.store.Store.enter_shared.Goals as goal
 pub arrive-requires-clause-pass : goal.arrive-requires-clause-pass
 arrive-requires-clause-pass g c =
     let t = enters_shared_stays c.args.pass.now.seat.seat.me.0 c.enter_shared.new.seat.seat.me.0 c.enter_shared.ensures.steps c.requires.out.away in
-    record { table = c.enter_shared.ensures.of.0; sizes = t.sizes ∙ c.requires.pass.sizes; count = c.enter_shared.ensures.same.2 ∙ c.requires.pass.count }
+    record { table = c.enter_shared.ensures.of.0; sizes = t.sizes ∙ c.requires.pass.sizes; count = c.enter_shared.ensures.same.2 ∙ c.requires.pass.count; none = c.enter_shared.ensures.same.0.slots ∙ c.requires.pass.none }
 
 pub arrive-requires-clause-away : goal.arrive-requires-clause-away
 arrive-requires-clause-away g c = (enters_shared_stays c.args.pass.now.seat.seat.me.0 c.enter_shared.new.seat.seat.me.0 c.enter_shared.ensures.steps c.requires.out.away).away
@@ -20,3 +21,6 @@ pub invariant_of-pass : goal.invariant_of-pass
 invariant_of-pass g c = record {
   counted = c.args.pass.now.counted ∙ ap (λ (v : View). v.root_count) (sym (enters_shared_stays c.args.pass.now.seat.seat.me.0 c.enter_shared.new.seat.seat.me.0 c.enter_shared.ensures.steps c.requires.out.away).store);
 }
+
+pub returns-clause-told : goal.returns-clause-told
+returns-clause-told g c = λ h. c.arrive.ensures.told (told_same c.args.pass.now.seat.seat.me.0.store c.enter_shared.new.seat.seat.me.0.store c.args.pass.now.rows c.args.pass.now.seen c.args.pass.now.last c.args.pass.now.marks (enters_shared_stays c.args.pass.now.seat.seat.me.0 c.enter_shared.new.seat.seat.me.0 c.enter_shared.ensures.steps c.requires.out.away).store h)

@@ -1,3 +1,4 @@
+use Rattle.node_rows.proofs.Tellings.{told_left_as}
 use Rattle.std.proofs.Common.{◌∙◌, sym, ap}
 use Rattle.store_core.specs.declared.view.View.{View}
 use Rattle.node_rows.proofs.Entering.{ends_exclusive, granted_closed, may_release}
@@ -11,7 +12,7 @@ leave_exclusive-requires-clause-may c =
 pub returns-clause-pass : goal.returns-clause-pass
 returns-clause-pass c =
     let t = ends_exclusive c.args.pass.now.seat.number c.args.pass.now.seat.seats c.args.pass.now.seat.seat.me.0 c.leave_exclusive.new.seat.seat.me.0 c.requires.ready.rest c.leave_exclusive.ensures.view in
-    record { table = c.leave_exclusive.ensures.of.0; sizes = t.sizes ∙ c.requires.pass.sizes; count = c.leave_exclusive.ensures.same.2 ∙ c.requires.pass.count }
+    record { table = c.leave_exclusive.ensures.of.0; sizes = t.sizes ∙ c.requires.pass.sizes; count = c.leave_exclusive.ensures.same.2 ∙ c.requires.pass.count; none = c.leave_exclusive.ensures.same.0.slots ∙ c.requires.pass.none }
 
 pub returns-clause-left : goal.returns-clause-left
 returns-clause-left c = (ends_exclusive c.args.pass.now.seat.number c.args.pass.now.seat.seats c.args.pass.now.seat.seat.me.0 c.leave_exclusive.new.seat.seat.me.0 c.requires.ready.rest c.leave_exclusive.ensures.view).store
@@ -23,3 +24,6 @@ pub invariant_of-pass : goal.invariant_of-pass
 invariant_of-pass c = record {
   counted = c.args.pass.now.counted ∙ ap (λ (v : View). v.root_count) (sym (ends_exclusive c.args.pass.now.seat.number c.args.pass.now.seat.seats c.args.pass.now.seat.seat.me.0 c.leave_exclusive.new.seat.seat.me.0 c.requires.ready.rest c.leave_exclusive.ensures.view).store);
 }
+
+pub returns-clause-told : goal.returns-clause-told
+returns-clause-told c = told_left_as c.args.pass.now.seat.seat.me.0.store c.leave_exclusive.new.seat.seat.me.0.store c.args.pass.now.rows c.args.pass.now.seen c.args.pass.now.last c.args.pass.now.marks (ends_exclusive c.args.pass.now.seat.number c.args.pass.now.seat.seats c.args.pass.now.seat.seat.me.0 c.leave_exclusive.new.seat.seat.me.0 c.requires.ready.rest c.leave_exclusive.ensures.view).store

@@ -1,7 +1,10 @@
+use Rattle.std.proofs.lemmas.List.Elements.{All-cons, All-push}
 use Rattle.std.proofs.Common.{◌≡◌, ◌+◌, ℕ, refl, sym, ap, subst, arith}
 use Rattle.busy_forbidden.specs.Dealt.{EachPlace}
 use Rattle.busy_forbidden.proofs.Dealing.{each_push, each_front, each_all}
 use Rattle.store_core.specs.declared.view.Sizes.{Sizes}
+use Rattle.std.specs.Prelude.{All}
+use Rattle.node_rows.specs.Told.{Tells}
 use Rattle.node_rows.specs.Opening.{IsNew}
 use Rattle.node_rows.specs.Passes.{IsPass, IsOut}
 use Rattle.node_rows.proofs.Opens.{new_ready}
@@ -20,6 +23,8 @@ loop-k-preserved c =
       store = refl;
       new = c.next_pass.ensures.first.0;
       first = c.next_pass.ensures.first.1;
+      told = c.next_pass.ensures.told inv.told;
+      each_told = subst (All Tells) (sym c.in_ok-push.ensures.items) (All-push Tells c.loop-k.rest.items next inv.each_told c.next_pass.ensures.new_told);
       rest = (
         m + 1,
         omega arith,
@@ -50,3 +55,6 @@ returns-clause-ready c =
     each_all (λ j p. IsNew t z j p.seat.seat p.seat.number p.seat.seats) (λ p. IsPass t z p.seat.seat p.seat.seats × IsOut p.seat.seat.me.0) (inv.rest.0 + 1) c.insert.new.self.items
     (subst (EachPlace (λ j p. IsNew t z j p.seat.seat p.seat.number p.seat.seats) (inv.rest.0 + 1)) (sym c.in_ok-insert.ensures.items) each)
     (λ j p new. new_ready t z j p.seat.seat p.seat.number p.seat.seats new)
+
+pub returns-clause-told : goal.returns-clause-told
+returns-clause-told c = let inv = c.loop-k.invariant in subst (All Tells) (sym c.in_ok-insert.ensures.items) (All-cons Tells c.loop-k.first c.loop-k.rest.items inv.told inv.each_told)

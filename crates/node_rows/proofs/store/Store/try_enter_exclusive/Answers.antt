@@ -1,3 +1,4 @@
+use Rattle.node_rows.proofs.Tellings.{told_same}
 use Rattle.std.proofs.Common.{sym, ap, ◌∙◌, Ok, Err}
 use Rattle.store_core.specs.declared.view.View.{View}
 use Rattle.node_rows.proofs.Entering.{came_from, tries_exclusive_stays}
@@ -6,7 +7,7 @@ use Rattle.node_rows.proofs.store.Store.try_enter_exclusive.Goals as goal
 pub arrive-requires-clause-pass : goal.arrive-requires-clause-pass
 arrive-requires-clause-pass c =
     let t = tries_exclusive_stays c.args.pass.now.seat.number c.args.pass.now.seat.seats c.args.pass.now.seat.seat.me.0 c.try_enter_exclusive.new.seat.seat.me.0 (Ok tt) c.in-Ok.ensures.steps c.requires.out.away in
-    record { table = c.in-Ok.ensures.of.0; sizes = t.sizes ∙ c.requires.pass.sizes; count = c.in-Ok.ensures.same.2 ∙ c.requires.pass.count }
+    record { table = c.in-Ok.ensures.of.0; sizes = t.sizes ∙ c.requires.pass.sizes; count = c.in-Ok.ensures.same.2 ∙ c.requires.pass.count; none = c.in-Ok.ensures.same.0.slots ∙ c.requires.pass.none }
 
 pub arrive-requires-clause-away : goal.arrive-requires-clause-away
 arrive-requires-clause-away c = (tries_exclusive_stays c.args.pass.now.seat.number c.args.pass.now.seat.seats c.args.pass.now.seat.seat.me.0 c.try_enter_exclusive.new.seat.seat.me.0 (Ok tt) c.in-Ok.ensures.steps c.requires.out.away).away
@@ -19,7 +20,7 @@ returns-in-Ok-clause-came c =
 pub returns-in-Err-clause-pass : goal.returns-in-Err-clause-pass
 returns-in-Err-clause-pass c =
     let t = tries_exclusive_stays c.args.pass.now.seat.number c.args.pass.now.seat.seats c.args.pass.now.seat.seat.me.0 c.try_enter_exclusive.new.seat.seat.me.0 (Err c.in-Err.busy) c.in-Err.ensures.steps c.requires.out.away in
-    record { table = c.in-Err.ensures.of.0; sizes = t.sizes ∙ c.requires.pass.sizes; count = c.in-Err.ensures.same.2 ∙ c.requires.pass.count }
+    record { table = c.in-Err.ensures.of.0; sizes = t.sizes ∙ c.requires.pass.sizes; count = c.in-Err.ensures.same.2 ∙ c.requires.pass.count; none = c.in-Err.ensures.same.0.slots ∙ c.requires.pass.none }
 
 pub returns-in-Err-clause-came : goal.returns-in-Err-clause-came
 returns-in-Err-clause-came c = (tries_exclusive_stays c.args.pass.now.seat.number c.args.pass.now.seat.seats c.args.pass.now.seat.seat.me.0 c.try_enter_exclusive.new.seat.seat.me.0 (Err c.in-Err.busy) c.in-Err.ensures.steps c.requires.out.away).store
@@ -31,3 +32,9 @@ pub invariant_of-pass : goal.invariant_of-pass
 invariant_of-pass c = record {
   counted = c.args.pass.now.counted ∙ ap (λ (v : View). v.root_count) (sym (tries_exclusive_stays c.args.pass.now.seat.number c.args.pass.now.seat.seats c.args.pass.now.seat.seat.me.0 c.try_enter_exclusive.new.seat.seat.me.0 c.try_enter_exclusive.result c.try_enter_exclusive.ensures.steps c.requires.out.away).store);
 }
+
+pub returns-in-Ok-clause-told : goal.returns-in-Ok-clause-told
+returns-in-Ok-clause-told c = λ h. c.arrive.ensures.told (told_same c.args.pass.now.seat.seat.me.0.store c.try_enter_exclusive.new.seat.seat.me.0.store c.args.pass.now.rows c.args.pass.now.seen c.args.pass.now.last c.args.pass.now.marks (tries_exclusive_stays c.args.pass.now.seat.number c.args.pass.now.seat.seats c.args.pass.now.seat.seat.me.0 c.try_enter_exclusive.new.seat.seat.me.0 (Ok tt) c.in-Ok.ensures.steps c.requires.out.away).store h)
+
+pub returns-in-Err-clause-told : goal.returns-in-Err-clause-told
+returns-in-Err-clause-told c = told_same c.args.pass.now.seat.seat.me.0.store c.try_enter_exclusive.new.seat.seat.me.0.store c.args.pass.now.rows c.args.pass.now.seen c.args.pass.now.last c.args.pass.now.marks (tries_exclusive_stays c.args.pass.now.seat.number c.args.pass.now.seat.seats c.args.pass.now.seat.seat.me.0 c.try_enter_exclusive.new.seat.seat.me.0 (Err c.in-Err.busy) c.in-Err.ensures.steps c.requires.out.away).store

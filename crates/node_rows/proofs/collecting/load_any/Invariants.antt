@@ -1,0 +1,5 @@
+use Rattle.store_core.specs.Machine.{LoadAny}
+use Rattle.node_rows.proofs.collecting.load_any.Given as goal
+
+abbrev pub ghosts-load_place : goal.ghosts-load_place
+ghosts-load_place a = record { step = LoadAny a.place }

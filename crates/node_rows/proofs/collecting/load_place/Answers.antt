@@ -1,0 +1,22 @@
+use Rattle.std.proofs.Common.{ℕ, sym, subst}
+use Rattle.atomic_table.specs.Table.{Allows}
+use Rattle.store_core.specs.declared.view.Sizes.{Sizes}
+use Rattle.store_core.specs.Machine.{Step, LoadAny}
+use Rattle.node_rows.specs.Joining.{ShowsJoined}
+use Rattle.node_rows.specs.Collecting.{MayCollect}
+use Rattle.node_rows.proofs.Plays.{word_fits}
+use Rattle.node_rows.proofs.Collects.{TellsCollect, loads_any}
+use Rattle.node_rows.proofs.collecting.load_place.Goals as goal
+
+pub load-requires : goal.load-requires
+load-requires g c =
+    let z : Sizes = c.args.table.now.shared.key in
+    let t = c.args.table.now.shared.table_id in
+    let seat = c.args.seat.now in
+    let p = c.args.place in
+    let may = subst (λ (n : ℕ). MayCollect z seat.number n seat.seat.me.0 (LoadAny p) p c.args.word) c.requires.count c.requires.may in (
+      c.requires.of.table,
+      word_fits t z seat.seat c.args.word p c.requires.of may.word may.shown.3,
+      subst (λ (y : Sizes × Step). Allows (ShowsJoined z) t.slots seat.seat.id seat.seat.me c.args.word (λ n. n) (TellsCollect y.0 y.1 seat.seat.me)) (λ q. (sym c.requires.of.sizes q, sym c.requires.step q))
+          (loads_any z t.slots seat.seat.id seat.seat.me seat.number c.args.word p seat.fits.number may),
+    )
