@@ -5,6 +5,7 @@ ghost use Rattle.std.specs.Prelude.{◌≡◌, IfOk, All};
 ghost use Rattle.lock_core.specs.declared.parts.Phase.TheVariants.{Shared};
 ghost use Rattle.store_core.specs.Machine.{In};
 ghost use Rattle.node_rows.specs.Inside.{IsInside};
+ghost use Rattle.node_rows.specs.Told.{Tells};
 ghost use Rattle.node_rows.specs.Passes.{IsStore, IsPass, IsOut};
 
 use node_rows::{Pass, Store};
@@ -52,7 +53,7 @@ fn create_chain(store: &Store, pass: &mut Pass, symbol: u32, count: u32) -> u64
 // The laps of one thread: how many terms it has created.
 fn create_laps(store: &Store, mut pass: Pass, work: Work) -> u64
     requires store { IsStore store.now.table.shared.table_id store.now.table.shared.key store.now.sizes }
-    requires pass { IsPass store.now.table.shared.table_id store.now.sizes pass.seat.seat pass.seat.seats × IsOut pass.seat.seat.me.0 }
+    requires pass { IsPass store.now.table.shared.table_id store.now.sizes pass.seat.seat pass.seat.seats × IsOut pass.seat.seat.me.0 × Tells pass }
 {
     let symbol = if work.own { pass.seat.number } else { 0 };
     let mut created: u64 = 0;
@@ -96,7 +97,7 @@ fn main(rt: HostRuntime) -> io::Result<()> {
     let shared = &store;
     let job = |pass: Pass| -> u64
         requires { IsStore shared.now.table.shared.table_id shared.now.table.shared.key shared.now.sizes
-            × IsPass shared.now.table.shared.table_id shared.now.sizes pass.seat.seat pass.seat.seats × IsOut pass.seat.seat.me.0 }
+            × IsPass shared.now.table.shared.table_id shared.now.sizes pass.seat.seat pass.seat.seats × IsOut pass.seat.seat.me.0 × Tells pass }
     { create_laps(shared, pass, work) };
     let Ok(counts) = thread::map_vec(&rt, passes, &job) else {
         return println!(rt; "out of memory");

@@ -31,5 +31,5 @@ pub use root_words::{root_count_word, root_word};
 pub use rule::NodeRows;
 pub use steps::{begin, go_draw, go_load, go_publish, go_store, load_base, load_in_use};
 pub use store::{Last, Pass, Store};
-pub use told::{kept, last, tell_collect, tell_find, tell_make};
+pub use told::{kept, last, tell_collect};
 pub use view::{JoinedSeat, NodeView};

@@ -14,6 +14,8 @@ use Rattle.store_core.specs.Reads.{Differs, PathTo}
 use Rattle.busy_forbidden.specs.Calls.{IsSame}
 use Rattle.node_rows.specs.declared.view.NodeView.{NodeView}
 use Rattle.term_create.specs.declared.asked.Asked.{Asked}
+use Rattle.term_create.specs.declared.asked.Noted.{Noted}
+use Rattle.term_create.specs.declared.asked.Noted.TheVariants.{Made, Found}
 use Rattle.node_rows.specs.Steps.{IsOf, Known, with_store, over}
 
 -- what is asked
@@ -88,20 +90,27 @@ pub record Relinks (v w : NodeView) (x : Call) : Type 0 where
   pub more : v.store.passed < passed
   pub view : w ≡ at_walk v passed path x
 
--- the walk has found the row, and noted it
-pub record Finds (v w : NodeView) (f : Head) (rs : List ℕ) (r : ℕ) : Type 0 where
+-- the walk has found the row, with this birth number, and noted it
+pub record Finds (v w : NodeView) (f : Head) (rs : List ℕ) (r birth : ℕ) : Type 0 where
   pub passed : ℕ
   pub path : List Passed
-  pub birth : ℕ
   pub view : w ≡ with_store v (gained (with_path v.store passed path) (over f rs) r birth (Find (max v.store.seen birth) f rs r))
 
--- the row was made, and that was noted
-pub record Makes (v w : NodeView) (f : Head) (rs : List ℕ) (r : ℕ) : Type 0 where
+-- the row was made, with this number, and that was noted
+pub record Makes (v w : NodeView) (f : Head) (rs : List ℕ) (r number : ℕ) : Type 0 where
   pub passed : ℕ
   pub path : List Passed
-  pub number : ℕ
   pub later : v.store.seen < number
   pub view : w ≡ with_store v (gained (with_path v.store passed path) (over f rs) r number (Make number f rs r))
+
+-- one of both
+abbrev pub Notes : NodeView → NodeView → Head → List ℕ → Noted → Type 0
+Notes v w f rs (Made r number) = Makes v w f rs r number
+Notes v w f rs (Found r birth) = Finds v w f rs r birth
+
+abbrev pub row_of : Noted → ℕ
+row_of (Made r number) = r
+row_of (Found r birth) = r
 
 -- a step of the call read the claim, or drew a number, of at least the free count, after the whole chain from the head `from`
 pub record IsFull (v w : NodeView) (c : Content) (from : ℕ) : Type 0 where

@@ -34,3 +34,10 @@ pub(crate) struct Drawn {
     pub(crate) index: u64,
     pub(crate) row: u64,
 }
+
+/// How a creation ends with a row: it is made, with this number, or found, with this birth number.
+#[derive(Clone, Copy)]
+pub(crate) enum Noted {
+    Made(u64, u64),
+    Found(u64, u64),
+}

@@ -1,5 +1,5 @@
 //! Creations: a walk, and where it ends without the row, a draw and the publishing of the drawn row.
-ghost use Rattle.std.specs.Prelude.{◌≡◌, ◌<◌, ◌≤◌, ◌⊎◌, ◌+◌, ◌*◌, ℕ, None, [], MatchResult, IfOk, IfErr};
+ghost use Rattle.std.specs.Prelude.{◌≡◌, ◌<◌, ◌≤◌, ◌+◌, ◌*◌, None, [], MatchResult, IfOk, IfErr};
 ghost use Rattle.lock_core.specs.declared.parts.Phase.TheVariants.{Shared};
 ghost use Rattle.store_core.specs.declared.view.Call.TheVariants.{Ended, Filling, Linking};
 ghost use Rattle.store_core.specs.Machine.{arrived, with_path, widest};
@@ -9,14 +9,18 @@ ghost use Rattle.node_rows.specs.Steps.{over, with_store, Known};
 ghost use Rattle.node_rows.specs.Passes.{IsPass};
 ghost use Rattle.node_rows.specs.Inside.{IsInside};
 ghost use Rattle.term_create.specs.Counted.{Takes, row_steps};
-ghost use Rattle.term_create.specs.Stage.{IsAt, IsBased, SameSeat, Finds, Makes, IsFull, IsRefused, Relinks, content, at_call};
+ghost use Rattle.term_create.specs.Stage.{IsAt, IsBased, SameSeat, Notes, IsFull, IsRefused, Relinks, content, at_call};
+ghost use Rattle.term_create.specs.Ended.{Ends, SamePlain};
+ghost use Rattle.node_rows.specs.Told.{Tells};
+
 ghost use Rattle.term_create.specs.Created.{MayCreate, NotesOne, Gets, KeepsCause, GetsNone, KeepsRest};
 
-use crate::asked::{Asked, Drawn, Walk};
+use crate::asked::{Asked, Drawn, Noted, Walk};
 use crate::counting::Steps;
 use crate::stages::{
     draw, fill_one, link, number_row, publish, read_claim, read_count, read_place,
 };
+use crate::telling::told_of;
 use crate::walking::walk;
 use crate::words::{bucket_of, word_count};
 use busy_forbidden::Seat;
@@ -59,7 +63,7 @@ fn publish_once<L: Ledger>(
     seat: &mut Seat<NodeRows>,
     steps: &mut Steps<L>,
     drawn: Drawn,
-) -> Result<u64, u64>
+) -> Result<Noted, u64>
     requires at { IsAt asked.now seat.old.seat }
     requires based { IsBased asked.now seat.old.seat.me.0.store }
     requires stage { seat.old.seat.me.0.store.call ≡ Linking (content asked.now) drawn.from drawn.index drawn.row }
@@ -67,7 +71,7 @@ fn publish_once<L: Ledger>(
     ensures same { SameSeat seat.old.seat seat.new.seat
         seat.old.number seat.new.number seat.old.seats seat.new.seats }
     ensures view { let v = seat.old.seat.me.0 in let w = seat.new.seat.me.0 in MatchResult result
-        (λ r. Makes v w asked.now.head asked.now.args.now r ⊎ Finds v w asked.now.head asked.now.args.now r)
+        (Notes v w asked.now.head asked.now.args.now)
         (λ found. Relinks v w (Linking (content asked.now) found drawn.index drawn.row)) }
     ensures cost { let z = asked.now.store.now.sizes in let before = seat.old.seat.me.0.store.passed in MatchResult result
         (λ _. Takes z 2 before z.rows steps.old steps.new)
@@ -76,7 +80,7 @@ fn publish_once<L: Ledger>(
     link(asked, seat, steps, drawn);
     let found = publish(asked, seat, steps, drawn);
     if found == drawn.from {
-        return Ok(drawn.row);
+        return Ok(Noted::Made(drawn.row, asked.base + drawn.index));
     }
     let part = Walk {
         drawn: Some((drawn.index, drawn.row)),
@@ -95,7 +99,7 @@ fn publish_row<L: Ledger>(
     seat: &mut Seat<NodeRows>,
     steps: &mut Steps<L>,
     drawn: Drawn,
-) -> u64
+) -> Noted
     requires at { IsAt asked.now seat.old.seat }
     requires based { IsBased asked.now seat.old.seat.me.0.store }
     requires stage { seat.old.seat.me.0.store.call ≡ Linking (content asked.now) drawn.from drawn.index drawn.row }
@@ -103,7 +107,7 @@ fn publish_row<L: Ledger>(
     ensures same { SameSeat seat.old.seat seat.new.seat
         seat.old.number seat.new.number seat.old.seats seat.new.seats }
     ensures view { let v = seat.old.seat.me.0 in let w = seat.new.seat.me.0 in
-        Makes v w asked.now.head asked.now.args.now result ⊎ Finds v w asked.now.head asked.now.args.now result }
+        Notes v w asked.now.head asked.now.args.now result }
     ensures cost { let z = asked.now.store.now.sizes in
         Takes z (2 * (z.rows + 1)) seat.old.seat.me.0.store.passed z.rows steps.old steps.new }
 {
@@ -161,7 +165,7 @@ fn create_from<L: Ledger>(
     seat: &mut Seat<NodeRows>,
     steps: &mut Steps<L>,
     from: u64,
-) -> Result<u64, Full>
+) -> Result<Noted, Full>
     requires at { IsAt asked.now seat.old.seat }
     requires based { IsBased asked.now seat.old.seat.me.0.store }
     requires begun { seat.old.seat.me.0.store.passed ≡ 0 }
@@ -170,7 +174,7 @@ fn create_from<L: Ledger>(
     ensures same { SameSeat seat.old.seat seat.new.seat
         seat.old.number seat.new.number seat.old.seats seat.new.seats }
     ensures view { let v = seat.old.seat.me.0 in let w = seat.new.seat.me.0 in MatchResult result
-        (λ row. Makes v w asked.now.head asked.now.args.now row ⊎ Finds v w asked.now.head asked.now.args.now row)
+        (Notes v w asked.now.head asked.now.args.now)
         (λ _. IsRefused v w (content asked.now)) }
     ensures alone { IfErr result (λ _. asked.now.store.now.sizes.seats ≡ 1 →
         IsAbsent seat.old.seat.me.0.store.entries (content asked.now)) }
@@ -182,8 +186,8 @@ fn create_from<L: Ledger>(
         from,
         old: 0,
     };
-    if let Some(row) = walk(asked, seat, steps, whole) {
-        return Ok(row);
+    if let Some(noted) = walk(asked, seat, steps, whole) {
+        return Ok(noted);
     }
     match draw_row(asked, seat, steps, from) {
         Ok(drawn) => Ok(publish_row(asked, seat, steps, drawn)),
@@ -193,13 +197,13 @@ fn create_from<L: Ledger>(
 
 // Creates a head over rows, and says what the own view is then.
 #[tactic(auto, using(crate::proofs::Whole::words_fit))]
-fn create_whole<L: Ledger>(
+fn create_noted<L: Ledger>(
     store: &Store,
     pass: &mut Pass,
     head: Head,
     args: &[u64],
     steps: &mut Steps<L>,
-) -> Result<u64, Full>
+) -> Result<Noted, Full>
     requires inside { IsInside store.now pass.old }
     requires shared { pass.old.seat.seat.me.0.lock.phase ≡ Shared }
     requires may { MayCreate store.now.sizes pass.old.seat.seat.me.0.store head args.now }
@@ -207,9 +211,10 @@ fn create_whole<L: Ledger>(
     ensures same { SameSeat pass.old.seat.seat pass.new.seat.seat
         pass.old.seat.number pass.new.seat.number pass.old.seat.seats pass.new.seat.seats }
     ensures loaded { (pass.new.base ≡ pass.old.base) × (pass.new.in_use ≡ pass.old.in_use) }
+    ensures plain { SamePlain pass.old pass.new }
     ensures known { Known store.now.sizes pass.new.seat.seat.me.0.store }
     ensures view { let v = pass.old.seat.seat.me.0 in let w = pass.new.seat.seat.me.0 in MatchResult result
-        (λ row. Makes v w head args.now row ⊎ Finds v w head args.now row)
+        (Notes v w head args.now)
         (λ _. IsRefused (with_store v (with_path v.store 0 [])) w (over head args.now)) }
     ensures alone { IfErr result (λ _. store.now.sizes.seats ≡ 1 →
         IsAbsent pass.old.seat.seat.me.0.store.entries (over head args.now)) }
@@ -226,6 +231,39 @@ fn create_whole<L: Ledger>(
     steps.tick();
     let from = begin(&store.table, &mut pass.seat, word, head, args);
     create_from(&asked, &mut pass.seat, steps, from)
+}
+
+// Creates a head over rows, and tells it.
+fn create_whole<L: Ledger>(
+    store: &Store,
+    pass: &mut Pass,
+    head: Head,
+    args: &[u64],
+    steps: &mut Steps<L>,
+) -> Result<u64, Full>
+    requires inside { IsInside store.now pass.old }
+    requires shared { pass.old.seat.seat.me.0.lock.phase ≡ Shared }
+    requires may { MayCreate store.now.sizes pass.old.seat.seat.me.0.store head args.now }
+    ensures pass { IsPass store.now.table.shared.table_id store.now.sizes pass.new.seat.seat pass.new.seat.seats }
+    ensures same { SameSeat pass.old.seat.seat pass.new.seat.seat
+        pass.old.seat.number pass.new.seat.number pass.old.seat.seats pass.new.seat.seats }
+    ensures loaded { (pass.new.base ≡ pass.old.base) × (pass.new.in_use ≡ pass.old.in_use) }
+    ensures known { Known store.now.sizes pass.new.seat.seat.me.0.store }
+    ensures view { Ends pass.old.seat.seat.me.0 pass.new.seat.seat.me.0 head args.now result }
+    ensures told { Tells pass.new }
+    ensures alone { IfErr result (λ _. store.now.sizes.seats ≡ 1 →
+        IsAbsent pass.old.seat.seat.me.0.store.entries (over head args.now)) }
+    ensures cost { steps.new ≤ steps.old + (widest store.now.sizes + 8) * (store.now.sizes.rows + 2) }
+{
+    match create_noted(store, pass, head, args, steps) {
+        Ok(noted) => {
+            let told = told_of(pass.seen, noted);
+            pass.seen = told.seen;
+            pass.last = told.last;
+            Ok(told.row)
+        }
+        Err(full) => Err(full),
+    }
 }
 
 /// Creates a head over rows: gives the row that has it, or makes one where a row is free. `Full` comes only where the chain

@@ -6,6 +6,7 @@ mod counting;
 mod creating;
 mod reads;
 mod stages;
+mod telling;
 #[cfg(test)]
 mod tests;
 mod walking;

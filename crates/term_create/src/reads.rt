@@ -1,12 +1,14 @@
 //! Reads of a row that the pass may use: its head, its count of arguments, and its arguments. Each takes one atomic step, or two where
 //! it reads an integer; none of them takes memory or waits.
-ghost use Rattle.std.specs.Prelude.{◌≡◌, ◌<◌, ◌≤◌, ◌+◌, true, Some, length, get_or, min};
+ghost use Rattle.std.specs.Prelude.{◌≡◌, ◌⊎◌, ◌<◌, ◌≤◌, ◌+◌, true, Some, length, get_or, min};
 ghost use Rattle.term_model.specs.Tree.{Tree, Leaf, root, arguments};
-ghost use Rattle.store_core.specs.Machine.{In, widest};
+ghost use Rattle.store_core.specs.ByView.{KnowsWord};
+ghost use Rattle.store_core.specs.Machine.{In, knowing, widest};
 ghost use Rattle.store_core.specs.declared.view.Place.TheVariants.{RowWord};
 ghost use Rattle.store_core.specs.Shown.{index_of, in_table};
 ghost use Rattle.busy_forbidden.specs.Calls.{IsSame};
 ghost use Rattle.node_rows.specs.Inside.{IsInside};
+ghost use Rattle.node_rows.specs.Steps.{with_store};
 ghost use Rattle.node_rows.specs.Knowing.{KnowsTree};
 ghost use Rattle.term_create.specs.Read.{Reads, ReadsChild, ReadsCount, HasArgument, head_words};
 
@@ -30,6 +32,19 @@ fn place_of(store: &Store, pass: &Pass, row: u64, k: usize) -> usize
     row_word(&store.sizes, row, k)
 }
 
+// Loads word k of a row that the pass may use.
+fn read(store: &Store, pass: &mut Pass, row: u64, k: u64) -> u64
+    requires inside { IsInside store.now pass.old }
+    requires uses { In row pass.old.seat.seat.me.0.store.got }
+    requires may { (k < 2) ⊎ ((k ≡ 2) × KnowsWord row 0 4294967296 pass.old.seat.seat.me.0.store.knows) }
+    ensures inside { IsInside store.now pass.new }
+    ensures same { IsSame pass.old.seat.seat pass.new.seat.seat × (pass.new.seat.number ≡ pass.old.seat.number) }
+    ensures view { pass.new.seat.seat.me.0 ≡ with_store pass.old.seat.seat.me.0 (knowing pass.old.seat.seat.me.0.store row k result) }
+{
+    let place = place_of(store, pass, row, k as usize);
+    read_word(&store.table, &mut pass.seat, place, row, k)
+}
+
 // A count, as far as a row has room for so many arguments.
 fn at_most_width(sizes: &Sizes, count: u64) -> u32
     ensures { result ≡ min count (widest sizes.now) }
@@ -46,13 +61,11 @@ pub fn head_of(store: &Store, pass: &mut Pass, row: u64) -> Head
     ensures reads { Reads pass.old.seat.seat.me.0 pass.new.seat.seat.me.0 (head_words row result) }
     ensures tree { (t : Tree) → KnowsTree pass.old.seat.seat.me.0.store.knows row t → root t ≡ Some result }
 {
-    let place = place_of(store, pass, row, 0);
-    let word = read_word(&store.table, &mut pass.seat, place, row, 0);
+    let word = read(store, pass, row, 0);
     if word < INTEGER {
         Head::App(Symbol(word as u32))
     } else if word == INTEGER {
-        let place = place_of(store, pass, row, 2);
-        Head::Int(read_word(&store.table, &mut pass.seat, place, row, 2))
+        Head::Int(read(store, pass, row, 2))
     } else if word == EMPTY_LIST {
         Head::Nil
     } else {
@@ -71,8 +84,7 @@ pub fn count_of(store: &Store, pass: &mut Pass, row: u64) -> u32
     ensures tree { (t : Tree) → KnowsTree pass.old.seat.seat.me.0.store.knows row t
         → length (arguments t) ≤ widest store.now.sizes → length (arguments t) ≡ result }
 {
-    let place = place_of(store, pass, row, 1);
-    let count = read_word(&store.table, &mut pass.seat, place, row, 1);
+    let count = read(store, pass, row, 1);
     at_most_width(&store.sizes, count)
 }
 

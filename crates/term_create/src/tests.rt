@@ -3,6 +3,7 @@ ghost use Rattle.std.specs.Prelude.{◌≡◌, ◌<◌, ◌+◌, All, IfOk};
 ghost use Rattle.lock_core.specs.declared.parts.Phase.TheVariants.{Shared};
 ghost use Rattle.store_core.specs.Machine.{In};
 ghost use Rattle.node_rows.specs.Inside.{IsInside};
+ghost use Rattle.node_rows.specs.Told.{Tells};
 ghost use Rattle.node_rows.specs.Passes.{IsStore, IsPass, IsReady, IsOut};
 
 use crate::{Full, child_of, count_of, create, head_of};
@@ -18,9 +19,11 @@ use term_model::{Head, Symbol};
 
 // The last of the passes that are left.
 fn last_pass(rt: &impl Abort, store: &Store, passes: &mut Vec<Pass>) -> Pass
-    requires { All (λ p. IsPass store.now.table.shared.table_id store.now.sizes p.seat.seat p.seat.seats × IsOut p.seat.seat.me.0) passes.old.items }
+    requires passes { All (λ p. IsPass store.now.table.shared.table_id store.now.sizes p.seat.seat p.seat.seats × IsOut p.seat.seat.me.0) passes.old.items }
+    requires told { All Tells passes.old.items }
+    ensures told { All Tells passes.new.items }
     ensures left { All (λ p. IsPass store.now.table.shared.table_id store.now.sizes p.seat.seat p.seat.seats × IsOut p.seat.seat.me.0) passes.new.items }
-    ensures pass { IsPass store.now.table.shared.table_id store.now.sizes result.seat.seat result.seat.seats × IsOut result.seat.seat.me.0 }
+    ensures pass { IsPass store.now.table.shared.table_id store.now.sizes result.seat.seat result.seat.seats × IsOut result.seat.seat.me.0 × Tells result }
 {
     match passes.pop() {
         Some(pass) => pass,
@@ -31,7 +34,7 @@ fn last_pass(rt: &impl Abort, store: &Store, passes: &mut Vec<Pass>) -> Pass
 // Enters shared access.
 fn enter(rt: &impl Abort, store: &Store, pass: &mut Pass)
     requires store { IsStore store.now.table.shared.table_id store.now.table.shared.key store.now.sizes }
-    requires pass { IsPass store.now.table.shared.table_id store.now.sizes pass.old.seat.seat pass.old.seat.seats × IsOut pass.old.seat.seat.me.0 }
+    requires pass { IsPass store.now.table.shared.table_id store.now.sizes pass.old.seat.seat pass.old.seat.seats × IsOut pass.old.seat.seat.me.0 × Tells pass.old }
     ensures inside { IsInside store.now pass.new }
     ensures shared { pass.new.seat.seat.me.0.lock.phase ≡ Shared }
 {
@@ -57,8 +60,8 @@ fn create_three(store: &Store, pass: &mut Pass) -> Result<u64, Full>
 // The same in one shared access.
 fn visit(rt: &impl Abort, store: &Store, pass: &mut Pass) -> Result<u64, Full>
     requires store { IsStore store.now.table.shared.table_id store.now.table.shared.key store.now.sizes }
-    requires pass { IsPass store.now.table.shared.table_id store.now.sizes pass.old.seat.seat pass.old.seat.seats × IsOut pass.old.seat.seat.me.0 }
-    ensures pass { IsPass store.now.table.shared.table_id store.now.sizes pass.new.seat.seat pass.new.seat.seats × IsOut pass.new.seat.seat.me.0 }
+    requires pass { IsPass store.now.table.shared.table_id store.now.sizes pass.old.seat.seat pass.old.seat.seats × IsOut pass.old.seat.seat.me.0 × Tells pass.old }
+    ensures pass { IsPass store.now.table.shared.table_id store.now.sizes pass.new.seat.seat pass.new.seat.seats × IsOut pass.new.seat.seat.me.0 × Tells pass.new }
 {
     enter(rt, store, pass);
     let row = create_three(store, pass);
@@ -137,8 +140,8 @@ fn reads_give_what_was_created(rt: HostRuntime) -> Result<(), Fail> {
 // In one shared access: a constant, and its row.
 fn constant(rt: &impl Abort, store: &Store, pass: &mut Pass, symbol: u32) -> Result<u64, Full>
     requires store { IsStore store.now.table.shared.table_id store.now.table.shared.key store.now.sizes }
-    requires pass { IsPass store.now.table.shared.table_id store.now.sizes pass.old.seat.seat pass.old.seat.seats × IsOut pass.old.seat.seat.me.0 }
-    ensures pass { IsPass store.now.table.shared.table_id store.now.sizes pass.new.seat.seat pass.new.seat.seats × IsOut pass.new.seat.seat.me.0 }
+    requires pass { IsPass store.now.table.shared.table_id store.now.sizes pass.old.seat.seat pass.old.seat.seats × IsOut pass.old.seat.seat.me.0 × Tells pass.old }
+    ensures pass { IsPass store.now.table.shared.table_id store.now.sizes pass.new.seat.seat pass.new.seat.seats × IsOut pass.new.seat.seat.me.0 × Tells pass.new }
 {
     enter(rt, store, pass);
     let row = create(store, pass, Head::App(Symbol(symbol)), &[]);
@@ -149,7 +152,7 @@ fn constant(rt: &impl Abort, store: &Store, pass: &mut Pass, symbol: u32) -> Res
 // In one shared access: the constants of ten symbols in order, and their rows.
 fn create_ten<R: Abort>(rt: &R, store: &Store, mut pass: Pass) -> [u64; 10]
     requires store { IsStore store.now.table.shared.table_id store.now.table.shared.key store.now.sizes }
-    requires pass { IsPass store.now.table.shared.table_id store.now.sizes pass.seat.seat pass.seat.seats × IsOut pass.seat.seat.me.0 }
+    requires pass { IsPass store.now.table.shared.table_id store.now.sizes pass.seat.seat pass.seat.seats × IsOut pass.seat.seat.me.0 × Tells pass }
 {
     let mut rows = [0; 10];
     for symbol in 0..10 {
@@ -196,11 +199,11 @@ fn two_threads_at_once_share_ten_constants(rt: HostRuntime) -> Result<(), Fail> 
         handle,
         move || -> (bool, [u64; 10])
             requires { IsStore shared.now.table.shared.table_id shared.now.table.shared.key shared.now.sizes
-                × IsPass shared.now.table.shared.table_id shared.now.sizes one.seat.seat one.seat.seats × IsOut one.seat.seat.me.0 }
+                × IsPass shared.now.table.shared.table_id shared.now.sizes one.seat.seat one.seat.seats × IsOut one.seat.seat.me.0 × Tells one }
         { (meet(came, went), create_ten(handle, shared, one)) },
         move || -> (bool, [u64; 10])
             requires { IsStore shared.now.table.shared.table_id shared.now.table.shared.key shared.now.sizes
-                × IsPass shared.now.table.shared.table_id shared.now.sizes two.seat.seat two.seat.seats × IsOut two.seat.seat.me.0 }
+                × IsPass shared.now.table.shared.table_id shared.now.sizes two.seat.seat two.seat.seats × IsOut two.seat.seat.me.0 × Tells two }
         { (meet(went, came), create_ten(handle, shared, two)) },
     );
     assert!(rt; first.0 && second.0, "both threads run at once");
@@ -252,7 +255,7 @@ fn create_pairs<R: Abort>(
     mut pass: Pass,
 ) -> Result<Vec<(u64, u64)>, AllocError>
     requires store { IsStore store.now.table.shared.table_id store.now.table.shared.key store.now.sizes }
-    requires pass { IsPass store.now.table.shared.table_id store.now.sizes pass.seat.seat pass.seat.seats × IsOut pass.seat.seat.me.0 }
+    requires pass { IsPass store.now.table.shared.table_id store.now.sizes pass.seat.seat pass.seat.seats × IsOut pass.seat.seat.me.0 × Tells pass }
 {
     let from = pass.seat.number % 4 * 3_000;
     let mut pairs = Vec::from_elem(alloc, (0, 0), PAIRS as usize)?;
@@ -305,7 +308,7 @@ fn four_threads_have_one_row_a_term(rt: HostRuntime) -> Result<(), Fail> {
         passes,
         &|pass: Pass| -> Result<Vec<(u64, u64)>, AllocError>
             requires { IsStore shared.now.table.shared.table_id shared.now.table.shared.key shared.now.sizes
-                × IsPass shared.now.table.shared.table_id shared.now.sizes pass.seat.seat pass.seat.seats × IsOut pass.seat.seat.me.0 }
+                × IsPass shared.now.table.shared.table_id shared.now.sizes pass.seat.seat pass.seat.seats × IsOut pass.seat.seat.me.0 × Tells pass }
         { create_pairs(handle, alloc, shared, pass) },
     )?;
     let mut first: Option<Vec<(u64, u64)>> = None;

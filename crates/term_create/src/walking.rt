@@ -3,9 +3,9 @@ ghost use Rattle.std.specs.Prelude.{◌≡◌, ◌≤◌, ◌+◌, pred, MatchBo
 ghost use Rattle.store_core.specs.declared.view.Call.TheVariants.{Comparing, Finding};
 ghost use Rattle.store_core.specs.Machine.{arrived, ended, widest};
 ghost use Rattle.term_create.specs.Counted.{Takes};
-ghost use Rattle.term_create.specs.Stage.{IsAt, SameSeat, Finds, IsOther, HasPassed, content, at_call};
+ghost use Rattle.term_create.specs.Stage.{IsAt, SameSeat, Notes, IsOther, HasPassed, content, at_call};
 
-use crate::asked::{Asked, Walk};
+use crate::asked::{Asked, Noted, Walk};
 use crate::counting::Steps;
 use crate::stages::{compare_one, find, pass_on};
 use crate::words::word_count;
@@ -46,7 +46,7 @@ pub(crate) fn walk<L: Ledger>(
     seat: &mut Seat<NodeRows>,
     steps: &mut Steps<L>,
     walk: Walk,
-) -> Option<u64>
+) -> Option<Noted>
     requires at { IsAt asked.now seat.old.seat }
     requires stage { seat.old.seat.me.0.store.call ≡ arrived (content asked.now) walk.drawn walk.from walk.old walk.from }
     ensures at { IsAt asked.now seat.new.seat }
@@ -55,7 +55,7 @@ pub(crate) fn walk<L: Ledger>(
     ensures view { MatchOption result
         (HasPassed seat.old.seat.me.0 seat.new.seat.me.0 (content asked.now)
         (ended (content asked.now) walk.drawn walk.from) walk.from walk.old)
-        (λ row. Finds seat.old.seat.me.0 seat.new.seat.me.0 asked.now.head asked.now.args.now row) }
+        (Notes seat.old.seat.me.0 seat.new.seat.me.0 asked.now.head asked.now.args.now) }
     ensures cost { let z = asked.now.store.now.sizes in let before = seat.old.seat.me.0.store.passed in MatchOption result
         (Takes z 0 before seat.new.seat.me.0.store.passed steps.old steps.new)
         (λ _. Takes z 0 before z.rows steps.old steps.new) }
@@ -66,8 +66,8 @@ pub(crate) fn walk<L: Ledger>(
             return None;
         }
         if compare_row(asked, seat, steps, walk, at) {
-            find(asked, seat, steps, walk, at - 1);
-            return Some(at - 1);
+            let birth = find(asked, seat, steps, walk, at - 1);
+            return Some(Noted::Found(at - 1, birth));
         }
         at = pass_on(asked, seat, steps, walk, at);
     }

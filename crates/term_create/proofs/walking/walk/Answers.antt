@@ -37,8 +37,8 @@ returns-then-compare_row-clause-cost g c =
     let f = c.if-at-walk.false in
     let other : eqb c.loop-step.at c.args.walk.old ≡ false = grind (arith, nat_tests) in
     let few : Few z.rows u.store.passed u.store.call = c.loop-step.invariant.at.known.few in
-    walk_found (widest z) z.rows v.store.passed c.args.steps.now c.loop-step.steps c.compare_row.new.steps c.find.new.steps u.store.passed
+    walk_found (widest z) z.rows v.store.passed c.args.steps.now c.loop-step.steps c.compare_row.new.steps c.find-birth.new.steps u.store.passed
     c.loop-step.invariant.cost
     (few_before z.rows u.store.passed (content c.args.asked.now) c.args.walk.drawn c.args.walk.from c.args.walk.old c.loop-step.at other
     (subst (λ (x : Call). Few z.rows u.store.passed x) (ap (λ (q : NodeView). q.store.call) c.loop-step.invariant.view.view) few))
-    c.if-compare_row.ensures.cost c.find.ensures.tick
+    c.if-compare_row.ensures.cost c.find-birth.ensures.tick
