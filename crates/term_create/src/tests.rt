@@ -92,8 +92,10 @@ fn two_passes_share_a_term(rt: HostRuntime) -> Result<(), Fail> {
 // The head of a row, and its count of arguments.
 fn read_row(store: &Store, pass: &mut Pass, row: u64) -> (Head, u32)
     requires inside { IsInside store.now pass.old }
+    requires shared { pass.old.seat.seat.me.0.lock.phase ≡ Shared }
     requires uses { In row pass.old.seat.seat.me.0.store.got }
     ensures inside { IsInside store.now pass.new }
+    ensures shared { pass.new.seat.seat.me.0.lock.phase ≡ Shared }
 {
     let head = head_of(store, pass, row);
     (head, count_of(store, pass, row))
@@ -102,14 +104,46 @@ fn read_row(store: &Store, pass: &mut Pass, row: u64) -> (Head, u32)
 // The head of argument `j`, where there are so many.
 fn read_child(store: &Store, pass: &mut Pass, row: u64, j: u32) -> Option<Head>
     requires inside { IsInside store.now pass.old }
+    requires shared { pass.old.seat.seat.me.0.lock.phase ≡ Shared }
     requires uses { In row pass.old.seat.seat.me.0.store.got }
     ensures inside { IsInside store.now pass.new }
+    ensures shared { pass.new.seat.seat.me.0.lock.phase ≡ Shared }
 {
     if j >= count_of(store, pass, row) {
         return None;
     }
     let child = child_of(store, pass, row, j);
     Some(head_of(store, pass, child))
+}
+
+// In one shared access: a symbol over an integer and the empty list, its head, and its count of arguments.
+fn visit_row(rt: &impl Abort, store: &Store, pass: &mut Pass) -> (Head, u32)
+    requires store { IsStore store.now.table.shared.table_id store.now.table.shared.key store.now.sizes }
+    requires pass { IsPass store.now.table.shared.table_id store.now.sizes pass.old.seat.seat pass.old.seat.seats × IsOut pass.old.seat.seat.me.0 × Tells pass.old }
+    ensures pass { IsPass store.now.table.shared.table_id store.now.sizes pass.new.seat.seat pass.new.seat.seats × IsOut pass.new.seat.seat.me.0 × Tells pass.new }
+{
+    enter(rt, store, pass);
+    let Ok(row) = create_three(store, pass) else {
+        panic!(rt; "three rows suffice");
+    };
+    let read = read_row(store, pass, row);
+    store.leave_shared(pass);
+    read
+}
+
+// The same, and the head of its argument `j`.
+fn visit_child(rt: &impl Abort, store: &Store, pass: &mut Pass, j: u32) -> Option<Head>
+    requires store { IsStore store.now.table.shared.table_id store.now.table.shared.key store.now.sizes }
+    requires pass { IsPass store.now.table.shared.table_id store.now.sizes pass.old.seat.seat pass.old.seat.seats × IsOut pass.old.seat.seat.me.0 × Tells pass.old }
+    ensures pass { IsPass store.now.table.shared.table_id store.now.sizes pass.new.seat.seat pass.new.seat.seats × IsOut pass.new.seat.seat.me.0 × Tells pass.new }
+{
+    enter(rt, store, pass);
+    let Ok(row) = create_three(store, pass) else {
+        panic!(rt; "three rows suffice");
+    };
+    let read = read_child(store, pass, row, j);
+    store.leave_shared(pass);
+    read
 }
 
 #[test]
@@ -125,15 +159,10 @@ fn reads_give_what_was_created(rt: HostRuntime) -> Result<(), Fail> {
     };
     let (store, mut passes) = Store::make(rt.alloc(), sizes)?;
     let mut pass = last_pass(&rt, &store, &mut passes);
-    enter(&rt, &store, &mut pass);
-    let Ok(row) = create_three(&store, &mut pass) else {
-        panic!(rt; "three rows suffice");
-    };
-    assert_eq!(rt; read_row(&store, &mut pass, row), (Head::App(Symbol(7)), 2));
-    assert_eq!(rt; read_child(&store, &mut pass, row, 0), Some(Head::Int(5)));
-    assert_eq!(rt; read_child(&store, &mut pass, row, 1), Some(Head::Nil));
-    assert_eq!(rt; read_child(&store, &mut pass, row, 2), None);
-    store.leave_shared(&mut pass);
+    assert_eq!(rt; visit_row(&rt, &store, &mut pass), (Head::App(Symbol(7)), 2));
+    assert_eq!(rt; visit_child(&rt, &store, &mut pass, 0), Some(Head::Int(5)));
+    assert_eq!(rt; visit_child(&rt, &store, &mut pass, 1), Some(Head::Nil));
+    assert_eq!(rt; visit_child(&rt, &store, &mut pass, 2), None);
     Ok(())
 }
 
