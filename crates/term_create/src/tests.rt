@@ -1,4 +1,4 @@
-//! Passes of one store, on one thread, on two and on four.
+//! Passes of one store, on one thread and on two.
 ghost use Rattle.std.specs.Prelude.{◌≡◌, ◌<◌, ◌+◌, All, IfOk};
 ghost use Rattle.lock_core.specs.declared.parts.Phase.TheVariants.{Shared};
 ghost use Rattle.store_core.specs.Machine.{In};
@@ -8,7 +8,6 @@ ghost use Rattle.node_rows.specs.Passes.{IsStore, IsPass, IsReady, IsOut};
 
 use crate::{Full, child_of, count_of, create, head_of};
 use node_rows::{Pass, Store};
-use std::alloc::{AllocError, Global};
 use std::hint::spin_loop;
 use std::process::Abort;
 use std::sync::atomic::{AtomicBool, Ordering};
@@ -16,6 +15,8 @@ use std::test::Fail;
 use std::thread;
 use store_core::Sizes;
 use term_model::{Head, Symbol};
+
+mod four;
 
 // The last of the passes that are left.
 fn last_pass(rt: &impl Abort, store: &Store, passes: &mut Vec<Pass>) -> Pass
@@ -240,115 +241,6 @@ fn two_threads_at_once_share_ten_constants(rt: HostRuntime) -> Result<(), Fail> 
     for i in 0..10usize {
         for j in 0..i {
             assert!(rt; first.1[i] != first.1[j]);
-        }
-    }
-    Ok(())
-}
-
-const PAIRS: u32 = 12_500;
-
-const ROWS: u32 = 50_000;
-
-// The row of a head over rows.
-fn row_of(rt: &impl Abort, made: Result<u64, Full>) -> u64
-    ensures { IfOk made (λ row. result ≡ row) }
-{
-    match made {
-        Ok(row) => row,
-        Err(_) => panic!(rt; "the rows suffice"),
-    }
-}
-
-// A constant, and a symbol over it: the rows of both.
-fn create_pair(rt: &impl Abort, store: &Store, pass: &mut Pass, symbol: u32) -> (u64, u64)
-    requires inside { IsInside store.now pass.old }
-    requires shared { pass.old.seat.seat.me.0.lock.phase ≡ Shared }
-    ensures inside { IsInside store.now pass.new }
-    ensures shared { pass.new.seat.seat.me.0.lock.phase ≡ Shared }
-{
-    match create(store, pass, Head::App(Symbol(symbol)), &[]) {
-        Ok(row) => {
-            let over = create(store, pass, Head::App(Symbol(PAIRS)), &[row]);
-            (row, row_of(rt, over))
-        }
-        Err(_) => panic!(rt; "the rows suffice"),
-    }
-}
-
-// In one shared access: so many constants, from one of the pass's own on and around, each with a symbol over it; their rows in
-// order.
-fn create_pairs<R: Abort>(
-    rt: &R,
-    alloc: Global,
-    store: &Store,
-    mut pass: Pass,
-) -> Result<Vec<(u64, u64)>, AllocError>
-    requires store { IsStore store.now.table.shared.table_id store.now.table.shared.key store.now.sizes }
-    requires pass { IsPass store.now.table.shared.table_id store.now.sizes pass.seat.seat pass.seat.seats × IsOut pass.seat.seat.me.0 × Tells pass }
-{
-    let from = pass.seat.number % 4 * 3_000;
-    let mut pairs = Vec::from_elem(alloc, (0, 0), PAIRS as usize)?;
-    enter(rt, store, &mut pass);
-    for i in 0..PAIRS {
-        let symbol = (from + i) % PAIRS;
-        pairs[symbol as usize] = create_pair(rt, store, &mut pass, symbol);
-    }
-    store.leave_shared(&mut pass);
-    Ok(pairs)
-}
-
-// Notes that a term has this row, which no other has.
-fn note(rt: &impl Abort, seen: &mut Vec<bool>, row: u64) {
-    match seen.get_mut(row as usize) {
-        Some(place) => {
-            assert!(rt; !*place, "row {row} has two terms");
-            *place = true;
-        }
-        None => panic!(rt; "row {row} is none of the store"),
-    }
-}
-
-// Each term has a row of its own.
-fn differ(rt: &impl Abort, alloc: Global, pairs: &[(u64, u64)]) -> Result<(), AllocError> {
-    let mut seen = Vec::from_elem(alloc, false, ROWS as usize)?;
-    for pair in pairs {
-        note(rt, &mut seen, pair.0);
-        note(rt, &mut seen, pair.1);
-    }
-    Ok(())
-}
-
-#[test]
-fn four_threads_have_one_row_a_term(rt: HostRuntime) -> Result<(), Fail> {
-    let sizes = Sizes {
-        rows: ROWS,
-        buckets: 1024,
-        start: 1024,
-        seats: 4,
-        depth: 4,
-        arity: 1,
-        first: 1,
-    };
-    let alloc = rt.alloc();
-    let (store, passes) = Store::make(alloc, sizes)?;
-    let (handle, shared) = (&rt, &store);
-    let made = thread::map_vec(
-        handle,
-        passes,
-        &|pass: Pass| -> Result<Vec<(u64, u64)>, AllocError>
-            requires { IsStore shared.now.table.shared.table_id shared.now.table.shared.key shared.now.sizes
-                × IsPass shared.now.table.shared.table_id shared.now.sizes pass.seat.seat pass.seat.seats × IsOut pass.seat.seat.me.0 × Tells pass }
-        { create_pairs(handle, alloc, shared, pass) },
-    )?;
-    let mut first: Option<Vec<(u64, u64)>> = None;
-    for pairs in made {
-        let pairs = pairs?;
-        match &first {
-            Some(one) => assert_eq!(rt; pairs, *one),
-            None => {
-                differ(&rt, alloc, &pairs)?;
-                first = Some(pairs);
-            }
         }
     }
     Ok(())
