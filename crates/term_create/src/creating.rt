@@ -17,6 +17,7 @@ ghost use Rattle.term_create.specs.Created.{MayCreate, NotesOne, Gets, KeepsCaus
 
 use crate::asked::{Asked, Drawn, Noted, Walk};
 use crate::counting::Steps;
+use crate::places::{first_row, row_size};
 use crate::stages::{
     draw, fill_one, link, number_row, publish, read_claim, read_count, read_place,
 };
@@ -94,6 +95,8 @@ fn publish_once<L: Ledger>(
 }
 
 // Publishes the drawn row, or finds one that another seat has published meanwhile.
+#[cold]
+#[inline(never)]
 fn publish_row<L: Ledger>(
     asked: &Asked<'_>,
     seat: &mut Seat<NodeRows>,
@@ -127,6 +130,8 @@ fn publish_row<L: Ledger>(
 }
 
 // Draws a row, and stores it, where one is free.
+#[cold]
+#[inline(never)]
 fn draw_row<L: Ledger>(
     asked: &Asked<'_>,
     seat: &mut Seat<NodeRows>,
@@ -160,6 +165,7 @@ fn draw_row<L: Ledger>(
 }
 
 // Goes on with a creation that has begun with this head of a chain.
+#[inline(always)]
 fn create_from<L: Ledger>(
     asked: &Asked<'_>,
     seat: &mut Seat<NodeRows>,
@@ -197,6 +203,7 @@ fn create_from<L: Ledger>(
 
 // Creates a head over rows, and says what the own view is then.
 #[tactic(auto, using(crate::proofs::Whole::words_fit))]
+#[inline(always)]
 fn create_noted<L: Ledger>(
     store: &Store,
     pass: &mut Pass,
@@ -226,6 +233,8 @@ fn create_noted<L: Ledger>(
         args,
         base: pass.base,
         place: bucket_of(head, args, pass.in_use),
+        first_row: first_row(&store.sizes),
+        row_size: row_size(&store.sizes),
     };
     let word = bucket_word(&store.sizes, asked.place);
     steps.tick();
@@ -234,6 +243,7 @@ fn create_noted<L: Ledger>(
 }
 
 // Creates a head over rows, and tells it.
+#[inline(always)]
 fn create_whole<L: Ledger>(
     store: &Store,
     pass: &mut Pass,
@@ -299,6 +309,7 @@ pub fn create_counted<L: Ledger>(
 }
 
 // Creates a head over rows with a count of its own, which nobody reads.
+#[inline(always)]
 fn create_uncounted<L: Ledger>(
     store: &Store,
     pass: &mut Pass,

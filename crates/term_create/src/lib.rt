@@ -4,6 +4,7 @@
 mod asked;
 mod counting;
 mod creating;
+mod places;
 mod reads;
 mod stages;
 mod telling;

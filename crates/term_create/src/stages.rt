@@ -9,15 +9,17 @@ ghost use Rattle.term_create.specs.Stage.{IsAt, IsBased, SameSeat, IsOther, Goes
 
 use crate::asked::{Asked, Drawn, Walk};
 use crate::counting::Steps;
+use crate::places::{birth_place, next_place, word_place};
 use crate::words::word_at;
 use busy_forbidden::Seat;
 use node_rows::{
-    NodeRows, birth_word, bucket_word, claim_word, free_count_word, free_place_word, go_draw,
-    go_load, go_publish, go_store, next_word, row_word,
+    NodeRows, bucket_word, claim_word, free_count_word, free_place_word, go_draw, go_load, go_publish,
+    go_store,
 };
 use std::sync::ledger::Ledger;
 
 // Compares word k of the row that the walk is at: the word there, where it differs.
+#[inline(always)]
 pub(crate) fn compare_one<L: Ledger>(
     asked: &Asked<'_>,
     seat: &mut Seat<NodeRows>,
@@ -41,7 +43,7 @@ pub(crate) fn compare_one<L: Ledger>(
     let found = go_load(
         &asked.store.table,
         seat,
-        row_word(&asked.store.sizes, at - 1, k),
+        word_place(asked, at - 1, k),
     );
     if found == word_at(asked.head, asked.args, k) {
         return None;
@@ -50,6 +52,7 @@ pub(crate) fn compare_one<L: Ledger>(
 }
 
 // Goes on to the next row, after one that differs in a word.
+#[inline(always)]
 pub(crate) fn pass_on<L: Ledger>(
     asked: &Asked<'_>,
     seat: &mut Seat<NodeRows>,
@@ -69,11 +72,12 @@ pub(crate) fn pass_on<L: Ledger>(
     go_load(
         &asked.store.table,
         seat,
-        next_word(&asked.store.sizes, at - 1),
+        next_place(asked, at - 1),
     )
 }
 
 // Notes the row that is the same, with its birth number.
+#[inline(always)]
 pub(crate) fn find<L: Ledger>(
     asked: &Asked<'_>,
     seat: &mut Seat<NodeRows>,
@@ -94,7 +98,7 @@ pub(crate) fn find<L: Ledger>(
     go_load(
         &asked.store.table,
         seat,
-        birth_word(&asked.store.sizes, row),
+        birth_place(asked, row),
     )
 }
 
@@ -207,7 +211,7 @@ pub(crate) fn fill_one<L: Ledger>(
     ensures tick { steps.new ≡ steps.old + 1 }
 {
     steps.tick();
-    let word = row_word(&asked.store.sizes, drawn.row, k);
+    let word = word_place(asked, drawn.row, k);
     go_store(
         &asked.store.table,
         seat,
@@ -233,7 +237,7 @@ pub(crate) fn number_row<L: Ledger>(
     ensures tick { steps.new ≡ steps.old + 1 }
 {
     steps.tick();
-    let word = birth_word(&asked.store.sizes, drawn.row);
+    let word = birth_place(asked, drawn.row);
     go_store(&asked.store.table, seat, word, asked.base + drawn.index);
 }
 
@@ -256,7 +260,7 @@ pub(crate) fn link<L: Ledger>(
     go_store(
         &asked.store.table,
         seat,
-        next_word(&asked.store.sizes, drawn.row),
+        next_place(asked, drawn.row),
         drawn.from,
     );
 }

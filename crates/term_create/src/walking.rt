@@ -14,6 +14,7 @@ use node_rows::NodeRows;
 use std::sync::ledger::Ledger;
 
 // Compares the row that the walk is at: whether it is the same.
+#[inline(always)]
 fn compare_row<L: Ledger>(
     asked: &Asked<'_>,
     seat: &mut Seat<NodeRows>,
@@ -41,6 +42,7 @@ fn compare_row<L: Ledger>(
 }
 
 // Walks from a head to the word where the walk is to end, and ends with the row that is the same, where there is one.
+#[inline(always)]
 pub(crate) fn walk<L: Ledger>(
     asked: &Asked<'_>,
     seat: &mut Seat<NodeRows>,
