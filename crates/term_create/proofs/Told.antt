@@ -51,14 +51,14 @@ noted_ends v w f rs (Found r k) row e h = (k, inr (subst (λ (q : ℕ). Finds v 
 pub made_tells : (v w : NodeView) (f : Head) (rs : List ℕ) (r number rows seen : ℕ) (x : Last) (marks : List Bool) → IsTold v.store rows seen x marks → Makes v w f rs r number → IsTold w.store rows number (last.Make number) marks
 made_tells v w f rs r number rows seen x marks told h =
     told_made v.store w.store rows seen x marks number f rs r told (ap (λ (u : NodeView). u.store.entries) h.view)
-        (sym (ap (λ (u : NodeView). u.store.seen) h.view ∙ max_less v.store.seen number h.later))
+    (sym (ap (λ (u : NodeView). u.store.seen) h.view ∙ max_less v.store.seen number h.later))
 
 pub found_tells : (v w : NodeView) (f : Head) (rs : List ℕ) (r birth rows seen after : ℕ) (x : Last) (marks : List Bool) → IsTold v.store rows seen x marks → after ≡ max seen birth → Finds v w f rs r birth → IsTold w.store rows after (last.Find after) marks
 found_tells v w f rs r birth rows seen after x marks told e h =
     let is : after ≡ max v.store.seen birth = e ∙ ap (λ (n : ℕ). max n birth) told.seen_is in
     told_found v.store w.store rows seen x marks after f rs r told
-        (ap (λ (u : NodeView). u.store.entries) h.view ∙ ap (λ (n : ℕ). v.store.entries ++ entry.Find n f rs r ∷ []) (sym is))
-        (is ∙ sym (ap (λ (u : NodeView). u.store.seen) h.view))
+    (ap (λ (u : NodeView). u.store.entries) h.view ∙ ap (λ (n : ℕ). v.store.entries ++ entry.Find n f rs r ∷ []) (sym is))
+    (is ∙ sym (ap (λ (u : NodeView). u.store.seen) h.view))
 
 -- nothing was noted
 pub refused_tells : (v w : NodeView) (f : Head) (rs : List ℕ) (rows seen : ℕ) (x : Last) (marks : List Bool) → IsTold v.store rows seen x marks → IsRefused (at_begin v) w (over f rs) → IsTold w.store rows seen x marks

@@ -12,7 +12,6 @@ ghost use Rattle.term_create.specs.Counted.{Takes, row_steps};
 ghost use Rattle.term_create.specs.Stage.{IsAt, IsBased, SameSeat, Notes, IsFull, IsRefused, Relinks, content, at_call};
 ghost use Rattle.term_create.specs.Ended.{Ends, SamePlain};
 ghost use Rattle.node_rows.specs.Told.{Tells};
-
 ghost use Rattle.term_create.specs.Created.{MayCreate, NotesOne, Gets, KeepsCause, GetsNone, KeepsRest};
 
 use crate::asked::{Asked, Drawn, Noted, Walk};

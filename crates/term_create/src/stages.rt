@@ -13,8 +13,8 @@ use crate::places::{birth_place, next_place, word_place};
 use crate::words::word_at;
 use busy_forbidden::Seat;
 use node_rows::{
-    NodeRows, bucket_word, claim_word, free_count_word, free_place_word, go_draw, go_load, go_publish,
-    go_store,
+    NodeRows, bucket_word, claim_word, free_count_word, free_place_word, go_draw, go_load,
+    go_publish, go_store,
 };
 use std::sync::ledger::Ledger;
 
@@ -40,11 +40,7 @@ pub(crate) fn compare_one<L: Ledger>(
     ensures tick { steps.new ≡ steps.old + 1 }
 {
     steps.tick();
-    let found = go_load(
-        &asked.store.table,
-        seat,
-        word_place(asked, at - 1, k),
-    );
+    let found = go_load(&asked.store.table, seat, word_place(asked, at - 1, k));
     if found == word_at(asked.head, asked.args, k) {
         return None;
     }
@@ -69,11 +65,7 @@ pub(crate) fn pass_on<L: Ledger>(
     ensures tick { steps.new ≡ steps.old + 1 }
 {
     steps.tick();
-    go_load(
-        &asked.store.table,
-        seat,
-        next_place(asked, at - 1),
-    )
+    go_load(&asked.store.table, seat, next_place(asked, at - 1))
 }
 
 // Notes the row that is the same, with its birth number.
@@ -95,11 +87,7 @@ pub(crate) fn find<L: Ledger>(
     ensures tick { steps.new ≡ steps.old + 1 }
 {
     steps.tick();
-    go_load(
-        &asked.store.table,
-        seat,
-        birth_place(asked, row),
-    )
+    go_load(&asked.store.table, seat, birth_place(asked, row))
 }
 
 // Loads the claim, at the chain's end.

@@ -160,7 +160,10 @@ fn reads_give_what_was_created(rt: HostRuntime) -> Result<(), Fail> {
     };
     let (store, mut passes) = Store::make(rt.alloc(), sizes)?;
     let mut pass = last_pass(&rt, &store, &mut passes);
-    assert_eq!(rt; visit_row(&rt, &store, &mut pass), (Head::App(Symbol(7)), 2));
+    assert_eq!(rt;
+        visit_row(&rt, &store, &mut pass),
+        (Head::App(Symbol(7)), 2)
+    );
     assert_eq!(rt; visit_child(&rt, &store, &mut pass, 0), Some(Head::Int(5)));
     assert_eq!(rt; visit_child(&rt, &store, &mut pass, 1), Some(Head::Nil));
     assert_eq!(rt; visit_child(&rt, &store, &mut pass, 2), None);

@@ -10,11 +10,11 @@ returns-in-Ok-clause-told g c =
     let p = c.args.pass.now in
     let q = c.create_noted.new.pass in
     c.told_of-told.ensures.told p.seat.seat.me.0 q.seat.seat.me.0 c.args.head c.args.args.now q.rows q.last q.marks
-        (plain_tells p.seat.seat.me.0.store p q c.in-Ok.ensures.plain c.requires.inside.told) c.in-Ok.ensures.view
+    (plain_tells p.seat.seat.me.0.store p q c.in-Ok.ensures.plain c.requires.inside.told) c.in-Ok.ensures.view
 
 pub returns-in-Err-clause-told : goal.returns-in-Err-clause-told
 returns-in-Err-clause-told g c =
     let p = c.args.pass.now in
     let q = c.create_noted.new.pass in
     refused_tells p.seat.seat.me.0 q.seat.seat.me.0 c.args.head c.args.args.now q.rows q.seen q.last q.marks
-        (plain_tells p.seat.seat.me.0.store p q c.in-Err.ensures.plain c.requires.inside.told) c.in-Err.ensures.view
+    (plain_tells p.seat.seat.me.0.store p q c.in-Err.ensures.plain c.requires.inside.told) c.in-Err.ensures.view
