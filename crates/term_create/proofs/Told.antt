@@ -4,6 +4,8 @@ use Rattle.std.specs.Prelude.{MatchResult, IfOk, IfErr}
 use Rattle.term_model.specs.declared.Head.{Head}
 use Rattle.history_core.specs.declared.entry.Entry.TheVariants as entry
 use Rattle.store_core.specs.declared.view.Call.{Call}
+use Rattle.store_core.specs.declared.view.Call.TheVariants.{Idle}
+use Rattle.store_core.specs.declared.view.Passed.{Passed}
 use Rattle.store_core.specs.declared.view.View.{View}
 use Rattle.store_core.specs.Machine.{with_call, with_path}
 use Rattle.node_rows.specs.declared.view.NodeView.{NodeView}
@@ -15,7 +17,7 @@ use Rattle.node_rows.specs.declared.store.Pass.{Pass}
 use Rattle.node_rows.proofs.Tellings.{told_made, told_found, told_on}
 use Rattle.term_create.specs.declared.asked.Noted.{Noted}
 use Rattle.term_create.specs.declared.asked.Noted.TheVariants.{Made, Found}
-use Rattle.term_create.specs.Stage.{Finds, Makes, Notes, IsRefused, row_of}
+use Rattle.term_create.specs.Stage.{Finds, Makes, Notes, IsRefused, row_of, at_walk}
 use Rattle.term_create.specs.Ended.{Ends, SamePlain}
 use Rattle.term_create.specs.Created.{NotesOne, Gets, KeepsCause, GetsNone, KeepsRest}
 use Rattle.term_create.proofs.Whole.{at_begin, max_less, made_notes, found_notes, made_gets, found_gets, made_rest, found_rest, made_only, found_only, refused_cause, refused_none, refused_rest, refused_only}
@@ -36,6 +38,15 @@ begin_refused v w f rs x h = record {
   leads = h.leads;
   full = record { claim = h.full.claim; count = h.full.count; full = h.full.full; view = h.full.view };
 }
+
+-- a creation that has come so far ends as it does from its begin on
+pub notes_on : (v u w : NodeView) (p : ℕ) (ps : List Passed) (x : Call) (f : Head) (rs : List ℕ) (n : Noted) → u ≡ at_walk v p ps x → Notes u w f rs n → Notes v w f rs n
+notes_on v u w p ps x f rs (Made r k) e h =
+    let t = subst (λ (q : NodeView). Makes q w f rs r k) e h in
+    record { passed = t.passed; path = t.path; later = t.later; view = t.view }
+notes_on v u w p ps x f rs (Found r k) e h =
+    let t = subst (λ (q : NodeView). Finds q w f rs r k) e h in
+    record { passed = t.passed; path = t.path; view = t.view }
 
 -- with its first step
 pub ends_whole : {E : Type 0} → (v m w : NodeView) (f : Head) (rs : List ℕ) (x : Call) (r : Result Noted E) → m ≡ with_store v (with_call (with_path v.store 0 []) x) → EndsNoted m m w f rs r → EndsNoted v (at_begin v) w f rs r
@@ -90,6 +101,10 @@ module _ {E : Type 0} (v w : NodeView) (f : Head) (rs : List ℕ) where
   pub ends_rest : (r : Result ℕ E) → Ends v w f rs r → KeepsRest v.store w.store
   ends_rest (Ok row) h = ⊎_elim (made_rest v w f rs row h.0) (found_rest v w f rs row h.0) h.1
   ends_rest (Err full) h = refused_rest v w f rs h
+
+  pub ends_idle : (r : Result ℕ E) → Ends v w f rs r → w.store.call ≡ Idle
+  ends_idle (Ok row) h = ⊎_elim (λ (t : Makes v w f rs row h.0). ap (λ (u : NodeView). u.store.call) t.view) (λ (t : Finds v w f rs row h.0). ap (λ (u : NodeView). u.store.call) t.view) h.1
+  ends_idle (Err full) h = ⊎_elim (λ e. ap (λ (u : NodeView). u.store.call) e) (λ e. ap (λ (u : NodeView). u.store.call) e) h.full.view
 
   pub ends_only : (r : Result ℕ E) → Ends v w f rs r → w ≡ with_store v w.store
   ends_only (Ok row) h = ⊎_elim (made_only v w f rs row h.0) (found_only v w f rs row h.0) h.1
