@@ -10,6 +10,7 @@ use crate::asked::Noted;
 use node_rows::Last;
 
 /// A row, the greatest number that the pass has seen then, and its last entry.
+#[derive(Clone, Copy)]
 pub(crate) struct Told {
     pub(crate) row: u64,
     pub(crate) seen: u64,
