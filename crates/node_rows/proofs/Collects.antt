@@ -1,9 +1,6 @@
 -- What the table asks of each step of a collection.
-use Rattle.std.proofs.Common.{◌≡◌, ℕ, zero, suc, ◌<◌, eqb, pred, Bool, true, false, cond, Some, List, [], ◌∷◌, ◌++◌, refl, sym, ap, ◌∙◌, subst, arith}
-use mathlib.Core.Option.{some}
-use lib.ListN.{get_elem?}
-use Rattle.atomic_table.specs.Table.{State, Me, Allows}
-use Rattle.busy_forbidden.specs.Exclusive.{IsGranted}
+use Rattle.std.proofs.Common.{◌≡◌, ℕ, zero, suc, ◌<◌, eqb, pred, Bool, true, cond, Some, List, [], ◌∷◌, ◌++◌, refl, sym, ap, ◌∙◌, subst, arith}
+use Rattle.atomic_table.specs.Table.{Me, Allows}
 use Rattle.store_core.specs.declared.view.Sizes.{Sizes}
 use Rattle.store_core.specs.declared.view.View.{View}
 use Rattle.store_core.specs.declared.view.Place.{Place}
@@ -11,19 +8,19 @@ use Rattle.store_core.specs.declared.view.Place.TheVariants.{Base, FreeCount, Cl
 use Rattle.store_core.specs.Words.{write, put}
 use Rattle.store_core.specs.Machine as core
 use Rattle.store_core.specs.Machine.{LoadAny, StoreAny, StoreClaim}
-use Rattle.store_core.specs.Steps.{Permits, is_free, rows_left, names_left, loads, stores, is_storing, MayEnd}
+use Rattle.store_core.specs.Steps.{Permits, is_free, rows_left, names_left, loads, stores, is_storing}
 use Rattle.store_core.specs.Collection.{collected}
 use Rattle.store_core.specs.Shown.{index_of}
 use Rattle.store_core.specs.StoreHolds.{StoreHolds}
 use Rattle.store_core.specs.ByView.{seen_at}
 use Rattle.store_core.proofs.Showing.{collection_sees}
 use Rattle.node_rows.specs.declared.view.NodeView.{NodeView}
-use Rattle.node_rows.specs.Shown.{state_of, Shows}
+use Rattle.node_rows.specs.Shown.{state_of}
 use Rattle.node_rows.specs.Joining.{ShowsJoined}
 use Rattle.node_rows.specs.Locking.{store_here}
 use Rattle.node_rows.specs.Steps.{with_store, Known}
-use Rattle.node_rows.specs.Collecting.{loaded_any, stored_any, or_zero, word_seen, ended_by, collects, MayCollect, HasSeen, MayEndBy, HasStore}
-use Rattle.node_rows.proofs.Own.{IsAction, OwesAction, action_allows}
+use Rattle.node_rows.specs.Collecting.{or_zero, word_seen, collects, MayCollect, HasSeen, MayEndBy, HasStore}
+use Rattle.node_rows.proofs.Own.{IsAction, action_allows}
 use Rattle.node_rows.proofs.Plays.{permits_shown, exclusive}
 
 -- what a step of a collection tells, whichever it is

@@ -1,7 +1,6 @@
 -- A seat is joined into another; and what a seat then knows of all that were joined into it.
-use Rattle.std.proofs.Common.{◌≡◌, ◌≢◌, ◌⊎◌, ℕ, zero, suc, ◌+◌, ◌<◌, ◌≤◌, eqb, true, false, ◌||◌, Some, None, List, [], ◌∷◌, ◌++◌, length, map, get_or, set, refl, sym, ap, ◌∙◌, subst, inl, inr, ⊎_elim, arith, length-set, ne_eqb, zero-add}
+use Rattle.std.proofs.Common.{◌≡◌, ◌≢◌, ◌⊎◌, ℕ, zero, suc, ◌+◌, ◌<◌, ◌≤◌, eqb, true, false, ◌||◌, Some, None, List, [], ◌∷◌, ◌++◌, length, map, get_or, set, refl, sym, ap, ◌∙◌, subst, inl, inr, ⊎_elim, arith, ne_eqb, zero-add}
 use mathlib.Core.Logic.{dite}
-use mathlib.Core.Path.{fun_ext}
 use mathlib.Core.List.{map-append}
 use mathlib.Core.Option.{some}
 use native.Mathlib.Decide.{ℕ_discrete}
@@ -11,9 +10,8 @@ use Rattle.std.specs.List.{IsDistinct, list_any}
 use Rattle.std.proofs.lemmas.List.{length-map, set-get_or}
 use Rattle.std.proofs.lemmas.Map.Steps.{length-le_from_distinct_below}
 use Rattle.atomic_table.specs.Table.{State, Me, Joins, Allows, keeps}
-use Rattle.atomic_table.proofs.Lists.{at_map, set_here, set_else, set_again}
+use Rattle.atomic_table.proofs.Lists.{at_map, set_else, set_again}
 use Rattle.history_core.specs.declared.entry.Entry.{Entry}
-use Rattle.history_core.specs.Chronicle.{chronicle, IsLegal}
 use Rattle.lock_core.specs.declared.parts.Phase.TheVariants.{Out, Holder}
 use Rattle.busy_forbidden.specs.declared.view.LockView.{LockView}
 use Rattle.busy_forbidden.specs.Shown as lock
@@ -35,8 +33,8 @@ use Rattle.node_rows.specs.Told.{HasEntries, view_of}
 use Rattle.node_rows.specs.declared.view.JoinedSeat.{JoinedSeat}
 use Rattle.node_rows.specs.declared.view.NodeView.{NodeView}
 use Rattle.node_rows.specs.Shown.{lock_of, store_at, Shows}
-use Rattle.node_rows.specs.Joining.{spent_view, number_in, known_seat, both_views, seats_in, AreApart, IsSpent, Gathers, with_views, ShowsJoined, gathered, all_views, entries_at, lists_in, HasBase, AllTold, TellsAll}
-use Rattle.node_rows.specs.Gathering.{not_spent, at_inside, known_at, apart_else, join_gathers}
+use Rattle.node_rows.specs.Joining.{spent_view, number_in, known_seat, both_views, seats_in, AreApart, with_views, ShowsJoined, gathered, all_views, entries_at, lists_in, HasBase, AllTold, TellsAll}
+use Rattle.node_rows.specs.Gathering.{not_spent, known_at, apart_else, join_gathers}
 use Rattle.node_rows.specs.Locking.{store_here, store_set, put_again, inside, below, sized_set, some_set, count_set}
 
 module _ (z : Sizes) (s : State (Unit {0}) NodeView) (i : ℕ) (v : NodeView) (at : get_elem? s.views i ≡ some v) (w : NodeView) (same_lock : w.lock ≡ v.lock) where

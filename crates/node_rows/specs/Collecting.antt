@@ -1,5 +1,5 @@
 -- A collection's steps: the own view after each, and what the own view has to say before it.
-use Rattle.std.specs.Prelude.{◌≡◌, ℕ, pred, ◌<◌, true, Option, Some, None, List, [], ◌∷◌, ◌++◌}
+use Rattle.std.specs.Prelude.{◌≡◌, ℕ, pred, ◌<◌, true, Option, Some, None, [], ◌∷◌, ◌++◌}
 use Rattle.atomic_table.specs.Table.{Me, Step}
 use Rattle.busy_forbidden.specs.Exclusive.{IsGranted}
 use Rattle.store_core.specs.declared.view.Sizes.{Sizes}

@@ -1,9 +1,8 @@
 -- What the steps and the joins of seats leave of what the views gather.
-use Rattle.std.proofs.Common.{◌≡◌, ◌≢◌, ◌⊎◌, ℕ, zero, suc, ◌<◌, None, Some, List, [], ◌∷◌, length, set, refl, sym, ap, ◌∙◌, subst, inl, inr, ⊎_elim, arith, length-set}
+use Rattle.std.proofs.Common.{◌≡◌, ◌≢◌, ℕ, zero, suc, ◌<◌, None, Some, List, [], ◌∷◌, length, set, refl, sym, ap, ◌∙◌, subst, inl, inr, ⊎_elim, arith, length-set}
 use mathlib.Core.Option.{some, some-injective, some-ne-none}
 use lib.ListN.{get_elem?}
 use Rattle.atomic_table.proofs.Lists.{at_set, set_here, set_else}
-use Rattle.busy_forbidden.specs.declared.view.LockView.{LockView}
 use Rattle.store_core.specs.Machine.{Each}
 use Rattle.store_core.proofs.Basics.{each_map}
 use Rattle.node_rows.specs.declared.view.JoinedSeat.{JoinedSeat}

@@ -9,3 +9,4 @@ pub mod Opening
 pub mod Inside
 pub mod Told
 pub mod Collecting
+pub mod Belonging

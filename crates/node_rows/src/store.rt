@@ -5,7 +5,7 @@ ghost use Rattle.busy_forbidden.specs.Calls.{IsSame};
 ghost use Rattle.busy_forbidden.specs.Entries.{ShowsShared};
 ghost use Rattle.busy_forbidden.specs.Exclusive.{IsGranted, ShowsExclusive, TriesExclusive};
 ghost use Rattle.node_rows.specs.Shown.{node_next};
-ghost use Rattle.node_rows.specs.Passes.{IsStore, IsPass, IsOut, IsReady, Came, Stayed, Left};
+ghost use Rattle.node_rows.specs.Passes.{IsPass, IsOut, IsReady, Came, Stayed, Left};
 
 use crate::arriving::arrive;
 use crate::rule::NodeRows;
@@ -50,13 +50,13 @@ pub struct Pass {
 }
 
 impl Store {
+    ghost use Rattle.node_rows.specs.Belonging.{IsPassOf};
     ghost use Rattle.node_rows.specs.Told.{Tells};
 
     /// Enters shared access, without a wait. `Busy::Forbidden` comes exactly where this call read the own forbidden word as
     /// set; the pass is then out. An entry loads the base and then the number of buckets in use.
     pub fn try_enter_shared(&self, pass: &mut Pass) -> Result<(), Busy>
-        requires store { IsStore self.now.table.shared.table_id self.now.table.shared.key self.now.sizes }
-        requires pass { IsPass self.now.table.shared.table_id self.now.sizes pass.old.seat.seat pass.old.seat.seats }
+        requires of { IsPassOf self.now pass.old }
         requires out { IsOut pass.old.seat.seat.me.0 }
         ensures pass { IsPass self.now.table.shared.table_id self.now.sizes pass.new.seat.seat pass.new.seat.seats }
         ensures same { IsSame pass.old.seat.seat pass.new.seat.seat × (pass.new.seat.number ≡ pass.old.seat.number) }
@@ -80,8 +80,7 @@ impl Store {
 
     /// Enters shared access; it may wait.
     pub fn enter_shared<R: Wait>(&self, rt: &R, pass: &mut Pass)
-        requires store { IsStore self.now.table.shared.table_id self.now.table.shared.key self.now.sizes }
-        requires pass { IsPass self.now.table.shared.table_id self.now.sizes pass.old.seat.seat pass.old.seat.seats }
+        requires of { IsPassOf self.now pass.old }
         requires out { IsOut pass.old.seat.seat.me.0 }
         ensures pass { IsPass self.now.table.shared.table_id self.now.sizes pass.new.seat.seat pass.new.seat.seats }
         ensures same { IsSame pass.old.seat.seat pass.new.seat.seat × (pass.new.seat.number ≡ pass.old.seat.number) }
@@ -96,8 +95,7 @@ impl Store {
 
     /// Ends shared access, and notes the rows that the pass protects.
     pub fn leave_shared(&self, pass: &mut Pass)
-        requires store { IsStore self.now.table.shared.table_id self.now.table.shared.key self.now.sizes }
-        requires pass { IsPass self.now.table.shared.table_id self.now.sizes pass.old.seat.seat pass.old.seat.seats }
+        requires of { IsPassOf self.now pass.old }
         requires shared { pass.old.seat.seat.me.0.lock.phase ≡ Shared }
         requires ready { IsReady self.now.sizes pass.old.seat.seat.me.0.store pass.old.base pass.old.in_use }
         ensures pass { IsPass self.now.table.shared.table_id self.now.sizes pass.new.seat.seat pass.new.seat.seats }
@@ -114,8 +112,7 @@ impl Store {
     /// `Busy::Seat(j)` exactly where it read the busy word of seat j as set; the pass is then out, and each flag that the call
     /// set is cleared. An entry loads the base and then the number of buckets in use.
     pub fn try_enter_exclusive(&self, pass: &mut Pass) -> Result<(), Busy>
-        requires store { IsStore self.now.table.shared.table_id self.now.table.shared.key self.now.sizes }
-        requires pass { IsPass self.now.table.shared.table_id self.now.sizes pass.old.seat.seat pass.old.seat.seats }
+        requires of { IsPassOf self.now pass.old }
         requires out { IsOut pass.old.seat.seat.me.0 }
         ensures pass { IsPass self.now.table.shared.table_id self.now.sizes pass.new.seat.seat pass.new.seat.seats }
         ensures same { IsSame pass.old.seat.seat pass.new.seat.seat × (pass.new.seat.number ≡ pass.old.seat.number) }
@@ -140,8 +137,7 @@ impl Store {
 
     /// Enters exclusive access; it may wait.
     pub fn enter_exclusive<R: Wait>(&self, rt: &R, pass: &mut Pass)
-        requires store { IsStore self.now.table.shared.table_id self.now.table.shared.key self.now.sizes }
-        requires pass { IsPass self.now.table.shared.table_id self.now.sizes pass.old.seat.seat pass.old.seat.seats }
+        requires of { IsPassOf self.now pass.old }
         requires out { IsOut pass.old.seat.seat.me.0 }
         ensures pass { IsPass self.now.table.shared.table_id self.now.sizes pass.new.seat.seat pass.new.seat.seats }
         ensures same { IsSame pass.old.seat.seat pass.new.seat.seat × (pass.new.seat.number ≡ pass.old.seat.number) }
@@ -156,8 +152,7 @@ impl Store {
 
     /// Ends exclusive access, and notes the rows that the pass protects.
     pub fn leave_exclusive(&self, pass: &mut Pass)
-        requires store { IsStore self.now.table.shared.table_id self.now.table.shared.key self.now.sizes }
-        requires pass { IsPass self.now.table.shared.table_id self.now.sizes pass.old.seat.seat pass.old.seat.seats }
+        requires of { IsPassOf self.now pass.old }
         requires granted { IsGranted pass.old.seat.seat.me.0.lock pass.old.seat.number pass.old.seat.seats }
         requires ready { IsReady self.now.sizes pass.old.seat.seat.me.0.store pass.old.base pass.old.in_use }
         ensures pass { IsPass self.now.table.shared.table_id self.now.sizes pass.new.seat.seat pass.new.seat.seats }

@@ -1,5 +1,3 @@
-use Rattle.std.proofs.Common.{sym, ◌∙◌, ap, subst}
-use Rattle.store_core.specs.declared.view.View.{View}
 use Rattle.node_rows.proofs.Tellings.{told_arrived_as}
 use Rattle.node_rows.proofs.arriving.arrive.Goals as goal
 

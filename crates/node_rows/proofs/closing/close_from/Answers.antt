@@ -1,4 +1,4 @@
-use Rattle.std.proofs.Common.{◌≡◌, ℕ, List, map, length, sym, ap, ◌∙◌, subst, arith}
+use Rattle.std.proofs.Common.{List, map, length, sym, ap, ◌∙◌, subst, arith}
 use Rattle.std.proofs.lemmas.List.{length-map}
 use Rattle.std.proofs.lemmas.List.Elements.{All-from_recursion}
 use Rattle.history_core.specs.declared.entry.Entry.{Entry}
@@ -9,7 +9,7 @@ use Rattle.store_core.specs.Invariant.{span}
 use Rattle.store_core.specs.Machine.{Each}
 use Rattle.store_core.proofs.Histories.{listed_length}
 use Rattle.node_rows.specs.declared.view.NodeView.{NodeView}
-use Rattle.node_rows.specs.Joining.{gathered, lists_in, HasBase}
+use Rattle.node_rows.specs.Joining.{gathered, HasBase}
 use Rattle.node_rows.specs.Told.{HasEntries, view_of}
 use Rattle.node_rows.proofs.Joins.{lists_are, joined_count, finds, bases}
 use Rattle.node_rows.proofs.closing.close_from.Goals as goal

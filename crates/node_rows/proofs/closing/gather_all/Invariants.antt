@@ -1,4 +1,4 @@
-use Rattle.std.proofs.Common.{◌≡◌, ℕ, map, vec_len}
+use Rattle.std.proofs.Common.{◌≡◌, map, vec_len}
 use Rattle.std.specs.Prelude.{All}
 use Rattle.node_rows.specs.Passes.{IsPass, IsOut}
 use Rattle.node_rows.specs.Joining.{all_views}

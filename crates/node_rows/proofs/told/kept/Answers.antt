@@ -1,4 +1,4 @@
-use Rattle.std.proofs.Common.{ℕ, arith}
+use Rattle.std.proofs.Common.{arith}
 use Rattle.node_rows.proofs.Tellings.{none_beyond}
 use Rattle.node_rows.proofs.told.kept.Goals as goal
 

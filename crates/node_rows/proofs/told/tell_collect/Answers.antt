@@ -1,5 +1,4 @@
-use Rattle.std.proofs.Common.{◌≡◌, ◌-◌, ℕ, pred, List, sym, subst, arith}
-use Rattle.std.specs.Prelude.{Contains, ◌↔◌}
+use Rattle.std.proofs.Common.{ℕ, pred, subst}
 use Rattle.node_rows.specs.declared.store.Last.TheVariants.{Collect}
 use Rattle.node_rows.specs.Told.{IsTold}
 use Rattle.node_rows.proofs.Tellings.{told_collected, before_base}

@@ -7,7 +7,7 @@ use Rattle.node_rows.proofs.store.Store.enter_exclusive.Goals as goal
 pub arrive-requires-clause-pass : goal.arrive-requires-clause-pass
 arrive-requires-clause-pass g c =
     let t = enters_exclusive_stays c.args.pass.now.seat.number c.args.pass.now.seat.seats c.args.pass.now.seat.seat.me.0 c.enter_exclusive.new.seat.seat.me.0 c.enter_exclusive.ensures.steps c.requires.out.away in
-    record { table = c.enter_exclusive.ensures.of.0; sizes = t.sizes ∙ c.requires.pass.sizes; count = c.enter_exclusive.ensures.same.2 ∙ c.requires.pass.count; none = c.enter_exclusive.ensures.same.0.slots ∙ c.requires.pass.none }
+    record { table = c.enter_exclusive.ensures.of.0; sizes = t.sizes ∙ c.requires.of.pass.sizes; count = c.enter_exclusive.ensures.same.2 ∙ c.requires.of.pass.count; none = c.enter_exclusive.ensures.same.0.slots ∙ c.requires.of.pass.none }
 
 pub arrive-requires-clause-away : goal.arrive-requires-clause-away
 arrive-requires-clause-away g c = (enters_exclusive_stays c.args.pass.now.seat.number c.args.pass.now.seat.seats c.args.pass.now.seat.seat.me.0 c.enter_exclusive.new.seat.seat.me.0 c.enter_exclusive.ensures.steps c.requires.out.away).away

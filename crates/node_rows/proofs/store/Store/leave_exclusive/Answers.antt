@@ -12,7 +12,7 @@ leave_exclusive-requires-clause-may c =
 pub returns-clause-pass : goal.returns-clause-pass
 returns-clause-pass c =
     let t = ends_exclusive c.args.pass.now.seat.number c.args.pass.now.seat.seats c.args.pass.now.seat.seat.me.0 c.leave_exclusive.new.seat.seat.me.0 c.requires.ready.rest c.leave_exclusive.ensures.view in
-    record { table = c.leave_exclusive.ensures.of.0; sizes = t.sizes ∙ c.requires.pass.sizes; count = c.leave_exclusive.ensures.same.2 ∙ c.requires.pass.count; none = c.leave_exclusive.ensures.same.0.slots ∙ c.requires.pass.none }
+    record { table = c.leave_exclusive.ensures.of.0; sizes = t.sizes ∙ c.requires.of.pass.sizes; count = c.leave_exclusive.ensures.same.2 ∙ c.requires.of.pass.count; none = c.leave_exclusive.ensures.same.0.slots ∙ c.requires.of.pass.none }
 
 pub returns-clause-left : goal.returns-clause-left
 returns-clause-left c = (ends_exclusive c.args.pass.now.seat.number c.args.pass.now.seat.seats c.args.pass.now.seat.seat.me.0 c.leave_exclusive.new.seat.seat.me.0 c.requires.ready.rest c.leave_exclusive.ensures.view).store

@@ -7,7 +7,7 @@ use Rattle.node_rows.proofs.store.Store.try_enter_exclusive.Goals as goal
 pub arrive-requires-clause-pass : goal.arrive-requires-clause-pass
 arrive-requires-clause-pass c =
     let t = tries_exclusive_stays c.args.pass.now.seat.number c.args.pass.now.seat.seats c.args.pass.now.seat.seat.me.0 c.try_enter_exclusive.new.seat.seat.me.0 (Ok tt) c.in-Ok.ensures.steps c.requires.out.away in
-    record { table = c.in-Ok.ensures.of.0; sizes = t.sizes ∙ c.requires.pass.sizes; count = c.in-Ok.ensures.same.2 ∙ c.requires.pass.count; none = c.in-Ok.ensures.same.0.slots ∙ c.requires.pass.none }
+    record { table = c.in-Ok.ensures.of.0; sizes = t.sizes ∙ c.requires.of.pass.sizes; count = c.in-Ok.ensures.same.2 ∙ c.requires.of.pass.count; none = c.in-Ok.ensures.same.0.slots ∙ c.requires.of.pass.none }
 
 pub arrive-requires-clause-away : goal.arrive-requires-clause-away
 arrive-requires-clause-away c = (tries_exclusive_stays c.args.pass.now.seat.number c.args.pass.now.seat.seats c.args.pass.now.seat.seat.me.0 c.try_enter_exclusive.new.seat.seat.me.0 (Ok tt) c.in-Ok.ensures.steps c.requires.out.away).away
@@ -20,7 +20,7 @@ returns-in-Ok-clause-came c =
 pub returns-in-Err-clause-pass : goal.returns-in-Err-clause-pass
 returns-in-Err-clause-pass c =
     let t = tries_exclusive_stays c.args.pass.now.seat.number c.args.pass.now.seat.seats c.args.pass.now.seat.seat.me.0 c.try_enter_exclusive.new.seat.seat.me.0 (Err c.in-Err.busy) c.in-Err.ensures.steps c.requires.out.away in
-    record { table = c.in-Err.ensures.of.0; sizes = t.sizes ∙ c.requires.pass.sizes; count = c.in-Err.ensures.same.2 ∙ c.requires.pass.count; none = c.in-Err.ensures.same.0.slots ∙ c.requires.pass.none }
+    record { table = c.in-Err.ensures.of.0; sizes = t.sizes ∙ c.requires.of.pass.sizes; count = c.in-Err.ensures.same.2 ∙ c.requires.of.pass.count; none = c.in-Err.ensures.same.0.slots ∙ c.requires.of.pass.none }
 
 pub returns-in-Err-clause-came : goal.returns-in-Err-clause-came
 returns-in-Err-clause-came c = (tries_exclusive_stays c.args.pass.now.seat.number c.args.pass.now.seat.seats c.args.pass.now.seat.seat.me.0 c.try_enter_exclusive.new.seat.seat.me.0 (Err c.in-Err.busy) c.in-Err.ensures.steps c.requires.out.away).store
