@@ -1,3 +1,4 @@
+pub mod Knowing
 pub mod Own
 pub mod Plays
 pub mod Entering

@@ -1,5 +1,5 @@
 -- An own step that the store permits keeps the rule.
-use Rattle.std.proofs.Common.{◌≡◌, ℕ, zero, suc, ◌<◌, ◌≤◌, Bool, true, cond, Option, Some, None, List, [], ◌∷◌, length, get_or, set, take, refl, sym, ap, ◌∙◌, subst, arith, length-set}
+use Rattle.std.proofs.Common.{◌≡◌, ◌≢◌, false, ℕ, zero, suc, ◌<◌, ◌≤◌, Bool, true, cond, Option, Some, None, List, [], ◌∷◌, length, get_or, set, take, refl, sym, ap, ◌∙◌, subst, arith, length-set}
 use mathlib.Core.Option.{some}
 use lib.ListN.{get_elem?}
 use Rattle.atomic_table.specs.Table.{State, Me, keeps, stepped, Allows}
@@ -11,20 +11,26 @@ use Rattle.store_core.specs.declared.view.View.{View}
 use Rattle.store_core.specs.declared.view.Place.{Place}
 use Rattle.store_core.specs.declared.view.Place.TheVariants.{InUse, RootCount, Root}
 use Rattle.store_core.specs.declared.view.Call.{Call}
+use Rattle.store_core.specs.declared.view.Content.{Content}
 use Rattle.store_core.specs.declared.view.Call.TheVariants.{Idle, Comparing, Passing, Finding, Ended, Counting, Drawing, Placing, Filling, Numbering, Linking, Publishing, Loading, Storing}
 use Rattle.store_core.specs.declared.view.Stay.TheVariants.{Away, Ready}
 use Rattle.store_core.specs.Words.{write, put}
 use Rattle.store_core.specs.Machine as core
-use Rattle.store_core.specs.Machine.{Action, acted, LoadBase, LoadInUse, Begin, Go, LoadRoot, StoreRoot, StoreCount, ReadWord, ReadArgument, Each}
-use Rattle.store_core.specs.Seats.{looked, index, drawn, index_in, IsWalk}
+use Rattle.store_core.specs.Machine.{Action, acted, with_call, IsCreation, LoadBase, LoadInUse, Begin, Go, LoadRoot, StoreRoot, StoreCount, ReadWord, ReadArgument, Each}
+use Rattle.store_core.specs.Seats.{looked, index, drawn, index_in, wanted, IsWalk, Walked, IsKnown, SeatHolds}
+use Rattle.store_core.specs.Invariant.{Holds, listed, names_of}
+use Rattle.store_core.specs.Reads.{IsUndisturbed}
+use Rattle.history_core.specs.declared.entry.Entry.{Entry}
+use Rattle.history_core.specs.TermSet.{Names, Lacks, tree_over}
+use Rattle.history_core.specs.Chronicle.{chronicle, set_of}
 use Rattle.store_core.specs.Runs.{Inductive}
 use Rattle.store_core.specs.StoreHolds.{StoreHolds}
-use Rattle.store_core.specs.Steps.{Permits, after, is_collecting}
+use Rattle.store_core.specs.Steps.{Permits, after, is_collecting, head_read, IsAtRest}
 use Rattle.store_core.specs.Shown.{shown, in_table, index_of}
 use Rattle.store_core.proofs.Basics.{where_map, where_at, each_map}
 use Rattle.store_core.proofs.Shown.{shown_written, past_lock, place_inside}
 use Rattle.store_core.proofs.Locks.{is_in}
-use Rattle.store_core.proofs.Wrapped.{quiet}
+use Rattle.store_core.proofs.Wrapped.{quiet, creation_calm, creation_busy}
 use Rattle.store_core.proofs.Eight.{inductive}
 use Rattle.store_core.specs.Words.{row_at, RowWords}
 use Rattle.store_core.specs.Calls.{bucket}
@@ -34,6 +40,8 @@ use Rattle.node_rows.specs.Shown.{lock_of, store_at, state_of, Shows}
 use Rattle.node_rows.specs.Joining.{with_views, ShowsJoined}
 use Rattle.node_rows.specs.Gathering.{not_spent, known_at, step_gathers}
 use Rattle.node_rows.specs.Locking.{keeps_store, store_here, store_set, inside, below, sized_set, some_set, count_set}
+use Rattle.node_rows.specs.Knowing.{held_alone, IsAbsent, EndsAbsent}
+use Rattle.node_rows.proofs.Knowing.{word_once, head_word, tree_once, names_lack}
 use Rattle.node_rows.specs.Collecting.{HasStore}
 use Rattle.node_rows.specs.Steps.{with_store, place_of, written_by, moved_by, act, Acts, Stands, Few, Known}
 
@@ -108,8 +116,51 @@ each_taken P (x ∷ xs) (suc n) h l = (h 0 (omega arith), each_taken P xs n (λ 
 protected_below : (N : ℕ) (w : Place → ℕ) (i d : ℕ) (rs : List ℕ) (n : ℕ) → ((k : ℕ) → k < n → w (Root i k) < N) → ((k : ℕ) → k < d → w (Root i k) ≡ get_or rs k 0) → n ≤ d → n ≤ length rs → Each (λ r. r < N) (take n rs)
 protected_below N w i d rs n below is few wide = each_taken (λ r. r < N) rs n (λ k l. subst (λ (r : ℕ). r < N) (is k (omega arith)) (below k l)) wide
 
-known_of : (z : Sizes) (s : core.State) (i : ℕ) → Inductive z s → Known z (s.view i)
-known_of z s i store =
+-- the words of a seat in an access, with nothing under way of a collection
+module _ (z : Sizes) (s : core.State) (i : ℕ) (store : Inductive z s) where
+  quiet_in : (s.view i).stay ≢ Away → is_collecting (s.view i).call ≡ false → Holds z s store.core.meaning
+  quiet_in stays calm = quiet z s store.core i (is_in s.lock i (s.view i).stay (store.core.holds.lock.access i) stays) calm
+
+  rest_stays : IsAtRest (s.view i) → (s.view i).stay ≢ Away
+  rest_stays rest e = let no : Ready ≡ Away = sym rest.stay ∙ e in grind arith
+
+  knows : (rest : IsAtRest (s.view i)) → Each (IsKnown s.words store.core.meaning) (s.view i).knows
+  knows rest = let q = quiet_in (rest_stays rest) (ap is_collecting rest.call) in (q.seats i).protects.knows ((q.seats i).numbers.base (rest_stays rest))
+
+  -- the only seat has read a chain to its end: no name has the tree
+  absent_at : i < z.seats → z.seats ≡ 1 → (x : Call) → (s.view i).call ≡ x → IsCreation x → (c : Content) (from : ℕ) → wanted x ≡ Some c → head_read x ≡ Some (c, from)
+      → ((row : ℕ → RowWords) (chain : ℕ → List ℕ) (u n : ℕ) → IsWalk row chain u n x → Walked row (chain (bucket c u)) c from n) → IsAbsent (s.view i).entries c
+  absent_at there one x e is c from wants head walks =
+      let v = s.view i in
+      let stays : v.stay ≢ Away = (λ f. let stay = (store.core.holds.seats i).numbers.calls (subst (λ (y : Call). y ≢ Idle) (sym e) (creation_busy x is)) in let no : Away ≡ Ready = sym f ∙ stay in grind arith) in
+      let q = quiet_in stays (ap is_collecting e ∙ creation_calm x is) in
+      let m = store.core.meaning in
+      let seat : SeatHolds s.words m i (with_call v x) = subst (λ (y : Call). SeatHolds s.words m i (with_call v y)) e (q.seats i) in
+      let now : IsUndisturbed s.words (with_call v x) = subst (λ (y : Call). IsUndisturbed s.words (with_call v y)) e (store.remembers.sole one i there) in
+      let live = each_map _ _ c.arguments (λ r t. t.live) (where_at (wanted x) _ c wants seat.protects.wants).arguments in
+      let lists : listed z.seats (λ j. (s.view j).entries) ≡ v.entries ∷ [] = ap (λ (n : ℕ). listed n (λ j. (s.view j).entries)) one ∙ ap (λ (j : ℕ). (s.view j).entries ∷ []) (let zero_is : 0 ≡ i = omega arith in zero_is) in
+      let names : held_alone v.entries ≡ names_of m = ap (λ (ls : List (List Entry)). (set_of (chronicle ls)).held) (sym lists) ∙ q.history.pairs in
+      subst (λ (h : Names). Lacks h (tree_over h c.head c.arguments)) (sym names)
+      (names_lack z s.words m q.chains c live from v.passed (walks (row_at s.words) m.chain (s.words InUse) v.passed seat.walks.walk) (where_at (head_read x) _ (c, from) head now.head))
+
+  ends_absent : i < z.seats → z.seats ≡ 1 → (x : Call) → (s.view i).call ≡ x → EndsAbsent (s.view i).entries x
+  ends_absent there one (Ended c from) e = absent_at there one (Ended c from) e tt c from refl refl (λ row chain u n h. h)
+  ends_absent there one (Counting c from n) e = absent_at there one (Counting c from n) e tt c from refl refl (λ row chain u n h. h)
+  ends_absent there one (Drawing c from n) e = absent_at there one (Drawing c from n) e tt c from refl refl (λ row chain u n h. h)
+  ends_absent there one Idle e = tt
+  ends_absent there one (Comparing c d from old at k) e = tt
+  ends_absent there one (Passing c d from old at dif) e = tt
+  ends_absent there one (Finding c d r) e = tt
+  ends_absent there one (Placing c from a) e = tt
+  ends_absent there one (Filling c from a r k) e = tt
+  ends_absent there one (Numbering c from a r) e = tt
+  ends_absent there one (Linking c from a r) e = tt
+  ends_absent there one (Publishing c from a r) e = tt
+  ends_absent there one (Loading ls) e = tt
+  ends_absent there one (Storing ls ss) e = tt
+
+known_of : (z : Sizes) (s : core.State) (i : ℕ) → i < z.seats → Inductive z s → Known z (s.view i)
+known_of z s i there store =
     let k = store.core in
     let h = k.holds in
     let seat = h.seats i in
@@ -138,10 +189,14 @@ known_of z s i store =
           protected_below z.rows s.words i z.depth (s.view i).roots (s.view i).root_count
           (λ j l. q.chains.below (s.words (Root i j)) ((q.seats i).protects.roots j (omega arith)).live)
           own.root few (omega arith);
+      words = λ rest. word_once z s.words k.meaning (quiet_in z s i store (rest_stays z s i store rest) (ap is_collecting rest.call)).chains (s.view i).knows (knows z s i store rest);
+      heads = λ rest. head_word z s.words k.meaning (quiet_in z s i store (rest_stays z s i store rest) (ap is_collecting rest.call)).chains (s.view i).knows (knows z s i store rest);
+      trees = λ rest. tree_once z s.words k.meaning (quiet_in z s i store (rest_stays z s i store rest) (ap is_collecting rest.call)).chains (s.view i).knows (knows z s i store rest);
+      absent = λ one. ends_absent z s i store there one x refl;
     }
 
 pub known : (z : Sizes) (s : State (Unit {0}) NodeView) (i : ℕ) (v : NodeView) → Shows z s → get_elem? s.views i ≡ some v → Known z v.store
-known z s i v rule at = subst (Known z) (store_here z s.views i v at) (known_of z (state_of z s.words s.views rule.lock.state) i (inductive z (state_of z s.words s.views rule.lock.state) rule.holds))
+known z s i v rule at = subst (Known z) (store_here z s.views i v at) (known_of z (state_of z s.words s.views rule.lock.state) i (below z s i v rule at) (inductive z (state_of z s.words s.views rule.lock.state) rule.holds))
 
 some_one : {i j : ℕ} → ◌≡◌ {A = Option ℕ} (Some i) (Some j) → i ≡ j
 some_one e = grind arith

@@ -12,7 +12,7 @@ use Rattle.term_model.specs.declared.Head.{Head}
 use Rattle.store_core.specs.declared.view.Sizes.{Sizes}
 use Rattle.store_core.specs.declared.view.View.{View}
 use Rattle.store_core.specs.declared.view.Place.{Place}
-use Rattle.store_core.specs.declared.view.Place.TheVariants.{Base, Claim, InUse}
+use Rattle.store_core.specs.declared.view.Place.TheVariants.{Base, Claim, InUse, Root}
 use Rattle.store_core.specs.declared.view.Call.{Call}
 use Rattle.store_core.specs.declared.view.Call.TheVariants.{Idle, Comparing, Passing, Finding, Ended, Counting, Drawing, Placing, Filling, Numbering, Linking, Publishing, Loading, Storing}
 use Rattle.store_core.specs.declared.view.Stay.TheVariants.{Away, Based, Ready}
@@ -20,6 +20,7 @@ use Rattle.store_core.specs.Machine as core
 use Rattle.store_core.specs.Machine.{IsCreation, action, InAccess, LoadBase, LoadInUse, Begin, Go, LoadRoot, StoreRoot, StoreCount, ReadWord, ReadArgument}
 use Rattle.store_core.specs.ByView as by_view
 use Rattle.store_core.specs.ByView.{LockGrants}
+use Rattle.store_core.specs.Seats.{RootsKnown}
 use Rattle.store_core.specs.Runs.{Inductive}
 use Rattle.store_core.proofs.Eight.{inductive}
 use Rattle.store_core.proofs.Showing.{view_shows}
@@ -73,7 +74,7 @@ own_reads_act (ReadWord r k) h = tt
 own_reads_act (ReadArgument r k) h = tt
 own_reads_act x h = absurd h
 
-own_reads_granted : (t : core.State) (i : ℕ) (x : core.Step) → IsOwnRead x → LockGrants t i x
+pub own_reads_granted : (t : core.State) (i : ℕ) (x : core.Step) → IsOwnRead x → LockGrants t i x
 own_reads_granted t i (LoadRoot k) h = tt
 own_reads_granted t i (StoreRoot k r) h = tt
 own_reads_granted t i (StoreCount n) h = tt
@@ -218,6 +219,19 @@ own_reads z slots id me i k x f is may writes = own_allows z slots id me i x k f
   permitted = λ s rule at. permits_shown z s i me.0 rule at x may.shown (own_reads_granted (state_of z s.words s.views rule.lock.state) i x may.acts);
   writes = λ s _ _. writes _;
 }
+
+-- the load of a protected row
+pub own_roots : (z : Sizes) (slots id : ℕ) (me : Me (Unit {0}) NodeView) (i k j : ℕ) → me.0.lock.number ≡ Some i → MayStepOn z i me.0 (LoadRoot j) k
+    → Allows (ShowsJoined z) slots id me k (λ n. n) (λ n me'. Tells (LoadRoot j) me n me' × (n ≡ get_or me.0.store.roots j 0))
+own_roots z slots id me i k j is may s rule homes at small =
+    let t = own_reads z slots id me i k (LoadRoot j) (λ n. n) is may (λ n. refl) s rule homes at small in
+    let whole = with_views s rule.known in
+    let seated : get_elem? whole.views id ≡ some me.0 = known_at rule.known s.views rule.joins id me.0 at (not_spent me.0 i is) in
+    let same : i ≡ id = same_place whole id i me.0 rule.shows.lock seated is in
+    let here = store_here z whole.views i me.0 (subst (λ (q : ℕ). get_elem? whole.views q ≡ some me.0) (sym same) seated) in
+    let own : RootsKnown z (shown z s.words) i me.0.store = subst (RootsKnown z (shown z s.words) i) here (rule.shows.holds.strengthened.remembers.own i) in
+    let below : j < z.depth = (let a = may.shown.1 in let b = own.few in omega arith) in
+    (t.0, t.1, t.2, t.3, (t.4, ap (λ (q : ℕ). get_or s.words q 0) may.word ∙ (sym (shown_at z s.words (Root i j) may.there) ∙ own.root j below)))
 
 pub own_stores : (z : Sizes) (slots id : ℕ) (me : Me (Unit {0}) NodeView) (i k : ℕ) (x : core.Step) (y : ℕ) → me.0.lock.number ≡ Some i → MayStepOn z i me.0 x k → ((n : ℕ) → written_by x me.0.store n ≡ y)
     → ((m n : ℕ) → moved_by x me.0.store m ≡ moved_by x me.0.store n) → Allows (ShowsJoined z) slots id me k (λ _. y) (λ _. Tells x me y)

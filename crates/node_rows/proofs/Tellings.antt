@@ -43,6 +43,15 @@ told_arrived_as v u w rows seen later last marks base in_use is_u is_w is_later 
 pub told_same : (v w : View) (rows seen : ℕ) (last : Last) (marks : List Bool) → w ≡ v → IsTold v rows seen last marks → IsTold w rows seen last marks
 told_same v w rows seen last marks is h = subst (λ (u : View). IsTold u rows seen last marks) (sym is) h
 
+-- nothing was noted
+pub told_on : (v w : View) (rows seen : ℕ) (last : Last) (marks : List Bool) → w.entries ≡ v.entries → w.seen ≡ v.seen → IsTold v rows seen last marks → IsTold w rows seen last marks
+told_on v w rows seen last marks entries same h = record {
+  seen_is = h.seen_is ∙ sym same;
+  last_is = h.last_is ∙ ap last_in (sym entries);
+  room = h.room;
+  kept = λ r. subst (λ (es : List Entry). IsMarked marks r ↔ Contains (kept_in es) r.0) (sym entries) (h.kept r);
+}
+
 -- one entry was noted, which is no Collect
 module _ (v w : View) (rows seen : ℕ) (last : Last) (marks : List Bool) (told : IsTold v rows seen last marks) (e : Entry) (entries : w.entries ≡ v.entries ++ e ∷ []) (keeps : (ns : List ℕ) → kept_after ns e ≡ ns) (n : ℕ) (now : n ≡ w.seen) where
   noted_last : told_by e ≡ last_in w.entries

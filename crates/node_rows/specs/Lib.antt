@@ -1,10 +1,12 @@
 pub mod Shown
+pub mod Knowing
 pub mod Joining
 pub mod Gathering
 pub mod Locking
 pub mod Steps
 pub mod Passes
 pub mod Opening
+pub mod Inside
 pub mod Told
 pub mod Collecting
 pub mod Belonging

@@ -1,9 +1,10 @@
 -- A seat's steps past the lock: what the own view becomes, and what a seat knows by its view alone.
-use Rattle.std.specs.Prelude.{◌≡◌, ◌≢◌, ◌⊎◌, ◌==◌, if◌then◌else◌, ℕ, suc, ◌+◌, ◌<◌, ◌≤◌, ◌^◌, true, List, length}
+use Rattle.std.specs.Prelude.{◌≡◌, ◌≢◌, ◌⊎◌, ◌==◌, if◌then◌else◌, ℕ, suc, ◌+◌, ◌<◌, ◌≤◌, ◌^◌, true, List, length, get_or}
 use Rattle.atomic_table.specs.Table.{Me, Step}
 use Rattle.atomic_table.specs.Seated.{TableId}
 use Rattle.atomic_table.specs.declared.shared.Seat.{Seat}
 use Rattle.term_model.specs.declared.Head.{Head}
+use Rattle.term_model.specs.Tree.{Tree}
 use Rattle.lock_core.specs.declared.parts.Phase.TheVariants.{Shared}
 use Rattle.busy_forbidden.specs.declared.view.LockView.{LockView}
 use Rattle.busy_forbidden.specs.Exclusive.{IsGranted}
@@ -23,7 +24,9 @@ use Rattle.store_core.specs.Seats.{Where, looked, index, drawn}
 use Rattle.store_core.specs.Invariant.{span}
 use Rattle.store_core.specs.Steps.{IsAtRest}
 use Rattle.store_core.specs.ByView as by_view
+use Rattle.store_core.specs.ByView.{KnowsWord}
 use Rattle.node_rows.specs.declared.view.NodeView.{NodeView}
+use Rattle.node_rows.specs.Knowing.{KnowsTree, EndsAbsent}
 
 abbrev pub with_store : NodeView → View → NodeView
 with_store v x = record v { store = x }
@@ -117,6 +120,12 @@ pub record Known (z : Sizes) (v : View) : Type 0 where
   -- the rows that it may name in its access are rows
   pub got : v.stay ≢ Away → Each (λ r. r < z.rows) v.got
   pub protects : IsAtRest v → Each (λ r. r < z.rows) (protected_in v)
+  -- what it knows of rows: a word has one value, the first word is that of a head, and no two rows have the same tree
+  pub words : IsAtRest v → (r k m n : ℕ) → KnowsWord r k m v.knows → KnowsWord r k n v.knows → m ≡ n
+  pub heads : IsAtRest v → (r n : ℕ) → KnowsWord r 0 n v.knows → n ≤ 4294967298
+  pub trees : IsAtRest v → (r q : ℕ) (t : Tree) → KnowsTree v.knows r t → KnowsTree v.knows q t → r ≡ q
+  -- the only pass finds its chain without the row exactly where no row has its tree
+  pub absent : z.seats ≡ 1 → EndsAbsent v.entries v.call
 
 -- what a step tells: the own view that its action leaves, and what is then known
 abbrev pub goes_on : core.Step → Step (Unit {0}) → Me (Unit {0}) NodeView → ℕ → Me (Unit {0}) NodeView → Type 0
@@ -125,6 +134,10 @@ goes_on x st me n me' = (me' ≡ (with_store me.0 (moved_by x me.0.store n), me.
 -- the load of the base tells besides that it is at least the own base
 abbrev pub bases_on : Step (Unit {0}) → Me (Unit {0}) NodeView → ℕ → Me (Unit {0}) NodeView → Type 0
 bases_on st me n me' = goes_on LoadBase st me n me' × (me.0.store.base ≤ n)
+
+-- the load of a protected row tells besides that it is the one that the view has
+abbrev pub root_on : ℕ → Step (Unit {0}) → Me (Unit {0}) NodeView → ℕ → Me (Unit {0}) NodeView → Type 0
+root_on k st me n me' = goes_on (LoadRoot k) st me n me' × (n ≡ get_or me.0.store.roots k 0)
 
 abbrev pub over : Head → List ℕ → Content
 over f rs = record { head = f; arguments = rs }

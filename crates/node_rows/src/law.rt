@@ -18,7 +18,7 @@ ghost use Rattle.store_core.specs.StoreSteps.{lock_meant};
 ghost use Rattle.node_rows.specs.declared.view.NodeView.{NodeView};
 ghost use Rattle.node_rows.specs.Shown.{Shows, IsStoreStep, IsAway, lock_of, node_can, node_next, store_at, state_of};
 ghost use Rattle.node_rows.specs.Joining.{ShowsJoined, with_views};
-ghost use Rattle.node_rows.specs.Steps.{Acts, MayLoad, MayMake as MayCreate, over, place_of, written_by, moved_by, with_store};
+ghost use Rattle.node_rows.specs.Steps.{Acts, MayLoad, MayMake as MayCreate, MayStepOn, over, place_of, written_by, moved_by, with_store};
 
 use store_core::Sizes;
 
@@ -62,4 +62,7 @@ pub fn own_steps_are_in_place(about: &Sizes)
     ensures goes { (s : State (Unit {0}) NodeView) (rule : Shows about.now s) (i : ℕ) (v : NodeView)
         → get_elem? s.views i ≡ some v → IsCreation v.store.call
         → InPlace about.now (state_of about.now s.words s.views rule.lock.state) i Go }
+    ensures owns { (s : State (Unit {0}) NodeView) (rule : Shows about.now s) (i : ℕ) (v : NodeView) (x : Step) (k : ℕ)
+        → get_elem? s.views i ≡ some v → MayStepOn about.now i v x k
+        → InPlace about.now (state_of about.now s.words s.views rule.lock.state) i x }
 {}

@@ -8,6 +8,7 @@ mod law;
 mod make;
 mod places;
 mod reading;
+mod root_words;
 mod rule;
 mod steps;
 mod store;
@@ -26,8 +27,9 @@ pub use places::{
     next_word, row_word,
 };
 pub use reading::{load_root, read_argument, read_word, store_root, store_root_count};
+pub use root_words::{root_count_word, root_word};
 pub use rule::NodeRows;
 pub use steps::{begin, go_draw, go_load, go_publish, go_store, load_base, load_in_use};
 pub use store::{Last, Pass, Store};
-pub use told::{kept, last, tell_collect, tell_find, tell_make};
+pub use told::{kept, last, tell_collect};
 pub use view::{JoinedSeat, NodeView};

@@ -47,6 +47,7 @@ fn first_words(alloc: Global, sizes: &Sizes) -> Result<Vec<u64>, Memory>
 
 // A pass that has done nothing yet, with no mark.
 fn new_pass(seat: Seat<NodeRows>, rows: u32, marks: Marks) -> Pass
+    requires { seat.seat.me.0.store.root_count ≡ 0 }
     ensures seat { result.seat ≡ seat }
     ensures told { seat.seat.me.0.store ≡ newcomer seat.seat.me.0.sizes → seat.seat.me.0.sizes.rows ≡ rows
         → marks ≡ replicate rows false → Tells result }
@@ -55,6 +56,7 @@ fn new_pass(seat: Seat<NodeRows>, rows: u32, marks: Marks) -> Pass
         seat,
         base: 0,
         in_use: 0,
+        root_count: 0,
         rows,
         seen: 0,
         last: Last::Nothing,

@@ -31,12 +31,14 @@ pub enum Last {
     Collect(u64),
 }
 
-/// A seat of a store, with what its access has loaded, what it tells of its entries, and the room that a collection needs.
+/// A seat of a store, with what its access has loaded, how many rows it protects, what it tells of its entries, and the room that a collection needs.
 #[derive(Drop)]
 pub struct Pass {
     pub seat: Seat<NodeRows>,
     pub base: u64,
     pub in_use: u64,
+    /// How many rows it protects.
+    pub root_count: u32,
     /// How many rows the store has.
     pub rows: u32,
     /// The greatest number that the pass has seen.
@@ -44,6 +46,7 @@ pub struct Pass {
     pub last: Last,
     /// A mark for each row: those that the pass's last collection kept. A collection marks here what it reaches.
     pub marks: Marks,
+    ghost counted: { root_count ≡ seat.seat.me.0.store.root_count },
 }
 
 impl Store {

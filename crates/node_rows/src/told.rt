@@ -1,12 +1,10 @@
 //! What a pass tells of its own entries, as plain data.
 ghost use Rattle.std.specs.Prelude.{◌≡◌, ◌∷◌, ◌++◌, ◌↔◌, ◌<◌, ◌≤◌, ℕ, pred, List, [], false, length, IsTrue, Contains};
-ghost use Rattle.term_model.specs.declared.Head.{Head};
 ghost use Rattle.term_model.specs.declared.Row.{Row};
 ghost use Rattle.history_core.specs.declared.entry.Entry.{Entry};
 ghost use Rattle.mark_phase.specs.Reachable.{IsMarked};
 ghost use Rattle.history_core.specs.declared.entry.Entry.TheVariants as entry;
-ghost use Rattle.store_core.specs.declared.view.View.{View};
-ghost use Rattle.node_rows.specs.Told.{Tells, IsTold, last_in, kept_in};
+ghost use Rattle.node_rows.specs.Told.{Tells, last_in, kept_in};
 
 use crate::store::{Last, Pass};
 use term_model::Row;
@@ -26,28 +24,6 @@ pub fn kept(pass: &Pass, row: Row) -> bool
     ensures beyond { pass.now.rows ≤ row.0 → result ≡ false }
 {
     row.0 < pass.rows && pass.marks.has(row)
-}
-
-/// Keeps as plain data that the pass has just noted a Make with this number.
-pub fn tell_make(pass: &mut Pass, number: u64)
-    ensures seat { (pass.new.seat ≡ pass.old.seat) × (pass.new.base ≡ pass.old.base) × (pass.new.in_use ≡ pass.old.in_use) }
-    ensures told { (v : View) (f : Head) (rs : List ℕ) (r : ℕ) → IsTold v pass.old.rows pass.old.seen pass.old.last pass.old.marks
-        → pass.old.seat.seat.me.0.store.entries ≡ v.entries ++ entry.Make number f rs r ∷ []
-        → number ≡ pass.old.seat.seat.me.0.store.seen → Tells pass.new }
-{
-    pass.seen = number;
-    pass.last = Last::Make(number);
-}
-
-/// Keeps as plain data that the pass has just noted a Find after this number.
-pub fn tell_find(pass: &mut Pass, after: u64)
-    ensures seat { (pass.new.seat ≡ pass.old.seat) × (pass.new.base ≡ pass.old.base) × (pass.new.in_use ≡ pass.old.in_use) }
-    ensures told { (v : View) (f : Head) (rs : List ℕ) (r : ℕ) → IsTold v pass.old.rows pass.old.seen pass.old.last pass.old.marks
-        → pass.old.seat.seat.me.0.store.entries ≡ v.entries ++ entry.Find after f rs r ∷ []
-        → after ≡ pass.old.seat.seat.me.0.store.seen → Tells pass.new }
-{
-    pass.seen = after;
-    pass.last = Last::Find(after);
 }
 
 /// Keeps as plain data that the pass has just ended a collection, which stored this base and this number of buckets in use: its

@@ -1,2 +1,4 @@
 pub mod Whole
 pub mod Told
+pub mod Costs
+pub mod Reading

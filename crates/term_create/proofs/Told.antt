@@ -1,24 +1,34 @@
 -- What a whole creation tells.
-use Rattle.std.proofs.Common.{◌≡◌, ◌⊎◌, ℕ, Result, Ok, Err, List, [], ⊎_elim, inl, inr, sym, subst}
-use Rattle.std.specs.Prelude.{MatchResult, IfOk, IfErr, max}
+use Rattle.std.proofs.Common.{◌≡◌, ◌⊎◌, ℕ, Bool, Result, Ok, Err, List, [], ◌∷◌, ◌++◌, max, ⊎_elim, inl, inr, sym, ap, ◌∙◌, subst}
+use Rattle.std.specs.Prelude.{MatchResult, IfOk, IfErr}
 use Rattle.term_model.specs.declared.Head.{Head}
+use Rattle.history_core.specs.declared.entry.Entry.TheVariants as entry
 use Rattle.store_core.specs.declared.view.Call.{Call}
+use Rattle.store_core.specs.declared.view.Call.TheVariants.{Idle}
+use Rattle.store_core.specs.declared.view.Passed.{Passed}
+use Rattle.store_core.specs.declared.view.View.{View}
 use Rattle.store_core.specs.Machine.{with_call, with_path}
 use Rattle.node_rows.specs.declared.view.NodeView.{NodeView}
+use Rattle.node_rows.specs.declared.store.Last.{Last}
+use Rattle.node_rows.specs.declared.store.Last.TheVariants as last
 use Rattle.node_rows.specs.Steps.{with_store, over}
-use Rattle.term_create.specs.Stage.{Finds, Makes, IsRefused}
+use Rattle.node_rows.specs.Told.{IsTold}
+use Rattle.node_rows.specs.declared.store.Pass.{Pass}
+use Rattle.node_rows.proofs.Tellings.{told_made, told_found, told_on}
+use Rattle.term_create.specs.declared.asked.Noted.{Noted}
+use Rattle.term_create.specs.declared.asked.Noted.TheVariants.{Made, Found}
+use Rattle.term_create.specs.Stage.{Finds, Makes, Notes, IsRefused, row_of, at_walk}
+use Rattle.term_create.specs.Ended.{Ends, SamePlain}
 use Rattle.term_create.specs.Created.{NotesOne, Gets, KeepsCause, GetsNone, KeepsRest}
-use Rattle.term_create.proofs.Whole.{at_begin, made_notes, found_notes, made_gets, found_gets, made_rest, found_rest, made_only, found_only, refused_cause, refused_none, refused_rest, refused_only}
+use Rattle.term_create.proofs.Whole.{at_begin, max_less, made_notes, found_notes, made_gets, found_gets, made_rest, found_rest, made_only, found_only, refused_cause, refused_none, refused_rest, refused_only}
 
 -- how a creation that has begun ends
-abbrev pub Ends : {E : Type 0} → NodeView → NodeView → NodeView → Head → List ℕ → Result ℕ E → Type 0
-Ends v m w f rs r = MatchResult r (λ row. Makes v w f rs row ⊎ Finds v w f rs row) (λ _. IsRefused m w (over f rs))
+abbrev pub EndsNoted : {E : Type 0} → NodeView → NodeView → NodeView → Head → List ℕ → Result Noted E → Type 0
+EndsNoted v m w f rs r = MatchResult r (Notes v w f rs) (λ _. IsRefused m w (over f rs))
 
-begin_makes : (v w : NodeView) (f : Head) (rs : List ℕ) (x : Call) (r : ℕ) → Makes (with_store v (with_call (with_path v.store 0 []) x)) w f rs r → Makes v w f rs r
-begin_makes v w f rs x r h = record { passed = h.passed; path = h.path; number = h.number; later = h.later; view = h.view }
-
-begin_finds : (v w : NodeView) (f : Head) (rs : List ℕ) (x : Call) (r : ℕ) → Finds (with_store v (with_call (with_path v.store 0 []) x)) w f rs r → Finds v w f rs r
-begin_finds v w f rs x r h = record { passed = h.passed; path = h.path; birth = h.birth; view = h.view }
+begin_notes : (v w : NodeView) (f : Head) (rs : List ℕ) (x : Call) (n : Noted) → Notes (with_store v (with_call (with_path v.store 0 []) x)) w f rs n → Notes v w f rs n
+begin_notes v w f rs x (Made r n) h = record { passed = h.passed; path = h.path; later = h.later; view = h.view }
+begin_notes v w f rs x (Found r n) h = record { passed = h.passed; path = h.path; view = h.view }
 
 begin_refused : (v w : NodeView) (f : Head) (rs : List ℕ) (x : Call) → IsRefused (with_store v (with_call (with_path v.store 0 []) x)) w (over f rs) → IsRefused (at_begin v) w (over f rs)
 begin_refused v w f rs x h = record {
@@ -29,32 +39,73 @@ begin_refused v w f rs x h = record {
   full = record { claim = h.full.claim; count = h.full.count; full = h.full.full; view = h.full.view };
 }
 
+-- a creation that has come so far ends as it does from its begin on
+pub notes_on : (v u w : NodeView) (p : ℕ) (ps : List Passed) (x : Call) (f : Head) (rs : List ℕ) (n : Noted) → u ≡ at_walk v p ps x → Notes u w f rs n → Notes v w f rs n
+notes_on v u w p ps x f rs (Made r k) e h =
+    let t = subst (λ (q : NodeView). Makes q w f rs r k) e h in
+    record { passed = t.passed; path = t.path; later = t.later; view = t.view }
+notes_on v u w p ps x f rs (Found r k) e h =
+    let t = subst (λ (q : NodeView). Finds q w f rs r k) e h in
+    record { passed = t.passed; path = t.path; view = t.view }
+
 -- with its first step
-pub ends_whole : {E : Type 0} → (v m w : NodeView) (f : Head) (rs : List ℕ) (x : Call) (r : Result ℕ E) → m ≡ with_store v (with_call (with_path v.store 0 []) x) → Ends m m w f rs r → Ends v (at_begin v) w f rs r
-ends_whole v m w f rs x (Ok row) e h = ⊎_elim (λ t. inl (begin_makes v w f rs x row (subst (λ (u : NodeView). Makes u w f rs row) e t))) (λ t. inr (begin_finds v w f rs x row (subst (λ (u : NodeView). Finds u w f rs row) e t))) h
+pub ends_whole : {E : Type 0} → (v m w : NodeView) (f : Head) (rs : List ℕ) (x : Call) (r : Result Noted E) → m ≡ with_store v (with_call (with_path v.store 0 []) x) → EndsNoted m m w f rs r → EndsNoted v (at_begin v) w f rs r
+ends_whole v m w f rs x (Ok n) e h = begin_notes v w f rs x n (subst (λ (u : NodeView). Notes u w f rs n) e h)
 ends_whole v m w f rs x (Err full) e h = begin_refused v w f rs x (subst (λ (u : NodeView). IsRefused u w (over f rs)) e h)
 
+-- the row of it
+pub noted_ends : (v w : NodeView) (f : Head) (rs : List ℕ) (n : Noted) (row : ℕ) → row ≡ row_of n → Notes v w f rs n → (k : ℕ) × (Makes v w f rs row k ⊎ Finds v w f rs row k)
+noted_ends v w f rs (Made r k) row e h = (k, inl (subst (λ (q : ℕ). Makes v w f rs q k) (sym e) h))
+noted_ends v w f rs (Found r k) row e h = (k, inr (subst (λ (q : ℕ). Finds v w f rs q k) (sym e) h))
+
+-- what the pass then tells
+pub made_tells : (v w : NodeView) (f : Head) (rs : List ℕ) (r number rows seen : ℕ) (x : Last) (marks : List Bool) → IsTold v.store rows seen x marks → Makes v w f rs r number → IsTold w.store rows number (last.Make number) marks
+made_tells v w f rs r number rows seen x marks told h =
+    told_made v.store w.store rows seen x marks number f rs r told (ap (λ (u : NodeView). u.store.entries) h.view)
+    (sym (ap (λ (u : NodeView). u.store.seen) h.view ∙ max_less v.store.seen number h.later))
+
+pub found_tells : (v w : NodeView) (f : Head) (rs : List ℕ) (r birth rows seen after : ℕ) (x : Last) (marks : List Bool) → IsTold v.store rows seen x marks → after ≡ max seen birth → Finds v w f rs r birth → IsTold w.store rows after (last.Find after) marks
+found_tells v w f rs r birth rows seen after x marks told e h =
+    let is : after ≡ max v.store.seen birth = e ∙ ap (λ (n : ℕ). max n birth) told.seen_is in
+    told_found v.store w.store rows seen x marks after f rs r told
+    (ap (λ (u : NodeView). u.store.entries) h.view ∙ ap (λ (n : ℕ). v.store.entries ++ entry.Find n f rs r ∷ []) (sym is))
+    (is ∙ sym (ap (λ (u : NodeView). u.store.seen) h.view))
+
+-- nothing was noted
+pub refused_tells : (v w : NodeView) (f : Head) (rs : List ℕ) (rows seen : ℕ) (x : Last) (marks : List Bool) → IsTold v.store rows seen x marks → IsRefused (at_begin v) w (over f rs) → IsTold w.store rows seen x marks
+refused_tells v w f rs rows seen x marks told h =
+    let none = refused_none v w f rs h in
+    told_on v.store w.store rows seen x marks none.entries none.seen told
+
+-- the same plain data tell the same
+pub plain_tells : (v : View) (p q : Pass) → SamePlain p q → IsTold v p.rows p.seen p.last p.marks → IsTold v q.rows q.seen q.last q.marks
+plain_tells v p q same told = subst (λ (t : ℕ × ℕ × Last × List Bool). IsTold v t.0 t.1 t.2 t.3) (λ k. (sym same.rows k, sym same.seen k, sym same.last k, sym same.marks k)) told
+
 module _ {E : Type 0} (v w : NodeView) (f : Head) (rs : List ℕ) where
-  pub ends_notes : (r : Result ℕ E) → Ends v (at_begin v) w f rs r → IfOk r (λ row. NotesOne v.store w.store f rs row)
-  ends_notes (Ok row) h = ⊎_elim (made_notes v w f rs row) (found_notes v w f rs row) h
+  pub ends_notes : (r : Result ℕ E) → Ends v w f rs r → IfOk r (λ row. NotesOne v.store w.store f rs row)
+  ends_notes (Ok row) h = ⊎_elim (made_notes v w f rs row h.0) (found_notes v w f rs row h.0) h.1
   ends_notes (Err full) h = tt
 
-  pub ends_gets : (r : Result ℕ E) → Ends v (at_begin v) w f rs r → IfOk r (λ row. Gets v.store w.store f rs row)
-  ends_gets (Ok row) h = ⊎_elim (made_gets v w f rs row) (found_gets v w f rs row) h
+  pub ends_gets : (r : Result ℕ E) → Ends v w f rs r → IfOk r (λ row. Gets v.store w.store f rs row)
+  ends_gets (Ok row) h = ⊎_elim (made_gets v w f rs row h.0) (found_gets v w f rs row h.0) h.1
   ends_gets (Err full) h = tt
 
-  pub ends_cause : (r : Result ℕ E) → Ends v (at_begin v) w f rs r → IfErr r (λ _. KeepsCause v.store w.store f rs)
+  pub ends_cause : (r : Result ℕ E) → Ends v w f rs r → IfErr r (λ _. KeepsCause v.store w.store f rs)
   ends_cause (Ok row) h = tt
   ends_cause (Err full) h = refused_cause v w f rs h
 
-  pub ends_none : (r : Result ℕ E) → Ends v (at_begin v) w f rs r → IfErr r (λ _. GetsNone v.store w.store)
+  pub ends_none : (r : Result ℕ E) → Ends v w f rs r → IfErr r (λ _. GetsNone v.store w.store)
   ends_none (Ok row) h = tt
   ends_none (Err full) h = refused_none v w f rs h
 
-  pub ends_rest : (r : Result ℕ E) → Ends v (at_begin v) w f rs r → KeepsRest v.store w.store
-  ends_rest (Ok row) h = ⊎_elim (made_rest v w f rs row) (found_rest v w f rs row) h
+  pub ends_rest : (r : Result ℕ E) → Ends v w f rs r → KeepsRest v.store w.store
+  ends_rest (Ok row) h = ⊎_elim (made_rest v w f rs row h.0) (found_rest v w f rs row h.0) h.1
   ends_rest (Err full) h = refused_rest v w f rs h
 
-  pub ends_only : (r : Result ℕ E) → Ends v (at_begin v) w f rs r → w ≡ with_store v w.store
-  ends_only (Ok row) h = ⊎_elim (made_only v w f rs row) (found_only v w f rs row) h
+  pub ends_idle : (r : Result ℕ E) → Ends v w f rs r → w.store.call ≡ Idle
+  ends_idle (Ok row) h = ⊎_elim (λ (t : Makes v w f rs row h.0). ap (λ (u : NodeView). u.store.call) t.view) (λ (t : Finds v w f rs row h.0). ap (λ (u : NodeView). u.store.call) t.view) h.1
+  ends_idle (Err full) h = ⊎_elim (λ e. ap (λ (u : NodeView). u.store.call) e) (λ e. ap (λ (u : NodeView). u.store.call) e) h.full.view
+
+  pub ends_only : (r : Result ℕ E) → Ends v w f rs r → w ≡ with_store v w.store
+  ends_only (Ok row) h = ⊎_elim (made_only v w f rs row h.0) (found_only v w f rs row h.0) h.1
   ends_only (Err full) h = refused_only v w f rs h

@@ -19,7 +19,8 @@ use Rattle.store_core.proofs.Basics.{choose}
 use Rattle.node_rows.specs.declared.view.NodeView.{NodeView}
 use Rattle.node_rows.specs.Steps.{with_store, over, Known, Few}
 use Rattle.atomic_table.specs.declared.shared.Seat.{Seat}
-use Rattle.term_create.specs.Stage.{SameSeat, Fits, at_call, at_walk, HasWalked, HasPassed, GoesOn, IsOther, Finds, Makes, IsFull, IsRefused, Relinks}
+use Rattle.term_create.specs.Fitting.{Fits}
+use Rattle.term_create.specs.Stage.{SameSeat, at_call, at_walk, HasWalked, HasPassed, GoesOn, IsOther, Finds, Makes, IsFull, IsRefused, Relinks}
 use Rattle.history_core.specs.declared.entry.Entry.TheVariants.{Make, Find}
 use Rattle.term_create.specs.Created.{NotesOne, Gets, KeepsCause, GetsNone, KeepsRest}
 
@@ -133,32 +134,32 @@ refused_after v m w c from h full = record {
   };
 }
 
-max_less : (a b : ℕ) → a < b → max a b ≡ b
+pub max_less : (a b : ℕ) → a < b → max a b ≡ b
 max_less a b l = omega arith
 
 max_not_less : (a b : ℕ) → a ≤ max a b
 max_not_less a b = omega arith
 
 -- what a creation with a row leaves
-pub made_notes : (v w : NodeView) (f : Head) (rs : List ℕ) (r : ℕ) → Makes v w f rs r → NotesOne v.store w.store f rs r
-made_notes v w f rs r h = subst (λ (u : NodeView). NotesOne v.store u.store f rs r) (sym h.view)
-    (let e = max_less v.store.seen h.number h.later in
-    inl (let l = h.later in (let m : v.store.seen < max v.store.seen h.number = omega arith in m), ap (λ (n : ℕ). v.store.entries ++ Make n f rs r ∷ []) (sym e)))
+pub made_notes : (v w : NodeView) (f : Head) (rs : List ℕ) (r n : ℕ) → Makes v w f rs r n → NotesOne v.store w.store f rs r
+made_notes v w f rs r n h = subst (λ (u : NodeView). NotesOne v.store u.store f rs r) (sym h.view)
+    (let e = max_less v.store.seen n h.later in
+    inl (let l = h.later in (let m : v.store.seen < max v.store.seen n = omega arith in m), ap (λ (k : ℕ). v.store.entries ++ Make k f rs r ∷ []) (sym e)))
 
-pub found_notes : (v w : NodeView) (f : Head) (rs : List ℕ) (r : ℕ) → Finds v w f rs r → NotesOne v.store w.store f rs r
-found_notes v w f rs r h = subst (λ (u : NodeView). NotesOne v.store u.store f rs r) (sym h.view) (inr (max_not_less v.store.seen h.birth, refl))
+pub found_notes : (v w : NodeView) (f : Head) (rs : List ℕ) (r n : ℕ) → Finds v w f rs r n → NotesOne v.store w.store f rs r
+found_notes v w f rs r n h = subst (λ (u : NodeView). NotesOne v.store u.store f rs r) (sym h.view) (inr (max_not_less v.store.seen n, refl))
 
-pub made_gets : (v w : NodeView) (f : Head) (rs : List ℕ) (r : ℕ) → Makes v w f rs r → Gets v.store w.store f rs r
-made_gets v w f rs r h = subst (λ (u : NodeView). Gets v.store u.store f rs r) (sym h.view) record { got = refl; knows = refl; refused = refl; overdraw = refl }
+pub made_gets : (v w : NodeView) (f : Head) (rs : List ℕ) (r n : ℕ) → Makes v w f rs r n → Gets v.store w.store f rs r
+made_gets v w f rs r n h = subst (λ (u : NodeView). Gets v.store u.store f rs r) (sym h.view) record { got = refl; knows = refl; refused = refl; overdraw = refl }
 
-pub found_gets : (v w : NodeView) (f : Head) (rs : List ℕ) (r : ℕ) → Finds v w f rs r → Gets v.store w.store f rs r
-found_gets v w f rs r h = subst (λ (u : NodeView). Gets v.store u.store f rs r) (sym h.view) record { got = refl; knows = refl; refused = refl; overdraw = refl }
+pub found_gets : (v w : NodeView) (f : Head) (rs : List ℕ) (r n : ℕ) → Finds v w f rs r n → Gets v.store w.store f rs r
+found_gets v w f rs r n h = subst (λ (u : NodeView). Gets v.store u.store f rs r) (sym h.view) record { got = refl; knows = refl; refused = refl; overdraw = refl }
 
-pub made_rest : (v w : NodeView) (f : Head) (rs : List ℕ) (r : ℕ) → Makes v w f rs r → KeepsRest v.store w.store
-made_rest v w f rs r h = subst (λ (u : NodeView). KeepsRest v.store u.store) (sym h.view) record { stay = refl; base = refl; in_use = refl; fresh = refl; roots = refl; root_count = refl }
+pub made_rest : (v w : NodeView) (f : Head) (rs : List ℕ) (r n : ℕ) → Makes v w f rs r n → KeepsRest v.store w.store
+made_rest v w f rs r n h = subst (λ (u : NodeView). KeepsRest v.store u.store) (sym h.view) record { stay = refl; base = refl; in_use = refl; fresh = refl; roots = refl; root_count = refl }
 
-pub found_rest : (v w : NodeView) (f : Head) (rs : List ℕ) (r : ℕ) → Finds v w f rs r → KeepsRest v.store w.store
-found_rest v w f rs r h = subst (λ (u : NodeView). KeepsRest v.store u.store) (sym h.view) record { stay = refl; base = refl; in_use = refl; fresh = refl; roots = refl; root_count = refl }
+pub found_rest : (v w : NodeView) (f : Head) (rs : List ℕ) (r n : ℕ) → Finds v w f rs r n → KeepsRest v.store w.store
+found_rest v w f rs r n h = subst (λ (u : NodeView). KeepsRest v.store u.store) (sym h.view) record { stay = refl; base = refl; in_use = refl; fresh = refl; roots = refl; root_count = refl }
 
 -- the view v, at the begin of a creation
 abbrev pub at_begin : NodeView → NodeView
@@ -187,11 +188,11 @@ refused_rest v w f rs h = ⊎_elim
     (λ e. subst (λ (u : NodeView). KeepsRest v.store u.store) (sym e) record { stay = refl; base = refl; in_use = refl; fresh = refl; roots = refl; root_count = refl }) h.full.view
 
 -- past the store nothing of the view has changed
-pub made_only : (v w : NodeView) (f : Head) (rs : List ℕ) (r : ℕ) → Makes v w f rs r → w ≡ with_store v w.store
-made_only v w f rs r h = subst (λ (u : NodeView). u ≡ with_store v u.store) (sym h.view) refl
+pub made_only : (v w : NodeView) (f : Head) (rs : List ℕ) (r n : ℕ) → Makes v w f rs r n → w ≡ with_store v w.store
+made_only v w f rs r n h = subst (λ (u : NodeView). u ≡ with_store v u.store) (sym h.view) refl
 
-pub found_only : (v w : NodeView) (f : Head) (rs : List ℕ) (r : ℕ) → Finds v w f rs r → w ≡ with_store v w.store
-found_only v w f rs r h = subst (λ (u : NodeView). u ≡ with_store v u.store) (sym h.view) refl
+pub found_only : (v w : NodeView) (f : Head) (rs : List ℕ) (r n : ℕ) → Finds v w f rs r n → w ≡ with_store v w.store
+found_only v w f rs r n h = subst (λ (u : NodeView). u ≡ with_store v u.store) (sym h.view) refl
 
 pub refused_only : (v w : NodeView) (f : Head) (rs : List ℕ) → IsRefused (at_begin v) w (over f rs) → w ≡ with_store v w.store
 refused_only v w f rs h = ⊎_elim (λ e. subst (λ (u : NodeView). u ≡ with_store v u.store) (sym e) refl) (λ e. subst (λ (u : NodeView). u ≡ with_store v u.store) (sym e) refl) h.full.view

@@ -1,39 +1,42 @@
 -- The stages of a creation, as they show in the own view.
-use Rattle.std.specs.Prelude.{◌≡◌, ◌≢◌, ◌⊎◌, ◌==◌, if◌then◌else◌, ℕ, suc, pred, max, ◌<◌, ◌≤◌, ◌+◌, ◌^◌, Option, List, [], ◌∷◌, ◌++◌, length}
-use Rattle.atomic_table.specs.Seated.{TableId}
+use Rattle.std.specs.Prelude.{◌≡◌, ◌≢◌, ◌⊎◌, ◌==◌, if◌then◌else◌, ℕ, suc, pred, max, ◌<◌, ◌≤◌, ◌+◌, Option, List, [], ◌∷◌, ◌++◌, length}
 use Rattle.atomic_table.specs.declared.shared.Seat.{Seat}
 use Rattle.term_model.specs.declared.Head.{Head}
 use Rattle.history_core.specs.declared.entry.Entry.TheVariants.{Make, Find}
-use Rattle.store_core.specs.declared.view.Sizes.{Sizes}
 use Rattle.store_core.specs.declared.view.View.{View}
 use Rattle.store_core.specs.declared.view.Content.{Content}
 use Rattle.store_core.specs.declared.view.Passed.{Passed}
 use Rattle.store_core.specs.declared.view.Call.{Call}
 use Rattle.store_core.specs.declared.view.Call.TheVariants.{Comparing, Passing, Finding, Filling, Numbering}
-use Rattle.store_core.specs.Calls.{words_of}
-use Rattle.store_core.specs.Machine.{with_call, with_path, passing, gained, refusing, overdrawn, arrived, widest}
-use Rattle.store_core.specs.Shown.{total}
+use Rattle.store_core.specs.Calls.{words_of, bucket}
+use Rattle.store_core.specs.Machine.{with_call, with_path, passing, gained, refusing, overdrawn, arrived}
 use Rattle.store_core.specs.Reads.{Differs, PathTo}
 use Rattle.busy_forbidden.specs.Calls.{IsSame}
 use Rattle.node_rows.specs.declared.view.NodeView.{NodeView}
+use Rattle.term_create.specs.declared.asked.Asked.{Asked}
+use Rattle.term_create.specs.declared.asked.Noted.{Noted}
+use Rattle.term_create.specs.declared.asked.Noted.TheVariants.{Made, Found}
 use Rattle.node_rows.specs.Steps.{IsOf, Known, with_store, over}
 
--- the seat is one of this store, and what its view says by itself holds
-pub record IsAt (t : TableId) (key z : Sizes) (seat : Seat (Unit {0}) NodeView) : Type 0 where
-  pub of : IsOf t key seat
-  pub told : key ≡ z
-  pub small : total z < 2 ^ 62
-  pub known : Known z seat.me.0.store
+-- what is asked
+abbrev pub content : Asked → Content
+content a = over a.head a.args.now
+
+-- the seat is one of the store, and what its view says by itself holds
+pub record IsAt (a : Asked) (seat : Seat (Unit {0}) NodeView) : Type 0 where
+  pub of : IsOf a.store.now.table.shared.table_id a.store.now.table.shared.key seat
+  pub known : Known a.store.now.sizes seat.me.0.store
+
+-- it is at the base, and has the bucket, that are told
+pub record IsBased (a : Asked) (v : View) : Type 0 where
+  pub base : a.base ≡ v.base
+  pub place : a.place ≡ bucket (content a) v.in_use
 
 -- the same seat of the same store
 pub record SameSeat (a b : Seat (Unit {0}) NodeView) (i j m n : ℕ) : Type 0 where
   pub same : IsSame a b
   pub number : j ≡ i
   pub seats : n ≡ m
-
--- a row has room for the words of a head over rows
-abbrev pub Fits : Sizes → Head → List ℕ → Type 0
-Fits z f rs = length (words_of (over f rs)) ≤ widest z + 2
 
 -- the view v with this call
 abbrev pub at_call : NodeView → Call → NodeView
@@ -87,20 +90,27 @@ pub record Relinks (v w : NodeView) (x : Call) : Type 0 where
   pub more : v.store.passed < passed
   pub view : w ≡ at_walk v passed path x
 
--- the walk has found the row, and noted it
-pub record Finds (v w : NodeView) (f : Head) (rs : List ℕ) (r : ℕ) : Type 0 where
+-- the walk has found the row, with this birth number, and noted it
+pub record Finds (v w : NodeView) (f : Head) (rs : List ℕ) (r birth : ℕ) : Type 0 where
   pub passed : ℕ
   pub path : List Passed
-  pub birth : ℕ
   pub view : w ≡ with_store v (gained (with_path v.store passed path) (over f rs) r birth (Find (max v.store.seen birth) f rs r))
 
--- the row was made, and that was noted
-pub record Makes (v w : NodeView) (f : Head) (rs : List ℕ) (r : ℕ) : Type 0 where
+-- the row was made, with this number, and that was noted
+pub record Makes (v w : NodeView) (f : Head) (rs : List ℕ) (r number : ℕ) : Type 0 where
   pub passed : ℕ
   pub path : List Passed
-  pub number : ℕ
   pub later : v.store.seen < number
   pub view : w ≡ with_store v (gained (with_path v.store passed path) (over f rs) r number (Make number f rs r))
+
+-- one of both
+abbrev pub Notes : NodeView → NodeView → Head → List ℕ → Noted → Type 0
+Notes v w f rs (Made r number) = Makes v w f rs r number
+Notes v w f rs (Found r birth) = Finds v w f rs r birth
+
+abbrev pub row_of : Noted → ℕ
+row_of (Made r number) = r
+row_of (Found r birth) = r
 
 -- a step of the call read the claim, or drew a number, of at least the free count, after the whole chain from the head `from`
 pub record IsFull (v w : NodeView) (c : Content) (from : ℕ) : Type 0 where

@@ -1,11 +1,18 @@
-//! Creations on a running store: a head over rows, shared with all other passes.
+//! Creations on a running store: a head over rows, shared with all other passes; and reads of the rows.
 #![tactic(auto)]
 
+mod asked;
+mod counting;
 mod creating;
+mod places;
+mod reads;
 mod stages;
+mod telling;
 #[cfg(test)]
 mod tests;
 mod walking;
 mod words;
 
-pub use creating::{Full, create};
+pub use counting::Steps;
+pub use creating::{Full, create, create_counted};
+pub use reads::{child_of, count_of, head_of};

@@ -2,250 +2,278 @@
 ghost use Rattle.std.specs.Prelude.{◌≡◌, ◌≢◌, ◌<◌, ◌+◌, ◌==◌, if◌then◌else◌, IfNone, IfSome, get_or, length, max, nat_lt, Some};
 ghost use Rattle.history_core.specs.declared.entry.Entry.TheVariants.{Make, Find};
 ghost use Rattle.store_core.specs.declared.view.Call.TheVariants.{Comparing, Passing, Finding, Ended, Counting, Drawing, Placing, Filling, Numbering, Linking, Publishing};
-ghost use Rattle.store_core.specs.Calls.{words_of, bucket};
+ghost use Rattle.store_core.specs.Calls.{words_of};
 ghost use Rattle.store_core.specs.Machine.{arrived, filled, gained, refusing, overdrawn, with_call};
-ghost use Rattle.node_rows.specs.Steps.{over, with_store};
-ghost use Rattle.term_create.specs.Stage.{IsAt, SameSeat, Fits, IsOther, GoesOn, at_call, stage};
+ghost use Rattle.node_rows.specs.Steps.{with_store};
+ghost use Rattle.term_create.specs.Stage.{IsAt, IsBased, SameSeat, IsOther, GoesOn, content, at_call, stage};
 
+use crate::asked::{Asked, Drawn, Walk};
+use crate::counting::Steps;
+use crate::places::{birth_place, next_place, word_place};
 use crate::words::word_at;
-use busy_forbidden::{Seat, Table};
+use busy_forbidden::Seat;
 use node_rows::{
-    NodeRows, birth_word, bucket_word, claim_word, free_count_word, free_place_word, go_draw,
-    go_load, go_publish, go_store, next_word, row_word,
+    NodeRows, bucket_word, claim_word, free_count_word, free_place_word, go_draw, go_load,
+    go_publish, go_store,
 };
-use store_core::Sizes;
-use term_model::Head;
+use std::sync::ledger::Ledger;
 
 // Compares word k of the row that the walk is at: the word there, where it differs.
-pub(crate) fn compare_one(
-    table: &Table<NodeRows>,
-    sizes: &Sizes,
+#[inline(always)]
+pub(crate) fn compare_one<L: Ledger>(
+    asked: &Asked<'_>,
     seat: &mut Seat<NodeRows>,
-    head: Head,
-    args: &[u64],
-    drawn: Option<(u64, u64)>,
-    from: u64,
-    old: u64,
+    steps: &mut Steps<L>,
+    walk: Walk,
     at: u64,
     k: usize,
 ) -> Option<u64>
-    requires seat { IsAt table.now.shared.table_id table.now.shared.key sizes.now seat.old.seat }
-    requires fits { Fits sizes.now head args.now }
-    requires below { k < length (words_of (over head args.now)) }
-    requires stage { seat.old.seat.me.0.store.call ≡ Comparing (over head args.now) drawn from old at k }
-    ensures seat { IsAt table.now.shared.table_id table.now.shared.key sizes.now seat.new.seat }
-    ensures same { SameSeat seat.old.seat seat.new.seat seat.old.number seat.new.number seat.old.seats seat.new.seats }
-    ensures equal { IfNone result (seat.new.seat.me.0 ≡ at_call seat.old.seat.me.0 (stage (over head args.now) drawn from old at (k + 1))) }
-    ensures other { IfSome result (λ n. (n ≢ get_or (words_of (over head args.now)) k 0)
-        × (seat.new.seat.me.0 ≡ at_call seat.old.seat.me.0 (Passing (over head args.now) drawn from old at (k, n)))) }
+    requires at { IsAt asked.now seat.old.seat }
+    requires below { k < length (words_of (content asked.now)) }
+    requires stage { seat.old.seat.me.0.store.call ≡ Comparing (content asked.now) walk.drawn walk.from walk.old at k }
+    ensures at { IsAt asked.now seat.new.seat }
+    ensures same { SameSeat seat.old.seat seat.new.seat
+        seat.old.number seat.new.number seat.old.seats seat.new.seats }
+    ensures equal { IfNone result (seat.new.seat.me.0 ≡ at_call seat.old.seat.me.0 (stage (content asked.now) walk.drawn walk.from walk.old at (k + 1))) }
+    ensures other { IfSome result (λ n. (n ≢ get_or (words_of (content asked.now)) k 0)
+        × (seat.new.seat.me.0 ≡ at_call seat.old.seat.me.0 (Passing (content asked.now) walk.drawn walk.from walk.old at (k, n)))) }
+    ensures tick { steps.new ≡ steps.old + 1 }
 {
-    let found = go_load(table, seat, row_word(sizes, at - 1, k));
-    if found == word_at(head, args, k) {
+    steps.tick();
+    let found = go_load(&asked.store.table, seat, word_place(asked, at - 1, k));
+    if found == word_at(asked.head, asked.args, k) {
         return None;
     }
     Some(found)
 }
 
 // Goes on to the next row, after one that differs in a word.
-pub(crate) fn pass_on(
-    table: &Table<NodeRows>,
-    sizes: &Sizes,
+#[inline(always)]
+pub(crate) fn pass_on<L: Ledger>(
+    asked: &Asked<'_>,
     seat: &mut Seat<NodeRows>,
-    head: Head,
-    args: &[u64],
-    drawn: Option<(u64, u64)>,
-    from: u64,
-    old: u64,
+    steps: &mut Steps<L>,
+    walk: Walk,
     at: u64,
 ) -> u64
-    requires seat { IsAt table.now.shared.table_id table.now.shared.key sizes.now seat.old.seat }
-    requires stage { IsOther seat.old.seat.me.0 seat.old.seat.me.0 (over head args.now) drawn from old at }
-    ensures seat { IsAt table.now.shared.table_id table.now.shared.key sizes.now seat.new.seat }
-    ensures same { SameSeat seat.old.seat seat.new.seat seat.old.number seat.new.number seat.old.seats seat.new.seats }
-    ensures view { GoesOn seat.old.seat.me.0 seat.new.seat.me.0 (over head args.now) drawn from old at result }
+    requires at { IsAt asked.now seat.old.seat }
+    requires stage { IsOther seat.old.seat.me.0 seat.old.seat.me.0 (content asked.now) walk.drawn walk.from walk.old at }
+    ensures at { IsAt asked.now seat.new.seat }
+    ensures same { SameSeat seat.old.seat seat.new.seat
+        seat.old.number seat.new.number seat.old.seats seat.new.seats }
+    ensures view { GoesOn seat.old.seat.me.0 seat.new.seat.me.0 (content asked.now) walk.drawn walk.from walk.old at result }
+    ensures tick { steps.new ≡ steps.old + 1 }
 {
-    go_load(table, seat, next_word(sizes, at - 1))
+    steps.tick();
+    go_load(&asked.store.table, seat, next_place(asked, at - 1))
 }
 
 // Notes the row that is the same, with its birth number.
-pub(crate) fn find(
-    table: &Table<NodeRows>,
-    sizes: &Sizes,
+#[inline(always)]
+pub(crate) fn find<L: Ledger>(
+    asked: &Asked<'_>,
     seat: &mut Seat<NodeRows>,
-    head: Head,
-    args: &[u64],
-    drawn: Option<(u64, u64)>,
+    steps: &mut Steps<L>,
+    walk: Walk,
     row: u64,
 ) -> u64
-    requires seat { IsAt table.now.shared.table_id table.now.shared.key sizes.now seat.old.seat }
-    requires stage { seat.old.seat.me.0.store.call ≡ Finding (over head args.now) drawn row }
-    ensures seat { IsAt table.now.shared.table_id table.now.shared.key sizes.now seat.new.seat }
-    ensures same { SameSeat seat.old.seat seat.new.seat seat.old.number seat.new.number seat.old.seats seat.new.seats }
-    ensures view { seat.new.seat.me.0 ≡ with_store seat.old.seat.me.0 (gained seat.old.seat.me.0.store (over head args.now) row result (Find (max seat.old.seat.me.0.store.seen result) head args.now row)) }
+    requires at { IsAt asked.now seat.old.seat }
+    requires stage { seat.old.seat.me.0.store.call ≡ Finding (content asked.now) walk.drawn row }
+    ensures at { IsAt asked.now seat.new.seat }
+    ensures same { SameSeat seat.old.seat seat.new.seat
+        seat.old.number seat.new.number seat.old.seats seat.new.seats }
+    ensures view { seat.new.seat.me.0 ≡ with_store seat.old.seat.me.0 (gained seat.old.seat.me.0.store (content asked.now) row result
+        (Find (max seat.old.seat.me.0.store.seen result) asked.now.head asked.now.args.now row)) }
+    ensures tick { steps.new ≡ steps.old + 1 }
 {
-    go_load(table, seat, birth_word(sizes, row))
+    steps.tick();
+    go_load(&asked.store.table, seat, birth_place(asked, row))
 }
 
 // Loads the claim, at the chain's end.
-pub(crate) fn read_claim(
-    table: &Table<NodeRows>,
-    sizes: &Sizes,
+pub(crate) fn read_claim<L: Ledger>(
+    asked: &Asked<'_>,
     seat: &mut Seat<NodeRows>,
-    head: Head,
-    args: &[u64],
+    steps: &mut Steps<L>,
     from: u64,
 ) -> u64
-    requires seat { IsAt table.now.shared.table_id table.now.shared.key sizes.now seat.old.seat }
-    requires stage { seat.old.seat.me.0.store.call ≡ Ended (over head args.now) from }
-    ensures seat { IsAt table.now.shared.table_id table.now.shared.key sizes.now seat.new.seat }
-    ensures same { SameSeat seat.old.seat seat.new.seat seat.old.number seat.new.number seat.old.seats seat.new.seats }
-    ensures view { seat.new.seat.me.0 ≡ at_call seat.old.seat.me.0 (Counting (over head args.now) from result) }
+    requires at { IsAt asked.now seat.old.seat }
+    requires stage { seat.old.seat.me.0.store.call ≡ Ended (content asked.now) from }
+    ensures at { IsAt asked.now seat.new.seat }
+    ensures same { SameSeat seat.old.seat seat.new.seat
+        seat.old.number seat.new.number seat.old.seats seat.new.seats }
+    ensures view { seat.new.seat.me.0 ≡ at_call seat.old.seat.me.0 (Counting (content asked.now) from result) }
+    ensures tick { steps.new ≡ steps.old + 1 }
 {
-    go_load(table, seat, claim_word(sizes))
+    steps.tick();
+    go_load(&asked.store.table, seat, claim_word(&asked.store.sizes))
 }
 
 // Loads the free count, after the claim.
-pub(crate) fn read_count(
-    table: &Table<NodeRows>,
-    sizes: &Sizes,
+pub(crate) fn read_count<L: Ledger>(
+    asked: &Asked<'_>,
     seat: &mut Seat<NodeRows>,
-    head: Head,
-    args: &[u64],
+    steps: &mut Steps<L>,
     from: u64,
     claim: u64,
 ) -> u64
-    requires seat { IsAt table.now.shared.table_id table.now.shared.key sizes.now seat.old.seat }
-    requires stage { seat.old.seat.me.0.store.call ≡ Counting (over head args.now) from claim }
-    ensures seat { IsAt table.now.shared.table_id table.now.shared.key sizes.now seat.new.seat }
-    ensures same { SameSeat seat.old.seat seat.new.seat seat.old.number seat.new.number seat.old.seats seat.new.seats }
-    ensures view { seat.new.seat.me.0 ≡ with_store seat.old.seat.me.0 (if nat_lt claim result then with_call seat.old.seat.me.0.store (Drawing (over head args.now) from result) else refusing seat.old.seat.me.0.store (over head args.now) from claim result) }
+    requires at { IsAt asked.now seat.old.seat }
+    requires stage { seat.old.seat.me.0.store.call ≡ Counting (content asked.now) from claim }
+    ensures at { IsAt asked.now seat.new.seat }
+    ensures same { SameSeat seat.old.seat seat.new.seat
+        seat.old.number seat.new.number seat.old.seats seat.new.seats }
+    ensures view { seat.new.seat.me.0 ≡ with_store seat.old.seat.me.0 (if nat_lt claim result
+        then with_call seat.old.seat.me.0.store (Drawing (content asked.now) from result)
+        else refusing seat.old.seat.me.0.store (content asked.now) from claim result) }
+    ensures tick { steps.new ≡ steps.old + 1 }
 {
-    go_load(table, seat, free_count_word(sizes))
+    steps.tick();
+    go_load(
+        &asked.store.table,
+        seat,
+        free_count_word(&asked.store.sizes),
+    )
 }
 
 // Draws a number.
-pub(crate) fn draw(
-    table: &Table<NodeRows>,
-    sizes: &Sizes,
+pub(crate) fn draw<L: Ledger>(
+    asked: &Asked<'_>,
     seat: &mut Seat<NodeRows>,
-    head: Head,
-    args: &[u64],
+    steps: &mut Steps<L>,
     from: u64,
     count: u64,
 ) -> u64
-    requires seat { IsAt table.now.shared.table_id table.now.shared.key sizes.now seat.old.seat }
-    requires stage { seat.old.seat.me.0.store.call ≡ Drawing (over head args.now) from count }
-    ensures seat { IsAt table.now.shared.table_id table.now.shared.key sizes.now seat.new.seat }
-    ensures same { SameSeat seat.old.seat seat.new.seat seat.old.number seat.new.number seat.old.seats seat.new.seats }
-    ensures view { seat.new.seat.me.0 ≡ with_store seat.old.seat.me.0 (if nat_lt result count then with_call seat.old.seat.me.0.store (Placing (over head args.now) from result) else overdrawn seat.old.seat.me.0.store (over head args.now) from result count) }
+    requires at { IsAt asked.now seat.old.seat }
+    requires stage { seat.old.seat.me.0.store.call ≡ Drawing (content asked.now) from count }
+    ensures at { IsAt asked.now seat.new.seat }
+    ensures same { SameSeat seat.old.seat seat.new.seat
+        seat.old.number seat.new.number seat.old.seats seat.new.seats }
+    ensures view { seat.new.seat.me.0 ≡ with_store seat.old.seat.me.0 (if nat_lt result count
+        then with_call seat.old.seat.me.0.store (Placing (content asked.now) from result)
+        else overdrawn seat.old.seat.me.0.store (content asked.now) from result count) }
+    ensures tick { steps.new ≡ steps.old + 1 }
 {
-    go_draw(table, seat, claim_word(sizes))
+    steps.tick();
+    go_draw(&asked.store.table, seat, claim_word(&asked.store.sizes))
 }
 
 // Loads the free place that was drawn.
-pub(crate) fn read_place(
-    table: &Table<NodeRows>,
-    sizes: &Sizes,
+pub(crate) fn read_place<L: Ledger>(
+    asked: &Asked<'_>,
     seat: &mut Seat<NodeRows>,
-    head: Head,
-    args: &[u64],
+    steps: &mut Steps<L>,
     from: u64,
     index: u64,
 ) -> u64
-    requires seat { IsAt table.now.shared.table_id table.now.shared.key sizes.now seat.old.seat }
-    requires stage { seat.old.seat.me.0.store.call ≡ Placing (over head args.now) from index }
-    ensures seat { IsAt table.now.shared.table_id table.now.shared.key sizes.now seat.new.seat }
-    ensures same { SameSeat seat.old.seat seat.new.seat seat.old.number seat.new.number seat.old.seats seat.new.seats }
-    ensures view { seat.new.seat.me.0 ≡ at_call seat.old.seat.me.0 (Filling (over head args.now) from index result 0) }
+    requires at { IsAt asked.now seat.old.seat }
+    requires stage { seat.old.seat.me.0.store.call ≡ Placing (content asked.now) from index }
+    ensures at { IsAt asked.now seat.new.seat }
+    ensures same { SameSeat seat.old.seat seat.new.seat
+        seat.old.number seat.new.number seat.old.seats seat.new.seats }
+    ensures view { seat.new.seat.me.0 ≡ at_call seat.old.seat.me.0 (Filling (content asked.now) from index result 0) }
+    ensures tick { steps.new ≡ steps.old + 1 }
 {
-    go_load(table, seat, free_place_word(sizes, index))
+    steps.tick();
+    go_load(
+        &asked.store.table,
+        seat,
+        free_place_word(&asked.store.sizes, index),
+    )
 }
 
 // Stores word k of the drawn row.
-pub(crate) fn fill_one(
-    table: &Table<NodeRows>,
-    sizes: &Sizes,
+pub(crate) fn fill_one<L: Ledger>(
+    asked: &Asked<'_>,
     seat: &mut Seat<NodeRows>,
-    head: Head,
-    args: &[u64],
-    from: u64,
-    index: u64,
-    row: u64,
+    steps: &mut Steps<L>,
+    drawn: Drawn,
     k: usize,
 )
-    requires seat { IsAt table.now.shared.table_id table.now.shared.key sizes.now seat.old.seat }
-    requires fits { Fits sizes.now head args.now }
-    requires below { k < length (words_of (over head args.now)) }
-    requires stage { seat.old.seat.me.0.store.call ≡ Filling (over head args.now) from index row k }
-    ensures seat { IsAt table.now.shared.table_id table.now.shared.key sizes.now seat.new.seat }
-    ensures same { SameSeat seat.old.seat seat.new.seat seat.old.number seat.new.number seat.old.seats seat.new.seats }
-    ensures view { seat.new.seat.me.0 ≡ at_call seat.old.seat.me.0 (filled (over head args.now) from index row k) }
+    requires at { IsAt asked.now seat.old.seat }
+    requires below { k < length (words_of (content asked.now)) }
+    requires stage { seat.old.seat.me.0.store.call ≡ Filling (content asked.now) drawn.from drawn.index drawn.row k }
+    ensures at { IsAt asked.now seat.new.seat }
+    ensures same { SameSeat seat.old.seat seat.new.seat
+        seat.old.number seat.new.number seat.old.seats seat.new.seats }
+    ensures view { seat.new.seat.me.0 ≡ at_call seat.old.seat.me.0 (filled (content asked.now) drawn.from drawn.index drawn.row k) }
+    ensures tick { steps.new ≡ steps.old + 1 }
 {
-    go_store(table, seat, row_word(sizes, row, k), word_at(head, args, k));
+    steps.tick();
+    let word = word_place(asked, drawn.row, k);
+    go_store(
+        &asked.store.table,
+        seat,
+        word,
+        word_at(asked.head, asked.args, k),
+    );
 }
 
 // Stores the birth number of the drawn row.
-pub(crate) fn number_row(
-    table: &Table<NodeRows>,
-    sizes: &Sizes,
+pub(crate) fn number_row<L: Ledger>(
+    asked: &Asked<'_>,
     seat: &mut Seat<NodeRows>,
-    head: Head,
-    args: &[u64],
-    from: u64,
-    index: u64,
-    row: u64,
-    base: u64,
+    steps: &mut Steps<L>,
+    drawn: Drawn,
 )
-    requires seat { IsAt table.now.shared.table_id table.now.shared.key sizes.now seat.old.seat }
-    requires base { base ≡ seat.old.seat.me.0.store.base }
-    requires stage { seat.old.seat.me.0.store.call ≡ Numbering (over head args.now) from index row }
-    ensures seat { IsAt table.now.shared.table_id table.now.shared.key sizes.now seat.new.seat }
-    ensures same { SameSeat seat.old.seat seat.new.seat seat.old.number seat.new.number seat.old.seats seat.new.seats }
-    ensures view { seat.new.seat.me.0 ≡ at_call seat.old.seat.me.0 (Linking (over head args.now) from index row) }
+    requires at { IsAt asked.now seat.old.seat }
+    requires based { IsBased asked.now seat.old.seat.me.0.store }
+    requires stage { seat.old.seat.me.0.store.call ≡ Numbering (content asked.now) drawn.from drawn.index drawn.row }
+    ensures at { IsAt asked.now seat.new.seat }
+    ensures same { SameSeat seat.old.seat seat.new.seat
+        seat.old.number seat.new.number seat.old.seats seat.new.seats }
+    ensures view { seat.new.seat.me.0 ≡ at_call seat.old.seat.me.0 (Linking (content asked.now) drawn.from drawn.index drawn.row) }
+    ensures tick { steps.new ≡ steps.old + 1 }
 {
-    go_store(table, seat, birth_word(sizes, row), base + index);
+    steps.tick();
+    let word = birth_place(asked, drawn.row);
+    go_store(&asked.store.table, seat, word, asked.base + drawn.index);
 }
 
 // Stores the link of the drawn row.
-pub(crate) fn link(
-    table: &Table<NodeRows>,
-    sizes: &Sizes,
+pub(crate) fn link<L: Ledger>(
+    asked: &Asked<'_>,
     seat: &mut Seat<NodeRows>,
-    head: Head,
-    args: &[u64],
-    from: u64,
-    index: u64,
-    row: u64,
+    steps: &mut Steps<L>,
+    drawn: Drawn,
 )
-    requires seat { IsAt table.now.shared.table_id table.now.shared.key sizes.now seat.old.seat }
-    requires stage { seat.old.seat.me.0.store.call ≡ Linking (over head args.now) from index row }
-    ensures seat { IsAt table.now.shared.table_id table.now.shared.key sizes.now seat.new.seat }
-    ensures same { SameSeat seat.old.seat seat.new.seat seat.old.number seat.new.number seat.old.seats seat.new.seats }
-    ensures view { seat.new.seat.me.0 ≡ at_call seat.old.seat.me.0 (Publishing (over head args.now) from index row) }
+    requires at { IsAt asked.now seat.old.seat }
+    requires stage { seat.old.seat.me.0.store.call ≡ Linking (content asked.now) drawn.from drawn.index drawn.row }
+    ensures at { IsAt asked.now seat.new.seat }
+    ensures same { SameSeat seat.old.seat seat.new.seat
+        seat.old.number seat.new.number seat.old.seats seat.new.seats }
+    ensures view { seat.new.seat.me.0 ≡ at_call seat.old.seat.me.0 (Publishing (content asked.now) drawn.from drawn.index drawn.row) }
+    ensures tick { steps.new ≡ steps.old + 1 }
 {
-    go_store(table, seat, next_word(sizes, row), from);
+    steps.tick();
+    go_store(
+        &asked.store.table,
+        seat,
+        next_place(asked, drawn.row),
+        drawn.from,
+    );
 }
 
 // Publishes the row where its chain has the same head still.
-pub(crate) fn publish(
-    table: &Table<NodeRows>,
-    sizes: &Sizes,
+pub(crate) fn publish<L: Ledger>(
+    asked: &Asked<'_>,
     seat: &mut Seat<NodeRows>,
-    head: Head,
-    args: &[u64],
-    from: u64,
-    index: u64,
-    row: u64,
-    base: u64,
-    place: u64,
+    steps: &mut Steps<L>,
+    drawn: Drawn,
 ) -> u64
-    requires seat { IsAt table.now.shared.table_id table.now.shared.key sizes.now seat.old.seat }
-    requires base { base ≡ seat.old.seat.me.0.store.base }
-    requires place { (place ≡ bucket (over head args.now) seat.old.seat.me.0.store.in_use) × (place < sizes.now.buckets) }
-    requires stage { seat.old.seat.me.0.store.call ≡ Publishing (over head args.now) from index row }
-    ensures seat { IsAt table.now.shared.table_id table.now.shared.key sizes.now seat.new.seat }
-    ensures same { SameSeat seat.old.seat seat.new.seat seat.old.number seat.new.number seat.old.seats seat.new.seats }
-    ensures view { seat.new.seat.me.0 ≡ with_store seat.old.seat.me.0 (if result == from then gained seat.old.seat.me.0.store (over head args.now) row (base + index) (Make (base + index) head args.now row) else with_call seat.old.seat.me.0.store (arrived (over head args.now) (Some (index, row)) result from result)) }
+    requires at { IsAt asked.now seat.old.seat }
+    requires based { IsBased asked.now seat.old.seat.me.0.store }
+    requires stage { seat.old.seat.me.0.store.call ≡ Publishing (content asked.now) drawn.from drawn.index drawn.row }
+    ensures at { IsAt asked.now seat.new.seat }
+    ensures same { SameSeat seat.old.seat seat.new.seat
+        seat.old.number seat.new.number seat.old.seats seat.new.seats }
+    ensures view { seat.new.seat.me.0 ≡ with_store seat.old.seat.me.0 (if result == drawn.from
+        then gained seat.old.seat.me.0.store (content asked.now) drawn.row (asked.now.base + drawn.index)
+        (Make (asked.now.base + drawn.index) asked.now.head asked.now.args.now drawn.row)
+        else with_call seat.old.seat.me.0.store
+        (arrived (content asked.now) (Some (drawn.index, drawn.row)) result drawn.from result)) }
+    ensures tick { steps.new ≡ steps.old + 1 }
 {
-    go_publish(table, seat, bucket_word(sizes, place), from, row + 1)
+    steps.tick();
+    let word = bucket_word(&asked.store.sizes, asked.place);
+    go_publish(&asked.store.table, seat, word, drawn.from, drawn.row + 1)
 }

@@ -1,21 +1,30 @@
 //! Passes of one store, on one thread and on two.
-ghost use Rattle.std.specs.Prelude.{◌≡◌, All};
+ghost use Rattle.std.specs.Prelude.{◌≡◌, ◌<◌, ◌+◌, All, IfOk};
 ghost use Rattle.lock_core.specs.declared.parts.Phase.TheVariants.{Shared};
+ghost use Rattle.store_core.specs.Machine.{In};
+ghost use Rattle.node_rows.specs.Inside.{IsInside};
+ghost use Rattle.node_rows.specs.Told.{Tells};
 ghost use Rattle.node_rows.specs.Passes.{IsStore, IsPass, IsReady, IsOut};
 
-use crate::{Full, create};
+use crate::{Full, child_of, count_of, create, head_of};
 use node_rows::{Pass, Store};
+use std::hint::spin_loop;
 use std::process::Abort;
+use std::sync::atomic::{AtomicBool, Ordering};
 use std::test::Fail;
 use std::thread;
 use store_core::Sizes;
 use term_model::{Head, Symbol};
 
+mod four;
+
 // The last of the passes that are left.
 fn last_pass(rt: &impl Abort, store: &Store, passes: &mut Vec<Pass>) -> Pass
-    requires { All (λ p. IsPass store.now.table.shared.table_id store.now.sizes p.seat.seat p.seat.seats × IsOut p.seat.seat.me.0) passes.old.items }
+    requires passes { All (λ p. IsPass store.now.table.shared.table_id store.now.sizes p.seat.seat p.seat.seats × IsOut p.seat.seat.me.0) passes.old.items }
+    requires told { All Tells passes.old.items }
+    ensures told { All Tells passes.new.items }
     ensures left { All (λ p. IsPass store.now.table.shared.table_id store.now.sizes p.seat.seat p.seat.seats × IsOut p.seat.seat.me.0) passes.new.items }
-    ensures pass { IsPass store.now.table.shared.table_id store.now.sizes result.seat.seat result.seat.seats × IsOut result.seat.seat.me.0 }
+    ensures pass { IsPass store.now.table.shared.table_id store.now.sizes result.seat.seat result.seat.seats × IsOut result.seat.seat.me.0 × Tells result }
 {
     match passes.pop() {
         Some(pass) => pass,
@@ -26,10 +35,9 @@ fn last_pass(rt: &impl Abort, store: &Store, passes: &mut Vec<Pass>) -> Pass
 // Enters shared access.
 fn enter(rt: &impl Abort, store: &Store, pass: &mut Pass)
     requires store { IsStore store.now.table.shared.table_id store.now.table.shared.key store.now.sizes }
-    requires pass { IsPass store.now.table.shared.table_id store.now.sizes pass.old.seat.seat pass.old.seat.seats × IsOut pass.old.seat.seat.me.0 }
-    ensures pass { IsPass store.now.table.shared.table_id store.now.sizes pass.new.seat.seat pass.new.seat.seats }
+    requires pass { IsPass store.now.table.shared.table_id store.now.sizes pass.old.seat.seat pass.old.seat.seats × IsOut pass.old.seat.seat.me.0 × Tells pass.old }
+    ensures inside { IsInside store.now pass.new }
     ensures shared { pass.new.seat.seat.me.0.lock.phase ≡ Shared }
-    ensures ready { IsReady store.now.sizes pass.new.seat.seat.me.0.store pass.new.base pass.new.in_use }
 {
     match store.try_enter_shared(pass) {
         Ok(()) => {}
@@ -39,13 +47,11 @@ fn enter(rt: &impl Abort, store: &Store, pass: &mut Pass)
 
 // Creates a symbol over an integer and the empty list.
 fn create_three(store: &Store, pass: &mut Pass) -> Result<u64, Full>
-    requires store { IsStore store.now.table.shared.table_id store.now.table.shared.key store.now.sizes }
-    requires pass { IsPass store.now.table.shared.table_id store.now.sizes pass.old.seat.seat pass.old.seat.seats }
+    requires inside { IsInside store.now pass.old }
     requires shared { pass.old.seat.seat.me.0.lock.phase ≡ Shared }
-    requires ready { IsReady store.now.sizes pass.old.seat.seat.me.0.store pass.old.base pass.old.in_use }
-    ensures pass { IsPass store.now.table.shared.table_id store.now.sizes pass.new.seat.seat pass.new.seat.seats }
+    ensures inside { IsInside store.now pass.new }
     ensures shared { pass.new.seat.seat.me.0.lock.phase ≡ Shared }
-    ensures ready { IsReady store.now.sizes pass.new.seat.seat.me.0.store pass.new.base pass.new.in_use }
+    ensures gets { IfOk result (λ row. In row pass.new.seat.seat.me.0.store.got) }
 {
     let a = create(store, pass, Head::Int(5), &[])?;
     let b = create(store, pass, Head::Nil, &[])?;
@@ -55,8 +61,8 @@ fn create_three(store: &Store, pass: &mut Pass) -> Result<u64, Full>
 // The same in one shared access.
 fn visit(rt: &impl Abort, store: &Store, pass: &mut Pass) -> Result<u64, Full>
     requires store { IsStore store.now.table.shared.table_id store.now.table.shared.key store.now.sizes }
-    requires pass { IsPass store.now.table.shared.table_id store.now.sizes pass.old.seat.seat pass.old.seat.seats × IsOut pass.old.seat.seat.me.0 }
-    ensures pass { IsPass store.now.table.shared.table_id store.now.sizes pass.new.seat.seat pass.new.seat.seats × IsOut pass.new.seat.seat.me.0 }
+    requires pass { IsPass store.now.table.shared.table_id store.now.sizes pass.old.seat.seat pass.old.seat.seats × IsOut pass.old.seat.seat.me.0 × Tells pass.old }
+    ensures pass { IsPass store.now.table.shared.table_id store.now.sizes pass.new.seat.seat pass.new.seat.seats × IsOut pass.new.seat.seat.me.0 × Tells pass.new }
 {
     enter(rt, store, pass);
     let row = create_three(store, pass);
@@ -84,11 +90,91 @@ fn two_passes_share_a_term(rt: HostRuntime) -> Result<(), Fail> {
     Ok(())
 }
 
+// The head of a row, and its count of arguments.
+fn read_row(store: &Store, pass: &mut Pass, row: u64) -> (Head, u32)
+    requires inside { IsInside store.now pass.old }
+    requires shared { pass.old.seat.seat.me.0.lock.phase ≡ Shared }
+    requires uses { In row pass.old.seat.seat.me.0.store.got }
+    ensures inside { IsInside store.now pass.new }
+    ensures shared { pass.new.seat.seat.me.0.lock.phase ≡ Shared }
+{
+    let head = head_of(store, pass, row);
+    (head, count_of(store, pass, row))
+}
+
+// The head of argument `j`, where there are so many.
+fn read_child(store: &Store, pass: &mut Pass, row: u64, j: u32) -> Option<Head>
+    requires inside { IsInside store.now pass.old }
+    requires shared { pass.old.seat.seat.me.0.lock.phase ≡ Shared }
+    requires uses { In row pass.old.seat.seat.me.0.store.got }
+    ensures inside { IsInside store.now pass.new }
+    ensures shared { pass.new.seat.seat.me.0.lock.phase ≡ Shared }
+{
+    if j >= count_of(store, pass, row) {
+        return None;
+    }
+    let child = child_of(store, pass, row, j);
+    Some(head_of(store, pass, child))
+}
+
+// In one shared access: a symbol over an integer and the empty list, its head, and its count of arguments.
+fn visit_row(rt: &impl Abort, store: &Store, pass: &mut Pass) -> (Head, u32)
+    requires store { IsStore store.now.table.shared.table_id store.now.table.shared.key store.now.sizes }
+    requires pass { IsPass store.now.table.shared.table_id store.now.sizes pass.old.seat.seat pass.old.seat.seats × IsOut pass.old.seat.seat.me.0 × Tells pass.old }
+    ensures pass { IsPass store.now.table.shared.table_id store.now.sizes pass.new.seat.seat pass.new.seat.seats × IsOut pass.new.seat.seat.me.0 × Tells pass.new }
+{
+    enter(rt, store, pass);
+    let Ok(row) = create_three(store, pass) else {
+        panic!(rt; "three rows suffice");
+    };
+    let read = read_row(store, pass, row);
+    store.leave_shared(pass);
+    read
+}
+
+// The same, and the head of its argument `j`.
+fn visit_child(rt: &impl Abort, store: &Store, pass: &mut Pass, j: u32) -> Option<Head>
+    requires store { IsStore store.now.table.shared.table_id store.now.table.shared.key store.now.sizes }
+    requires pass { IsPass store.now.table.shared.table_id store.now.sizes pass.old.seat.seat pass.old.seat.seats × IsOut pass.old.seat.seat.me.0 × Tells pass.old }
+    ensures pass { IsPass store.now.table.shared.table_id store.now.sizes pass.new.seat.seat pass.new.seat.seats × IsOut pass.new.seat.seat.me.0 × Tells pass.new }
+{
+    enter(rt, store, pass);
+    let Ok(row) = create_three(store, pass) else {
+        panic!(rt; "three rows suffice");
+    };
+    let read = read_child(store, pass, row, j);
+    store.leave_shared(pass);
+    read
+}
+
+#[test]
+fn reads_give_what_was_created(rt: HostRuntime) -> Result<(), Fail> {
+    let sizes = Sizes {
+        rows: 3,
+        buckets: 2,
+        start: 1,
+        seats: 1,
+        depth: 2,
+        arity: 0,
+        first: 1,
+    };
+    let (store, mut passes) = Store::make(rt.alloc(), sizes)?;
+    let mut pass = last_pass(&rt, &store, &mut passes);
+    assert_eq!(rt;
+        visit_row(&rt, &store, &mut pass),
+        (Head::App(Symbol(7)), 2)
+    );
+    assert_eq!(rt; visit_child(&rt, &store, &mut pass, 0), Some(Head::Int(5)));
+    assert_eq!(rt; visit_child(&rt, &store, &mut pass, 1), Some(Head::Nil));
+    assert_eq!(rt; visit_child(&rt, &store, &mut pass, 2), None);
+    Ok(())
+}
+
 // In one shared access: a constant, and its row.
 fn constant(rt: &impl Abort, store: &Store, pass: &mut Pass, symbol: u32) -> Result<u64, Full>
     requires store { IsStore store.now.table.shared.table_id store.now.table.shared.key store.now.sizes }
-    requires pass { IsPass store.now.table.shared.table_id store.now.sizes pass.old.seat.seat pass.old.seat.seats × IsOut pass.old.seat.seat.me.0 }
-    ensures pass { IsPass store.now.table.shared.table_id store.now.sizes pass.new.seat.seat pass.new.seat.seats × IsOut pass.new.seat.seat.me.0 }
+    requires pass { IsPass store.now.table.shared.table_id store.now.sizes pass.old.seat.seat pass.old.seat.seats × IsOut pass.old.seat.seat.me.0 × Tells pass.old }
+    ensures pass { IsPass store.now.table.shared.table_id store.now.sizes pass.new.seat.seat pass.new.seat.seats × IsOut pass.new.seat.seat.me.0 × Tells pass.new }
 {
     enter(rt, store, pass);
     let row = create(store, pass, Head::App(Symbol(symbol)), &[]);
@@ -96,59 +182,10 @@ fn constant(rt: &impl Abort, store: &Store, pass: &mut Pass, symbol: u32) -> Res
     row
 }
 
-// Two constants, and a symbol over the first.
-fn create_past_the_room(
-    store: &Store,
-    pass: &mut Pass,
-) -> (Result<u64, Full>, Result<u64, Full>, Result<u64, Full>)
-    requires store { IsStore store.now.table.shared.table_id store.now.table.shared.key store.now.sizes }
-    requires pass { IsPass store.now.table.shared.table_id store.now.sizes pass.old.seat.seat pass.old.seat.seats }
-    requires shared { pass.old.seat.seat.me.0.lock.phase ≡ Shared }
-    requires ready { IsReady store.now.sizes pass.old.seat.seat.me.0.store pass.old.base pass.old.in_use }
-    ensures pass { IsPass store.now.table.shared.table_id store.now.sizes pass.new.seat.seat pass.new.seat.seats }
-    ensures shared { pass.new.seat.seat.me.0.lock.phase ≡ Shared }
-    ensures ready { IsReady store.now.sizes pass.new.seat.seat.me.0.store pass.new.base pass.new.in_use }
-{
-    let other = create(store, pass, Head::App(Symbol(1)), &[]);
-    match create(store, pass, Head::App(Symbol(0)), &[]) {
-        Ok(row) => (
-            Ok(row),
-            other,
-            create(store, pass, Head::App(Symbol(2)), &[row]),
-        ),
-        Err(full) => (Err(full), other, Ok(0)),
-    }
-}
-
-#[test]
-fn a_store_of_two_rows_is_full(rt: HostRuntime) -> Result<(), Fail> {
-    let sizes = Sizes {
-        rows: 2,
-        buckets: 1,
-        start: 1,
-        seats: 2,
-        depth: 4,
-        arity: 1,
-        first: 1,
-    };
-    let (store, mut passes) = Store::make(rt.alloc(), sizes)?;
-    let mut second = last_pass(&rt, &store, &mut passes);
-    let mut first = last_pass(&rt, &store, &mut passes);
-    let made = constant(&rt, &store, &mut first, 0);
-    enter(&rt, &store, &mut second);
-    let (row, other, third) = create_past_the_room(&store, &mut second);
-    assert!(rt; row.is_ok() && other.is_ok());
-    assert_eq!(rt; row, made);
-    assert!(rt; other != row);
-    assert_eq!(rt; third, Err(Full));
-    store.leave_shared(&mut second);
-    Ok(())
-}
-
 // In one shared access: the constants of ten symbols in order, and their rows.
 fn create_ten<R: Abort>(rt: &R, store: &Store, mut pass: Pass) -> [u64; 10]
     requires store { IsStore store.now.table.shared.table_id store.now.table.shared.key store.now.sizes }
-    requires pass { IsPass store.now.table.shared.table_id store.now.sizes pass.seat.seat pass.seat.seats × IsOut pass.seat.seat.me.0 }
+    requires pass { IsPass store.now.table.shared.table_id store.now.sizes pass.seat.seat pass.seat.seats × IsOut pass.seat.seat.me.0 × Tells pass }
 {
     let mut rows = [0; 10];
     for symbol in 0..10 {
@@ -160,8 +197,22 @@ fn create_ten<R: Abort>(rt: &R, store: &Store, mut pass: Pass) -> [u64; 10]
     rows
 }
 
+// Waits for the other thread, for at most a million turns: whether it came.
+fn meet(mine: &AtomicBool, other: &AtomicBool) -> bool {
+    mine.store(true, Ordering::SeqCst);
+    for _ in 0..1_000_000 {
+        if other.load(Ordering::SeqCst) {
+            return true;
+        }
+        for _ in 0..100 {
+            spin_loop();
+        }
+    }
+    false
+}
+
 #[test]
-fn two_threads_share_ten_constants(rt: HostRuntime) -> Result<(), Fail> {
+fn two_threads_at_once_share_ten_constants(rt: HostRuntime) -> Result<(), Fail> {
     let sizes = Sizes {
         rows: 20,
         buckets: 1,
@@ -175,21 +226,24 @@ fn two_threads_share_ten_constants(rt: HostRuntime) -> Result<(), Fail> {
     let two = last_pass(&rt, &store, &mut passes);
     let one = last_pass(&rt, &store, &mut passes);
     let (handle, shared) = (&rt, &store);
+    let (first_came, second_came) = (AtomicBool::new(false), AtomicBool::new(false));
+    let (came, went) = (&first_came, &second_came);
     let (first, second) = thread::join(
         handle,
-        move || -> [u64; 10]
+        move || -> (bool, [u64; 10])
             requires { IsStore shared.now.table.shared.table_id shared.now.table.shared.key shared.now.sizes
-                × IsPass shared.now.table.shared.table_id shared.now.sizes one.seat.seat one.seat.seats × IsOut one.seat.seat.me.0 }
-        { create_ten(handle, shared, one) },
-        move || -> [u64; 10]
+                × IsPass shared.now.table.shared.table_id shared.now.sizes one.seat.seat one.seat.seats × IsOut one.seat.seat.me.0 × Tells one }
+        { (meet(came, went), create_ten(handle, shared, one)) },
+        move || -> (bool, [u64; 10])
             requires { IsStore shared.now.table.shared.table_id shared.now.table.shared.key shared.now.sizes
-                × IsPass shared.now.table.shared.table_id shared.now.sizes two.seat.seat two.seat.seats × IsOut two.seat.seat.me.0 }
-        { create_ten(handle, shared, two) },
+                × IsPass shared.now.table.shared.table_id shared.now.sizes two.seat.seat two.seat.seats × IsOut two.seat.seat.me.0 × Tells two }
+        { (meet(went, came), create_ten(handle, shared, two)) },
     );
-    assert_eq!(rt; first, second);
+    assert!(rt; first.0 && second.0, "both threads run at once");
+    assert_eq!(rt; first.1, second.1);
     for i in 0..10usize {
         for j in 0..i {
-            assert!(rt; first[i] != first[j]);
+            assert!(rt; first.1[i] != first.1[j]);
         }
     }
     Ok(())

@@ -1,75 +1,77 @@
 //! The walk along a chain.
-ghost use Rattle.std.specs.Prelude.{◌≡◌, pred, MatchBool, MatchOption};
+ghost use Rattle.std.specs.Prelude.{◌≡◌, ◌≤◌, ◌+◌, pred, MatchBool, MatchOption};
 ghost use Rattle.store_core.specs.declared.view.Call.TheVariants.{Comparing, Finding};
-ghost use Rattle.store_core.specs.Machine.{arrived, ended};
-ghost use Rattle.node_rows.specs.Steps.{over};
-ghost use Rattle.term_create.specs.Stage.{IsAt, SameSeat, Fits, Finds, IsOther, HasPassed, at_call};
+ghost use Rattle.store_core.specs.Machine.{arrived, ended, widest};
+ghost use Rattle.term_create.specs.Counted.{Takes};
+ghost use Rattle.term_create.specs.Stage.{IsAt, SameSeat, Notes, IsOther, HasPassed, content, at_call};
 
+use crate::asked::{Asked, Noted, Walk};
+use crate::counting::Steps;
 use crate::stages::{compare_one, find, pass_on};
 use crate::words::word_count;
-use busy_forbidden::{Seat, Table};
+use busy_forbidden::Seat;
 use node_rows::NodeRows;
-use store_core::Sizes;
-use term_model::Head;
+use std::sync::ledger::Ledger;
 
 // Compares the row that the walk is at: whether it is the same.
-fn compare_row(
-    table: &Table<NodeRows>,
-    sizes: &Sizes,
+#[inline(always)]
+fn compare_row<L: Ledger>(
+    asked: &Asked<'_>,
     seat: &mut Seat<NodeRows>,
-    head: Head,
-    args: &[u64],
-    drawn: Option<(u64, u64)>,
-    from: u64,
-    old: u64,
+    steps: &mut Steps<L>,
+    walk: Walk,
     at: u64,
 ) -> bool
-    requires seat { IsAt table.now.shared.table_id table.now.shared.key sizes.now seat.old.seat }
-    requires fits { Fits sizes.now head args.now }
-    requires stage { seat.old.seat.me.0.store.call ≡ Comparing (over head args.now) drawn from old at 0 }
-    ensures seat { IsAt table.now.shared.table_id table.now.shared.key sizes.now seat.new.seat }
-    ensures same { SameSeat seat.old.seat seat.new.seat seat.old.number seat.new.number seat.old.seats seat.new.seats }
+    requires at { IsAt asked.now seat.old.seat }
+    requires stage { seat.old.seat.me.0.store.call ≡ Comparing (content asked.now) walk.drawn walk.from walk.old at 0 }
+    ensures at { IsAt asked.now seat.new.seat }
+    ensures same { SameSeat seat.old.seat seat.new.seat
+        seat.old.number seat.new.number seat.old.seats seat.new.seats }
     ensures view { MatchBool result
-        (seat.new.seat.me.0 ≡ at_call seat.old.seat.me.0 (Finding (over head args.now) drawn (pred at)))
-        (IsOther seat.old.seat.me.0 seat.new.seat.me.0 (over head args.now) drawn from old at) }
+        (seat.new.seat.me.0 ≡ at_call seat.old.seat.me.0 (Finding (content asked.now) walk.drawn (pred at)))
+        (IsOther seat.old.seat.me.0 seat.new.seat.me.0 (content asked.now) walk.drawn walk.from walk.old at) }
+    ensures cost { steps.new ≤ steps.old + (widest asked.now.store.now.sizes + 2) }
 {
-    let count = word_count(head, args);
+    let count = word_count(asked.head, asked.args);
     for k in 0..count {
-        if compare_one(table, sizes, seat, head, args, drawn, from, old, at, k).is_some() {
+        if compare_one(asked, seat, steps, walk, at, k).is_some() {
             return false;
         }
     }
     true
 }
 
-// Walks from a head to the word `old`, and ends with the row that is the same, where there is one.
-pub(crate) fn walk(
-    table: &Table<NodeRows>,
-    sizes: &Sizes,
+// Walks from a head to the word where the walk is to end, and ends with the row that is the same, where there is one.
+#[inline(always)]
+pub(crate) fn walk<L: Ledger>(
+    asked: &Asked<'_>,
     seat: &mut Seat<NodeRows>,
-    head: Head,
-    args: &[u64],
-    drawn: Option<(u64, u64)>,
-    from: u64,
-    old: u64,
-) -> Option<u64>
-    requires seat { IsAt table.now.shared.table_id table.now.shared.key sizes.now seat.old.seat }
-    requires fits { Fits sizes.now head args.now }
-    requires stage { seat.old.seat.me.0.store.call ≡ arrived (over head args.now) drawn from old from }
-    ensures seat { IsAt table.now.shared.table_id table.now.shared.key sizes.now seat.new.seat }
-    ensures same { SameSeat seat.old.seat seat.new.seat seat.old.number seat.new.number seat.old.seats seat.new.seats }
-    ensures view { MatchOption result (HasPassed seat.old.seat.me.0 seat.new.seat.me.0 (over head args.now) (ended (over head args.now) drawn from) from old) (λ row. Finds seat.old.seat.me.0 seat.new.seat.me.0 head args.now row) }
+    steps: &mut Steps<L>,
+    walk: Walk,
+) -> Option<Noted>
+    requires at { IsAt asked.now seat.old.seat }
+    requires stage { seat.old.seat.me.0.store.call ≡ arrived (content asked.now) walk.drawn walk.from walk.old walk.from }
+    ensures at { IsAt asked.now seat.new.seat }
+    ensures same { SameSeat seat.old.seat seat.new.seat
+        seat.old.number seat.new.number seat.old.seats seat.new.seats }
+    ensures view { MatchOption result
+        (HasPassed seat.old.seat.me.0 seat.new.seat.me.0 (content asked.now)
+        (ended (content asked.now) walk.drawn walk.from) walk.from walk.old)
+        (Notes seat.old.seat.me.0 seat.new.seat.me.0 asked.now.head asked.now.args.now) }
+    ensures cost { let z = asked.now.store.now.sizes in let before = seat.old.seat.me.0.store.passed in MatchOption result
+        (Takes z 0 before seat.new.seat.me.0.store.passed steps.old steps.new)
+        (λ _. Takes z 0 before z.rows steps.old steps.new) }
 {
-    let mut at = from;
-    for _step in 0..sizes.rows as u64 + 1 {
-        if at == old {
+    let mut at = walk.from;
+    for _step in 0..asked.store.sizes.rows as u64 + 1 {
+        if at == walk.old {
             return None;
         }
-        if compare_row(table, sizes, seat, head, args, drawn, from, old, at) {
-            find(table, sizes, seat, head, args, drawn, at - 1);
-            return Some(at - 1);
+        if compare_row(asked, seat, steps, walk, at) {
+            let birth = find(asked, seat, steps, walk, at - 1);
+            return Some(Noted::Found(at - 1, birth));
         }
-        at = pass_on(table, sizes, seat, head, args, drawn, from, old, at);
+        at = pass_on(asked, seat, steps, walk, at);
     }
     unreachable!()
 }

@@ -1,5 +1,6 @@
 use Rattle.node_rows.specs.Locking.{below}
-use Rattle.node_rows.proofs.Plays.{permits_base, permits_in_use, permits_begin, permits_go}
+use Rattle.node_rows.specs.Shown.{state_of}
+use Rattle.node_rows.proofs.Plays.{permits_base, permits_in_use, permits_begin, permits_go, permits_shown, own_reads_granted}
 use Rattle.node_rows.proofs.law.own_steps_are_in_place.Goals as goal
 
 pub returns-clause-bases : goal.returns-clause-bases
@@ -13,3 +14,8 @@ returns-clause-begins c = λ s rule i v f rs k at may. record { present = below 
 
 pub returns-clause-goes : goal.returns-clause-goes
 returns-clause-goes c = λ s rule i v at is. record { present = below c.args.about.now s i v rule at; permitted = permits_go c.args.about.now s i v rule at is }
+
+pub returns-clause-owns : goal.returns-clause-owns
+returns-clause-owns c = λ s rule i v x k at may.
+    let z = c.args.about.now in
+    record { present = below z s i v rule at; permitted = permits_shown z s i v rule at x may.shown (own_reads_granted (state_of z s.words s.views rule.lock.state) i x may.acts) }

@@ -1,5 +1,4 @@
-use Rattle.store_core.specs.Machine.{LoadRoot}
 use Rattle.node_rows.proofs.reading.load_root.Given as goal
 
-abbrev pub ghosts-load_chosen : goal.ghosts-load_chosen
-ghosts-load_chosen a = record { step = LoadRoot a._operands.0 }
+abbrev pub ghosts-load_root_as : goal.ghosts-load_root_as
+ghosts-load_root_as a = record { place = a._place }

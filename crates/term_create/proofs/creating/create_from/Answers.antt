@@ -1,7 +1,21 @@
-use Rattle.node_rows.specs.Steps.{over}
+use Rattle.std.proofs.Common.{◌∙◌, ◌++◌, ap}
+use Rattle.store_core.specs.declared.view.Call.TheVariants.{Linking}
+use Rattle.node_rows.specs.declared.view.NodeView.{NodeView}
+use Rattle.term_create.specs.Stage.{content, at_call}
+use Rattle.term_create.proofs.Told.{notes_on}
 use Rattle.term_create.proofs.Whole.{refused_after}
 use Rattle.term_create.proofs.creating.create_from.Goals as goal
 
 pub returns-in-Err-clause-view : goal.returns-in-Err-clause-view
-returns-in-Err-clause-view c =
-    refused_after c.args.seat.now.seat.me.0 c.walk.new.seat.seat.me.0 c.draw_row.new.seat.seat.me.0 (over c.args.head c.args.args.now) c.args.from c.in_default.ensures.view c.in-Err.ensures.view
+returns-in-Err-clause-view g c =
+    refused_after c.args.seat.now.seat.me.0 c.walk.new.seat.seat.me.0 c.draw_row.new.seat.seat.me.0 (content c.args.asked.now) c.args.from c.in_default.ensures.view c.in-Err.ensures.view
+
+pub returns-in-Ok-clause-view : goal.returns-in-Ok-clause-view
+returns-in-Ok-clause-view g c =
+    let a = c.args.asked.now in
+    let v = c.args.seat.now.seat.me.0 in
+    let h = c.in_default.ensures.view in
+    let d = c.in-Ok.drawn in
+    let x = Linking (content a) d.from d.index d.row in
+    notes_on v c.draw_row.new.seat.seat.me.0 c.publish_row.new.seat.seat.me.0 h.passed (v.store.path ++ h.path) x a.head a.args.now c.publish_row.result
+        (c.in-Ok.ensures.view ∙ ap (λ (q : NodeView). at_call q x) h.view) c.publish_row.ensures.view

@@ -1,13 +1,23 @@
 use Rattle.std.proofs.Common.{refl, arith, ◌≤◌, ◌+◌}
 use Rattle.store_core.specs.declared.view.Call.{Call}
 use Rattle.std.proofs.Common.{ap}
-use Rattle.term_create.specs.Stage.{at_call}
+use Rattle.store_core.specs.declared.view.Call.TheVariants.{Linking}
+use Rattle.term_create.specs.Stage.{at_call, content}
+use Rattle.term_create.proofs.Told.{notes_on}
 use Rattle.busy_forbidden.specs.Calls.{IsSame}
 use Rattle.term_create.proofs.creating.publish_row.Goals as goal
 
 pub loop-step-init : goal.loop-step-init
-loop-step-init c = let v = c.args.seat.now.seat.me.0 in record {
-  seat = c.requires.seat;
+loop-step-init g c = let v = c.args.seat.now.seat.me.0 in record {
+  at = c.requires.at;
   same = record { same = record { table = refl; id = refl; slots = refl }; number = refl; seats = refl };
   view = (v.store.passed, v.store.path, (let l : v.store.passed + 0 ≤ v.store.passed = omega arith in l), ap (λ (x : Call). at_call v x) c.requires.stage);
+  cost = omega arith;
 }
+
+pub returns-in-Ok-clause-view : goal.returns-in-Ok-clause-view
+returns-in-Ok-clause-view g c =
+    let a = c.args.asked.now in
+    let d = c.args.drawn in
+    let i = c.loop-step.invariant.view in
+    notes_on c.args.seat.now.seat.me.0 c.loop-step.seat.seat.me.0 c.publish_once.new.seat.seat.me.0 i.0 i.1 (Linking (content a) c.loop-step.head_read d.index d.row) a.head a.args.now c.in-Ok.result i.3 c.in-Ok.ensures.view

@@ -1,16 +1,44 @@
-use Rattle.std.proofs.Common.{ℕ, ◌≡◌, ◌+◌, ◌<◌, pred, refl, sym, ◌∙◌, arith, subst}
+use Rattle.std.proofs.Common.{ℕ, ◌≡◌, ◌+◌, ◌<◌, suc, eqb, false, refl, sym, ap, ◌∙◌, arith, subst}
+use Rattle.store_core.specs.Machine.{widest}
+use Rattle.std.proofs.lemmas.Bool.Decides.{nat_tests}
 use Rattle.store_core.specs.declared.view.Call.{Call}
-use Rattle.node_rows.specs.Steps.{over, Stands}
+use Rattle.node_rows.specs.Steps.{Stands, Few}
 use Rattle.node_rows.specs.declared.view.NodeView.{NodeView}
+use Rattle.term_create.specs.Stage.{content}
 use Rattle.term_create.proofs.Whole.{walk_goes_on, same_joined}
+use Rattle.term_create.proofs.Costs.{walk_more, walk_found, few_before}
 use Rattle.term_create.proofs.walking.walk.Goals as goal
 
 pub loop-step-preserved : goal.loop-step-preserved
-loop-step-preserved c = record {
-  seat = c.pass_on-at.ensures.seat;
-  same = same_joined c.loop-step.invariant.same (same_joined c.if-compare_row.ensures.same c.pass_on-at.ensures.same);
-  view = walk_goes_on c.args.seat.now.seat.me.0 c.loop-step.seat.seat.me.0 c.compare_row.new.seat.seat.me.0 c.pass_on-at.new.seat.seat.me.0 (over c.args.head c.args.args.now) c.args.drawn c.args.from c.args.old c.loop-step.at c.pass_on-at.result c.loop-step._step
-      c.loop-step.invariant.view c.if-compare_row.ensures.view c.pass_on-at.ensures.view
-      (subst (λ (u : NodeView). Stands u.store.call) c.if-compare_row.ensures.view.view c.if-compare_row.ensures.seat.known.stands);
-  first = λ e. absurd (omega (arith, e));
-}
+loop-step-preserved g c =
+    let v = c.args.seat.now.seat.me.0 in
+    let u = c.loop-step.seat.seat.me.0 in
+    let w = c.compare_row.new.seat.seat.me.0 in
+    let x = c.pass_on-at.new.seat.seat.me.0 in
+    let other = c.if-compare_row.ensures.view in
+    let on = c.pass_on-at.ensures.view in
+    record {
+      at = c.pass_on-at.ensures.at;
+      same = same_joined c.loop-step.invariant.same (same_joined c.if-compare_row.ensures.same c.pass_on-at.ensures.same);
+      view = walk_goes_on v u w x (content c.args.asked.now) c.args.walk.drawn c.args.walk.from c.args.walk.old c.loop-step.at c.pass_on-at.result c.loop-step._step
+          c.loop-step.invariant.view other on
+          (subst (λ (q : NodeView). Stands q.store.call) other.view c.if-compare_row.ensures.at.known.stands);
+      first = λ e. absurd (omega (arith, e));
+      cost = walk_more (widest c.args.asked.now.store.now.sizes) v.store.passed c.args.steps.now c.loop-step.steps c.compare_row.new.steps c.pass_on-at.new.steps u.store.passed x.store.passed
+          c.loop-step.invariant.cost c.if-compare_row.ensures.cost c.pass_on-at.ensures.tick
+          (ap (λ (q : NodeView). q.store.passed) on.view ∙ ap (λ (q : NodeView). suc q.store.passed) other.view);
+    }
+
+pub returns-then-compare_row-clause-cost : goal.returns-then-compare_row-clause-cost
+returns-then-compare_row-clause-cost g c =
+    let z = c.args.asked.now.store.now.sizes in
+    let v = c.args.seat.now.seat.me.0 in
+    let u = c.loop-step.seat.seat.me.0 in
+    let f = c.if-at-walk.false in
+    let other : eqb c.loop-step.at c.args.walk.old ≡ false = grind (arith, nat_tests) in
+    let few : Few z.rows u.store.passed u.store.call = c.loop-step.invariant.at.known.few in
+    walk_found (widest z) z.rows v.store.passed c.args.steps.now c.loop-step.steps c.compare_row.new.steps c.find-birth.new.steps u.store.passed
+    c.loop-step.invariant.cost
+    (few_before z.rows u.store.passed (content c.args.asked.now) c.args.walk.drawn c.args.walk.from c.args.walk.old c.loop-step.at other
+    (subst (λ (x : Call). Few z.rows u.store.passed x) (ap (λ (q : NodeView). q.store.call) c.loop-step.invariant.view.view) few))
+    c.if-compare_row.ensures.cost c.find-birth.ensures.tick

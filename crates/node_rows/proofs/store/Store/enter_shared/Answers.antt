@@ -1,5 +1,6 @@
 use Rattle.node_rows.proofs.Tellings.{told_same}
-use Rattle.std.proofs.Common.{◌∙◌}
+use Rattle.std.proofs.Common.{sym, ap, ◌∙◌}
+use Rattle.store_core.specs.declared.view.View.{View}
 use Rattle.node_rows.proofs.Entering.{came_from, enters_shared_stays}
 use Rattle.node_rows.proofs.store.Store.enter_shared.Goals as goal
 
@@ -15,6 +16,11 @@ pub returns-clause-came : goal.returns-clause-came
 returns-clause-came g c =
     let t = enters_shared_stays c.args.pass.now.seat.seat.me.0 c.enter_shared.new.seat.seat.me.0 c.enter_shared.ensures.steps c.requires.out.away in
     came_from c.args.pass.now.seat.seat.me.0 _ _ _ _ t c.arrive.ensures.came
+
+pub invariant_of-pass : goal.invariant_of-pass
+invariant_of-pass g c = record {
+  counted = c.args.pass.now.counted ∙ ap (λ (v : View). v.root_count) (sym (enters_shared_stays c.args.pass.now.seat.seat.me.0 c.enter_shared.new.seat.seat.me.0 c.enter_shared.ensures.steps c.requires.out.away).store);
+}
 
 pub returns-clause-told : goal.returns-clause-told
 returns-clause-told g c = λ h. c.arrive.ensures.told (told_same c.args.pass.now.seat.seat.me.0.store c.enter_shared.new.seat.seat.me.0.store c.args.pass.now.rows c.args.pass.now.seen c.args.pass.now.last c.args.pass.now.marks (enters_shared_stays c.args.pass.now.seat.seat.me.0 c.enter_shared.new.seat.seat.me.0 c.enter_shared.ensures.steps c.requires.out.away).store h)

@@ -1,5 +1,6 @@
 use Rattle.node_rows.proofs.Tellings.{told_left_as}
-use Rattle.std.proofs.Common.{◌∙◌}
+use Rattle.std.proofs.Common.{◌∙◌, sym, ap}
+use Rattle.store_core.specs.declared.view.View.{View}
 use Rattle.node_rows.proofs.Entering.{ends_exclusive, granted_closed, may_release}
 use Rattle.node_rows.proofs.store.Store.leave_exclusive.Goals as goal
 
@@ -18,6 +19,11 @@ returns-clause-left c = (ends_exclusive c.args.pass.now.seat.number c.args.pass.
 
 pub returns-clause-out : goal.returns-clause-out
 returns-clause-out c = record { phase = c.leave_exclusive.ensures.out.phase; away = (ends_exclusive c.args.pass.now.seat.number c.args.pass.now.seat.seats c.args.pass.now.seat.seat.me.0 c.leave_exclusive.new.seat.seat.me.0 c.requires.ready.rest c.leave_exclusive.ensures.view).away }
+
+pub invariant_of-pass : goal.invariant_of-pass
+invariant_of-pass c = record {
+  counted = c.args.pass.now.counted ∙ ap (λ (v : View). v.root_count) (sym (ends_exclusive c.args.pass.now.seat.number c.args.pass.now.seat.seats c.args.pass.now.seat.seat.me.0 c.leave_exclusive.new.seat.seat.me.0 c.requires.ready.rest c.leave_exclusive.ensures.view).store);
+}
 
 pub returns-clause-told : goal.returns-clause-told
 returns-clause-told c = told_left_as c.args.pass.now.seat.seat.me.0.store c.leave_exclusive.new.seat.seat.me.0.store c.args.pass.now.rows c.args.pass.now.seen c.args.pass.now.last c.args.pass.now.marks (ends_exclusive c.args.pass.now.seat.number c.args.pass.now.seat.seats c.args.pass.now.seat.seat.me.0 c.leave_exclusive.new.seat.seat.me.0 c.requires.ready.rest c.leave_exclusive.ensures.view).store

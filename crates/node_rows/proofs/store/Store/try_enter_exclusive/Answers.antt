@@ -1,5 +1,6 @@
 use Rattle.node_rows.proofs.Tellings.{told_same}
-use Rattle.std.proofs.Common.{◌∙◌, Ok, Err}
+use Rattle.std.proofs.Common.{sym, ap, ◌∙◌, Ok, Err}
+use Rattle.store_core.specs.declared.view.View.{View}
 use Rattle.node_rows.proofs.Entering.{came_from, tries_exclusive_stays}
 use Rattle.node_rows.proofs.store.Store.try_enter_exclusive.Goals as goal
 
@@ -26,6 +27,11 @@ returns-in-Err-clause-came c = (tries_exclusive_stays c.args.pass.now.seat.numbe
 
 pub returns-in-Err-clause-access : goal.returns-in-Err-clause-access
 returns-in-Err-clause-access c = record { phase = c.in-Err.ensures.shows.0.phase; away = (tries_exclusive_stays c.args.pass.now.seat.number c.args.pass.now.seat.seats c.args.pass.now.seat.seat.me.0 c.try_enter_exclusive.new.seat.seat.me.0 (Err c.in-Err.busy) c.in-Err.ensures.steps c.requires.out.away).away }
+
+pub invariant_of-pass : goal.invariant_of-pass
+invariant_of-pass c = record {
+  counted = c.args.pass.now.counted ∙ ap (λ (v : View). v.root_count) (sym (tries_exclusive_stays c.args.pass.now.seat.number c.args.pass.now.seat.seats c.args.pass.now.seat.seat.me.0 c.try_enter_exclusive.new.seat.seat.me.0 c.try_enter_exclusive.result c.try_enter_exclusive.ensures.steps c.requires.out.away).store);
+}
 
 pub returns-in-Ok-clause-told : goal.returns-in-Ok-clause-told
 returns-in-Ok-clause-told c = λ h. c.arrive.ensures.told (told_same c.args.pass.now.seat.seat.me.0.store c.try_enter_exclusive.new.seat.seat.me.0.store c.args.pass.now.rows c.args.pass.now.seen c.args.pass.now.last c.args.pass.now.marks (tries_exclusive_stays c.args.pass.now.seat.number c.args.pass.now.seat.seats c.args.pass.now.seat.seat.me.0 c.try_enter_exclusive.new.seat.seat.me.0 (Ok tt) c.in-Ok.ensures.steps c.requires.out.away).store h)

@@ -1,5 +1,0 @@
-use Rattle.node_rows.proofs.Tellings.{told_found}
-use Rattle.node_rows.proofs.told.tell_find.Goals as goal
-
-pub returns-clause-told : goal.returns-clause-told
-returns-clause-told c = λ v f rs r told entries seen. told_found v c.args.pass.now.seat.seat.me.0.store c.args.pass.now.rows c.args.pass.now.seen c.args.pass.now.last c.args.pass.now.marks c.args.after f rs r told entries seen

@@ -1,0 +1,29 @@
+use Rattle.std.proofs.Common.{◌≡◌, ◌∙◌, ◌+◌, ◌-◌, ◌<◌, length, refl, arith}
+use Rattle.root_sets.proofs.Keeping.{keeps_all, keeps_on}
+use Rattle.root_sets.proofs.Ends.{moved_none, moved_more}
+use Rattle.root_sets.proofs.sets.copy_roots.Goals as goal
+
+pub loop-k-init : goal.loop-k-init
+loop-k-init c = let v = c.args.pass.now.seat.seat.me.0 in record {
+  inside = c.requires.inside;
+  same = (record { table = refl; id = refl; slots = refl }, refl);
+  count = refl;
+  moved = moved_none v.store.roots (c.args.pass.now.root_count - c.args.top) c.args.from;
+  keeps = keeps_all v;
+}
+
+pub loop-k-preserved : goal.loop-k-preserved
+loop-k-preserved c =
+    let v = c.args.pass.now.seat.seat.me.0 in
+    let u = c.loop-k.pass.seat.seat.me.0 in
+    let w = c.copy_root.new.pass.seat.seat.me.0 in
+    let i = c.loop-k.invariant in
+    let e = c.copy_root.ensures in
+    record {
+      inside = e.inside;
+      same = (record { table = e.same.0.table ∙ i.same.0.table; id = e.same.0.id ∙ i.same.0.id; slots = e.same.0.slots ∙ i.same.0.slots }, e.same.1 ∙ i.same.1);
+      count = e.count ∙ i.count;
+      moved = moved_more v.store.roots u.store.roots w.store.roots (c.args.pass.now.root_count - c.args.top) c.args.from c.loop-k.k i.moved (let f = c.requires.below in omega arith)
+          (let a = c.requires.inside.ready.known.roots in let b = c.requires.inside.ready.known.root_count in let d = c.args.pass.now.counted in let f = c.requires.below in omega arith) e.roots;
+      keeps = keeps_on v u w i.keeps e.keeps;
+    }

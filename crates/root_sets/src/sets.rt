@@ -1,0 +1,94 @@
+//! Calls on the protected rows of a pass. Each is made in shared or exclusive access, and none takes memory or waits.
+ghost use Rattle.std.specs.Prelude.{◌≡◌, ◌<◌, ◌≤◌, ◌+◌, ◌-◌, ◌↔◌, ℕ, [], ◌∷◌, ◌++◌, IfOk, IfErr, IsErr, length, get_or, set};
+ghost use Rattle.store_core.specs.Machine.{In, with_got, protected_in};
+ghost use Rattle.busy_forbidden.specs.Calls.{IsSame};
+ghost use Rattle.node_rows.specs.Inside.{IsInside};
+ghost use Rattle.node_rows.specs.Steps.{with_store};
+ghost use Rattle.root_sets.specs.Protected.{Keeps, Moved, ends_of};
+
+use crate::words::{load_root, set_count, set_root};
+use node_rows::{Pass, Store};
+use terms_api::Deep;
+
+/// Protects a row that the pass may use, after the others. `Deep` comes exactly where as many rows are protected as the store has
+/// room for; nothing has changed then.
+pub fn push_root(store: &Store, pass: &mut Pass, row: u64) -> Result<(), Deep>
+    requires inside { IsInside store.now pass.old }
+    requires uses { In row pass.old.seat.seat.me.0.store.got }
+    ensures inside { IsInside store.now pass.new }
+    ensures same { IsSame pass.old.seat.seat pass.new.seat.seat × (pass.new.seat.number ≡ pass.old.seat.number) }
+    ensures rows { IfOk result (λ _. protected_in pass.new.seat.seat.me.0.store
+        ≡ protected_in pass.old.seat.seat.me.0.store ++ row ∷ []) }
+    ensures deep { IsErr result ↔ (length (protected_in pass.old.seat.seat.me.0.store) ≡ store.now.sizes.depth) }
+    ensures unchanged { IfErr result (λ _. pass.new.seat.seat.me.0 ≡ pass.old.seat.seat.me.0) }
+    ensures keeps { Keeps pass.old.seat.seat.me.0 pass.new.seat.seat.me.0 }
+{
+    if pass.root_count == store.sizes.depth {
+        return Err(Deep);
+    }
+    let count = pass.root_count;
+    set_root(store, pass, count, row);
+    set_count(store, pass, count + 1);
+    Ok(())
+}
+
+/// The i-th protected row, which the pass may use then.
+pub fn root_at(store: &Store, pass: &mut Pass, i: u32) -> u64
+    requires inside { IsInside store.now pass.old }
+    requires below { i < length (protected_in pass.old.seat.seat.me.0.store) }
+    ensures inside { IsInside store.now pass.new }
+    ensures same { IsSame pass.old.seat.seat pass.new.seat.seat × (pass.new.seat.number ≡ pass.old.seat.number) }
+    ensures row { result ≡ get_or (protected_in pass.old.seat.seat.me.0.store) i 0 }
+    ensures gets { pass.new.seat.seat.me.0 ≡ with_store pass.old.seat.seat.me.0 (with_got pass.old.seat.seat.me.0.store result) }
+{
+    load_root(store, pass, i)
+}
+
+// Copies a protected row to a place below it.
+fn copy_root(store: &Store, pass: &mut Pass, k: u32, to: u32)
+    requires inside { IsInside store.now pass.old }
+    requires below { (k < pass.old.root_count) × (to ≤ k) }
+    ensures inside { IsInside store.now pass.new }
+    ensures same { IsSame pass.old.seat.seat pass.new.seat.seat × (pass.new.seat.number ≡ pass.old.seat.number) }
+    ensures count { pass.new.root_count ≡ pass.old.root_count }
+    ensures roots { pass.new.seat.seat.me.0.store.roots ≡ set pass.old.seat.seat.me.0.store.roots to (get_or pass.old.seat.seat.me.0.store.roots k 0) }
+    ensures keeps { Keeps pass.old.seat.seat.me.0 pass.new.seat.seat.me.0 }
+{
+    let row = load_root(store, pass, k);
+    set_root(store, pass, to, row);
+}
+
+// Copies the last so many protected rows to the places from `from` on.
+fn copy_roots(store: &Store, pass: &mut Pass, from: u32, top: u32)
+    requires inside { IsInside store.now pass.old }
+    requires below { from + top < pass.old.root_count }
+    ensures inside { IsInside store.now pass.new }
+    ensures same { IsSame pass.old.seat.seat pass.new.seat.seat × (pass.new.seat.number ≡ pass.old.seat.number) }
+    ensures count { pass.new.root_count ≡ pass.old.root_count }
+    ensures moved { Moved pass.old.seat.seat.me.0.store.roots pass.new.seat.seat.me.0.store.roots
+        (pass.old.root_count - top) from top }
+    ensures keeps { Keeps pass.old.seat.seat.me.0 pass.new.seat.seat.me.0 }
+{
+    let last = pass.root_count - top;
+    for k in 0..top {
+        copy_root(store, pass, last + k, from + k);
+    }
+}
+
+/// Keeps the lowest `from` and the last `top` of the protected rows.
+pub fn keep_roots(store: &Store, pass: &mut Pass, from: u32, top: u32)
+    requires inside { IsInside store.now pass.old }
+    requires within { from + top ≤ length (protected_in pass.old.seat.seat.me.0.store) }
+    ensures inside { IsInside store.now pass.new }
+    ensures same { IsSame pass.old.seat.seat pass.new.seat.seat × (pass.new.seat.number ≡ pass.old.seat.number) }
+    ensures rows { let rows = protected_in pass.old.seat.seat.me.0.store in
+        protected_in pass.new.seat.seat.me.0.store ≡ ends_of rows (length rows) from top }
+    ensures keeps { Keeps pass.old.seat.seat.me.0 pass.new.seat.seat.me.0 }
+{
+    let count = pass.root_count;
+    if from + top == count {
+        return;
+    }
+    copy_roots(store, pass, from, top);
+    set_count(store, pass, from + top);
+}

@@ -1,0 +1,82 @@
+//! The protected rows of a pass that keeps its stack in plain memory.
+ghost use Rattle.std.specs.Prelude.{◌≡◌, ◌<◌, ◌≤◌, IsTrue, length, get_or, set, take};
+ghost use Rattle.store_core.specs.Machine.{In, Each, protected_in};
+ghost use Rattle.busy_forbidden.specs.Calls.{IsSame};
+ghost use Rattle.node_rows.specs.Inside.{IsInside};
+ghost use Rattle.root_sets.specs.Protected.{Keeps};
+
+use crate::words::{load_root, set_count, set_root};
+use node_rows::{Pass, Store};
+use store_core::Sizes;
+
+// Whether protected row k is this one.
+fn has_root(store: &Store, pass: &mut Pass, k: u32, row: u64) -> bool
+    requires inside { IsInside store.now pass.old }
+    ensures inside { IsInside store.now pass.new }
+    ensures same { IsSame pass.old.seat.seat pass.new.seat.seat × (pass.new.seat.number ≡ pass.old.seat.number) }
+    ensures count { pass.new.root_count ≡ pass.old.root_count }
+    ensures roots { pass.new.seat.seat.me.0.store.roots ≡ pass.old.seat.seat.me.0.store.roots }
+    ensures has { IsTrue result → get_or pass.old.seat.seat.me.0.store.roots k 0 ≡ row }
+    ensures keeps { Keeps pass.old.seat.seat.me.0 pass.new.seat.seat.me.0 }
+{
+    if k >= pass.root_count {
+        return false;
+    }
+    load_root(store, pass, k) == row
+}
+
+// Makes protected row k this one, by a store where it is another.
+fn put_root(store: &Store, pass: &mut Pass, k: u32, row: u64)
+    requires inside { IsInside store.now pass.old }
+    requires below { k < store.now.sizes.depth }
+    requires uses { In row pass.old.seat.seat.me.0.store.got }
+    ensures inside { IsInside store.now pass.new }
+    ensures same { IsSame pass.old.seat.seat pass.new.seat.seat × (pass.new.seat.number ≡ pass.old.seat.number) }
+    ensures count { pass.new.root_count ≡ pass.old.root_count }
+    ensures roots { pass.new.seat.seat.me.0.store.roots ≡ set pass.old.seat.seat.me.0.store.roots k row }
+    ensures keeps { Keeps pass.old.seat.seat.me.0 pass.new.seat.seat.me.0 }
+{
+    if has_root(store, pass, k, row) {
+        return;
+    }
+    set_root(store, pass, k, row);
+}
+
+// How many rows these are, of which the store has room for each.
+fn count_rows(sizes: &Sizes, rows: &[u64]) -> u32
+    requires { length rows.now ≤ sizes.now.depth }
+    ensures { result ≡ length rows.now }
+{
+    rows.len().min(sizes.depth as usize) as u32
+}
+
+// Makes the first protected rows these.
+fn put_roots(store: &Store, pass: &mut Pass, rows: &[u64])
+    requires inside { IsInside store.now pass.old }
+    requires few { length rows.now ≤ store.now.sizes.depth }
+    requires uses { Each (λ r. In r pass.old.seat.seat.me.0.store.got) rows.now }
+    ensures inside { IsInside store.now pass.new }
+    ensures same { IsSame pass.old.seat.seat pass.new.seat.seat × (pass.new.seat.number ≡ pass.old.seat.number) }
+    ensures count { pass.new.root_count ≡ pass.old.root_count }
+    ensures roots { take (length rows.now) pass.new.seat.seat.me.0.store.roots ≡ rows.now }
+    ensures keeps { Keeps pass.old.seat.seat.me.0 pass.new.seat.seat.me.0 }
+{
+    for k in 0..count_rows(&store.sizes, rows) {
+        put_root(store, pass, k, rows[k as usize]);
+    }
+}
+
+/// Makes the protected rows exactly these, at most as many as the store has room for, each of which the pass may use: stores those
+/// that differ, and then the count.
+pub fn store_roots(store: &Store, pass: &mut Pass, rows: &[u64])
+    requires inside { IsInside store.now pass.old }
+    requires few { length rows.now ≤ store.now.sizes.depth }
+    requires uses { Each (λ r. In r pass.old.seat.seat.me.0.store.got) rows.now }
+    ensures inside { IsInside store.now pass.new }
+    ensures same { IsSame pass.old.seat.seat pass.new.seat.seat × (pass.new.seat.number ≡ pass.old.seat.number) }
+    ensures rows { protected_in pass.new.seat.seat.me.0.store ≡ rows.now }
+    ensures keeps { Keeps pass.old.seat.seat.me.0 pass.new.seat.seat.me.0 }
+{
+    put_roots(store, pass, rows);
+    set_count(store, pass, count_rows(&store.sizes, rows));
+}

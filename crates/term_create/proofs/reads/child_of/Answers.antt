@@ -1,0 +1,23 @@
+use Rattle.std.proofs.Common.{ap, rules}
+use Rattle.node_rows.specs.declared.view.NodeView.{NodeView}
+use Rattle.node_rows.proofs.Tellings.{told_on}
+use Rattle.term_create.proofs.Reading.{child_tree}
+use Rattle.term_create.proofs.reads.child_of.Goals as goal
+
+pub returns-clause-inside : goal.returns-clause-inside
+returns-clause-inside c =
+    let p = c.args.pass.now in
+    let v = p.seat.seat.me.0 in
+    let w = c.read_argument.new.seat.seat.me.0 in
+    let e = c.read_argument.ensures.view in
+    record {
+      store = c.requires.inside.store;
+      pass = search rules;
+      ready = search rules;
+      told = told_on v.store w.store p.rows p.seen p.last p.marks (ap (λ (u : NodeView). u.store.entries) e) (ap (λ (u : NodeView). u.store.seen) e) c.requires.inside.told;
+    }
+
+pub returns-clause-tree : goal.returns-clause-tree
+returns-clause-tree c =
+    let r = c.read_argument in
+    child_tree c.args.store.now.table.shared.key c.args.pass.now.seat.seat.me.0 r.new.seat.seat.me.0 c.requires.inside.ready.rest r.ensures.known c.args.row c.args.j c.requires.argument.count r.result r.ensures.view c.requires.argument.known c.requires.argument.below

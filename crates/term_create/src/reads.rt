@@ -1,0 +1,105 @@
+//! Reads of a row that the pass may use: its head, its count of arguments, and its arguments. Each takes one atomic step, or two where
+//! it reads an integer; none of them takes memory or waits.
+ghost use Rattle.std.specs.Prelude.{◌≡◌, ◌⊎◌, ◌<◌, ◌≤◌, ◌+◌, true, Some, length, get_or, min};
+ghost use Rattle.term_model.specs.Tree.{Tree, Leaf, root, arguments};
+ghost use Rattle.store_core.specs.ByView.{KnowsWord};
+ghost use Rattle.store_core.specs.Machine.{In, knowing, widest};
+ghost use Rattle.store_core.specs.declared.view.Place.TheVariants.{RowWord};
+ghost use Rattle.store_core.specs.Shown.{index_of, in_table};
+ghost use Rattle.busy_forbidden.specs.Calls.{IsSame};
+ghost use Rattle.node_rows.specs.Inside.{IsInside};
+ghost use Rattle.node_rows.specs.Steps.{with_store};
+ghost use Rattle.node_rows.specs.Knowing.{KnowsTree};
+ghost use Rattle.term_create.specs.Read.{Reads, ReadsChild, ReadsCount, HasArgument, head_words};
+
+use node_rows::{Pass, Store, read_argument, read_word, row_word};
+use store_core::Sizes;
+use term_model::{Head, Symbol};
+
+// The symbol words past those of symbols.
+const INTEGER: u64 = 1 << 32;
+
+const EMPTY_LIST: u64 = INTEGER + 1;
+
+// The place of a word of a row that the pass may use.
+fn place_of(store: &Store, pass: &Pass, row: u64, k: usize) -> usize
+    requires inside { IsInside store.now pass.now }
+    requires uses { In row pass.now.seat.seat.me.0.store.got }
+    requires within { k < widest store.now.sizes + 2 }
+    ensures word { result ≡ index_of store.now.sizes (RowWord row k) }
+    ensures there { in_table store.now.sizes (RowWord row k) ≡ true }
+{
+    row_word(&store.sizes, row, k)
+}
+
+// Loads word k of a row that the pass may use.
+fn read(store: &Store, pass: &mut Pass, row: u64, k: u64) -> u64
+    requires inside { IsInside store.now pass.old }
+    requires uses { In row pass.old.seat.seat.me.0.store.got }
+    requires may { (k < 2) ⊎ ((k ≡ 2) × KnowsWord row 0 4294967296 pass.old.seat.seat.me.0.store.knows) }
+    ensures inside { IsInside store.now pass.new }
+    ensures same { IsSame pass.old.seat.seat pass.new.seat.seat × (pass.new.seat.number ≡ pass.old.seat.number) }
+    ensures view { pass.new.seat.seat.me.0 ≡ with_store pass.old.seat.seat.me.0 (knowing pass.old.seat.seat.me.0.store row k result) }
+{
+    let place = place_of(store, pass, row, k as usize);
+    read_word(&store.table, &mut pass.seat, place, row, k)
+}
+
+// A count, as far as a row has room for so many arguments.
+fn at_most_width(sizes: &Sizes, count: u64) -> u32
+    ensures { result ≡ min count (widest sizes.now) }
+{
+    count.min(u64::from(sizes.arity.max(2))) as u32
+}
+
+/// The head of a row that the pass may use: exactly that of its tree, where the pass knows the tree.
+pub fn head_of(store: &Store, pass: &mut Pass, row: u64) -> Head
+    requires inside { IsInside store.now pass.old }
+    requires uses { In row pass.old.seat.seat.me.0.store.got }
+    ensures inside { IsInside store.now pass.new }
+    ensures same { IsSame pass.old.seat.seat pass.new.seat.seat × (pass.new.seat.number ≡ pass.old.seat.number) }
+    ensures reads { Reads pass.old.seat.seat.me.0 pass.new.seat.seat.me.0 (head_words row result) }
+    ensures tree { (t : Tree) → KnowsTree pass.old.seat.seat.me.0.store.knows row t → root t ≡ Some result }
+{
+    let word = read(store, pass, row, 0);
+    if word < INTEGER {
+        Head::App(Symbol(word as u32))
+    } else if word == INTEGER {
+        Head::Int(read(store, pass, row, 2))
+    } else if word == EMPTY_LIST {
+        Head::Nil
+    } else {
+        Head::Cons
+    }
+}
+
+/// How many arguments a row has that the pass may use: exactly as many as its tree, where the pass knows the tree.
+pub fn count_of(store: &Store, pass: &mut Pass, row: u64) -> u32
+    requires inside { IsInside store.now pass.old }
+    requires uses { In row pass.old.seat.seat.me.0.store.got }
+    ensures inside { IsInside store.now pass.new }
+    ensures same { IsSame pass.old.seat.seat pass.new.seat.seat × (pass.new.seat.number ≡ pass.old.seat.number) }
+    ensures reads { ReadsCount store.now.sizes pass.old.seat.seat.me.0 pass.new.seat.seat.me.0 row result }
+    ensures within { result ≤ widest store.now.sizes }
+    ensures tree { (t : Tree) → KnowsTree pass.old.seat.seat.me.0.store.knows row t
+        → length (arguments t) ≤ widest store.now.sizes → length (arguments t) ≡ result }
+{
+    let count = read(store, pass, row, 1);
+    at_most_width(&store.sizes, count)
+}
+
+/// The row of argument `j` of a row that the pass may use; the pass may use it then. It is exactly the row of that subtree, where
+/// the pass knows the tree. The pass has to know the count of arguments, which `count_of` reads.
+pub fn child_of(store: &Store, pass: &mut Pass, row: u64, j: u32) -> u64
+    requires inside { IsInside store.now pass.old }
+    requires uses { In row pass.old.seat.seat.me.0.store.got }
+    requires argument { HasArgument store.now.sizes pass.old.seat.seat.me.0.store.knows row j }
+    ensures inside { IsInside store.now pass.new }
+    ensures same { IsSame pass.old.seat.seat pass.new.seat.seat × (pass.new.seat.number ≡ pass.old.seat.number) }
+    ensures reads { ReadsChild pass.old.seat.seat.me.0 pass.new.seat.seat.me.0 row j result }
+    ensures tree { (t : Tree) → KnowsTree pass.old.seat.seat.me.0.store.knows row t
+        → KnowsTree pass.new.seat.seat.me.0.store.knows result (get_or (arguments t) j (Leaf 0)) }
+{
+    let place = place_of(store, pass, row, j as usize + 2);
+    read_argument(&store.table, &mut pass.seat, place, row, j as u64)
+}
