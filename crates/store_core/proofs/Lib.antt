@@ -52,3 +52,5 @@ pub mod HasContents
 pub mod Chained
 pub mod Ending
 pub mod Outcomes
+pub mod Placed
+pub mod WorkedPlaced

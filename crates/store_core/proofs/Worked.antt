@@ -1,7 +1,8 @@
 -- The worked runs, computed.
 use Rattle.std.proofs.Common.{refl}
 use Rattle.hash_buckets.specs.Hash.{hash_of, bucket_of}
-use Rattle.store_core.specs.Worked.{RaceFinds, LostMakes, SweepKeeps, UseDoubles, WornAtLast}
+use Rattle.store_core.specs.Worked.{RaceFinds, LostMakes, SweepKeeps, SweepFrees, UseDoubles, WornAtLast}
+use Rattle.store_core.proofs.WorkedPlaced.{not_unless_freed}
 
 pub race_finds : RaceFinds
 unfolding hash_of bucket_of
@@ -14,6 +15,10 @@ lost_makes = record { winner = refl; loser = refl }
 pub sweep_keeps : SweepKeeps
 unfolding hash_of bucket_of
 sweep_keeps = record { collector = refl; other = refl }
+
+pub sweep_frees : SweepFrees
+unfolding hash_of bucket_of
+sweep_frees = record { claim = refl; again = refl; not_unless_freed = not_unless_freed }
 
 pub use_doubles : UseDoubles
 use_doubles = record { first = refl; second = refl; third = refl }

@@ -1,5 +1,5 @@
 -- Worked runs, which the definitions compute.
-use Rattle.std.specs.Prelude.{◌≡◌, ℕ, ◌-◌, ◌^◌, List, [], ◌∷◌}
+use Rattle.std.specs.Prelude.{◌≡◌, ℕ, ◌-◌, ◌^◌, List, [], ◌∷◌, ◌++◌}
 use Rattle.term_model.specs.declared.Head.{Head}
 use Rattle.term_model.specs.declared.Head.TheVariants.{App}
 use Rattle.lock_core.specs.declared.parts.LockStep.TheVariants.{Raise, Look, Lower, Take, Ask, Peek, Unask, Give}
@@ -10,7 +10,7 @@ use Rattle.store_core.specs.Calls.{Content, Idle}
 use Rattle.store_core.specs.Machine.{Sizes, State}
 use Rattle.store_core.specs.Steps.{grown_use}
 use Rattle.store_core.specs.Runs.{at_start}
-use Rattle.store_core.specs.StoreSteps.{after}
+use Rattle.store_core.specs.StoreSteps.{after, IsInPlace, Leads}
 use Rattle.store_core.specs.declared.step.StoreStep.{StoreStep}
 use Rattle.store_core.specs.declared.step.StoreStep.TheVariants.{Lock, LoadBase, LoadFreeCount, LoadClaim, LoadInUse, Draw, LoadFreePlace, StoreDrawn, LoadBucket, LoadRow, Publish, StoreRoot, StoreRootCount, LoadAny, StoreBucket, StoreFreePlace, StoreFreeCount, StoreBase, StoreClaim}
 
@@ -78,31 +78,71 @@ pub record LostMakes : Type 0 where
 abbrev pub rooms : Sizes
 rooms = record { rows = 4; buckets = 1; start = 1; seats = 2; depth = 1; arity = 2; first = 1 }
 
--- each seat protects a constant; a third constant is made; seat 0 collects
-abbrev pub sweep : List (ℕ × StoreStep)
-sweep =
+-- Each seat protects a constant; a third constant is made; seat 0 begins to collect, and loads all.
+abbrev pub begins_sweep : List (ℕ × StoreStep)
+begins_sweep =
     (0, Lock Raise) ∷ (0, Lock Look) ∷ (0, LoadBase) ∷ (0, LoadInUse) ∷ (0, LoadBucket 0 (constant 0)) ∷ (0, LoadClaim)
     ∷ (0, LoadFreeCount) ∷ (0, Draw) ∷ (0, LoadFreePlace 0) ∷ (0, StoreDrawn 0 0 0) ∷ (0, StoreDrawn 0 1 0) ∷ (0, StoreDrawn 0 4 1)
     ∷ (0, StoreDrawn 0 5 0) ∷ (0, Publish 0 0 1) ∷ (0, StoreRoot 0 0) ∷ (0, StoreRootCount 1) ∷ (0, Lock Lower) ∷ (1, Lock Raise)
     ∷ (1, Lock Look) ∷ (1, LoadBase) ∷ (1, LoadInUse) ∷ (1, LoadBucket 0 (constant 1)) ∷ (1, LoadRow 0 0) ∷ (1, LoadRow 0 5)
     ∷ (1, LoadClaim) ∷ (1, LoadFreeCount) ∷ (1, Draw) ∷ (1, LoadFreePlace 1) ∷ (1, StoreDrawn 1 0 1) ∷ (1, StoreDrawn 1 1 0)
-    ∷ (1, StoreDrawn 1 4 2) ∷ (1, StoreDrawn 1 5 1) ∷ (1, Publish 0 1 2) ∷ (1, StoreRoot 0 1) ∷ (1, StoreRootCount 1) ∷ (1, LoadBucket 0 (constant 2))
-    ∷ (1, LoadRow 1 0) ∷ (1, LoadRow 1 5) ∷ (1, LoadRow 0 0) ∷ (1, LoadRow 0 5) ∷ (1, LoadClaim) ∷ (1, LoadFreeCount)
-    ∷ (1, Draw) ∷ (1, LoadFreePlace 2) ∷ (1, StoreDrawn 2 0 2) ∷ (1, StoreDrawn 2 1 0) ∷ (1, StoreDrawn 2 4 3) ∷ (1, StoreDrawn 2 5 2)
-    ∷ (1, Publish 0 2 3) ∷ (1, Lock Lower) ∷ (0, Lock Take) ∷ (0, Lock (Ask 1)) ∷ (0, Lock (Peek 1)) ∷ (0, LoadBase)
-    ∷ (0, LoadInUse) ∷ (0, LoadAny Base) ∷ (0, LoadAny Claim) ∷ (0, LoadAny FreeCount) ∷ (0, LoadAny InUse) ∷ (0, LoadAny (FreePlace 0))
-    ∷ (0, LoadAny (FreePlace 1)) ∷ (0, LoadAny (FreePlace 2)) ∷ (0, LoadAny (FreePlace 3)) ∷ (0, LoadAny (Bucket 0)) ∷ (0, LoadAny (RowWord 0 0)) ∷ (0, LoadAny (RowWord 0 1))
-    ∷ (0, LoadAny (RowWord 0 2)) ∷ (0, LoadAny (RowWord 0 3)) ∷ (0, LoadAny (Birth 0)) ∷ (0, LoadAny (Next 0)) ∷ (0, LoadAny (RowWord 1 0)) ∷ (0, LoadAny (RowWord 1 1))
-    ∷ (0, LoadAny (RowWord 1 2)) ∷ (0, LoadAny (RowWord 1 3)) ∷ (0, LoadAny (Birth 1)) ∷ (0, LoadAny (Next 1)) ∷ (0, LoadAny (RowWord 2 0)) ∷ (0, LoadAny (RowWord 2 1))
-    ∷ (0, LoadAny (RowWord 2 2)) ∷ (0, LoadAny (RowWord 2 3)) ∷ (0, LoadAny (Birth 2)) ∷ (0, LoadAny (Next 2)) ∷ (0, LoadAny (RowWord 3 0)) ∷ (0, LoadAny (RowWord 3 1))
-    ∷ (0, LoadAny (RowWord 3 2)) ∷ (0, LoadAny (RowWord 3 3)) ∷ (0, LoadAny (Birth 3)) ∷ (0, LoadAny (Next 3)) ∷ (0, LoadAny (RootCount 0)) ∷ (0, LoadAny (RootCount 1))
-    ∷ (0, LoadAny (Root 0 0)) ∷ (0, LoadAny (Root 1 0)) ∷ (0, StoreBucket 0 2) ∷ (0, StoreFreePlace 0 2) ∷ (0, StoreFreePlace 1 3) ∷ (0, StoreFreeCount 2)
-    ∷ (0, StoreBase 5) ∷ (0, StoreClaim 0) ∷ (0, Lock (Unask 1)) ∷ (0, Lock Give) ∷ []
+    ∷ (1, StoreDrawn 1 4 2) ∷ (1, StoreDrawn 1 5 1) ∷ (1, Publish 0 1 2) ∷ (1, StoreRoot 0 1) ∷ (1, StoreRootCount 1)
+    ∷ (1, LoadBucket 0 (constant 2)) ∷ (1, LoadRow 1 0) ∷ (1, LoadRow 1 5) ∷ (1, LoadRow 0 0) ∷ (1, LoadRow 0 5) ∷ (1, LoadClaim)
+    ∷ (1, LoadFreeCount) ∷ (1, Draw) ∷ (1, LoadFreePlace 2) ∷ (1, StoreDrawn 2 0 2) ∷ (1, StoreDrawn 2 1 0) ∷ (1, StoreDrawn 2 4 3)
+    ∷ (1, StoreDrawn 2 5 2) ∷ (1, Publish 0 2 3) ∷ (1, Lock Lower) ∷ (0, Lock Take) ∷ (0, Lock (Ask 1)) ∷ (0, Lock (Peek 1))
+    ∷ (0, LoadBase) ∷ (0, LoadInUse) ∷ (0, LoadAny Base) ∷ (0, LoadAny Claim) ∷ (0, LoadAny FreeCount) ∷ (0, LoadAny InUse)
+    ∷ (0, LoadAny (FreePlace 0)) ∷ (0, LoadAny (FreePlace 1)) ∷ (0, LoadAny (FreePlace 2)) ∷ (0, LoadAny (FreePlace 3))
+    ∷ (0, LoadAny (Bucket 0)) ∷ (0, LoadAny (RowWord 0 0)) ∷ (0, LoadAny (RowWord 0 1)) ∷ (0, LoadAny (RowWord 0 2))
+    ∷ (0, LoadAny (RowWord 0 3)) ∷ (0, LoadAny (Birth 0)) ∷ (0, LoadAny (Next 0)) ∷ (0, LoadAny (RowWord 1 0)) ∷ (0, LoadAny (RowWord 1 1))
+    ∷ (0, LoadAny (RowWord 1 2)) ∷ (0, LoadAny (RowWord 1 3)) ∷ (0, LoadAny (Birth 1)) ∷ (0, LoadAny (Next 1)) ∷ (0, LoadAny (RowWord 2 0))
+    ∷ (0, LoadAny (RowWord 2 1)) ∷ (0, LoadAny (RowWord 2 2)) ∷ (0, LoadAny (RowWord 2 3)) ∷ (0, LoadAny (Birth 2)) ∷ (0, LoadAny (Next 2))
+    ∷ (0, LoadAny (RowWord 3 0)) ∷ (0, LoadAny (RowWord 3 1)) ∷ (0, LoadAny (RowWord 3 2)) ∷ (0, LoadAny (RowWord 3 3))
+    ∷ (0, LoadAny (Birth 3)) ∷ (0, LoadAny (Next 3)) ∷ (0, LoadAny (RootCount 0)) ∷ (0, LoadAny (RootCount 1)) ∷ (0, LoadAny (Root 0 0))
+    ∷ (0, LoadAny (Root 1 0)) ∷ []
+
+-- It stores the chain without the third row, which goes to a free place, and the base.
+abbrev pub sweeps : List (ℕ × StoreStep)
+sweeps =
+    (0, StoreBucket 0 2) ∷ (0, StoreFreePlace 0 2) ∷ (0, StoreFreePlace 1 3) ∷ (0, StoreFreeCount 2) ∷ (0, StoreBase 5) ∷ []
+
+-- The claim's store ends it, and the seat leaves.
+abbrev pub ends_sweep : List (ℕ × StoreStep)
+ends_sweep =
+    (0, StoreClaim 0) ∷ (0, Lock (Unask 1)) ∷ (0, Lock Give) ∷ []
+
+abbrev pub sweep : List (ℕ × StoreStep)
+sweep = begins_sweep ++ sweeps ++ ends_sweep
 
 -- The collection keeps both protected rows under their names, and not the third.
 pub record SweepKeeps : Type 0 where
   pub collector : notes rooms sweep 0 ≡ Make 1 (symbol 0) [] 0 ∷ Roots 1 (0 ∷ []) ∷ Collect 4 (0 ∷ 1 ∷ []) ∷ Roots 4 (0 ∷ []) ∷ []
   pub other : notes rooms sweep 1 ≡ Make 2 (symbol 1) [] 1 ∷ Make 3 (symbol 2) [] 2 ∷ Roots 3 (1 ∷ []) ∷ []
+
+-- it stores no row that it didn't find in a free place
+abbrev pub frees_nothing : List (ℕ × StoreStep)
+frees_nothing = begins_sweep ++ (0, StoreFreePlace 0 3) ∷ (0, StoreFreeCount 1) ∷ (0, StoreBase 5) ∷ []
+
+-- seat 1 makes the third constant again
+abbrev pub makes_again : List (ℕ × StoreStep)
+makes_again =
+    (1, Lock Raise) ∷ (1, Lock Look) ∷ (1, LoadBase) ∷ (1, LoadInUse) ∷ (1, LoadBucket 0 (constant 2)) ∷ (1, LoadRow 1 0)
+    ∷ (1, LoadRow 1 5) ∷ (1, LoadRow 0 0) ∷ (1, LoadRow 0 5) ∷ (1, LoadClaim) ∷ (1, LoadFreeCount) ∷ (1, Draw) ∷ (1, LoadFreePlace 0)
+    ∷ (1, StoreDrawn 2 0 2) ∷ (1, StoreDrawn 2 1 0) ∷ (1, StoreDrawn 2 4 5) ∷ (1, StoreDrawn 2 5 2) ∷ (1, Publish 0 2 3)
+    ∷ (1, Lock Lower) ∷ []
+
+-- The claim is 0 again and the third row free, so it is made there with the number of the new base. A collection that frees nothing
+-- can't end.
+pub record SweepFrees : Type 0 where
+  pub claim : (run_of rooms sweep).words Claim ≡ 0
+  pub again : notes rooms (sweep ++ makes_again) 1 ≡ Make 2 (symbol 1) [] 1 ∷ Make 3 (symbol 2) [] 2 ∷ Roots 3 (1 ∷ []) ∷ Make 5 (symbol 2) [] 2 ∷ Roots 5 (1 ∷ []) ∷ []
+  pub not_unless_freed : IsInPlace rooms (run_of rooms frees_nothing) 0 (StoreClaim 0) → ⊥
+
+-- each step of the races and of the sweep, and of the creation after it, is in place
+pub record RunsAreInPlace : Type 0 where
+  pub in_race : Leads small (at_start small (first_words small)) race (run_of small race)
+  pub in_both : Leads small (at_start small (first_words small)) both (run_of small both)
+  pub in_sweep : Leads rooms (at_start rooms (first_words rooms)) sweep (run_of rooms sweep)
+  pub after_sweep : Leads rooms (run_of rooms sweep) makes_again (run_of rooms (sweep ++ makes_again))
 
 -- four rows and four buckets, of which one is in use at first
 abbrev pub growing : Sizes

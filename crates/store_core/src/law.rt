@@ -2,7 +2,7 @@
 ghost use Rattle.store_core.specs.Laws.{ActsAreActions, StepsKeep, StartHolds, RunsHold, WritesAreShown, PlacesInside, PlacesApart, LockIsApart, TotalIs};
 ghost use Rattle.store_core.specs.Laws.{OthersStay, CreationEnds, RefusalsHaveCause, RowIsAsked, FullIsExact, FullIsExactAlone, WornIsExact, WornChangesNothing, CollectionKeepsReached, CollectionKeepsTrees, CollectionGrowsUse, EqualContentEqualBucket};
 ghost use Rattle.store_core.specs.ByView.{ViewShows, KnownWordsStand, CollectionSees};
-ghost use Rattle.store_core.specs.Worked.{RaceFinds, LostMakes, SweepKeeps, UseDoubles, WornAtLast};
+ghost use Rattle.store_core.specs.Worked.{RaceFinds, LostMakes, SweepKeeps, SweepFrees, UseDoubles, WornAtLast, RunsAreInPlace};
 
 /// Each step keeps what holds, and it holds of a new store; so it holds after every list of steps, whatever the seats do
 /// in between.
@@ -52,11 +52,13 @@ pub fn own_view_permits()
 {}
 
 /// Worked runs, which the definitions compute: two seats that race for one bucket, a lost exchange that makes, a collection with
-/// two seats' protected rows, buckets in use that double, and Worn.
+/// two seats' protected rows, buckets in use that double, and Worn. Each step of the races and of the collection is in place.
 pub fn worked_runs()
     ensures race { RaceFinds }
     ensures lost { LostMakes }
     ensures sweep { SweepKeeps }
+    ensures frees { SweepFrees }
     ensures doubles { UseDoubles }
     ensures worn { WornAtLast }
+    ensures placed { RunsAreInPlace }
 {}

@@ -1,4 +1,5 @@
-use Rattle.store_core.proofs.Worked.{race_finds, lost_makes, sweep_keeps, use_doubles, worn_at_last}
+use Rattle.store_core.proofs.Worked.{race_finds, lost_makes, sweep_keeps, sweep_frees, use_doubles, worn_at_last}
+use Rattle.store_core.proofs.WorkedPlaced.{runs_are_in_place}
 use Rattle.store_core.proofs.law.worked_runs.Goals as goal
 
 pub returns-clause-race : goal.returns-clause-race
@@ -15,3 +16,9 @@ returns-clause-doubles c = use_doubles
 
 pub returns-clause-worn : goal.returns-clause-worn
 returns-clause-worn c = worn_at_last
+
+pub returns-clause-frees : goal.returns-clause-frees
+returns-clause-frees c = sweep_frees
+
+pub returns-clause-placed : goal.returns-clause-placed
+returns-clause-placed c = runs_are_in_place
