@@ -43,3 +43,8 @@ desk_ready s plan rows desk e depth widest d = record {
   room = let a = d.room in omega arith;
   width = let a = d.widest in omega arith;
 }
+
+-- so are all of several desks
+pub desks_ready : {D : Type 0} (store : D → Store) (s : Settings) (plan : Planned) (rows : ℕ) (ds : List D) → s.rows ≡ rows → s.depth ≡ 8 → plan.widest ≡ 2 →
+    All (λ d. IsEmptyDesk rows (store d)) ds → All (λ d. IsReady s plan (store d)) ds
+desks_ready store s plan rows ds e depth widest all = λ k d h. desk_ready s plan rows (store (get_or ds k d)) e depth widest (all k d h)

@@ -1,7 +1,5 @@
 //! Workers on one desk and on two, by stores that tell when they build and gates that wait.
-ghost use Rattle.std.specs.Prelude.{◌≡◌, ◌<◌, ◌≤◌, ◌^◌, [], ◌∷◌, All, IfOk, IsTrue, length};
-ghost use Rattle.term_model.specs.Tree.{IsGround};
-ghost use Rattle.rule_match.specs.Planned.{IsPlain};
+ghost use Rattle.std.specs.Prelude.{◌≡◌, ◌<◌, ◌≤◌, ◌^◌, [], ◌∷◌, All, IfOk, length};
 ghost use Rattle.plain_store.specs.Contents.{store_of};
 ghost use Rattle.rewrite_workers.specs.Works.{MayWork};
 ghost use Rattle.rewrite_workers.specs.Trials.{IsEmptyDesk};
@@ -19,7 +17,6 @@ use std::test::Fail;
 use std::thread::{Threads, yield_now};
 use symbol_pool::Symbols;
 use term_lines::LineKind;
-use term_model::Flat;
 use term_syntax::{Flats, read_terms};
 
 /// How often one who waits for another looks, before it gives up.
@@ -33,19 +30,8 @@ struct Trial {
     terms: Flats,
 }
 
-// Whether all terms are of symbols alone, of no more than two arguments, without variables.
-fn are_plain(terms: &[Flat]) -> bool
-    ensures { IsTrue result → All (λ t. IsGround t × IsPlain 2 t) terms.now }
-{
-    'terms: for term in terms {
-        if !may_be_normalized(term, 2) {
-            return false;
-        }
-    }
-    true
-}
-
 // The terms of a text.
+#[tactic(auto, using(crate::proofs::Trying::may_work))]
 fn input(rt: &impl Abort, alloc: Global, text: &[u8]) -> Result<Trial, Fail>
     ensures { IfOk result (λ i. MayWork i.plan i.symbols i.terms × (i.plan.widest ≡ 2)) }
 {
@@ -67,6 +53,7 @@ fn input(rt: &impl Abort, alloc: Global, text: &[u8]) -> Result<Trial, Fail>
 }
 
 // Rewrites the terms of a text on some desks of so many rows.
+#[tactic(auto, using(crate::proofs::Trying::desks_ready))]
 fn rewrite<R: Threads + Abort + Sync, H: Hears, G: Gate>(
     rt: &R,
     alloc: Global,
