@@ -226,7 +226,7 @@ fn left(alloc: Global, after: u64) -> Entry {
 
 // Two seats load one head; the first makes its row, and then the other goes on.
 fn raced(alloc: Global, one: u32, other: u32) -> Result<Driven, Memory> {
-    let mut driven = Driven::new(alloc)?;
+    let mut driven = Driven::new(alloc, SMALL)?;
     driven.enter(0)?;
     driven.enter(1)?;
     driven.begin(0, one)?;
