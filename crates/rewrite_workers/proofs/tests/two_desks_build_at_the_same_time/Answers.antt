@@ -7,7 +7,7 @@ use Rattle.rewrite_workers.specs.Trials.{IsEmptyDesk}
 use Rattle.rewrite_workers.proofs.tests.two_desks_build_at_the_same_time.Goals as goal
 
 pub rewrite-requires-clause-ready : goal.rewrite-requires-clause-ready
-rewrite-requires-clause-ready g c =
+rewrite-requires-clause-ready g c κs within =
     let P : Told Meeting → Type 0 = λ d. IsEmptyDesk 10 (store_of d.store) in
     let first = c.in_ok-new.field-0 in
     let second = c.in_ok-new-2.field-0 in
