@@ -18,4 +18,4 @@ returns-in-Ok-clause-view g c =
     let d = c.in-Ok.drawn in
     let x = Linking (content a) d.from d.index d.row in
     notes_on v c.draw_row.new.seat.seat.me.0 c.publish_row.new.seat.seat.me.0 h.passed (v.store.path ++ h.path) x a.head a.args.now c.publish_row.result
-        (c.in-Ok.ensures.view ∙ ap (λ (q : NodeView). at_call q x) h.view) c.publish_row.ensures.view
+    (c.in-Ok.ensures.view ∙ ap (λ (q : NodeView). at_call q x) h.view) c.publish_row.ensures.view

@@ -21,7 +21,7 @@ returns-in-Some-clause-view g c =
     let lost : eqb found d.from ≡ false = grind (arith, nat_tests) in
     let x = arrived (content a) (Some (d.index, d.row)) found d.from found in
     let e : u ≡ at_walk v v.store.passed v.store.path x =
-        c.publish-found.ensures.view
-        ∙ (ap (λ (b : Bool). with_store l (cond b (gained l.store (content a) d.row (a.base + d.index) (Make (a.base + d.index) a.head a.args.now d.row)) (with_call l.store x))) lost
-        ∙ ap (λ (q : NodeView). with_store q (with_call q.store x)) c.link.ensures.view) in
+    c.publish-found.ensures.view
+    ∙ (ap (λ (b : Bool). with_store l (cond b (gained l.store (content a) d.row (a.base + d.index) (Make (a.base + d.index) a.head a.args.now d.row)) (with_call l.store x))) lost
+    ∙ ap (λ (q : NodeView). with_store q (with_call q.store x)) c.link.ensures.view) in
     notes_on v u w v.store.passed v.store.path x a.head a.args.now c.in-Some.other e c.in-Some.ensures.view
