@@ -84,6 +84,34 @@ fn rewrite<R: Threads + Abort + Sync, H: Hears, G: Gate>(
     Ok(rewrite_all(rt, alloc, &work, desks, gate))
 }
 
+/// Has each of two desks wait at its first build until the other is about to build, and counts those
+/// that gave up.
+#[derive(Drop)]
+struct Meeting {
+    desks: AtomicU32,
+    missed: AtomicU32,
+}
+
+impl Hears for Meeting {
+    fn enters(&self, _desk: u32) {}
+
+    fn leaves(&self, _desk: u32) {}
+
+    fn builds(&self, desk: u32) {
+        let mine = if desk == 0 { 1 } else { 2 };
+        if self.desks.fetch_or(mine, Ordering::SeqCst) & mine != 0 {
+            return;
+        }
+        for _turn in 0..MOST_TURNS {
+            if self.desks.load(Ordering::SeqCst) == 3 {
+                return;
+            }
+            yield_now();
+        }
+        self.missed.fetch_add(1, Ordering::SeqCst);
+    }
+}
+
 /// Holds term 0 until term 1 has begun, and counts where it gave up.
 #[derive(Drop)]
 struct Holding {
@@ -172,6 +200,29 @@ fn text_of(alloc: Global, lines: &Lines) -> Result<Vec<u8>, Fail> {
         text.push(b'\n')?;
     }
     Ok(text)
+}
+
+#[test]
+fn two_desks_build_at_the_same_time(rt: HostRuntime) -> Result<(), Fail> {
+    let alloc = rt.alloc();
+    let meeting = Meeting {
+        desks: AtomicU32::new(0),
+        missed: AtomicU32::new(0),
+    };
+    let mut desks = [
+        Told::new(alloc, 10, 0, &meeting)?,
+        Told::new(alloc, 10, 1, &meeting)?,
+    ];
+    let lines = rewrite(&rt, alloc, b"f(a) g(b)", 10, &mut desks, &OpenGate)?;
+    let lines = lines.ok().ok_or("no lines")?;
+    assert_eq!(rt; meeting.missed.load(Ordering::SeqCst), 0);
+    assert_eq!(rt;
+        text_of(alloc, &lines)?.as_slice(),
+        b"f(a)\ng(b)\n".as_slice()
+    );
+    assert_eq!(rt; lines.list.len(), 2);
+    assert!(rt; lines.list[0].worker != lines.list[1].worker);
+    Ok(())
 }
 
 #[test]
