@@ -11,4 +11,4 @@ rewrite-requires-clause-ready g c κs =
     let P : Told Meeting → Type 0 = λ d. IsEmptyDesk 10 (store_of d.store) in
     let first = c.in_ok-new.field-0 in
     let second = c.in_ok-new-2.field-0 in
-    All-cons P first (second ∷ []) (c.in_ok-new.ensures ()) (All-cons P second [] (c.in_ok-new-2.ensures ()) (All-nil P))
+    All-cons P first (second ∷ []) c.in_ok-new.ensures (All-cons P second [] c.in_ok-new-2.ensures (All-nil P))
