@@ -18,3 +18,4 @@ pub mod Own
 pub mod Judged
 pub mod Entire
 pub mod Accepted
+pub mod Fewness

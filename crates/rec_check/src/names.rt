@@ -10,22 +10,19 @@ use indexmap::IndexSet;
 use std::alloc::Global;
 use std::marker::Model;
 
-/// Names, each once, numbered from 0 in the order in which they were added. They are fewer than
-/// 2^32, and looked up by hashing.
+/// Names, each once, numbered from 0 in the order in which they were added, and looked up by hashing.
 #[derive(Drop)]
 pub(crate) struct Names {
     set: IndexSet<Vec<u8>>,
 }
 
 impl Model for Names {
-    ghost use Rattle.std.specs.Prelude.{ℕ, List, ◌<◌, ◌^◌, length};
+    ghost use Rattle.std.specs.Prelude.{ℕ, List};
     ghost use Rattle.rec_check.specs.Named.{names_in};
 
     ghost Value = { List (List ℕ) };
 
     ghost view = { λ n. names_in n.set.keys };
-
-    ghost invariant = { λ n. length n.set.keys < 2 ^ 32 };
 }
 
 impl Names {
@@ -46,26 +43,22 @@ impl Names {
         if self.set.contains(name) {
             return Ok(());
         }
-        if self.set.len() >= u32::MAX as usize {
-            return Err(Memory);
-        }
         let copy = Vec::from_slice(*self.set.allocator(), name)?;
         self.set.insert(copy)?;
         Ok(())
     }
 
     /// The number of a name that is there.
-    pub(crate) fn number(&self, name: &[u8]) -> Option<u32>
+    pub(crate) fn number(&self, name: &[u8]) -> Option<usize>
         ensures { result ≡ position (bytes_eq name.now) self.now }
     {
-        let number = self.set.get_index_of(name)?;
-        Some(number as u32)
+        self.set.get_index_of(name)
     }
 
     /// How many names there are.
-    pub(crate) fn count(&self) -> u32
+    pub(crate) fn count(&self) -> usize
         ensures { result ≡ length self.now }
     {
-        self.set.len() as u32
+        self.set.len()
     }
 }

@@ -1,6 +1,7 @@
 //! Rules from their sides.
 
 ghost use Rattle.std.specs.Prelude.{◌≡◌, IfOk};
+ghost use Rattle.rec_reader.specs.Few.{HasFewNodes};
 ghost use Rattle.rec_check.specs.Gives.{Gives};
 ghost use Rattle.rec_check.specs.Scope.{seen};
 ghost use Rattle.rec_check.specs.Term.{all_of};
@@ -64,7 +65,8 @@ fn sides_of(alloc: Global, scope: &Scope, written: &WrittenRule) -> Result<Rule,
     if left.root().is_none() {
         return Err(Stop::Unspelled);
     }
-    Ok(Rule::new(left, right, conditions, scope.variables.count()))
+    let variables = scope.variables.count() as u32;
+    Ok(Rule::new(left, right, conditions, variables))
 }
 
 /// A rule, with the variables of its left side numbered in order of first occurrence.
@@ -75,6 +77,7 @@ pub(crate) fn rule_of(
     declared: &Names,
     written: &WrittenRule,
 ) -> Result<Rule, Stop>
+    requires { HasFewNodes written.now }
     ensures { Gives (λ r. r) result (rule_in text.now symbols.now declared.now written.now) }
 {
     let variables = variables_of(alloc, text, declared, written.left.as_slice())?;

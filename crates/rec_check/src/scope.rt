@@ -1,6 +1,6 @@
 //! What the heads of a term stand for.
 
-ghost use Rattle.std.specs.Prelude.{◌≡◌};
+ghost use Rattle.std.specs.Prelude.{◌≡◌, ◌<◌, ◌^◌, length};
 ghost use Rattle.rec_offences.specs.Names.{text_of};
 ghost use Rattle.rec_check.specs.Term.{variable_item, symbol_item};
 
@@ -21,12 +21,13 @@ pub(crate) fn text_of(text: &[u8], name: Name) -> &[u8]
     &text[start..end]
 }
 
-/// The names that a term is read with: those of the variables, and the symbols.
+/// The names that a term is read with: those of the variables, which are fewer than 2^32, and the symbols.
 #[derive(Drop)]
 pub(crate) struct Scope<'a> {
     pub text: &'a [u8],
     pub symbols: &'a Symbols,
     pub variables: &'a Names,
+    ghost few: { length variables.now < 2 ^ 32 },
 }
 
 impl Scope<'_> {
@@ -40,7 +41,7 @@ impl Scope<'_> {
     {
         let name = text_of(self.text, node.head);
         match self.variables.number(name) {
-            Some(variable) => variable_item(variable, node.count),
+            Some(variable) => variable_item(variable as u32, node.count),
             None => symbol_item(self.symbols, name, node.count),
         }
     }

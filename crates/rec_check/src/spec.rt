@@ -1,6 +1,7 @@
 //! The specification that a syntax spells.
 
-ghost use Rattle.std.specs.Prelude.{◌≡◌, IfOk};
+ghost use Rattle.std.specs.Prelude.{◌≡◌, All, IfOk};
+ghost use Rattle.rec_reader.specs.Few.{HasFewLeftNodes};
 ghost use Rattle.rec_check.specs.Gives.{Gives};
 ghost use Rattle.rec_check.specs.Spelled.{nothing, spelled_by};
 ghost use Rattle.rec_check.specs.Spec.{specified};
@@ -53,6 +54,7 @@ pub(crate) fn spell(
     material: &[usize],
     terms: &[Sequence<Node>],
 ) -> Result<Spec, Stop>
+    requires { All HasFewLeftNodes specifications.now }
     ensures spelled { Gives specified result
         (spelled_by text.now specifications.now material.now terms.now) }
     ensures widest { IfOk result (λ s. s.widest ≡ widest_of s.symbols) }

@@ -1,7 +1,8 @@
 //! What specifications spell together.
 
-ghost use Rattle.std.specs.Prelude.{◌≡◌, [], map, slice_get, IfOk, OnOk};
+ghost use Rattle.std.specs.Prelude.{◌≡◌, [], All, map, slice_get, IfOk, OnOk};
 ghost use Rattle.std.specs.Option.{option_copied};
+ghost use Rattle.rec_reader.specs.Few.{HasFewNodes, HasFewLeftNodes};
 ghost use Rattle.rec_check.specs.Gives.{Gives, after};
 ghost use Rattle.rec_check.specs.Named.{with_names};
 ghost use Rattle.rec_check.specs.Symbols.{named_in, with_symbols};
@@ -82,6 +83,7 @@ fn push_rules(
     written: &[WrittenRule],
     rules: &mut Vec<Rule>,
 ) -> Result<(), Stop>
+    requires { All HasFewNodes written.now }
     ensures { Gives (λ _. rules.new.items) result
         (after rules.old.items (all_of (rule_in text.now symbols.now declared.now) written.now)) }
 {
@@ -99,6 +101,7 @@ fn add_rules(
     specification: &Specification,
     rules: &mut Vec<Rule>,
 ) -> Result<(), Stop>
+    requires { HasFewLeftNodes specification.now }
     ensures { Gives (λ _. rules.new.items) result
         (after rules.old.items (spelled.rules_in text.now symbols.now specification.now)) }
 {
@@ -115,6 +118,7 @@ pub(crate) fn rules_of(
     specifications: &[Specification],
     material: &[usize],
 ) -> Result<Vec<Rule>, Stop>
+    requires { All HasFewLeftNodes specifications.now }
     ensures { Gives (λ v. v.items) result
         (spelled.rules_of text.now symbols.now
         (specifications_at specifications.now material.now)) }

@@ -4,6 +4,7 @@ pub mod Noted
 pub mod Order
 pub mod Places
 pub mod SortPlaces
+pub mod Numberings
 pub mod Fronts
 pub mod Forests
 pub mod Preorders

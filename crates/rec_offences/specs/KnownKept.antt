@@ -13,4 +13,4 @@ abbrev pub scope_shown : Inside → Known
 scope_shown s = known s.names.bytes (entries_of s.signatures.items)
 
 abbrev pub IsScopeKept : Inside → Type 0
-IsScopeKept s = IsScope s.names (entries_of s.signatures.items) s.sorts
+IsScopeKept s = IsScope s.names (entries_of s.signatures.items) s.sorts.bytes

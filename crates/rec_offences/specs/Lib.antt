@@ -9,6 +9,7 @@ pub mod Forest
 pub mod Walk
 pub mod Indexed
 pub mod KnownKept
+pub mod Numbering
 pub mod SortsKept
 pub mod Inclusion
 pub mod Visited

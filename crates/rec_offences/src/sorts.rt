@@ -1,7 +1,8 @@
 //! Sorts by number, so that the texts of two need not be compared again.
-ghost use Rattle.std.specs.Prelude.{◌≡◌, ◌++◌, ◌∷◌, [], IfOk, OnErr, OnOk, Some, not, if◌then◌else◌};
+ghost use Rattle.std.specs.Prelude.{◌≡◌, ◌++◌, ◌∷◌, [], All, IfOk, None, OnErr, OnOk, Some, not, if◌then◌else◌};
 ghost use Rattle.rec_offences.specs.Names.{is_among, same_text};
 ghost use Rattle.rec_offences.specs.Listing.{listing, place_of};
+ghost use Rattle.rec_offences.specs.Numbering.{HasNumber, NumbersOnly, number_of};
 
 use crate::directory::Directory;
 use crate::names::text_of;
@@ -20,9 +21,9 @@ pub(crate) struct SortNumbers<'a> {
 }
 
 impl<'a> Model for SortNumbers<'a> {
-    ghost use Rattle.std.specs.Prelude.{List, ℕ};
+    ghost use Rattle.rec_offences.specs.Numbering.{Numbering};
 
-    ghost Value = { List ℕ };
+    ghost Value = { Numbering };
 
     ghost use Rattle.rec_offences.specs.SortsKept.{numbers_shown, AreNumbersKept};
 
@@ -49,7 +50,7 @@ fn number_of(texts: &mut Directory, name: Name) -> Result<usize, Memory>
 
 impl<'a> SortNumbers<'a> {
     pub(crate) fn new(alloc: Global, text: &'a [u8]) -> Self
-        ensures { result ≡ text.now }
+        ensures { result ≡ record { bytes = text.now; numbers = [] } }
     {
         SortNumbers {
             texts: Directory::new(alloc, text),
@@ -57,9 +58,10 @@ impl<'a> SortNumbers<'a> {
         }
     }
 
-    /// Numbers a name.
+    /// Numbers a name. Others keep their numbers, and get none.
     pub(crate) fn note(&mut self, name: Name) -> Result<(), Memory>
-        ensures { self.new ≡ self.old }
+        ensures numbered { OnOk result (HasNumber self.new name) }
+        ensures only { NumbersOnly self.old self.new (name ∷ []) }
     {
         let key = (name.start, name.end);
         if self.numbers.contains_key(&key) {
@@ -73,9 +75,12 @@ impl<'a> SortNumbers<'a> {
     }
 
     /// Numbers the sorts of arguments, and then a sort. Where that is numbered, they are too, since
-    /// all names of a declaration share them.
+    /// all names of a declaration share them. Others keep their numbers, and get none.
     pub(crate) fn note_sorts(&mut self, arguments: &[Name], sort: Name) -> Result<(), Memory>
-        ensures { self.new ≡ self.old }
+        ensures numbered { OnOk result (HasNumber self.new sort) }
+        ensures arguments { number_of self.old sort ≡ None
+            → OnOk result (All (HasNumber self.new) arguments.now) }
+        ensures only { NumbersOnly self.old self.new (arguments.now ++ sort ∷ []) }
     {
         if self.numbers.contains_key(&(sort.start, sort.end)) {
             return Ok(());
@@ -88,7 +93,7 @@ impl<'a> SortNumbers<'a> {
 
     /// Whether two names have different texts.
     pub(crate) fn differ(&self, first: Name, second: Name) -> bool
-        ensures { result ≡ not (same_text self.now first second) }
+        ensures { result ≡ not (same_text self.now.bytes first second) }
     {
         let numbers = (
             self.numbers.get(&(first.start, first.end)).copied(),

@@ -1,5 +1,5 @@
 -- The tokens of bytes are those of parts that join to the bytes.
-use Rattle.std.proofs.Common.{◌≡◌, ◌≤◌, ◌∙◌, ℕ, zero, suc, ◌+◌, List, [], ◌∷◌, ◌++◌, length, drop, take, Bool, true, false, eqb, refl, ap, sym, subst, arith, Option, Some, None, inl, inr, Result, Ok, Err}
+use Rattle.std.proofs.Common.{◌≡◌, ◌≤◌, ◌∙◌, ℕ, zero, suc, ◌+◌, List, [], ◌∷◌, ◌++◌, length, drop, take, Bool, true, false, eqb, refl, ap, sym, subst, arith, Option, Some, None, ◌⊎◌, inl, inr, Result, Ok, Err}
 use Rattle.std.proofs.lemmas.List.{length-append}
 use Rattle.std.proofs.lemmas.Bool.Decides.{Decides-eqb}
 use Rattle.std.proofs.Math.Seq.{drop-append_seam, take-append_seam}
@@ -8,7 +8,8 @@ use Rattle.std.specs.Option.{option_to_list}
 use Rattle.rec_reader.specs.declared.token.Token.{Token}
 use Rattle.rec_reader.specs.declared.token.Token.TheVariants.{At}
 use Rattle.rec_reader.specs.declared.token.Sign.{Sign}
-use Rattle.rec_reader.specs.declared.scanner.Piece.TheVariants.{Blank, Whole}
+use Rattle.rec_reader.specs.declared.scanner.Piece.{Piece}
+use Rattle.rec_reader.specs.declared.scanner.Piece.TheVariants.{Blank, Whole, Bad}
 use Rattle.rec_reader.specs.Tokens.{is_space, is_name_byte, run_length, comment_length, word_of, word_or_name, token_of_run, mark_of, mark_or_bad, piece_at, read_piece, after_token, tokens_from}
 use Rattle.rec_reader.specs.Cut.{text_of, IsLongestRun, IsTextOf, IsPart, IsCut, TokensAreCut}
 use Rattle.rec_reader.proofs.Reading.{passed_over}
@@ -48,33 +49,27 @@ after_ok t (Ok us) ts e = let same : t ∷ us ≡ ts = cc in (us, refl, same)
 after_ok t (Err at) ts e = absurd cc
 
 -- bytes before which a part stands that has a text
-record Front (at b : ℕ) (bs : List ℕ) (more : ℕ) (o : Option Token) : Type 0 where
-  text : List ℕ
-  rest : List ℕ
-  is : b ∷ bs ≡ text ++ rest
-  long : length text ≡ more + 1
-  part : IsPart at text rest o
+pub record Front (at b : ℕ) (bs : List ℕ) (more : ℕ) (o : Option Token) : Type 0 where
+  pub text : List ℕ
+  pub rest : List ℕ
+  pub is : b ∷ bs ≡ text ++ rest
+  pub long : length text ≡ more + 1
+  pub part : IsPart at text rest o
 
-shorter : (fuel b : ℕ) (bs text rest : List ℕ) (more : ℕ) → length (b ∷ bs) ≤ suc fuel → b ∷ bs ≡ text ++ rest → length text ≡ more + 1 → length rest ≤ fuel
+-- the piece of a part, of which so many bytes follow the first
+abbrev pub piece_of : Option Token → ℕ → Piece
+piece_of None more = Blank more
+piece_of (Some t) more = Whole t more
+
+-- what reading gives, with a part before it
+abbrev pub with_part : Option Token → Result (List Token) ℕ → Result (List Token) ℕ
+with_part None r = r
+with_part (Some t) r = after_token t r
+
+pub shorter : (fuel b : ℕ) (bs text rest : List ℕ) (more : ℕ) → length (b ∷ bs) ≤ suc fuel → b ∷ bs ≡ text ++ rest → length text ≡ more + 1 → length rest ≤ fuel
 shorter fuel b bs text rest more h e n =
     let whole : length (b ∷ bs) ≡ length text + length rest = ap length e ∙ length-append text rest in
     omega (arith, whole, n, h)
-
-blank_case : (fuel at b : ℕ) (bs : List ℕ) (ts : List Token) (more : ℕ) → Below fuel → length (b ∷ bs) ≤ suc fuel → tokens_from at 0 (b ∷ bs) ≡ Ok ts → piece_at at (b ∷ bs) ≡ Blank more → Front at b bs more None → IsCut at (b ∷ bs) ts
-blank_case fuel at b bs ts more below h e p f =
-    let r : tokens_from (at + length f.text) 0 f.rest ≡ Ok ts = sym (ap (λ q. read_piece at q (λ n. tokens_from (at + 1) n bs)) p ∙ passed b bs f.text f.rest at more f.is f.long) ∙ e in
-    let c = below (at + length f.text) f.rest ts (shorter fuel b bs f.text f.rest more h f.is f.long) r in
-    let P : List ℕ → Type 0 = λ xs. IsCut at xs ts in
-    subst P (sym f.is) (before at f.text f.rest None ts f.part c)
-
-whole_case : (fuel at b : ℕ) (bs : List ℕ) (ts : List Token) (t : Token) (more : ℕ) → Below fuel → length (b ∷ bs) ≤ suc fuel → tokens_from at 0 (b ∷ bs) ≡ Ok ts → piece_at at (b ∷ bs) ≡ Whole t more → Front at b bs more (Some t) → IsCut at (b ∷ bs) ts
-whole_case fuel at b bs ts t more below h e p f =
-    let r : after_token t (tokens_from (at + length f.text) 0 f.rest) ≡ Ok ts = sym (ap (λ q. read_piece at q (λ n. tokens_from (at + 1) n bs)) p ∙ ap (after_token t) (passed b bs f.text f.rest at more f.is f.long)) ∙ e in
-    let a = after_ok t (tokens_from (at + length f.text) 0 f.rest) ts r in
-    let c = below (at + length f.text) f.rest a.0 (shorter fuel b bs f.text f.rest more h f.is f.long) a.1 in
-    let P : List ℕ → Type 0 = λ xs. IsCut at xs (t ∷ a.0) in
-    let Q : List Token → Type 0 = λ us. IsCut at (b ∷ bs) us in
-    subst Q a.2 (subst P (sym f.is) (before at f.text f.rest (Some t) a.0 f.part c))
 
 comment_front : (at b : ℕ) (bs : List ℕ) → eqb b 37 ≡ true → Front at b bs (comment_length bs) None
 comment_front at b bs c =
@@ -113,29 +108,67 @@ run_front at b bs s c n =
       front = record { text = text; rest = rest; is = r.split.is; long = long; part = run_known at text rest run (word_of text) refl };
     }
 
-mark_case : (fuel at b : ℕ) (bs : List ℕ) (ts : List Token) (o : Option (Sign × ℕ)) → Below fuel → length (b ∷ bs) ≤ suc fuel → tokens_from at 0 (b ∷ bs) ≡ Ok ts → piece_at at (b ∷ bs) ≡ mark_or_bad at o → mark_of (b ∷ bs) ≡ o → IsCut at (b ∷ bs) ts
-mark_case fuel at b bs ts None below h e p m =
-    let bad : Err at ≡ Ok ts = sym (ap (λ q. read_piece at q (λ n. tokens_from (at + 1) n bs)) p) ∙ e in absurd cc
-mark_case fuel at b bs ts (Some m) below h e p is =
-    let k = marked (b ∷ bs) m is in
-    whole_case fuel at b bs ts (At m.0 at) m.1 below h e p
-    (record { text = text_of m.0; rest = k.rest; is = k.is; long = k.long; part = (refl, refl, k.ends) })
+-- a part at the front, as it is read
+pub record HasFront (at b : ℕ) (bs : List ℕ) : Type 0 where
+  pub more : ℕ
+  pub token : Option Token
+  pub piece : piece_at at (b ∷ bs) ≡ piece_of token more
+  pub front : Front at b bs more token
 
-cut_front : (fuel at b : ℕ) (bs : List ℕ) (ts : List Token) → Below fuel → length (b ∷ bs) ≤ suc fuel → tokens_from at 0 (b ∷ bs) ≡ Ok ts → IsCut at (b ∷ bs) ts
-cut_front fuel at b bs ts below h e =
+mark_front : (at b : ℕ) (bs : List ℕ) (o : Option (Sign × ℕ)) → piece_at at (b ∷ bs) ≡ mark_or_bad at o → mark_of (b ∷ bs) ≡ o → (piece_at at (b ∷ bs) ≡ Bad) ⊎ HasFront at b bs
+mark_front at b bs None p is = inl p
+mark_front at b bs (Some m) p is =
+    let k = marked (b ∷ bs) m is in
+    inr (record {
+      more = m.1;
+      token = Some (At m.0 at);
+      piece = p;
+      front = record { text = text_of m.0; rest = k.rest; is = k.is; long = k.long; part = (refl, refl, k.ends) };
+    })
+
+-- nothing begins at the front, or a part does
+pub front_of : (at b : ℕ) (bs : List ℕ) → (piece_at at (b ∷ bs) ≡ Bad) ⊎ HasFront at b bs
+front_of at b bs =
     split (is_space b)
-    (λ s. blank_case fuel at b bs ts 0 below h e (first (is_space b) _ _ s)
-    (record { text = b ∷ []; rest = bs; is = refl; long = refl; part = inl (record { byte = b; is = refl; space = s }) }))
+    (λ s. inr (record {
+      more = 0;
+      token = None;
+      piece = first (is_space b) _ _ s;
+      front = record { text = b ∷ []; rest = bs; is = refl; long = refl; part = inl (record { byte = b; is = refl; space = s }) };
+    }))
     (λ s. split (eqb b 37)
-    (λ c. blank_case fuel at b bs ts (comment_length bs) below h e (second (is_space b) (eqb b 37) _ _ _ s c) (comment_front at b bs c))
+    (λ c. inr (record { more = comment_length bs; token = None; piece = second (is_space b) (eqb b 37) _ _ _ s c; front = comment_front at b bs c }))
     (λ c. split (is_name_byte (b ∷ bs))
-    (λ n. let r = run_front at b bs s c n in whole_case fuel at b bs ts r.token (run_length bs) below h e r.piece r.front)
-    (λ n. mark_case fuel at b bs ts (mark_of (b ∷ bs)) below h e (fourth (is_space b) (eqb b 37) (is_name_byte (b ∷ bs)) _ _ _ _ s c n) refl)))
+    (λ n. let r = run_front at b bs s c n in inr (record { more = run_length bs; token = Some r.token; piece = r.piece; front = r.front }))
+    (λ n. mark_front at b bs (mark_of (b ∷ bs)) (fourth (is_space b) (eqb b 37) (is_name_byte (b ∷ bs)) _ _ _ _ s c n) refl)))
+
+-- a piece is read, and then what follows it
+pub piece_read : (at b : ℕ) (bs text rest : List ℕ) (more : ℕ) (o : Option Token) → b ∷ bs ≡ text ++ rest → length text ≡ more + 1 → piece_at at (b ∷ bs) ≡ piece_of o more → tokens_from at 0 (b ∷ bs) ≡ with_part o (tokens_from (at + length text) 0 rest)
+piece_read at b bs text rest more None is long p =
+    ap (λ q. read_piece at q (λ n. tokens_from (at + 1) n bs)) p ∙ passed b bs text rest at more is long
+piece_read at b bs text rest more (Some t) is long p =
+    ap (λ q. read_piece at q (λ n. tokens_from (at + 1) n bs)) p ∙ ap (after_token t) (passed b bs text rest at more is long)
+
+part_ok : (o : Option Token) (r : Result (List Token) ℕ) (ts : List Token) → with_part o r ≡ Ok ts → (us : List Token) × (r ≡ Ok us) × (option_to_list o ++ us ≡ ts)
+part_ok None r ts e = (ts, e, refl)
+part_ok (Some t) r ts e = after_ok t r ts e
+
+cut_front : (fuel at b : ℕ) (bs : List ℕ) (ts : List Token) → Below fuel → length (b ∷ bs) ≤ suc fuel → tokens_from at 0 (b ∷ bs) ≡ Ok ts → (piece_at at (b ∷ bs) ≡ Bad) ⊎ HasFront at b bs → IsCut at (b ∷ bs) ts
+cut_front fuel at b bs ts below h e (inl p) =
+    let bad : Err at ≡ Ok ts = sym (ap (λ q. read_piece at q (λ n. tokens_from (at + 1) n bs)) p) ∙ e in absurd cc
+cut_front fuel at b bs ts below h e (inr f) =
+    let text = f.front.text in
+    let rest = f.front.rest in
+    let a = part_ok f.token (tokens_from (at + length text) 0 rest) ts (sym (piece_read at b bs text rest f.more f.token f.front.is f.front.long f.piece) ∙ e) in
+    let c = below (at + length text) rest a.0 (shorter fuel b bs text rest f.more h f.front.is f.front.long) a.1 in
+    let P : List ℕ → Type 0 = λ xs. IsCut at xs (option_to_list f.token ++ a.0) in
+    let Q : List Token → Type 0 = λ us. IsCut at (b ∷ bs) us in
+    subst Q a.2 (subst P (sym f.front.is) (before at text rest f.token a.0 f.front.part c))
 
 cut_from : (fuel : ℕ) → Below fuel
 cut_from fuel at [] ts h e = let same : [] ≡ ts = cc in record { parts = []; join = refl; spelled = same; each = tt }
 cut_from zero at (b ∷ bs) ts h e = absurd (omega (arith, h))
-cut_from (suc fuel) at (b ∷ bs) ts h e = cut_front fuel at b bs ts (cut_from fuel) h e
+cut_from (suc fuel) at (b ∷ bs) ts h e = cut_front fuel at b bs ts (cut_from fuel) h e (front_of at b bs)
 
 pub tokens_are_cut : TokensAreCut
 tokens_are_cut bytes ts e = cut_from (length bytes) 0 bytes ts (omega arith) e

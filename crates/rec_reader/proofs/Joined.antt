@@ -1,5 +1,5 @@
 -- Parts that join to bytes have the bytes' tokens.
-use Rattle.std.proofs.Common.{◌≡◌, ◌≢◌, ◌<◌, ◌∙◌, ℕ, zero, suc, ◌+◌, List, [], ◌∷◌, ◌++◌, length, drop, take, Bool, true, false, ◌||◌, cond, eqb, refl, ap, sym, subst, arith, Option, Some, None, ◌⊎◌, inl, inr, Ok, codes}
+use Rattle.std.proofs.Common.{◌≡◌, ◌≢◌, ◌<◌, ◌∙◌, ℕ, suc, ◌+◌, List, [], ◌∷◌, ◌++◌, length, drop, take, true, false, ◌||◌, cond, eqb, refl, ap, sym, subst, arith, Option, Some, None, ◌⊎◌, inl, inr, Ok, codes}
 use Rattle.std.specs.Prelude.{All}
 use Rattle.std.specs.Option.{option_to_list}
 use Rattle.std.proofs.lemmas.Bool.{both_ways}
@@ -10,12 +10,12 @@ use Rattle.rec_reader.specs.declared.token.Token.{Token}
 use Rattle.rec_reader.specs.declared.token.Token.TheVariants.{Named, At}
 use Rattle.rec_reader.specs.declared.token.Sign.{Sign}
 use Rattle.rec_reader.specs.declared.token.Sign.TheVariants.{RecSpec, Sorts, Cons, Opns, Vars, Rules, Eval, EndSpec, If, AndIf, Joins, Parts, Arrow, Colon, Comma, Open, Close, Equal, Unequal}
-use Rattle.rec_reader.specs.declared.scanner.Piece.TheVariants.{Blank, Whole}
-use Rattle.rec_reader.specs.Tokens.{is_space, is_name_byte, run_length, comment_length, word_of, word_or_name, token_of_run, mark_or_bad, begins, piece_at, read_piece, after_token, tokens_from}
-use Rattle.rec_reader.specs.Cut.{text_of, IsLongestRun, EndsBefore, IsTextOf, IsSpace, IsComment, Part, IsPart, joined, tokens_in, AreParts, IsCut, OthersAreNoCut}
+use Rattle.rec_reader.specs.declared.scanner.Piece.TheVariants.{Blank, Whole, Bad}
+use Rattle.rec_reader.specs.Tokens.{is_space, is_name_byte, run_length, comment_length, word_of, word_or_name, token_of_run, mark_or_bad, begins, piece_at, tokens_from}
+use Rattle.rec_reader.specs.Cut.{text_of, IsLongestRun, EndsBefore, Part, IsPart, joined, tokens_in, AreParts, OthersAreNoCut, NothingBegins}
 use Rattle.rec_reader.proofs.Pieces.{first, third}
 use Rattle.rec_reader.proofs.Parted.{word_known}
-use Rattle.rec_reader.proofs.Cutting.{passed}
+use Rattle.rec_reader.proofs.Cutting.{piece_of, with_part, piece_read}
 
 comment_long : (words rest : List ℕ) → All (λ b. b ≢ 10) words → ((rest ≡ []) ⊎ ((after : List ℕ) × (rest ≡ 10 ∷ after))) → comment_length (words ++ rest) ≡ length words
 comment_long [] rest w (inl e) = ap comment_length e
@@ -57,53 +57,56 @@ no_space b bs n =
     ∙ ap (λ t. t || eqb b 10) (isnt b 13 bs n refl)
     ∙ isnt b 10 bs n refl
 
--- what is read of bytes before which a piece stands
-blank_before : (at b : ℕ) (t rest : List ℕ) (us : List Token) → piece_at at (b ∷ t ++ rest) ≡ Blank (length t) → tokens_from (at + length (b ∷ t)) 0 rest ≡ Ok us → tokens_from at 0 (b ∷ t ++ rest) ≡ Ok us
-blank_before at b t rest us p e =
-    ap (λ q. read_piece at q (λ n. tokens_from (at + 1) n (t ++ rest))) p
-    ∙ passed b (t ++ rest) (b ∷ t) rest at (length t) refl (omega arith) ∙ e
+-- the piece that is read where this text stands
+record HasPiece (at : ℕ) (text rest : List ℕ) (o : Option Token) : Type 0 where
+  byte : ℕ
+  words : List ℕ
+  is : text ≡ byte ∷ words
+  piece : piece_at at (byte ∷ words ++ rest) ≡ piece_of o (length words)
 
-whole_before : (at b : ℕ) (t rest : List ℕ) (us : List Token) (k : Token) → piece_at at (b ∷ t ++ rest) ≡ Whole k (length t) → tokens_from (at + length (b ∷ t)) 0 rest ≡ Ok us → tokens_from at 0 (b ∷ t ++ rest) ≡ Ok (k ∷ us)
-whole_before at b t rest us k p e =
-    ap (λ q. read_piece at q (λ n. tokens_from (at + 1) n (t ++ rest))) p
-    ∙ ap (after_token k) (passed b (t ++ rest) (b ∷ t) rest at (length t) refl (omega arith) ∙ e)
-
-run_before : (at : ℕ) (text rest : List ℕ) (us : List Token) (o : Option Sign) → IsLongestRun text rest → word_of text ≡ o → tokens_from (at + length text) 0 rest ≡ Ok us → tokens_from at 0 (text ++ rest) ≡ Ok (word_or_name at (at + length text) o ∷ us)
-run_before at [] rest us o run w e = absurd (omega (arith, run.some))
-run_before at (b ∷ t) rest us o run w e =
+run_piece : (at : ℕ) (text rest : List ℕ) (o : Option Sign) → IsLongestRun text rest → word_of text ≡ o → HasPiece at text rest (Some (word_or_name at (at + length text) o))
+run_piece at [] rest o run w = absurd (omega (arith, run.some))
+run_piece at (b ∷ t) rest o run w =
     let n : is_name_byte (b ∷ t ++ rest) ≡ true = run.each 0 run.some in
     let long : run_length (t ++ rest) ≡ length t = run_long t rest (λ k h. run.each (suc k) (omega (arith, h))) run.longest in
-    let p : piece_at at (b ∷ t ++ rest) ≡ Whole (word_or_name at (at + length (b ∷ t)) o) (length t) =
-    third (is_space b) (eqb b 37) (is_name_byte (b ∷ t ++ rest)) _ _ _ _ (no_space b (t ++ rest) n) (isnt b 37 (t ++ rest) n refl) n
-    ∙ ap (λ k. Whole (token_of_run at (b ∷ take k (t ++ rest))) k) long
-    ∙ ap (λ u. Whole (token_of_run at (b ∷ u)) (length t)) (take-append_seam t rest)
-    ∙ ap (λ q. Whole (word_or_name at (at + length (b ∷ t)) q) (length t)) w in
-    whole_before at b t rest us (word_or_name at (at + length (b ∷ t)) o) p e
+    record {
+      byte = b;
+      words = t;
+      is = refl;
+      piece =
+          third (is_space b) (eqb b 37) (is_name_byte (b ∷ t ++ rest)) _ _ _ _ (no_space b (t ++ rest) n) (isnt b 37 (t ++ rest) n refl) n
+          ∙ ap (λ k. Whole (token_of_run at (b ∷ take k (t ++ rest))) k) long
+          ∙ ap (λ u. Whole (token_of_run at (b ∷ u)) (length t)) (take-append_seam t rest)
+          ∙ ap (λ q. Whole (word_or_name at (at + length (b ∷ t)) q) (length t)) w;
+    }
 
-sign_before : (at : ℕ) (sign : Sign) (rest : List ℕ) (us : List Token) → EndsBefore rest sign → tokens_from (at + length (text_of sign)) 0 rest ≡ Ok us → tokens_from at 0 (text_of sign ++ rest) ≡ Ok (At sign at ∷ us)
-sign_before at RecSpec rest us h e = run_before at (codes "REC-SPEC") rest us (Some RecSpec) h refl e
-sign_before at Sorts rest us h e = run_before at (codes "SORTS") rest us (Some Sorts) h refl e
-sign_before at Cons rest us h e = run_before at (codes "CONS") rest us (Some Cons) h refl e
-sign_before at Opns rest us h e = run_before at (codes "OPNS") rest us (Some Opns) h refl e
-sign_before at Vars rest us h e = run_before at (codes "VARS") rest us (Some Vars) h refl e
-sign_before at Rules rest us h e = run_before at (codes "RULES") rest us (Some Rules) h refl e
-sign_before at Eval rest us h e = run_before at (codes "EVAL") rest us (Some Eval) h refl e
-sign_before at EndSpec rest us h e = run_before at (codes "END-SPEC") rest us (Some EndSpec) h refl e
-sign_before at If rest us h e = run_before at (codes "if") rest us (Some If) h refl e
-sign_before at AndIf rest us h e = run_before at (codes "and-if") rest us (Some AndIf) h refl e
-sign_before at Joins rest us h e = whole_before at 45 (codes "><-") rest us (At Joins at) refl e
-sign_before at Parts rest us h e = whole_before at 45 (codes ">/<-") rest us (At Parts at) refl e
-sign_before at Colon rest us h e = whole_before at 58 [] rest us (At Colon at) refl e
-sign_before at Comma rest us h e = whole_before at 44 [] rest us (At Comma at) refl e
-sign_before at Open rest us h e = whole_before at 40 [] rest us (At Open at) refl e
-sign_before at Close rest us h e = whole_before at 41 [] rest us (At Close at) refl e
-sign_before at Equal rest us h e = whole_before at 61 [] rest us (At Equal at) refl e
-sign_before at Unequal rest us h e = whole_before at 60 (codes ">") rest us (At Unequal at) refl e
-sign_before at Arrow rest us h e =
-    let p : piece_at at (45 ∷ 62 ∷ rest) ≡ Whole (At Arrow at) 1 =
-    ap (λ c. mark_or_bad at (cond c (Some (Joins, 3)) (cond (begins rest (codes "/<-")) (Some (Parts, 4)) (Some (Arrow, 1))))) h.0
-    ∙ ap (λ c. mark_or_bad at (cond c (Some (Parts, 4)) (Some (Arrow, 1)))) h.1 in
-    whole_before at 45 (codes ">") rest us (At Arrow at) p e
+sign_piece : (at : ℕ) (sign : Sign) (rest : List ℕ) → EndsBefore rest sign → HasPiece at (text_of sign) rest (Some (At sign at))
+sign_piece at RecSpec rest h = run_piece at (codes "REC-SPEC") rest (Some RecSpec) h refl
+sign_piece at Sorts rest h = run_piece at (codes "SORTS") rest (Some Sorts) h refl
+sign_piece at Cons rest h = run_piece at (codes "CONS") rest (Some Cons) h refl
+sign_piece at Opns rest h = run_piece at (codes "OPNS") rest (Some Opns) h refl
+sign_piece at Vars rest h = run_piece at (codes "VARS") rest (Some Vars) h refl
+sign_piece at Rules rest h = run_piece at (codes "RULES") rest (Some Rules) h refl
+sign_piece at Eval rest h = run_piece at (codes "EVAL") rest (Some Eval) h refl
+sign_piece at EndSpec rest h = run_piece at (codes "END-SPEC") rest (Some EndSpec) h refl
+sign_piece at If rest h = run_piece at (codes "if") rest (Some If) h refl
+sign_piece at AndIf rest h = run_piece at (codes "and-if") rest (Some AndIf) h refl
+sign_piece at Joins rest h = record { byte = 45; words = codes "><-"; is = refl; piece = refl }
+sign_piece at Parts rest h = record { byte = 45; words = codes ">/<-"; is = refl; piece = refl }
+sign_piece at Colon rest h = record { byte = 58; words = []; is = refl; piece = refl }
+sign_piece at Comma rest h = record { byte = 44; words = []; is = refl; piece = refl }
+sign_piece at Open rest h = record { byte = 40; words = []; is = refl; piece = refl }
+sign_piece at Close rest h = record { byte = 41; words = []; is = refl; piece = refl }
+sign_piece at Equal rest h = record { byte = 61; words = []; is = refl; piece = refl }
+sign_piece at Unequal rest h = record { byte = 60; words = codes ">"; is = refl; piece = refl }
+sign_piece at Arrow rest h = record {
+  byte = 45;
+  words = codes ">";
+  is = refl;
+  piece =
+      ap (λ c. mark_or_bad at (cond c (Some (Joins, 3)) (cond (begins rest (codes "/<-")) (Some (Parts, 4)) (Some (Arrow, 1))))) h.0
+      ∙ ap (λ c. mark_or_bad at (cond c (Some (Parts, 4)) (Some (Arrow, 1)))) h.1;
+}
 
 -- a run that is no sign's text is no reserved word
 no_word : (text rest : List ℕ) → IsLongestRun text rest → ((sign : Sign) → text ≢ text_of sign) → word_of text ≡ None
@@ -113,25 +116,48 @@ no_word text rest run none = by (word_of text) refl
     by None e = e
     by (Some sign) e = absurd (none sign (word_known text rest sign run e).0)
 
-part_before : (at : ℕ) (text rest : List ℕ) (o : Option Token) (us : List Token) → IsPart at text rest o → tokens_from (at + length text) 0 rest ≡ Ok us → tokens_from at 0 (text ++ rest) ≡ Ok (option_to_list o ++ us)
-part_before at text rest None us (inl s) e =
-    let P : List ℕ → Type 0 = λ t. tokens_from (at + length t) 0 rest ≡ Ok us → tokens_from at 0 (t ++ rest) ≡ Ok us in
-    subst P (sym s.is) (blank_before at s.byte [] rest us (first (is_space s.byte) _ _ s.space)) e
-part_before at text rest None us (inr c) e =
-    let P : List ℕ → Type 0 = λ t. tokens_from (at + length t) 0 rest ≡ Ok us → tokens_from at 0 (t ++ rest) ≡ Ok us in
-    let p : piece_at at (37 ∷ c.words ++ rest) ≡ Blank (length c.words) = ap Blank (comment_long c.words rest c.within c.ends) in
-    subst P (sym c.is) (blank_before at 37 c.words rest us p) e
-part_before at text rest (Some (Named n)) us h e =
-    run_before at text rest us None h.2 (no_word text rest h.2 h.3) e
-    ∙ ap (λ s. Ok (Named (record { start = s; end = at + length text }) ∷ us)) (sym h.0)
-    ∙ ap (λ k. Ok (Named (record { start = n.start; end = k }) ∷ us)) (sym h.1)
-part_before at text rest (Some (At sign p)) us h e =
-    let P : List ℕ → Type 0 = λ t. tokens_from (at + length t) 0 rest ≡ Ok us → tokens_from at 0 (t ++ rest) ≡ Ok (At sign at ∷ us) in
-    subst P (sym h.1) (sign_before at sign rest us h.2) e ∙ ap (λ q. Ok (At sign q ∷ us)) (sym h.0)
+part_piece : (at : ℕ) (text rest : List ℕ) (o : Option Token) → IsPart at text rest o → HasPiece at text rest o
+part_piece at text rest None (inl s) = record { byte = s.byte; words = []; is = s.is; piece = first (is_space s.byte) _ _ s.space }
+part_piece at text rest None (inr c) = record { byte = 37; words = c.words; is = c.is; piece = ap Blank (comment_long c.words rest c.within c.ends) }
+part_piece at text rest (Some (Named n)) h =
+    let P : Token → Type 0 = λ t. HasPiece at text rest (Some t) in
+    let start = ap (λ s. Named (record { start = s; end = at + length text })) (sym h.0) in
+    let end = ap (λ k. Named (record { start = n.start; end = k })) (sym h.1) in
+    subst P (start ∙ end) (run_piece at text rest None h.2 (no_word text rest h.2 h.3))
+part_piece at text rest (Some (At sign p)) h =
+    let P : List ℕ → Type 0 = λ t. HasPiece at t rest (Some (At sign p)) in
+    let Q : ℕ → Type 0 = λ q. HasPiece at (text_of sign) rest (Some (At sign q)) in
+    subst P (sym h.1) (subst Q (sym h.0) (sign_piece at sign rest h.2))
+
+is_no_bad : (o : Option Token) (more : ℕ) → piece_of o more ≡ Bad → ⊥
+is_no_bad None more e = cc
+is_no_bad (Some t) more e = cc
+
+-- where nothing begins no part does
+pub nothing_begins : (at : ℕ) (bytes : List ℕ) → piece_at at bytes ≡ Bad → NothingBegins at bytes
+nothing_begins at bytes p text after o is part =
+    let k = part_piece at text after o part in
+    let here : bytes ≡ k.byte ∷ k.words ++ after = is ∙ ap (λ t. t ++ after) k.is in
+    is_no_bad o (length k.words) (sym k.piece ∙ ap (piece_at at) (sym here) ∙ p)
+
+-- a part is read, and then what follows it
+pub part_read : (at : ℕ) (text rest : List ℕ) (o : Option Token) → IsPart at text rest o → tokens_from at 0 (text ++ rest) ≡ with_part o (tokens_from (at + length text) 0 rest)
+part_read at text rest o part =
+    let k = part_piece at text rest o part in
+    let P : List ℕ → Type 0 = λ t. tokens_from at 0 (t ++ rest) ≡ with_part o (tokens_from (at + length t) 0 rest) in
+    let long : length (k.byte ∷ k.words) ≡ length k.words + 1 = omega arith in
+    subst P (sym k.is) (piece_read at k.byte (k.words ++ rest) (k.byte ∷ k.words) rest (length k.words) o refl long k.piece)
+
+before_ok : (o : Option Token) (ts : List Token) → with_part o (Ok ts) ≡ Ok (option_to_list o ++ ts)
+before_ok None ts = refl
+before_ok (Some t) ts = refl
 
 parts_read : (at : ℕ) (parts : List Part) → AreParts at parts → tokens_from at 0 (joined parts) ≡ Ok (tokens_in parts)
 parts_read at [] h = refl
-parts_read at (p ∷ ps) h = part_before at p.text (joined ps) p.token (tokens_in ps) h.0 (parts_read (at + length p.text) ps h.1)
+parts_read at (p ∷ ps) h =
+    part_read at p.text (joined ps) p.token h.0
+    ∙ ap (with_part p.token) (parts_read (at + length p.text) ps h.1)
+    ∙ before_ok p.token (tokens_in ps)
 
 pub others_are_no_cut : OthersAreNoCut
 others_are_no_cut bytes tokens c =

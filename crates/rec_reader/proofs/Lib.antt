@@ -3,6 +3,7 @@ pub mod Pieces
 pub mod Parted
 pub mod Cutting
 pub mod Joined
+pub mod Refused
 pub mod Runs
 pub mod Outcome
 pub mod Leaving
@@ -20,3 +21,5 @@ pub mod Sound
 pub mod Viable
 pub mod Verdicts
 pub mod Wholeness
+pub mod Counts
+pub mod Fewness

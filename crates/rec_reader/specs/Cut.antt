@@ -107,6 +107,34 @@ TokensAreCut = (bytes : List ℕ) (tokens : List Token) → tokens_of bytes ≡ 
 abbrev pub OthersAreNoCut : Type 0
 OthersAreNoCut = (bytes : List ℕ) (tokens : List Token) → IsCut 0 bytes tokens → tokens_of bytes ≡ Ok tokens
 
+-- Each part is one at its place, with those after it behind it, and behind them the rest.
+abbrev pub ArePartsBefore : (rest : List ℕ) (at : ℕ) → List Part → Type 0
+ArePartsBefore rest at [] = Unit {0}
+ArePartsBefore rest at (p ∷ ps) =
+    IsPart at p.text (joined ps ++ rest) p.token × ArePartsBefore rest (at + length p.text) ps
+
+-- No token, white space or comment begins at the front of bytes that stand at this place.
+abbrev pub NothingBegins : (at : ℕ) → List ℕ → Type 0
+NothingBegins at bytes = (text after : List ℕ) (token : Option Token) → bytes ≡ text ++ after → IsPart at text after token → ⊥
+
+-- The bytes before this place are cut into parts, and at the byte that stands there none begins.
+pub record IsFirstBad (bytes : List ℕ) (offset : ℕ) : Type 0 where
+  pub parts : List Part
+  pub rest : List ℕ
+  pub join : bytes ≡ joined parts ++ rest
+  pub place : length (joined parts) ≡ offset
+  pub each : ArePartsBefore rest 0 parts
+  pub some : 0 < length rest
+  pub bad : NothingBegins offset rest
+
+-- Bytes are refused at the first byte at which nothing begins.
+abbrev pub RefusedAtFirstBad : Type 0
+RefusedAtFirstBad = (bytes : List ℕ) (offset : ℕ) → tokens_of bytes ≡ Err offset → IsFirstBad bytes offset
+
+-- They are refused nowhere else, and always where there is such a byte.
+abbrev pub OthersAreNotRefused : Type 0
+OthersAreNotRefused = (bytes : List ℕ) (offset : ℕ) → IsFirstBad bytes offset → tokens_of bytes ≡ Err offset
+
 abbrev pub name_at : (start end : ℕ) → Token
 name_at start end = Named (record { start = start; end = end })
 

@@ -7,3 +7,4 @@ pub mod Grammar
 pub mod Refusal
 pub mod Steps
 pub mod Whole
+pub mod Few

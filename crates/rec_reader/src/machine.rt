@@ -2,6 +2,7 @@
 ghost use Rattle.std.specs.Prelude.{◌≡◌};
 ghost use Rattle.rec_reader.specs.Steps as steps;
 ghost use Rattle.rec_reader.specs.Steps.{Takes};
+ghost use Rattle.rec_reader.specs.Few.{AreCountsFew};
 ghost use Rattle.rec_reader.specs.declared.machine.Stop.TheVariants.{Memory};
 
 use crate::sequence::{Sequence, Stack};
@@ -120,6 +121,7 @@ impl Machine {
     }
 
     pub(crate) fn step(&mut self, alloc: Global, token: Token) -> Result<(), Stop>
+        requires { AreCountsFew self.old.heads }
         ensures { Takes (steps.step self.old token) result self.new }
     {
         match self.place {

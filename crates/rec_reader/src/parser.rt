@@ -1,5 +1,5 @@
 //! Reads tokens as specifications.
-ghost use Rattle.std.specs.Prelude.{◌≡◌, length, List, Some, IfOk, IfErr};
+ghost use Rattle.std.specs.Prelude.{◌≡◌, ◌<◌, ◌^◌, length, List, Some, IfOk, IfErr};
 ghost use Rattle.rec_reader.specs.declared.syntax_tree.Specification.{Specification};
 ghost use Rattle.rec_reader.specs.Grammar.{IsInput};
 ghost use Rattle.rec_reader.specs.Refusal.{IsRefusal};
@@ -13,6 +13,7 @@ use faults::kinds;
 use std::alloc::Global;
 
 fn run(alloc: Global, tokens: &[Token]) -> Result<Machine, ReadFail>
+    requires { length tokens.now < 2 ^ 32 }
     ensures ran { IfOk result (λ m. run start tokens.now ≡ Some m) }
     ensures stopped { IfErr result (IsStopped tokens.now) }
 {

@@ -1,11 +1,14 @@
 //! Cuts bytes into tokens.
-ghost use Rattle.std.specs.Prelude.{◌≡◌, ◌+◌, ◌≤◌, ◌<◌, length, drop, IfOk, IfErr, IfSome, Ok, Err, take};
+ghost use Rattle.std.specs.Prelude.{◌≡◌, ◌+◌, ◌≤◌, ◌<◌, ◌^◌, length, drop, IfOk, IfErr, IfSome, Ok, Err, IsErrOf, take};
 ghost use Rattle.rec_reader.specs.Tokens.{is_space, is_plain, is_name_byte, run_length, comment_length, word_of, mark_of, more_of, token_of_run, piece_at, tokens_of, IsBadByte};
 
 use crate::fail::ReadFail;
 use crate::token::{Name, Sign, Token, Tokens};
 use faults::kinds;
 use std::alloc::Global;
+
+/// The most bytes that an input may have: 32 bits hold each count of what it spells.
+const MOST_BYTES: usize = u32::MAX as usize;
 
 /// What begins at a byte, with the number of bytes that follow its first.
 #[derive(Clone, Copy)]
@@ -151,12 +154,17 @@ fn piece_at(bytes: &[u8], at: usize) -> Piece
 ///
 /// White space is space, tab, CR and LF; a comment goes from `%` to the next LF or the end. A name is a
 /// longest run of name bytes that is no reserved word. Refuses with kind 1 the first byte where no token,
-/// white space or comment begins.
+/// white space or comment begins. An input of 2^32 bytes or more isn't read, and is answered as want of
+/// memory.
 pub fn tokens(alloc: Global, bytes: &[u8]) -> Result<Tokens, ReadFail>
     ensures bytes { IfOk result (λ t. t.bytes ≡ bytes.now) }
     ensures tokens { IfOk result (λ t. tokens_of bytes.now ≡ Ok t.tokens) }
     ensures refused_only_at_first_bad_byte { IfErr result (IsBadByte bytes.now) }
+    ensures too_long { 2 ^ 32 ≤ length bytes.now → IsErrOf result ReadFail.Memory }
 {
+    if bytes.len() > MOST_BYTES {
+        return Err(ReadFail::Memory);
+    }
     let mut items = Vec::new(alloc);
     let mut at = 0;
     while at < bytes.len() {

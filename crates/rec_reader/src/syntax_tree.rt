@@ -1,6 +1,7 @@
 //! What tokens spell: specifications with their declarations, rules and terms, and every name with its place.
 ghost use Rattle.std.specs.Prelude.{◌≡◌, All};
 ghost use Rattle.rec_reader.specs.Whole.{HasWholeTerms};
+ghost use Rattle.rec_reader.specs.Few.{HasFewLeftNodes};
 ghost use Rattle.rec_reader.specs.Syntax.{blank_specification, blank_rule};
 
 use crate::sequence::Sequence;
@@ -104,7 +105,9 @@ impl Model for Syntax {
 
     ghost view = { λ s. record { bytes = s.text.items; specifications = s.items } };
 
-    ghost invariant = { λ s. All HasWholeTerms s.items };
+    ghost use Rattle.rec_reader.specs.Few.{HasFewLeftNodes};
+
+    ghost invariant = { λ s. All HasWholeTerms s.items × All HasFewLeftNodes s.items };
 }
 
 impl Syntax {
@@ -115,10 +118,12 @@ impl Syntax {
         self.text.as_slice()
     }
 
-    /// The specifications in order. Each list of nodes in them is that of one whole term.
+    /// The specifications in order. Each list of nodes in them is that of one whole term, and a left side
+    /// has fewer than 2^32 nodes.
     pub fn as_slice(&self) -> &[Specification]
         ensures specifications { result.now ≡ self.now.specifications }
         ensures whole { All HasWholeTerms self.now.specifications }
+        ensures few { All HasFewLeftNodes self.now.specifications }
     {
         self.items.as_slice()
     }

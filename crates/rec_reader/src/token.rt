@@ -1,6 +1,7 @@
 //! What the bytes are cut into.
 ghost use Rattle.std.specs.Prelude.{◌≡◌};
 ghost use Rattle.rec_reader.specs.Refusal.{place_of};
+ghost use Rattle.rec_reader.specs.Few.{IsShort};
 
 use std::marker::Model;
 
@@ -71,7 +72,11 @@ impl Model for Tokens {
 
     ghost Value = { Scanned };
 
+    ghost use Rattle.rec_reader.specs.Few.{IsShort};
+
     ghost view = { λ t. record { bytes = t.text.items; tokens = t.items.items } };
+
+    ghost invariant = { λ t. IsShort t.text.items t.items.items };
 }
 
 impl Tokens {
@@ -82,9 +87,10 @@ impl Tokens {
         self.text.as_slice()
     }
 
-    /// The tokens in order.
+    /// The tokens in order. They are at most as many as the bytes, which are fewer than 2^32.
     pub fn as_slice(&self) -> &[Token]
-        ensures { result.now ≡ self.now.tokens }
+        ensures tokens { result.now ≡ self.now.tokens }
+        ensures short { IsShort self.now.bytes self.now.tokens }
     {
         self.items.as_slice()
     }

@@ -21,3 +21,4 @@ pub mod Writings
 pub mod TokensBack
 pub mod TermsBack
 pub mod LinesBack
+pub mod Fewness

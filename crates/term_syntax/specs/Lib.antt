@@ -15,3 +15,4 @@ pub mod Text
 pub mod Canonical
 pub mod Writing
 pub mod Laws
+pub mod Few

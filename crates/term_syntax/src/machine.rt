@@ -2,6 +2,7 @@
 ghost use Rattle.std.specs.Prelude.{◌≡◌};
 ghost use Rattle.term_syntax.specs.Steps as steps;
 ghost use Rattle.term_syntax.specs.Steps.{Takes};
+ghost use Rattle.term_syntax.specs.Few.{AreCountsFew};
 ghost use Rattle.term_syntax.specs.declared.machine.Stop.TheVariants.{Memory};
 
 use crate::list::{Parts, Stack};
@@ -94,6 +95,7 @@ impl Machine {
     }
 
     pub(crate) fn step(&mut self, alloc: Global, token: Token) -> Result<(), Stop>
+        requires { AreCountsFew 2 self.old.groups }
         ensures { Takes (steps.step self.old token) result self.new }
     {
         match self.place {
@@ -113,6 +115,7 @@ impl Machine {
 
     // A token comes with which a term begins.
     fn on_term(&mut self, alloc: Global, token: Token) -> Result<(), Stop>
+        requires { AreCountsFew 1 self.old.groups }
         ensures { Takes (steps.on_term self.old token) result self.new }
     {
         match token {
@@ -163,6 +166,7 @@ impl Machine {
 
     // A term is whole: a list of so many cells, or none.
     fn end(&mut self, alloc: Global, part: usize, cells: u32) -> Result<(), Stop>
+        requires { AreCountsFew 1 self.old.groups }
         ensures { Takes (steps.end part cells self.old) result self.new }
     {
         self.nodes.push(Node { part, cells })?;
@@ -174,7 +178,7 @@ impl Machine {
                 Ok(())
             }
             Some(group) => {
-                let count = group.count.checked_add(1).ok_or(Stop::Memory)?;
+                let count = group.count + 1;
                 self.groups.push(Group { count, ..group })?;
                 Ok(())
             }
@@ -183,6 +187,7 @@ impl Machine {
 
     // What may come after a whole term, or at the start.
     fn after_term(&mut self, alloc: Global, token: Token) -> Result<(), Stop>
+        requires { AreCountsFew 1 self.old.groups }
         ensures { Takes (steps.after_term self.old token) result self.new }
     {
         match self.groups.pop() {
@@ -193,6 +198,7 @@ impl Machine {
 
     // What may come after a term in this group.
     fn in_group(&mut self, alloc: Global, group: Group, token: Token) -> Result<(), Stop>
+        requires { AreCountsFew 1 self.old.groups }
         ensures { Takes (steps.in_group group self.old token) result self.new }
     {
         match token {
@@ -208,6 +214,7 @@ impl Machine {
 
     // A group closes, which is no longer on the stack.
     fn close(&mut self, alloc: Global, group: Group, cells: u32) -> Result<(), Stop>
+        requires { AreCountsFew 1 self.old.groups }
         ensures { Takes (steps.close group cells self.old) result self.new }
     {
         self.parts.set_count(group.part, group.count);
@@ -216,6 +223,7 @@ impl Machine {
 
     // What may come behind an opening bracket.
     fn in_brackets(&mut self, alloc: Global, token: Token) -> Result<(), Stop>
+        requires { AreCountsFew 1 self.old.groups }
         ensures { Takes (steps.in_brackets self.old token) result self.new }
     {
         match token {
@@ -226,6 +234,7 @@ impl Machine {
 
     // What may come behind a name.
     fn after_name(&mut self, alloc: Global, part: usize, token: Token) -> Result<(), Stop>
+        requires { AreCountsFew 2 self.old.groups }
         ensures { Takes (steps.after_name part self.old token) result self.new }
     {
         match token {
@@ -239,6 +248,7 @@ impl Machine {
 
     /// Ends a name that stands last.
     pub(crate) fn settle(&mut self, alloc: Global) -> Result<(), Stop>
+        requires { AreCountsFew 1 self.old.groups }
         ensures { Takes (steps.settled self.old) result self.new }
     {
         match self.place {

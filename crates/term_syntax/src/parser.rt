@@ -1,5 +1,6 @@
 //! Reads tokens as terms.
-ghost use Rattle.std.specs.Prelude.{◌≡◌, Some, IfOk, IfErr};
+ghost use Rattle.std.specs.Prelude.{◌≡◌, ◌<◌, ◌^◌, Some, IfOk, IfErr, length};
+ghost use Rattle.term_syntax.specs.Few.{AreCountsFew};
 ghost use Rattle.term_syntax.specs.Refusal.{place_of, IsSyntaxRefusal};
 ghost use Rattle.term_syntax.specs.Steps.{run, start, IsStopped, IsRead};
 
@@ -11,7 +12,9 @@ use rec_reader::{ReadFail, Sequence};
 use std::alloc::Global;
 
 fn run(alloc: Global, tokens: Vec<Token>) -> Result<Machine, ReadFail>
+    requires { length tokens.items < 2 ^ 32 }
     ensures ran { IfOk result (λ m. run start tokens.items ≡ Some m) }
+    ensures few { IfOk result (λ m. AreCountsFew 1 m.groups) }
     ensures stopped { IfErr result (IsStopped tokens.items) }
 {
     let mut machine = Machine::start(alloc);
@@ -40,6 +43,7 @@ pub(crate) fn syntax(
     tokens: Vec<Token>,
     size: usize,
 ) -> Result<(Parts, Sequence<Sequence<Node>>), ReadFail>
+    requires { length tokens.items < 2 ^ 32 }
     ensures read { IfOk result (IsRead tokens.items) }
     ensures refused { IfErr result (IsSyntaxRefusal size tokens.items) }
 {

@@ -1,5 +1,5 @@
 //! Reads term text.
-ghost use Rattle.std.specs.Prelude.{◌≡◌, List, IfOk, IfErr, OnErr, All};
+ghost use Rattle.std.specs.Prelude.{◌≡◌, ◌≤◌, ◌^◌, List, IfOk, IfErr, IsErrOf, OnErr, All, length};
 ghost use Rattle.rec_reader.specs.declared.fail.ReadFail.TheVariants.{Memory};
 ghost use Rattle.term_model.specs.Tree.{Tree, IsGround};
 ghost use Rattle.symbol_pool.specs.Pool.{Named};
@@ -16,6 +16,9 @@ use rec_reader::ReadFail;
 use std::alloc::Global;
 use symbol_pool::Symbols;
 
+/// The most bytes that a text may have: 32 bits hold each count of what it spells.
+const MOST_BYTES: usize = u32::MAX as usize;
+
 /// The terms that the bytes spell, one after another. A name with its number of arguments becomes a symbol,
 /// in the order of the text.
 ///
@@ -24,8 +27,10 @@ use symbol_pool::Symbols;
 /// that begins nothing, or kind 3, quotes that aren't closed; else kind 2, the first token that no input has
 /// there, or kind 3, an input that ends within a term; else, at the least place, kind 13, a 17th argument, a
 /// name of more than 255 bytes or a symbol too many, or kind 17, a number that isn't such an integer. After an
-/// error a front of the symbols that the text spells may have been taken up, and nothing else was.
+/// error a front of the symbols that the text spells may have been taken up, and nothing else was. A text of
+/// 2^32 bytes or more isn't read, and is answered as want of memory.
 pub fn read_terms(alloc: Global, bytes: &[u8], symbols: &mut Symbols) -> Result<Flats, ReadFail>
+    ensures too_long { 2 ^ 32 ≤ length bytes.now → IsErrOf result Memory }
     ensures read { IfOk result (IsReading bytes.now symbols.old symbols.new) }
     ensures ground { IfOk result (All IsGround) }
     ensures held { IfOk result (All (HasNames symbols.new)) }
@@ -40,6 +45,9 @@ pub fn read_terms(alloc: Global, bytes: &[u8], symbols: &mut Symbols) -> Result<
     ensures grows { GrowsPool symbols.old symbols.new }
     ensures front_where_not_read { OnErr result (TookFrontOf bytes.now symbols.old symbols.new) }
 {
+    if bytes.len() > MOST_BYTES {
+        return Err(ReadFail::Memory);
+    }
     let tokens = tokens(alloc, bytes)?;
     let (parts, terms) = syntax(alloc, tokens, bytes.len())?;
     let items = items_of(alloc, parts.as_slice(), symbols)?;

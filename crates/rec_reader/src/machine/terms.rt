@@ -1,7 +1,8 @@
 //! Terms, with an explicit stack of open heads.
-ghost use Rattle.std.specs.Prelude.{◌≡◌, []};
+ghost use Rattle.std.specs.Prelude.{◌≡◌, ◌<◌, ◌^◌, []};
 ghost use Rattle.rec_reader.specs.Steps as steps;
 ghost use Rattle.rec_reader.specs.Steps.{Takes};
+ghost use Rattle.rec_reader.specs.Few.{AreCountsFew};
 
 use crate::machine::{Machine, Part, Place, Purpose, Stop};
 use crate::sequence::{Sequence, Stack};
@@ -53,6 +54,7 @@ impl Machine {
         purpose: Purpose,
         token: Token,
     ) -> Result<(), Stop>
+        requires { AreCountsFew self.old.heads }
         ensures { Takes (steps.after_head purpose self.old token) result self.new }
     {
         let node = Node {
@@ -79,6 +81,7 @@ impl Machine {
         purpose: Purpose,
         token: Token,
     ) -> Result<(), Stop>
+        requires { AreCountsFew self.old.heads }
         ensures { Takes (steps.after_whole purpose self.old token) result self.new }
     {
         match self.heads.pop() {
@@ -94,12 +97,12 @@ impl Machine {
         head: Node,
         token: Token,
     ) -> Result<(), Stop>
+        requires { head.count < 2 ^ 32 }
         ensures { Takes (steps.after_argument purpose head self.old token) result self.new }
     {
-        let count = head.count.checked_add(1).ok_or(Stop::Memory)?;
         let head = Node {
             head: head.head,
-            count,
+            count: head.count + 1,
         };
         match token {
             Token::At(Sign::Comma, _) => {
@@ -121,6 +124,7 @@ impl Machine {
         part: Part,
         token: Token,
     ) -> Result<(), Stop>
+        requires { AreCountsFew self.old.heads }
         ensures { Takes (steps.within_term purpose part self.old token) result self.new }
     {
         match part {

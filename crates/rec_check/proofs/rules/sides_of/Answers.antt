@@ -8,11 +8,11 @@ use Rattle.rec_check.proofs.rules.sides_of.Goals as goal
 pub returns : goal.returns
 returns c =
     let scope = seen c.args.scope.now in
-    sides scope c.args.written.now c.in_ok-left.left c.in_ok-right.right c.in_ok-conditions.conditions.items c.root.result c.new.result c.count.result
+    sides scope c.args.written.now c.in_ok-left.left c.in_ok-right.right c.in_ok-conditions.conditions.items c.root.result c.new.result c.count-variables.result
     (ap (tree_in scope) (sym c.as_slice.ensures) ∙ c.in_ok-left.ensures)
     (ap (tree_in scope) (sym c.as_slice-2.ensures) ∙ c.in_ok-right.ensures)
     (ap (all_of (condition_in scope)) (sym c.as_slice-3.ensures) ∙ c.in_ok-conditions.ensures)
     c.root.ensures
     (no_none c.root.result (c.is_none.ensures ∙ ap not c.if-is_none.false))
-    c.count.ensures
+    c.count-variables.ensures
     c.new.ensures

@@ -1,6 +1,9 @@
-use Rattle.std.proofs.Common.{◌+◌, drop, refl, ap, sym, ◌∙◌, arith}
-use Rattle.rec_reader.specs.Tokens.{tokens_from}
+use Rattle.std.proofs.Common.{◌≡◌, ◌+◌, ℕ, List, drop, refl, ap, sym, subst, ◌∙◌, arith, append-nil, Ok}
+use Rattle.std.proofs.lemmas.List.{at_drop_all}
+use Rattle.rec_reader.specs.Tokens.{tokens_from, tokens_of}
+use Rattle.rec_reader.specs.Few.{IsShort}
 use Rattle.rec_reader.proofs.Reading.{after_tokens, after_push, blank_read, whole_read, bad_read}
+use Rattle.rec_reader.proofs.Fewness.{few_tokens}
 use Rattle.rec_reader.proofs.scanner.tokens.Goals as goal
 
 pub loop-at-preserved-in-Blank : goal.loop-at-preserved-in-Blank
@@ -33,3 +36,15 @@ pub returns-in-Bad-clause-refused_only_at_first_bad_byte : goal.returns-in-Bad-c
 returns-in-Bad-clause-refused_only_at_first_bad_byte c =
     let l = c.loop-at in
     (refl, sym l.invariant.read ∙ ap (after_tokens l.items.items) (bad_read c.args.bytes.now l.at c.loop-at-test.true (sym c.in-Bad.ensures.piece)))
+
+pub invariant_of-result : goal.invariant_of-result
+invariant_of-result c =
+    let l = c.loop-at in
+    let bytes = c.args.bytes.now in
+    let items = l.items.items in
+    let all : tokens_of bytes ≡ Ok items =
+    sym l.invariant.read
+    ∙ at_drop_all (λ rest. after_tokens items (tokens_from l.at 0 rest)) bytes l.at (omega (arith, c.loop-at-test.false))
+    ∙ ap Ok (append-nil items) in
+    let P : List ℕ → Type 0 = λ bs. IsShort bs items in
+    subst P (sym c.in_ok-text.ensures.items) (record { bytes_few = omega (arith, c.if-bytes-gt-MOST_BYTES.false); tokens_few = few_tokens bytes items all })

@@ -1,4 +1,4 @@
-use Rattle.std.proofs.Common.{List, length, map, All, ap, sym, subst, ◌∙◌}
+use Rattle.std.proofs.Common.{List, length, map, All, ap, arith, sym, subst, ◌∙◌}
 use Rattle.std.specs.Option.{IsSome}
 use Rattle.std.proofs.lemmas.Result.{err_from_is_err_and}
 use Rattle.term_model.specs.Postorder.{tree_of}
@@ -11,6 +11,7 @@ use Rattle.term_syntax.specs.Parts.{taken_up, symbols_of_parts}
 use Rattle.term_syntax.specs.TakenUp.{TookFront}
 use Rattle.term_syntax.specs.Items.{item_in, items_at, trees_at, IsThere, AreWithin}
 use Rattle.term_syntax.proofs.Readings.{held, can_be_written, within, can_spell, reading, part_refusal, front_taken, token_refusal, only_one, no_refusal}
+use Rattle.term_syntax.proofs.Fewness.{few_tokens}
 use Rattle.term_syntax.proofs.reading.read_terms.Goals as goal
 
 pub returns-in_err-parts-clause-accepted : goal.returns-in_err-parts-clause-accepted
@@ -97,3 +98,8 @@ returns-in_err-flats-clause-front_where_not_read c =
     let new = c.items_of.new.symbols in
     let front : TookFront (symbols_of_parts c.in_ok-parts.parts) old new = subst (λ ps. TookFront (symbols_of_parts ps) old new) c.as_slice.ensures c.items_of.ensures.front in
     rw p.1 (front_taken c.in_ok-tokens.tokens.items c.in_ok-parts.parts c.in_ok-parts.terms c.in_ok-parts.ensures.read c.args.bytes.now c.in_ok-tokens.ensures.tokens old new front)
+
+pub syntax-requires : goal.syntax-requires
+syntax-requires c =
+    let few = few_tokens c.args.bytes.now c.in_ok-tokens.tokens.items c.in_ok-tokens.ensures.tokens in
+    omega (arith, few, c.if-bytes-gt-MOST_BYTES.false)
