@@ -12,9 +12,13 @@ use term_model::{Head, Row};
 #[cfg(test)]
 mod tests;
 
-// FNV's offset basis and prime, for 64 bits.
-const OFFSET_BASIS: u64 = 14695981039346656037;
+/// FNV's offset basis for 64 bits: the hash of no words.
+pub const OFFSET_BASIS: u64 = 14695981039346656037;
 
+/// The symbol word of an integer, which is above the number of each symbol. Those of the empty list and of a cell follow it.
+pub const INTEGER: u64 = 1 << 32;
+
+// FNV's prime for 64 bits.
 const PRIME: u64 = 1099511628211;
 
 /// The hash of a head and its arguments: FNV-1a on words of 64 bits. The words are the symbol word, and then an
@@ -45,9 +49,9 @@ pub fn symbol_word(head: Head) -> u64
 {
     match head {
         Head::App(symbol) => u64::from(symbol.0),
-        Head::Int(_) => 1 << 32,
-        Head::Nil => (1 << 32) + 1,
-        Head::Cons => (1 << 32) + 2,
+        Head::Int(_) => INTEGER,
+        Head::Nil => INTEGER + 1,
+        Head::Cons => INTEGER + 2,
     }
 }
 

@@ -1,5 +1,5 @@
 -- What a store that runs keeps, and lists of its steps.
-use Rattle.std.proofs.Common.{◌≡◌, ◌≢◌, ℕ, zero, suc, ◌+◌, ◌*◌, ◌<◌, ◌≤◌, ◌^◌, Bool, true, false, cond, Option, None, Some, List, [], ◌∷◌, ◌++◌, length, get_or, take, drop, replicate, add-one, refl, sym, ap, ◌∙◌, subst, ⊎_elim, arith, ltb-true, ltb-false, true≢false}
+use Rattle.std.proofs.Common.{◌≡◌, ℕ, suc, ◌+◌, ◌*◌, ◌<◌, ◌≤◌, ◌^◌, Bool, true, false, cond, None, Some, List, [], ◌∷◌, ◌++◌, length, get_or, take, drop, replicate, add-one, refl, sym, ap, ◌∙◌, subst, ⊎_elim, arith, ltb-true, ltb-false, true≢false}
 use Rattle.std.specs.Prelude.{nat_lt, MatchBool}
 use Rattle.std.proofs.lemmas.Bool.{cases_lt}
 use Rattle.std.proofs.lemmas.List.{take-append-drop}
@@ -18,7 +18,7 @@ use Rattle.store_core.specs.Runs.{AreSizes, StartsWith, at_start}
 use Rattle.store_core.specs.StoreHolds.{StoreHolds}
 use Rattle.store_core.specs.StoreSteps as steps
 use Rattle.store_core.specs.StoreSteps.{meant, IsInPlace, Leads}
-use Rattle.store_core.specs.StoreValue.{StoreValue, state_of, MayMake, first_words, start_of, IsNew, Stepped, Stayed, Replays}
+use Rattle.store_core.specs.StoreValue.{StoreValue, state_of, MaySize, first_words, start_of, IsNew, Stepped, Stayed, Replays}
 use Rattle.store_core.specs.Planning.{state_by, changed, IsPlanOf}
 use Rattle.store_core.specs.StoreInside.{value_of, IsHeld}
 use Rattle.store_core.specs.declared.state.StoreState.TheInside.{Inside}
@@ -97,10 +97,10 @@ new_is z y l words vs same h at views = record {
       ∙ ap (at_start z) (first_is z words (subst (λ (t : Sizes). IsBegun t t.rows (shown t words)) same h)))));
 }
 
-sizes_may : (z : Sizes) → MayMake z → AreSizes z
+sizes_may : (z : Sizes) → MaySize z → AreSizes z
 sizes_may z m = record { first = m.first; room = let a = m.room in omega arith; used = let a = m.start.0 in omega arith; within = m.start.1 }
 
-first_starts : (z : Sizes) → StartsWith z (first_words z)
+pub first_starts : (z : Sizes) → StartsWith z (first_words z)
 first_starts z = record {
   base = refl;
   count = refl;
@@ -108,16 +108,17 @@ first_starts z = record {
   in_use = refl;
   place = λ i l. ap (λ (b : Bool). cond b i 0) (below i z.rows l);
   bucket = λ b. refl;
+  count_word = λ r. refl;
   root_count = λ j. refl;
   root = λ j k l. refl;
 }
 
 -- the facts hold of it
-pub new_holds : (z : Sizes) (t : StoreValue) → MayMake z → IsNew z t → StoreHolds t.sizes (state_of t)
+pub new_holds : (z : Sizes) (t : StoreValue) → MaySize z → IsNew z t → StoreHolds t.sizes (state_of t)
 new_holds z t m n = subst (λ (y : Sizes). StoreHolds y (state_of t)) (sym n.sizes) (subst (StoreHolds z) (sym n.state) (eight z (start_of z) (starts z (first_words z) (sizes_may z m) (first_starts z))))
 
 -- its table isn't too large
-pub total_small : (z : Sizes) → MayMake z → total z < 2 ^ 62
+pub total_small : (z : Sizes) → MaySize z → total z < 2 ^ 62
 total_small z m =
     let a = m.rows.1 in let b = m.buckets.1 in let s = m.seats.1 in let d = m.depth in let n = m.arity in
     let wide : widest z + 4 ≤ 20 = omega arith in
@@ -148,7 +149,7 @@ held_some n m i x c held same long plan made = record {
 }
 
 -- a new store is held
-pub held_new : (z : Sizes) (n : Inside) → MayMake z → IsNew z (value_of n) → length n.views.items ≡ z.seats → IsHeld n
+pub held_new : (z : Sizes) (n : Inside) → MaySize z → IsNew z (value_of n) → length n.views.items ≡ z.seats → IsHeld n
 held_new z n may new long = record { views = long ∙ ap (λ (y : Sizes). y.seats) (sym new.sizes); holds = new_holds z (value_of n) may new }
 
 -- a replay goes on, and stops

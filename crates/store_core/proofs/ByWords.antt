@@ -34,7 +34,7 @@ in_where a [] i = absurd i
 in_where a (r ∷ rs) i = ⊎_elim (λ e. record { place = 0; below = omega arith; is = sym e }) (λ k. let s = in_where a rs k in record { place = suc s.place; below = let b = s.below in omega arith; is = s.is }) i
 
 -- an argument, by the words of its content
-spelled_at : (f : Head) (rs : List ℕ) (k : ℕ) → IsOver f rs → k < length rs → (k < get_or (spelled f rs) 1 0) × (get_or (spelled f rs) (suc (suc k)) 0 ≡ get_or rs k 0)
+pub spelled_at : (f : Head) (rs : List ℕ) (k : ℕ) → IsOver f rs → k < length rs → (k < get_or (spelled f rs) 1 0) × (get_or (spelled f rs) (suc (suc k)) 0 ≡ get_or rs k 0)
 spelled_at (App f) rs k o l = (l, refl)
 spelled_at (Int v) rs k o l = absurd (let e : length rs ≡ 0 = ap length o in omega arith)
 spelled_at Nil rs k o l = absurd (let e : length rs ≡ 0 = ap length o in omega arith)
@@ -132,6 +132,7 @@ module _ (z : Sizes) (s : State) (k : CoreHolds z s) (i : ℕ) (storing : is_sto
         tree = refl;
         live = λ r. ((λ l. from_words r ((e.live r).0 l)), λ y. (e.live r).1 (to_words r y));
         births = λ r. still (Birth r) refl;
+        row_words = λ r q. still (RowWord r q) refl;
         root_counts = λ j. still (RootCount j) refl;
         roots = λ j q. still (Root j q) refl;
         base = let a = base_was in let b = claim_was in let c = e.base_is in omega arith;

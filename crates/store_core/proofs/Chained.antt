@@ -1,15 +1,15 @@
 -- Walks that make a chain, and the chains of marked rows.
-use Rattle.std.proofs.Common.{◌≡◌, ◌≢◌, ◌⊎◌, ◌↔◌, ℕ, zero, suc, ◌+◌, ◌-◌, ◌<◌, ◌≤◌, Bool, true, false, List, [], ◌∷◌, ◌++◌, length, get_or, take, drop, refl, sym, ap, ◌∙◌, subst, ⊎_elim, inl, inr, arith, append-nil, append_assoc, length-append}
+use Rattle.std.proofs.Common.{◌≡◌, ◌↔◌, ℕ, suc, ◌+◌, ◌<◌, ◌≤◌, Bool, true, false, List, [], ◌∷◌, ◌++◌, length, get_or, take, drop, refl, sym, ap, ◌∙◌, subst, ⊎_elim, arith, append-nil, append_assoc, length-append}
 use Rattle.std.specs.Prelude.{replicate, MatchBool}
 use Rattle.std.proofs.lemmas.Bool.{cases_lt}
 use Rattle.std.proofs.lemmas.List.{length-replicate, drop_all, take_all, length_push, get_or_push, get_or_append_left}
 use Rattle.store_core.specs.Words.{Place, Claim, InUse, Bucket, Birth, Next, row_at, write}
-use Rattle.store_core.specs.Calls.{Content, IsOver, bucket, bucket_below}
+use Rattle.store_core.specs.Calls.{bucket, bucket_below}
 use Rattle.store_core.specs.Machine.{Sizes, Each, In}
-use Rattle.store_core.specs.Meaning.{Meaning, Matches, Linked, Stands, IsOlder}
+use Rattle.store_core.specs.Meaning.{Meaning, Linked, Stands, IsOlder}
 use Rattle.store_core.specs.Invariant.{ChainsHold}
 use Rattle.store_core.specs.Marks.{IsMarked, Marks}
-use Rattle.store_core.specs.MarkedChains.{IsMeant, NotMeant, HasContent, StandsIn, Strays, OneStrays, IsChain, HasPassed, IsSound, IsNoted, IsChained, StandInFirst, AllStand, UsesBuckets, ChainsMarked}
+use Rattle.store_core.specs.MarkedChains.{IsMeant, NotMeant, HasContent, OneStrays, IsChain, HasPassed, IsSound, IsNoted, StandInFirst, AllStand, UsesBuckets, ChainsMarked}
 use Rattle.store_core.proofs.Basics.{each_in, each_map, each_right}
 use Rattle.store_core.proofs.Chains.{linked_once}
 use Rattle.store_core.proofs.Short.{chain_few}

@@ -1,5 +1,5 @@
 -- The last store of a collection keeps what holds of the store.
-use Rattle.std.proofs.Common.{◌≡◌, ◌≢◌, ◌⊎◌, ℕ, zero, suc, ◌+◌, ◌<◌, ◌≤◌, Bool, true, false, None, Some, List, [], ◌∷◌, ◌++◌, refl, sym, ap, ap₂, ◌∙◌, subst, ⊎_elim, inl, inr, arith, true≢false}
+use Rattle.std.proofs.Common.{◌≡◌, ◌≢◌, ◌⊎◌, ℕ, zero, suc, ◌+◌, ◌<◌, ◌≤◌, Bool, true, false, None, Some, List, [], ◌∷◌, ◌++◌, get_or, refl, sym, ap, ap₂, ◌∙◌, subst, ⊎_elim, inl, inr, arith, true≢false}
 use Rattle.std.specs.Prelude.{Contains}
 use Rattle.std.proofs.lemmas.List.Elements.{Contains-append_cases, Contains-append_left, Contains-append_right}
 use mathlib.Core.Path.{fun_ext}
@@ -20,17 +20,20 @@ use Rattle.history_core.proofs.Own.{own_order_stays, roots_are_last}
 use Rattle.history_core.proofs.Members.{contains_here, contains_there, contains_none, contains_cases}
 use Rattle.history_core.specs.Recording.{IsFaithful, changed, present}
 use Rattle.history_core.proofs.Recorded.{collect_keeps}
-use Rattle.store_core.specs.Words.{Place, Base, Claim, InUse, Birth, RootCount, Root, put, row_at}
-use Rattle.store_core.specs.Calls.{Content, Call, Idle, Away, Ready, View}
-use Rattle.store_core.specs.Machine.{Sizes, State, Each, In, Granted, with_call, roots_of}
+use Rattle.store_core.specs.Words.{Place, Base, Claim, InUse, RowWord, Birth, RootCount, Root, put, row_at}
+use Rattle.store_core.specs.Calls.{Content, words_of, Call, Idle, Away, Ready, View}
+use Rattle.store_core.specs.Staying.{is_among, led_to}
+use Rattle.store_core.specs.Machine.{Sizes, State, Each, In, Granted, with_call, roots_of, protected_in, rows_kept, words_kept}
 use Rattle.store_core.specs.Meaning.{Meaning, IsOlder, grown, trees_at}
-use Rattle.store_core.specs.Seats.{IsSeen, SeatHolds}
+use Rattle.store_core.specs.Seats.{IsSeen, IsKnown, SeatHolds}
 use Rattle.store_core.specs.Invariant.{names_of, listed, store_of, HistoryFits, NumbersHold, Holds}
 use Rattle.store_core.specs.Collection.{Reaches, protected, argument, IsCollected, RootsMatch, AreKept, collected}
 use Rattle.store_core.proofs.Locks.{is_in, alone_in}
-use Rattle.store_core.proofs.Basics.{choose, put_case, each_in}
+use Rattle.store_core.proofs.Basics.{choose, put_case, each_in, each_map, each_both}
 use Rattle.store_core.proofs.Histories.{lists_noted, listed_length, listed_at, seen_changed, live_held, dead_free, held_live}
-use Rattle.store_core.proofs.Gains.{born_below, order_more, keys_more}
+use Rattle.store_core.proofs.Gains.{born_below, order_more, keys_more, two_words, enough_words, argument_at, led_seen, led_known, protected_seen}
+use Rattle.store_core.proofs.Own.{each_roots}
+use Rattle.store_core.proofs.Staying.{each_among, led_has, of_rows, in_rows, goes_on}
 use Rattle.store_core.proofs.Views.{still_apart}
 
 -- a live row of a tree
@@ -172,7 +175,7 @@ module _ (z : Sizes) (s : State) (m : Meaning) (h : Holds z s m) where
     others_idle : (j : ℕ) → j ≢ i → (s.view j).call ≡ Idle
     others_idle j ne = ⊎_elim (λ e. e) (λ busy. absurd (others_away j ne (λ away. let r = (h.seats j).numbers.calls busy in let e : Away ≡ Ready = sym away ∙ r in absurd (cc)))) (idle_or (s.view j).call)
 
-    module _ (u : Place → ℕ) (n : Meaning) (k : IsCollected z s.words u m n) where
+    module _ (u : Place → ℕ) (n : Meaning) (k : IsCollected z s.words u m n) (own : (j : ℕ) → protected_in (s.view j) ≡ roots_of s.words j (s.words (RootCount j))) where
       live_was : (r : ℕ) → n.live r ≡ true → m.live r ≡ true
       live_was r l = reached_live r ((k.live r).0 l)
 
@@ -195,6 +198,32 @@ module _ (z : Sizes) (s : State) (m : Meaning) (h : Holds z s m) where
           let here : IsSeen u n seen (s.words (Root j q)) = record { live = (k.live (s.words (Root j q))).1 (protected j q below); birth = let a = k.births (s.words (Root j q)) in let b = old.birth in omega arith } in
           subst (IsSeen u n seen) (sym (k.roots j q)) here
 
+      argument_reached : (r q : ℕ) → m.live r ≡ true → Reaches s.words m r → q < s.words (RowWord r 1) → Reaches s.words m (s.words (RowWord r (suc (suc q))))
+      argument_reached r q live up l =
+          let c : Content = m.content r in
+          let over = h.chains.over r live in
+          let count : s.words (RowWord r 1) ≡ get_or (words_of c) 1 0 = h.chains.words r live 1 (two_words c.head c.arguments) in
+          let below : q < get_or (words_of c) 1 0 = omega arith in
+          let is : s.words (RowWord r (suc (suc q))) ≡ get_or (words_of c) (suc (suc q)) 0 = h.chains.words r live (suc (suc q)) (enough_words c.head c.arguments q over below) in
+          subst (Reaches s.words m) (sym is) (argument r (get_or (words_of c) (suc (suc q)) 0) up (argument_at c.head c.arguments q over below))
+
+      -- what a seat keeps is reached, so it stays
+      kept_reached : (j : ℕ) → Each (Reaches s.words m) (rows_kept (s.view j))
+      kept_reached j = let v = s.view j in
+          led_has (Reaches s.words m) v.knows (protected_in v)
+          (goes_on s.words m v.knows (rows_kept v) (Reaches s.words m) argument_reached (in_rows (IsKnown s.words m) (rows_kept v) v.knows (h.seats j).protects.keeps_words))
+          (subst (Each (Reaches s.words m)) (sym (own j)) (each_roots (Reaches s.words m) s.words j (s.words (RootCount j)) (λ q l. protected j q l)))
+
+      kept_seen : (j seen : ℕ) → (s.view j).seen ≤ seen → Each (IsSeen u n seen) (rows_kept (s.view j))
+      kept_seen j seen more = each_both (Reaches s.words m) (IsSeen s.words m (s.view j).seen) (IsSeen u n seen) (rows_kept (s.view j))
+          (λ r y t. record { live = (k.live r).1 y; birth = let a = k.births r in let b = t.birth in omega arith }) (kept_reached j) (h.seats j).protects.keeps
+
+      kept_known : (j : ℕ) → Each (IsKnown u n) (words_kept (s.view j))
+      kept_known j = let v = s.view j in let all : List ℕ = rows_kept v in
+          of_rows (IsKnown u n) all v.knows (each_map (λ q. is_among all q.row ≡ true → IsKnown s.words m q) (λ q. is_among all q.row ≡ true → IsKnown u n q) v.knows
+          (λ q f one. record { live = (k.live q.row).1 (each_among (Reaches s.words m) q.row all (kept_reached j) one); value_is = k.row_words q.row q.word ∙ (f one).value_is })
+          (in_rows (IsKnown s.words m) all v.knows (h.seats j).protects.keeps_words))
+
       roots_after : (j q : ℕ) → roots_of u j q ≡ roots_of s.words j q
       roots_after j zero = refl
       roots_after j (suc q) = ap₂ (λ (xs : List ℕ) (r : ℕ). xs ++ r ∷ []) (roots_after j q) (k.roots j q)
@@ -214,7 +243,7 @@ module _ (z : Sizes) (s : State) (m : Meaning) (h : Holds z s m) where
           over = λ b e. let a = old.numbers.over b e in omega arith;
           read = tt;
         };
-        protects = record { roots = λ q l. root_seen j q l (s.view j).seen (omega arith); wants = tt; got = λ e. absurd (omega arith); knows = λ e. absurd (omega arith) };
+        protects = record { roots = λ q l. root_seen j q l (s.view j).seen (omega arith); wants = tt; got = λ e. absurd (omega arith); knows = λ e. absurd (omega arith); keeps = kept_seen j (s.view j).seen (omega arith); keeps_words = kept_known j };
         notes = record { order = old.notes.order; keys = old.notes.keys; away = λ e. old.notes.away e ∙ (ap (roots_of s.words j) (sym (k.root_counts j)) ∙ sym (roots_after j (u (RootCount j)))) };
       }
 
@@ -237,7 +266,14 @@ module _ (z : Sizes) (s : State) (m : Meaning) (h : Holds z s m) where
             over = λ b e. let a = old.numbers.over b e in omega arith;
             read = tt;
           };
-          protects = record { roots = λ q l. root_seen i q l (s.words Base + s.words Claim) (omega arith); wants = tt; got = λ _. tt; knows = λ _. tt };
+          protects = let number : ℕ = s.words Base + s.words Claim in let v = s.view i in let rows = kept_seen i number (omega arith) in record {
+            roots = λ q l. root_seen i q l number (omega arith);
+            wants = tt;
+            got = λ _. rows;
+            knows = λ _. kept_known i;
+            keeps = led_seen z u n number (words_kept v) (protected_in v) k.chains (kept_known i) (protected_seen u n number v rows);
+            keeps_words = led_known u n (words_kept v) (led_to (words_kept v) (protected_in v)) (kept_known i);
+          };
           notes = record {
             order = order_more (s.view i).entries (Collect (s.words Base + s.words Claim) kept) (s.view i).seen old.notes.order old.notes.keys (omega arith);
             keys = keys_more (s.view i).entries (Collect (s.words Base + s.words Claim) kept) (s.view i).seen (s.words Base + s.words Claim) old.notes.keys (omega arith) (omega arith);

@@ -1,14 +1,14 @@
 -- The loads and stores of a collection keep what holds of the store.
 use Rattle.store_core.proofs.Bases.{notes_none, bases_noted, bases_collected, tally_few}
 use Rattle.store_core.specs.Bases.{BasesKnown}
-use Rattle.std.proofs.Common.{◌≡◌, ◌≢◌, ℕ, zero, suc, pred, ◌+◌, ◌<◌, Bool, true, false, None, List, [], ◌∷◌, ◌++◌, refl, sym, ap, ◌∙◌, subst, ⊎_elim, inl, inr, arith, true≢false, Some, ◌≤◌}
+use Rattle.std.proofs.Common.{◌≡◌, ◌≢◌, ℕ, zero, suc, pred, ◌+◌, ◌<◌, Bool, true, false, None, List, [], ◌∷◌, ◌++◌, refl, sym, ap, ap₂, ◌∙◌, subst, ⊎_elim, inl, inr, arith, true≢false, Some, ◌≤◌}
 use mathlib.Core.Logic.{dite}
 use native.Mathlib.Decide.{ℕ_discrete}
 use Rattle.lock_core.specs.Exclusion.{IsExclusive}
 use Rattle.history_core.specs.Chronicle.{last_roots}
-use Rattle.store_core.specs.Words.{Place, Base, FreeCount, Claim, InUse, RootCount, same_place, write, put, Bucket}
+use Rattle.store_core.specs.Words.{Place, Base, FreeCount, Claim, InUse, RootCount, Root, same_place, write, put, Bucket}
 use Rattle.store_core.specs.Calls.{Call, Idle, Loading, Storing, Stay, Away, Based, Ready, Leaving, View, bucket}
-use Rattle.store_core.specs.Machine.{Sizes, State, Each, with_call, roots_of, LoadAny, StoreAny, StoreClaim}
+use Rattle.store_core.specs.Machine.{Sizes, State, Each, with_call, roots_of, protected_in, LoadAny, StoreAny, StoreClaim}
 use Rattle.store_core.specs.Meaning.{Meaning}
 use Rattle.store_core.specs.Seats.{Where, index, wanted, HasRead, MayWant, SeatWalks, RowDrawn}
 use Rattle.store_core.specs.Invariant.{Holds, span, is_at}
@@ -135,14 +135,18 @@ module _ (z : Sizes) (s : State) (k : CoreHolds z s) (i : ℕ) (alone : IsExclus
   is_away Ready f = absurd (f (λ e. absurd (cc)))
   is_away Leaving f = absurd (f (λ e. absurd (cc)))
 
-  pub claim_kept : i < z.seats → (names : List ℕ) (n : Meaning) → is_collecting (s.view i).call ≡ true → IsCollected z k.kept (write s.words Claim 0) k.meaning n → AreKept n names
+  roots_still : (j q : ℕ) → roots_of s.words j q ≡ roots_of k.kept j q
+  roots_still j zero = refl
+  roots_still j (suc q) = ap₂ (λ (xs : List ℕ) (r : ℕ). xs ++ r ∷ []) (roots_still j q) (at_kept (Root j q) refl)
+
+  pub claim_kept : ((j : ℕ) → protected_in (s.view j) ≡ roots_of s.words j (s.words (RootCount j))) → i < z.seats → (names : List ℕ) (n : Meaning) → is_collecting (s.view i).call ≡ true → IsCollected z k.kept (write s.words Claim 0) k.meaning n → AreKept n names
       → CoreHolds z (record { lock = s.lock; words = write s.words Claim 0; view = put s.view i (collected (s.view i) (s.words Base) (pred (s.words Base)) (s.words InUse) names) })
-  claim_kept there names n c is are =
+  claim_kept own there names n c is are =
       let sk : State = record { lock = s.lock; words = k.kept; view = s.view } in
       let u : Place → ℕ = write s.words Claim 0 in
       let match = roots_match z sk k.meaning k.holds (λ j _. dite (ℕ_discrete j i) (λ e. subst (λ (q : ℕ). last_roots [] (s.view q).entries ≡ roots_of k.kept q (k.kept (RootCount q))) (sym e) (k.under.rooted i c))
       (λ ne. (k.holds.seats j).notes.away (is_away (s.view j).stay (λ inside. alone_in s.lock k.holds.lock.sound i j alone ne (is_in s.lock j (s.view j).stay (k.holds.lock.access j) inside))))) in
-      let ends = collection_ends z sk k.meaning k.holds i alone u n is match names are there in
+      let ends = collection_ends z sk k.meaning k.holds i alone u n is (λ j. own j ∙ (roots_still j (s.words (RootCount j)) ∙ ap (roots_of k.kept j) (at_kept (RootCount j) refl))) match names are there in
       let number : k.kept Base + k.kept Claim ≡ pred (s.words Base) = pred_is (k.kept Base + k.kept Claim) (s.words Base) is.base in
       let v : View = collected (s.view i) (s.words Base) (pred (s.words Base)) (s.words InUse) names in
       let few : k.kept Claim + 1 ≤ span z = (let a = k.holds.numbers.drawn in let b = k.holds.rows.few in let d = tally_few (λ j. is_at (s.view j).overdraw (k.kept Base)) z.seats in omega arith) in
@@ -171,7 +175,7 @@ module _ (z : Sizes) (s : State) (k : CoreHolds z s) (i : ℕ) (alone : IsExclus
 ready_in : (v : View) → (v.call ≢ Idle → v.stay ≡ Ready) → is_collecting v.call ≡ true → v.stay ≡ Ready
 ready_in v calls c = calls (λ e. true≢false (sym c ∙ ap is_collecting e))
 
-storing_collects : (x : Call) → is_storing x ≡ true → is_collecting x ≡ true
+pub storing_collects : (x : Call) → is_storing x ≡ true → is_collecting x ≡ true
 storing_collects (Storing ls ss) e = refl
 storing_collects x e = absurd (true≢false (sym e))
 
@@ -203,4 +207,4 @@ store_claim_kept z s i rem k ok =
     let q = ok.permitted in
     let c = storing_collects (s.view i).call q.0 in
     let end = by_words z s k i q.0 (rem.reads i).room q.1 in
-    claim_kept z s k i (k.under.alone i c) ok.present (names_left z s.words) end.0 c end.1 end.2
+    claim_kept z s k i (k.under.alone i c) (λ j. protected_are z s.words j (s.view j) (rem.own j)) ok.present (names_left z s.words) end.0 c end.1 end.2

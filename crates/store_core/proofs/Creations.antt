@@ -71,7 +71,7 @@ known_words w m r k [] h j l = absurd (omega arith)
 known_words w m r k (n ∷ ns) h zero l = ap (λ (q : ℕ). w (RowWord r q)) (let e : k + 0 ≡ k = omega arith in e) ∙ h.0.value_is
 known_words w m r k (n ∷ ns) h (suc j) l = ap (λ (q : ℕ). w (RowWord r q)) (let e : k + suc j ≡ suc k + j = omega arith in e) ∙ known_words w m r (suc k) ns h.1 j (omega arith)
 
-not_idle : (x : Call) (c : Content) → wanted x ≡ Some c → x ≢ Idle
+pub not_idle : (x : Call) (c : Content) → wanted x ≡ Some c → x ≢ Idle
 not_idle x c e f = absurd (let g : None ≡ Some c = sym (ap wanted f) ∙ e in cc)
 
 pub row_is_asked : RowIsAsked

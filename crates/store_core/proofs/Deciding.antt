@@ -1,18 +1,14 @@
 -- What the conditions of steps read: lists of rows, free places, and entries.
-use Rattle.std.proofs.Common.{◌≡◌, ◌≢◌, ◌⊎◌, ℕ, zero, suc, ◌+◌, ◌<◌, ◌≤◌, Bool, true, false, cond, Option, None, Some, List, [], ◌∷◌, ◌++◌, length, get_or, drop, take, refl, sym, ap, ◌∙◌, subst, ⊎_elim, inl, inr, arith, true≢false, eqb, eq-eqb, ne_eqb, add-one, map, Bor, replicate}
+use Rattle.std.proofs.Common.{◌≡◌, ◌≢◌, ℕ, zero, suc, ◌+◌, ◌<◌, ◌≤◌, Bool, true, false, cond, List, [], ◌∷◌, ◌++◌, length, get_or, refl, sym, ap, ◌∙◌, subst, arith, true≢false, eqb, ne_eqb, add-one, map, Bor, replicate}
 use Rattle.std.specs.Prelude.{◌↔◌, ◌&&◌, IsTrue}
 use Rattle.std.specs.List.{list_all}
-use Rattle.std.proofs.Math.Seq.{drop-cons, drop-length}
-use Rattle.term_model.specs.declared.Head.TheVariants.{Cons}
 use Rattle.history_core.specs.declared.entry.Entry.{Entry}
 use Rattle.history_core.specs.Chronicle.{last_roots, roots_after}
-use Rattle.store_core.specs.Words.{Place, Base, Claim, FreeCount, InUse, FreePlace, Bucket, RowWord, Birth, Next, RootCount, Root, same_place}
+use Rattle.store_core.specs.Words.{Place}
 use Rattle.store_core.specs.Calls.{Content, IsOver, View}
-use Rattle.store_core.specs.Machine.{Sizes, Each, IsListRow, SecondIsList, MayName, MayBegin, widest}
-use Rattle.store_core.specs.Steps.{value_at, IsNextLoad, IsWhole, is_free, rows_left}
+use Rattle.store_core.specs.Machine.{Sizes, Each, SecondIsList, MayName, MayBegin, widest}
+use Rattle.store_core.specs.Steps.{is_free, rows_left}
 use Rattle.store_core.specs.Naming.{IsMarked}
-use Rattle.store_core.specs.Lines.{IsLoadedRight, LoadsLine}
-use Rattle.store_core.specs.declared.machine.whole.Line.TheVariants.{FreePlaces, Buckets, Births, Nexts, RootCounts, Words, Roots}
 use Rattle.store_core.proofs.Basics.{choose, eqb_not, each_map}
 
 and_true : (a b : Bool) → (a && b) ≡ true → (a ≡ true) × (b ≡ true)

@@ -246,6 +246,8 @@ eight z s k =
         arguments = λ i. where_map (wanted (s.view i).call) (MayWant w m (s.view i).seen) (λ c. Each (IsSeen w m (s.view i).seen) c.arguments) (λ c _ t. t.arguments) (h.seats i).protects.wants;
         got = λ i. (h.seats i).protects.got;
         knows = λ i. (h.seats i).protects.knows;
+        keeps = λ i. (h.seats i).protects.keeps;
+        keeps_words = λ i. (h.seats i).protects.keeps_words;
         away = λ i. (h.seats i).notes.away;
       };
       history = record { legal = h.history.legal; pairs = h.history.pairs; roots = roots_are z s w m h };

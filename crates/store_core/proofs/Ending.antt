@@ -1,22 +1,21 @@
 -- What decides whether a collection may end.
-use Rattle.std.proofs.Common.{◌≡◌, ◌≢◌, ◌⊎◌, ◌↔◌, ℕ, zero, suc, ◌+◌, ◌<◌, ◌≤◌, eqb, Bool, true, false, cond, Option, None, Some, List, [], ◌∷◌, ◌++◌, length, get_or, refl, sym, ap, ◌∙◌, subst, ⊎_elim, inl, inr, arith, true≢false, eq-eqb}
+use Rattle.std.proofs.Common.{◌≡◌, ℕ, zero, suc, ◌<◌, ◌≤◌, eqb, Bool, true, false, cond, Option, None, Some, List, [], ◌∷◌, ◌++◌, length, get_or, refl, sym, ap, ◌∙◌, subst, ⊎_elim, inl, inr, arith, true≢false, eq-eqb}
 use Rattle.std.specs.Prelude.{is_some}
 use Rattle.std.proofs.lemmas.Bool.{cases_lt, ltb-true}
 use Rattle.std.proofs.lemmas.List.{get_or_past}
 use Rattle.store_core.specs.Words.{Place, Base, FreeCount, Claim, InUse, FreePlace, Bucket, RowWord, Birth, Next, RootCount, Root, row_at, same_place, write}
-use Rattle.store_core.specs.Calls.{Content, words_of, bucket}
+use Rattle.store_core.specs.Calls.{Content, bucket}
 use Rattle.store_core.specs.Machine.{Sizes, State, Each, In}
 use Rattle.store_core.specs.Meaning.{Meaning, Linked, Stands, IsOlder}
 use Rattle.store_core.specs.Invariant.{Holds, RowsHold, ChainsHold}
-use Rattle.store_core.specs.Collection.{Reaches, argument}
+use Rattle.store_core.specs.Collection.{argument}
 use Rattle.store_core.specs.Shown.{shown, in_table, index_of}
-use Rattle.store_core.specs.Steps.{loads, is_stored, is_storing, is_free, ReachesByWords, value_at, names_left, grown_use, MayEnd, CoreHolds}
+use Rattle.store_core.specs.Steps.{loads, is_stored, is_storing, is_free, value_at, names_left, grown_use, MayEnd, CoreHolds}
 use Rattle.store_core.specs.Marks.{IsMarked, MarksReached, MarksFree, ReachesPast, AreNotApart, AreOpposite}
-use Rattle.store_core.specs.MarkedChains.{IsMeant, NotMeant, HasContent, IsNoted, UsesBuckets, ChainsMarked}
+use Rattle.store_core.specs.MarkedChains.{NotMeant, IsNoted}
 use Rattle.store_core.specs.Ending.{IsEnding, IsWholeAgain, IsBroken, Keeps, BaseFollows, UseFollows}
 use Rattle.store_core.proofs.Basics.{choose, each_in, same_is}
 use Rattle.store_core.proofs.Chains.{linked_once}
-use Rattle.store_core.proofs.Chained.{chain_is}
 use Rattle.store_core.proofs.Collects.{each_of, reached_live}
 use Rattle.store_core.proofs.ByWords.{word, from_words, to_words}
 use Rattle.store_core.proofs.Eight.{inductive}

@@ -1,21 +1,30 @@
 -- What a Full means after a collection in the same access.
-use Rattle.std.proofs.Common.{◌≡◌, ◌≢◌, ℕ, ◌<◌, ◌≤◌, true, sym, ◌∙◌, subst, ⊎_elim, arith, true≢false, Bool, false, None, Some, refl, ap}
+use Rattle.std.proofs.Common.{◌≡◌, ◌≢◌, ℕ, suc, ◌<◌, ◌≤◌, eqb, true, sym, ◌∙◌, subst, ⊎_elim, arith, true≢false, Bool, false, None, Some, List, [], ◌∷◌, refl, ap}
+use Rattle.std.specs.Prelude.{nat_lt, Contains}
+use Rattle.std.proofs.lemmas.Bool.{ltb-true}
+use Rattle.term_model.specs.declared.Head.{Head}
+use Rattle.history_core.specs.declared.entry.Entry.{Entry}
+use Rattle.history_core.specs.declared.entry.Entry.TheVariants.{Make, Find, Roots, Collect}
+use Rattle.history_core.specs.Chronicle.{IsNoted}
+use Rattle.history_core.proofs.Members.{contains_here, contains_there}
 use Rattle.std.proofs.lemmas.Bool.{cases_lt}
-use Rattle.store_core.specs.Words.{Place, FreeCount, Claim, InUse, FreePlace, Bucket, row_at}
-use Rattle.store_core.specs.Calls.{Content, bucket, Call, Counting, Storing}
-use Rattle.store_core.specs.Machine.{Sizes, Each, In, with_call, State}
+use Rattle.store_core.specs.Words.{Place, Base, FreeCount, Claim, InUse, FreePlace, Bucket, row_at}
+use Rattle.store_core.specs.Calls.{Content, bucket, Call, Counting, Away, Ready, View}
+use Rattle.store_core.specs.Machine.{Sizes, Each, In, with_call, State, IsCreation}
 use Rattle.store_core.specs.Meaning.{Meaning, Matches, Linked, grown}
 use Rattle.store_core.specs.Seats.{Lacks, Walked, IsSeen, SeatHolds, index}
-use Rattle.store_core.specs.Invariant.{RowsHold, ChainsHold}
-use Rattle.store_core.specs.Steps.{IsFresh, is_storing, is_collecting}
+use Rattle.store_core.specs.Invariant.{listed, RowsHold, ChainsHold, HistoryFits}
+use Rattle.store_core.specs.Steps.{IsFresh, CoreHolds, is_collecting}
 use Rattle.store_core.specs.Laws.{FullIsExact, FullIsExactAlone}
 use Rattle.store_core.proofs.Publishes.{content_is}
-use Rattle.store_core.proofs.Basics.{each_map, each_in}
+use Rattle.store_core.proofs.Basics.{choose, both_true, eqb_is, each_map, each_in}
+use Rattle.store_core.proofs.Histories.{listed_at, listed_length, held_live}
+use Rattle.store_core.proofs.Locks.{is_in}
+use Rattle.store_core.proofs.Wrapped.{words_kept, stores_collects, creation_calm, creation_busy}
 use Rattle.store_core.proofs.Chains.{linked_once}
 use Rattle.store_core.proofs.Eight.{in_places}
 use Rattle.store_core.specs.StoreHolds.{StoreHolds}
-use Rattle.store_core.specs.RowsPartitioned.{IsUnused}
-use Rattle.store_core.specs.Reads.{IsUndisturbed}
+use Rattle.store_core.specs.Reads.{is_make, is_made, IsUndisturbed, Remembers}
 
 -- where the chain from the present head was walked and lacks c, no live row has its tree
 none_has : (z : Sizes) (w : Place → ℕ) (m : Meaning) → ChainsHold z w m → (c : Content) (from n : ℕ) → Each (λ r. m.live r ≡ true) c.arguments → Walked (row_at w) (m.chain (bucket c (w InUse))) c from n → w (Bucket (bucket c (w InUse))) ≡ from
@@ -54,52 +63,66 @@ full_is_exact z s i k c from n fresh e =
       );
     }
 
-only_seat : (z : Sizes) (i j : ℕ) → z.seats ≡ 1 → i < z.seats → j < z.seats → j ≡ i
-only_seat z i j one a b = omega arith
+-- a Make of a row
+make_in : (base : ℕ) (e : Entry) (r : ℕ) → is_make base e r ≡ true → (n : ℕ) × (f : Head) × (rs : List ℕ) × (base ≤ n) × (e ≡ Make n f rs r)
+make_in base (Make n f rs q) r h = let t = both_true (eqb q r) (nat_lt base (suc n)) h in
+    (n, f, rs, (let l = ltb-true base (suc n) t.1 in omega arith), ap (Make n f rs) (eqb_is q r t.0))
+make_in base (Find n f rs q) r h = absurd (true≢false (sym h))
+make_in base (Roots n rs) r h = absurd (true≢false (sym h))
+make_in base (Collect n rs) r h = absurd (true≢false (sym h))
 
-not_true : (b : Bool) → (b ≡ true → ⊥) → b ≡ false
-not_true true f = absurd (f refl)
-not_true false f = refl
+-- one among the entries
+found_make : (base : ℕ) (es : List Entry) (r : ℕ) → is_made base es r ≡ true → (n : ℕ) × (f : Head) × (rs : List ℕ) × (base ≤ n) × Contains es (Make n f rs r)
+found_make base [] r h = absurd (true≢false (sym h))
+found_make base (e ∷ es) r h = choose (λ (b : Bool). b ≡ true → (n : ℕ) × (f : Head) × (rs : List ℕ) × (base ≤ n) × Contains (e ∷ es) (Make n f rs r)) (is_make base e r) true (is_made base es r)
+    (λ here _. let t = make_in base e r here in (t.0, t.1, t.2, t.3, subst (λ (d : Entry). Contains (e ∷ es) d) t.4 (contains_here e es)))
+    (λ _ on. let t = found_make base es r on in (t.0, t.1, t.2, t.3, contains_there e es _ t.4)) h
 
-not_false : (b : Bool) → (b ≡ false → ⊥) → b ≡ true
-not_false true f = refl
-not_false false f = absurd (f refl)
+-- what a seat has made since the base is live
+made_live : (z : Sizes) (w : Place → ℕ) (m : Meaning) (view : ℕ → View) (i : ℕ) → i < z.seats → HistoryFits z w m view → (r : ℕ) → is_made (w Base) (view i).entries r ≡ true → m.live r ≡ true
+made_live z w m view i there h r made =
+    let t = found_make (w Base) (view i).entries r made in
+    let e : Entry = Make t.0 t.1 t.2 r in
+    let noted : IsNoted (listed z.seats (λ j. (view j).entries)) (i, e) = record {
+      present = let a = listed_length z.seats (λ j. (view j).entries) in omega arith;
+      own = subst (λ (es : List Entry). Contains es e) (sym (listed_at z.seats (λ j. (view j).entries) i [] there)) t.4;
+    } in
+    ⊎_elim (λ (l : t.0 < w Base). absurd (let b = t.3 in omega arith)) (λ held. held_live m r held) (h.recent r (i, e) noted refl)
 
-storing_collects : (x : Call) → is_storing x ≡ true → is_collecting x ≡ true
-storing_collects (Storing ls ss) e = refl
-storing_collects x e = absurd (true≢false (sym e))
+-- The only seat creates, and has drawn nothing in this call: where the claim is at least the free count all rows are live.
+module _ (z : Sizes) (s : State) (i : ℕ) (k : CoreHolds z s) (rem : Remembers z s) (one : z.seats ≡ 1) (there : i < z.seats) (x : Call) (e : (s.view i).call ≡ x) (is : IsCreation x) (none : index x ≡ None) where
+  stay : (s.view i).stay ≡ Ready
+  stay = (k.holds.seats i).numbers.calls (λ f. creation_busy x is (sym e ∙ f))
 
-module _ (z : Sizes) (s : State) (i : ℕ) (k : StoreHolds z s) (one : z.seats ≡ 1) (there : i < z.seats) {c : Content} {from n : ℕ} (e : (s.view i).call ≡ Counting c from n) where
-  -- the one seat creates, so none stores for a collection
-  not_storing : (j : ℕ) → is_storing (s.view j).call ≡ false
-  not_storing j = not_true (is_storing (s.view j).call) (λ f.
-      let alone = k.collection.alone j (storing_collects (s.view j).call f) in
-      let same : j ≡ i = only_seat z i j one there (let a = alone.present in let b = k.lock.seats in omega arith) in
-      true≢false (sym f ∙ (ap (λ (q : ℕ). is_storing (s.view q).call) same ∙ ap is_storing e)))
+  pub sole_words : s.words ≡ k.kept
+  sole_words = words_kept z s k i (is_in s.lock i (s.view i).stay (k.holds.lock.access i) (λ f. let a : Away ≡ Ready = sym f ∙ stay in absurd (cc))) (ap is_collecting e ∙ creation_calm x is)
 
-  is_live_here : ((r : ℕ) → IsUnused z k.began k.meaning.live (λ j. (s.view j).call) r → ⊥) → (q : ℕ) → q < k.began Claim → q < k.began FreeCount → k.meaning.live (k.began (FreePlace q)) ≡ true
-  is_live_here used q a b = not_false (k.meaning.live (k.began (FreePlace q))) (λ dead. used (k.began (FreePlace q)) record {
-    at = q;
-    stands = record { counts = b; place = refl; dead = dead };
-    claimed = a;
-    nobody = λ j l f. let same : j ≡ i = only_seat z i j one there l in let g : None ≡ Some q = sym (ap index (ap (λ (p : ℕ). (s.view p).call) same ∙ e)) ∙ f in absurd (cc);
-  })
+  pub sole_now : IsUndisturbed k.kept (with_call (s.view i) x)
+  sole_now = subst (λ (u : Place → ℕ). IsUndisturbed u (with_call (s.view i) x)) sole_words (subst (λ (y : Call). IsUndisturbed s.words (with_call (s.view i) y)) e (rem.sole one i there))
 
--- with one seat, and no row unused
+  pub sole_all : k.kept FreeCount ≤ k.kept Claim → (r : ℕ) → r < z.rows → k.meaning.live r ≡ true
+  sole_all past = all_live z k.kept k.meaning k.holds.rows past (λ q a b. ⊎_elim
+      (λ m. made_live z k.kept k.meaning s.view i there k.holds.history (k.kept (FreePlace q)) m)
+      (λ f. absurd (let g : None ≡ Some q = sym none ∙ f in cc))
+      (sole_now.made (stores_collects x (creation_calm x is)) q a b))
+
+-- with one seat
 pub full_is_exact_alone : FullIsExactAlone
-full_is_exact_alone z s i k c from n one there used e =
+full_is_exact_alone z s i k c from n one there e =
     let w = k.began in
     let m = k.meaning in
-    let h = k.strengthened.holds in
-    let seat : SeatHolds w m i (with_call (s.view i) (Counting c from n)) = subst (λ (x : Call). SeatHolds w m i (with_call (s.view i) x)) e (h.seats i) in
-    let calm : s.words ≡ w = k.collection.calm (λ j. not_storing z s i k one there e j) in
-    let now : IsUndisturbed w (with_call (s.view i) (Counting c from n)) = subst (λ (u : Place → ℕ). IsUndisturbed u (with_call (s.view i) (Counting c from n))) calm (subst (λ (x : Call). IsUndisturbed s.words (with_call (s.view i) x)) e (k.strengthened.remembers.sole one i there)) in
+    let strong = k.strengthened in
+    let h = strong.holds in
+    let core : CoreHolds z s = record { meaning = m; kept = w; holds = h; under = strong.under; bases = strong.bases; fresh = strong.fresh } in
+    let x : Call = Counting c from n in
+    let seat : SeatHolds w m i (with_call (s.view i) x) = subst (λ (y : Call). SeatHolds w m i (with_call (s.view i) y)) e (h.seats i) in
+    let now : IsUndisturbed w (with_call (s.view i) x) = sole_now z s i core strong.remembers one there x e tt refl in
     let wants = each_map (IsSeen w m (s.view i).seen) (λ r. m.live r ≡ true) c.arguments (λ r t. t.live) seat.protects.wants.arguments in
     let read : n ≡ w Claim = now.read in
     record {
       absent = none_has z w m h.chains c from (s.view i).passed wants seat.walks.walk now.head;
       full = (
-        (λ full. all_live z w m h.rows (omega arith) (λ q a b. is_live_here z s i k one there e used q a b)),
+        (λ full. sole_all z s i core strong.remembers one there x e tt refl (omega arith)),
         λ all. let a = all_claimed z w m h.rows all in omega arith,
       );
     }

@@ -1,5 +1,5 @@
 -- A seat enters, begins a creation, and gains a row.
-use Rattle.std.proofs.Common.{◌≡◌, ◌⊎◌, ℕ, zero, suc, pred, ◌+◌, ◌*◌, ◌<◌, ◌≤◌, eqb, max, true, None, List, [], ◌∷◌, ◌++◌, length, get_or, refl, sym, ap, ◌∙◌, subst, ⊎_elim, inl, inr, arith, append-nil, true≢false}
+use Rattle.std.proofs.Common.{◌≡◌, ◌⊎◌, ℕ, zero, suc, pred, ◌+◌, ◌*◌, ◌<◌, ◌≤◌, eqb, max, cond, true, None, List, [], ◌∷◌, ◌++◌, length, get_or, refl, sym, ap, ◌∙◌, subst, ⊎_elim, inl, inr, arith, append-nil, true≢false}
 use Rattle.std.proofs.lemmas.Bool.{cases_lt}
 use Rattle.history_core.specs.declared.entry.Entry.{Entry}
 use Rattle.history_core.specs.declared.entry.Entry.TheVariants.{Roots}
@@ -9,13 +9,15 @@ use Rattle.term_model.specs.declared.Head.{Head}
 use Rattle.term_model.specs.declared.Head.TheVariants.{App, Int, Nil, Cons}
 use Rattle.term_model.specs.Tree.{Tree, Node, may_stand_over, may_be_list}
 use Rattle.store_core.specs.Words.{Place, Base, FreeCount, Claim, InUse, FreePlace, Bucket, RowWord, Birth, RootCount, Root, row_at}
-use Rattle.store_core.specs.Calls.{Content, words_of, IsOver, bucket, Call, Idle, Based, Ready, View}
+use Rattle.store_core.specs.Calls.{Content, words_of, IsOver, bucket, Call, Idle, Based, Ready, KnownWord, View}
+use Rattle.store_core.specs.Staying.{is_among, led_to, words_of_rows}
 use Rattle.hash_buckets.specs.Spelled.{spelled}
-use Rattle.store_core.specs.Machine.{Sizes, Each, In, with_call, with_path, gained, based, ready, left, arrived, SecondIsList, MayName, has_got, has_protected, has_argument, MayBegin, roots_of, words_known}
+use Rattle.store_core.specs.Machine.{Sizes, Each, In, with_call, with_path, gained, based, ready, left, arrived, SecondIsList, MayName, has_got, has_protected, has_argument, MayBegin, roots_of, words_known, protected_in, rows_kept, words_kept}
 use Rattle.store_core.specs.Meaning.{Meaning, IsOlder, Linked, trees_at, Matches}
 use Rattle.store_core.specs.Seats.{IsSeen, SeatHolds, IsKnown}
 use Rattle.store_core.specs.Invariant.{RowsHold, ChainsHold, NumbersHold}
 use Rattle.store_core.proofs.Basics.{choose, each_map, each_in, each_join, eqb_is}
+use Rattle.store_core.proofs.Staying.{each_often, led_has, of_rows, goes_on}
 use Rattle.store_core.proofs.Chains.{comes_first, has_words}
 use Rattle.store_core.proofs.Loads.{recounted, stage_arrived}
 use Rattle.store_core.proofs.Views.{IsStage}
@@ -79,19 +81,37 @@ enough_words (Int v) rs k o l = absurd (omega arith)
 enough_words Nil rs k o l = absurd (omega arith)
 enough_words Cons rs k o l = let n : length rs ≡ 2 = o in omega arith
 
--- what a seat may name is live, and it has seen it
-pub named_seen : (z : Sizes) (w : Place → ℕ) (m : Meaning) (i : ℕ) (v : View) → ChainsHold z w m → ((k : ℕ) → k < w (RootCount i) → IsSeen w m v.seen (w (Root i k))) → Each (IsSeen w m v.seen) v.got → (r : ℕ) → MayName w i v r → IsSeen w m v.seen r
-named_seen z w m i v h roots got r (has_got _ k) = each_in (IsSeen w m v.seen) r v.got got k
-named_seen z w m i v h roots got r (has_protected k l) = roots k l
-named_seen z w m i v h roots got a (has_argument r k n l) =
-    let above = named_seen z w m i v h roots got r n in
+-- an argument of a row that was seen, was seen
+pub argument_seen : (z : Sizes) (w : Place → ℕ) (m : Meaning) (seen : ℕ) → ChainsHold z w m → (r k : ℕ) → IsSeen w m seen r → k < w (RowWord r 1) → IsSeen w m seen (w (RowWord r (suc (suc k))))
+argument_seen z w m seen h r k above l =
     let c : Content = m.content r in
     let over = h.over r above.live in
     let count : w (RowWord r 1) ≡ get_or (words_of c) 1 0 = h.words r above.live 1 (two_words c.head c.arguments) in
     let below : k < get_or (words_of c) 1 0 = omega arith in
     let is : w (RowWord r (suc (suc k))) ≡ get_or (words_of c) (suc (suc k)) 0 = h.words r above.live (suc (suc k)) (enough_words c.head c.arguments k over below) in
     let old = each_in (IsOlder m.live (row_at w) (w (Birth r))) (get_or (words_of c) (suc (suc k)) 0) c.arguments (h.arguments r above.live) (argument_at c.head c.arguments k over below) in
-    subst (IsSeen w m v.seen) (sym is) record { live = old.live; birth = let e = old.older in let f = above.birth in omega arith }
+    subst (IsSeen w m seen) (sym is) record { live = old.live; birth = let e = old.older in let f = above.birth in omega arith }
+
+-- what a seat may name is live, and it has seen it
+pub named_seen : (z : Sizes) (w : Place → ℕ) (m : Meaning) (i : ℕ) (v : View) → ChainsHold z w m → ((k : ℕ) → k < w (RootCount i) → IsSeen w m v.seen (w (Root i k))) → Each (IsSeen w m v.seen) v.got → (r : ℕ) → MayName w i v r → IsSeen w m v.seen r
+named_seen z w m i v h roots got r (has_got _ k) = each_in (IsSeen w m v.seen) r v.got got k
+named_seen z w m i v h roots got r (has_protected k l) = roots k l
+named_seen z w m i v h roots got a (has_argument r k n l) = argument_seen z w m v.seen h r k (named_seen z w m i v h roots got r n) l
+
+-- where all words that a seat knows are so, the rows that it keeps are live and seen
+pub led_seen : (z : Sizes) (w : Place → ℕ) (m : Meaning) (seen : ℕ) (ks : List KnownWord) (rows : List ℕ) → ChainsHold z w m → Each (IsKnown w m) ks → Each (IsSeen w m seen) rows → Each (IsSeen w m seen) (led_to ks rows)
+led_seen z w m seen ks rows h known there =
+    let all : List ℕ = led_to ks rows in
+    let so : Each (λ q. is_among all q.row ≡ true → IsKnown w m q) ks = each_map (IsKnown w m) (λ q. is_among all q.row ≡ true → IsKnown w m q) ks (λ q k _. k) known in
+    led_has (IsSeen w m seen) ks rows (goes_on w m ks all (IsSeen w m seen) (λ r j _ k l. argument_seen z w m seen h r j k l) so) there
+
+-- and so are their words
+pub led_known : (w : Place → ℕ) (m : Meaning) (ks : List KnownWord) (rows : List ℕ) → Each (IsKnown w m) ks → Each (IsKnown w m) (words_of_rows rows ks)
+led_known w m ks rows known = of_rows (IsKnown w m) rows ks (each_map (IsKnown w m) (λ q. is_among rows q.row ≡ true → IsKnown w m q) ks (λ q k _. k) known)
+
+-- it has seen the rows that it protects
+pub protected_seen : (w : Place → ℕ) (m : Meaning) (seen : ℕ) (v : View) → Each (IsSeen w m seen) (rows_kept v) → Each (IsSeen w m seen) (protected_in v)
+protected_seen w m seen v h = each_often (IsSeen w m seen) v.knows (length v.knows) (protected_in v) h
 
 -- one entry more
 pub falls_more : (es : List Entry) (e : Entry) → NeverFalls es → Each (λ d. place d ≤ place e) es → NeverFalls (es ++ e ∷ [])
@@ -121,51 +141,66 @@ pub content_known : (w : Place → ℕ) (m : Meaning) (r : ℕ) (c : Content) �
 content_known w m r c live same = words_are_known w m r 0 (words_of c) live (λ j l. ap (λ (q : ℕ). w (RowWord r q)) (let e : 0 + j ≡ j = omega arith in e) ∙ same j l)
 
 module _ (w : Place → ℕ) (m : Meaning) (i : ℕ) (v : View) where
-  pub gains : (x : Call) → SeatHolds w m i (with_call v x) → v.stay ≡ Ready → (c : Content) → (r number : ℕ) (e : Entry) → m.live r ≡ true → Matches (row_at w r) c → w (Birth r) ≤ number → number < w Base + w Claim → 2 * v.seen + 1 ≤ place e → place e ≤ 2 * max v.seen number + 1 → SeatHolds w m i (gained v c r number e)
-  gains x h stay c r number e live same birth below first last = let more = seen_more w m v.seen (max v.seen number) (omega arith) in record {
-    walks = record { walk = tt; look = tt };
-    drawn = record { index = tt; row = tt };
-    numbers = record { base = h.numbers.base; in_use = h.numbers.in_use; calls = λ ne. stay; seen = let a = h.numbers.seen in omega arith; entered = λ s. let a = h.numbers.entered s in omega arith; overdraw = h.numbers.overdraw; own = h.numbers.own; over = h.numbers.over; read = tt };
-    protects = record {
-      roots = λ k l. more (w (Root i k)) (h.protects.roots k l);
-      wants = tt;
-      got = λ b. (record { live = live; birth = omega arith }, each_map (IsSeen w m v.seen) (IsSeen w m (max v.seen number)) v.got more (h.protects.got b));
-      knows = λ b. each_join (IsKnown w m) (words_known r 0 (words_of c)) v.knows (content_known w m r c live same) (h.protects.knows b);
-    };
-    notes = record { order = order_more v.entries e v.seen h.notes.order h.notes.keys first; keys = keys_more v.entries e v.seen (max v.seen number) h.notes.keys (omega arith) last; away = λ a. absurd (let b = sym stay ∙ a in cc) };
-  }
+  pub gains : (z : Sizes) → ChainsHold z w m → (x : Call) → SeatHolds w m i (with_call v x) → v.stay ≡ Ready → (c : Content) → (r number : ℕ) (e : Entry) → m.live r ≡ true → Matches (row_at w r) c → w (Birth r) ≤ number → number < w Base + w Claim → 2 * v.seen + 1 ≤ place e → place e ≤ 2 * max v.seen number + 1 → SeatHolds w m i (gained v c r number e)
+  gains z chains x h stay c r number e live same birth below first last =
+      let more = seen_more w m v.seen (max v.seen number) (omega arith) in
+      let base : v.base ≡ w Base = h.numbers.base (λ e. let a = sym stay ∙ e in absurd (cc)) in
+      let knows : List KnownWord = words_known r 0 (words_of c) ++ v.knows in
+      let known : Each (IsKnown w m) knows = each_join (IsKnown w m) (words_known r 0 (words_of c)) v.knows (content_known w m r c live same) (h.protects.knows base) in
+      let there = each_map (IsSeen w m v.seen) (IsSeen w m (max v.seen number)) (protected_in v) more (protected_seen w m v.seen v h.protects.keeps) in record {
+        walks = record { walk = tt; look = tt };
+        drawn = record { index = tt; row = tt };
+        numbers = record { base = h.numbers.base; in_use = h.numbers.in_use; calls = λ ne. stay; seen = let a = h.numbers.seen in omega arith; entered = λ s. let a = h.numbers.entered s in omega arith; overdraw = h.numbers.overdraw; own = h.numbers.own; over = h.numbers.over; read = tt };
+        protects = record {
+          roots = λ k l. more (w (Root i k)) (h.protects.roots k l);
+          wants = tt;
+          got = λ b. (record { live = live; birth = omega arith }, each_map (IsSeen w m v.seen) (IsSeen w m (max v.seen number)) v.got more (h.protects.got b));
+          knows = λ _. known;
+          keeps = led_seen z w m (max v.seen number) knows (protected_in v) chains known there;
+          keeps_words = led_known w m knows (led_to knows (protected_in v)) known;
+        };
+        notes = record { order = order_more v.entries e v.seen h.notes.order h.notes.keys first; keys = keys_more v.entries e v.seen (max v.seen number) h.notes.keys (omega arith) last; away = λ a. absurd (let b = sym stay ∙ a in cc) };
+      }
 
-  pub enters : SeatHolds w m i (with_call v Idle) → SeatHolds w m i (based (with_call v Idle) (w Base))
-  enters h = let b : ℕ = w Base in let more = seen_more w m v.seen (max v.seen (pred b)) (omega arith) in record {
-    walks = record { walk = tt; look = tt };
-    drawn = record { index = tt; row = tt };
-    numbers = record {
-      base = λ _. refl;
-      in_use = λ e. absurd (cc);
-      calls = λ ne. absurd (ne refl);
-      seen = let a = h.numbers.seen in let p = below_pred b (w Claim) (omega arith) in omega arith;
-      entered = λ _. let p = pred_below b in omega arith;
-      overdraw = h.numbers.overdraw;
-      own = omega arith;
-      over = h.numbers.over;
-      read = tt;
-    };
-    protects = record {
-      roots = λ k l. more (w (Root i k)) (h.protects.roots k l);
-      wants = tt;
-      got = λ _. choose (Each (IsSeen w m (max v.seen (pred b)))) (eqb b v.base) v.got []
-          (λ e. each_map (IsSeen w m v.seen) (IsSeen w m (max v.seen (pred b))) v.got more (h.protects.got (sym (eqb_is b v.base e)))) (λ _. tt);
-      knows = λ _. choose (Each (IsKnown w m)) (eqb b v.base) v.knows [] (λ e. h.protects.knows (sym (eqb_is b v.base e))) (λ _. tt);
-    };
-    notes = record { order = h.notes.order; keys = each_map (λ d. place d ≤ 2 * v.seen + 1) (λ d. place d ≤ 2 * max v.seen (pred b) + 1) v.entries (λ d a. omega arith) h.notes.keys; away = λ e. absurd (cc) };
-  }
+  pub enters : (z : Sizes) → ChainsHold z w m → SeatHolds w m i (with_call v Idle) → SeatHolds w m i (based (with_call v Idle) (w Base))
+  enters z chains h =
+      let b : ℕ = w Base in
+      let later : ℕ = max v.seen (pred b) in
+      let more = seen_more w m v.seen later (omega arith) in
+      let knows : List KnownWord = cond (eqb b v.base) v.knows (words_kept v) in
+      let known : Each (IsKnown w m) knows = choose (Each (IsKnown w m)) (eqb b v.base) v.knows (words_kept v) (λ e. h.protects.knows (sym (eqb_is b v.base e))) (λ _. h.protects.keeps_words) in
+      let there = each_map (IsSeen w m v.seen) (IsSeen w m later) (protected_in v) more (protected_seen w m v.seen v h.protects.keeps) in record {
+        walks = record { walk = tt; look = tt };
+        drawn = record { index = tt; row = tt };
+        numbers = record {
+          base = λ _. refl;
+          in_use = λ e. absurd (cc);
+          calls = λ ne. absurd (ne refl);
+          seen = let a = h.numbers.seen in let p = below_pred b (w Claim) (omega arith) in omega arith;
+          entered = λ _. let p = pred_below b in omega arith;
+          overdraw = h.numbers.overdraw;
+          own = omega arith;
+          over = h.numbers.over;
+          read = tt;
+        };
+        protects = record {
+          roots = λ k l. more (w (Root i k)) (h.protects.roots k l);
+          wants = tt;
+          got = λ _. choose (Each (IsSeen w m later)) (eqb b v.base) v.got (rows_kept v)
+              (λ e. each_map (IsSeen w m v.seen) (IsSeen w m later) v.got more (h.protects.got (sym (eqb_is b v.base e)))) (λ _. each_map (IsSeen w m v.seen) (IsSeen w m later) (rows_kept v) more h.protects.keeps);
+          knows = λ _. known;
+          keeps = led_seen z w m later knows (protected_in v) chains known there;
+          keeps_words = led_known w m knows (led_to knows (protected_in v)) known;
+        };
+        notes = record { order = h.notes.order; keys = each_map (λ d. place d ≤ 2 * v.seen + 1) (λ d. place d ≤ 2 * max v.seen (pred b) + 1) v.entries (λ d a. omega arith) h.notes.keys; away = λ e. absurd (cc) };
+      }
 
   pub readies : SeatHolds w m i (with_call v Idle) → v.stay ≡ Based → SeatHolds w m i (ready (with_call v Idle) (w InUse))
   readies h stay = record {
     walks = record { walk = tt; look = tt };
     drawn = record { index = tt; row = tt };
     numbers = record { base = λ _. h.numbers.base (λ e. let a = sym stay ∙ e in absurd (cc)); in_use = λ _. refl; calls = λ ne. absurd (ne refl); seen = h.numbers.seen; entered = λ _. h.numbers.entered (λ e. let a = sym stay ∙ e in absurd (cc)); overdraw = h.numbers.overdraw; own = h.numbers.own; over = h.numbers.over; read = tt };
-    protects = record { roots = h.protects.roots; wants = tt; got = h.protects.got; knows = h.protects.knows };
+    protects = record { roots = h.protects.roots; wants = tt; got = h.protects.got; knows = h.protects.knows; keeps = h.protects.keeps; keeps_words = h.protects.keeps_words };
     notes = record { order = h.notes.order; keys = h.notes.keys; away = λ e. absurd (cc) };
   }
 
@@ -174,7 +209,7 @@ module _ (w : Place → ℕ) (m : Meaning) (i : ℕ) (v : View) where
     walks = record { walk = tt; look = tt };
     drawn = record { index = tt; row = tt };
     numbers = record { base = λ ne. absurd (ne refl); in_use = λ e. absurd (cc); calls = λ ne. absurd (ne refl); seen = h.numbers.seen; entered = λ ne. absurd (ne refl); overdraw = h.numbers.overdraw; own = h.numbers.own; over = h.numbers.over; read = tt };
-    protects = record { roots = h.protects.roots; wants = tt; got = h.protects.got; knows = h.protects.knows };
+    protects = record { roots = h.protects.roots; wants = tt; got = h.protects.got; knows = h.protects.knows; keeps = h.protects.keeps; keeps_words = h.protects.keeps_words };
     notes = record { order = order_more v.entries (Roots v.seen rows) v.seen h.notes.order h.notes.keys (omega arith); keys = keys_more v.entries (Roots v.seen rows) v.seen v.seen h.notes.keys (omega arith) (omega arith); away = λ _. roots_last [] v.entries v.seen rows ∙ all };
   }
 

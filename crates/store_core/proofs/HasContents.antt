@@ -1,12 +1,12 @@
 -- What a row's words are the words of.
-use Rattle.std.proofs.Common.{◌≡◌, ◌≢◌, ◌⊎◌, ℕ, zero, suc, ◌+◌, ◌<◌, ◌≤◌, eqb, List, [], ◌∷◌, length, get_or, refl, sym, ap, ◌∙◌, subst, ⊎_elim, inl, inr, arith}
+use Rattle.std.proofs.Common.{◌≡◌, ◌≢◌, ℕ, zero, suc, ◌<◌, eqb, List, [], ◌∷◌, length, get_or, refl, sym, ap, ◌∙◌, subst, arith}
 use Rattle.std.specs.Prelude.{MatchBool}
 use Rattle.term_model.specs.declared.Head.{Head}
 use Rattle.term_model.specs.declared.Head.TheVariants.{App, Int, Nil, Cons}
 use Rattle.hash_buckets.specs.Spelled.{spelled}
 use Rattle.store_core.specs.Words.{Place, RowWord, row_at}
-use Rattle.store_core.specs.Calls.{Content, words_of, IsOver, bucket}
-use Rattle.store_core.specs.Machine.{Sizes, Each, In}
+use Rattle.store_core.specs.Calls.{Content, IsOver, bucket}
+use Rattle.store_core.specs.Machine.{Sizes}
 use Rattle.store_core.specs.Meaning.{Matches}
 use Rattle.store_core.specs.RowLists.{IsList, IsPast}
 use Rattle.store_core.specs.declared.machine.row_lists.RowList.TheVariants.{Arguments}

@@ -84,7 +84,7 @@ go_kept z s i rem k ok =
     (λ b _ c from r e. published z s k.meaning q i c from b r e h fresh))
     ok.present (action_notes (s.words Base) (s.view i) x (s.words a.place)) (action_base s.words (s.view i) x is)
 
-idle_calm : (x : Call) → x ≡ Idle → is_collecting x ≡ false
+pub idle_calm : (x : Call) → x ≡ Idle → is_collecting x ≡ false
 idle_calm x e = ap is_collecting e
 
 pub begin_kept : (c : Content) → StepKeeps (Begin c)
@@ -120,10 +120,10 @@ leave_kept z s i x rem k there e ne ok =
     subst (λ (rs : List ℕ). CoreHolds z (record { lock = lock.after s.lock i x; words = s.words; view = put s.view i (left (s.view i) rs) })) (sym rows)
     (wrapped z s k i inside calm (lock.after s.lock i x) s.words (left (s.view i) (roots_of s.words i (s.words (RootCount i)))) calm (kept_leave z s k.meaning (quiet z s k i inside calm) i there x e ne ok) (λ f. absurd (true≢false (sym f))) there (record { entries = inr (_, refl, refl); base = inl refl }) refl)
 
-ready_inside : (v : View) → v.stay ≡ Ready → v.stay ≢ Away
+pub ready_inside : (v : View) → v.stay ≡ Ready → v.stay ≢ Away
 ready_inside v e f = let a : Away ≡ Ready = sym f ∙ e in absurd (cc)
 
-leaves_inside : (v : View) → MayLeave v → v.stay ≢ Away
+pub leaves_inside : (v : View) → MayLeave v → v.stay ≢ Away
 leaves_inside v m = ⊎_elim (ready_inside v) (λ e f. let a : Away ≡ Leaving = sym f ∙ e in absurd (cc)) m
 
 pub lower_kept : StepKeeps LowerShared
@@ -217,5 +217,5 @@ store_root_kept n r z s i rem k ok = let p = ok.permitted in let calm = calm_res
 
 pub store_count_kept : (n : ℕ) → StepKeeps (StoreCount n)
 store_count_kept n z s i rem k ok = let p = ok.permitted in let calm = calm_rest z s i k ok.present p.0 in let inside = in_rest z s i k ok.present p.0 in
-    let h = kept_store_count z s k.meaning (quiet z s k i inside calm) i p.0.call p.0.stay (rem.own i) n ok.present p.2 in
+    let h = kept_store_count z s k.meaning (quiet z s k i inside calm) i p.0.call p.0.stay (rem.own i) n ok.present p.1 p.2 in
     wrapped z s k i inside calm s.lock (write s.words (RootCount i) n) (root_counted (s.view i) n) calm h (λ f. fresh_rooted z s i (write s.words (RootCount i) n) (root_counted (s.view i) n) k.meaning.live h.meaning.live h.grows (λ _. refl) refl refl p.0.call refl refl (quiet_fresh z s k i inside calm f)) ok.present (notes_none (s.words Base) (s.view i) _ refl refl) refl

@@ -1,4 +1,5 @@
 pub mod Basics
+pub mod Staying
 pub mod Stable
 pub mod Histories
 pub mod Locks
@@ -33,6 +34,7 @@ pub mod Acts
 pub mod Tables
 pub mod Contents
 pub mod Eight
+pub mod Counts
 pub mod Creations
 pub mod Full
 pub mod Ends
@@ -53,4 +55,14 @@ pub mod Chained
 pub mod Ending
 pub mod Outcomes
 pub mod Placed
+pub mod WorkedEnds
+pub mod WorkedWorn
 pub mod WorkedPlaced
+pub mod Leading
+pub mod Recalled
+pub mod Telling
+pub mod Recalling
+pub mod RecallsNoted
+pub mod RecallsKept
+pub mod RecallsCollected
+pub mod RecallsHold

@@ -94,7 +94,7 @@ recounted w m i v x n ps h stay = record {
   walks = record { walk = tt; look = tt };
   drawn = record { index = tt; row = tt };
   numbers = record { base = h.numbers.base; in_use = h.numbers.in_use; calls = λ _. stay; seen = h.numbers.seen; entered = h.numbers.entered; overdraw = h.numbers.overdraw; own = h.numbers.own; over = h.numbers.over; read = tt };
-  protects = record { roots = h.protects.roots; wants = tt; got = h.protects.got; knows = h.protects.knows };
+  protects = record { roots = h.protects.roots; wants = tt; got = h.protects.got; knows = h.protects.knows; keeps = h.protects.keeps; keeps_words = h.protects.keeps_words };
   notes = record { order = h.notes.order; keys = h.notes.keys; away = h.notes.away };
 }
 
@@ -127,7 +127,7 @@ module _ (w : Place → ℕ) (m : Meaning) (i : ℕ) (v : View) where
   pub seat_refused : (c : Content) (from n count : ℕ) → SeatHolds w m i (with_call v (Counting c from n)) → v.stay ≡ Ready → SeatHolds w m i (refusing v c from n count)
   seat_refused c from n count h stay =
       let rest = recounted w m i v (Counting c from n) v.passed v.path h stay in
-      regarded w m i (with_call v Idle) v.roots v.root_count v.got v.knows v.path (v.refused ++ record { content = c; head = from; path = v.path; claim = n; count = count } ∷ []) rest.protects.got rest.protects.knows rest
+      regarded w m i (with_call v Idle) v.roots v.root_count v.got v.knows v.path (v.refused ++ record { content = c; head = from; path = v.path; claim = n; count = count } ∷ []) rest.protects.got rest.protects.knows rest.protects.keeps rest.protects.keeps_words rest
 
   -- the free place
   pub stage_placed : (c : Content) (from k : ℕ) → SeatHolds w m i (with_call v (Placing c from k)) → v.stay ≡ Ready → IsStage w m i v (Placing c from k) (Filling c from k (w (FreePlace k)) 0)

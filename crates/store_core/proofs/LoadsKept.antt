@@ -67,7 +67,7 @@ module _ (z : Sizes) (s : State) (m : Meaning) (h : Holds z s m) (i : ℕ) where
         grows = λ r l. l;
         holds = loaded z s m h i (gained v c r n f) (apart_none z s m h i Idle refl) (h.lock.access i) (Birth r) refl
             (found z s m h i there (stays_at _ e (λ f. absurd (cc))) c seat.protects.wants r (gained v c r n f) seat.walks.look.live seat.walks.look.looks refl refl)
-            (gains s.words m i v (Finding c d r) seat (stays_at _ e (λ f. absurd (cc))) c r n f seat.walks.look.live seat.walks.look.looks (omega arith) (born_below z s.words m s.view h.rows h.numbers r seat.walks.look.live) (omega arith) (omega arith));
+            (gains s.words m i v z h.chains (Finding c d r) seat (stays_at _ e (λ f. absurd (cc))) c r n f seat.walks.look.live seat.walks.look.looks (omega arith) (born_below z s.words m s.view h.rows h.numbers r seat.walks.look.live) (omega arith) (omega arith));
       }
 
   pub kept_begin : (c : Content) → (s.view i).call ≡ Idle → (s.view i).stay ≡ Ready → MayBegin z s.words i (s.view i) c → IsStoreSound z m.live (acted s.words s.view i s.lock (begins (s.view i) c))
@@ -79,7 +79,7 @@ module _ (z : Sizes) (s : State) (m : Meaning) (h : Holds z s m) (i : ℕ) where
     meaning = m;
     grows = λ r l. l;
     holds = subst (λ (x : Call). Holds z (record { lock = s.lock; words = write s.words Base (s.words Base); view = put s.view i (based (with_call (s.view i) x) (s.words Base)) }) m) (sym e)
-        (loaded z s m h i (based (with_call (s.view i) Idle) (s.words Base)) (apart_none z s m h i Idle refl) access Base refl (same_history _ refl (omega arith)) (enters s.words m i (s.view i) (seat_at Idle e)));
+        (loaded z s m h i (based (with_call (s.view i) Idle) (s.words Base)) (apart_none z s m h i Idle refl) access Base refl (same_history _ refl (omega arith)) (enters s.words m i (s.view i) z h.chains (seat_at Idle e)));
   }
 
   pub kept_load_in_use : (s.view i).call ≡ Idle → (s.view i).stay ≡ Based → IsStoreSound z m.live (acted s.words s.view i s.lock (load InUse (ready (s.view i))))

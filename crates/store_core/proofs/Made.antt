@@ -1,9 +1,9 @@
 -- What a planned change does is what its step does.
-use Rattle.std.proofs.Common.{◌≡◌, ℕ, ◌+◌, Option, None, Some, refl, sym, ap, ◌∙◌, subst}
+use Rattle.std.proofs.Common.{◌≡◌, ℕ, None, Some, refl, sym, ap, ◌∙◌}
 use Rattle.lock_core.specs.Lock.{Lock}
 use Rattle.store_core.specs.Words.{Place, write}
 use Rattle.store_core.specs.Calls.{View}
-use Rattle.store_core.specs.Machine.{Sizes, State, Step, Go, action}
+use Rattle.store_core.specs.Machine.{Step, Go, action}
 use Rattle.store_core.specs.Steps.{after}
 use Rattle.store_core.specs.declared.machine.change.Change.{Change}
 use Rattle.store_core.specs.declared.machine.change.Sight.{Sight}

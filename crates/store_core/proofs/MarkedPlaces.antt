@@ -1,11 +1,10 @@
 -- Marks of the rows in free places.
-use Rattle.std.proofs.Common.{◌≡◌, ◌≢◌, ◌⊎◌, ℕ, zero, suc, ◌+◌, ◌<◌, ◌≤◌, eqb, Bool, true, false, cond, List, [], ◌∷◌, ◌++◌, length, get_or, set, refl, sym, ap, ◌∙◌, subst, ⊎_elim, inl, inr, arith, true≢false, get_or-set_same, get_or-set_other}
+use Rattle.std.proofs.Common.{◌≡◌, ◌≢◌, ℕ, zero, suc, ◌+◌, ◌<◌, ◌≤◌, eqb, Bool, true, false, cond, List, [], ◌∷◌, ◌++◌, length, get_or, set, refl, sym, ap, ◌∙◌, subst, ⊎_elim, arith, true≢false, get_or-set_same, get_or-set_other}
 use Rattle.std.specs.Prelude.{replicate}
 use Rattle.std.proofs.lemmas.Bool.{cases_lt}
 use Rattle.std.proofs.lemmas.List.{length-replicate, get_or-replicate, get_or_read, length-set, length_push}
 use Rattle.store_core.specs.Words.{Place, FreeCount, FreePlace}
 use Rattle.store_core.specs.Machine.{Sizes}
-use Rattle.store_core.specs.Meaning.{RowsApart}
 use Rattle.store_core.specs.Steps.{is_free, rows_left}
 use Rattle.store_core.specs.RowLists.{AreListed, IsList, IsPast}
 use Rattle.store_core.specs.declared.machine.row_lists.RowList.TheVariants.{Free}

@@ -1,20 +1,14 @@
 -- The end of a collection by what it has loaded, and plans that are handed on.
-use Rattle.std.proofs.Common.{◌≡◌, ◌≢◌, ℕ, true≢false, true, List, None, Some, refl, sym, ap, ◌∙◌, subst}
-use Rattle.std.specs.Prelude.{Option, Result, Ok, Err, IfOk, MatchOption}
+use Rattle.std.proofs.Common.{◌≡◌, ℕ, List, None, Some, ap, ◌∙◌}
+use Rattle.std.specs.Prelude.{Option, Result, Ok, Err, IfOk}
 use Rattle.faults.specs.declared.Memory.{Memory}
-use Rattle.lock_core.specs.declared.parts.LockStep.{LockStep}
-use Rattle.lock_core.specs.declared.parts.LockStep.TheVariants.{Raise, Look, Lower, Take, Ask, Peek, Unask, Give}
 use Rattle.store_core.specs.Words.{Place}
-use Rattle.store_core.specs.Calls.{Call, Storing, Stay, Away, Based, Ready, Leaving, View}
-use Rattle.store_core.specs.Machine.{Sizes, State, Step, LockAlone, LowerShared, UnaskSeat, GiveGranted, StoreClaim}
-use Rattle.store_core.specs.Steps.{is_storing, loads, MayEnd, Permits}
+use Rattle.store_core.specs.Calls.{Storing, View}
+use Rattle.store_core.specs.Steps.{is_storing, loads}
 use Rattle.store_core.specs.Ending.{IsEnding}
-use Rattle.store_core.specs.StoreHolds.{StoreHolds}
-use Rattle.store_core.specs.StoreSteps.{lock_meant}
-use Rattle.store_core.specs.declared.step.StoreStep.TheVariants as step
 use Rattle.store_core.specs.declared.machine.change.Change.{Change}
 use Rattle.store_core.specs.declared.machine.change.Sight.{Sight}
-use Rattle.store_core.specs.Planning.{Plans, PlansIf, PlansStep, PlansEnd, PlansClaim, IsSeen, sizes_seen, state_seen, Allows, Makes}
+use Rattle.store_core.specs.Planning.{PlansEnd, PlansClaim, sizes_seen, state_seen}
 
 -- the end of a collection by what it has loaded is one of the whole state
 pub claims : (g : Sight) (ls ss : List (Place × ℕ)) (n : ℕ) (o : Option Change) → g.view.now.call ≡ Storing ls ss → PlansEnd g ls n (Ok o) → PlansClaim g n (Ok o)

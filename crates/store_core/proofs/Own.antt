@@ -17,12 +17,18 @@ each_drop P zero xs h = h
 each_drop P (suc n) [] h = tt
 each_drop P (suc n) (x ∷ xs) h = each_drop P n xs h.1
 
+pub each_set : (P : ℕ → Type 0) (n k r : ℕ) (xs : List ℕ) → Each P (take n xs) → P r → Each P (take n (set xs k r))
+each_set P zero k r xs h p = tt
+each_set P (suc n) k r [] h p = h
+each_set P (suc n) zero r (x ∷ xs) h p = (p, h.1)
+each_set P (suc n) (suc k) r (x ∷ xs) h p = (h.0, each_set P n k r xs h.1 p)
+
 pub each_roots : (P : ℕ → Type 0) (w : Place → ℕ) (i n : ℕ) → ((k : ℕ) → k < n → P (w (Root i k))) → Each P (roots_of w i n)
 each_roots P w i zero h = tt
 each_roots P w i (suc n) h = each_join P (roots_of w i n) (w (Root i n) ∷ []) (each_roots P w i n (λ k l. h k (omega arith))) (h n (omega arith), tt)
 
 module _ (z : Sizes) (w : Place → ℕ) (i : ℕ) (v : View) (h : RootsKnown z w i v) where
-  roots_are : (n : ℕ) → n ≤ z.depth → roots_of w i n ≡ take n v.roots
+  pub roots_are : (n : ℕ) → n ≤ z.depth → roots_of w i n ≡ take n v.roots
   roots_are zero l = refl
   roots_are (suc n) l = ap₂ (λ (xs : List ℕ) (r : ℕ). xs ++ r ∷ []) (roots_are n (omega arith)) (h.root n (omega arith)) ∙ sym (take-suc v.roots n 0 (let a = h.wide in omega arith))
 

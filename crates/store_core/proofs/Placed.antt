@@ -1,5 +1,5 @@
 -- Steps that are in place by what the definitions compute: a proof, where the state shows one at once.
-use Rattle.std.proofs.Common.{◌≡◌, ◌≢◌, ◌⊎◌, ℕ, zero, suc, ◌+◌, ◌<◌, ◌≤◌, eqb, ltb, Bool, true, false, Option, None, Some, List, [], ◌∷◌, ◌++◌, length, get_or, refl, sym, ap, ap₂, ◌∙◌, subst, ⊎_elim, inl, inr, arith, true≢false, ltb-true}
+use Rattle.std.proofs.Common.{◌≡◌, ◌≢◌, ◌⊎◌, ℕ, zero, suc, ◌+◌, ◌<◌, ◌≤◌, eqb, ltb, Bool, true, false, Option, None, Some, List, [], ◌∷◌, ◌++◌, length, refl, sym, ap, ◌∙◌, subst, ⊎_elim, inl, inr, arith, true≢false, ltb-true}
 use Rattle.std.specs.Prelude.{is_some}
 use Rattle.std.proofs.lemmas.Bool.{cases_lt}
 use Rattle.lock_core.specs.declared.parts.Phase.{Phase}
@@ -13,12 +13,12 @@ use Rattle.lock_core.specs.Lock.{Lock, seat_of, Stands}
 use Rattle.lock_core.specs.Exclusion.{IsExclusive}
 use Rattle.history_core.specs.Chronicle.{last_roots}
 use Rattle.term_model.specs.declared.Head.{Head}
-use Rattle.term_model.specs.declared.Head.TheVariants.{App}
+use Rattle.term_model.specs.declared.Head.TheVariants.{App, Int}
 use Rattle.store_core.specs.Words.{Place, same_place, Base, FreeCount, Claim, InUse, FreePlace, Bucket, RowWord, Birth, Next, RootCount, Root}
-use Rattle.store_core.specs.Calls.{Content, IsOver, bucket, Call, Idle, Loading, Storing, Stay, Away, Based, Ready, Leaving, View}
+use Rattle.store_core.specs.Calls.{IsOver, bucket, Call, Idle, Loading, Storing, Stay, Away, Based, Ready, Leaving, View}
 use Rattle.store_core.specs.Machine as machine
 use Rattle.store_core.specs.Machine.{Sizes, State, In, Each, Step, LockAlone, LowerShared, UnaskSeat, GiveGranted, LoadBase, LoadInUse, Begin, Go, LoadAny, StoreAny, MayName, has_got, MayBegin, SecondIsList, InAccess, IsCreation, protected_in, widest}
-use Rattle.store_core.specs.Steps.{loads, value_at, is_stored, IsNextLoad, IsWhole, IsAtRest, IsLoading, MayStore, MayLeave, Permits, InPlace}
+use Rattle.store_core.specs.Steps.{loads, value_at, is_stored, IsNextLoad, IsWhole, IsAtRest, IsLoading, MayStore, Permits}
 use Rattle.store_core.specs.Shown.{in_table}
 use Rattle.store_core.specs.StoreSteps.{row_place, Act, Loads, Stores, Draws, Exchanges, act, meant, Fits, RowFits, IsInPlace, after, Leads}
 use Rattle.store_core.specs.Worked.{ran}
@@ -175,9 +175,14 @@ creating (Loading ls) = None
 creating (Storing ls ss) = None
 creating x = Some tt
 
--- of constants alone
+abbrev named : (w : Place → ℕ) (i : ℕ) (v : View) (rs : List ℕ) → Option (Each (MayName w i v) rs)
+named w i v [] = Some tt
+named w i v (r ∷ rs) = pairs (then (in_list r v.got) (has_got r)) (named w i v rs)
+
+-- of symbols over rows that the seat got, and of integers
 abbrev may_begin : (z : Sizes) (w : Place → ℕ) (i : ℕ) (v : View) (f : Head) (rs : List ℕ) → Option ((length rs ≤ widest z) × SecondIsList w f rs × IsOver f rs × Each (MayName w i v) rs)
-may_begin z w i v (App f) [] = then (below f.0 4294967296) (λ l. (omega arith, tt, l, tt))
+may_begin z w i v (App f) rs = both (pairs (below f.0 4294967296) (below (length rs) (suc (widest z)))) (named w i v rs) (λ a b. ((let l = a.1 in omega arith), tt, a.0, b))
+may_begin z w i v (Int n) [] = Some (omega arith, tt, refl, tt)
 may_begin z w i v f rs = None
 
 abbrev is_loading : (x : Call) → Option (IsLoading x)

@@ -1,16 +1,13 @@
 -- What a seat sees decides: a plan by its own view is one of the whole state.
-use Rattle.std.proofs.Common.{◌≡◌, ◌≢◌, ℕ, zero, suc, ◌+◌, ◌<◌, Option, None, Some, List, [], ◌∷◌, length, get_or, set, refl, sym, ap, ◌∙◌, subst, arith, replicate}
-use Rattle.std.specs.Prelude.{MatchOption, Ok, Result}
+use Rattle.std.proofs.Common.{◌≡◌, ℕ, zero, suc, ◌<◌, Option, None, Some, List, length, get_or, set, refl, sym, ap, ◌∙◌, subst, replicate}
+use Rattle.std.specs.Prelude.{MatchOption, Ok}
 use Rattle.std.proofs.lemmas.List.{get_or-set_same, get_or-set_other}
 use mathlib.Core.Path.{fun_ext}
-use mathlib.Core.Logic.{dite}
-use native.Mathlib.Decide.{ℕ_discrete}
 use Rattle.lock_core.specs.Lock.{Lock}
-use Rattle.lock_core.specs.declared.parts.LockStep.{LockStep}
 use Rattle.store_core.specs.Words.{Place, put}
 use Rattle.store_core.specs.Calls.{View}
 use Rattle.store_core.specs.Machine.{Sizes, State, Step, LockAlone, StoreClaim}
-use Rattle.store_core.specs.Steps.{Permits, MayEnd, after, newcomer}
+use Rattle.store_core.specs.Steps.{Permits, after, newcomer}
 use Rattle.store_core.specs.StoreHolds.{StoreHolds}
 use Rattle.store_core.specs.StoreSteps as steps
 use Rattle.store_core.specs.StoreSteps.{meant, Fits}
@@ -18,7 +15,7 @@ use Rattle.store_core.specs.declared.step.StoreStep.{StoreStep}
 use Rattle.store_core.specs.declared.step.StoreStep.TheVariants as step
 use Rattle.store_core.specs.declared.machine.change.Change.{Change}
 use Rattle.store_core.specs.declared.machine.change.Sight.{Sight}
-use Rattle.store_core.specs.Planning.{state_seen, sizes_seen, view_after, lock_with, words_with, changed, Makes, Allows, IsPlanOf, IsSeen, Serves, state_by}
+use Rattle.store_core.specs.Planning.{state_seen, sizes_seen, view_after, lock_with, words_with, changed, Makes, Allows, IsPlanOf, Serves, state_by}
 use Rattle.store_core.specs.Shown.{shown}
 use Rattle.store_core.proofs.Basics.{put_case}
 

@@ -53,16 +53,16 @@ content_is z w m h c wants q l is =
     ◌∙◌ {b = record { head = c.head; arguments = d.arguments }} (ap (λ (f : Head). record { head = f; arguments = d.arguments }) heads) (ap (λ (rs : List ℕ). record { head = c.head; arguments = rs }) arguments)
 
 module _ (z : Sizes) (s : State) (m : Meaning) (h : Holds z s m) (i : ℕ) (there : i < z.seats) (c : Content) (from a r : ℕ) (e : (s.view i).call ≡ Publishing c from a r) where
-  seat : SeatHolds s.words m i (with_call (s.view i) (Publishing c from a r))
+  pub seat : SeatHolds s.words m i (with_call (s.view i) (Publishing c from a r))
   seat = seat_at z s m h i (Publishing c from a r) e
 
   stay : (s.view i).stay ≡ Ready
   stay = stays_at z s m h i (Publishing c from a r) e (λ f. absurd (cc))
 
-  b_is : bucket c (s.view i).in_use ≡ bucket c (s.words InUse)
+  pub b_is : bucket c (s.view i).in_use ≡ bucket c (s.words InUse)
   b_is = ap (bucket c) ((h.seats i).numbers.in_use stay)
 
-  own_base : (s.view i).base ≡ s.words Base
+  pub own_base : (s.view i).base ≡ s.words Base
   own_base = (h.seats i).numbers.base (λ f. let g = sym stay ∙ f in absurd (cc))
 
   -- the exchange found another head: a walk begins from there
@@ -76,7 +76,7 @@ module _ (z : Sizes) (s : State) (m : Meaning) (h : Holds z s m) (i : ℕ) (ther
       record { index = held.index; row = record { place = held.row.place; filled = held.row.filled.0 } } n from n
       (subst (λ (k : ℕ). Comes (row_at s.words) chain c n from n k) (sym walk.count) (comes_first (row_at s.words) chain c n from walk.fresh walk.settled walk.chain_is (subst (λ (k : ℕ). Linked (row_at s.words) (s.words (Bucket k)) chain) (sym is) (h.chains.linked (bucket c (s.words InUse)))) walk.to_settled walk.settled_lack))
 
-  dead : m.live r ≡ false
+  pub dead : m.live r ≡ false
   dead = ap m.live seat.drawn.row.place ∙ seat.drawn.index.dead
 
   other : (q : ℕ) → m.live q ≡ true → q ≢ r
@@ -92,7 +92,7 @@ module _ (z : Sizes) (s : State) (m : Meaning) (h : Holds z s m) (i : ℕ) (ther
         subst (Each (Lacks (row_at s.words) c))
         (linked_once (row_at s.words) from walk.settled (m.chain b) walk.to_settled (subst (λ (n : ℕ). Linked (row_at s.words) n (m.chain b)) head_is (h.chains.linked b))) walk.settled_lack
 
-    none_has : (q : ℕ) → m.live q ≡ true → m.tree q ≡ grown m.tree c → ⊥
+    pub none_has : (q : ℕ) → m.live q ≡ true → m.tree q ≡ grown m.tree c → ⊥
     none_has q l is =
         let contents : m.content q ≡ c = content_is z s.words m h.chains c (each_map (IsSeen s.words m (s.view i).seen) (λ p. m.live p ≡ true) c.arguments (λ p k. k.live) wants) q l is in
         each_in (Lacks (row_at s.words) c) q (m.chain (bucket c (s.words InUse))) settled
@@ -264,7 +264,7 @@ module _ (z : Sizes) (s : State) (m : Meaning) (h : Holds z s m) (i : ℕ) (ther
               (made_new z s m h i there stay c seat.protects.wants r number v' means dead (subst (λ (q : ℕ). q < z.rows) (sym held.row.place) (h.rows.there a held.index.counted)) (birth ∙ ap (λ (k : ℕ). k + a) (sym own_base)) (let l = held.index.later in omega arith)
               none_has (put_same m.live r true) (put_same m.tree r (grown m.tree c)) (λ q ne. put_other m.live r true q ne) tree_old (let l = held.index.later in omega arith) refl)
               (λ j ne. won_rely j (s.view j) (others_apart j ne))
-              (gains won means i v (Ended c from) later stay c r number (Make number c.head c.arguments r) (put_same m.live r true) held.row.filled.0.content (omega arith) (omega arith) (let l = held.index.later in omega arith) (omega arith));
+              (gains won means i v z won_chains (Ended c from) later stay c r number (Make number c.head c.arguments r) (put_same m.live r true) held.row.filled.0.content (omega arith) (omega arith) (let l = held.index.later in omega arith) (omega arith));
         }
 
   by_test : (b : ℕ) → b ≡ bucket c (s.words InUse) → (t : Bool) → eqb (s.words (Bucket b)) from ≡ t

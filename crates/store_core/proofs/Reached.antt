@@ -1,5 +1,5 @@
 -- Marking the rows that are reached.
-use Rattle.std.proofs.Common.{◌≡◌, ◌≢◌, ◌⊎◌, ℕ, zero, suc, ◌+◌, ◌<◌, ◌≤◌, Bool, true, false, List, [], ◌∷◌, ◌++◌, length, get_or, set, refl, sym, ap, ◌∙◌, subst, ⊎_elim, inl, inr, arith, true≢false, get_or-set_same, get_or-set_other}
+use Rattle.std.proofs.Common.{◌≡◌, ◌⊎◌, ℕ, zero, suc, ◌+◌, ◌<◌, ◌≤◌, Bool, true, false, List, [], ◌∷◌, ◌++◌, length, get_or, set, refl, sym, ap, ◌∙◌, subst, ⊎_elim, inl, inr, arith, true≢false}
 use Rattle.std.specs.Prelude.{replicate, Contains}
 use Rattle.std.proofs.lemmas.Bool.{cases_lt, ltb-true}
 use Rattle.std.proofs.lemmas.List.{length-replicate, length-set, length_push}

@@ -1,17 +1,18 @@
 -- Steps on the own protected rows, and reads of rows, keep what holds of the store.
-use Rattle.std.proofs.Common.{◌≡◌, ◌≢◌, ◌⊎◌, ℕ, suc, ◌<◌, eqb, Bool, false, cond, None, Some, List, [], ◌∷◌, ◌++◌, drop, get_or, refl, sym, ap, ◌∙◌, subst, ⊎_elim, arith, ne_eqb, eq-eqb, ltb-true}
+use Rattle.std.proofs.Common.{◌≡◌, ◌≢◌, ◌⊎◌, ℕ, suc, ◌<◌, ◌≤◌, eqb, Bool, false, cond, None, Some, List, [], ◌∷◌, ◌++◌, drop, get_or, refl, sym, ap, ◌∙◌, subst, ⊎_elim, arith, ne_eqb, eq-eqb, ltb-true}
 use Rattle.std.specs.Prelude.{nat_lt}
 use Rattle.store_core.specs.Words.{Place, Base, RowWord, RootCount, Root, write, put}
 use Rattle.store_core.specs.Calls.{Call, Idle, Away, Ready, KnownWord, View}
-use Rattle.store_core.specs.Machine.{Sizes, State, Each, MayName, has_argument, with_call, with_got, knowing, rooted, root_counted, protected_in, acted, load}
+use Rattle.store_core.specs.Staying.{led_to}
+use Rattle.store_core.specs.Machine.{Sizes, State, Each, MayName, has_argument, with_call, with_got, knowing, rooted, root_counted, protected_in, rows_kept, acted, load}
 use Rattle.store_core.specs.Meaning.{Meaning}
 use Rattle.store_core.specs.Seats.{Where, wanted, MayWant, index, IsSeen, IsKnown, RowDrawn, RootsKnown}
 use Rattle.store_core.specs.Invariant.{Holds, IsStoreSound}
 use Rattle.store_core.proofs.Basics.{choose, each_map, each_join}
 use Rattle.store_core.proofs.Histories.{history_same}
-use Rattle.store_core.proofs.Gains.{named_seen}
+use Rattle.store_core.proofs.Gains.{named_seen, led_seen, led_known, protected_seen}
 use Rattle.store_core.proofs.Views.{kept_with, loaded, same_overdrawn, regarded}
-use Rattle.store_core.proofs.Own.{each_drop, each_roots, protected_are}
+use Rattle.store_core.proofs.Own.{each_drop, each_set, each_roots, roots_are, protected_are}
 
 module _ (z : Sizes) (s : State) (m : Meaning) (h : Holds z s m) (i : ℕ) (e : (s.view i).call ≡ Idle) (stay : (s.view i).stay ≡ Ready) where
   none : (a : ℕ) → index (s.view i).call ≡ Some a → (j : ℕ) → j ≢ i → index (s.view j).call ≢ Some a
@@ -29,11 +30,13 @@ module _ (z : Sizes) (s : State) (m : Meaning) (h : Holds z s m) (i : ℕ) (e : 
   kept_read p got knows a b =
       let v = s.view i in
       let v' : View = record v { got = got; knows = knows } in
+      let there = protected_seen s.words m v.seen v (h.seats i).protects.keeps in
       record {
         meaning = m;
         grows = λ r l. l;
         holds = loaded z s m h i v' none (h.lock.access i) p refl (history_same z s.words s.words m s.view i v' h.history refl (omega arith) refl (λ r _. refl))
-            (regarded s.words m i v v.roots v.root_count got knows v.path v.refused (λ _. a) (λ _. b) (h.seats i));
+            (regarded s.words m i v v.roots v.root_count got knows v.path v.refused (λ _. a) (λ _. b)
+            (led_seen z s.words m v.seen knows (protected_in v) h.chains b there) (led_known s.words m knows (led_to knows (protected_in v)) b) (h.seats i));
       }
 
   pub kept_load_root : (k : ℕ) → k < s.words (RootCount i) → IsStoreSound z m.live (acted s.words s.view i s.lock (load (Root i k) (with_got (s.view i))))
@@ -62,6 +65,8 @@ module _ (z : Sizes) (s : State) (m : Meaning) (h : Holds z s m) (i : ℕ) (e : 
         let now = got_seen r got in
         let same : (q : ℕ) → IsSeen s.words m v.seen q → IsSeen u m v.seen q = (λ q a. record { live = a.live; birth = a.birth }) in
         let gots : v.base ≡ s.words Base → Each (IsSeen u m v.seen) v.got = (λ b. each_map (IsSeen s.words m v.seen) (IsSeen u m v.seen) v.got same (old.protects.got b)) in
+        let known : Each (IsKnown u m) v.knows = each_map (IsKnown s.words m) (IsKnown u m) v.knows (λ q a. record { live = a.live; value_is = a.value_is }) (old.protects.knows own_base) in
+        let there = each_set (IsSeen u m v.seen) v.root_count k r v.roots (each_map (IsSeen s.words m v.seen) (IsSeen u m v.seen) (protected_in v) same (protected_seen s.words m v.seen v old.protects.keeps)) (same r now) in
         record {
           meaning = m;
           grows = λ r l. l;
@@ -91,21 +96,27 @@ module _ (z : Sizes) (s : State) (m : Meaning) (h : Holds z s m) (i : ℕ) (e : 
                   roots = λ q l. choose (IsSeen u m v.seen) (cond (eqb i i) (eqb q k) false) r (s.words (Root i q)) (λ _. record { live = now.live; birth = now.birth }) (λ _. let a = old.protects.roots q l in record { live = a.live; birth = a.birth });
                   wants = subst (λ (x : Call). Where (wanted x) (MayWant u m v.seen)) (sym e) tt;
                   got = λ b. choose (Each (IsSeen u m v.seen)) (nat_lt k v.root_count) (get_or v.roots k 0 ∷ v.got) v.got (λ less. (same (get_or v.roots k 0) (root_seen k (ltb-true k v.root_count less)), gots b)) (λ _. gots b);
-                  knows = λ b. each_map (IsKnown s.words m) (IsKnown u m) v.knows (λ q a. record { live = a.live; value_is = a.value_is }) (old.protects.knows b);
+                  knows = λ _. known;
+                  keeps = led_seen z u m v.seen v.knows (protected_in v') h.chains known there;
+                  keeps_words = led_known u m v.knows (rows_kept v') known;
                 };
                 notes = record { order = old.notes.order; keys = old.notes.keys; away = λ f. absurd (let a : Away ≡ Ready = sym f ∙ stay in cc) };
               };
         }
 
-    pub kept_store_count : (n : ℕ) → i < z.seats → ((k : ℕ) → k < n → (k < (s.view i).root_count) ⊎ MayName s.words i (s.view i) (s.words (Root i k)))
+    pub kept_store_count : (n : ℕ) → i < z.seats → n ≤ z.depth → ((k : ℕ) → k < n → (k < (s.view i).root_count) ⊎ MayName s.words i (s.view i) (s.words (Root i k)))
         → IsStoreSound z m.live (record { lock = s.lock; words = write s.words (RootCount i) n; view = put s.view i (root_counted (s.view i) n) })
-    kept_store_count n there may =
+    kept_store_count n present few may =
         let old = h.seats i in
         let v = s.view i in
         let v' : View = root_counted v n in
         let u : Place → ℕ = write s.words (RootCount i) n in
         let over = same_overdrawn z s m h i v' none (h.lock.access i) refl (s.words Base) in
         let protected : Each (IsSeen s.words m v.seen) (protected_in v) = subst (Each (IsSeen s.words m v.seen)) (sym (protected_are z s.words i v known)) (each_roots (IsSeen s.words m v.seen) s.words i (s.words (RootCount i)) old.protects.roots) in
+        let root : (q : ℕ) → q < n → IsSeen s.words m v.seen (s.words (Root i q)) = (λ q l. ⊎_elim (λ below. old.protects.roots q (let b = known.count in omega arith)) (λ k. got_seen (s.words (Root i q)) k) (may q l)) in
+        let same : (q : ℕ) → IsSeen s.words m v.seen q → IsSeen u m v.seen q = (λ q a. record { live = a.live; birth = a.birth }) in
+        let words : Each (IsKnown u m) v.knows = each_map (IsKnown s.words m) (IsKnown u m) v.knows (λ q a. record { live = a.live; value_is = a.value_is }) (old.protects.knows own_base) in
+        let now : Each (IsSeen s.words m v.seen) (protected_in v') = subst (Each (IsSeen s.words m v.seen)) (roots_are z s.words i v known n few) (each_roots (IsSeen s.words m v.seen) s.words i n root) in
         record {
           meaning = m;
           grows = λ r l. l;
@@ -138,11 +149,13 @@ module _ (z : Sizes) (s : State) (m : Meaning) (h : Holds z s m) (i : ℕ) (e : 
                 drawn = subst (λ (x : Call). RowDrawn u m (with_call v' x)) (sym e) (record { index = tt; row = tt });
                 numbers = record { base = old.numbers.base; in_use = old.numbers.in_use; calls = old.numbers.calls; seen = old.numbers.seen; entered = old.numbers.entered; overdraw = old.numbers.overdraw; own = old.numbers.own; over = old.numbers.over; read = old.numbers.read };
                 protects = record {
-                  roots = λ q l. let a = ⊎_elim (λ below. old.protects.roots q (let b = known.count in omega arith)) (λ k. got_seen (s.words (Root i q)) k) (may q (let is : u (RootCount i) ≡ n = ap (λ (b : Bool). cond b n (s.words (RootCount i))) (eq-eqb i i refl) in omega arith)) in record { live = a.live; birth = a.birth };
+                  roots = λ q l. same (s.words (Root i q)) (root q (let is : u (RootCount i) ≡ n = ap (λ (b : Bool). cond b n (s.words (RootCount i))) (eq-eqb i i refl) in omega arith));
                   wants = subst (λ (x : Call). Where (wanted x) (MayWant u m v.seen)) (sym e) tt;
-                  got = λ b. each_map (IsSeen s.words m v.seen) (IsSeen u m v.seen) (drop n (protected_in v) ++ v.got) (λ q a. record { live = a.live; birth = a.birth })
+                  got = λ b. each_map (IsSeen s.words m v.seen) (IsSeen u m v.seen) (drop n (protected_in v) ++ v.got) same
                       (each_join (IsSeen s.words m v.seen) (drop n (protected_in v)) v.got (each_drop (IsSeen s.words m v.seen) n (protected_in v) protected) (old.protects.got b));
-                  knows = λ b. each_map (IsKnown s.words m) (IsKnown u m) v.knows (λ q a. record { live = a.live; value_is = a.value_is }) (old.protects.knows b);
+                  knows = λ _. words;
+                  keeps = led_seen z u m v.seen v.knows (protected_in v') h.chains words (each_map (IsSeen s.words m v.seen) (IsSeen u m v.seen) (protected_in v') same now);
+                  keeps_words = led_known u m v.knows (rows_kept v') words;
                 };
                 notes = record { order = old.notes.order; keys = old.notes.keys; away = λ f. absurd (let a : Away ≡ Ready = sym f ∙ stay in cc) };
               };

@@ -1,5 +1,5 @@
 -- Every list of steps keeps what holds.
-use Rattle.std.proofs.Common.{ℕ, List, [], ◌∷◌, refl, sym, subst}
+use Rattle.std.proofs.Common.{ℕ, List, [], ◌∷◌, refl, sym, subst, arith}
 use Rattle.store_core.specs.Words.{Place}
 use Rattle.store_core.specs.Machine.{Sizes, State, Step, LockAlone, LowerShared, UnaskSeat, GiveGranted, LoadBase, LoadInUse, Begin, Go, LoadRoot, StoreRoot, StoreCount, ReadWord, ReadArgument, LoadAny, StoreAny, StoreClaim}
 use Rattle.store_core.specs.Steps.{after, InPlace, newcomer}
@@ -11,6 +11,7 @@ use Rattle.store_core.proofs.Kept.{go_kept, begin_kept, load_base_kept, load_in_
 use Rattle.store_core.proofs.CollectsKept.{load_any_kept, store_any_kept, store_claim_kept}
 use Rattle.store_core.proofs.Own.{own_kept, own_starts}
 use Rattle.store_core.proofs.Reading.{reads_kept, reads_start}
+use Rattle.store_core.proofs.Counts.{counts_kept, wants_kept}
 use Rattle.store_core.proofs.Sole.{sole_kept, at_rest}
 use Rattle.store_core.proofs.Starts.{start_holds}
 
@@ -35,13 +36,13 @@ core_kept StoreClaim = store_claim_kept
 pub step_kept : (x : Step) (z : Sizes) (s : State) (i : ℕ) → Inductive z s → InPlace z s i x → Inductive z (after z s i x)
 step_kept x z s i k ok = record {
   core = core_kept x z s i k.remembers k.core ok;
-  remembers = record { own = own_kept z s i k.remembers.own x ok; reads = reads_kept z s i k.remembers.reads x ok; sole = λ one. sole_kept z s i k.core one (k.remembers.sole one) x ok };
+  remembers = record { own = own_kept z s i k.remembers.own x ok; reads = reads_kept z s i k.remembers.reads x ok; sole = λ one. sole_kept z s i k.core one (k.remembers.sole one) x ok; counts = counts_kept z s i k.remembers.counts x ok (k.remembers.wants i); wants = wants_kept z s i k.remembers.wants x ok };
 }
 
 pub starts : (z : Sizes) (w : Place → ℕ) → AreSizes z → StartsWith z w → Inductive z (at_start z w)
 starts z w a b = record {
   core = start_holds z w a b;
-  remembers = record { own = λ i. own_starts z w i (newcomer z) refl refl (b.root_count i) (b.root i); reads = λ i. reads_start z; sole = λ one i l. at_rest w (newcomer z) refl };
+  remembers = record { own = λ i. own_starts z w i (newcomer z) refl refl (b.root_count i) (b.root i); reads = λ i. reads_start z; sole = λ one i l. at_rest w (newcomer z) refl (λ _ l. let c = b.claim in absurd (omega arith)); counts = λ r. (let e = b.count_word r in omega arith); wants = λ i. tt };
 }
 
 pub kept_along : (z : Sizes) (xs : List (ℕ × StoreStep)) (s t : State) → Inductive z s → Leads z s xs t → Inductive z t

@@ -2,7 +2,7 @@
 use Rattle.std.proofs.Common.{Option, ◌≡◌, ℕ, zero, suc, ◌≤◌, true, false, Some, List, [], ◌∷◌, ◌++◌, refl, sym, ap, ◌∙◌, subst, ap₂, arith, append_assoc}
 use Rattle.store_core.specs.Words.{Place, Base, FreeCount, Claim, InUse, FreePlace, RootCount, Root, RowWords, row_at}
 use Rattle.store_core.specs.Calls.{Content, bucket, Call, Idle, Comparing, Passing, Finding, Ended, Counting, Drawing, Placing, Filling, Numbering, Linking, Publishing, Loading, Storing, KnownWord, View}
-use Rattle.store_core.specs.Machine.{Each, roots_of}
+use Rattle.store_core.specs.Machine.{Each, roots_of, rows_kept, words_kept}
 use Rattle.store_core.specs.Meaning.{Meaning, Matches, Linked, trees_at}
 use Rattle.term_model.specs.Tree.{More, may_stand_over}
 use Rattle.store_core.specs.Seats.{wanted, drawn, index, Lacks, Walks, Walked, IsWalk, looked, Looks, LooksAt, Filled, IsDrawn, HoldsRow, IsSeen, IsKnown, HasRead, MayWant, SeatWalks, RowDrawn, SeatNumbers, SeatRows, NotesMatch, SeatHolds}
@@ -152,6 +152,8 @@ module _ (i : ℕ) (v : View) (w u : Place → ℕ) (m n : Meaning) (y : Rely i 
     }) h.wants;
     got = λ e. each_map (IsSeen w m v.seen) (IsSeen u n v.seen) v.got (seen_kept v.seen) (h.got (e ∙ y.base));
     knows = λ e. each_map (IsKnown w m) (IsKnown u n) v.knows known_kept (h.knows (e ∙ y.base));
+    keeps = each_map (IsSeen w m v.seen) (IsSeen u n v.seen) (rows_kept v) (seen_kept v.seen) h.keeps;
+    keeps_words = each_map (IsKnown w m) (IsKnown u n) (words_kept v) known_kept h.keeps_words;
   }
 
   roots_same : (k : ℕ) → roots_of u i k ≡ roots_of w i k

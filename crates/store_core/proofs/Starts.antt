@@ -25,11 +25,11 @@ use Rattle.store_core.proofs.Histories.{listed_at, listed_length}
 abbrev pub nothing : Meaning
 nothing = record { chain = λ _. []; live = λ _. false; content = λ _. record { head = Nil; arguments = [] }; tree = λ _. Leaf 0 }
 
-no_lists : (z : Sizes) (n : ℕ) → listed n (λ j. (newcomer z).entries) ≡ replicate n []
+pub no_lists : (z : Sizes) (n : ℕ) → listed n (λ j. (newcomer z).entries) ≡ replicate n []
 no_lists z zero = refl
 no_lists z (suc n) = ap (λ (ls : List (List Entry)). [] ∷ ls) (no_lists z n)
 
-nothing_noted : (z : Sizes) (y : ℕ × Entry) → IsNoted (listed z.seats (λ j. (newcomer z).entries)) y → ⊥
+pub nothing_noted : (z : Sizes) (y : ℕ × Entry) → IsNoted (listed z.seats (λ j. (newcomer z).entries)) y → ⊥
 nothing_noted z y h =
     let l : y.0 < z.seats = (let a = h.present in let b = listed_length z.seats (λ j. (newcomer z).entries) in omega arith) in
     contains_none y.1 (subst (λ (es : List Entry). Contains es y.1) (listed_at z.seats (λ j. (newcomer z).entries) y.0 [] l) h.own)
@@ -66,7 +66,7 @@ seat_starts z w a s i = let base = s.base in let first = a.first in let roots = 
     over = λ b e. absurd (cc);
     read = tt;
   };
-  protects = record { roots = λ k l. absurd (omega arith); wants = tt; got = λ _. tt; knows = λ _. tt };
+  protects = record { roots = λ k l. absurd (omega arith); wants = tt; got = λ _. tt; knows = λ _. tt; keeps = tt; keeps_words = tt };
   notes = record { order = tt; keys = tt; away = λ _. ap (roots_of w i) (sym roots) };
 }
 

@@ -27,11 +27,11 @@ use Rattle.store_core.proofs.Ends.{collection_keeps_reached}
 use Rattle.store_core.proofs.Wrapped.{not_true}
 
 -- an entry before which all stand is put at the end
-at_end : (x : ℕ × Entry) (l : History) → ((y : ℕ × Entry) → Contains l y → precedes x y ≡ false) → put x l ≡ l ++ x ∷ []
+pub at_end : (x : ℕ × Entry) (l : History) → ((y : ℕ × Entry) → Contains l y → precedes x y ≡ false) → put x l ≡ l ++ x ∷ []
 at_end x [] last = refl
 at_end x (y ∷ ys) last = ap (λ (b : Bool). cond b (x ∷ y ∷ ys) (y ∷ put x ys)) (last y (contains_here y ys)) ∙ ap (λ (l : History). y ∷ l) (at_end x ys (λ q c. last q (contains_there y ys q c)))
 
-pred_one : (n : ℕ) → pred (n + 1) ≡ n
+pub pred_one : (n : ℕ) → pred (n + 1) ≡ n
 pred_one zero = refl
 pred_one (suc n) = omega arith
 

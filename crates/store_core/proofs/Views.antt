@@ -1,7 +1,8 @@
 -- A step of one seat: what has to be shown, of its own new view and of the words.
-use Rattle.std.proofs.Common.{List, ◌≡◌, ◌≢◌, ◌⊎◌, ℕ, zero, suc, ◌+◌, Bool, true, None, Some, [], refl, sym, ap, ◌∙◌, subst, ⊎_elim, arith}
+use Rattle.std.proofs.Common.{List, ◌≡◌, ◌≢◌, ◌⊎◌, ℕ, zero, suc, ◌+◌, Bool, true, None, Some, [], take, refl, sym, ap, ◌∙◌, subst, ⊎_elim, arith}
 use Rattle.store_core.specs.Words.{Place, Base, FreeCount, InUse, write, put, Claim}
 use Rattle.store_core.specs.Calls.{Call, Ready, KnownWord, Passed, Refusal, View}
+use Rattle.store_core.specs.Staying.{led_to, words_of_rows}
 use Rattle.store_core.specs.Machine.{Sizes, State, Each, Granted, with_call}
 use Rattle.store_core.specs.Meaning.{Meaning, Stands}
 use Rattle.store_core.specs.Seats.{Where, wanted, index, IsSeen, IsKnown, HasRead, MayWant, SeatWalks, RowDrawn, SeatHolds}
@@ -90,18 +91,19 @@ new_call w m i v x y h stay walks drawn read wants = record {
   walks = walks;
   drawn = drawn;
   numbers = record { base = h.numbers.base; in_use = h.numbers.in_use; calls = λ _. stay; seen = h.numbers.seen; entered = h.numbers.entered; overdraw = h.numbers.overdraw; own = h.numbers.own; over = h.numbers.over; read = read };
-  protects = record { roots = h.protects.roots; wants = wants; got = h.protects.got; knows = h.protects.knows };
+  protects = record { roots = h.protects.roots; wants = wants; got = h.protects.got; knows = h.protects.knows; keeps = h.protects.keeps; keeps_words = h.protects.keeps_words };
   notes = record { order = h.notes.order; keys = h.notes.keys; away = h.notes.away };
 }
 
 -- what holds of a seat speaks of its own words, its walk and its refusals nowhere else
 pub regarded : (w : Place → ℕ) (m : Meaning) (i : ℕ) (v : View) (roots : List ℕ) (root_count : ℕ) (got : List ℕ) (knows : List KnownWord) (path : List Passed) (refusals : List Refusal)
-    → (v.base ≡ w Base → Each (IsSeen w m v.seen) got) → (v.base ≡ w Base → Each (IsKnown w m) knows) → SeatHolds w m i v
+    → (v.base ≡ w Base → Each (IsSeen w m v.seen) got) → (v.base ≡ w Base → Each (IsKnown w m) knows)
+    → Each (IsSeen w m v.seen) (led_to knows (take root_count roots)) → Each (IsKnown w m) (words_of_rows (led_to knows (take root_count roots)) knows) → SeatHolds w m i v
     → SeatHolds w m i (record v { roots = roots; root_count = root_count; got = got; knows = knows; path = path; refused = refusals })
-regarded w m i v roots root_count got knows path refusals a b h = record {
+regarded w m i v roots root_count got knows path refusals a b c d h = record {
   walks = record { walk = h.walks.walk; look = h.walks.look };
   drawn = record { index = h.drawn.index; row = h.drawn.row };
   numbers = record { base = h.numbers.base; in_use = h.numbers.in_use; calls = h.numbers.calls; seen = h.numbers.seen; entered = h.numbers.entered; overdraw = h.numbers.overdraw; own = h.numbers.own; over = h.numbers.over; read = h.numbers.read };
-  protects = record { roots = h.protects.roots; wants = h.protects.wants; got = a; knows = b };
+  protects = record { roots = h.protects.roots; wants = h.protects.wants; got = a; knows = b; keeps = c; keeps_words = d };
   notes = record { order = h.notes.order; keys = h.notes.keys; away = h.notes.away };
 }

@@ -1,8 +1,8 @@
 -- The worked runs, computed.
 use Rattle.std.proofs.Common.{refl}
 use Rattle.hash_buckets.specs.Hash.{hash_of, bucket_of}
-use Rattle.store_core.specs.Worked.{RaceFinds, LostMakes, SweepKeeps, SweepFrees, UseDoubles, WornAtLast}
-use Rattle.store_core.proofs.WorkedPlaced.{not_unless_freed}
+use Rattle.store_core.specs.Worked.{RaceFinds, LostMakes, SweepKeeps, SweepFrees, MustFree, NestKeeps, UseDoubles, WornAtLast}
+use Rattle.store_core.proofs.WorkedPlaced.{not_unless_freed, nest_placed}
 
 pub race_finds : RaceFinds
 unfolding hash_of bucket_of
@@ -18,7 +18,26 @@ sweep_keeps = record { collector = refl; other = refl }
 
 pub sweep_frees : SweepFrees
 unfolding hash_of bucket_of
-sweep_frees = record { claim = refl; again = refl; not_unless_freed = not_unless_freed }
+sweep_frees = record {
+  claim = refl;
+  count = refl;
+  first_place = refl;
+  second_place = refl;
+  head = refl;
+  next = refl;
+  end = refl;
+  names = refl;
+  again = refl;
+  drawn = refl;
+}
+
+pub must_free : MustFree
+unfolding hash_of bucket_of
+must_free = record { names = refl; no_end = not_unless_freed }
+
+pub nest_keeps : NestKeeps
+unfolding hash_of bucket_of
+nest_keeps = record { rows = refl; words = refl; placed = nest_placed }
 
 pub use_doubles : UseDoubles
 use_doubles = record { first = refl; second = refl; third = refl }

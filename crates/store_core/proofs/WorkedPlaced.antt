@@ -1,39 +1,39 @@
 -- The worked runs' steps are in place.
-use Rattle.std.proofs.Common.{◌≡◌, ◌≢◌, ◌⊎◌, ℕ, zero, suc, ◌+◌, ◌<◌, ◌≤◌, eqb, ne_eqb, Bool, true, false, cond, Option, Some, List, [], ◌∷◌, ◌++◌, length, get_or, refl, sym, ap, ◌∙◌, subst, ⊎_elim, inl, inr, arith, true≢false}
+use Rattle.std.proofs.Common.{◌≡◌, ◌⊎◌, ℕ, zero, suc, ◌<◌, ◌≤◌, Bool, true, false, cond, List, [], ◌∷◌, ◌++◌, refl, sym, ap, ◌∙◌, subst, ⊎_elim, inl, inr, arith, true≢false}
 use Rattle.hash_buckets.specs.Hash.{hash_of, bucket_of}
-use Rattle.store_core.specs.Words.{Place, Base, FreeCount, Claim, InUse, FreePlace, Bucket, RowWord, Next, RootCount, Root, row_at}
-use Rattle.store_core.specs.Calls.{bucket_below, Away, Ready}
-use Rattle.store_core.specs.Machine.{Sizes, State}
+use Rattle.store_core.specs.Words.{Place, Base, Claim, InUse, FreePlace, Bucket, RowWord, RootCount, Root}
+use Rattle.store_core.specs.Calls.{bucket_below, Ready}
+use Rattle.store_core.specs.Machine.{State}
 use Rattle.store_core.specs.Steps.{is_storing, ReachesByWords, protected_row, argument_row, MayEnd}
-use Rattle.store_core.specs.Runs.{Inductive, AreSizes, StartsWith, at_start}
+use Rattle.store_core.specs.Runs.{Inductive}
+use Rattle.store_core.specs.StoreValue.{first_words, start_of}
 use Rattle.store_core.specs.StoreSteps.{IsInPlace, Leads, after}
-use Rattle.store_core.specs.Marks.{IsMarked, MarksReached, MarksPlaces, MarksFree}
-use Rattle.store_core.specs.MarkedChains.{StandsIn, IsSound, IsNoted, IsChained, StandInFirst, ChainsMarked}
+use Rattle.store_core.specs.Marks.{IsMarked, MarksReached, MarksFree}
+use Rattle.store_core.specs.MarkedChains.{StandsIn, IsNoted, IsChained, ChainsMarked}
 use Rattle.store_core.specs.Ending.{Keeps}
-use Rattle.store_core.specs.Worked.{first_words, ran, run_of, constant, small, race, both, rooms, begins_sweep, sweeps, ends_sweep, sweep, frees_nothing, makes_again, RunsAreInPlace}
-use Rattle.store_core.specs.declared.step.StoreStep.{StoreStep}
+use Rattle.store_core.specs.Worked.{ran, run_of, constant, small, race, both, nest, nests, rooms, begins_sweep, sweeps, ends_sweep, sweep, frees_nothing, makes_again, RunsAreInPlace}
 use Rattle.store_core.specs.declared.step.StoreStep.TheVariants.{Lock, StoreClaim}
 use Rattle.lock_core.specs.declared.parts.LockStep.TheVariants.{Unask, Give}
-use Rattle.store_core.proofs.Ending.{ends}
+use Rattle.store_core.proofs.Applied.{first_starts}
 use Rattle.store_core.proofs.Placed.{the, path, joined}
 use Rattle.store_core.proofs.Runs.{starts, kept_along}
+use Rattle.store_core.proofs.WorkedEnds.{not_zero, below_two, no_seats, ends_so}
+use Rattle.store_core.proofs.WorkedWorn.{worn_at_once, worn_then}
 
-pub race_placed : Leads small (at_start small (first_words small)) race (run_of small race)
+pub race_placed : Leads small (start_of small) race (run_of small race)
 unfolding hash_of bucket_of
-race_placed = the (path small (at_start small (first_words small)) race) refl
+race_placed = the (path small (start_of small) race) refl
 
-pub both_placed : Leads small (at_start small (first_words small)) both (run_of small both)
+pub both_placed : Leads small (start_of small) both (run_of small both)
 unfolding hash_of bucket_of
-both_placed = the (path small (at_start small (first_words small)) both) refl
+both_placed = the (path small (start_of small) both) refl
 
-some : {m n : ℕ} → m ≡ n → Some m ≡ Some n
-some e = ap (λ (q : ℕ). let o : Option ℕ = Some q in o) e
-
-not_zero : (b : ℕ) → 1 ≤ b → eqb b 0 ≡ false
-not_zero b l = ne_eqb b 0 (λ e. absurd (omega arith))
+pub nest_placed : Leads nest (start_of nest) nests (run_of nest nests)
+unfolding hash_of bucket_of
+nest_placed = the (path nest (start_of nest) nests) refl
 
 abbrev begun : State
-begun = at_start rooms (first_words rooms)
+begun = start_of rooms
 
 -- before the claim is stored
 abbrev swept : State
@@ -51,7 +51,7 @@ to_hoarded = the (path rooms begun frees_nothing) refl
 starts_so : Inductive rooms begun
 starts_so = starts rooms (first_words rooms)
     (record { first = omega arith; room = omega arith; used = omega arith; within = omega arith })
-    (record { base = refl; count = refl; claim = refl; in_use = refl; place = λ i l. refl; bucket = λ b. refl; root_count = λ j. refl; root = λ j k l. refl })
+    (first_starts rooms)
 
 -- With the rows 0 and 1 protected, each by a seat, and no arguments, no other is reached.
 module _ (w : Place → ℕ) (first : w (RootCount 0) ≡ 1) (second : w (RootCount 1) ≡ 1) (none : (j : ℕ) → 2 ≤ j → w (RootCount j) ≡ 0) (zeroth : w (Root 0 0) ≡ 0) (next : w (Root 1 0) ≡ 1) (plain : w (RowWord 0 1) ≡ 0) (simple : w (RowWord 1 1) ≡ 0) where
@@ -63,23 +63,6 @@ module _ (w : Place → ℕ) (first : w (RootCount 0) ≡ 1) (second : w (RootCo
       (λ e. let f : w (RowWord t 1) ≡ 0 = ap (λ (q : ℕ). w (RowWord q 1)) e ∙ plain in omega arith)
       (λ e. let f : w (RowWord t 1) ≡ 0 = ap (λ (q : ℕ). w (RowWord q 1)) e ∙ simple in omega arith) (two t y))
 
-module _ (s : State) (k : Inductive rooms s) (storing : is_storing (s.view 0).call ≡ true) where
-  no_seats : (j : ℕ) → 2 ≤ j → s.words (RootCount j) ≡ 0
-  no_seats j l = k.core.under.stored 0 storing (RootCount j) refl ∙ k.core.holds.numbers.absent j l
-
-  -- a collection of base 1, claim 3 and one bucket may end with these words
-  ends_so : (s.view 0).base ≡ 1 → (s.view 0).in_use ≡ 1 → (s.view 0).stay ≡ Ready → s.words Claim ≡ 3
-      → s.words Base ≡ 5 → s.words InUse ≡ 1 → ((b : ℕ) → 1 ≤ b → s.words (Bucket b) ≡ 0) → Keeps rooms s.words 2 → MayEnd rooms s 0
-  ends_so base used stay claim is uses heads keeps =
-      let whole = k.core.under.whole 0 storing in
-      let numbers = (k.core.holds.seats 0).numbers in
-      let first : k.core.kept Base ≡ 1 = sym (numbers.base (λ e. absurd (let f : Away ≡ Ready = sym e ∙ stay in cc))) ∙ base in
-      let drawn : k.core.kept Claim ≡ 3 = sym (k.core.under.stored 0 storing Claim refl) ∙ claim in
-      let one : k.core.kept InUse ≡ 1 = sym (numbers.in_use stay) ∙ used in
-      ends rooms s k.core 0 storing heads 2 keeps
-      (record { base = 1; claim = 3; base_loaded = whole.base ∙ some first; claim_loaded = whole.claim ∙ some drawn; is = is })
-      (record { in_use = 1; loaded = whole.in_use ∙ some one; is = uses })
-
 swept_so : Inductive rooms swept
 swept_so = kept_along rooms (begins_sweep ++ sweeps) begun swept starts_so to_swept
 
@@ -89,6 +72,10 @@ hoarded_so = kept_along rooms frees_nothing begun (run_of rooms frees_nothing) s
 swept_stores : is_storing (swept.view 0).call ≡ true
 unfolding hash_of bucket_of
 swept_stores = refl
+
+hoarded_stores : is_storing ((run_of rooms frees_nothing).view 0).call ≡ true
+unfolding hash_of bucket_of
+hoarded_stores = refl
 
 -- Each load and store of a bucket was one of the only one.
 swept_heads : (b : ℕ) → 1 ≤ b → swept.words (Bucket b) ≡ 0
@@ -101,12 +88,7 @@ live = true ∷ true ∷ false ∷ false ∷ []
 abbrev unused : List Bool
 unused = false ∷ false ∷ true ∷ true ∷ []
 
--- below so many, case by case
-below_two : (P : ℕ → Type 0) → P 0 → P 1 → (k : ℕ) → k < 2 → P k
-below_two P a b zero l = a
-below_two P a b (suc zero) l = b
-below_two P a b (suc (suc k)) l = absurd (omega arith)
-
+-- below four, case by case
 below_four : (P : ℕ → Type 0) → P 0 → P 1 → P 2 → P 3 → (k : ℕ) → k < 4 → P k
 below_four P a b c d zero l = a
 below_four P a b c d (suc zero) l = b
@@ -127,7 +109,7 @@ swept_reached = record {
   size = refl;
   marked = λ r. (
     marked_two (ReachesByWords swept.words) (protected_row 0 0 (omega arith)) (protected_row 1 0 (omega arith)) r,
-    λ y. ⊎_elim (λ e. subst (IsMarked live) (sym e) refl) (λ e. subst (IsMarked live) (sym e) refl) (two swept.words refl refl (no_seats swept swept_so refl) refl refl refl refl r y),
+    λ y. ⊎_elim (λ e. subst (IsMarked live) (sym e) refl) (λ e. subst (IsMarked live) (sym e) refl) (two swept.words refl refl (no_seats rooms swept swept_so swept_stores) refl refl refl refl r y),
   );
 }
 
@@ -215,7 +197,7 @@ unfolding hash_of bucket_of
 own_stay = refl
 
 swept_ends : MayEnd rooms swept 0
-swept_ends = ends_so swept swept_so swept_stores own_base own_use own_stay swept_claim swept_base swept_use swept_heads swept_keeps
+swept_ends = ends_so rooms swept swept_so swept_stores 1 3 1 2 own_base own_use own_stay swept_claim swept_base swept_use swept_heads swept_keeps
 
 claim_placed : IsInPlace rooms swept 0 (StoreClaim 0)
 unfolding hash_of bucket_of
@@ -240,7 +222,15 @@ not_unless_freed h =
     let s : State = run_of rooms frees_nothing in
     let e : MayEnd rooms s 0 = h.step.permitted.1 in
     let live = e.rows.others 2 (omega arith) (λ i l is. let f : i ≡ 0 = omega arith in absurd (let g : s.words (FreePlace 0) ≡ 2 = ap (λ (q : ℕ). s.words (FreePlace q)) (sym f) ∙ is in omega arith)) in
-    ⊎_elim (λ f. absurd (omega arith)) (λ f. absurd (omega arith)) (two s.words refl refl (no_seats s hoarded_so refl) refl refl refl refl 2 ((e.live 2).0 live))
+    ⊎_elim (λ f. absurd (omega arith)) (λ f. absurd (omega arith)) (two s.words refl refl (no_seats rooms s hoarded_so hoarded_stores) refl refl refl refl 2 ((e.live 2).0 live))
 
 pub runs_are_in_place : RunsAreInPlace
-runs_are_in_place = record { in_race = race_placed; in_both = both_placed; in_sweep = sweep_placed; after_sweep = again_placed }
+runs_are_in_place = record {
+  in_race = race_placed;
+  in_both = both_placed;
+  in_sweep = sweep_placed;
+  after_sweep = again_placed;
+  freeing_nothing = to_hoarded;
+  worn_at_once = worn_at_once;
+  worn_then = worn_then;
+}

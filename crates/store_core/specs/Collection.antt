@@ -3,9 +3,9 @@ use Rattle.std.specs.Prelude.{◌≡◌, ◌↔◌, ℕ, ◌+◌, ◌<◌, ◌�
 use Rattle.history_core.specs.declared.entry.Entry.TheVariants.{Collect}
 use Rattle.history_core.specs.Entry.{IsAscending}
 use Rattle.history_core.specs.Chronicle.{chronicle, set_of}
-use Rattle.store_core.specs.Words.{Place, Base, Claim, Birth, RootCount, Root}
+use Rattle.store_core.specs.Words.{Place, Base, Claim, RowWord, Birth, RootCount, Root}
 use Rattle.store_core.specs.Calls.{Idle, Ready, View}
-use Rattle.store_core.specs.Machine.{Sizes, In}
+use Rattle.store_core.specs.Machine.{Sizes, In, rows_kept, words_kept}
 use Rattle.store_core.specs.Meaning.{Meaning}
 use Rattle.store_core.specs.Invariant.{span, listed, RowsHold, ChainsHold}
 use Rattle.std.specs.Prelude.{[], ◌∷◌, ◌++◌}
@@ -23,6 +23,7 @@ pub record IsCollected (z : Sizes) (w u : Place → ℕ) (m n : Meaning) : Type 
   pub tree : n.tree ≡ m.tree
   pub live : (r : ℕ) → (n.live r ≡ true) ↔ Reaches w m r
   pub births : (r : ℕ) → u (Birth r) ≡ w (Birth r)
+  pub row_words : (r k : ℕ) → u (RowWord r k) ≡ w (RowWord r k)
   pub root_counts : (j : ℕ) → u (RootCount j) ≡ w (RootCount j)
   pub roots : (j k : ℕ) → u (Root j k) ≡ w (Root j k)
   pub base : u Base ≡ w Base + w Claim + 1
@@ -38,15 +39,15 @@ pub record AreKept (n : Meaning) (kept : List ℕ) : Type 0 where
   pub ascending : IsAscending kept
   pub each : (r : ℕ) → Contains kept r ↔ (n.live r ≡ true)
 
--- the view of the seat that collected: its own store of the base begins an epoch
+-- the view of the seat that collected: its own store of the base begins an epoch, and what it keeps is what its protected rows lead to
 abbrev pub collected : View → (base number in_use : ℕ) → List ℕ → View
 collected v base number in_use kept = record v {
   call = Idle;
   stay = Ready;
   base = base;
   in_use = in_use;
-  got = [];
-  knows = [];
+  got = rows_kept v;
+  knows = words_kept v;
   seen = number;
   entries = v.entries ++ Collect number kept ∷ [];
   fresh = true;

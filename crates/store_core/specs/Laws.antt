@@ -13,7 +13,6 @@ use Rattle.store_core.specs.Seats.{wanted}
 use Rattle.store_core.specs.Invariant.{span}
 use Rattle.store_core.specs.Steps.{loads, value_at, names_left, grown_use, ReachesByWords}
 use Rattle.store_core.specs.Reads.{IsRefusal}
-use Rattle.store_core.specs.RowsPartitioned.{IsUnused}
 use Rattle.store_core.specs.HistoryMatches.{history_of}
 use Rattle.store_core.specs.Runs.{AreSizes, StartsWith, at_start}
 use Rattle.store_core.specs.StoreHolds.{StoreHolds}
@@ -123,10 +122,9 @@ abbrev pub FullIsExact : Type 0
 FullIsExact = (z : Sizes) (s : State) (i : ℕ) (k : StoreHolds z s) (c : Content) (from n : ℕ) → (s.view i).fresh ≡ true
     → (s.view i).call ≡ Counting c from n → IsExactlyFull z k.began k.meaning c n
 
--- With one seat, and no row unused, the same holds of every creation.
+-- With one seat the same holds of every creation: none of its exchanges is lost, so it leaves no row unused.
 abbrev pub FullIsExactAlone : Type 0
 FullIsExactAlone = (z : Sizes) (s : State) (i : ℕ) (k : StoreHolds z s) (c : Content) (from n : ℕ) → z.seats ≡ 1 → i < z.seats
-    → ((r : ℕ) → IsUnused z k.began k.meaning.live (λ j. (s.view j).call) r → ⊥)
     → (s.view i).call ≡ Counting c from n → IsExactlyFull z k.began k.meaning c n
 
 -- A load ends a collection exactly where the base, the claim and the free count are then loaded and leave no room for another

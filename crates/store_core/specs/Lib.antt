@@ -1,5 +1,6 @@
 pub mod Words
 pub mod Calls
+pub mod Staying
 pub mod Machine
 pub mod Meaning
 pub mod Seats
@@ -20,11 +21,14 @@ pub mod ProtectedLive
 pub mod HistoryMatches
 pub mod CollectionUnderWay
 pub mod StoreHolds
+pub mod Told
 pub mod Laws
+pub mod Recalls
 pub mod Table
 pub mod Worked
 pub mod Running
 pub mod ByView
+pub mod Leading
 pub mod RowLists
 pub mod Marks
 pub mod MarkedChains

@@ -11,6 +11,7 @@ use Rattle.history_core.specs.declared.entry.Entry.{Entry}
 use Rattle.history_core.specs.declared.entry.Entry.TheVariants.{Make, Find, Roots}
 use Rattle.store_core.specs.Words.{Place, Base, FreeCount, Claim, FreePlace, Bucket, RowWord, Birth, Next, RootCount, Root, write, put}
 use Rattle.store_core.specs.Calls.{Content, words_of, IsOver, bucket, Call, Idle, Comparing, Passing, Finding, Ended, Counting, Drawing, Placing, Filling, Numbering, Linking, Publishing, Loading, Storing, Passed, KnownWord, Stay, Away, Based, Ready, Leaving, View}
+use Rattle.store_core.specs.Staying.{led_to, words_of_rows}
 pub use Rattle.store_core.specs.declared.view.Sizes.{Sizes}
 
 pub record State : Type 0 where
@@ -138,13 +139,24 @@ Granted l i Leaving = (seat_of l i).phase ≡ phase.Holder
 abbrev pub InAccess : Lock → ℕ → Type 0
 InAccess l i = ((seat_of l i).phase ≡ phase.Shared) ⊎ IsExclusive l i
 
+-- the protected rows of a seat
+abbrev pub protected_in : View → List ℕ
+protected_in v = take v.root_count v.roots
+
+-- the rows and the words that a seat keeps where its epoch ends: what its protected rows lead to by the words that it knows
+abbrev pub rows_kept : View → List ℕ
+rows_kept v = led_to v.knows (protected_in v)
+
+abbrev pub words_kept : View → List KnownWord
+words_kept v = words_of_rows (rows_kept v) v.knows
+
 -- the base is loaded: another value than before begins an epoch
 abbrev pub based : View → ℕ → View
 based v n = record v {
   stay = Based;
   base = n;
-  got = if n == v.base then v.got else [];
-  knows = if n == v.base then v.knows else [];
+  got = if n == v.base then v.got else rows_kept v;
+  knows = if n == v.base then v.knows else words_kept v;
   seen = max v.seen (pred n);
   fresh = false;
 }
@@ -166,10 +178,6 @@ leaving v = record v { stay = Leaving; fresh = false }
 -- an access has ended
 abbrev pub left : View → List ℕ → View
 left v rows = record v { stay = Away; entries = v.entries ++ Roots v.seen rows ∷ []; fresh = false }
-
--- the protected rows of a seat
-abbrev pub protected_in : View → List ℕ
-protected_in v = take v.root_count v.roots
 
 -- another row is stored as a protected one: the row before it was protected in this epoch
 abbrev pub rooted : View → (k r : ℕ) → View
@@ -203,7 +211,7 @@ abbrev pub SecondIsList : (Place → ℕ) → Head → List ℕ → Type 0
 SecondIsList w Cons (a ∷ b ∷ rs) = IsListRow w b
 SecondIsList w f rs = Unit {0}
 
--- a row that a seat may name: one that it got in its epoch, a protected one, or an argument of such a row
+-- a row that a seat may name: one that it got in its epoch or kept from the one before, a protected one, or an argument of such a row
 pub data MayName (w : Place → ℕ) (i : ℕ) (v : View) : ℕ → Type 0 where
   has_got : (r : ℕ) → In r v.got → MayName w i v r
   has_protected : (k : ℕ) → k < w (RootCount i) → MayName w i v (w (Root i k))

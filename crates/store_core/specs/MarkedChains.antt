@@ -4,7 +4,7 @@ use Rattle.term_model.specs.declared.Head.{Head}
 use Rattle.term_model.specs.declared.Head.TheVariants.{App, Int, Nil, Cons}
 use Rattle.store_core.specs.Words.{Place, Claim, InUse, Bucket, row_at, write}
 use Rattle.store_core.specs.Calls.{Content, IsOver, bucket}
-use Rattle.store_core.specs.Machine.{Sizes, Each, In}
+use Rattle.store_core.specs.Machine.{Sizes, Each}
 use Rattle.store_core.specs.Meaning.{Meaning, Matches, Linked}
 use Rattle.store_core.specs.Invariant.{ChainsHold}
 use Rattle.store_core.specs.Marks.{IsMarked}

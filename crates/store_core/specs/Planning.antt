@@ -1,5 +1,5 @@
 -- What one seat sees of a store, whether a step of it is in place by that, and what the step changes.
-use Rattle.std.specs.Prelude.{◌≡◌, ℕ, suc, pred, ◌+◌, Bool, true, false, Option, Some, None, Result, List, [], ◌∷◌, ◌++◌, length, get_or, IfOk, MatchOption}
+use Rattle.std.specs.Prelude.{◌≡◌, ℕ, suc, pred, true, Option, Some, None, Result, List, [], ◌∷◌, ◌++◌, get_or, IfOk, MatchOption}
 use Rattle.faults.specs.declared.Memory.{Memory}
 use Rattle.lock_core.specs.Lock.{Lock}
 use Rattle.store_core.specs.Words.{Place, Base, InUse, RowWord, Root, write, put}

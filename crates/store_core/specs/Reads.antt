@@ -1,10 +1,12 @@
 -- What a seat's view tells of what it has read, without a look at the words.
-use Rattle.std.specs.Prelude.{◌≡◌, ◌≢◌, ℕ, suc, ◌<◌, ◌≤◌, false, None, List, [], ◌∷◌, length, get_or}
-use Rattle.store_core.specs.Words.{Place, Claim, InUse, Bucket}
+use Rattle.std.specs.Prelude.{◌≡◌, ◌≢◌, ◌⊎◌, ℕ, suc, ◌<◌, ◌≤◌, ◌==◌, nat_lt, if◌then◌else◌, Bool, true, false, Some, None, List, [], ◌∷◌, length, get_or}
+use Rattle.history_core.specs.declared.entry.Entry.{Entry}
+use Rattle.history_core.specs.declared.entry.Entry.TheVariants.{Make, Find, Roots, Collect}
+use Rattle.store_core.specs.Words.{Place, Base, FreeCount, Claim, InUse, FreePlace, Bucket, RowWord}
 use Rattle.store_core.specs.Calls.{Content, bucket, words_of, Call, Comparing, Passing, Ended, Counting, Drawing, Passed, Refusal, View}
-use Rattle.store_core.specs.Machine.{Sizes, State, Each}
-use Rattle.store_core.specs.Seats.{Where, RootsKnown}
-use Rattle.store_core.specs.Steps.{loads, worn_by, head_read, IsFirst, ReadNow}
+use Rattle.store_core.specs.Machine.{Sizes, State, Each, widest}
+use Rattle.store_core.specs.Seats.{Where, RootsKnown, wanted, index}
+use Rattle.store_core.specs.Steps.{loads, worn_by, is_storing, head_read, IsFirst, ReadNow}
 
 -- a word of a row was found to differ from that of the content
 pub record Differs (c : Content) (word found : ℕ) : Type 0 where
@@ -37,11 +39,30 @@ pub record ReadsSound (z : Sizes) (v : View) : Type 0 where
   -- a collection goes on only where there is room for another epoch
   pub room : worn_by z (loads v.call) ≡ false
 
--- Nobody has stepped in between: the head that a call has read is still there, and so is the claim; no exchange was lost.
+-- the entry is a Make of row r since the base
+abbrev pub is_make : ℕ → Entry → ℕ → Bool
+is_make base (Make number head args row) r = if row == r then nat_lt base (suc number) else false
+is_make base (Find seen head args row) r = false
+is_make base (Roots seen names) r = false
+is_make base (Collect number kept) r = false
+
+-- and one of the entries is one
+abbrev pub is_made : ℕ → List Entry → ℕ → Bool
+is_made base [] r = false
+is_made base (e ∷ es) r = if is_make base e r then true else is_made base es r
+
+-- Nobody has stepped in between: the head that a call has read is still there, and so is the claim; no exchange was lost; and each
+-- drawn place has a row that the seat has made since the base, but for the one that its call has drawn.
 pub record IsUndisturbed (w : Place → ℕ) (v : View) : Type 0 where
   pub head : Where (head_read v.call) (λ h. w (Bucket (bucket h.0 (w InUse))) ≡ h.1)
   pub first : IsFirst v.call
   pub read : ReadNow (w Claim) v.call
+  pub made : is_storing v.call ≡ false → (k : ℕ) → k < w Claim → k < w FreeCount
+      → (is_made (w Base) v.entries (w (FreePlace k)) ≡ true) ⊎ (index v.call ≡ Some k)
+
+-- a row has room for all arguments
+abbrev pub FitsRow : Sizes → Content → Type 0
+FitsRow z c = length c.arguments ≤ widest z
 
 -- what each seat keeps of what it has stored and read
 pub record Remembers (z : Sizes) (s : State) : Type 0 where
@@ -49,3 +70,6 @@ pub record Remembers (z : Sizes) (s : State) : Type 0 where
   pub reads : (i : ℕ) → ReadsSound z (s.view i)
   -- with one seat nobody else steps
   pub sole : z.seats ≡ 1 → (i : ℕ) → i < z.seats → IsUndisturbed s.words (s.view i)
+  -- a row has room for the arguments that it counts, and for those of each call
+  pub counts : (r : ℕ) → s.words (RowWord r 1) ≤ widest z
+  pub wants : (i : ℕ) → Where (wanted (s.view i).call) (FitsRow z)

@@ -1,7 +1,7 @@
 -- What every step keeps, and lists of steps from a new store.
 use Rattle.std.specs.Prelude.{◌≡◌, ℕ, ◌+◌, ◌<◌, ◌≤◌, ◌^◌}
 use Rattle.lock_core.specs.Lock as lock
-use Rattle.store_core.specs.Words.{Place, Base, FreeCount, Claim, InUse, FreePlace, Bucket, RootCount, Root}
+use Rattle.store_core.specs.Words.{Place, Base, FreeCount, Claim, InUse, FreePlace, Bucket, RowWord, RootCount, Root}
 use Rattle.store_core.specs.Machine.{Sizes, State, Step}
 use Rattle.store_core.specs.Invariant.{span}
 use Rattle.store_core.specs.Steps.{CoreHolds, InPlace, after, newcomer}
@@ -26,6 +26,7 @@ pub record StartsWith (z : Sizes) (w : Place → ℕ) : Type 0 where
   pub in_use : w InUse ≡ z.start
   pub place : (i : ℕ) → i < z.rows → w (FreePlace i) ≡ i
   pub bucket : (b : ℕ) → w (Bucket b) ≡ 0
+  pub count_word : (r : ℕ) → w (RowWord r 1) ≡ 0
   pub root_count : (j : ℕ) → w (RootCount j) ≡ 0
   pub root : (j k : ℕ) → k < z.depth → w (Root j k) ≡ 0
 

@@ -2,7 +2,7 @@
 use Rattle.std.specs.Prelude.{◌≡◌, ◌≢◌, ℕ, suc, pred, ◌+◌, ◌*◌, ◌<◌, ◌≤◌, Bool, true, false, Option, Some, None, List, [], ◌∷◌, ◌++◌, length, get_or}
 use Rattle.store_core.specs.Words.{Place, Base, FreeCount, Claim, InUse, FreePlace, RowWord, Birth, RootCount, Root, RowWords, row_at}
 use Rattle.store_core.specs.Calls.{Content, words_of, IsOver, bucket, Call, Idle, Comparing, Passing, Finding, Ended, Counting, Drawing, Placing, Filling, Numbering, Linking, Publishing, Loading, Storing, KnownWord, Away, Ready, View}
-use Rattle.store_core.specs.Machine.{Sizes, Each, roots_of}
+use Rattle.store_core.specs.Machine.{Sizes, Each, roots_of, rows_kept, words_kept}
 use Rattle.history_core.specs.Entry.{place}
 use Rattle.history_core.specs.Chronicle.{NeverFalls, last_roots}
 use Rattle.store_core.specs.Meaning.{Meaning, Agrees, Matches, Linked, trees_at}
@@ -208,11 +208,15 @@ pub record SeatNumbers (w : Place → ℕ) (v : View) : Type 0 where
   pub over : (b : ℕ) → v.overdraw ≡ Some b → b ≤ w Base
   pub read : HasRead (w Base) (w FreeCount) (w Claim) v.overdraw v.call
 
+-- The rows that a seat may use are live, and it has seen them; the words that it knows are there. What it got and knows counts while
+-- its base is the store's. What its protected rows lead to counts always: collections by others keep it.
 pub record SeatRows (w : Place → ℕ) (m : Meaning) (i : ℕ) (v : View) : Type 0 where
   pub roots : (k : ℕ) → k < w (RootCount i) → IsSeen w m v.seen (w (Root i k))
   pub wants : Where (wanted v.call) (MayWant w m v.seen)
   pub got : v.base ≡ w Base → Each (IsSeen w m v.seen) v.got
   pub knows : v.base ≡ w Base → Each (IsKnown w m) v.knows
+  pub keeps : Each (IsSeen w m v.seen) (rows_kept v)
+  pub keeps_words : Each (IsKnown w m) (words_kept v)
 
 -- A seat's own entries never fall, and it has seen their keys. While it is away its protected rows are those of its last Roots.
 pub record NotesMatch (w : Place → ℕ) (i : ℕ) (v : View) : Type 0 where

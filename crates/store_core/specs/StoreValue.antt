@@ -1,5 +1,5 @@
 -- A store that runs, as contracts see it, and what its calls answer.
-use Rattle.std.specs.Prelude.{◌≡◌, ◌↔◌, ℕ, ◌+◌, ◌*◌, ◌^◌, ◌<◌, ◌≤◌, nat_lt, if◌then◌else◌, Bool, IsTrue, List, length, get_or, Option, MatchOption}
+use Rattle.std.specs.Prelude.{◌≡◌, ℕ, ◌+◌, ◌^◌, ◌≤◌, nat_lt, if◌then◌else◌, List, get_or, Option, MatchOption}
 use Rattle.lock_core.specs.Lock.{Lock}
 use Rattle.store_core.specs.Words.{Place, Base, FreeCount, InUse, FreePlace}
 use Rattle.store_core.specs.Calls.{View}
@@ -7,7 +7,6 @@ use Rattle.store_core.specs.Machine.{Sizes, State}
 use Rattle.store_core.specs.Steps.{newcomer}
 use Rattle.store_core.specs.Shown.{shown}
 use Rattle.store_core.specs.Runs.{at_start}
-use Rattle.store_core.specs.StoreHolds.{StoreHolds}
 use Rattle.store_core.specs.StoreSteps.{IsInPlace, after, Leads}
 use Rattle.store_core.specs.declared.step.StoreStep.{StoreStep}
 
@@ -23,7 +22,7 @@ abbrev pub state_of : StoreValue → State
 state_of t = record { lock = t.lock; words = shown t.sizes t.words; view = λ j. get_or t.views j (newcomer t.sizes) }
 
 -- what the sizes of a store have to be
-pub record MayMake (z : Sizes) : Type 0 where
+pub record MaySize (z : Sizes) : Type 0 where
   pub rows : (1 ≤ z.rows) × (z.rows ≤ 262144)
   pub buckets : (1 ≤ z.buckets) × (z.buckets ≤ 262144)
   pub start : (1 ≤ z.start) × (z.start ≤ z.buckets)

@@ -2,7 +2,9 @@
 ghost use Rattle.store_core.specs.Laws.{ActsAreActions, StepsKeep, StartHolds, RunsHold, WritesAreShown, PlacesInside, PlacesApart, LockIsApart, TotalIs};
 ghost use Rattle.store_core.specs.Laws.{OthersStay, CreationEnds, RefusalsHaveCause, RowIsAsked, FullIsExact, FullIsExactAlone, WornIsExact, WornChangesNothing, CollectionKeepsReached, CollectionKeepsTrees, CollectionGrowsUse, EqualContentEqualBucket};
 ghost use Rattle.store_core.specs.ByView.{ViewShows, KnownWordsStand, CollectionSees};
-ghost use Rattle.store_core.specs.Worked.{RaceFinds, LostMakes, SweepKeeps, SweepFrees, UseDoubles, WornAtLast, RunsAreInPlace};
+ghost use Rattle.store_core.specs.Leading.{KeepsExactlyLed, KeepsTheirWords, EntryKeeps};
+ghost use Rattle.store_core.specs.Recalls.{StartRecalls, StepsRecall, RunsRecall, NamedAreRecalled};
+ghost use Rattle.store_core.specs.Worked.{RaceFinds, LostMakes, SweepKeeps, SweepFrees, MustFree, UseDoubles, WornAtLast, NestKeeps, RunsAreInPlace};
 
 /// Each step keeps what holds, and it holds of a new store; so it holds after every list of steps, whatever the seats do
 /// in between.
@@ -51,13 +53,32 @@ pub fn own_view_permits()
     ensures seen { CollectionSees }
 {}
 
+/// What a seat keeps where its epoch ends: exactly the rows that its protected rows lead to by the words that it knows, and the words
+/// of these.
+pub fn what_is_led_to_stays()
+    ensures rows { KeepsExactlyLed }
+    ensures words { KeepsTheirWords }
+    ensures entry { EntryKeeps }
+{}
+
+/// What a seat's own entries tell is so, whatever the seats do in between: the trees that its Make and Find entries name in the
+/// chronicle, and those of its Roots, are those that a replay of its own entries gives, and so is the tree of each row that it may name.
+pub fn entries_are_recalled()
+    ensures start { StartRecalls }
+    ensures kept { StepsRecall }
+    ensures all { RunsRecall }
+    ensures named { NamedAreRecalled }
+{}
+
 /// Worked runs, which the definitions compute: two seats that race for one bucket, a lost exchange that makes, a collection with
-/// two seats' protected rows, buckets in use that double, and Worn. Each step of the races and of the collection is in place.
+/// two seats' protected rows, what it frees, buckets in use that double, and Worn. Their steps are in place.
 pub fn worked_runs()
     ensures race { RaceFinds }
     ensures lost { LostMakes }
     ensures sweep { SweepKeeps }
     ensures frees { SweepFrees }
+    ensures must_free { MustFree }
+    ensures nest { NestKeeps }
     ensures doubles { UseDoubles }
     ensures worn { WornAtLast }
     ensures placed { RunsAreInPlace }

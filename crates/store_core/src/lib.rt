@@ -8,7 +8,8 @@ mod step;
 mod view;
 
 pub use law::{
-    collections_end, creations_end, own_view_permits, steps_keep, words_are_shown, worked_runs,
+    collections_end, creations_end, own_view_permits, steps_keep, what_is_led_to_stays,
+    words_are_shown, worked_runs,
 };
 pub use state::{StoreState, replay};
 pub use step::StoreStep;

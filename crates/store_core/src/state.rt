@@ -1,7 +1,7 @@
 // A store that runs, on plain data.
 ghost use Rattle.std.specs.Prelude.{◌≡◌, IfOk, OnErr, MatchBool, slice_get};
 ghost use Rattle.std.specs.Option.{option_copied};
-ghost use Rattle.store_core.specs.StoreValue.{MayMake, IsNew, Stepped, Stayed, Replays};
+ghost use Rattle.store_core.specs.StoreValue.{MaySize, IsNew, Stepped, Stayed, Replays};
 
 use crate::machine::copies::copy_step;
 use crate::machine::fresh::new_views;
@@ -18,7 +18,7 @@ use std::marker::Model;
 /// each value of this type.
 #[derive(Drop)]
 pub struct StoreState {
-    table: Table,
+    pub(crate) table: Table,
     lock: LockState,
     views: Vec<View>,
 }
@@ -38,7 +38,7 @@ impl Model for StoreState {
 impl StoreState {
     /// A new store of these sizes: all rows are free, and no seat has done anything.
     pub fn new(alloc: Global, sizes: Sizes) -> Result<StoreState, Memory>
-        requires { MayMake sizes }
+        requires { MaySize sizes }
         ensures { IfOk result (λ store. IsNew sizes store) }
     {
         let table = Table::new(alloc, &sizes)?;
@@ -95,7 +95,7 @@ pub fn replay(
     sizes: Sizes,
     steps: &[(u32, StoreStep)],
 ) -> Result<Option<StoreState>, Memory>
-    requires { MayMake sizes }
+    requires { MaySize sizes }
     ensures { IfOk result (λ store. Replays sizes steps.now store) }
 {
     let mut store = StoreState::new(alloc, sizes)?;

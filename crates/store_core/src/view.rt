@@ -114,7 +114,7 @@ pub struct View {
     /// Its own words of protected rows, of which the first `root_count` count.
     pub roots: LinkedList<u32>,
     pub root_count: u32,
-    /// The rows that it got, read, or had protected in its epoch.
+    /// The rows that it got, read, or had protected in its epoch, and those that it kept from the one before.
     pub got: LinkedList<u32>,
     /// The words that it has read or stored of such rows.
     pub knows: LinkedList<KnownWord>,

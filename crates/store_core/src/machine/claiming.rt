@@ -10,6 +10,7 @@ use crate::machine::change::{Change, Sight};
 use crate::machine::copies::copy;
 use crate::machine::ending::may_end;
 use crate::machine::moves::narrow;
+use crate::machine::staying::with_kept;
 use crate::machine::table::Table;
 use crate::view::{Call, Place, Stay, View};
 use faults::Memory;
@@ -79,18 +80,17 @@ fn with_row(mut list: LinkedList<u32>, row: u32, free: bool) -> Result<LinkedLis
 }
 
 // What a seat knows after its collection.
-fn collected(mut view: View, table: &Table, kept: LinkedList<u32>) -> Result<View, Memory>
+fn collected(view: View, table: &Table, kept: LinkedList<u32>) -> Result<View, Memory>
     ensures { IfOk result (λ v. let w = shown table.now.sizes table.now.words.items in v ≡ collected view (w Base) (pred (w Base)) (w InUse) kept) }
 {
     let base = table.load(&Place::Base);
     let in_use = narrow(table.load(&Place::InUse))?;
     let number = base.saturating_sub(1);
+    let mut view = with_kept(view)?;
     view.call = Call::Idle;
     view.stay = Stay::Ready;
     view.base = base;
     view.in_use = in_use;
-    view.got.clear();
-    view.knows.clear();
     view.seen = number;
     view.entries.push_back(Entry::Collect { number, kept })?;
     view.fresh = true;

@@ -7,10 +7,9 @@ ghost use Rattle.store_core.specs.Words.{write};
 
 use crate::machine::contents::{bucket_of, word_at, words_of};
 use crate::machine::copies::copy;
-use crate::machine::moves::{
-    after_compared, after_counted, after_drawn, after_filled, after_found, after_passed,
-    after_published, begun, narrow, sum, with_call,
-};
+use crate::machine::gaining::{after_counted, after_drawn, after_found, after_published};
+use crate::machine::moves::{narrow, sum, with_call};
+use crate::machine::stages::{after_compared, after_filled, after_passed, begun};
 use crate::machine::table::Table;
 use crate::view::{Call, Content, Place, View};
 use faults::Memory;

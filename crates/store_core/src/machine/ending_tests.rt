@@ -150,3 +150,16 @@ fn base_has_to_pass_the_claim(rt: HostRuntime) -> Result<(), Fail> {
     assert!(rt; !ends_with(rt.alloc(), &[(Place::Base, 4)])?);
     Ok(())
 }
+
+// A collection may store any number. One that is no row, count or base of the store ends nothing, and isn't want of memory.
+#[test]
+fn numbers_that_are_none_of_the_store_are_refused(rt: HostRuntime) -> Result<(), Fail> {
+    let alloc = rt.alloc();
+    assert!(rt; !ends_with(alloc, &[(Place::Base, 1 << 62)])?);
+    assert!(rt; !ends_with(alloc, &[(Place::FreeCount, 1 << 40)])?);
+    assert!(rt; !ends_with(alloc, &[(Place::InUse, 1 << 40)])?);
+    assert!(rt; !ends_with(alloc, &[(Place::FreePlace(1), 1 << 40)])?);
+    assert!(rt; !ends_with(alloc, &[(Place::Bucket(1), 1 << 40)])?);
+    assert!(rt; !ends_with(alloc, &[(Place::Next(0), 1 << 40)])?);
+    Ok(())
+}

@@ -164,7 +164,7 @@ pub(crate) fn plan_load_base(sight: &Sight) -> Result<Option<Change>, Memory>
         return Ok(None);
     }
     let base = sight.table.load(&Place::Base);
-    Ok(Some(Change::of_view(based(copy(sight.view)?, base))))
+    Ok(Some(Change::of_view(based(copy(sight.view)?, base)?)))
 }
 
 /// The load of the number of buckets in use, after it.

@@ -62,13 +62,13 @@ fn constant(alloc: Global, symbol: u32) -> Content {
 }
 
 // A seat that has entered.
-fn entered(alloc: Global, table: &Table, symbol: u32) -> Creator {
-    let view = based(newcomer(alloc), table.load(&Place::Base));
+fn entered(alloc: Global, table: &Table, symbol: u32) -> Result<Creator, Memory> {
+    let view = based(newcomer(alloc), table.load(&Place::Base))?;
     let in_use = table.load(&Place::InUse).min(9) as u32;
-    Creator {
+    Ok(Creator {
         view: ready(view, in_use),
         todo: Some(symbol),
-    }
+    })
 }
 
 fn copy_table(table: &Table) -> Result<Table, Memory> {
@@ -173,15 +173,15 @@ fn explored(
 // All orders in which two seats create these constants, from a new store, to the end.
 fn all_orders(alloc: Global, one: u32, other: u32) -> Result<Tally, Memory> {
     let table = Table::new(alloc, &SIZES)?;
-    let first = entered(alloc, &table, one);
-    let second = entered(alloc, &table, other);
+    let first = entered(alloc, &table, one)?;
+    let second = entered(alloc, &table, other)?;
     explored(&table, &first, &second, one == other, 40)
 }
 
 // How many actions a creation of a constant takes in a new store, up to so many.
 fn actions_alone(alloc: Global, symbol: u32) -> Result<u32, Memory> {
     let mut table = Table::new(alloc, &SIZES)?;
-    let mut creator = entered(alloc, &table, symbol);
+    let mut creator = entered(alloc, &table, symbol)?;
     for actions in 0..40 {
         if is_over(&creator) {
             return Ok(actions);

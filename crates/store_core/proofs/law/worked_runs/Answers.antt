@@ -1,4 +1,4 @@
-use Rattle.store_core.proofs.Worked.{race_finds, lost_makes, sweep_keeps, sweep_frees, use_doubles, worn_at_last}
+use Rattle.store_core.proofs.Worked.{race_finds, lost_makes, sweep_keeps, sweep_frees, must_free, nest_keeps, use_doubles, worn_at_last}
 use Rattle.store_core.proofs.WorkedPlaced.{runs_are_in_place}
 use Rattle.store_core.proofs.law.worked_runs.Goals as goal
 
@@ -20,5 +20,11 @@ returns-clause-worn c = worn_at_last
 pub returns-clause-frees : goal.returns-clause-frees
 returns-clause-frees c = sweep_frees
 
+pub returns-clause-must_free : goal.returns-clause-must_free
+returns-clause-must_free c = must_free
+
 pub returns-clause-placed : goal.returns-clause-placed
 returns-clause-placed c = runs_are_in_place
+
+pub returns-clause-nest : goal.returns-clause-nest
+returns-clause-nest c = nest_keeps

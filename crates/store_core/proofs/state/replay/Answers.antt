@@ -1,4 +1,4 @@
-use Rattle.std.proofs.Common.{◌≡◌, ◌<◌, Bool, true, false, List, ℕ, length, take, subst, sym, rules, arith}
+use Rattle.std.proofs.Common.{◌≡◌, ◌<◌, true, false, List, ℕ, length, subst, rules, arith}
 use Rattle.std.proofs.lemmas.Grind.{common_steps}
 use Rattle.std.proofs.lemmas.List.{take_all}
 use Rattle.store_core.specs.StoreSteps.{Leads}

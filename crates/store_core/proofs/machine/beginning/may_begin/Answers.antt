@@ -1,4 +1,4 @@
-use Rattle.std.proofs.Common.{List, Bool, ℕ, ◌≡◌, ◌≤◌, false, get_or, length, sym, ◌∙◌, ap, rules, arith}
+use Rattle.std.proofs.Common.{List, Bool, ◌≤◌, false, get_or, length, ◌∙◌, ap, rules, arith}
 use Rattle.std.specs.List.{list_all}
 use Rattle.std.proofs.lemmas.Grind.{common_steps}
 use Rattle.store_core.specs.Calls.{IsOver}

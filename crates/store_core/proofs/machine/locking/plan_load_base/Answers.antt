@@ -1,18 +1,17 @@
-use Rattle.std.proofs.Common.{◌≡◌, ℕ, suc, ◌-◌, refl, sym, ap, subst, ◌∙◌, rules, arith}
+use Rattle.std.proofs.Common.{refl, ◌∙◌, rules, arith}
 use Rattle.std.proofs.lemmas.Grind.{common_steps}
-use Rattle.store_core.specs.Words.{Place, Base, InUse, Claim, Root, RowWord, Bucket, write}
-use Rattle.store_core.specs.Calls.{View}
+use Rattle.store_core.specs.Words.{Base}
 use Rattle.store_core.specs.Machine as machine
 use Rattle.store_core.specs.Machine.{action, begins, based, ready, with_got, knowing, with_call}
 use Rattle.store_core.specs.Planning.{state_seen}
 use Rattle.store_core.proofs.Basics.{write_same}
-use Rattle.store_core.proofs.Made.{two, made_view, made_word, went_view}
+use Rattle.store_core.proofs.Made.{two, made_view}
 use Rattle.store_core.proofs.machine.locking.plan_load_base.Goals as goal
 
 pub returns : goal.returns
 returns c = (
   first_of (search rules, grind (arith, common_steps)),
   tt,
-  made_view c.args.sight.now machine.LoadBase c.of_view.result c.based.result c.of_view.ensures refl (write_same (state_seen c.args.sight.now).words Base)
-      (c.based.ensures ∙ two based c.in_ok-copy.field-0 c.args.sight.now.view.now c.load-base.result ((state_seen c.args.sight.now).words Base) c.in_ok-copy.ensures c.load-base.ensures),
+  made_view c.args.sight.now machine.LoadBase c.of_view.result c.in_ok-based.field-0 c.of_view.ensures refl (write_same (state_seen c.args.sight.now).words Base)
+      (c.in_ok-based.ensures ∙ two based c.in_ok-copy.field-0 c.args.sight.now.view.now c.load-base.result ((state_seen c.args.sight.now).words Base) c.in_ok-copy.ensures c.load-base.ensures),
 )

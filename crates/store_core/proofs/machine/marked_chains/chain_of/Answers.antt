@@ -1,4 +1,4 @@
-use Rattle.std.proofs.Common.{◌≡◌, ℕ, suc, ◌+◌, ◌-◌, ◌<◌, ◌≤◌, List, length, sym, subst, arith}
+use Rattle.std.proofs.Common.{◌≡◌, ℕ, suc, ◌-◌, ◌<◌, List, length, sym, subst, arith}
 use Rattle.store_core.specs.Words.{Place, Bucket, Next}
 use Rattle.store_core.specs.Shown.{shown}
 use Rattle.store_core.specs.MarkedChains.{HasPassed}

@@ -1,6 +1,6 @@
-use Rattle.std.proofs.Common.{ℕ, List, refl, sym, subst}
+use Rattle.std.proofs.Common.{ℕ, List, sym, subst}
 use Rattle.std.specs.Prelude.{Bool}
-use Rattle.store_core.specs.Words.{Place, InUse}
+use Rattle.store_core.specs.Words.{Place}
 use Rattle.store_core.specs.Shown.{shown}
 use Rattle.store_core.specs.MarkedChains.{StandInFirst}
 use Rattle.store_core.proofs.Chained.{chains_by, meant_uses}

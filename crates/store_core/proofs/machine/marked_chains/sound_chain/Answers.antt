@@ -1,4 +1,4 @@
-use Rattle.std.proofs.Common.{ℕ, List, refl, sym, subst}
+use Rattle.std.proofs.Common.{ℕ, List, sym, subst}
 use Rattle.store_core.specs.Words.{Place}
 use Rattle.store_core.specs.Shown.{shown}
 use Rattle.store_core.specs.MarkedChains.{IsChain, OneStrays}

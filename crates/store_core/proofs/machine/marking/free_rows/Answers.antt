@@ -1,6 +1,5 @@
-use Rattle.std.proofs.Common.{ℕ, List, length, sym, subst, arith}
-use Rattle.std.specs.Prelude.{Bool}
-use Rattle.store_core.specs.Words.{Place, FreeCount}
+use Rattle.std.proofs.Common.{ℕ, List, sym, subst, arith}
+use Rattle.store_core.specs.Words.{Place}
 use Rattle.store_core.specs.Shown.{shown}
 use Rattle.store_core.specs.RowLists.{IsList}
 use Rattle.store_core.specs.declared.machine.row_lists.RowList.TheVariants.{Free}

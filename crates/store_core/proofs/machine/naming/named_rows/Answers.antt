@@ -1,4 +1,4 @@
-use Rattle.std.proofs.Common.{List, ℕ, ◌≡◌, ◌++◌, ◌∷◌, [], length, subst, arith}
+use Rattle.std.proofs.Common.{List, ℕ, ◌≡◌, [], length, subst, arith}
 use Rattle.store_core.specs.Words.{Root}
 use Rattle.store_core.specs.Shown.{shown}
 use Rattle.store_core.specs.Naming.{Halfway}

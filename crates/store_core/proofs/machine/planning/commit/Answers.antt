@@ -1,4 +1,3 @@
-use Rattle.std.proofs.Common.{arith}
 use Rattle.store_core.proofs.Planning.{committed}
 use Rattle.store_core.proofs.machine.planning.commit.Goals as goal
 

@@ -1,10 +1,10 @@
-use Rattle.std.proofs.Common.{◌≡◌, ℕ, List, [], ◌∷◌, ◌++◌, sym, subst, arith}
+use Rattle.std.proofs.Common.{◌≡◌, ℕ, List, [], ◌∷◌, ◌++◌, subst, arith}
 use Rattle.store_core.specs.Words.{Place}
 use Rattle.store_core.specs.Shown.{shown}
 use Rattle.store_core.specs.Marks.{Halfway}
 use Rattle.store_core.proofs.Outcomes.{at_false, at_true}
 use Rattle.store_core.proofs.HasContents.{none_of}
-use Rattle.store_core.proofs.Reached.{halfway_root, halfway_row, halfway_done, protected_past, argument_past, no_roots}
+use Rattle.store_core.proofs.Reached.{halfway_row, halfway_done, argument_past, no_roots}
 use Rattle.store_core.proofs.machine.reached.with_arguments.Goals as goal
 
 pub returns-then-not-branch : goal.returns-then-not-branch

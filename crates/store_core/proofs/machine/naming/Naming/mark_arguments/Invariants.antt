@@ -1,5 +1,5 @@
-use Rattle.std.proofs.Common.{◌≡◌, ℕ, ◌+◌, ◌<◌, [], ◌∷◌, get_or}
-use Rattle.store_core.specs.Words.{RowWord, Root}
+use Rattle.std.proofs.Common.{ℕ, ◌+◌, ◌<◌, [], ◌∷◌}
+use Rattle.store_core.specs.Words.{RowWord}
 use Rattle.store_core.specs.Shown.{shown}
 use Rattle.store_core.specs.Naming.{IsMarked, Halfway, Visits}
 use Rattle.store_core.proofs.machine.naming.Naming.mark_arguments.Given as goal

@@ -1,7 +1,6 @@
-use Rattle.std.proofs.Common.{◌≡◌, ℕ, ◌+◌, ◌<◌, [], ◌∷◌, get_or}
-use Rattle.store_core.specs.Words.{RowWord, Root}
+use Rattle.std.proofs.Common.{◌≡◌, ℕ, ◌<◌, [], get_or}
 use Rattle.store_core.specs.Shown.{shown}
-use Rattle.store_core.specs.Naming.{IsMarked, Halfway, Visits}
+use Rattle.store_core.specs.Naming.{IsMarked, Halfway}
 use Rattle.store_core.proofs.machine.naming.Naming.mark_got.Given as goal
 
 abbrev pub invariant-loop-k : goal.invariant-loop-k

@@ -1,7 +1,7 @@
-use Rattle.std.proofs.Common.{◌≡◌, ℕ, ◌+◌, ◌<◌, [], ◌∷◌, get_or}
-use Rattle.store_core.specs.Words.{RowWord, Root}
+use Rattle.std.proofs.Common.{ℕ, ◌<◌, []}
+use Rattle.store_core.specs.Words.{Root}
 use Rattle.store_core.specs.Shown.{shown}
-use Rattle.store_core.specs.Naming.{IsMarked, Halfway, Visits}
+use Rattle.store_core.specs.Naming.{IsMarked, Halfway}
 use Rattle.store_core.proofs.machine.naming.Naming.mark_protected.Given as goal
 
 abbrev pub invariant-loop-k : goal.invariant-loop-k

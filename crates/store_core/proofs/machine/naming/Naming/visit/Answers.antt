@@ -1,4 +1,4 @@
-use Rattle.std.proofs.Common.{List, ℕ, ◌≡◌, ◌++◌, ◌∷◌, [], ◌<◌, Bool, true, false, length, get_or, set, sym, subst, arith}
+use Rattle.std.proofs.Common.{List, ℕ, ◌≡◌, ◌<◌, Bool, true, false, length, get_or, set, sym, subst, arith}
 use Rattle.store_core.specs.Machine.{MayName}
 use Rattle.store_core.specs.Shown.{shown}
 use Rattle.store_core.specs.Naming.{Visits, Halfway}

@@ -1,4 +1,4 @@
-use Rattle.store_core.proofs.machine.replays.+explored.Given as goal
+use Rattle.store_core.proofs.machine.schedule_tests.+explored.Given as goal
 
 abbrev pub decreases-explored : goal.decreases-explored
 decreases-explored l = l.more

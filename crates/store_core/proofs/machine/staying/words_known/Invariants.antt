@@ -1,0 +1,5 @@
+use Rattle.std.proofs.Common.{◌≡◌, map}
+use Rattle.store_core.proofs.machine.staying.words_known.Given as goal
+
+abbrev pub invariant-loop-word : goal.invariant-loop-word
+invariant-loop-word l = l.words.items ≡ map (λ word. word.now) l.yielded
