@@ -1,6 +1,7 @@
 -- What the table asks of each step of a collection.
 use Rattle.std.proofs.Common.{◌≡◌, ℕ, zero, suc, ◌<◌, eqb, pred, Bool, true, cond, Some, List, [], ◌∷◌, ◌++◌, refl, sym, ap, ◌∙◌, subst, arith}
 use Rattle.atomic_table.specs.Table.{Me, Allows}
+use Rattle.term_model.specs.Tree.{Tree}
 use Rattle.store_core.specs.declared.view.Sizes.{Sizes}
 use Rattle.store_core.specs.declared.view.View.{View}
 use Rattle.store_core.specs.declared.view.Place.{Place}
@@ -19,8 +20,11 @@ use Rattle.node_rows.specs.Shown.{state_of}
 use Rattle.node_rows.specs.Joining.{ShowsJoined}
 use Rattle.node_rows.specs.Locking.{store_here}
 use Rattle.node_rows.specs.Steps.{with_store, Known}
-use Rattle.node_rows.specs.Collecting.{or_zero, word_seen, collects, MayCollect, HasSeen, MayEndBy, HasStore}
-use Rattle.node_rows.proofs.Own.{IsAction, action_allows}
+use Rattle.node_rows.specs.Collecting.{or_zero, word_seen, ended_by, collects, MayCollect, HasSeen, MayEndBy, HasStore}
+use Rattle.node_rows.specs.Crowding.{crowd_now, swept, HasCrowd}
+use Rattle.node_rows.specs.CrowdsKept.{crowds_end}
+use Rattle.node_rows.specs.Sweeping.{IsSweep}
+use Rattle.node_rows.proofs.Own.{IsAction, OwesCrowd, crowd_allows, action_allows}
 use Rattle.node_rows.proofs.Plays.{permits_shown, exclusive}
 
 -- what a step of a collection tells, whichever it is
@@ -35,7 +39,7 @@ loads_any z slots id me i k p is may = action_allows z slots id me i (LoadAny p)
   word = may.word;
   permitted = λ s rule at. permits_shown z s i me.0 rule at (LoadAny p) may.shown (exclusive z s i me.0 rule at may.granted);
   writes = λ s _ _. refl;
-}
+} tt
 
 pub stores_any : (z : Sizes) (slots id : ℕ) (me : Me (Unit {0}) NodeView) (i k : ℕ) (p : Place) (m : ℕ) → me.0.lock.number ≡ Some i → MayCollect z i z.seats me.0 (StoreAny p m) p k → Allows (ShowsJoined z) slots id me k (λ _. m) (λ _. TellsCollect z (StoreAny p m) me m)
 stores_any z slots id me i k p m is may = action_allows z slots id me i (StoreAny p m) (collects z (StoreAny p m)) k (λ _. m) is record {
@@ -44,7 +48,7 @@ stores_any z slots id me i k p m is may = action_allows z slots id me i (StoreAn
   word = may.word;
   permitted = λ s rule at. permits_shown z s i me.0 rule at (StoreAny p m) may.shown tt;
   writes = λ s _ _. refl;
-}
+} tt
 
 free_same : (place other : ℕ → ℕ) (n r : ℕ) → ((k : ℕ) → k < n → place k ≡ other k) → is_free place n r ≡ is_free other n r
 free_same place other zero r h = refl
@@ -82,11 +86,31 @@ module _ (z : Sizes) (t : core.State) (i : ℕ) (holds : StoreHolds z t) (v : Vi
   pub ends_permitted : Permits z t i StoreClaim
   ends_permitted = (storing, may.ends t holds here)
 
-pub ends_claim : (z : Sizes) (slots id : ℕ) (me : Me (Unit {0}) NodeView) (i k : ℕ) → me.0.lock.number ≡ Some i → k ≡ index_of z Claim → MayEndBy z i me.0.store → Allows (ShowsJoined z) slots id me k (λ _. 0) (λ _. TellsCollect z StoreClaim me 0)
-ends_claim z slots id me i k is word may = action_allows z slots id me i StoreClaim (collects z StoreClaim) k (λ _. 0) is record {
+-- what the last store of a collection tells
+abbrev pub TellsClaim : Me (Unit {0}) NodeView → ℕ → Me (Unit {0}) NodeView → Type 0
+TellsClaim me n me' = (me' ≡ (swept me.0 (ended_by me.0.sizes me.0.store) me'.0.crowd, me.1)) × Known me.0.sizes me'.0.store × ((j : ℕ) → me.0.lock.number ≡ Some j → HasCrowd me.0.sizes j me'.0)
+
+-- the seat after it
+abbrev claimed : Sizes → Me (Unit {0}) NodeView → List Tree → Me (Unit {0}) NodeView
+claimed z me crowd = (swept me.0 (ended_by z me.0.store) crowd, me.1)
+
+-- its crowd is that of the names that it keeps
+claim_crowd : (z : Sizes) (v : NodeView) (i : ℕ) → OwesCrowd z v i StoreClaim (crowd_now z)
+claim_crowd z v i = record { kept = λ t holds ok crowds own was. crowds_end z t i holds ok crowds was }
+
+pub ends_claim : (z : Sizes) (slots id : ℕ) (me : Me (Unit {0}) NodeView) (i k : ℕ) → me.0.lock.number ≡ Some i → me.0.sizes ≡ z → k ≡ index_of z Claim → MayEndBy z i me.0.store → Allows (ShowsJoined z) slots id me k (λ _. 0) (λ _. TellsClaim me 0)
+ends_claim z slots id me i k is sizes word may = crowd_allows z slots id me i StoreClaim (collects z StoreClaim) k (λ _. 0) is record {
   acts = λ s rule at. ends_as z (state_of z s.words s.views rule.lock.state) i rule.holds me.0.store (store_here z s.views i me.0 at) may;
   there = refl;
   word = word;
   permitted = λ s rule at. ends_permitted z (state_of z s.words s.views rule.lock.state) i rule.holds me.0.store (store_here z s.views i me.0 at) may;
   writes = λ s _ _. refl;
-}
+} (crowd_now z) (claim_crowd z me.0 i) (λ _. TellsClaim me 0)
+    (λ n t tells. (subst (λ (y : Sizes). claimed z me (crowd_now z t) ≡ claimed y me (crowd_now z t)) (sym sizes) refl, tells.1, tells.2))
+
+-- each step of a collection is its action by the own view
+pub sweep_acts : (z : Sizes) (t : core.State) (i : ℕ) → StoreHolds z t → (v : View) → t.view i ≡ v → (x : core.Step) → IsSweep z i v x → IsAction z t i x (collects z x)
+sweep_acts z t i holds v here (LoadAny p) is = refl
+sweep_acts z t i holds v here (StoreAny p n) is = refl
+sweep_acts z t i holds v here StoreClaim is = ends_as z t i holds v here is
+sweep_acts z t i holds v here x is = absurd is

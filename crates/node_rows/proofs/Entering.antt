@@ -1,8 +1,9 @@
 -- What entries and leaves leave of a pass's view.
-use Rattle.std.proofs.Common.{◌≤◌, ◌≡◌, inl, inr, ℕ, zero, suc, eqb, Bool, true, false, cond, [], ◌∷◌, Result, refl, sym, ap, ◌∙◌, subst, ⊎_elim}
+use Rattle.std.proofs.Common.{◌≤◌, ◌≡◌, inl, inr, ℕ, zero, suc, eqb, Bool, true, false, cond, List, [], ◌∷◌, ◌++◌, Result, refl, sym, ap, ◌∙◌, subst, ⊎_elim}
 use Rattle.std.proofs.lemmas.Bool.{cases_lt}
 use mathlib.Core.Logic.{dite}
 use native.Mathlib.Decide.{ℕ_discrete}
+use Rattle.term_model.specs.Tree.{Tree}
 use Rattle.lock_core.specs.declared.parts.LockStep.TheVariants.{Lower, Unask, Give}
 use Rattle.busy_forbidden.specs.declared.view.LockView.{LockView}
 use Rattle.busy_forbidden.specs.declared.rule.Busy.{Busy}
@@ -19,6 +20,10 @@ use Rattle.store_core.specs.Machine.{based, ready, left, protected_in}
 use Rattle.store_core.specs.Steps.{IsAtRest}
 use Rattle.node_rows.specs.declared.view.NodeView.{NodeView}
 use Rattle.node_rows.specs.Shown.{node_next, node_can, rest_of, is_out, IsAway, IsEnding, IsClosed}
+use Rattle.history_core.specs.declared.entry.Entry.{Entry}
+use Rattle.history_core.specs.declared.entry.Entry.TheVariants.{Roots}
+use Rattle.history_core.specs.Chronicle.{last_roots, roots_after}
+use Rattle.store_core.specs.Steps.{AreLastRoots}
 use Rattle.node_rows.specs.Passes.{Came, Left}
 use Rattle.node_rows.specs.Locking.{node_leaves, ended_on, freed_on, at_rest_in, ending_in}
 
@@ -27,9 +32,15 @@ pub record Stays (v w : NodeView) : Type 0 where
   pub away : IsAway w.store
   pub sizes : w.sizes ≡ v.sizes
   pub store : w.store ≡ v.store
+  pub crowd : w.crowd ≡ v.crowd
 
 stays : (v w : NodeView) → LeavesMore rest_of is_out v w → IsAway v.store → Stays v w
-stays v w leaves away = let t = leaves away in record { away = t.0; sizes = ap (λ (q : Sizes × View). q.0) t.1; store = ap (λ (q : Sizes × View). q.1) t.1 }
+stays v w leaves away = let t = leaves away in record {
+  away = t.0;
+  sizes = ap (λ (q : Sizes × View × List Tree). q.0) t.1;
+  store = ap (λ (q : Sizes × View × List Tree). q.1) t.1;
+  crowd = ap (λ (q : Sizes × View × List Tree). q.2) t.1;
+}
 
 pub tries_shared_stays : (v w : NodeView) (r : Result (Unit {0}) Busy) → TriesShared node_next v w r → IsAway v.store → Stays v w
 tries_shared_stays v w r t = stays v w (tries_shared_leaves rest_of is_out node_next node_leaves v w r t)
@@ -55,6 +66,7 @@ pub record Ends (v w : NodeView) : Type 0 where
   pub away : IsAway w.store
   pub sizes : w.sizes ≡ v.sizes
   pub store : Left v w
+  pub crowd : w.crowd ≡ v.crowd
 
 abbrev pub Leaves : View → View → Type 0
 Leaves v u = IsEnding u × (left u (protected_in u) ≡ left v (protected_in v))
@@ -62,7 +74,7 @@ Leaves v u = IsEnding u × (left u (protected_in u) ≡ left v (protected_in v))
 pub ends_shared : (v w : NodeView) → IsAtRest v.store → w ≡ node_next Lower 0 v → Ends v w
 ends_shared v w rest is =
     let e : w.store ≡ left v.store (protected_in v.store) = ap (λ (u : NodeView). u.store) is ∙ ended_on v.store.stay v.store (at_rest_in v.store rest) in
-    record { away = subst IsAway (sym e) record { stay = refl; call = rest.call }; sizes = ap (λ (u : NodeView). u.sizes) is; store = e }
+    record { away = subst IsAway (sym e) record { stay = refl; call = rest.call }; sizes = ap (λ (u : NodeView). u.sizes) is; store = e; crowd = ap (λ (u : NodeView). u.crowd) is }
 
 either_leaves : (v : View) (j : ℕ) (u : NodeView) (b : Bool) → Leaves v u.store → Leaves v (run node_next (cond b [] ((Unask j, 0) ∷ [])) u).store
 either_leaves v j u true h = h
@@ -76,6 +88,10 @@ sizes_kept : (xs : Steps) (v : NodeView) → (run node_next xs v).sizes ≡ v.si
 sizes_kept [] v = refl
 sizes_kept (x ∷ xs) v = sizes_kept xs (node_next x.0 x.1 v)
 
+crowd_kept : (xs : Steps) (v : NodeView) → (run node_next xs v).crowd ≡ v.crowd
+crowd_kept [] v = refl
+crowd_kept (x ∷ xs) v = crowd_kept xs (node_next x.0 x.1 v)
+
 pub ends_exclusive : (i n : ℕ) (v w : NodeView) → IsAtRest v.store → w ≡ run node_next (released i n) v → Ends v w
 ends_exclusive i n v w rest is =
     let u : NodeView = run node_next (freed_below i n) v in
@@ -86,6 +102,7 @@ ends_exclusive i n v w rest is =
       away = subst IsAway (sym is_left) record { stay = refl; call = l.0.call };
       sizes = ap (λ (q : NodeView). q.sizes) is ∙ sizes_kept (released i n) v;
       store = is_left ∙ l.1;
+      crowd = ap (λ (q : NodeView). q.crowd) is ∙ crowd_kept (released i n) v;
     }
 
 -- a seat with exclusive access has every other seat held
@@ -99,3 +116,17 @@ pub may_release : (v : NodeView) (i n : ℕ) → IsAtRest v.store → IsClosed v
 may_release v i n rest closed =
     let ending : IsEnding v.store = record { stay = inl rest.stay; call = rest.call } in
     goes_free node_can v i 0 n (λ j. inr (ending, closed)) (inr ending)
+
+-- the last Roots of a pass, after a leave and after an entry
+last_noted : (names : List ℕ) (es : List Entry) (seen : ℕ) (rows : List ℕ) → last_roots names (es ++ Roots seen rows ∷ []) ≡ rows
+last_noted names [] seen rows = refl
+last_noted names (e ∷ es) seen rows = last_noted (roots_after names e) es seen rows
+
+pub left_last : (v w : View) → w ≡ left v (protected_in v) → AreLastRoots w
+left_last v w is = subst AreLastRoots (sym is) (last_noted [] v.entries v.seen (protected_in v))
+
+pub came_last : (v w : NodeView) (base in_use : ℕ) → Came v w base in_use → AreLastRoots v.store → AreLastRoots w.store
+came_last v w base in_use came h = subst AreLastRoots (sym came.store) h
+
+pub stayed_last : (v w : View) → w ≡ v → AreLastRoots v → AreLastRoots w
+stayed_last v w is h = subst AreLastRoots (sym is) h

@@ -11,6 +11,7 @@ use Rattle.std.proofs.lemmas.List.{length-map, set-get_or}
 use Rattle.std.proofs.lemmas.Map.Steps.{length-le_from_distinct_below}
 use Rattle.atomic_table.specs.Table.{State, Me, Joins, Allows, keeps}
 use Rattle.atomic_table.proofs.Lists.{at_map, set_else, set_again}
+use Rattle.term_model.specs.Tree.{Tree}
 use Rattle.history_core.specs.declared.entry.Entry.{Entry}
 use Rattle.lock_core.specs.declared.parts.Phase.TheVariants.{Out, Holder}
 use Rattle.busy_forbidden.specs.declared.view.LockView.{LockView}
@@ -24,12 +25,16 @@ use Rattle.store_core.specs.declared.view.Sizes.{Sizes}
 use Rattle.store_core.specs.declared.view.View.{View}
 use Rattle.store_core.specs.Machine.{Each, In}
 use Rattle.store_core.specs.Invariant.{listed}
+use Rattle.store_core.specs.Recalls.{EntriesRecalled, Recalls}
 use Rattle.store_core.specs.StoreHolds.{StoreHolds}
 use Rattle.store_core.specs.Shown.{shown}
 use Rattle.store_core.proofs.Basics.{choose, eqb_is, eqb_not, each_map, each_both}
 use Rattle.store_core.proofs.Histories.{listed_at}
 use Rattle.node_rows.specs.declared.store.Pass.{Pass}
-use Rattle.node_rows.specs.Told.{HasEntries, view_of}
+use Rattle.node_rows.specs.Told.{HasEntries, TellsTrees, view_of}
+use Rattle.node_rows.specs.Crowding.{IsCrowd, Crowds, crowd_at}
+use Rattle.node_rows.specs.CrowdsKept.{crowd_here, crowd_same}
+use Rattle.node_rows.specs.Told.{HasEntries, TellsCrowd, view_of}
 use Rattle.node_rows.specs.declared.view.JoinedSeat.{JoinedSeat}
 use Rattle.node_rows.specs.declared.view.NodeView.{NodeView}
 use Rattle.node_rows.specs.Shown.{lock_of, store_at, Shows}
@@ -37,26 +42,39 @@ use Rattle.node_rows.specs.Joining.{spent_view, number_in, known_seat, both_view
 use Rattle.node_rows.specs.Gathering.{not_spent, known_at, apart_else, join_gathers}
 use Rattle.node_rows.specs.Locking.{store_here, store_set, put_again, inside, below, sized_set, some_set, count_set}
 
-module _ (z : Sizes) (s : State (Unit {0}) NodeView) (i : ℕ) (v : NodeView) (at : get_elem? s.views i ≡ some v) (w : NodeView) (same_lock : w.lock ≡ v.lock) where
-  locks_kept : map lock_of (set s.views i w) ≡ map lock_of s.views
-  locks_kept = map-set lock_of s.views i w ∙ (ap (set (map lock_of s.views) i) same_lock ∙ set_again (map lock_of s.views) i v.lock (at_map lock_of s.views i v at))
+module _ (z : Sizes) (s : State (Unit {0}) NodeView) (i : ℕ) (v : NodeView) (at : get_elem? s.views i ≡ some v) (w : NodeView) where
+  -- the seats know the same of the store
+  same_stores : Shows z s → w.store ≡ v.store → store_at z (set s.views i w) ≡ store_at z s.views
+  same_stores rule store = store_set z s.views i w (inside z s i v rule at) ∙ put_again (store_at z s.views) i w.store (store_here z s.views i v at ∙ sym store)
 
-  lock_again : ShowsLock lock_of z.seats s → ShowsLock lock_of z.seats (with_views s (set s.views i w))
-  lock_again l = record { state = l.state; shows = subst (λ (ls : List LockView). lock.Shows z.seats s.words ls l.state) (sym locks_kept) l.shows; sound = l.sound }
+  module _ (same_lock : w.lock ≡ v.lock) where
+    locks_kept : map lock_of (set s.views i w) ≡ map lock_of s.views
+    locks_kept = map-set lock_of s.views i w ∙ (ap (set (map lock_of s.views) i) same_lock ∙ set_again (map lock_of s.views) i v.lock (at_map lock_of s.views i v at))
 
-  -- another view of a seat, which knows the same of lock and store
-  pub shows_again : Shows z s → w.made ≡ v.made → w.sizes ≡ v.sizes → w.store ≡ v.store → Shows z (with_views s (set s.views i w))
-  unfolding lock_again
-  shows_again rule made sizes store =
-      let same : store_at z (set s.views i w) ≡ store_at z s.views = store_set z s.views i w (inside z s i v rule at) ∙ put_again (store_at z s.views) i w.store (store_here z s.views i v at ∙ sym store) in
-      record {
-        lock = lock_again rule.lock;
-        wide = rule.wide;
-        holds = subst (λ (f : ℕ → View). StoreHolds z (record { lock = rule.lock.state; words = shown z s.words; view = f })) (sym same) rule.holds;
-        sized = sized_set z s i v rule at w sizes made;
-        some_made = some_set z s i v rule at w sizes made;
-        count = count_set z s i v rule at w sizes made;
-      }
+    lock_again : ShowsLock lock_of z.seats s → ShowsLock lock_of z.seats (with_views s (set s.views i w))
+    lock_again l = record { state = l.state; shows = subst (λ (ls : List LockView). lock.Shows z.seats s.words ls l.state) (sym locks_kept) l.shows; sound = l.sound }
+
+    -- another view of a seat, which knows the same of lock and store
+    pub shows_again : Shows z s → w.made ≡ v.made → w.sizes ≡ v.sizes → w.store ≡ v.store → Shows z (with_views s (set s.views i w))
+    unfolding lock_again
+    shows_again rule made sizes store =
+        let same = same_stores rule store in
+        record {
+          lock = lock_again rule.lock;
+          wide = rule.wide;
+          holds = subst (λ (f : ℕ → View). StoreHolds z (record { lock = rule.lock.state; words = shown z s.words; view = f })) (sym same) rule.holds;
+          sized = sized_set z s i v rule at w sizes made;
+          some_made = some_set z s i v rule at w sizes made;
+          count = count_set z s i v rule at w sizes made;
+        }
+
+-- and has the same crowd
+crowds_again : (z : Sizes) (s : State (Unit {0}) NodeView) (i : ℕ) (v : NodeView) → get_elem? s.views i ≡ some v → (w : NodeView) → Shows z s → w.store ≡ v.store → w.crowd ≡ v.crowd
+    → Crowds z (store_at z s.views) (crowd_at s.views) → Crowds z (store_at z (set s.views i w)) (crowd_at (set s.views i w))
+crowds_again z s i v at w rule store crowd was =
+    let l = inside z s i v rule at in
+    let same : store_at z (set s.views i w) ≡ store_at z s.views = store_set z s.views i w l ∙ put_again (store_at z s.views) i w.store (store_here z s.views i v at ∙ sym store) in
+    subst (λ (p : (ℕ → View) × (ℕ → List Tree)). Crowds z p.0 p.1) (λ q. (sym same q, sym (crowd_same s.views i v w at l crowd) q)) was
 
 -- the seat `other`, which is out, says nothing of the lock any more
 lock_spent : (z : Sizes) (s : State (Unit {0}) NodeView) (other : ℕ) (w : NodeView) → get_elem? s.views other ≡ some w → w.lock.phase ≡ Out → ShowsLock lock_of z.seats s → ShowsLock lock_of z.seats (with_views s (set s.views other spent_view))
@@ -87,11 +105,13 @@ joins_seat z id v i is other w k is_w out s rule at ne at_set =
       joins = join_gathers rule.known s.views rule.joins id v at (not_spent v i is) other w at_w (not_spent w k is_w) number (λ e. ne (sym e));
       lock = lock_spent z (with_views s (set s.views id both)) other w at_set out (lock_again z s id v at both refl rule.lock);
       shows = shows_again z whole id v known both refl rule.shows refl refl refl;
+      recalls = subst (Recalls z) (sym (same_stores z whole id v known both rule.shows refl)) rule.recalls;
+      crowds = crowds_again z whole id v known both rule.shows refl refl rule.crowds;
     }
 
 -- What a seat knows of another one.
 abbrev Knows : List NodeView → JoinedSeat → Type 0
-Knows known x = (u : NodeView) × (get_elem? known x.seat ≡ some u) × (u.store ≡ x.store)
+Knows known x = (u : NodeView) × (get_elem? known x.seat ≡ some u) × (u.store ≡ x.store) × (u.crowd ≡ x.crowd)
 
 each_itself : (xs : List ℕ) → Each (λ q. In q xs) xs
 each_itself [] = tt
@@ -150,8 +170,8 @@ tells_all z s id v i rule at is =
     let number : number_in v.lock.number ≡ id = ap number_in is ∙ same_place whole id i v rule.shows.lock here is in
     let held = rule.joins.held id v at in
     let all : Each (Knows rule.known) (gathered v) = (
-      (v, subst (λ (q : ℕ). get_elem? rule.known q ≡ some v) (sym number) here, refl),
-      each_map _ _ v.joined (λ x t. (t.view, t.knew, t.store)) held,
+      (v, subst (λ (q : ℕ). get_elem? rule.known q ≡ some v) (sym number) here, refl, refl),
+      each_map _ _ v.joined (λ x t. (t.view, t.knew, t.store, t.crowd)) held,
     ) in
     let small : Each (λ (x : JoinedSeat). x.seat < z.seats) (gathered v) = each_map _ _ (gathered v) (λ x t. below z whole x.seat t.0 rule.shows t.1) all in
     let apart : AreApart (seats_in (gathered v)) = (
@@ -170,9 +190,17 @@ tells_all z s id v i rule at is =
           subst (λ (ls : List (List Entry)). AllTold z ls (gathered v)) (sym same) record {
             legal = rule.shows.holds.history.legal;
             numbers = bases.numbers;
+            trees = each_both _ _ _ (gathered v) (λ x l t.
+                let store : view x.seat ≡ x.store = store_here z rule.known x.seat t.0 t.1 ∙ t.2 in
+                subst (λ (u : View). EntriesRecalled (listed z.seats (λ j. (view j).entries)) x.seat u.entries) store (rule.recalls x.seat l).entries) small all;
             bases = each_map _ _ (gathered v) (λ x t.
                 let store : view x.seat ≡ x.store = store_here z rule.known x.seat t.0 t.1 ∙ t.2 in
                 subst (λ (b : ℕ). HasBase z (listed z.seats (λ j. (view j).entries)) b) (ap (λ (u : View). u.base) store) (bases.seats x.seat)) all;
+            crowds = each_map _ _ (gathered v) (λ x t.
+                let store : view x.seat ≡ x.store = store_here z rule.known x.seat t.0 t.1 ∙ t.2 in
+                let crowd : crowd_at rule.known x.seat ≡ x.crowd = crowd_here rule.known x.seat t.0 t.1 ∙ t.3 in
+                subst (λ (p : View × List Tree). IsCrowd (listed z.seats (λ j. (view j).entries)) x.seat p.0.entries p.1) (λ q. (store q, crowd q))
+                (rule.crowds.each x.seat (below z whole x.seat t.0 rule.shows t.1))) all;
           };
     }
 
@@ -231,6 +259,15 @@ module _ (z : Sizes) (V : NodeView) (tells : TellsAll z V) (lists : List (List E
       let h = each_joined Finds (map view_of rest) (view_of first) (subst (λ (u : NodeView). Each Finds (gathered u)) e each_finds) in
       (of_pass first h.0, each_map _ _ rest (λ p k. of_pass p k) (each_of_map (λ w. Finds (known_seat w)) view_of rest h.1))
 
+-- and has its crowd
+pub crowds : (V : NodeView) (lists : List (List Entry)) → Each (λ x. IsCrowd lists x.seat x.store.entries x.crowd) (gathered V) → (first : Pass) (rest : List Pass) → V ≡ all_views (view_of first) (map view_of rest)
+    → TellsCrowd lists first × Each (TellsCrowd lists) rest
+crowds V lists h first rest e =
+    let P : JoinedSeat → Type 0 = λ x. IsCrowd lists x.seat x.store.entries x.crowd in
+    let t = each_joined P (map view_of rest) (view_of first) (subst (λ (u : NodeView). Each P (gathered u)) e h) in
+    let of : (p : Pass) → P (known_seat (view_of p)) → TellsCrowd lists p = (λ p k. subst (λ (n : ℕ). IsCrowd lists n (view_of p).store.entries (view_of p).crowd) (ap number_in p.seat.fits.number) k) in
+    (of first t.0, each_map _ _ rest of (each_of_map (λ w. P (known_seat w)) view_of rest t.1))
+
 -- and its base is known
 pub bases : (z : Sizes) (V : NodeView) (lists : List (List Entry)) → Each (λ x. HasBase z lists x.store.base) (gathered V) → (first : Pass) (rest : List Pass) → V ≡ all_views (view_of first) (map view_of rest)
     → HasBase z lists (view_of first).store.base × Each (λ p. HasBase z lists (view_of p).store.base) rest
@@ -238,3 +275,12 @@ bases z V lists h first rest e =
     let P : JoinedSeat → Type 0 = λ x. HasBase z lists x.store.base in
     let t = each_joined P (map view_of rest) (view_of first) (subst (λ (u : NodeView). Each P (gathered u)) e h) in
     (t.0, each_of_map (λ w. P (known_seat w)) view_of rest t.1)
+
+-- and the trees that its entries name are those that they tell
+pub trees : (V : NodeView) (lists : List (List Entry)) → Each (λ x. EntriesRecalled lists x.seat x.store.entries) (gathered V) → (first : Pass) (rest : List Pass) → V ≡ all_views (view_of first) (map view_of rest)
+    → TellsTrees lists first × Each (TellsTrees lists) rest
+trees V lists h first rest e =
+    let P : JoinedSeat → Type 0 = λ x. EntriesRecalled lists x.seat x.store.entries in
+    let t = each_joined P (map view_of rest) (view_of first) (subst (λ (u : NodeView). Each P (gathered u)) e h) in
+    let of_seat : (p : Pass) → P (known_seat (view_of p)) → TellsTrees lists p = (λ p k. subst (λ (n : ℕ). EntriesRecalled lists n (view_of p).store.entries) (ap number_in p.seat.fits.number) k) in
+    (of_seat first t.0, each_map _ _ rest of_seat (each_of_map (λ w. P (known_seat w)) view_of rest t.1))

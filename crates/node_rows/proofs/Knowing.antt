@@ -92,7 +92,7 @@ module _ (z : Sizes) (w : Place → ℕ) (m : Meaning) (h : ChainsHold z w m) (k
     pub tree_is : m.tree r ≡ t
 
   mutual
-    tree_is : (t : Tree) (r : ℕ) → KnowsTree ks r t → IsTree r t
+    pub tree_is : (t : Tree) (r : ℕ) → KnowsTree ks r t → IsTree r t
     tree_is (Leaf x) r k = absurd k
     tree_is (Node f ts) r k =
         let row = row_is r f k.0 k.1 in
@@ -101,7 +101,7 @@ module _ (z : Sizes) (w : Place → ℕ) (m : Meaning) (h : ChainsHold z w m) (k
           tree_is = h.trees r row.live ∙ (ap (grown m.tree) row.content_is ∙ ap (Node f) (trees_are ts k.0 k.2));
         }
 
-    trees_are : (ts : Trees) (rs : List ℕ) → KnowsTrees ks rs ts → meaning.trees_at m.tree rs ≡ ts
+    pub trees_are : (ts : Trees) (rs : List ℕ) → KnowsTrees ks rs ts → meaning.trees_at m.tree rs ≡ ts
     trees_are End [] k = refl
     trees_are (More t ts) [] k = absurd k
     trees_are End (r ∷ rs) k = absurd k

@@ -1,8 +1,14 @@
 pub mod Knowing
 pub mod Own
 pub mod Plays
+pub mod Spare
+pub mod CrowdFull
+pub mod Filled
+pub mod Named
 pub mod Entering
 pub mod Opens
 pub mod Joins
 pub mod Tellings
 pub mod Collects
+pub mod Keeping
+pub mod Crowding

@@ -5,26 +5,32 @@ use mathlib.Core.Option.{some, some-injective, some-ne-none}
 use lib.ListN.{get_elem?}
 use Rattle.atomic_table.specs.Table.{Splits, opening}
 use Rattle.atomic_table.proofs.Lists.{at_set, set_here, at_longer, at_last}
+use Rattle.term_model.specs.Tree.{Tree}
 use Rattle.lock_core.specs.Lock.{at_start}
 use Rattle.busy_forbidden.specs.Shown.{newcomer}
 use Rattle.busy_forbidden.proofs.Dealing.{lock_opens, lock_splits}
 use Rattle.store_core.specs.declared.view.Sizes.{Sizes}
 use Rattle.store_core.specs.declared.view.View.{View}
 use Rattle.store_core.specs.declared.view.Place.{Place}
-use Rattle.store_core.specs.declared.view.Place.TheVariants.{Base, FreeCount, Claim, InUse, FreePlace, Bucket, RootCount, Root}
+use Rattle.store_core.specs.declared.view.Place.TheVariants.{Base, FreeCount, Claim, InUse, FreePlace, Bucket, RowWord, RootCount, Root}
 use Rattle.store_core.specs.Words.{write}
 use Rattle.store_core.specs.Shown.{shown, total, in_table, index_of}
 use Rattle.store_core.specs.Steps as core
 use Rattle.store_core.specs.Runs as runs
 use Rattle.store_core.specs.Runs.{AreSizes, StartsWith}
+use Rattle.store_core.specs.Recalls.{Recalls}
 use Rattle.store_core.specs.StoreHolds.{StoreHolds}
+use Rattle.store_core.specs.StoreValue.{MaySize}
 use Rattle.store_core.proofs.Basics.{choose, each_map, eqb_is, eqb_not}
 use Rattle.store_core.proofs.Shown.{shown_written, past_lock, place_inside}
 use Rattle.store_core.proofs.Eight.{eight}
+use Rattle.store_core.proofs.RecallsHold.{start_recalls}
 use Rattle.store_core.proofs.Runs.{starts}
 use Rattle.node_rows.specs.declared.view.NodeView.{NodeView}
 use Rattle.node_rows.specs.Shown.{lock_of, first_view, one_made, next_seat, store_at, Shows}
 use Rattle.node_rows.specs.declared.view.JoinedSeat.{JoinedSeat}
+use Rattle.node_rows.specs.Crowding.{Crowds, crowd_at}
+use Rattle.node_rows.specs.CrowdsKept.{crowds_start, crowd_same, crowd_end}
 use Rattle.node_rows.specs.Joining.{spent_view, seats_in, AreApart, IsSpent, Gathers, with_views, ShowsJoined}
 use Rattle.node_rows.specs.Gathering.{not_spent, known_at, step_gathers}
 use Rattle.store_core.specs.Machine.{Each}
@@ -32,7 +38,7 @@ use Rattle.node_rows.specs.Locking.{store_here, store_set, put_again}
 use Rattle.atomic_table.specs.Seated.{TableId}
 use Rattle.atomic_table.specs.declared.shared.Seat.{Seat}
 use Rattle.node_rows.specs.Passes.{IsPass, IsOut}
-use Rattle.node_rows.specs.Opening.{MaySize, UpTo, IsNew}
+use Rattle.node_rows.specs.Opening.{UpTo, IsNew}
 
 zero_at : (n k : ℕ) → ◌≡◌ {A = ℕ} (get_or (replicate n 0) k 0) 0
 zero_at zero k = refl
@@ -75,6 +81,7 @@ up_to_none z words is long =
       in_use = ap (λ (w : Place → ℕ). w InUse) e;
       place = λ i l. absurd (omega arith);
       bucket = λ q. ap (λ (w : Place → ℕ). w (Bucket q)) e ∙ none (Bucket q);
+      count_words = λ r. ap (λ (w : Place → ℕ). w (RowWord r 1)) e ∙ none (RowWord r 1);
       root_counts = λ j. ap (λ (w : Place → ℕ). w (RootCount j)) e ∙ none (RootCount j);
       roots = λ j k. ap (λ (w : Place → ℕ). w (Root j k)) e ∙ none (Root j k);
     }
@@ -92,6 +99,7 @@ up_to_next z words k h there =
       in_use = ap (λ (w : Place → ℕ). w InUse) e ∙ h.in_use;
       place = λ i l. ap (λ (w : Place → ℕ). w (FreePlace i)) e ∙ choose (λ (n : ℕ). n ≡ i) (eqb i k) k (shown z words (FreePlace i)) (λ t. sym (eqb_is i k t)) (λ f. let ne = eqb_not i k f in h.place i (let d : i ≢ k = ne in omega arith));
       bucket = λ q. ap (λ (w : Place → ℕ). w (Bucket q)) e ∙ h.bucket q;
+      count_words = λ r. ap (λ (w : Place → ℕ). w (RowWord r 1)) e ∙ h.count_words r;
       root_counts = λ j. ap (λ (w : Place → ℕ). w (RootCount j)) e ∙ h.root_counts j;
       roots = λ j i. ap (λ (w : Place → ℕ). w (Root j i)) e ∙ h.roots j i;
     }
@@ -99,6 +107,10 @@ up_to_next z words k h there =
 first_at : (z : Sizes) (j : ℕ) → store_at z (first_view z ∷ []) j ≡ core.newcomer z
 first_at z zero = refl
 first_at z (suc j) = refl
+
+first_crowd : (z : Sizes) (j : ℕ) → crowd_at (first_view z ∷ []) j ≡ []
+first_crowd z zero = refl
+first_crowd z (suc j) = refl
 
 only_first : (z : Sizes) (P : ℕ → NodeView → Type 0) → P 0 (first_view z) → (i : ℕ) (v : NodeView) → get_elem? (first_view z ∷ []) i ≡ some v → P i v
 only_first z P h zero v e = subst (P 0) (some-injective _ _ e) h
@@ -114,7 +126,7 @@ opens_node z words h sizes =
       lock = lock_opens lock_of z.seats words (first_view z) refl sizes.seats.0 (let a = past_lock z Base in let b = place_inside z Base refl in let l = h.long in omega arith) h.zeros;
       wide = let l = h.long in omega arith;
       holds = subst (λ (f : ℕ → View). StoreHolds z (record { lock = at_start z.seats; words = shown z words; view = f })) (sym (fun_ext (first_at z)))
-          (eight z (runs.at_start z (shown z words)) (starts z (shown z words) (sizes_are z sizes) record { base = h.base; count = h.count; claim = h.claim; in_use = h.in_use; place = h.place; bucket = h.bucket; root_count = h.root_counts; root = λ j k _. h.roots j k }));
+          (eight z (runs.at_start z (shown z words)) (starts z (shown z words) (sizes_are z sizes) record { base = h.base; count = h.count; claim = h.claim; in_use = h.in_use; place = h.place; bucket = h.bucket; count_word = h.count_words; root_count = h.root_counts; root = λ j k _. h.roots j k }));
       sized = only_first z (λ i v. v.sizes ≡ z) refl;
       some_made = omega arith;
       count = λ v e. ap (λ (u : NodeView). u.made) (sym (some-injective _ _ e));
@@ -136,6 +148,11 @@ first_of_more : (vs : List NodeView) (w : NodeView) → 0 < length vs → get_el
 first_of_more [] w l = absurd (omega arith)
 first_of_more (x ∷ xs) w l = refl
 
+-- a seat more knows nothing of the store yet
+more_same : (z : Sizes) (vs : List NodeView) (v : NodeView) → 0 < length vs → v.sizes ≡ z → get_elem? vs 0 ≡ some v → store_at z (set vs 0 (one_made v) ++ next_seat v ∷ []) ≡ store_at z vs
+more_same z vs v some_made sizes at = fun_ext (λ j. store_end z (set vs 0 (one_made v)) (next_seat v) j (ap core.newcomer sizes)
+    ∙ ap (λ (f : ℕ → View). f j) (store_set z vs 0 (one_made v) some_made ∙ put_again (store_at z vs) 0 v.store (store_here z vs 0 v at)))
+
 pub splits_node : (z : Sizes) (v : NodeView) → v.made < z.seats → v.sizes ≡ z → Splits (Shows z) 0 v (one_made v) (next_seat v)
 unfolding lock_splits
 splits_node z v room sizes s rule at =
@@ -144,7 +161,7 @@ splits_node z v room sizes s rule at =
     let some_made = rule.some_made in
     let kept = length-set vs 0 w in
     let long : length (set vs 0 w ++ u ∷ []) ≡ length vs + 1 = length-append (set vs 0 w) (u ∷ []) ∙ ap (λ (k : ℕ). k + 1) kept in
-    let same : store_at z (set vs 0 w ++ u ∷ []) ≡ store_at z vs = fun_ext (λ j. store_end z (set vs 0 w) u j (ap core.newcomer sizes) ∙ ap (λ (f : ℕ → View). f j) (store_set z vs 0 w some_made ∙ put_again (store_at z vs) 0 v.store (store_here z vs 0 v at))) in
+    let same : store_at z (set vs 0 w ++ u ∷ []) ≡ store_at z vs = more_same z vs v some_made sizes at in
     let each : (P : ℕ → NodeView → Type 0) → P 0 w → P (length vs) u → ((j : ℕ) (x : NodeView) → get_elem? vs j ≡ some x → P j x) → (j : ℕ) (x : NodeView) → get_elem? (set vs 0 w ++ u ∷ []) j ≡ some x → P j x =
     (λ P a b c j x e. ⊎_elim
     (λ old. ⊎_elim
@@ -174,10 +191,12 @@ opens_joined z words h sizes = let shows = opens_node z words h sizes in record 
   };
   lock = shows.lock;
   shows = shows;
+  recalls = subst (Recalls z) (sym (fun_ext (first_at z))) (start_recalls z (λ _. 0));
+  crowds = subst (λ (p : (ℕ → View) × (ℕ → List Tree)). Crowds z p.0 p.1) (λ q. (sym (fun_ext (first_at z)) q, sym (fun_ext (first_crowd z)) q)) (crowds_start z);
 }
 
 more_kept : (known views : List NodeView) (k v : NodeView) (x : JoinedSeat) → IsSpent known views x → IsSpent (known ++ k ∷ []) (views ++ v ∷ []) x
-more_kept known views k v x s = record { view = s.view; knew = at_longer known (k ∷ []) x.seat s.view s.knew; store = s.store; spent = at_longer views (v ∷ []) x.seat spent_view s.spent }
+more_kept known views k v x s = record { view = s.view; knew = at_longer known (k ∷ []) x.seat s.view s.knew; store = s.store; crowd = s.crowd; spent = at_longer views (v ∷ []) x.seat spent_view s.spent }
 
 -- a seat more, into which none was joined
 more_gathers : (known views : List NodeView) (u : NodeView) → u.joined ≡ [] → Gathers known views → Gathers (known ++ u ∷ []) (views ++ u ∷ [])
@@ -199,6 +218,15 @@ more_gathers known views u none g =
           (at_end views u x j e);
     }
 
+-- and its seats have the same crowds
+split_crowds : (z : Sizes) (vs : List NodeView) (v w u : NodeView) → get_elem? vs 0 ≡ some v → 0 < length vs → w.store ≡ v.store → w.crowd ≡ v.crowd → u.store ≡ core.newcomer z → u.crowd ≡ []
+    → Crowds z (store_at z vs) (crowd_at vs) → Crowds z (store_at z (set vs 0 w ++ u ∷ [])) (crowd_at (set vs 0 w ++ u ∷ []))
+split_crowds z vs v w u at some_made store crowd new none was =
+    let views : store_at z (set vs 0 w ++ u ∷ []) ≡ store_at z vs = fun_ext (λ j. store_end z (set vs 0 w) u j new)
+    ∙ (store_set z vs 0 w some_made ∙ put_again (store_at z vs) 0 w.store (store_here z vs 0 v at ∙ sym store)) in
+    let crowds : crowd_at (set vs 0 w ++ u ∷ []) ≡ crowd_at vs = fun_ext (λ j. crowd_end (set vs 0 w) u j none) ∙ crowd_same vs 0 v w at some_made crowd in
+    subst (λ (p : (ℕ → View) × (ℕ → List Tree)). Crowds z p.0 p.1) (λ q. (sym views q, sym crowds q)) was
+
 pub splits_joined : (z : Sizes) (v : NodeView) → v.lock.number ≡ Some 0 → v.made < z.seats → v.sizes ≡ z → Splits (ShowsJoined z) 0 v (one_made v) (next_seat v)
 unfolding lock_splits
 splits_joined z v number room sizes s rule at =
@@ -212,11 +240,13 @@ splits_joined z v number room sizes s rule at =
       joins = more_gathers (set rule.known 0 w) (set s.views 0 w) u refl (step_gathers rule.known s.views rule.joins 0 v at lives w refl);
       lock = lock_splits lock_of z.seats s 0 v w u rule.lock at refl (ap newcomer count) few;
       shows = splits_node z v room sizes (with_views s rule.known) rule.shows known;
+      recalls = subst (Recalls z) (sym (more_same z rule.known v (let some_made = rule.shows.some_made in some_made) sizes known)) rule.recalls;
+      crowds = split_crowds z rule.known v w u known rule.shows.some_made refl refl (ap core.newcomer sizes) refl rule.crowds;
     }
 
 -- a new pass is out
 pub new_ready : (t : TableId) (z : Sizes) (j : ℕ) (seat : Seat (Unit {0}) NodeView) (number seats : ℕ) → IsNew t z j seat number seats → IsPass t z seat seats × IsOut seat.me.0
 new_ready t z j seat number seats new = (
   record { table = new.table; sizes = ap (λ (v : NodeView). v.sizes) new.view; count = new.count; none = new.none },
-  subst IsOut (sym new.view) record { phase = refl; away = record { stay = refl; call = refl } },
+  subst IsOut (sym new.view) record { phase = refl; away = record { stay = refl; call = refl }; roots = refl },
 )

@@ -4,6 +4,7 @@ use mathlib.Core.Option.{some}
 use lib.ListN.{get_elem?}
 use Rattle.atomic_table.specs.Table.{State, Me, keeps, stepped, Allows}
 use Rattle.atomic_table.proofs.Lists.{set_here}
+use Rattle.term_model.specs.Tree.{Tree}
 use Rattle.busy_forbidden.proofs.Framing.{lock_left}
 use Rattle.busy_forbidden.proofs.Goes.{same_place}
 use Rattle.store_core.specs.declared.view.Sizes.{Sizes}
@@ -16,7 +17,7 @@ use Rattle.store_core.specs.declared.view.Call.TheVariants.{Idle, Comparing, Pas
 use Rattle.store_core.specs.declared.view.Stay.TheVariants.{Away, Ready}
 use Rattle.store_core.specs.Words.{write, put}
 use Rattle.store_core.specs.Machine as core
-use Rattle.store_core.specs.Machine.{Action, acted, with_call, IsCreation, LoadBase, LoadInUse, Begin, Go, LoadRoot, StoreRoot, StoreCount, ReadWord, ReadArgument, Each}
+use Rattle.store_core.specs.Machine.{Action, acted, with_call, IsCreation, LoadBase, LoadInUse, Begin, Go, LoadRoot, StoreRoot, StoreCount, ReadWord, ReadArgument, StoreClaim, Each}
 use Rattle.store_core.specs.Seats.{looked, index, drawn, index_in, wanted, IsWalk, Walked, IsKnown, SeatHolds}
 use Rattle.store_core.specs.Invariant.{Holds, listed, names_of}
 use Rattle.store_core.specs.Reads.{IsUndisturbed}
@@ -24,8 +25,10 @@ use Rattle.history_core.specs.declared.entry.Entry.{Entry}
 use Rattle.history_core.specs.TermSet.{Names, Lacks, tree_over}
 use Rattle.history_core.specs.Chronicle.{chronicle, set_of}
 use Rattle.store_core.specs.Runs.{Inductive}
+use Rattle.store_core.specs.Recalls.{Recalls}
 use Rattle.store_core.specs.StoreHolds.{StoreHolds}
-use Rattle.store_core.specs.Steps.{Permits, after, is_collecting, head_read, IsAtRest}
+use Rattle.store_core.specs.Steps.{InPlace, Permits, after, is_collecting, head_read, IsAtRest}
+use Rattle.store_core.specs.Laws.{held_by}
 use Rattle.store_core.specs.Shown.{shown, in_table, index_of}
 use Rattle.store_core.proofs.Basics.{where_map, where_at, each_map}
 use Rattle.store_core.proofs.Shown.{shown_written, past_lock, place_inside}
@@ -37,12 +40,15 @@ use Rattle.store_core.specs.Calls.{bucket}
 use Rattle.store_core.proofs.Short.{chain_few, walks_few, walked_few}
 use Rattle.node_rows.specs.declared.view.NodeView.{NodeView}
 use Rattle.node_rows.specs.Shown.{lock_of, store_at, state_of, Shows}
+use Rattle.node_rows.specs.Recalling.{step_recalls}
+use Rattle.node_rows.specs.Collecting.{HasStore}
+use Rattle.node_rows.specs.Crowding.{kept_in, IsSwept, pairs_of, IsCrowd, Crowds, crowd_at, swept, HasCrowd}
+use Rattle.node_rows.specs.CrowdsKept.{IsNoEnd, crowds_stay, crowd_here, crowd_set, crowd_again}
 use Rattle.node_rows.specs.Joining.{with_views, ShowsJoined}
 use Rattle.node_rows.specs.Gathering.{not_spent, known_at, step_gathers}
 use Rattle.node_rows.specs.Locking.{keeps_store, store_here, store_set, inside, below, sized_set, some_set, count_set}
 use Rattle.node_rows.specs.Knowing.{held_alone, IsAbsent, EndsAbsent}
-use Rattle.node_rows.proofs.Knowing.{word_once, head_word, tree_once, names_lack}
-use Rattle.node_rows.specs.Collecting.{HasStore}
+use Rattle.node_rows.proofs.Knowing.{word_stands, word_once, head_word, tree_once, names_lack}
 use Rattle.node_rows.specs.Steps.{with_store, place_of, written_by, moved_by, act, Acts, Stands, Few, Known}
 
 pub acts : (z : Sizes) (s : core.State) (i : ℕ) (x : core.Step) → Acts x → after z s i x ≡ acted s.words s.view i s.lock (act i x (s.view i))
@@ -56,6 +62,10 @@ acts z s i (StoreCount n) h = refl
 acts z s i (ReadWord r k) h = refl
 acts z s i (ReadArgument r k) h = refl
 acts z s i x h = absurd h
+
+acts_no_end : (x : core.Step) → Acts x → IsNoEnd x
+acts_no_end StoreClaim h = absurd h
+acts_no_end x h = tt
 
 -- the drawn row has the drawn index
 index_drawn : (x : Call) (d : ℕ × ℕ) → drawn x ≡ Some d → index x ≡ Some d.0
@@ -118,13 +128,13 @@ protected_below N w i d rs n below is few wide = each_taken (λ r. r < N) rs n (
 
 -- the words of a seat in an access, with nothing under way of a collection
 module _ (z : Sizes) (s : core.State) (i : ℕ) (store : Inductive z s) where
-  quiet_in : (s.view i).stay ≢ Away → is_collecting (s.view i).call ≡ false → Holds z s store.core.meaning
+  pub quiet_in : (s.view i).stay ≢ Away → is_collecting (s.view i).call ≡ false → Holds z s store.core.meaning
   quiet_in stays calm = quiet z s store.core i (is_in s.lock i (s.view i).stay (store.core.holds.lock.access i) stays) calm
 
-  rest_stays : IsAtRest (s.view i) → (s.view i).stay ≢ Away
+  pub rest_stays : IsAtRest (s.view i) → (s.view i).stay ≢ Away
   rest_stays rest e = let no : Ready ≡ Away = sym rest.stay ∙ e in grind arith
 
-  knows : (rest : IsAtRest (s.view i)) → Each (IsKnown s.words store.core.meaning) (s.view i).knows
+  pub knows : (rest : IsAtRest (s.view i)) → Each (IsKnown s.words store.core.meaning) (s.view i).knows
   knows rest = let q = quiet_in (rest_stays rest) (ap is_collecting rest.call) in (q.seats i).protects.knows ((q.seats i).numbers.base (rest_stays rest))
 
   -- the only seat has read a chain to its end: no name has the tree
@@ -190,6 +200,7 @@ known_of z s i there store =
           (λ j l. q.chains.below (s.words (Root i j)) ((q.seats i).protects.roots j (omega arith)).live)
           own.root few (omega arith);
       words = λ rest. word_once z s.words k.meaning (quiet_in z s i store (rest_stays z s i store rest) (ap is_collecting rest.call)).chains (s.view i).knows (knows z s i store rest);
+      counts = λ rest r n e. let stands = word_stands s.words k.meaning r 1 n (s.view i).knows (knows z s i store rest) e in let value = stands.value_is in let few = store.remembers.counts r in omega arith;
       heads = λ rest. head_word z s.words k.meaning (quiet_in z s i store (rest_stays z s i store rest) (ap is_collecting rest.call)).chains (s.view i).knows (knows z s i store rest);
       trees = λ rest. tree_once z s.words k.meaning (quiet_in z s i store (rest_stays z s i store rest) (ap is_collecting rest.call)).chains (s.view i).knows (knows z s i store rest);
       absent = λ one. ends_absent z s i store there one x refl;
@@ -209,7 +220,7 @@ shown_at z words p e = ap (λ (b : Bool). cond b (get_or words (index_of z p) 0)
 abbrev pub IsAction : Sizes → core.State → ℕ → core.Step → (View → Action) → Type 0
 IsAction z t i x a = after z t i x ≡ acted t.words t.view i t.lock (a (t.view i))
 
-module _ (z : Sizes) (s : State (Unit {0}) NodeView) (i : ℕ) (v : NodeView) (rule : Shows z s) (at : get_elem? s.views i ≡ some v) (x : core.Step) (a : View → Action) (is : IsAction z (state_of z s.words s.views rule.lock.state) i x a) (there : in_table z (a v.store).place ≡ true) where
+module _ (z : Sizes) (s : State (Unit {0}) NodeView) (i : ℕ) (v : NodeView) (rule : Shows z s) (at : get_elem? s.views i ≡ some v) (x : core.Step) (a : View → Action) (is : IsAction z (state_of z s.words s.views rule.lock.state) i x a) (there : in_table z (a v.store).place ≡ true) (crowd : List Tree) where
   abbrev p : Place
   p = (a v.store).place
 
@@ -221,7 +232,7 @@ module _ (z : Sizes) (s : State (Unit {0}) NodeView) (i : ℕ) (v : NodeView) (r
   n = get_or s.words k 0
 
   abbrev w : NodeView
-  w = with_store v ((a v.store).moved n)
+  w = swept v ((a v.store).moved n) crowd
 
   abbrev t : core.State
   t = state_of z s.words s.views rule.lock.state
@@ -249,6 +260,12 @@ module _ (z : Sizes) (s : State (Unit {0}) NodeView) (i : ℕ) (v : NodeView) (r
         count = count_set z s i v rule at w refl refl;
       }
 
+  -- and what the entries tell is so after it
+  pub action_recalls : Permits z t i x → (y : ℕ) → y ≡ (a v.store).written n → Recalls z (store_at z s.views) → Recalls z (store_at z (set s.views i w))
+  action_recalls ok y is_y all =
+      step_recalls z s.words s.views rule.lock.state i x (set s.words k y) (set s.views i w) rule.lock.state rule.holds
+      record { in_place = record { present = below z s i v rule at; permitted = ok }; after = action_after y is_y } all
+
 -- What a caller owes for a step of the store on the word k, which is this action: that it is in place by the own view, whatever
 -- the words are, and that what it writes is what the step writes.
 pub record OwesAction (z : Sizes) (v : NodeView) (i : ℕ) (x : core.Step) (a : View → Action) (k : ℕ) (f : ℕ → ℕ) : Type 0 where
@@ -258,49 +275,104 @@ pub record OwesAction (z : Sizes) (v : NodeView) (i : ℕ) (x : core.Step) (a : 
   pub permitted : (s : State (Unit {0}) NodeView) (rule : Shows z s) → get_elem? s.views i ≡ some v → Permits z (state_of z s.words s.views rule.lock.state) i x
   pub writes : (s : State (Unit {0}) NodeView) → Shows z s → get_elem? s.views i ≡ some v → f (get_or s.words (index_of z (a v.store).place) 0) ≡ (a v.store).written (get_or s.words (index_of z (a v.store).place) 0)
 
--- what such a step tells, and that there is a store in which the seat has its new view
+-- the seat's crowd after a step, in each store; with it the crowds are kept
+pub record OwesCrowd (z : Sizes) (v : NodeView) (i : ℕ) (x : core.Step) (crowd : core.State → List Tree) : Type 0 where
+  pub kept : (t : core.State) → StoreHolds z t → InPlace z t i x → (crowds : ℕ → List Tree) → crowds i ≡ v.crowd → Crowds z t.view crowds → Crowds z (after z t i x).view (put crowds i (crowd t))
+
+-- a step that isn't the last store of a collection leaves the crowd
+pub crowd_stays : (z : Sizes) (v : NodeView) (i : ℕ) (x : core.Step) → IsNoEnd x → OwesCrowd z v i x (λ _. v.crowd)
+crowd_stays z v i x is = record {
+  kept = λ t holds ok crowds own was. subst (Crowds z (after z t i x).view) (sym (crowd_again crowds i v.crowd own)) (crowds_stay z t i (inductive z t holds) ok.present crowds was x is ok);
+}
+
+-- What such a step tells: the new view with some crowd, and that there is a store in which the seat has this view and this crowd.
+abbrev pub TellsCrowd : (View → Action) → Me (Unit {0}) NodeView → ℕ → Me (Unit {0}) NodeView → Type 0
+TellsCrowd a me n me' = (me' ≡ (swept me.0 ((a me.0.store).moved n) me'.0.crowd, me.1)) × Known me.0.sizes me'.0.store × ((j : ℕ) → me.0.lock.number ≡ Some j → HasCrowd me.0.sizes j me'.0)
+
+-- or the new view with the same crowd, and that there is a store in which the seat has it
 abbrev pub TellsAction : (View → Action) → Me (Unit {0}) NodeView → ℕ → Me (Unit {0}) NodeView → Type 0
 TellsAction a me n me' = (me' ≡ (with_store me.0 ((a me.0.store).moved n), me.1)) × Known me.0.sizes me'.0.store × ((j : ℕ) → me.0.lock.number ≡ Some j → HasStore me.0.sizes j me'.0.store)
 
-pub action_allows : (z : Sizes) (slots id : ℕ) (me : Me (Unit {0}) NodeView) (i : ℕ) (x : core.Step) (a : View → Action) (k : ℕ) (f : ℕ → ℕ) → me.0.lock.number ≡ Some i → OwesAction z me.0 i x a k f
-    → Allows (ShowsJoined z) slots id me k f (TellsAction a me)
+pub store_stands : (z : Sizes) (i : ℕ) (v : NodeView) → HasCrowd z i v → HasStore z i v.store
+store_stands z i v h = record { store = h.store; holds = h.holds; own = h.own }
+
+-- by the rule a seat has its crowd
+abbrev pub crowd_stands : (z : Sizes) (s : State (Unit {0}) NodeView) (i : ℕ) (v : NodeView) (rule : Shows z s) → get_elem? s.views i ≡ some v → Crowds z (store_at z s.views) (crowd_at s.views) → HasCrowd z i v
+crowd_stands z s i v rule at crowds =
+    let l = below z s i v rule at in
+    let here = store_here z s.views i v at in
+    let mine = crowd_here s.views i v at in
+    record {
+      store = state_of z s.words s.views rule.lock.state;
+      holds = rule.holds;
+      own = here;
+      crowd = subst (λ (p : View × List Tree). IsCrowd (listed z.seats (λ j. (store_at z s.views j).entries)) i p.0.entries p.1) (λ q. (here q, mine q)) (crowds.each i l);
+      held = subst (λ (p : View × List Tree). IsSwept p.0 → held_by z (store_at z s.views) ≡ pairs_of (kept_in p.0.entries) p.1) (λ q. (here q, mine q)) (crowds.held i l);
+    }
+
+-- the crowds after a step
+crowds_after : (z : Sizes) (s : State (Unit {0}) NodeView) (i : ℕ) (v : NodeView) (rule : Shows z s) → get_elem? s.views i ≡ some v → Crowds z (store_at z s.views) (crowd_at s.views) → (x : core.Step) (w : NodeView) (words : List ℕ)
+    → state_of z words (set s.views i w) rule.lock.state ≡ after z (state_of z s.words s.views rule.lock.state) i x → Permits z (state_of z s.words s.views rule.lock.state) i x
+    → (crowd : core.State → List Tree) → w.crowd ≡ crowd (state_of z s.words s.views rule.lock.state) → OwesCrowd z v i x crowd → Crowds z (store_at z (set s.views i w)) (crowd_at (set s.views i w))
+crowds_after z s i v rule at crowds x w words is ok crowd own owes =
+    let t = state_of z s.words s.views rule.lock.state in
+    let new = owes.kept t rule.holds record { present = below z s i v rule at; permitted = ok } (crowd_at s.views) (crowd_here s.views i v at) crowds in
+    subst (λ (p : (ℕ → View) × (ℕ → List Tree)). Crowds z p.0 p.1) (λ q. (
+      sym (ap (λ (u : core.State). u.view) is) q,
+      sym (crowd_set s.views i w (inside z s i v rule at) ∙ ap (put (crowd_at s.views) i) own) q,
+    )) new
+
+pub crowd_allows : (z : Sizes) (slots id : ℕ) (me : Me (Unit {0}) NodeView) (i : ℕ) (x : core.Step) (a : View → Action) (k : ℕ) (f : ℕ → ℕ) → me.0.lock.number ≡ Some i → OwesAction z me.0 i x a k f
+    → (crowd : core.State → List Tree) → OwesCrowd z me.0 i x crowd → (tells : ℕ → Me (Unit {0}) NodeView → Type 0)
+    → ((n : ℕ) (t : core.State) → TellsCrowd a me n (swept me.0 ((a me.0.store).moved n) (crowd t), me.1) → tells n (swept me.0 ((a me.0.store).moved n) (crowd t), me.1))
+    → Allows (ShowsJoined z) slots id me k f tells
 unfolding lock_left
-action_allows z slots id me i x a k f is o = subst (λ (q : ℕ). Allows (ShowsJoined z) slots id me q f (TellsAction a me)) (sym o.word)
+crowd_allows z slots id me i x a k f is o crowd owes tells tell = subst (λ (q : ℕ). Allows (ShowsJoined z) slots id me q f tells) (sym o.word)
     (λ s rule _ at0 _.
     let lives = not_spent me.0 i is in
     let t : State (Unit {0}) NodeView = with_views s rule.known in
     let known_here : get_elem? t.views id ≡ some me.0 = known_at rule.known s.views rule.joins id me.0 at0 lives in
     let same : i ≡ id = same_place t id i me.0 rule.shows.lock known_here is in
     let at : get_elem? t.views i ≡ some me.0 = subst (λ (q : ℕ). get_elem? t.views q ≡ some me.0) (sym same) known_here in
+    let was : core.State = state_of z t.words t.views rule.shows.lock.state in
+    let c : List Tree = crowd was in
     let q : ℕ = index_of z (a me.0.store).place in
     let n : ℕ = get_or s.words q 0 in
-    let w : NodeView = with_store me.0 ((a me.0.store).moved n) in
-    let new : Shows z (stepped t q (f n) i me.1 w keeps) = action_keeps z t i me.0 rule.shows at x a (o.acts t rule.shows at) o.there (o.permitted t rule.shows at) (f n) (o.writes t rule.shows at) in
+    let w : NodeView = swept me.0 ((a me.0.store).moved n) c in
+    let acts = o.acts t rule.shows at in
+    let ok = o.permitted t rule.shows at in
+    let writes = o.writes t rule.shows at in
+    let new : Shows z (stepped t q (f n) i me.1 w keeps) = action_keeps z t i me.0 rule.shows at x a acts o.there c ok (f n) writes in
     let there : Shows z (stepped t q (f n) id me.1 w keeps) = subst (λ (j : ℕ). Shows z (stepped t q (f n) j me.1 w keeps)) same new in
     let here : get_elem? (set t.views i w) i ≡ some w = set_here t.views i w (inside z t i me.0 rule.shows at) in
-    let tells = known z (stepped t q (f n) i me.1 w keeps) i w new here in
-    let stands : HasStore z i w.store = record {
-      store = state_of z (set t.words q (f n)) (set t.views i w) new.lock.state;
-      holds = new.holds;
-      own = store_here z (set t.views i w) i w here;
-    } in
+    let crowds : Crowds z (store_at z (set t.views i w)) (crowd_at (set t.views i w)) =
+    crowds_after z t i me.0 rule.shows at rule.crowds x w (set t.words q (f n)) (action_after z t i me.0 rule.shows at x a acts o.there c (f n) writes) ok crowd refl owes in
+    let stands : HasCrowd z i w = crowd_stands z (stepped t q (f n) i me.1 w keeps) i w new here crowds in
     let whole : ShowsJoined z (stepped s q (f n) id me.1 w keeps) = record {
       known = set rule.known id w;
       joins = step_gathers rule.known s.views rule.joins id me.0 at0 lives w refl;
       lock = lock_left lock_of z.seats s id q (f n) me.0 w rule.lock at0 refl (past_lock z (a me.0.store).place);
       shows = there;
+      recalls = subst (λ (j : ℕ). Recalls z (store_at z (set rule.known j w))) same (action_recalls z t i me.0 rule.shows at x a acts o.there c ok (f n) writes rule.recalls);
+      crowds = subst (λ (j : ℕ). Crowds z (store_at z (set t.views j w)) (crowd_at (set t.views j w))) same crowds;
     } in
     let sizes : z ≡ me.0.sizes = sym (rule.shows.sized i me.0 at) in (
       w,
       keeps,
       tt,
       whole,
-      (
+      tell n was (
         refl,
-        subst (λ (y : Sizes). Known y w.store) sizes tells,
-        (λ j e. subst (λ (y : Sizes × ℕ). HasStore y.0 y.1 w.store) (λ c. (sizes c, some_one (sym is ∙ e) c)) stands),
+        subst (λ (y : Sizes). Known y w.store) sizes (known z (stepped t q (f n) i me.1 w keeps) i w new here),
+        (λ j e. subst (λ (y : Sizes × ℕ). HasCrowd y.0 y.1 w) (λ c. (sizes c, some_one (sym is ∙ e) c)) stands),
       ),
     ))
+
+-- a step that isn't the last store of a collection
+pub action_allows : (z : Sizes) (slots id : ℕ) (me : Me (Unit {0}) NodeView) (i : ℕ) (x : core.Step) (a : View → Action) (k : ℕ) (f : ℕ → ℕ) → me.0.lock.number ≡ Some i → OwesAction z me.0 i x a k f → IsNoEnd x
+    → Allows (ShowsJoined z) slots id me k f (TellsAction a me)
+action_allows z slots id me i x a k f is o no_end = crowd_allows z slots id me i x a k f is o (λ _. me.0.crowd) (crowd_stays z me.0 i x no_end) (TellsAction a me)
+    (λ n t tells. (tells.0, tells.1, λ j e. store_stands me.0.sizes j (with_store me.0 ((a me.0.store).moved n)) (tells.2 j e)))
 
 -- What a caller owes for a step on the word k: that it is in place by the own view, whatever the words are, and that what it
 -- writes is what the step writes.
@@ -324,5 +396,5 @@ own_allows z slots id me i x k f is o s rule homes at small =
       word = o.word;
       permitted = o.permitted;
       writes = o.writes;
-    } s rule homes at small in
+    } (acts_no_end x o.is) s rule homes at small in
     (t.0, t.1, t.2, t.3, (t.4.0, t.4.1))

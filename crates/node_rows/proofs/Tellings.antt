@@ -15,15 +15,13 @@ use Rattle.node_rows.specs.Steps.{with_store}
 use Rattle.store_core.specs.Steps.{newcomer}
 use Rattle.node_rows.specs.declared.store.Last.{Last}
 use Rattle.node_rows.specs.declared.store.Last.TheVariants.{Nothing, Make, Find, Roots, Collect}
-use Rattle.node_rows.specs.Told.{told_by, last_from, last_in, kept_after, kept_from, kept_in, IsTold}
+use Rattle.node_rows.specs.Crowding.{kept_after, kept_in}
+use Rattle.node_rows.specs.CrowdsKept.{kept_snoc}
+use Rattle.node_rows.specs.Told.{told_by, last_from, last_in, IsTold}
 
 last_snoc : (x : Last) (es : List Entry) (e : Entry) → last_from x (es ++ e ∷ []) ≡ told_by e
 last_snoc x [] e = refl
 last_snoc x (d ∷ es) e = last_snoc (told_by d) es e
-
-kept_snoc : (ns : List ℕ) (es : List Entry) (e : Entry) → kept_from ns (es ++ e ∷ []) ≡ kept_after (kept_from ns es) e
-kept_snoc ns [] e = refl
-kept_snoc ns (d ∷ es) e = kept_snoc (kept_after ns d) es e
 
 -- a base and the number of buckets in use were loaded
 pub told_arrived : (v : View) (rows seen : ℕ) (last : Last) (marks : List Bool) (base in_use : ℕ) → IsTold v rows seen last marks → IsTold (ready (based v base) in_use) rows (max seen (pred base)) last marks

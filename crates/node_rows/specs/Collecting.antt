@@ -1,9 +1,12 @@
 -- A collection's steps: the own view after each, and what the own view has to say before it.
-use Rattle.std.specs.Prelude.{◌≡◌, ℕ, pred, ◌<◌, true, Option, Some, None, [], ◌∷◌, ◌++◌}
+use Rattle.std.specs.Prelude.{◌≡◌, ℕ, pred, ◌<◌, true, Option, Some, None, List, [], ◌∷◌, ◌++◌, length}
 use Rattle.atomic_table.specs.Table.{Me, Step}
+use Rattle.term_model.specs.Tree.{Tree, distinct}
+use Rattle.history_core.specs.TermSet.{Holds}
 use Rattle.busy_forbidden.specs.Exclusive.{IsGranted}
 use Rattle.store_core.specs.declared.view.Sizes.{Sizes}
 use Rattle.store_core.specs.declared.view.View.{View}
+use Rattle.store_core.specs.declared.view.KnownWord.{KnownWord}
 use Rattle.store_core.specs.declared.view.Call.TheVariants.{Storing}
 use Rattle.store_core.specs.declared.view.Place.{Place}
 use Rattle.store_core.specs.declared.view.Place.TheVariants.{Base, FreeCount, Claim, InUse, FreePlace}
@@ -16,6 +19,8 @@ use Rattle.store_core.specs.StoreHolds.{StoreHolds}
 use Rattle.store_core.specs.ByView as by_view
 use Rattle.store_core.specs.ByView.{seen_at}
 use Rattle.node_rows.specs.declared.view.NodeView.{NodeView}
+use Rattle.node_rows.specs.Crowding.{pairs_of, swept, HasCrowd}
+use Rattle.node_rows.specs.Knowing.{KnowsTree}
 use Rattle.node_rows.specs.Steps.{with_store, Known}
 
 -- the view after a collection has loaded n from p
@@ -77,3 +82,17 @@ abbrev pub collects_on : core.Step → Step (Unit {0}) → Me (Unit {0}) NodeVie
 collects_on x st me n me' =
     (me' ≡ (with_store me.0 ((collects me.0.sizes x me.0.store).moved n), me.1)) × Known me.0.sizes me'.0.store
     × ((i : ℕ) → me.0.lock.number ≡ Some i → HasStore me.0.sizes i me'.0.store)
+
+-- What the last store of a collection tells: the own view after it, with some crowd, and that there is a store in which the seat has
+-- this view and this crowd.
+abbrev pub claims_on : Step (Unit {0}) → Me (Unit {0}) NodeView → ℕ → Me (Unit {0}) NodeView → Type 0
+claims_on st me n me' =
+    (me' ≡ (swept me.0 (ended_by me.0.sizes me.0.store) me'.0.crowd, me.1)) × Known me.0.sizes me'.0.store
+    × ((i : ℕ) → me.0.lock.number ≡ Some i → HasCrowd me.0.sizes i me'.0)
+
+-- The crowd of a pass whose collection kept these names: a tree for each of them, all different; and the tree that the pass knows of a
+-- row is the tree of that name.
+pub record IsKept (names : List ℕ) (ks : List KnownWord) (crowd : List Tree) : Type 0 where
+  pub many : length crowd ≡ length names
+  pub differ : distinct crowd ≡ length crowd
+  pub trees : (r : ℕ) (t : Tree) → KnowsTree ks r t → Holds (pairs_of names crowd) r t

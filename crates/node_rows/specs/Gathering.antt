@@ -39,7 +39,7 @@ module _ (known views : List NodeView) (g : Gathers known views) (i : ℕ) (v : 
   module _ (w : NodeView) where
     spent_kept : (x : JoinedSeat) → IsSpent known views x → IsSpent (set known i w) (set views i w) x
     spent_kept x s = let ne = spent_else x.seat s.spent in
-        record { view = s.view; knew = set_else known i x.seat w ne ∙ s.knew; store = s.store; spent = set_else views i x.seat w ne ∙ s.spent }
+        record { view = s.view; knew = set_else known i x.seat w ne ∙ s.knew; store = s.store; crowd = s.crowd; spent = set_else views i x.seat w ne ∙ s.spent }
 
     pub set_gathers : Each (IsSpent known views) w.joined → AreApart (seats_in w.joined) → Gathers (set known i w) (set views i w)
     set_gathers held apart = record {
@@ -63,7 +63,7 @@ module _ (known views : List NodeView) (g : Gathers known views) (i : ℕ) (v : 
     step_gathers same = set_gathers (subst (Each (IsSpent known views)) (sym same) (g.held i v at)) (subst (λ xs. AreApart (seats_in xs)) (sym same) (g.apart i v at))
 
   spend_kept : (x : JoinedSeat) → IsSpent known views x → IsSpent known (set views i spent_view) x
-  spend_kept x s = record { view = s.view; knew = s.knew; store = s.store; spent = set_else views i x.seat spent_view (spent_else x.seat s.spent) ∙ s.spent }
+  spend_kept x s = record { view = s.view; knew = s.knew; store = s.store; crowd = s.crowd; spent = set_else views i x.seat spent_view (spent_else x.seat s.spent) ∙ s.spent }
 
   -- seat i is spent
   pub spends : Gathers known (set views i spent_view)
@@ -100,6 +100,7 @@ join_gathers known views g i v at lives other w at_other lives_other number ne =
       view = w;
       knew = subst (λ (q : ℕ). get_elem? known q ≡ some w) (sym number) (known_at known views g other w at_other lives_other);
       store = refl;
+      crowd = refl;
       spent = subst (λ (q : ℕ). get_elem? views1 q ≡ some spent_view) (sym number) (set_here views other spent_view (at_inside views other w at_other));
     } in
     let apart : Each (λ y. number_in w.lock.number ≢ y) (seats_in v.joined) = subst (λ (q : ℕ). Each (λ y. q ≢ y) (seats_in v.joined)) (sym number) (apart_else known views g other w at_other lives_other v.joined (g.held i v at)) in

@@ -11,25 +11,27 @@ use Rattle.store_core.specs.declared.view.Sizes.{Sizes}
 use Rattle.store_core.specs.Machine.{Each}
 use Rattle.store_core.specs.Invariant.{listed, span}
 use Rattle.store_core.specs.Bases.{collect_numbers, StaysBelow, IsBase}
+use Rattle.store_core.specs.Recalls.{EntriesRecalled, Recalls}
 use Rattle.store_core.specs.Steps.{newcomer}
 use Rattle.node_rows.specs.declared.view.JoinedSeat.{JoinedSeat}
 use Rattle.node_rows.specs.declared.view.NodeView.{NodeView}
-use Rattle.node_rows.specs.Shown.{Shows, lock_of}
+use Rattle.node_rows.specs.Shown.{Shows, lock_of, store_at}
+use Rattle.node_rows.specs.Crowding.{IsCrowd, Crowds, crowd_at}
 
 abbrev pub no_sizes : Sizes
 no_sizes = record { rows = 0; buckets = 0; start = 0; seats = 0; depth = 0; arity = 0; first = 0 }
 
 -- the view of a seat that was joined into another
 abbrev pub spent_view : NodeView
-spent_view = record { lock = nobody; made = 0; sizes = no_sizes; store = newcomer no_sizes; joined = [] }
+spent_view = record { lock = nobody; made = 0; sizes = no_sizes; store = newcomer no_sizes; crowd = []; joined = [] }
 
 abbrev pub number_in : Option ℕ → ℕ
 number_in None = 0
 number_in (Some i) = i
 
--- a seat's number, and what it knows of the store
+-- a seat's number, what it knows of the store, and its crowd
 abbrev pub known_seat : NodeView → JoinedSeat
-known_seat v = record { seat = number_in v.lock.number; store = v.store }
+known_seat v = record { seat = number_in v.lock.number; store = v.store; crowd = v.crowd }
 
 -- the first view, once the seat of the second was joined into its seat
 abbrev pub both_views : NodeView → NodeView → NodeView
@@ -48,6 +50,7 @@ pub record IsSpent (known views : List NodeView) (x : JoinedSeat) : Type 0 where
   pub view : NodeView
   pub knew : get_elem? known x.seat ≡ some view
   pub store : view.store ≡ x.store
+  pub crowd : view.crowd ≡ x.crowd
   pub spent : get_elem? views x.seat ≡ some spent_view
 
 -- Each seat has its own view, or is spent; and a view has of each seat that was joined into its own what that seat knew.
@@ -61,12 +64,15 @@ pub record Gathers (known views : List NodeView) : Type 0 where
 abbrev pub with_views : State (Unit {0}) NodeView → List NodeView → State (Unit {0}) NodeView
 with_views s views = record { words = s.words; homes = s.homes; views = views }
 
--- The rule. The table shows a lock, and with what all seats know, those too that were joined into others, it shows a store.
+-- The rule. The table shows a lock, and with what all seats know, those too that were joined into others, it shows a store, in which
+-- the trees that each seat's own entries tell are so, and each seat has its crowd.
 pub record ShowsJoined (z : Sizes) (s : State (Unit {0}) NodeView) : Type 0 where
   pub known : List NodeView
   pub joins : Gathers known s.views
   pub lock : ShowsLock lock_of z.seats s
   pub shows : Shows z (with_views s known)
+  pub recalls : Recalls z (store_at z known)
+  pub crowds : Crowds z (store_at z known) (crowd_at known)
 
 -- a seat, and those that were joined into it
 abbrev pub gathered : NodeView → List JoinedSeat
@@ -91,11 +97,14 @@ abbrev pub HasBase : Sizes → List (List Entry) → ℕ → Type 0
 HasBase z lists b = (b ≡ 0) ⊎ IsBase z.first (collect_numbers (chronicle lists)) b
 
 -- Of the entries of all seats: they are a legal history of one thread; the number of its c-th collection is below `first` and c times
--- what an epoch may use; and bases come from collections.
+-- what an epoch may use; bases come from collections; the trees that each seat's entries name are those that they tell; and each
+-- seat's crowd is as the lists tell.
 pub record AllTold (z : Sizes) (lists : List (List Entry)) (xs : List JoinedSeat) : Type 0 where
   pub legal : IsLegal z.rows (chronicle lists)
   pub numbers : StaysBelow z.first (span z) 1 (collect_numbers (chronicle lists))
   pub bases : Each (λ x. HasBase z lists x.store.base) xs
+  pub trees : Each (λ x. EntriesRecalled lists x.seat x.store.entries) xs
+  pub crowds : Each (λ x. IsCrowd lists x.seat x.store.entries x.crowd) xs
 
 -- Each seat of them has its own entries in the lists; and where they are all seats, all of this is told.
 pub record TellsAll (z : Sizes) (v : NodeView) : Type 0 where

@@ -1,7 +1,10 @@
 pub mod Shown
 pub mod Knowing
+pub mod Crowding
+pub mod CrowdsKept
 pub mod Joining
 pub mod Gathering
+pub mod Recalling
 pub mod Locking
 pub mod Steps
 pub mod Passes
@@ -10,3 +13,9 @@ pub mod Inside
 pub mod Told
 pub mod Collecting
 pub mod Belonging
+pub mod CrowdFull
+pub mod Full
+pub mod Entries
+pub mod Rows
+pub mod Sweeping
+pub mod Keeping

@@ -8,6 +8,7 @@ use lib.ListN.{get_elem?}
 use Rattle.std.proofs.lemmas.List.{length-map}
 use Rattle.atomic_table.specs.Table.{State}
 use Rattle.atomic_table.proofs.Lists.{at_set, at_map}
+use Rattle.term_model.specs.Tree.{Tree}
 use Rattle.lock_core.specs.declared.parts.Phase.TheVariants.{Shared, Blocked, Holder}
 use Rattle.lock_core.specs.declared.parts.Standing.TheVariants.{Free, Seen, Held}
 use Rattle.lock_core.specs.declared.parts.LockStep.{LockStep}
@@ -31,6 +32,7 @@ use Rattle.store_core.specs.Words as words
 use Rattle.store_core.specs.Machine as core
 use Rattle.store_core.specs.Machine.{LockAlone, LowerShared, UnaskSeat, GiveGranted, left, leaving, protected_in}
 use Rattle.store_core.specs.Shown.{shown}
+use Rattle.store_core.specs.Recalls.{Recalls}
 use Rattle.store_core.specs.StoreHolds.{StoreHolds}
 use Rattle.store_core.specs.Steps.{InPlace, Permits, IsAtRest, MayLeave}
 use Rattle.store_core.specs.Steps as steps
@@ -41,8 +43,11 @@ use Rattle.store_core.proofs.Eight.{eight, inductive}
 use Rattle.store_core.proofs.Runs.{step_kept}
 use Rattle.node_rows.specs.declared.view.NodeView.{NodeView}
 use Rattle.node_rows.specs.Shown.{lock_of, seats_of, store_at, state_of, Shows, IsStoreStep, IsAway, IsEnding, IsClosed, node_can, ended, freed, store_next, node_next, rest_of, is_out}
+use Rattle.node_rows.specs.Crowding.{Crowds, crowd_at}
+use Rattle.node_rows.specs.CrowdsKept.{crowds_stay, lock_no_end, crowd_same}
 use Rattle.node_rows.specs.Joining.{with_views, ShowsJoined}
 use Rattle.node_rows.specs.Gathering.{not_spent, known_at, step_gathers}
+use Rattle.node_rows.specs.Recalling.{step_recalls}
 
 pub node_moves : (v : NodeView) (x : LockStep) (n : ℕ) → lock_of (node_next x n v) ≡ moved (lock_of v) x n
 node_moves v x n = refl
@@ -352,6 +357,13 @@ module _ (z : Sizes) (s : State (Unit {0}) NodeView) (i : ℕ) (v : NodeView) (r
 pub keeps_store : (z : Sizes) (t : core.State) (i : ℕ) (y : core.Step) → StoreHolds z t → InPlace z t i y → StoreHolds z (steps.after z t i y)
 keeps_store z t i y h ok = eight z (steps.after z t i y) (step_kept y z t i (inductive z t h) ok)
 
+-- a step of the lock keeps what the entries tell
+lock_recalls : (z : Sizes) (s : State (Unit {0}) NodeView) (i : ℕ) (v : NodeView) (x : LockStep) → (rule : Shows z s) → get_elem? s.views i ≡ some v → MayStep z.seats i v.lock x → node_can x v → (n : ℕ)
+    → Recalls z (store_at z s.views) → Recalls z (store_at z (set s.views i (node_next x n v)))
+lock_recalls z s i v x rule at ok may n all =
+    step_recalls z s.words s.views rule.lock.state i (lock_meant v.store.stay x) (set s.words (word_of i x) 0) (set s.views i (node_next x n v)) (lock.after rule.lock.state i x)
+    rule.holds (lock_step_is z s i v rule at x ok may n 0) all
+
 -- and so does a step of the lock
 lock_keeps : (z : Sizes) (s : State (Unit {0}) NodeView) (i : ℕ) (v : NodeView) (x : LockStep) → Shows z s → get_elem? s.views i ≡ some v → MayStep z.seats i v.lock x → node_can x v → Shows z (after_step node_next s i v x)
 unfolding lock_kept
@@ -370,16 +382,30 @@ lock_keeps z s i v x rule at ok may =
       count = count_set z s i v rule at w refl refl;
     }
 
+-- and the crowds
+lock_crowds : (z : Sizes) (s : State (Unit {0}) NodeView) (i : ℕ) (v : NodeView) (rule : Shows z s) → get_elem? s.views i ≡ some v → Crowds z (store_at z s.views) (crowd_at s.views)
+    → (x : LockStep) → MayStep z.seats i v.lock x → node_can x v → (n y : ℕ) → Crowds z (store_at z (set s.views i (node_next x n v))) (crowd_at (set s.views i (node_next x n v)))
+lock_crowds z s i v rule at crowds x ok may n y =
+    let w : NodeView = node_next x n v in
+    let t = state_of z s.words s.views rule.lock.state in
+    let step = lock_step_is z s i v rule at x ok may n y in
+    let l = inside z s i v rule at in
+    subst (λ (p : (ℕ → View) × (ℕ → List Tree)). Crowds z p.0 p.1) (λ q. (sym (ap (λ (u : core.State). u.view) step.after) q, sym (crowd_same s.views i v w at l refl) q))
+    (crowds_stay z t i (inductive z t rule.holds) (below z s i v rule at) (crowd_at s.views) crowds (lock_meant v.store.stay x) (lock_no_end v.store.stay x) step.in_place)
+
 pub node_keeps : (z : Sizes) → Keeps (ShowsJoined z) lock_of (seats_of z) node_can node_next
 node_keeps z = record {
   step_keeps = λ s i v x rule at number ok may.
       let w : NodeView = node_next x (seen x (get_or s.words (word_of i x) 0)) v in
       let known = known_at rule.known s.views rule.joins i v at (not_spent v i number) in
+      let t = with_views s rule.known in
       record {
         known = set rule.known i w;
         joins = step_gathers rule.known s.views rule.joins i v at (not_spent v i number) w refl;
         lock = lock_kept lock_of node_next node_moves z.seats s i v x rule.lock at ok;
-        shows = lock_keeps z (with_views s rule.known) i v x rule.shows known ok may;
+        shows = lock_keeps z t i v x rule.shows known ok may;
+        recalls = lock_recalls z t i v x rule.shows known ok may (seen x (get_or s.words (word_of i x) 0)) rule.recalls;
+        crowds = lock_crowds z t i v rule.shows known rule.crowds x ok may (seen x (get_or s.words (word_of i x) 0)) (written i x (get_or s.words (word_of i x) 0));
       };
 }
 
@@ -387,4 +413,4 @@ node_keeps z = record {
 pub node_leaves : (v : NodeView) (x : LockStep) (n : ℕ) → LeavesMore rest_of is_out v (node_next x n v)
 node_leaves v x n away =
     let same = next_off x v.store away.stay in
-    (subst IsAway (sym same) away, λ t. (v.sizes, same t))
+    (subst IsAway (sym same) away, λ t. (v.sizes, same t, v.crowd))

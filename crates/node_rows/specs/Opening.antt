@@ -1,23 +1,12 @@
 -- A new store and its passes.
-use Rattle.std.specs.Prelude.{◌≡◌, ℕ, ◌+◌, ◌*◌, ◌^◌, ◌<◌, ◌≤◌, List, [], length, slice_index}
+use Rattle.std.specs.Prelude.{◌≡◌, ℕ, ◌+◌, ◌*◌, ◌<◌, List, [], length, slice_index}
 use Rattle.atomic_table.specs.Seated.{TableId}
 use Rattle.atomic_table.specs.declared.shared.Seat.{Seat}
 use Rattle.store_core.specs.declared.view.Sizes.{Sizes}
-use Rattle.store_core.specs.declared.view.Place.TheVariants.{Base, FreeCount, Claim, InUse, FreePlace, Bucket, RootCount, Root}
+use Rattle.store_core.specs.declared.view.Place.TheVariants.{Base, FreeCount, Claim, InUse, FreePlace, Bucket, RowWord, RootCount, Root}
 use Rattle.store_core.specs.Shown.{shown, total}
 use Rattle.node_rows.specs.declared.view.NodeView.{NodeView}
 use Rattle.node_rows.specs.Shown.{seat_view}
-
--- what the sizes of a store have to be
-pub record MaySize (z : Sizes) : Type 0 where
-  pub rows : (1 ≤ z.rows) × (z.rows ≤ 262144)
-  pub buckets : (1 ≤ z.buckets) × (z.buckets ≤ 262144)
-  pub start : (1 ≤ z.start) × (z.start ≤ z.buckets)
-  pub seats : (1 ≤ z.seats) × (z.seats ≤ 16)
-  pub depth : z.depth ≤ 65536
-  pub arity : z.arity ≤ 16
-  pub first : 1 ≤ z.first
-  pub room : z.first + z.rows + z.seats + 1 ≤ 2 ^ 62
 
 -- the words of a new store, with the first k free places
 pub record UpTo (z : Sizes) (words : List ℕ) (k : ℕ) : Type 0 where
@@ -29,6 +18,7 @@ pub record UpTo (z : Sizes) (words : List ℕ) (k : ℕ) : Type 0 where
   pub in_use : shown z words InUse ≡ z.start
   pub place : (i : ℕ) → i < k → shown z words (FreePlace i) ≡ i
   pub bucket : (b : ℕ) → shown z words (Bucket b) ≡ 0
+  pub count_words : (r : ℕ) → shown z words (RowWord r 1) ≡ 0
   pub root_counts : (j : ℕ) → shown z words (RootCount j) ≡ 0
   pub roots : (j i : ℕ) → shown z words (Root j i) ≡ 0
 

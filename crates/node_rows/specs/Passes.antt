@@ -7,16 +7,18 @@ use Rattle.store_core.specs.declared.view.Sizes.{Sizes}
 use Rattle.store_core.specs.declared.view.View.{View}
 use Rattle.store_core.specs.Machine.{based, ready, left, protected_in}
 use Rattle.store_core.specs.Shown.{total}
-use Rattle.store_core.specs.Steps.{IsAtRest}
+use Rattle.store_core.specs.Steps.{IsAtRest, AreLastRoots}
 use Rattle.node_rows.specs.declared.view.NodeView.{NodeView}
 use Rattle.node_rows.specs.Shown.{IsAway}
+use Rattle.store_core.specs.StoreValue.{MaySize}
 use Rattle.node_rows.specs.Steps.{Known}
 
--- the sizes are those that the table was told, and it has room for all words
+-- the sizes are those that the table was told, within their limits, and it has room for all words
 pub record IsStore (t : TableId) (key z : Sizes) : Type 0 where
   pub told : key ≡ z
   pub wide : total z ≤ t.words
   pub small : total z < 2 ^ 62
+  pub may : MaySize z
 
 -- a pass of this store, which holds no slot
 pub record IsPass (t : TableId) (z : Sizes) (seat : Seat (Unit {0}) NodeView) (seats : ℕ) : Type 0 where
@@ -25,10 +27,11 @@ pub record IsPass (t : TableId) (z : Sizes) (seat : Seat (Unit {0}) NodeView) (s
   pub count : seats ≡ z.seats
   pub none : seat.me.1 ≡ []
 
--- it is out
+-- it is out, and its protected rows are those of its last Roots
 pub record IsOut (v : NodeView) : Type 0 where
   pub phase : v.lock.phase ≡ Out
   pub away : IsAway v.store
+  pub roots : AreLastRoots v.store
 
 -- it is in an access, has loaded the base and the number of buckets in use, and has nothing under way
 pub record IsReady (z : Sizes) (v : View) (base in_use : ℕ) : Type 0 where

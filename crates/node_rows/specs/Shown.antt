@@ -3,6 +3,7 @@ use Rattle.std.specs.Prelude.{◌≡◌, ◌⊎◌, ℕ, zero, suc, ◌+◌, ◌
 use mathlib.Core.Option.{some}
 use lib.ListN.{get_elem?}
 use Rattle.atomic_table.specs.Table.{State}
+use Rattle.term_model.specs.Tree.{Tree}
 use Rattle.lock_core.specs.declared.parts.Phase.TheVariants.{Shared, Blocked}
 use Rattle.lock_core.specs.declared.parts.Standing.TheVariants.{Free, Held}
 use Rattle.lock_core.specs.declared.parts.LockStep.{LockStep}
@@ -53,7 +54,7 @@ pub record Shows (z : Sizes) (s : State (Unit {0}) NodeView) : Type 0 where
 
 -- seat j of a new store
 abbrev pub seat_view : Sizes → ℕ → ℕ → NodeView
-seat_view z j made = record { lock = lock.newcomer j; made = made; sizes = z; store = newcomer z; joined = [] }
+seat_view z j made = record { lock = lock.newcomer j; made = made; sizes = z; store = newcomer z; crowd = []; joined = [] }
 
 abbrev pub first_view : Sizes → NodeView
 first_view z = seat_view z 0 1
@@ -118,8 +119,8 @@ abbrev pub node_next : LockStep → ℕ → NodeView → NodeView
 node_next x n v = record v { lock = moved v.lock x n; store = store_next x v.store }
 
 -- what the rule adds to a view of the lock, and which views are away
-abbrev pub rest_of : NodeView → Sizes × View
-rest_of v = (v.sizes, v.store)
+abbrev pub rest_of : NodeView → Sizes × View × List Tree
+rest_of v = (v.sizes, v.store, v.crowd)
 
 abbrev pub is_out : NodeView → Type 0
 is_out v = IsAway v.store

@@ -120,8 +120,10 @@ pub record Known (z : Sizes) (v : View) : Type 0 where
   -- the rows that it may name in its access are rows
   pub got : v.stay ≢ Away → Each (λ r. r < z.rows) v.got
   pub protects : IsAtRest v → Each (λ r. r < z.rows) (protected_in v)
-  -- what it knows of rows: a word has one value, the first word is that of a head, and no two rows have the same tree
+  -- what it knows of rows: a word has one value, a count is of arguments that there is
+  -- room for, the first word is that of a head, and no two rows have the same tree
   pub words : IsAtRest v → (r k m n : ℕ) → KnowsWord r k m v.knows → KnowsWord r k n v.knows → m ≡ n
+  pub counts : IsAtRest v → (r n : ℕ) → KnowsWord r 1 n v.knows → n ≤ widest z
   pub heads : IsAtRest v → (r n : ℕ) → KnowsWord r 0 n v.knows → n ≤ 4294967298
   pub trees : IsAtRest v → (r q : ℕ) (t : Tree) → KnowsTree v.knows r t → KnowsTree v.knows q t → r ≡ q
   -- the only pass finds its chain without the row exactly where no row has its tree

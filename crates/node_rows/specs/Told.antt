@@ -6,10 +6,12 @@ use Rattle.history_core.specs.declared.entry.Entry.{Entry}
 use Rattle.history_core.specs.declared.entry.Entry.TheVariants as entry
 use Rattle.mark_phase.specs.Reachable.{IsMarked}
 use Rattle.store_core.specs.declared.view.View.{View}
+use Rattle.store_core.specs.Recalls.{EntriesRecalled}
 use Rattle.node_rows.specs.declared.view.NodeView.{NodeView}
 use Rattle.node_rows.specs.declared.store.Last.{Last}
 use Rattle.node_rows.specs.declared.store.Last.TheVariants.{Nothing, Make, Find, Roots, Collect}
 use Rattle.node_rows.specs.declared.store.Pass.{Pass}
+use Rattle.node_rows.specs.Crowding.{kept_in, IsCrowd}
 use Rattle.node_rows.specs.Joining.{lists_in}
 
 -- an entry's kind, with its number, or the greatest that its caller had seen then
@@ -26,20 +28,6 @@ last_from x (e ∷ es) = last_from (told_by e) es
 
 abbrev pub last_in : List Entry → Last
 last_in es = last_from Nothing es
-
-abbrev pub kept_after : List ℕ → Entry → List ℕ
-kept_after names (entry.Make number head args row) = names
-kept_after names (entry.Find seen head args row) = names
-kept_after names (entry.Roots seen rows) = names
-kept_after names (entry.Collect number kept) = kept
-
-abbrev pub kept_from : List ℕ → List Entry → List ℕ
-kept_from names [] = names
-kept_from names (e ∷ es) = kept_from (kept_after names e) es
-
--- the names that the last Collect kept; none without one
-abbrev pub kept_in : List Entry → List ℕ
-kept_in es = kept_from [] es
 
 -- The plain data of a pass tell the greatest number that it has seen, its last entry, and the names that its last Collect kept.
 pub record IsTold (v : View) (rows seen : ℕ) (last : Last) (marks : List Bool) : Type 0 where
@@ -63,3 +51,12 @@ view_of p = p.seat.seat.me.0
 -- a pass has its own entries in the lists, under its number
 abbrev pub HasEntries : List (List Entry) → Pass → Type 0
 HasEntries lists p = slice_index_or lists p.seat.number [] ≡ p.seat.seat.me.0.store.entries
+
+-- The trees that a pass's Make and Find entries name in the chronicle of these lists are, in order, those that its own entries tell; and
+-- so are those of its Roots.
+abbrev pub TellsTrees : List (List Entry) → Pass → Type 0
+TellsTrees lists p = EntriesRecalled lists p.seat.number (view_of p).store.entries
+
+-- its crowd is as the lists tell
+abbrev pub TellsCrowd : List (List Entry) → Pass → Type 0
+TellsCrowd lists p = IsCrowd lists p.seat.number (view_of p).store.entries (view_of p).crowd

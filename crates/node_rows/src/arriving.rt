@@ -34,6 +34,7 @@ pub(crate) fn arrive(store: &Store, pass: &mut Pass)
     ensures came { Came pass.old.seat.seat.me.0 pass.new.seat.seat.me.0 pass.new.base pass.new.in_use }
     ensures ready { IsReady store.now.sizes pass.new.seat.seat.me.0.store pass.new.base pass.new.in_use }
     ensures told { Tells pass.old → Tells pass.new }
+    ensures crowd { pass.new.seat.seat.me.0.crowd ≡ pass.old.seat.seat.me.0.crowd }
 {
     pass.base = load_base(&store.table, &mut pass.seat, base_word(&store.sizes));
     pass.seen = later(pass.seen, pass.base);

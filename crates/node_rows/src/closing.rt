@@ -5,7 +5,7 @@ ghost use Rattle.store_core.specs.Bases.{StaysBelow, collect_numbers};
 ghost use Rattle.store_core.specs.Invariant.{span};
 ghost use Rattle.node_rows.specs.Passes.{IsStore, IsPass, IsOut};
 ghost use Rattle.node_rows.specs.Joining.{HasBase, TellsAll, all_views, both_views, lists_in};
-ghost use Rattle.node_rows.specs.Told.{HasEntries, view_of};
+ghost use Rattle.node_rows.specs.Told.{HasEntries, TellsTrees, TellsCrowd, view_of};
 
 use crate::rule::{Gather, OnLook};
 use crate::store::{Pass, Store};
@@ -57,6 +57,8 @@ fn gather(store: &Store, first: &mut Pass, other: Pass)
         seen: _,
         last: _,
         marks: _,
+        nexts: _,
+        heads: _,
     } = other;
     let Seat {
         seat,
@@ -108,6 +110,8 @@ fn chronicle_of(pass: Pass) -> Chronicle
         seen: _,
         last: _,
         marks: _,
+        nexts: _,
+        heads: _,
     } = pass;
     let Seat {
         seat,
@@ -128,6 +132,8 @@ fn close_from(store: &Store, mut first: Pass, rest: Vec<Pass>) -> Chronicle
     ensures legal { IsLegal store.now.sizes.rows (chronicle result) }
     ensures numbers { StaysBelow store.now.sizes.first (span store.now.sizes) 1 (collect_numbers (chronicle result)) }
     ensures bases { HasBase store.now.sizes result (view_of first).store.base × All (λ p. HasBase store.now.sizes result (view_of p).store.base) rest.items }
+    ensures told { TellsTrees result first × All (TellsTrees result) rest.items }
+    ensures crowds { TellsCrowd result first × All (TellsCrowd result) rest.items }
 {
     gather_all(store, &mut first, rest);
     look(store, &mut first);
@@ -138,7 +144,9 @@ impl Store {
     /// Ends a store. It needs all of its passes, each out, in whatever order, and takes no memory. The chronicle has the entries
     /// of each pass under its number, and merged they are a legal history of one thread. The number of its c-th collection is
     /// below `first` and c times `rows + seats + 1`; each pass's base is `first`, or one more than such a number, or 0 where it
-    /// has entered nothing.
+    /// has entered nothing. The trees that each pass's Make and Find entries name in the chronicle, and those of its Roots, are
+    /// those that the pass's own entries tell. Of the trees that a pass's Collects kept in the chronicle, each at its place, its
+    /// crowd is the last.
     pub fn close(self, passes: Vec<Pass>) -> Chronicle
         requires store { IsStore self.table.shared.table_id self.table.shared.key self.sizes }
         requires passes { All (λ p. IsPass self.table.shared.table_id self.sizes p.seat.seat p.seat.seats × IsOut p.seat.seat.me.0) passes.items }
@@ -148,6 +156,8 @@ impl Store {
         ensures legal { IsLegal self.sizes.rows (chronicle result) }
         ensures numbers { StaysBelow self.sizes.first (span self.sizes) 1 (collect_numbers (chronicle result)) }
         ensures bases { All (λ p. HasBase self.sizes result (view_of p).store.base) passes.items }
+        ensures told { All (TellsTrees result) passes.items }
+        ensures crowds { All (TellsCrowd result) passes.items }
     {
         let mut rest = passes;
         match rest.pop() {

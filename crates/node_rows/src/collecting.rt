@@ -5,7 +5,8 @@ ghost use Rattle.store_core.specs.Machine.{Step, LoadAny, StoreAny, StoreClaim};
 ghost use Rattle.store_core.specs.Shown.{index_of};
 ghost use Rattle.busy_forbidden.specs.Calls.{IsSame};
 ghost use Rattle.node_rows.specs.Steps.{IsOf, Known, with_store};
-ghost use Rattle.node_rows.specs.Collecting.{collects_on, loaded_any, stored_any, ended_by, MayCollect, MayEndBy, HasStore};
+ghost use Rattle.node_rows.specs.Collecting.{collects_on, claims_on, loaded_any, stored_any, ended_by, MayCollect, MayEndBy, HasStore, IsKept};
+ghost use Rattle.node_rows.specs.Crowding.{kept_in, swept, HasCrowd};
 
 use crate::rule::NodeRows;
 use crate::view::NodeView;
@@ -34,7 +35,7 @@ impl<X: Collects> Play<(), NodeView> for OnCollect<X> {
 struct OnClaim;
 
 impl Play<(), NodeView> for OnClaim {
-    ghost then = { collects_on StoreClaim };
+    ghost then = { claims_on };
 }
 
 // A load from this place, which only the proof reads.
@@ -125,7 +126,8 @@ pub fn store_any(
     store_place::<Brand>(table, seat, word, place, value);
 }
 
-/// The last store of a collection, of the claim: it notes the Collect, and the rows kept are those in no free place.
+/// The last store of a collection, of the claim: it notes the Collect, and the rows kept are those in no free place. The crowd is
+/// then the trees of these, in their order.
 pub fn store_claim(table: &Table<NodeRows>, seat: &mut Seat<NodeRows>, word: usize)
     requires of { IsOf table.now.shared.table_id table.now.shared.key seat.old.seat }
     requires word { word ≡ index_of table.now.shared.key Claim }
@@ -133,9 +135,11 @@ pub fn store_claim(table: &Table<NodeRows>, seat: &mut Seat<NodeRows>, word: usi
     ensures of { IsOf table.now.shared.table_id table.now.shared.key seat.new.seat }
     ensures same { IsSame seat.old.seat seat.new.seat
         × (seat.new.number ≡ seat.old.number) × (seat.new.seats ≡ seat.old.seats) }
-    ensures view { seat.new.seat.me.0 ≡ with_store seat.old.seat.me.0 (ended_by table.now.shared.key seat.old.seat.me.0.store) }
+    ensures view { seat.new.seat.me.0 ≡ swept seat.old.seat.me.0 (ended_by table.now.shared.key seat.old.seat.me.0.store) seat.new.seat.me.0.crowd }
     ensures known { Known table.now.shared.key seat.new.seat.me.0.store }
     ensures has_store { HasStore table.now.shared.key seat.new.number seat.new.seat.me.0.store }
+    ensures has_crowd { HasCrowd table.now.shared.key seat.new.number seat.new.seat.me.0 }
+    ensures crowd { IsKept (kept_in seat.new.seat.me.0.store.entries) seat.new.seat.me.0.store.knows seat.new.seat.me.0.crowd }
 {
     table.shared.store::<OnClaim>(&mut seat.seat, word, 0);
 }

@@ -9,6 +9,7 @@ mod make;
 mod places;
 mod reading;
 mod root_words;
+mod rows;
 mod rule;
 mod steps;
 mod store;
@@ -20,7 +21,9 @@ mod view;
 pub use closing::Chronicle;
 pub use collecting::{load_any, store_any, store_claim};
 pub use law::{
-    history_is_legal, lock_steps_are_the_stores, own_steps_are_in_place, own_steps_are_the_stores,
+    collection_steps_are_the_stores, crowds_are_at_their_place, crowds_are_held,
+    entries_name_trees, history_is_legal, known_trees_are_held, led_rows_are_kept,
+    lock_steps_are_the_stores, own_steps_are_in_place, own_steps_are_the_stores,
 };
 pub use places::{
     base_word, birth_word, bucket_word, claim_word, free_count_word, free_place_word, in_use_word,
@@ -28,6 +31,7 @@ pub use places::{
 };
 pub use reading::{load_root, read_argument, read_word, store_root, store_root_count};
 pub use root_words::{root_count_word, root_word};
+pub use rows::row_of;
 pub use rule::NodeRows;
 pub use steps::{begin, go_draw, go_load, go_publish, go_store, load_base, load_in_use};
 pub use store::{Last, Pass, Store};

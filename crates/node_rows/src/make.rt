@@ -1,11 +1,12 @@
 //! A new store, and its passes.
-ghost use Rattle.std.specs.Prelude.{◌≡◌, ℕ, ◌+◌, ◌<◌, ◌^◌, IfOk, All, false, replicate};
+ghost use Rattle.std.specs.Prelude.{◌≡◌, ℕ, ◌+◌, ◌<◌, ◌^◌, IfOk, All, false, replicate, length};
 ghost use Rattle.store_core.specs.Shown.{total};
 ghost use Rattle.busy_forbidden.specs.Dealt.{EachPlace};
 ghost use Rattle.store_core.specs.Steps.{newcomer};
+ghost use Rattle.store_core.specs.StoreValue.{MaySize};
 ghost use Rattle.node_rows.specs.Passes.{IsStore, IsPass, IsOut};
 ghost use Rattle.node_rows.specs.Told.{Tells};
-ghost use Rattle.node_rows.specs.Opening.{MaySize, UpTo, IsNew, IsFirst};
+ghost use Rattle.node_rows.specs.Opening.{UpTo, IsNew, IsFirst};
 
 use crate::places::{base_word, free_count_word, free_place_word, in_use_word, row_width};
 use crate::rule::{Deal, NodeRows};
@@ -45,13 +46,40 @@ fn first_words(alloc: Global, sizes: &Sizes) -> Result<Vec<u64>, Memory>
     Ok(words)
 }
 
-// A pass that has done nothing yet, with no mark.
-fn new_pass(seat: Seat<NodeRows>, rows: u32, marks: Marks) -> Pass
-    requires { seat.seat.me.0.store.root_count ≡ 0 }
-    ensures seat { result.seat ≡ seat }
-    ensures told { seat.seat.me.0.store ≡ newcomer seat.seat.me.0.sizes → seat.seat.me.0.sizes.rows ≡ rows
-        → marks ≡ replicate rows false → Tells result }
+// What a collection needs: a mark for each row, the next word of each row, and the head of each bucket.
+#[derive(Drop)]
+struct Room {
+    marks: Marks,
+    nexts: Vec<u32>,
+    heads: Vec<u32>,
+}
+
+fn take_room(alloc: Global, sizes: &Sizes) -> Result<Room, Memory>
+    ensures marks { IfOk result (λ r. r.marks ≡ replicate sizes.now.rows false) }
+    ensures nexts { IfOk result (λ r. length r.nexts.items ≡ sizes.now.rows) }
+    ensures heads { IfOk result (λ r. length r.heads.items ≡ sizes.now.buckets) }
 {
+    Ok(Room {
+        marks: Marks::new(alloc, sizes.rows)?,
+        nexts: Vec::from_elem(alloc, 0u32, sizes.rows as usize)?,
+        heads: Vec::from_elem(alloc, 0u32, sizes.buckets as usize)?,
+    })
+}
+
+// A pass that has done nothing yet, with no mark.
+fn new_pass(seat: Seat<NodeRows>, rows: u32, room: Room) -> Pass
+    requires count { seat.seat.me.0.store.root_count ≡ 0 }
+    requires rows { seat.seat.me.0.sizes.rows ≡ rows }
+    requires nexts { length room.nexts.items ≡ rows }
+    requires heads { length room.heads.items ≡ seat.seat.me.0.sizes.buckets }
+    ensures seat { result.seat ≡ seat }
+    ensures told { seat.seat.me.0.store ≡ newcomer seat.seat.me.0.sizes → room.marks ≡ replicate rows false → Tells result }
+{
+    let Room {
+        marks,
+        nexts,
+        heads,
+    } = room;
     Pass {
         seat,
         base: 0,
@@ -61,6 +89,8 @@ fn new_pass(seat: Seat<NodeRows>, rows: u32, marks: Marks) -> Pass
         seen: 0,
         last: Last::Nothing,
         marks,
+        nexts,
+        heads,
     }
 }
 
@@ -72,7 +102,7 @@ fn first_pass(alloc: Global, sizes: &Sizes) -> Result<(Store, Pass), Memory>
     ensures told { IfOk result (λ t. Tells t.1) }
 {
     let words = first_words(alloc, sizes)?;
-    let marks = Marks::new(alloc, sizes.rows)?;
+    let room = take_room(alloc, sizes)?;
     let (table, seat) = Table::<NodeRows>::of_words(alloc, &words, sizes)?;
     let store = Store {
         table,
@@ -83,15 +113,17 @@ fn first_pass(alloc: Global, sizes: &Sizes) -> Result<(Store, Pass), Memory>
         number: 0,
         seats: sizes.seats,
     };
-    Ok((store, new_pass(seat, sizes.rows, marks)))
+    Ok((store, new_pass(seat, sizes.rows, room)))
 }
 
 // Pass k, split off the first.
-fn next_pass(store: &Store, first: &mut Pass, k: u32, marks: Marks) -> Pass
+fn next_pass(store: &Store, first: &mut Pass, k: u32, room: Room) -> Pass
     requires store { IsStore store.now.table.shared.table_id store.now.table.shared.key store.now.sizes }
     requires below { k < store.now.sizes.seats }
     requires first { IsNew store.now.table.shared.table_id store.now.sizes 0 first.old.seat.seat first.old.seat.number first.old.seat.seats × IsFirst k first.old.seat.seat }
-    requires marks { marks ≡ replicate store.now.sizes.rows false }
+    requires marks { room.marks ≡ replicate store.now.sizes.rows false }
+    requires nexts { length room.nexts.items ≡ store.now.sizes.rows }
+    requires heads { length room.heads.items ≡ store.now.sizes.buckets }
     ensures first { IsNew store.now.table.shared.table_id store.now.sizes 0 first.new.seat.seat first.new.seat.number first.new.seat.seats × IsFirst (k + 1) first.new.seat.seat }
     ensures told { Tells first.old → Tells first.new }
     ensures new { IsNew store.now.table.shared.table_id store.now.sizes k result.seat.seat result.seat.number result.seat.seats }
@@ -103,7 +135,7 @@ fn next_pass(store: &Store, first: &mut Pass, k: u32, marks: Marks) -> Pass
         number: k,
         seats: first.seat.seats,
     };
-    new_pass(seat, store.sizes.rows, marks)
+    new_pass(seat, store.sizes.rows, room)
 }
 
 impl Store {
@@ -119,8 +151,8 @@ impl Store {
         let (store, mut first) = first_pass(alloc, &sizes)?;
         let mut rest = Vec::new(alloc);
         for k in 1..sizes.seats {
-            let marks = Marks::new(alloc, sizes.rows)?;
-            rest.push(next_pass(&store, &mut first, k, marks))?;
+            let room = take_room(alloc, &sizes)?;
+            rest.push(next_pass(&store, &mut first, k, room))?;
         }
         rest.insert(0, first)?;
         Ok((store, rest))

@@ -2,7 +2,9 @@
 use crate::view::NodeView;
 use atomic_table::{Join, Play, Split, TableRule};
 use busy_forbidden::{HasLock, HasMore};
+use std::collections::LinkedList;
 use store_core::{Sizes, View};
+use term_model::Flat;
 
 /// The rule of a store. It is told the sizes.
 pub struct NodeRows;
@@ -45,7 +47,7 @@ impl HasMore for NodeRows {
     ghost use Rattle.node_rows.specs.Shown.{rest_of, is_out};
     ghost use Rattle.node_rows.specs.Locking.{node_leaves};
 
-    type More = (Sizes, View);
+    type More = (Sizes, View, LinkedList<Flat>);
 
     ghost more = { rest_of };
 

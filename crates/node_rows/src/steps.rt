@@ -8,7 +8,9 @@ ghost use Rattle.store_core.specs.declared.view.Stay.TheVariants.{Based};
 ghost use Rattle.store_core.specs.Machine.{Go, LoadInUse, based, ready};
 ghost use Rattle.store_core.specs.Shown.{index_of};
 ghost use Rattle.busy_forbidden.specs.Calls.{IsSame};
+ghost use Rattle.node_rows.specs.Full.{FullAlone, FullAfter, fills_on};
 ghost use Rattle.node_rows.specs.Shown.{IsAway};
+ghost use Rattle.node_rows.specs.Rows.{names};
 ghost use Rattle.node_rows.specs.Steps.{goes_on, bases_on, begins_with, with_store, went, begun, IsOf, Goes, Reads, Writes, IsDraw, Exchanges, MayLoad, MayMake, Known};
 
 use crate::rule::NodeRows;
@@ -16,7 +18,7 @@ use crate::view::NodeView;
 use atomic_table::Play;
 use busy_forbidden::{Seat, Table};
 use std::marker::{Brand, PhantomData};
-use term_model::Head;
+use term_model::{Head, Row};
 
 /// What a creation is for. Each call picks it.
 pub(crate) trait Wanted {
@@ -35,6 +37,13 @@ struct OnGo;
 
 impl Play<(), NodeView> for OnGo {
     ghost then = { goes_on Go };
+}
+
+// A load or a draw of a creation.
+struct OnRead;
+
+impl Play<(), NodeView> for OnRead {
+    ghost then = { fills_on };
 }
 
 struct OnBase;
@@ -57,7 +66,8 @@ impl<X: Wanted> Play<(), NodeView> for OnBegin<X> {
     ghost then = { begins_with X.head X.arguments };
 }
 
-/// Loads the word that a creation reads next.
+/// Loads the word that a creation reads next. Where the only pass so finds no row free, each row has a tree; so too where a pass
+/// has collected in its exclusive access, and then no row has the tree that it asks for.
 pub fn go_load(table: &Table<NodeRows>, seat: &mut Seat<NodeRows>, word: usize) -> u64
     requires of { IsOf table.now.shared.table_id table.now.shared.key seat.old.seat }
     requires goes { Goes table.now.shared.key seat.old.seat.me.0.store word }
@@ -67,8 +77,10 @@ pub fn go_load(table: &Table<NodeRows>, seat: &mut Seat<NodeRows>, word: usize) 
         × (seat.new.number ≡ seat.old.number) × (seat.new.seats ≡ seat.old.seats) }
     ensures view { seat.new.seat.me.0 ≡ with_store seat.old.seat.me.0 (went seat.old.seat.me.0.store result) }
     ensures known { Known table.now.shared.key seat.new.seat.me.0.store }
+    ensures full { FullAlone table.now.shared.key seat.old.seat.me.0.store.entries seat.old.seat.me.0.store.call result }
+    ensures filled { FullAfter table.now.shared.key seat.old.number seat.old.seat.me.0 seat.old.seat.me.0.store.call result }
 {
-    table.shared.load::<OnGo>(&mut seat.seat, word)
+    table.shared.load::<OnRead>(&mut seat.seat, word)
 }
 
 /// Stores the word that a creation writes next.
@@ -85,7 +97,7 @@ pub fn go_store(table: &Table<NodeRows>, seat: &mut Seat<NodeRows>, word: usize,
     table.shared.store::<OnGo>(&mut seat.seat, word, new);
 }
 
-/// Draws a number, and gives what the claim was.
+/// Draws a number, and gives what the claim was. Where a pass so finds no row free, the same holds as in `go_load`.
 pub fn go_draw(table: &Table<NodeRows>, seat: &mut Seat<NodeRows>, word: usize) -> u64
     requires of { IsOf table.now.shared.table_id table.now.shared.key seat.old.seat }
     requires goes { Goes table.now.shared.key seat.old.seat.me.0.store word }
@@ -95,8 +107,10 @@ pub fn go_draw(table: &Table<NodeRows>, seat: &mut Seat<NodeRows>, word: usize) 
         × (seat.new.number ≡ seat.old.number) × (seat.new.seats ≡ seat.old.seats) }
     ensures view { seat.new.seat.me.0 ≡ with_store seat.old.seat.me.0 (went seat.old.seat.me.0.store result) }
     ensures known { Known table.now.shared.key seat.new.seat.me.0.store }
+    ensures full { FullAlone table.now.shared.key seat.old.seat.me.0.store.entries seat.old.seat.me.0.store.call result }
+    ensures filled { FullAfter table.now.shared.key seat.old.number seat.old.seat.me.0 seat.old.seat.me.0.store.call result }
 {
-    table.shared.fetch_add::<OnGo>(&mut seat.seat, word, 1)
+    table.shared.fetch_add::<OnRead>(&mut seat.seat, word, 1)
 }
 
 /// Publishes a row where the head of its chain is still `old`, and gives what the head was.
@@ -156,15 +170,15 @@ fn begin_as<X: Wanted>(
     seat: &mut Seat<NodeRows>,
     word: usize,
     head: Head,
-    arguments: &[u64],
+    arguments: &[Row],
 ) -> u64
     requires of { IsOf table.now.shared.table_id table.now.shared.key seat.old.seat }
-    requires may { MayMake table.now.shared.key seat.old.seat.me.0 head arguments.now word }
-    requires wanted { (X.head ≡ head) × (X.arguments ≡ arguments.now) }
+    requires may { MayMake table.now.shared.key seat.old.seat.me.0 head (names arguments.now) word }
+    requires wanted { (X.head ≡ head) × (X.arguments ≡ names arguments.now) }
     ensures of { IsOf table.now.shared.table_id table.now.shared.key seat.new.seat }
     ensures same { IsSame seat.old.seat seat.new.seat
         × (seat.new.number ≡ seat.old.number) × (seat.new.seats ≡ seat.old.seats) }
-    ensures view { seat.new.seat.me.0 ≡ with_store seat.old.seat.me.0 (begun seat.old.seat.me.0.store head arguments.now result) }
+    ensures view { seat.new.seat.me.0 ≡ with_store seat.old.seat.me.0 (begun seat.old.seat.me.0.store head (names arguments.now) result) }
     ensures known { Known table.now.shared.key seat.new.seat.me.0.store }
 {
     table.shared.load::<OnBegin<X>>(&mut seat.seat, word)
@@ -176,14 +190,14 @@ pub fn begin(
     seat: &mut Seat<NodeRows>,
     word: usize,
     head: Head,
-    arguments: &[u64],
+    arguments: &[Row],
 ) -> u64
     requires of { IsOf table.now.shared.table_id table.now.shared.key seat.old.seat }
-    requires may { MayMake table.now.shared.key seat.old.seat.me.0 head arguments.now word }
+    requires may { MayMake table.now.shared.key seat.old.seat.me.0 head (names arguments.now) word }
     ensures of { IsOf table.now.shared.table_id table.now.shared.key seat.new.seat }
     ensures same { IsSame seat.old.seat seat.new.seat
         × (seat.new.number ≡ seat.old.number) × (seat.new.seats ≡ seat.old.seats) }
-    ensures view { seat.new.seat.me.0 ≡ with_store seat.old.seat.me.0 (begun seat.old.seat.me.0.store head arguments.now result) }
+    ensures view { seat.new.seat.me.0 ≡ with_store seat.old.seat.me.0 (begun seat.old.seat.me.0.store head (names arguments.now) result) }
     ensures known { Known table.now.shared.key seat.new.seat.me.0.store }
 {
     begin_as::<Brand>(table, seat, word, head, arguments)

@@ -1,6 +1,7 @@
 //! A store, its passes, and their accesses.
-ghost use Rattle.std.specs.Prelude.{◌≡◌, IfErr, MatchResult, Err};
+ghost use Rattle.std.specs.Prelude.{◌≡◌, IfOk, IfErr, MatchResult, Err, length};
 ghost use Rattle.lock_core.specs.declared.parts.Phase.TheVariants.{Shared};
+ghost use Rattle.store_core.specs.Steps.{AreLastRoots};
 ghost use Rattle.busy_forbidden.specs.Calls.{IsSame};
 ghost use Rattle.busy_forbidden.specs.Entries.{ShowsShared};
 ghost use Rattle.busy_forbidden.specs.Exclusive.{IsGranted, ShowsExclusive, TriesExclusive};
@@ -14,7 +15,7 @@ use mark_phase::Marks;
 use std::sync::Wait;
 use store_core::Sizes;
 
-/// A store of terms that threads share.
+/// A store of terms that threads share. Its fields are public because the crates above make their own steps on its table.
 #[derive(Drop)]
 pub struct Store {
     pub table: Table<NodeRows>,
@@ -31,7 +32,8 @@ pub enum Last {
     Collect(u64),
 }
 
-/// A seat of a store, with what its access has loaded, how many rows it protects, what it tells of its entries, and the room that a collection needs.
+/// A seat of a store, with what its access has loaded, how many rows it protects, what it tells of its entries, and the room that a
+/// collection needs. Its fields are public because the crates above make their own steps by its seat, and keep the rest true.
 #[derive(Drop)]
 pub struct Pass {
     pub seat: Seat<NodeRows>,
@@ -46,7 +48,14 @@ pub struct Pass {
     pub last: Last,
     /// A mark for each row: those that the pass's last collection kept. A collection marks here what it reaches.
     pub marks: Marks,
+    /// For each row the next word of its new chain, and for each bucket the new head: a collection works them out here before it
+    /// stores.
+    pub nexts: Vec<u32>,
+    pub heads: Vec<u32>,
     ghost counted: { root_count ≡ seat.seat.me.0.store.root_count },
+    ghost sized: { rows ≡ seat.seat.me.0.sizes.rows },
+    ghost nexts_are: { length nexts.items ≡ seat.seat.me.0.sizes.rows },
+    ghost heads_are: { length heads.items ≡ seat.seat.me.0.sizes.buckets },
 }
 
 impl Store {
@@ -68,6 +77,7 @@ impl Store {
             (λ _. IsReady self.now.sizes pass.new.seat.seat.me.0.store pass.new.base pass.new.in_use)
             (λ _. IsOut pass.new.seat.seat.me.0) }
         ensures told { Tells pass.old → Tells pass.new }
+        ensures crowd { pass.new.seat.seat.me.0.crowd ≡ pass.old.seat.seat.me.0.crowd }
     {
         match busy_forbidden::try_enter_shared(&self.table, &mut pass.seat) {
             Ok(()) => {
@@ -88,6 +98,7 @@ impl Store {
         ensures came { Came pass.old.seat.seat.me.0 pass.new.seat.seat.me.0 pass.new.base pass.new.in_use }
         ensures ready { IsReady self.now.sizes pass.new.seat.seat.me.0.store pass.new.base pass.new.in_use }
         ensures told { Tells pass.old → Tells pass.new }
+        ensures crowd { pass.new.seat.seat.me.0.crowd ≡ pass.old.seat.seat.me.0.crowd }
     {
         busy_forbidden::enter_shared(rt, &self.table, &mut pass.seat);
         arrive(self, pass);
@@ -103,6 +114,7 @@ impl Store {
         ensures left { Left pass.old.seat.seat.me.0 pass.new.seat.seat.me.0 }
         ensures out { IsOut pass.new.seat.seat.me.0 }
         ensures told { Tells pass.old → Tells pass.new }
+        ensures crowd { pass.new.seat.seat.me.0.crowd ≡ pass.old.seat.seat.me.0.crowd }
     {
         busy_forbidden::leave_shared(&self.table, &mut pass.seat);
         pass.last = Last::Roots(pass.seen);
@@ -124,7 +136,9 @@ impl Store {
         ensures access { MatchResult result
             (λ _. IsReady self.now.sizes pass.new.seat.seat.me.0.store pass.new.base pass.new.in_use)
             (λ _. IsOut pass.new.seat.seat.me.0) }
+        ensures last_roots { IfOk result (λ _. AreLastRoots pass.new.seat.seat.me.0.store) }
         ensures told { Tells pass.old → Tells pass.new }
+        ensures crowd { pass.new.seat.seat.me.0.crowd ≡ pass.old.seat.seat.me.0.crowd }
     {
         match busy_forbidden::try_enter_exclusive(&self.table, &mut pass.seat) {
             Ok(()) => {
@@ -144,7 +158,9 @@ impl Store {
         ensures granted { IsGranted pass.new.seat.seat.me.0.lock pass.new.seat.number pass.new.seat.seats }
         ensures came { Came pass.old.seat.seat.me.0 pass.new.seat.seat.me.0 pass.new.base pass.new.in_use }
         ensures ready { IsReady self.now.sizes pass.new.seat.seat.me.0.store pass.new.base pass.new.in_use }
+        ensures last_roots { AreLastRoots pass.new.seat.seat.me.0.store }
         ensures told { Tells pass.old → Tells pass.new }
+        ensures crowd { pass.new.seat.seat.me.0.crowd ≡ pass.old.seat.seat.me.0.crowd }
     {
         busy_forbidden::enter_exclusive(rt, &self.table, &mut pass.seat);
         arrive(self, pass);
@@ -160,6 +176,7 @@ impl Store {
         ensures left { Left pass.old.seat.seat.me.0 pass.new.seat.seat.me.0 }
         ensures out { IsOut pass.new.seat.seat.me.0 }
         ensures told { Tells pass.old → Tells pass.new }
+        ensures crowd { pass.new.seat.seat.me.0.crowd ≡ pass.old.seat.seat.me.0.crowd }
     {
         busy_forbidden::leave_exclusive(&self.table, &mut pass.seat);
         pass.last = Last::Roots(pass.seen);

@@ -102,8 +102,9 @@ fn a_leave_is_the_last_entry(rt: HostRuntime) -> Result<(), Fail> {
 }
 
 #[test]
-fn all_passes_close_a_store(rt: HostRuntime) -> Result<(), Fail> {
+fn two_seats_give_two_passes_which_close_the_store(rt: HostRuntime) -> Result<(), Fail> {
     let (store, passes) = Store::make(rt.alloc(), SMALL)?;
+    assert_eq!(rt; passes.len(), 2);
     let _ = store.close(passes);
     Ok(())
 }

@@ -4,7 +4,8 @@ ghost use Rattle.term_model.specs.declared.Row.{Row};
 ghost use Rattle.history_core.specs.declared.entry.Entry.{Entry};
 ghost use Rattle.mark_phase.specs.Reachable.{IsMarked};
 ghost use Rattle.history_core.specs.declared.entry.Entry.TheVariants as entry;
-ghost use Rattle.node_rows.specs.Told.{Tells, last_in, kept_in};
+ghost use Rattle.node_rows.specs.Crowding.{kept_in};
+ghost use Rattle.node_rows.specs.Told.{Tells, last_in};
 
 use crate::store::{Last, Pass};
 use term_model::Row;

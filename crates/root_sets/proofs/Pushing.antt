@@ -4,7 +4,9 @@ use Rattle.std.proofs.lemmas.List.{length-take-le, get_or-take, get_or-set_same,
 use Rattle.std.proofs.lemmas.Bool.{cases_lt}
 use Rattle.store_core.specs.declared.view.Sizes.{Sizes}
 use Rattle.store_core.specs.declared.view.View.{View}
-use Rattle.store_core.specs.Machine.{In, Each, rooted, root_counted, protected_in}
+use Rattle.store_core.specs.declared.view.Stay.TheVariants.{Away, Ready}
+use Rattle.store_core.specs.Machine.{In, Each, with_got, rooted, root_counted, protected_in}
+use Rattle.store_core.specs.Steps.{IsAtRest}
 use Rattle.node_rows.specs.declared.view.NodeView.{NodeView}
 use Rattle.node_rows.specs.Steps.{with_store, Known}
 use Rattle.root_sets.proofs.Keeping.{each_got}
@@ -35,6 +37,10 @@ push_rows z v u w n row known same below is then =
     ∙ (ap (λ (q : NodeView). take (n + 1) q.store.roots) is
     ∙ (take_more_set v.store.roots n row (let a = known.roots in omega arith)
     ∙ ap (λ (k : ℕ). take k v.store.roots ++ row ∷ []) same))
+
+-- a row that was loaded is one of the store
+pub loaded_below : (z : Sizes) (v w : NodeView) (row : ℕ) → IsAtRest w.store → Known z w.store → w ≡ with_store v (with_got v.store row) → row < z.rows
+loaded_below z v w row rest known e = (subst (λ (u : NodeView). Each (λ q. q < z.rows) u.store.got) e (known.got (λ f. let no : Ready ≡ Away = sym rest.stay ∙ f in grind arith))).0
 
 -- each row that was stored may be used
 pub rows_use : (got rows roots : List ℕ) (count : ℕ) → Each (λ r. In r got) rows → take (length rows) roots ≡ rows → (k : ℕ) → k < length rows → (k < count) ⊎ In (get_or roots k 0) got

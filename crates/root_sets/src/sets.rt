@@ -7,18 +7,19 @@ ghost use Rattle.node_rows.specs.Steps.{with_store};
 ghost use Rattle.root_sets.specs.Protected.{Keeps, Moved, ends_of};
 
 use crate::words::{load_root, set_count, set_root};
-use node_rows::{Pass, Store};
+use node_rows::{Pass, Store, row_of};
+use term_model::Row;
 use terms_api::Deep;
 
 /// Protects a row that the pass may use, after the others. `Deep` comes exactly where as many rows are protected as the store has
 /// room for; nothing has changed then.
-pub fn push_root(store: &Store, pass: &mut Pass, row: u64) -> Result<(), Deep>
+pub fn push_root(store: &Store, pass: &mut Pass, row: Row) -> Result<(), Deep>
     requires inside { IsInside store.now pass.old }
-    requires uses { In row pass.old.seat.seat.me.0.store.got }
+    requires uses { In row.0 pass.old.seat.seat.me.0.store.got }
     ensures inside { IsInside store.now pass.new }
     ensures same { IsSame pass.old.seat.seat pass.new.seat.seat × (pass.new.seat.number ≡ pass.old.seat.number) }
     ensures rows { IfOk result (λ _. protected_in pass.new.seat.seat.me.0.store
-        ≡ protected_in pass.old.seat.seat.me.0.store ++ row ∷ []) }
+        ≡ protected_in pass.old.seat.seat.me.0.store ++ row.0 ∷ []) }
     ensures deep { IsErr result ↔ (length (protected_in pass.old.seat.seat.me.0.store) ≡ store.now.sizes.depth) }
     ensures unchanged { IfErr result (λ _. pass.new.seat.seat.me.0 ≡ pass.old.seat.seat.me.0) }
     ensures keeps { Keeps pass.old.seat.seat.me.0 pass.new.seat.seat.me.0 }
@@ -27,21 +28,22 @@ pub fn push_root(store: &Store, pass: &mut Pass, row: u64) -> Result<(), Deep>
         return Err(Deep);
     }
     let count = pass.root_count;
-    set_root(store, pass, count, row);
+    set_root(store, pass, count, row.0 as u64);
     set_count(store, pass, count + 1);
     Ok(())
 }
 
 /// The i-th protected row, which the pass may use then.
-pub fn root_at(store: &Store, pass: &mut Pass, i: u32) -> u64
+pub fn root_at(store: &Store, pass: &mut Pass, i: u32) -> Row
     requires inside { IsInside store.now pass.old }
     requires below { i < length (protected_in pass.old.seat.seat.me.0.store) }
     ensures inside { IsInside store.now pass.new }
     ensures same { IsSame pass.old.seat.seat pass.new.seat.seat × (pass.new.seat.number ≡ pass.old.seat.number) }
-    ensures row { result ≡ get_or (protected_in pass.old.seat.seat.me.0.store) i 0 }
-    ensures gets { pass.new.seat.seat.me.0 ≡ with_store pass.old.seat.seat.me.0 (with_got pass.old.seat.seat.me.0.store result) }
+    ensures row { result.0 ≡ get_or (protected_in pass.old.seat.seat.me.0.store) i 0 }
+    ensures gets { pass.new.seat.seat.me.0 ≡ with_store pass.old.seat.seat.me.0 (with_got pass.old.seat.seat.me.0.store result.0) }
 {
-    load_root(store, pass, i)
+    let row = load_root(store, pass, i);
+    row_of(&store.sizes, row)
 }
 
 // Copies a protected row to a place below it.

@@ -3,11 +3,13 @@ ghost use Rattle.std.specs.Prelude.{◌≡◌, ◌<◌, ◌≤◌, IsTrue, lengt
 ghost use Rattle.store_core.specs.Machine.{In, Each, protected_in};
 ghost use Rattle.busy_forbidden.specs.Calls.{IsSame};
 ghost use Rattle.node_rows.specs.Inside.{IsInside};
+ghost use Rattle.node_rows.specs.Rows.{names};
 ghost use Rattle.root_sets.specs.Protected.{Keeps};
 
 use crate::words::{load_root, set_count, set_root};
 use node_rows::{Pass, Store};
 use store_core::Sizes;
+use term_model::Row;
 
 // Whether protected row k is this one.
 fn has_root(store: &Store, pass: &mut Pass, k: u32, row: u64) -> bool
@@ -43,7 +45,7 @@ fn put_root(store: &Store, pass: &mut Pass, k: u32, row: u64)
 }
 
 // How many rows these are, of which the store has room for each.
-fn count_rows(sizes: &Sizes, rows: &[u64]) -> u32
+fn count_rows(sizes: &Sizes, rows: &[Row]) -> u32
     requires { length rows.now ≤ sizes.now.depth }
     ensures { result ≡ length rows.now }
 {
@@ -51,30 +53,30 @@ fn count_rows(sizes: &Sizes, rows: &[u64]) -> u32
 }
 
 // Makes the first protected rows these.
-fn put_roots(store: &Store, pass: &mut Pass, rows: &[u64])
+fn put_roots(store: &Store, pass: &mut Pass, rows: &[Row])
     requires inside { IsInside store.now pass.old }
     requires few { length rows.now ≤ store.now.sizes.depth }
-    requires uses { Each (λ r. In r pass.old.seat.seat.me.0.store.got) rows.now }
+    requires uses { Each (λ r. In r pass.old.seat.seat.me.0.store.got) (names rows.now) }
     ensures inside { IsInside store.now pass.new }
     ensures same { IsSame pass.old.seat.seat pass.new.seat.seat × (pass.new.seat.number ≡ pass.old.seat.number) }
     ensures count { pass.new.root_count ≡ pass.old.root_count }
-    ensures roots { take (length rows.now) pass.new.seat.seat.me.0.store.roots ≡ rows.now }
+    ensures roots { take (length rows.now) pass.new.seat.seat.me.0.store.roots ≡ names rows.now }
     ensures keeps { Keeps pass.old.seat.seat.me.0 pass.new.seat.seat.me.0 }
 {
     for k in 0..count_rows(&store.sizes, rows) {
-        put_root(store, pass, k, rows[k as usize]);
+        put_root(store, pass, k, rows[k as usize].0 as u64);
     }
 }
 
 /// Makes the protected rows exactly these, at most as many as the store has room for, each of which the pass may use: stores those
 /// that differ, and then the count.
-pub fn store_roots(store: &Store, pass: &mut Pass, rows: &[u64])
+pub fn store_roots(store: &Store, pass: &mut Pass, rows: &[Row])
     requires inside { IsInside store.now pass.old }
     requires few { length rows.now ≤ store.now.sizes.depth }
-    requires uses { Each (λ r. In r pass.old.seat.seat.me.0.store.got) rows.now }
+    requires uses { Each (λ r. In r pass.old.seat.seat.me.0.store.got) (names rows.now) }
     ensures inside { IsInside store.now pass.new }
     ensures same { IsSame pass.old.seat.seat pass.new.seat.seat × (pass.new.seat.number ≡ pass.old.seat.number) }
-    ensures rows { protected_in pass.new.seat.seat.me.0.store ≡ rows.now }
+    ensures rows { protected_in pass.new.seat.seat.me.0.store ≡ names rows.now }
     ensures keeps { Keeps pass.old.seat.seat.me.0 pass.new.seat.seat.me.0 }
 {
     put_roots(store, pass, rows);

@@ -1,8 +1,9 @@
 //! Protected rows on one thread, in stores with hand-worked answers.
-ghost use Rattle.std.specs.Prelude.{◌≡◌, All, IfOk};
+ghost use Rattle.std.specs.Prelude.{◌≡◌, ◌<◌, ℕ, All, IfOk, length};
 ghost use Rattle.lock_core.specs.declared.parts.Phase.TheVariants.{Shared};
-ghost use Rattle.store_core.specs.Machine.{In};
+ghost use Rattle.store_core.specs.Machine.{In, Each, protected_in};
 ghost use Rattle.node_rows.specs.Inside.{IsInside};
+ghost use Rattle.node_rows.specs.Rows.{names};
 ghost use Rattle.node_rows.specs.Told.{Tells};
 ghost use Rattle.node_rows.specs.Passes.{IsStore, IsPass, IsOut};
 
@@ -13,7 +14,7 @@ use std::process::Abort;
 use std::test::Fail;
 use store_core::Sizes;
 use term_create::{Full, create};
-use term_model::{Head, Symbol};
+use term_model::{Head, Row, Symbol};
 use terms_api::Deep;
 
 // A store of two rows and two passes.
@@ -55,12 +56,13 @@ fn enter(rt: &impl Abort, store: &Store, pass: &mut Pass)
 }
 
 // A constant, whose row is then protected.
-fn protect_constant(rt: &impl Abort, store: &Store, pass: &mut Pass, symbol: u32) -> u64
+fn protect_constant(rt: &impl Abort, store: &Store, pass: &mut Pass, symbol: u32) -> Row
     requires inside { IsInside store.now pass.old }
     requires shared { pass.old.seat.seat.me.0.lock.phase ≡ Shared }
     ensures inside { IsInside store.now pass.new }
     ensures shared { pass.new.seat.seat.me.0.lock.phase ≡ Shared }
-    ensures uses { In result pass.new.seat.seat.me.0.store.got }
+    ensures uses { In result.0 pass.new.seat.seat.me.0.store.got }
+    ensures keeps { (r : ℕ) → In r pass.old.seat.seat.me.0.store.got → In r pass.new.seat.seat.me.0.store.got }
 {
     match create(store, pass, Head::App(Symbol(symbol)), &[]) {
         Ok(row) => {
@@ -72,9 +74,63 @@ fn protect_constant(rt: &impl Abort, store: &Store, pass: &mut Pass, symbol: u32
     }
 }
 
+// Two constants, whose rows are then protected.
+fn protect_two(rt: &impl Abort, store: &Store, pass: &mut Pass, symbol: u32) -> (Row, Row)
+    requires inside { IsInside store.now pass.old }
+    requires shared { pass.old.seat.seat.me.0.lock.phase ≡ Shared }
+    requires below { symbol < 8 }
+    ensures inside { IsInside store.now pass.new }
+    ensures shared { pass.new.seat.seat.me.0.lock.phase ≡ Shared }
+    ensures first { In result.0.0 pass.new.seat.seat.me.0.store.got }
+    ensures second { In result.1.0 pass.new.seat.seat.me.0.store.got }
+    ensures keeps { (r : ℕ) → In r pass.old.seat.seat.me.0.store.got → In r pass.new.seat.seat.me.0.store.got }
+{
+    let first = protect_constant(rt, store, pass, symbol);
+    let second = protect_constant(rt, store, pass, symbol + 1);
+    (first, second)
+}
+
+// Four constants, whose rows are then protected in order.
+fn protect_four(rt: &impl Abort, store: &Store, pass: &mut Pass) -> [Row; 4]
+    requires inside { IsInside store.now pass.old }
+    requires shared { pass.old.seat.seat.me.0.lock.phase ≡ Shared }
+    ensures inside { IsInside store.now pass.new }
+    ensures shared { pass.new.seat.seat.me.0.lock.phase ≡ Shared }
+    ensures uses { Each (λ r. In r pass.new.seat.seat.me.0.store.got) (names result) }
+{
+    let (a, b) = protect_two(rt, store, pass, 0);
+    let (c, d) = protect_two(rt, store, pass, 2);
+    [a, b, c, d]
+}
+
+// Protects four rows in place of those before, and of these keeps the first and the last.
+fn keep_two(store: &Store, pass: &mut Pass, rows: &[Row])
+    requires inside { IsInside store.now pass.old }
+    requires four { (length rows.now ≡ 4) × (store.now.sizes.depth ≡ 4) }
+    requires uses { Each (λ r. In r pass.old.seat.seat.me.0.store.got) (names rows.now) }
+    ensures inside { IsInside store.now pass.new }
+    ensures lock { pass.new.seat.seat.me.0.lock ≡ pass.old.seat.seat.me.0.lock }
+    ensures two { length (protected_in pass.new.seat.seat.me.0.store) ≡ 2 }
+{
+    store_roots(store, pass, rows);
+    keep_roots(store, pass, 1, 1);
+}
+
+// The two protected rows.
+fn two_roots(store: &Store, pass: &mut Pass) -> (Row, Row)
+    requires inside { IsInside store.now pass.old }
+    requires two { length (protected_in pass.old.seat.seat.me.0.store) ≡ 2 }
+    ensures inside { IsInside store.now pass.new }
+    ensures lock { pass.new.seat.seat.me.0.lock ≡ pass.old.seat.seat.me.0.lock }
+{
+    let first = root_at(store, pass, 0);
+    let second = root_at(store, pass, 1);
+    (first, second)
+}
+
 // In shared access of the second pass: the constant that the first pass made, another one, and a term over the first, which is
 // Full.
-fn create_past_the_room(rt: &impl Abort, store: &Store, pass: &mut Pass, row: u64)
+fn create_past_the_room(rt: &impl Abort, store: &Store, pass: &mut Pass, row: Row)
     requires inside { IsInside store.now pass.old }
     requires shared { pass.old.seat.seat.me.0.lock.phase ≡ Shared }
     ensures inside { IsInside store.now pass.new }
@@ -125,5 +181,22 @@ fn exclusive_access_waits_for_shared(rt: HostRuntime) -> Result<(), Fail> {
     };
     assert_eq!(rt; busy, Busy::Mutex);
     store.leave_exclusive(&mut second);
+    Ok(())
+}
+
+// All four places are taken, so a fifth row is `Deep`. The four rows are then stored in the other order, of which the first and the
+// last are kept.
+#[test]
+fn protected_rows_are_stored_kept_and_read(rt: HostRuntime) -> Result<(), Fail> {
+    let sizes = Sizes { rows: 4, ..SMALL };
+    let (store, mut passes) = Store::make(rt.alloc(), sizes)?;
+    let mut pass = last_pass(&rt, &store, &mut passes);
+    enter(&rt, &store, &mut pass);
+    let [a, b, c, d] = protect_four(&rt, &store, &mut pass);
+    assert_eq!(rt; push_root(&store, &mut pass, a), Err(Deep));
+    keep_two(&store, &mut pass, &[d, c, b, a]);
+    assert_eq!(rt; two_roots(&store, &mut pass), (d, a));
+    assert!(rt; a != d);
+    store.leave_shared(&mut pass);
     Ok(())
 }

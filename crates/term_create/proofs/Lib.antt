@@ -2,3 +2,4 @@ pub mod Whole
 pub mod Told
 pub mod Costs
 pub mod Reading
+pub mod Arguments

@@ -10,7 +10,7 @@ use Rattle.store_core.specs.declared.view.View.{View}
 use Rattle.store_core.specs.Calls.{IsOver}
 use Rattle.store_core.specs.declared.view.Stay.TheVariants.{Away, Ready}
 use Rattle.store_core.specs.Steps.{IsAtRest}
-use Rattle.store_core.specs.Machine.{Each, In}
+use Rattle.store_core.specs.Machine.{Each, In, widest}
 use Rattle.store_core.specs.ByView.{KnowsWord}
 use Rattle.store_core.proofs.Basics.{each_in}
 use Rattle.node_rows.specs.Knowing.{KnowsRow, KnowsTree, KnowsTrees}
@@ -148,6 +148,10 @@ module _ (z : Sizes) (v w : NodeView) (rest : IsAtRest v.store) (known : Known z
   -- the symbol word is that of a head
   pub head_bound : (r n : ℕ) → w ≡ with_store v (record v.store { knows = word r 0 n ∷ v.store.knows }) → n ≤ 4294967298
   head_bound r n e = subst (λ (u : NodeView). IsAtRest u.store → (q m : ℕ) → KnowsWord q 0 m u.store.knows → m ≤ 4294967298) e known.heads record { call = rest.call; stay = rest.stay } r n (inl (refl, refl, refl))
+
+  -- a row has room for as many arguments as it counts
+  pub count_bound : (r n : ℕ) → w ≡ with_store v (record v.store { knows = word r 1 n ∷ v.store.knows }) → n ≤ widest z
+  count_bound r n e = subst (λ (u : NodeView). IsAtRest u.store → (q m : ℕ) → KnowsWord q 1 m u.store.knows → m ≤ widest z) e known.counts record { call = rest.call; stay = rest.stay } r n (inl (refl, refl, refl))
 
   pub count_tree : (r n : ℕ) → w ≡ with_store v (record v.store { knows = word r 1 n ∷ v.store.knows }) → (t : Tree) → KnowsTree v.store.knows r t → length (arguments t) ≡ n
   count_tree r n e t k = count_is v.store.knows r n (once_in (word r 1 n ∷ []) e) t k

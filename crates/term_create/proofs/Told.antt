@@ -1,17 +1,20 @@
 -- What a whole creation tells.
-use Rattle.std.proofs.Common.{◌≡◌, ◌⊎◌, ℕ, Bool, Result, Ok, Err, List, [], ◌∷◌, ◌++◌, max, ⊎_elim, inl, inr, sym, ap, ◌∙◌, subst}
+use Rattle.std.proofs.Common.{◌≡◌, ◌⊎◌, ◌<◌, ℕ, Bool, true, Result, Ok, Err, List, [], ◌∷◌, ◌++◌, max, ⊎_elim, inl, inr, sym, ap, ◌∙◌, subst, arith}
 use Rattle.std.specs.Prelude.{MatchResult, IfOk, IfErr}
 use Rattle.term_model.specs.declared.Head.{Head}
+use Rattle.term_model.specs.declared.Row.{Row}
 use Rattle.history_core.specs.declared.entry.Entry.TheVariants as entry
 use Rattle.store_core.specs.declared.view.Call.{Call}
 use Rattle.store_core.specs.declared.view.Call.TheVariants.{Idle}
 use Rattle.store_core.specs.declared.view.Passed.{Passed}
 use Rattle.store_core.specs.declared.view.View.{View}
-use Rattle.store_core.specs.Machine.{with_call, with_path}
+use Rattle.store_core.specs.declared.view.Sizes.{Sizes}
+use Rattle.store_core.specs.declared.view.Stay.TheVariants.{Away, Ready}
+use Rattle.store_core.specs.Machine.{Each, with_call, with_path}
 use Rattle.node_rows.specs.declared.view.NodeView.{NodeView}
 use Rattle.node_rows.specs.declared.store.Last.{Last}
 use Rattle.node_rows.specs.declared.store.Last.TheVariants as last
-use Rattle.node_rows.specs.Steps.{with_store, over}
+use Rattle.node_rows.specs.Steps.{with_store, over, Known}
 use Rattle.node_rows.specs.Told.{IsTold}
 use Rattle.node_rows.specs.declared.store.Pass.{Pass}
 use Rattle.node_rows.proofs.Tellings.{told_made, told_found, told_on}
@@ -19,7 +22,7 @@ use Rattle.term_create.specs.declared.asked.Noted.{Noted}
 use Rattle.term_create.specs.declared.asked.Noted.TheVariants.{Made, Found}
 use Rattle.term_create.specs.Stage.{Finds, Makes, Notes, IsRefused, row_of, at_walk}
 use Rattle.term_create.specs.Ended.{Ends, SamePlain}
-use Rattle.term_create.specs.Created.{NotesOne, Gets, KeepsCause, GetsNone, KeepsRest}
+use Rattle.term_create.specs.Created.{NotesOne, Gets, KeepsCause, WasFilled, GetsNone, KeepsRest}
 use Rattle.term_create.proofs.Whole.{at_begin, max_less, made_notes, found_notes, made_gets, found_gets, made_rest, found_rest, made_only, found_only, refused_cause, refused_none, refused_rest, refused_only}
 
 -- how a creation that has begun ends
@@ -53,10 +56,26 @@ pub ends_whole : {E : Type 0} → (v m w : NodeView) (f : Head) (rs : List ℕ) 
 ends_whole v m w f rs x (Ok n) e h = begin_notes v w f rs x n (subst (λ (u : NodeView). Notes u w f rs n) e h)
 ends_whole v m w f rs x (Err full) e h = begin_refused v w f rs x (subst (λ (u : NodeView). IsRefused u w (over f rs)) e h)
 
+-- where it is refused after a collection
+pub ends_filled : {A E : Type 0} → (z : Sizes) (i j : ℕ) (v m : NodeView) (f : Head) (rs : List ℕ) (n : ℕ) (ps : List Passed) (x : Call) (r : Result A E) → j ≡ i → m ≡ at_walk v n ps x
+    → IfErr r (λ _. m.store.fresh ≡ true → WasFilled z j m f rs) → IfErr r (λ _. v.store.fresh ≡ true → WasFilled z i v f rs)
+ends_filled z i j v m f rs n ps x (Ok a) same e h = tt
+ends_filled z i j v m f rs n ps x (Err full) same e h = λ fresh.
+    let t : WasFilled z i (at_walk v n ps x) f rs = subst (λ (y : ℕ × NodeView). y.1.store.fresh ≡ true → WasFilled z y.0 y.1 f rs) (λ k. (same k, e k)) h fresh in
+    record { passed = t.passed; path = t.path; call = t.call; filled = t.filled }
+
 -- the row of it
 pub noted_ends : (v w : NodeView) (f : Head) (rs : List ℕ) (n : Noted) (row : ℕ) → row ≡ row_of n → Notes v w f rs n → (k : ℕ) × (Makes v w f rs row k ⊎ Finds v w f rs row k)
 noted_ends v w f rs (Made r k) row e h = (k, inl (subst (λ (q : ℕ). Makes v w f rs q k) (sym e) h))
 noted_ends v w f rs (Found r k) row e h = (k, inr (subst (λ (q : ℕ). Finds v w f rs q k) (sym e) h))
+
+got_below : (z : Sizes) (v w : NodeView) (r : ℕ) → w.store.stay ≡ v.store.stay → w.store.got ≡ r ∷ v.store.got → v.store.stay ≡ Ready → Known z w.store → r < z.rows
+got_below z v w r stays got ready known = (subst (Each (λ q. q < z.rows)) got (known.got (λ e. let no : Ready ≡ Away = sym ready ∙ (sym stays ∙ e) in grind arith))).0
+
+-- it is a row of the store
+pub noted_below : (z : Sizes) (v w : NodeView) (f : Head) (rs : List ℕ) (n : Noted) → v.store.stay ≡ Ready → Known z w.store → Notes v w f rs n → row_of n < z.rows
+noted_below z v w f rs (Made r k) ready known h = got_below z v w r (ap (λ (u : NodeView). u.store.stay) h.view) (ap (λ (u : NodeView). u.store.got) h.view) ready known
+noted_below z v w f rs (Found r k) ready known h = got_below z v w r (ap (λ (u : NodeView). u.store.stay) h.view) (ap (λ (u : NodeView). u.store.got) h.view) ready known
 
 -- what the pass then tells
 pub made_tells : (v w : NodeView) (f : Head) (rs : List ℕ) (r number rows seen : ℕ) (x : Last) (marks : List Bool) → IsTold v.store rows seen x marks → Makes v w f rs r number → IsTold w.store rows number (last.Make number) marks
@@ -82,30 +101,30 @@ pub plain_tells : (v : View) (p q : Pass) → SamePlain p q → IsTold v p.rows 
 plain_tells v p q same told = subst (λ (t : ℕ × ℕ × Last × List Bool). IsTold v t.0 t.1 t.2 t.3) (λ k. (sym same.rows k, sym same.seen k, sym same.last k, sym same.marks k)) told
 
 module _ {E : Type 0} (v w : NodeView) (f : Head) (rs : List ℕ) where
-  pub ends_notes : (r : Result ℕ E) → Ends v w f rs r → IfOk r (λ row. NotesOne v.store w.store f rs row)
-  ends_notes (Ok row) h = ⊎_elim (made_notes v w f rs row h.0) (found_notes v w f rs row h.0) h.1
+  pub ends_notes : (r : Result Row E) → Ends v w f rs r → IfOk r (λ row. NotesOne v.store w.store f rs row.0)
+  ends_notes (Ok row) h = ⊎_elim (made_notes v w f rs row.0 h.0) (found_notes v w f rs row.0 h.0) h.1
   ends_notes (Err full) h = tt
 
-  pub ends_gets : (r : Result ℕ E) → Ends v w f rs r → IfOk r (λ row. Gets v.store w.store f rs row)
-  ends_gets (Ok row) h = ⊎_elim (made_gets v w f rs row h.0) (found_gets v w f rs row h.0) h.1
+  pub ends_gets : (r : Result Row E) → Ends v w f rs r → IfOk r (λ row. Gets v.store w.store f rs row.0)
+  ends_gets (Ok row) h = ⊎_elim (made_gets v w f rs row.0 h.0) (found_gets v w f rs row.0 h.0) h.1
   ends_gets (Err full) h = tt
 
-  pub ends_cause : (r : Result ℕ E) → Ends v w f rs r → IfErr r (λ _. KeepsCause v.store w.store f rs)
+  pub ends_cause : (r : Result Row E) → Ends v w f rs r → IfErr r (λ _. KeepsCause v.store w.store f rs)
   ends_cause (Ok row) h = tt
   ends_cause (Err full) h = refused_cause v w f rs h
 
-  pub ends_none : (r : Result ℕ E) → Ends v w f rs r → IfErr r (λ _. GetsNone v.store w.store)
+  pub ends_none : (r : Result Row E) → Ends v w f rs r → IfErr r (λ _. GetsNone v.store w.store)
   ends_none (Ok row) h = tt
   ends_none (Err full) h = refused_none v w f rs h
 
-  pub ends_rest : (r : Result ℕ E) → Ends v w f rs r → KeepsRest v.store w.store
-  ends_rest (Ok row) h = ⊎_elim (made_rest v w f rs row h.0) (found_rest v w f rs row h.0) h.1
+  pub ends_rest : (r : Result Row E) → Ends v w f rs r → KeepsRest v.store w.store
+  ends_rest (Ok row) h = ⊎_elim (made_rest v w f rs row.0 h.0) (found_rest v w f rs row.0 h.0) h.1
   ends_rest (Err full) h = refused_rest v w f rs h
 
-  pub ends_idle : (r : Result ℕ E) → Ends v w f rs r → w.store.call ≡ Idle
-  ends_idle (Ok row) h = ⊎_elim (λ (t : Makes v w f rs row h.0). ap (λ (u : NodeView). u.store.call) t.view) (λ (t : Finds v w f rs row h.0). ap (λ (u : NodeView). u.store.call) t.view) h.1
+  pub ends_idle : (r : Result Row E) → Ends v w f rs r → w.store.call ≡ Idle
+  ends_idle (Ok row) h = ⊎_elim (λ (t : Makes v w f rs row.0 h.0). ap (λ (u : NodeView). u.store.call) t.view) (λ (t : Finds v w f rs row.0 h.0). ap (λ (u : NodeView). u.store.call) t.view) h.1
   ends_idle (Err full) h = ⊎_elim (λ e. ap (λ (u : NodeView). u.store.call) e) (λ e. ap (λ (u : NodeView). u.store.call) e) h.full.view
 
-  pub ends_only : (r : Result ℕ E) → Ends v w f rs r → w ≡ with_store v w.store
-  ends_only (Ok row) h = ⊎_elim (made_only v w f rs row h.0) (found_only v w f rs row h.0) h.1
+  pub ends_only : (r : Result Row E) → Ends v w f rs r → w ≡ with_store v w.store
+  ends_only (Ok row) h = ⊎_elim (made_only v w f rs row.0 h.0) (found_only v w f rs row.0 h.0) h.1
   ends_only (Err full) h = refused_only v w f rs h

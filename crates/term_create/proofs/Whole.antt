@@ -20,9 +20,11 @@ use Rattle.node_rows.specs.declared.view.NodeView.{NodeView}
 use Rattle.node_rows.specs.Steps.{with_store, over, Known, Few}
 use Rattle.atomic_table.specs.declared.shared.Seat.{Seat}
 use Rattle.term_create.specs.Fitting.{Fits}
-use Rattle.term_create.specs.Stage.{SameSeat, at_call, at_walk, HasWalked, HasPassed, GoesOn, IsOther, Finds, Makes, IsFull, IsRefused, Relinks}
+use Rattle.term_create.specs.declared.asked.Asked.{Asked}
+use Rattle.term_create.specs.Stage.{HoldsAllAlone, FillsAfter, SameSeat, at_call, at_walk, HasWalked, HasPassed, GoesOn, IsOther, Finds, Makes, IsFull, IsRefused, Relinks}
 use Rattle.history_core.specs.declared.entry.Entry.TheVariants.{Make, Find}
-use Rattle.term_create.specs.Created.{NotesOne, Gets, KeepsCause, GetsNone, KeepsRest}
+use Rattle.node_rows.specs.Rows.{names}
+use Rattle.term_create.specs.Created.{NotesOne, Gets, KeepsCause, WasFilled, GetsNone, KeepsRest}
 
 not_less : (a b : ℕ) → b ≤ a → nat_lt a b ≡ false
 not_less a b l = grind (arith, nat_tests)
@@ -95,6 +97,23 @@ walk_passes v w k c d from old at h first here = record {
   leads = subst (PathTo c from h.path) here h.leads;
   view = h.view ∙ ap (λ (b : Bool). at_walk v (v.store.passed + k) (v.store.path ++ h.path) (cond b (ended c d from) (Comparing c d from old at 0))) (eq-eqb at old here);
 }
+
+-- a claim that was read as below the free count notes nothing
+pub count_holds : (a : Asked) (v v1 v2 : NodeView) (c : Content) (from claim count : ℕ) → v1 ≡ at_call v (Counting c from claim) → v2 ≡ with_store v1 (cond (nat_lt claim count) (with_call v1.store (Drawing c from count)) (refusing v1.store c from claim count)) → claim < count → HoldsAllAlone a v2 → HoldsAllAlone a v
+count_holds a v v1 v2 c from claim count e f l h = subst (HoldsAllAlone a) e
+    (subst (λ (b : Bool). HoldsAllAlone a (with_store v1 (cond b (with_call v1.store (Drawing c from count)) (refusing v1.store c from claim count)))) (is_less claim count l) (subst (HoldsAllAlone a) f h))
+
+-- what a creation finds on its way counts from where it began
+pub filled_before : (a : Asked) (i j : ℕ) → j ≡ i → (v w : NodeView) (n : ℕ) (ps : List Passed) (x : Call) → w ≡ at_walk v n ps x → FillsAfter a j w → FillsAfter a i v
+filled_before a i j same v w n ps x e h = λ fresh.
+    let t : WasFilled a.store.now.sizes i (at_walk v n ps x) a.head (names a.args.now) = subst (λ (y : ℕ × NodeView). FillsAfter a y.0 y.1) (λ k. (same k, e k)) h fresh in
+    record { passed = t.passed; path = t.path; call = t.call; filled = t.filled }
+
+pub count_fills : (a : Asked) (i j : ℕ) → j ≡ i → (v v1 v2 : NodeView) (c : Content) (from claim count : ℕ) → v1 ≡ at_call v (Counting c from claim) → v2 ≡ with_store v1 (cond (nat_lt claim count) (with_call v1.store (Drawing c from count)) (refusing v1.store c from claim count)) → claim < count → FillsAfter a j v2 → FillsAfter a i v
+count_fills a i j same v v1 v2 c from claim count e f l h =
+    filled_before a i i refl v v1 v.store.passed v.store.path (Counting c from claim) e
+    (filled_before a i j same v1 v2 v1.store.passed v1.store.path (Drawing c from count)
+    (f ∙ ap (λ (b : Bool). with_store v1 (cond b (with_call v1.store (Drawing c from count)) (refusing v1.store c from claim count))) (is_less claim count l)) h)
 
 -- the claim was read as full
 pub full_count : (v v1 w : NodeView) (c : Content) (from claim count : ℕ) → v1 ≡ at_call v (Counting c from claim) → w ≡ with_store v1 (cond (nat_lt claim count) (with_call v1.store (Drawing c from count)) (refusing v1.store c from claim count)) → count ≤ claim → IsFull v w c from

@@ -6,11 +6,15 @@ use Rattle.hash_buckets.specs.Spelled.{spelled}
 use Rattle.store_core.specs.declared.view.Sizes.{Sizes}
 use Rattle.store_core.specs.declared.view.View.{View}
 use Rattle.store_core.specs.declared.view.Refusal.{Refusal}
+use Rattle.store_core.specs.declared.view.Passed.{Passed}
+use Rattle.store_core.specs.declared.view.Call.{Call}
 use Rattle.store_core.specs.Calls.{IsOver}
 use Rattle.store_core.specs.ByView.{KnowsSecond}
-use Rattle.store_core.specs.Machine.{Each, In, widest, words_known}
+use Rattle.store_core.specs.Machine.{Each, In, widest, words_known, with_call, with_path}
 use Rattle.store_core.specs.Reads.{IsRefusal}
-use Rattle.node_rows.specs.Steps.{over}
+use Rattle.node_rows.specs.declared.view.NodeView.{NodeView}
+use Rattle.node_rows.specs.Full.{IsFilled}
+use Rattle.node_rows.specs.Steps.{over, with_store}
 
 -- A pass may create a head over these rows: there is room for them, the head may stand over so many, the pass got them in its
 -- epoch, and it knows of a cell's second argument that it is a list.
@@ -40,6 +44,14 @@ pub record KeepsCause (v w : View) (f : Head) (rs : List ℕ) : Type 0 where
   pub wanted : refusal.content ≡ over f rs
   pub cause : IsRefusal refusal
   pub kept : w.refused ≡ v.refused ++ refusal ∷ []
+
+-- At a moment of the creation, when seat i knew what is in the view v but for its call under way, each row had a tree, and none the
+-- asked one.
+pub record WasFilled (z : Sizes) (i : ℕ) (v : NodeView) (f : Head) (rs : List ℕ) : Type 0 where
+  pub passed : ℕ
+  pub path : List Passed
+  pub call : Call
+  pub filled : IsFilled z i (with_store v (with_call (with_path v.store passed path) call)) (over f rs)
 
 -- nothing was noted, and no row was got
 pub record GetsNone (v w : View) : Type 0 where

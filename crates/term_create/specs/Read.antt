@@ -1,12 +1,10 @@
 -- What a read of a row leaves in what its pass knows.
-use Rattle.std.specs.Prelude.{◌≡◌, ℕ, suc, ◌+◌, ◌<◌, min, List, [], ◌∷◌, ◌++◌}
+use Rattle.std.specs.Prelude.{◌≡◌, ℕ, suc, ◌+◌, ◌<◌, List, [], ◌∷◌, ◌++◌}
 use Rattle.term_model.specs.declared.Head.{Head}
 use Rattle.term_model.specs.declared.Head.TheVariants.{App, Int, Nil, Cons}
 use Rattle.hash_buckets.specs.Spelled.{symbol_word}
 use Rattle.store_core.specs.declared.view.KnownWord.{KnownWord}
-use Rattle.store_core.specs.declared.view.Sizes.{Sizes}
 use Rattle.store_core.specs.ByView.{KnowsWord}
-use Rattle.store_core.specs.Machine.{widest}
 use Rattle.node_rows.specs.declared.view.NodeView.{NodeView}
 use Rattle.node_rows.specs.Steps.{with_store}
 
@@ -28,15 +26,8 @@ Reads v w ks = w ≡ with_store v (record v.store { knows = ks ++ v.store.knows 
 abbrev pub ReadsChild : NodeView → NodeView → ℕ → ℕ → ℕ → Type 0
 ReadsChild v w r j child = w ≡ with_store v (record v.store { knows = word r (suc (suc j)) child ∷ v.store.knows; got = child ∷ v.store.got })
 
--- the count of arguments was read: its word, which is at most what a row has room for
-pub record ReadsCount (z : Sizes) (v w : NodeView) (r count : ℕ) : Type 0 where
-  pub found : ℕ
-  pub reads : Reads v w (word r 1 found ∷ [])
-  pub is : count ≡ min found (widest z)
-
 -- the pass knows of row r that it has an argument j
-pub record HasArgument (z : Sizes) (ks : List KnownWord) (r j : ℕ) : Type 0 where
+pub record HasArgument (ks : List KnownWord) (r j : ℕ) : Type 0 where
   pub count : ℕ
   pub known : KnowsWord r 1 count ks
   pub below : j < count
-  pub within : j < widest z

@@ -1,5 +1,5 @@
 -- The stages of a creation, as they show in the own view.
-use Rattle.std.specs.Prelude.{◌≡◌, ◌≢◌, ◌⊎◌, ◌==◌, if◌then◌else◌, ℕ, suc, pred, max, ◌<◌, ◌≤◌, ◌+◌, Option, List, [], ◌∷◌, ◌++◌, length}
+use Rattle.std.specs.Prelude.{◌≡◌, ◌≢◌, ◌⊎◌, ◌==◌, if◌then◌else◌, true, ℕ, suc, pred, max, ◌<◌, ◌≤◌, ◌+◌, Option, List, [], ◌∷◌, ◌++◌, length}
 use Rattle.atomic_table.specs.declared.shared.Seat.{Seat}
 use Rattle.term_model.specs.declared.Head.{Head}
 use Rattle.history_core.specs.declared.entry.Entry.TheVariants.{Make, Find}
@@ -13,14 +13,17 @@ use Rattle.store_core.specs.Machine.{with_call, with_path, passing, gained, refu
 use Rattle.store_core.specs.Reads.{Differs, PathTo}
 use Rattle.busy_forbidden.specs.Calls.{IsSame}
 use Rattle.node_rows.specs.declared.view.NodeView.{NodeView}
+use Rattle.term_create.specs.Created.{WasFilled}
 use Rattle.term_create.specs.declared.asked.Asked.{Asked}
 use Rattle.term_create.specs.declared.asked.Noted.{Noted}
 use Rattle.term_create.specs.declared.asked.Noted.TheVariants.{Made, Found}
+use Rattle.node_rows.specs.Full.{HoldsAll}
+use Rattle.node_rows.specs.Rows.{names}
 use Rattle.node_rows.specs.Steps.{IsOf, Known, with_store, over}
 
 -- what is asked
 abbrev pub content : Asked → Content
-content a = over a.head a.args.now
+content a = over a.head (names a.args.now)
 
 -- the seat is one of the store, and what its view says by itself holds
 pub record IsAt (a : Asked) (seat : Seat (Unit {0}) NodeView) : Type 0 where
@@ -31,6 +34,14 @@ pub record IsAt (a : Asked) (seat : Seat (Unit {0}) NodeView) : Type 0 where
 pub record IsBased (a : Asked) (v : View) : Type 0 where
   pub base : a.base ≡ v.base
   pub place : a.place ≡ bucket (content a) v.in_use
+
+-- where the pass is the only one of the store, each row has a tree, by its entries
+abbrev pub HoldsAllAlone : Asked → NodeView → Type 0
+HoldsAllAlone a v = a.store.now.sizes.seats ≡ 1 → HoldsAll a.store.now.sizes.rows v.store.entries
+
+-- where seat i has collected in its access, the store was filled at some moment, without the tree that is asked
+abbrev pub FillsAfter : Asked → ℕ → NodeView → Type 0
+FillsAfter a i v = v.store.fresh ≡ true → WasFilled a.store.now.sizes i v a.head (names a.args.now)
 
 -- the same seat of the same store
 pub record SameSeat (a b : Seat (Unit {0}) NodeView) (i j m n : ℕ) : Type 0 where

@@ -1,11 +1,12 @@
-//! What a creation asks for, and where.
+//! What a creation asks for, where, and how it may end.
 ghost use Rattle.std.specs.Prelude.{◌≡◌, ◌+◌, ◌*◌, ◌<◌};
 ghost use Rattle.store_core.specs.Machine.{widest};
+ghost use Rattle.node_rows.specs.Rows.{names};
 ghost use Rattle.node_rows.specs.Passes.{IsStore};
 ghost use Rattle.term_create.specs.Fitting.{Fits};
 
 use node_rows::Store;
-use term_model::Head;
+use term_model::{Head, Row};
 
 /// A head over rows that is asked of a store, at the base of the pass, and the bucket of it; with the word where the rows of the store
 /// begin, and how many words a row has.
@@ -13,13 +14,13 @@ use term_model::Head;
 pub(crate) struct Asked<'a> {
     pub(crate) store: &'a Store,
     pub(crate) head: Head,
-    pub(crate) args: &'a [u64],
+    pub(crate) args: &'a [Row],
     pub(crate) base: u64,
     pub(crate) place: u64,
     pub(crate) first_row: usize,
     pub(crate) row_size: usize,
     ghost at: { IsStore store.now.table.shared.table_id store.now.table.shared.key store.now.sizes },
-    ghost fits: { Fits store.now.sizes head args.now },
+    ghost fits: { Fits store.now.sizes head (names args.now) },
     ghost within: { place < store.now.sizes.buckets },
     ghost rows_begin: { first_row ≡ 1 + 2 * store.now.sizes.seats + 4 + store.now.sizes.rows + store.now.sizes.buckets },
     ghost rows_are: { row_size ≡ widest store.now.sizes + 4 },
@@ -47,3 +48,7 @@ pub(crate) enum Noted {
     Made(u64, u64),
     Found(u64, u64),
 }
+
+/// No row is free.
+#[derive(Clone, Copy, Debug, PartialEq, Eq)]
+pub struct Full;

@@ -1,167 +1,32 @@
-//! Creations: a walk, and where it ends without the row, a draw and the publishing of the drawn row.
-ghost use Rattle.std.specs.Prelude.{◌≡◌, ◌<◌, ◌≤◌, ◌+◌, ◌*◌, None, [], MatchResult, IfOk, IfErr};
+//! Creations: a walk, and where it ends without the row, the making of one.
+ghost use Rattle.std.specs.Prelude.{◌≡◌, ◌<◌, ◌≤◌, ◌+◌, ◌*◌, true, None, [], MatchResult, IfOk, IfErr};
 ghost use Rattle.lock_core.specs.declared.parts.Phase.TheVariants.{Shared};
-ghost use Rattle.store_core.specs.declared.view.Call.TheVariants.{Ended, Filling, Linking};
 ghost use Rattle.store_core.specs.Machine.{arrived, with_path, widest};
 ghost use Rattle.busy_forbidden.specs.Calls.{IsSame};
+ghost use Rattle.node_rows.specs.Rows.{names};
+ghost use Rattle.node_rows.specs.Full.{HoldsAll};
 ghost use Rattle.node_rows.specs.Knowing.{IsAbsent};
-ghost use Rattle.node_rows.specs.Steps.{over, with_store, Known};
+ghost use Rattle.node_rows.specs.Steps.{over, with_store, Known, MayCreateBy};
 ghost use Rattle.node_rows.specs.Passes.{IsPass};
 ghost use Rattle.node_rows.specs.Inside.{IsInside};
-ghost use Rattle.term_create.specs.Counted.{Takes, row_steps};
-ghost use Rattle.term_create.specs.Stage.{IsAt, IsBased, SameSeat, Notes, IsFull, IsRefused, Relinks, content, at_call};
+ghost use Rattle.term_create.specs.Counted.{row_steps};
+ghost use Rattle.term_create.specs.Stage.{IsAt, IsBased, SameSeat, Notes, IsRefused, HoldsAllAlone, FillsAfter, content};
 ghost use Rattle.term_create.specs.Ended.{Ends, SamePlain};
 ghost use Rattle.node_rows.specs.Told.{Tells};
-ghost use Rattle.term_create.specs.Created.{MayCreate, NotesOne, Gets, KeepsCause, GetsNone, KeepsRest};
+ghost use Rattle.term_create.specs.Created.{MayCreate, NotesOne, Gets, KeepsCause, WasFilled, GetsNone, KeepsRest};
 
-use crate::asked::{Asked, Drawn, Noted, Walk};
+use crate::asked::{Asked, Full, Noted, Walk};
 use crate::counting::Steps;
+use crate::making::{draw_row, publish_row};
 use crate::places::{first_row, row_size};
-use crate::stages::{
-    draw, fill_one, link, number_row, publish, read_claim, read_count, read_place,
-};
 use crate::telling::told_of;
 use crate::walking::walk;
-use crate::words::{bucket_of, word_count};
+use crate::words::bucket_of;
 use busy_forbidden::Seat;
 use node_rows::{NodeRows, Pass, Store, begin, bucket_word};
 use std::marker::Brand;
 use std::sync::ledger::{Blank, Ledger};
-use term_model::Head;
-
-/// No row is free.
-#[derive(Clone, Copy, Debug, PartialEq, Eq)]
-pub struct Full;
-
-// Stores the words of the drawn row, and its birth number.
-fn fill_row<L: Ledger>(
-    asked: &Asked<'_>,
-    seat: &mut Seat<NodeRows>,
-    steps: &mut Steps<L>,
-    drawn: Drawn,
-)
-    requires at { IsAt asked.now seat.old.seat }
-    requires based { IsBased asked.now seat.old.seat.me.0.store }
-    requires stage { seat.old.seat.me.0.store.call ≡ Filling (content asked.now) drawn.from drawn.index drawn.row 0 }
-    ensures at { IsAt asked.now seat.new.seat }
-    ensures same { SameSeat seat.old.seat seat.new.seat
-        seat.old.number seat.new.number seat.old.seats seat.new.seats }
-    ensures view { seat.new.seat.me.0 ≡ at_call seat.old.seat.me.0
-        (Linking (content asked.now) drawn.from drawn.index drawn.row) }
-    ensures cost { steps.new ≤ steps.old + (widest asked.now.store.now.sizes + 3) }
-{
-    let count = word_count(asked.head, asked.args);
-    for k in 0..count {
-        fill_one(asked, seat, steps, drawn, k);
-    }
-    number_row(asked, seat, steps, drawn);
-}
-
-// Links the drawn row, and publishes it; or finds one that another seat has published meanwhile; or comes to a newer head.
-fn publish_once<L: Ledger>(
-    asked: &Asked<'_>,
-    seat: &mut Seat<NodeRows>,
-    steps: &mut Steps<L>,
-    drawn: Drawn,
-) -> Result<Noted, u64>
-    requires at { IsAt asked.now seat.old.seat }
-    requires based { IsBased asked.now seat.old.seat.me.0.store }
-    requires stage { seat.old.seat.me.0.store.call ≡ Linking (content asked.now) drawn.from drawn.index drawn.row }
-    ensures at { IsAt asked.now seat.new.seat }
-    ensures same { SameSeat seat.old.seat seat.new.seat
-        seat.old.number seat.new.number seat.old.seats seat.new.seats }
-    ensures view { let v = seat.old.seat.me.0 in let w = seat.new.seat.me.0 in MatchResult result
-        (Notes v w asked.now.head asked.now.args.now)
-        (λ found. Relinks v w (Linking (content asked.now) found drawn.index drawn.row)) }
-    ensures cost { let z = asked.now.store.now.sizes in let before = seat.old.seat.me.0.store.passed in MatchResult result
-        (λ _. Takes z 2 before z.rows steps.old steps.new)
-        (λ _. Takes z 2 before seat.new.seat.me.0.store.passed steps.old steps.new) }
-{
-    link(asked, seat, steps, drawn);
-    let found = publish(asked, seat, steps, drawn);
-    if found == drawn.from {
-        return Ok(Noted::Made(drawn.row, asked.base + drawn.index));
-    }
-    let part = Walk {
-        drawn: Some((drawn.index, drawn.row)),
-        from: found,
-        old: drawn.from,
-    };
-    match walk(asked, seat, steps, part) {
-        Some(other) => Ok(other),
-        None => Err(found),
-    }
-}
-
-// Publishes the drawn row, or finds one that another seat has published meanwhile.
-#[cold]
-#[inline(never)]
-fn publish_row<L: Ledger>(
-    asked: &Asked<'_>,
-    seat: &mut Seat<NodeRows>,
-    steps: &mut Steps<L>,
-    drawn: Drawn,
-) -> Noted
-    requires at { IsAt asked.now seat.old.seat }
-    requires based { IsBased asked.now seat.old.seat.me.0.store }
-    requires stage { seat.old.seat.me.0.store.call ≡ Linking (content asked.now) drawn.from drawn.index drawn.row }
-    ensures at { IsAt asked.now seat.new.seat }
-    ensures same { SameSeat seat.old.seat seat.new.seat
-        seat.old.number seat.new.number seat.old.seats seat.new.seats }
-    ensures view { let v = seat.old.seat.me.0 in let w = seat.new.seat.me.0 in
-        Notes v w asked.now.head asked.now.args.now result }
-    ensures cost { let z = asked.now.store.now.sizes in
-        Takes z (2 * (z.rows + 1)) seat.old.seat.me.0.store.passed z.rows steps.old steps.new }
-{
-    let mut head_read = drawn.from;
-    for _step in 0..asked.store.sizes.rows as u64 + 1 {
-        let again = Drawn {
-            from: head_read,
-            index: drawn.index,
-            row: drawn.row,
-        };
-        match publish_once(asked, seat, steps, again) {
-            Ok(result) => return result,
-            Err(found) => head_read = found,
-        }
-    }
-    unreachable!()
-}
-
-// Draws a row, and stores it, where one is free.
-#[cold]
-#[inline(never)]
-fn draw_row<L: Ledger>(
-    asked: &Asked<'_>,
-    seat: &mut Seat<NodeRows>,
-    steps: &mut Steps<L>,
-    from: u64,
-) -> Result<Drawn, Full>
-    requires at { IsAt asked.now seat.old.seat }
-    requires based { IsBased asked.now seat.old.seat.me.0.store }
-    requires stage { seat.old.seat.me.0.store.call ≡ Ended (content asked.now) from }
-    ensures at { IsAt asked.now seat.new.seat }
-    ensures same { SameSeat seat.old.seat seat.new.seat
-        seat.old.number seat.new.number seat.old.seats seat.new.seats }
-    ensures view { let v = seat.old.seat.me.0 in let w = seat.new.seat.me.0 in MatchResult result
-        (λ d. w ≡ at_call v (Linking (content asked.now) d.from d.index d.row))
-        (λ _. IsFull v w (content asked.now) from) }
-    ensures cost { steps.new ≤ steps.old + (widest asked.now.store.now.sizes + 7) }
-{
-    let claim = read_claim(asked, seat, steps, from);
-    let count = read_count(asked, seat, steps, from, claim);
-    if claim >= count {
-        return Err(Full);
-    }
-    let index = draw(asked, seat, steps, from, count);
-    if index >= count {
-        return Err(Full);
-    }
-    let row = read_place(asked, seat, steps, from, index);
-    let drawn = Drawn { from, index, row };
-    fill_row(asked, seat, steps, drawn);
-    Ok(drawn)
-}
+use term_model::{Head, Row};
 
 // Goes on with a creation that has begun with this head of a chain.
 #[inline(always)]
@@ -179,10 +44,12 @@ fn create_from<L: Ledger>(
     ensures same { SameSeat seat.old.seat seat.new.seat
         seat.old.number seat.new.number seat.old.seats seat.new.seats }
     ensures view { let v = seat.old.seat.me.0 in let w = seat.new.seat.me.0 in MatchResult result
-        (Notes v w asked.now.head asked.now.args.now)
+        (Notes v w asked.now.head (names asked.now.args.now))
         (λ _. IsRefused v w (content asked.now)) }
     ensures alone { IfErr result (λ _. asked.now.store.now.sizes.seats ≡ 1 →
         IsAbsent seat.old.seat.me.0.store.entries (content asked.now)) }
+    ensures all { IfErr result (λ _. HoldsAllAlone asked.now seat.old.seat.me.0) }
+    ensures filled { IfErr result (λ _. FillsAfter asked.now seat.old.number seat.old.seat.me.0) }
     ensures cost { let z = asked.now.store.now.sizes in
         steps.new ≤ steps.old + (2 * (z.rows + 1) + (widest z + 7) + z.rows * row_steps z) }
 {
@@ -207,12 +74,12 @@ fn create_noted<L: Ledger>(
     store: &Store,
     pass: &mut Pass,
     head: Head,
-    args: &[u64],
+    args: &[Row],
     steps: &mut Steps<L>,
 ) -> Result<Noted, Full>
     requires inside { IsInside store.now pass.old }
-    requires shared { pass.old.seat.seat.me.0.lock.phase ≡ Shared }
-    requires may { MayCreate store.now.sizes pass.old.seat.seat.me.0.store head args.now }
+    requires access { MayCreateBy pass.old.seat.seat.me.0 }
+    requires may { MayCreate store.now.sizes pass.old.seat.seat.me.0.store head (names args.now) }
     ensures pass { IsPass store.now.table.shared.table_id store.now.sizes pass.new.seat.seat pass.new.seat.seats }
     ensures same { SameSeat pass.old.seat.seat pass.new.seat.seat
         pass.old.seat.number pass.new.seat.number pass.old.seat.seats pass.new.seat.seats }
@@ -220,10 +87,14 @@ fn create_noted<L: Ledger>(
     ensures plain { SamePlain pass.old pass.new }
     ensures known { Known store.now.sizes pass.new.seat.seat.me.0.store }
     ensures view { let v = pass.old.seat.seat.me.0 in let w = pass.new.seat.seat.me.0 in MatchResult result
-        (Notes v w head args.now)
-        (λ _. IsRefused (with_store v (with_path v.store 0 [])) w (over head args.now)) }
+        (Notes v w head (names args.now))
+        (λ _. IsRefused (with_store v (with_path v.store 0 [])) w (over head (names args.now))) }
     ensures alone { IfErr result (λ _. store.now.sizes.seats ≡ 1 →
-        IsAbsent pass.old.seat.seat.me.0.store.entries (over head args.now)) }
+        IsAbsent pass.old.seat.seat.me.0.store.entries (over head (names args.now))) }
+    ensures all { IfErr result (λ _. store.now.sizes.seats ≡ 1 →
+        HoldsAll store.now.sizes.rows pass.old.seat.seat.me.0.store.entries) }
+    ensures filled { IfErr result (λ _. pass.old.seat.seat.me.0.store.fresh ≡ true →
+        WasFilled store.now.sizes pass.old.seat.number pass.old.seat.seat.me.0 head (names args.now)) }
     ensures cost { steps.new ≤ steps.old + (widest store.now.sizes + 8) * (store.now.sizes.rows + 2) }
 {
     let asked = Asked {
@@ -247,26 +118,30 @@ fn create_whole<L: Ledger>(
     store: &Store,
     pass: &mut Pass,
     head: Head,
-    args: &[u64],
+    args: &[Row],
     steps: &mut Steps<L>,
-) -> Result<u64, Full>
+) -> Result<Row, Full>
     requires inside { IsInside store.now pass.old }
-    requires shared { pass.old.seat.seat.me.0.lock.phase ≡ Shared }
-    requires may { MayCreate store.now.sizes pass.old.seat.seat.me.0.store head args.now }
+    requires access { MayCreateBy pass.old.seat.seat.me.0 }
+    requires may { MayCreate store.now.sizes pass.old.seat.seat.me.0.store head (names args.now) }
     ensures pass { IsPass store.now.table.shared.table_id store.now.sizes pass.new.seat.seat pass.new.seat.seats }
     ensures same { SameSeat pass.old.seat.seat pass.new.seat.seat
         pass.old.seat.number pass.new.seat.number pass.old.seat.seats pass.new.seat.seats }
     ensures loaded { (pass.new.base ≡ pass.old.base) × (pass.new.in_use ≡ pass.old.in_use) }
     ensures known { Known store.now.sizes pass.new.seat.seat.me.0.store }
-    ensures view { Ends pass.old.seat.seat.me.0 pass.new.seat.seat.me.0 head args.now result }
+    ensures view { Ends pass.old.seat.seat.me.0 pass.new.seat.seat.me.0 head (names args.now) result }
     ensures told { Tells pass.new }
     ensures alone { IfErr result (λ _. store.now.sizes.seats ≡ 1 →
-        IsAbsent pass.old.seat.seat.me.0.store.entries (over head args.now)) }
+        IsAbsent pass.old.seat.seat.me.0.store.entries (over head (names args.now))) }
+    ensures all { IfErr result (λ _. store.now.sizes.seats ≡ 1 →
+        HoldsAll store.now.sizes.rows pass.old.seat.seat.me.0.store.entries) }
+    ensures filled { IfErr result (λ _. pass.old.seat.seat.me.0.store.fresh ≡ true →
+        WasFilled store.now.sizes pass.old.seat.number pass.old.seat.seat.me.0 head (names args.now)) }
     ensures cost { steps.new ≤ steps.old + (widest store.now.sizes + 8) * (store.now.sizes.rows + 2) }
 {
     match create_noted(store, pass, head, args, steps) {
         Ok(noted) => {
-            let told = told_of(pass.seen, noted);
+            let told = told_of(&store.sizes, pass.seen, noted);
             pass.seen = told.seen;
             pass.last = told.last;
             Ok(told.row)
@@ -277,29 +152,37 @@ fn create_whole<L: Ledger>(
 
 /// Creates a head over rows: gives the row that has it, or makes one where a row is free. `Full` comes only where the chain
 /// in which the row would stand was read to its end without it, and the claim was read or drawn as at least the free count; where
-/// the store has one pass, no row has the tree then. Each atomic step on a word is a tick of `steps`: with A the greater of the
-/// store's arity and 2, there are at most (A + 8) * (rows + 2).
+/// the store has one pass, or the pass has collected in its access, each row has a tree then, and none has the asked one. It needs
+/// shared access, or exclusive access after a collection of it. Each atomic step on a word is a tick of `steps`: with A the greater
+/// of the store's arity and 2, there are at most (A + 8) * (rows + 2).
 pub fn create_counted<L: Ledger>(
     store: &Store,
     pass: &mut Pass,
     head: Head,
-    args: &[u64],
+    args: &[Row],
     steps: &mut Steps<L>,
-) -> Result<u64, Full>
+) -> Result<Row, Full>
     requires inside { IsInside store.now pass.old }
-    requires shared { pass.old.seat.seat.me.0.lock.phase ≡ Shared }
-    requires may { MayCreate store.now.sizes pass.old.seat.seat.me.0.store head args.now }
+    requires access { MayCreateBy pass.old.seat.seat.me.0 }
+    requires may { MayCreate store.now.sizes pass.old.seat.seat.me.0.store head (names args.now) }
     ensures inside { IsInside store.now pass.new }
     ensures same { IsSame pass.old.seat.seat pass.new.seat.seat × (pass.new.seat.number ≡ pass.old.seat.number) }
     ensures only { pass.new.seat.seat.me.0 ≡ with_store pass.old.seat.seat.me.0 pass.new.seat.seat.me.0.store }
     ensures notes { IfOk result (λ row.
-        NotesOne pass.old.seat.seat.me.0.store pass.new.seat.seat.me.0.store head args.now row) }
+        NotesOne pass.old.seat.seat.me.0.store pass.new.seat.seat.me.0.store
+        head (names args.now) row.0) }
     ensures gets { IfOk result (λ row.
-        Gets pass.old.seat.seat.me.0.store pass.new.seat.seat.me.0.store head args.now row) }
+        Gets pass.old.seat.seat.me.0.store pass.new.seat.seat.me.0.store
+        head (names args.now) row.0) }
     ensures full_only_where_read_full { IfErr result (λ _.
-        KeepsCause pass.old.seat.seat.me.0.store pass.new.seat.seat.me.0.store head args.now) }
+        KeepsCause pass.old.seat.seat.me.0.store pass.new.seat.seat.me.0.store
+        head (names args.now)) }
     ensures full_alone_only_where_absent { IfErr result (λ _. store.now.sizes.seats ≡ 1 →
-        IsAbsent pass.old.seat.seat.me.0.store.entries (over head args.now)) }
+        IsAbsent pass.old.seat.seat.me.0.store.entries (over head (names args.now))) }
+    ensures full_alone_only_where_all_rows_are_held { IfErr result (λ _. store.now.sizes.seats ≡ 1 →
+        HoldsAll store.now.sizes.rows pass.old.seat.seat.me.0.store.entries) }
+    ensures full_after_collection_only_where_filled { IfErr result (λ _. pass.old.seat.seat.me.0.store.fresh ≡ true →
+        WasFilled store.now.sizes pass.old.seat.number pass.old.seat.seat.me.0 head (names args.now)) }
     ensures full_gets_none { IfErr result (λ _. GetsNone pass.old.seat.seat.me.0.store pass.new.seat.seat.me.0.store) }
     ensures rest { KeepsRest pass.old.seat.seat.me.0.store pass.new.seat.seat.me.0.store }
     ensures bound { steps.new ≤ steps.old + (widest store.now.sizes + 8) * (store.now.sizes.rows + 2) }
@@ -313,25 +196,32 @@ fn create_uncounted<L: Ledger>(
     store: &Store,
     pass: &mut Pass,
     head: Head,
-    args: &[u64],
+    args: &[Row],
     blank: Blank,
-) -> Result<u64, Full>
+) -> Result<Row, Full>
     requires name { blank.name ≡ L.name }
     requires parts { (blank.parts ≡ L.parts) × (0 < L.parts) }
     requires inside { IsInside store.now pass.old }
-    requires shared { pass.old.seat.seat.me.0.lock.phase ≡ Shared }
-    requires may { MayCreate store.now.sizes pass.old.seat.seat.me.0.store head args.now }
+    requires access { MayCreateBy pass.old.seat.seat.me.0 }
+    requires may { MayCreate store.now.sizes pass.old.seat.seat.me.0.store head (names args.now) }
     ensures inside { IsInside store.now pass.new }
     ensures same { IsSame pass.old.seat.seat pass.new.seat.seat × (pass.new.seat.number ≡ pass.old.seat.number) }
     ensures only { pass.new.seat.seat.me.0 ≡ with_store pass.old.seat.seat.me.0 pass.new.seat.seat.me.0.store }
     ensures notes { IfOk result (λ row.
-        NotesOne pass.old.seat.seat.me.0.store pass.new.seat.seat.me.0.store head args.now row) }
+        NotesOne pass.old.seat.seat.me.0.store pass.new.seat.seat.me.0.store
+        head (names args.now) row.0) }
     ensures gets { IfOk result (λ row.
-        Gets pass.old.seat.seat.me.0.store pass.new.seat.seat.me.0.store head args.now row) }
+        Gets pass.old.seat.seat.me.0.store pass.new.seat.seat.me.0.store
+        head (names args.now) row.0) }
     ensures full_only_where_read_full { IfErr result (λ _.
-        KeepsCause pass.old.seat.seat.me.0.store pass.new.seat.seat.me.0.store head args.now) }
+        KeepsCause pass.old.seat.seat.me.0.store pass.new.seat.seat.me.0.store
+        head (names args.now)) }
     ensures full_alone_only_where_absent { IfErr result (λ _. store.now.sizes.seats ≡ 1 →
-        IsAbsent pass.old.seat.seat.me.0.store.entries (over head args.now)) }
+        IsAbsent pass.old.seat.seat.me.0.store.entries (over head (names args.now))) }
+    ensures full_alone_only_where_all_rows_are_held { IfErr result (λ _. store.now.sizes.seats ≡ 1 →
+        HoldsAll store.now.sizes.rows pass.old.seat.seat.me.0.store.entries) }
+    ensures full_after_collection_only_where_filled { IfErr result (λ _. pass.old.seat.seat.me.0.store.fresh ≡ true →
+        WasFilled store.now.sizes pass.old.seat.number pass.old.seat.seat.me.0 head (names args.now)) }
     ensures full_gets_none { IfErr result (λ _. GetsNone pass.old.seat.seat.me.0.store pass.new.seat.seat.me.0.store) }
     ensures rest { KeepsRest pass.old.seat.seat.me.0.store pass.new.seat.seat.me.0.store }
 {
@@ -339,23 +229,57 @@ fn create_uncounted<L: Ledger>(
 }
 
 /// Creates a head over rows as `create_counted` does, and counts no step.
-pub fn create(store: &Store, pass: &mut Pass, head: Head, args: &[u64]) -> Result<u64, Full>
+pub fn create_inside(store: &Store, pass: &mut Pass, head: Head, args: &[Row]) -> Result<Row, Full>
     requires inside { IsInside store.now pass.old }
-    requires shared { pass.old.seat.seat.me.0.lock.phase ≡ Shared }
-    requires may { MayCreate store.now.sizes pass.old.seat.seat.me.0.store head args.now }
+    requires access { MayCreateBy pass.old.seat.seat.me.0 }
+    requires may { MayCreate store.now.sizes pass.old.seat.seat.me.0.store head (names args.now) }
     ensures inside { IsInside store.now pass.new }
     ensures same { IsSame pass.old.seat.seat pass.new.seat.seat × (pass.new.seat.number ≡ pass.old.seat.number) }
     ensures only { pass.new.seat.seat.me.0 ≡ with_store pass.old.seat.seat.me.0 pass.new.seat.seat.me.0.store }
     ensures notes { IfOk result (λ row.
-        NotesOne pass.old.seat.seat.me.0.store pass.new.seat.seat.me.0.store head args.now row) }
+        NotesOne pass.old.seat.seat.me.0.store pass.new.seat.seat.me.0.store
+        head (names args.now) row.0) }
     ensures gets { IfOk result (λ row.
-        Gets pass.old.seat.seat.me.0.store pass.new.seat.seat.me.0.store head args.now row) }
+        Gets pass.old.seat.seat.me.0.store pass.new.seat.seat.me.0.store
+        head (names args.now) row.0) }
     ensures full_only_where_read_full { IfErr result (λ _.
-        KeepsCause pass.old.seat.seat.me.0.store pass.new.seat.seat.me.0.store head args.now) }
+        KeepsCause pass.old.seat.seat.me.0.store pass.new.seat.seat.me.0.store
+        head (names args.now)) }
     ensures full_alone_only_where_absent { IfErr result (λ _. store.now.sizes.seats ≡ 1 →
-        IsAbsent pass.old.seat.seat.me.0.store.entries (over head args.now)) }
+        IsAbsent pass.old.seat.seat.me.0.store.entries (over head (names args.now))) }
+    ensures full_alone_only_where_all_rows_are_held { IfErr result (λ _. store.now.sizes.seats ≡ 1 →
+        HoldsAll store.now.sizes.rows pass.old.seat.seat.me.0.store.entries) }
+    ensures full_after_collection_only_where_filled { IfErr result (λ _. pass.old.seat.seat.me.0.store.fresh ≡ true →
+        WasFilled store.now.sizes pass.old.seat.number pass.old.seat.seat.me.0 head (names args.now)) }
     ensures full_gets_none { IfErr result (λ _. GetsNone pass.old.seat.seat.me.0.store pass.new.seat.seat.me.0.store) }
     ensures rest { KeepsRest pass.old.seat.seat.me.0.store pass.new.seat.seat.me.0.store }
 {
     create_uncounted::<Brand>(store, pass, head, args, Blank::new(1))
+}
+
+/// Creates a head over rows in shared access, as `create_inside` does.
+pub fn create(store: &Store, pass: &mut Pass, head: Head, args: &[Row]) -> Result<Row, Full>
+    requires inside { IsInside store.now pass.old }
+    requires shared { pass.old.seat.seat.me.0.lock.phase ≡ Shared }
+    requires may { MayCreate store.now.sizes pass.old.seat.seat.me.0.store head (names args.now) }
+    ensures inside { IsInside store.now pass.new }
+    ensures same { IsSame pass.old.seat.seat pass.new.seat.seat × (pass.new.seat.number ≡ pass.old.seat.number) }
+    ensures only { pass.new.seat.seat.me.0 ≡ with_store pass.old.seat.seat.me.0 pass.new.seat.seat.me.0.store }
+    ensures notes { IfOk result (λ row.
+        NotesOne pass.old.seat.seat.me.0.store pass.new.seat.seat.me.0.store
+        head (names args.now) row.0) }
+    ensures gets { IfOk result (λ row.
+        Gets pass.old.seat.seat.me.0.store pass.new.seat.seat.me.0.store
+        head (names args.now) row.0) }
+    ensures full_only_where_read_full { IfErr result (λ _.
+        KeepsCause pass.old.seat.seat.me.0.store pass.new.seat.seat.me.0.store
+        head (names args.now)) }
+    ensures full_alone_only_where_absent { IfErr result (λ _. store.now.sizes.seats ≡ 1 →
+        IsAbsent pass.old.seat.seat.me.0.store.entries (over head (names args.now))) }
+    ensures full_alone_only_where_all_rows_are_held { IfErr result (λ _. store.now.sizes.seats ≡ 1 →
+        HoldsAll store.now.sizes.rows pass.old.seat.seat.me.0.store.entries) }
+    ensures full_gets_none { IfErr result (λ _. GetsNone pass.old.seat.seat.me.0.store pass.new.seat.seat.me.0.store) }
+    ensures rest { KeepsRest pass.old.seat.seat.me.0.store pass.new.seat.seat.me.0.store }
+{
+    create_inside(store, pass, head, args)
 }

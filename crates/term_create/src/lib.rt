@@ -4,6 +4,7 @@
 mod asked;
 mod counting;
 mod creating;
+mod making;
 mod places;
 mod reads;
 mod stages;
@@ -13,6 +14,7 @@ mod tests;
 mod walking;
 mod words;
 
+pub use asked::Full;
 pub use counting::Steps;
-pub use creating::{Full, create, create_counted};
+pub use creating::{create, create_counted, create_inside};
 pub use reads::{child_of, count_of, head_of};

@@ -1,6 +1,6 @@
 //! Reads of a row that the pass may use: its head, its count of arguments, and its arguments. Each takes one atomic step, or two where
 //! it reads an integer; none of them takes memory or waits.
-ghost use Rattle.std.specs.Prelude.{◌≡◌, ◌⊎◌, ◌<◌, ◌≤◌, ◌+◌, true, Some, length, get_or, min};
+ghost use Rattle.std.specs.Prelude.{◌≡◌, ◌⊎◌, ◌<◌, ◌≤◌, ◌+◌, true, Some, [], ◌∷◌, length, get_or};
 ghost use Rattle.term_model.specs.Tree.{Tree, Leaf, root, arguments};
 ghost use Rattle.store_core.specs.ByView.{KnowsWord};
 ghost use Rattle.store_core.specs.Machine.{In, knowing, widest};
@@ -10,56 +10,57 @@ ghost use Rattle.busy_forbidden.specs.Calls.{IsSame};
 ghost use Rattle.node_rows.specs.Inside.{IsInside};
 ghost use Rattle.node_rows.specs.Steps.{with_store};
 ghost use Rattle.node_rows.specs.Knowing.{KnowsTree};
-ghost use Rattle.term_create.specs.Read.{Reads, ReadsChild, ReadsCount, HasArgument, head_words};
+ghost use Rattle.term_create.specs.Read.{Reads, ReadsChild, HasArgument, word, head_words};
 
-use node_rows::{Pass, Store, read_argument, read_word, row_word};
+use hash_buckets::INTEGER;
+use node_rows::{Pass, Store, read_argument, read_word, row_of, row_word};
 use store_core::Sizes;
-use term_model::{Head, Symbol};
+use term_model::{Head, Row, Symbol};
 
-// The symbol words past those of symbols.
-const INTEGER: u64 = 1 << 32;
-
+// The symbol word of the empty list.
 const EMPTY_LIST: u64 = INTEGER + 1;
 
 // The place of a word of a row that the pass may use.
-fn place_of(store: &Store, pass: &Pass, row: u64, k: usize) -> usize
+fn place_of(store: &Store, pass: &Pass, row: Row, k: usize) -> usize
     requires inside { IsInside store.now pass.now }
-    requires uses { In row pass.now.seat.seat.me.0.store.got }
+    requires uses { In row.0 pass.now.seat.seat.me.0.store.got }
     requires within { k < widest store.now.sizes + 2 }
-    ensures word { result ≡ index_of store.now.sizes (RowWord row k) }
-    ensures there { in_table store.now.sizes (RowWord row k) ≡ true }
+    ensures word { result ≡ index_of store.now.sizes (RowWord row.0 k) }
+    ensures there { in_table store.now.sizes (RowWord row.0 k) ≡ true }
 {
-    row_word(&store.sizes, row, k)
+    row_word(&store.sizes, row.0 as u64, k)
 }
 
 // Loads word k of a row that the pass may use.
-fn read(store: &Store, pass: &mut Pass, row: u64, k: u64) -> u64
+fn read(store: &Store, pass: &mut Pass, row: Row, k: u64) -> u64
     requires inside { IsInside store.now pass.old }
-    requires uses { In row pass.old.seat.seat.me.0.store.got }
-    requires may { (k < 2) ⊎ ((k ≡ 2) × KnowsWord row 0 4294967296 pass.old.seat.seat.me.0.store.knows) }
+    requires uses { In row.0 pass.old.seat.seat.me.0.store.got }
+    requires may { (k < 2) ⊎ ((k ≡ 2) × KnowsWord row.0 0 4294967296 pass.old.seat.seat.me.0.store.knows) }
     ensures inside { IsInside store.now pass.new }
     ensures same { IsSame pass.old.seat.seat pass.new.seat.seat × (pass.new.seat.number ≡ pass.old.seat.number) }
-    ensures view { pass.new.seat.seat.me.0 ≡ with_store pass.old.seat.seat.me.0 (knowing pass.old.seat.seat.me.0.store row k result) }
+    ensures view { pass.new.seat.seat.me.0 ≡ with_store pass.old.seat.seat.me.0 (knowing pass.old.seat.seat.me.0.store row.0 k result) }
 {
     let place = place_of(store, pass, row, k as usize);
-    read_word(&store.table, &mut pass.seat, place, row, k)
+    read_word(&store.table, &mut pass.seat, place, row.0 as u64, k)
 }
 
-// A count, as far as a row has room for so many arguments.
-fn at_most_width(sizes: &Sizes, count: u64) -> u32
-    ensures { result ≡ min count (widest sizes.now) }
+// A count of arguments, for which a row has room.
+fn narrow(sizes: &Sizes, count: u64) -> u32
+    requires { count ≤ widest sizes.now }
+    ensures { result ≡ count }
 {
-    count.min(u64::from(sizes.arity.max(2))) as u32
+    prove!(count <= u64::from(sizes.arity.max(2)));
+    count as u32
 }
 
 /// The head of a row that the pass may use: exactly that of its tree, where the pass knows the tree.
-pub fn head_of(store: &Store, pass: &mut Pass, row: u64) -> Head
+pub fn head_of(store: &Store, pass: &mut Pass, row: Row) -> Head
     requires inside { IsInside store.now pass.old }
-    requires uses { In row pass.old.seat.seat.me.0.store.got }
+    requires uses { In row.0 pass.old.seat.seat.me.0.store.got }
     ensures inside { IsInside store.now pass.new }
     ensures same { IsSame pass.old.seat.seat pass.new.seat.seat × (pass.new.seat.number ≡ pass.old.seat.number) }
-    ensures reads { Reads pass.old.seat.seat.me.0 pass.new.seat.seat.me.0 (head_words row result) }
-    ensures tree { (t : Tree) → KnowsTree pass.old.seat.seat.me.0.store.knows row t → root t ≡ Some result }
+    ensures reads { Reads pass.old.seat.seat.me.0 pass.new.seat.seat.me.0 (head_words row.0 result) }
+    ensures tree { (t : Tree) → KnowsTree pass.old.seat.seat.me.0.store.knows row.0 t → root t ≡ Some result }
 {
     let word = read(store, pass, row, 0);
     if word < INTEGER {
@@ -74,32 +75,33 @@ pub fn head_of(store: &Store, pass: &mut Pass, row: u64) -> Head
 }
 
 /// How many arguments a row has that the pass may use: exactly as many as its tree, where the pass knows the tree.
-pub fn count_of(store: &Store, pass: &mut Pass, row: u64) -> u32
+pub fn count_of(store: &Store, pass: &mut Pass, row: Row) -> u32
     requires inside { IsInside store.now pass.old }
-    requires uses { In row pass.old.seat.seat.me.0.store.got }
+    requires uses { In row.0 pass.old.seat.seat.me.0.store.got }
     ensures inside { IsInside store.now pass.new }
     ensures same { IsSame pass.old.seat.seat pass.new.seat.seat × (pass.new.seat.number ≡ pass.old.seat.number) }
-    ensures reads { ReadsCount store.now.sizes pass.old.seat.seat.me.0 pass.new.seat.seat.me.0 row result }
+    ensures reads { Reads pass.old.seat.seat.me.0 pass.new.seat.seat.me.0 (word row.0 1 result ∷ []) }
     ensures within { result ≤ widest store.now.sizes }
-    ensures tree { (t : Tree) → KnowsTree pass.old.seat.seat.me.0.store.knows row t
-        → length (arguments t) ≤ widest store.now.sizes → length (arguments t) ≡ result }
+    ensures tree { (t : Tree) → KnowsTree pass.old.seat.seat.me.0.store.knows row.0 t → length (arguments t) ≡ result }
 {
     let count = read(store, pass, row, 1);
-    at_most_width(&store.sizes, count)
+    narrow(&store.sizes, count)
 }
 
 /// The row of argument `j` of a row that the pass may use; the pass may use it then. It is exactly the row of that subtree, where
 /// the pass knows the tree. The pass has to know the count of arguments, which `count_of` reads.
-pub fn child_of(store: &Store, pass: &mut Pass, row: u64, j: u32) -> u64
+pub fn child_of(store: &Store, pass: &mut Pass, row: Row, j: u32) -> Row
     requires inside { IsInside store.now pass.old }
-    requires uses { In row pass.old.seat.seat.me.0.store.got }
-    requires argument { HasArgument store.now.sizes pass.old.seat.seat.me.0.store.knows row j }
+    requires uses { In row.0 pass.old.seat.seat.me.0.store.got }
+    requires argument { HasArgument pass.old.seat.seat.me.0.store.knows row.0 j }
     ensures inside { IsInside store.now pass.new }
     ensures same { IsSame pass.old.seat.seat pass.new.seat.seat × (pass.new.seat.number ≡ pass.old.seat.number) }
-    ensures reads { ReadsChild pass.old.seat.seat.me.0 pass.new.seat.seat.me.0 row j result }
-    ensures tree { (t : Tree) → KnowsTree pass.old.seat.seat.me.0.store.knows row t
-        → KnowsTree pass.new.seat.seat.me.0.store.knows result (get_or (arguments t) j (Leaf 0)) }
+    ensures reads { ReadsChild pass.old.seat.seat.me.0 pass.new.seat.seat.me.0 row.0 j result.0 }
+    ensures tree { (t : Tree) → KnowsTree pass.old.seat.seat.me.0.store.knows row.0 t
+        → KnowsTree pass.new.seat.seat.me.0.store.knows result.0 (get_or (arguments t) j (Leaf 0)) }
 {
+    let number = row.0 as u64;
     let place = place_of(store, pass, row, j as usize + 2);
-    read_argument(&store.table, &mut pass.seat, place, row, j as u64)
+    let child = read_argument(&store.table, &mut pass.seat, place, number, j as u64);
+    row_of(&store.sizes, child)
 }

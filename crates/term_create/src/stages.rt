@@ -1,11 +1,12 @@
 //! The steps of a creation in order, each with what the own view says before it and after it.
-ghost use Rattle.std.specs.Prelude.{◌≡◌, ◌≢◌, ◌<◌, ◌+◌, ◌==◌, if◌then◌else◌, IfNone, IfSome, get_or, length, max, nat_lt, Some};
+ghost use Rattle.std.specs.Prelude.{◌≡◌, ◌≢◌, ◌<◌, ◌≤◌, ◌+◌, ◌==◌, if◌then◌else◌, IfNone, IfSome, get_or, length, max, nat_lt, Some};
 ghost use Rattle.history_core.specs.declared.entry.Entry.TheVariants.{Make, Find};
 ghost use Rattle.store_core.specs.declared.view.Call.TheVariants.{Comparing, Passing, Finding, Ended, Counting, Drawing, Placing, Filling, Numbering, Linking, Publishing};
 ghost use Rattle.store_core.specs.Calls.{words_of};
 ghost use Rattle.store_core.specs.Machine.{arrived, filled, gained, refusing, overdrawn, with_call};
+ghost use Rattle.node_rows.specs.Rows.{names};
 ghost use Rattle.node_rows.specs.Steps.{with_store};
-ghost use Rattle.term_create.specs.Stage.{IsAt, IsBased, SameSeat, IsOther, GoesOn, content, at_call, stage};
+ghost use Rattle.term_create.specs.Stage.{IsAt, IsBased, SameSeat, IsOther, GoesOn, HoldsAllAlone, FillsAfter, content, at_call, stage};
 
 use crate::asked::{Asked, Drawn, Walk};
 use crate::counting::Steps;
@@ -83,7 +84,7 @@ pub(crate) fn find<L: Ledger>(
     ensures same { SameSeat seat.old.seat seat.new.seat
         seat.old.number seat.new.number seat.old.seats seat.new.seats }
     ensures view { seat.new.seat.me.0 ≡ with_store seat.old.seat.me.0 (gained seat.old.seat.me.0.store (content asked.now) row result
-        (Find (max seat.old.seat.me.0.store.seen result) asked.now.head asked.now.args.now row)) }
+        (Find (max seat.old.seat.me.0.store.seen result) asked.now.head (names asked.now.args.now) row)) }
     ensures tick { steps.new ≡ steps.old + 1 }
 {
     steps.tick();
@@ -125,6 +126,8 @@ pub(crate) fn read_count<L: Ledger>(
     ensures view { seat.new.seat.me.0 ≡ with_store seat.old.seat.me.0 (if nat_lt claim result
         then with_call seat.old.seat.me.0.store (Drawing (content asked.now) from result)
         else refusing seat.old.seat.me.0.store (content asked.now) from claim result) }
+    ensures alone { result ≤ claim → HoldsAllAlone asked.now seat.old.seat.me.0 }
+    ensures filled { result ≤ claim → FillsAfter asked.now seat.old.number seat.old.seat.me.0 }
     ensures tick { steps.new ≡ steps.old + 1 }
 {
     steps.tick();
@@ -151,6 +154,8 @@ pub(crate) fn draw<L: Ledger>(
     ensures view { seat.new.seat.me.0 ≡ with_store seat.old.seat.me.0 (if nat_lt result count
         then with_call seat.old.seat.me.0.store (Placing (content asked.now) from result)
         else overdrawn seat.old.seat.me.0.store (content asked.now) from result count) }
+    ensures alone { count ≤ result → HoldsAllAlone asked.now seat.old.seat.me.0 }
+    ensures filled { count ≤ result → FillsAfter asked.now seat.old.number seat.old.seat.me.0 }
     ensures tick { steps.new ≡ steps.old + 1 }
 {
     steps.tick();
@@ -268,7 +273,7 @@ pub(crate) fn publish<L: Ledger>(
         seat.old.number seat.new.number seat.old.seats seat.new.seats }
     ensures view { seat.new.seat.me.0 ≡ with_store seat.old.seat.me.0 (if result == drawn.from
         then gained seat.old.seat.me.0.store (content asked.now) drawn.row (asked.now.base + drawn.index)
-        (Make (asked.now.base + drawn.index) asked.now.head asked.now.args.now drawn.row)
+        (Make (asked.now.base + drawn.index) asked.now.head (names asked.now.args.now) drawn.row)
         else with_call seat.old.seat.me.0.store
         (arrived (content asked.now) (Some (drawn.index, drawn.row)) result drawn.from result)) }
     ensures tick { steps.new ≡ steps.old + 1 }

@@ -14,7 +14,7 @@ use std::sync::atomic::{AtomicBool, Ordering};
 use std::test::Fail;
 use std::thread;
 use store_core::Sizes;
-use term_model::{Head, Symbol};
+use term_model::{Head, Row, Symbol};
 
 mod four;
 
@@ -46,12 +46,12 @@ fn enter(rt: &impl Abort, store: &Store, pass: &mut Pass)
 }
 
 // Creates a symbol over an integer and the empty list.
-fn create_three(store: &Store, pass: &mut Pass) -> Result<u64, Full>
+fn create_three(store: &Store, pass: &mut Pass) -> Result<Row, Full>
     requires inside { IsInside store.now pass.old }
     requires shared { pass.old.seat.seat.me.0.lock.phase ≡ Shared }
     ensures inside { IsInside store.now pass.new }
     ensures shared { pass.new.seat.seat.me.0.lock.phase ≡ Shared }
-    ensures gets { IfOk result (λ row. In row pass.new.seat.seat.me.0.store.got) }
+    ensures gets { IfOk result (λ row. In row.0 pass.new.seat.seat.me.0.store.got) }
 {
     let a = create(store, pass, Head::Int(5), &[])?;
     let b = create(store, pass, Head::Nil, &[])?;
@@ -59,7 +59,7 @@ fn create_three(store: &Store, pass: &mut Pass) -> Result<u64, Full>
 }
 
 // The same in one shared access.
-fn visit(rt: &impl Abort, store: &Store, pass: &mut Pass) -> Result<u64, Full>
+fn visit(rt: &impl Abort, store: &Store, pass: &mut Pass) -> Result<Row, Full>
     requires store { IsStore store.now.table.shared.table_id store.now.table.shared.key store.now.sizes }
     requires pass { IsPass store.now.table.shared.table_id store.now.sizes pass.old.seat.seat pass.old.seat.seats × IsOut pass.old.seat.seat.me.0 × Tells pass.old }
     ensures pass { IsPass store.now.table.shared.table_id store.now.sizes pass.new.seat.seat pass.new.seat.seats × IsOut pass.new.seat.seat.me.0 × Tells pass.new }
@@ -90,11 +90,45 @@ fn two_passes_share_a_term(rt: HostRuntime) -> Result<(), Fail> {
     Ok(())
 }
 
+// In one shared access: a symbol over an integer and the empty list, which fills three rows; a constant, which is Full; and the first
+// again.
+fn fill(rt: &impl Abort, store: &Store, pass: &mut Pass) -> [Result<Row, Full>; 3]
+    requires store { IsStore store.now.table.shared.table_id store.now.table.shared.key store.now.sizes }
+    requires pass { IsPass store.now.table.shared.table_id store.now.sizes pass.old.seat.seat pass.old.seat.seats × IsOut pass.old.seat.seat.me.0 × Tells pass.old }
+{
+    enter(rt, store, pass);
+    let made = create_three(store, pass);
+    let past = create(store, pass, Head::App(Symbol(8)), &[]);
+    let found = create_three(store, pass);
+    store.leave_shared(pass);
+    [made, past, found]
+}
+
+#[test]
+fn one_pass_is_full_where_each_row_has_a_tree(rt: HostRuntime) -> Result<(), Fail> {
+    let sizes = Sizes {
+        rows: 3,
+        buckets: 2,
+        start: 1,
+        seats: 1,
+        depth: 2,
+        arity: 0,
+        first: 1,
+    };
+    let (store, mut passes) = Store::make(rt.alloc(), sizes)?;
+    let mut pass = last_pass(&rt, &store, &mut passes);
+    let [made, past, found] = fill(&rt, &store, &mut pass);
+    assert!(rt; made.is_ok());
+    assert_eq!(rt; past, Err(Full));
+    assert_eq!(rt; found, made);
+    Ok(())
+}
+
 // The head of a row, and its count of arguments.
-fn read_row(store: &Store, pass: &mut Pass, row: u64) -> (Head, u32)
+fn read_row(store: &Store, pass: &mut Pass, row: Row) -> (Head, u32)
     requires inside { IsInside store.now pass.old }
     requires shared { pass.old.seat.seat.me.0.lock.phase ≡ Shared }
-    requires uses { In row pass.old.seat.seat.me.0.store.got }
+    requires uses { In row.0 pass.old.seat.seat.me.0.store.got }
     ensures inside { IsInside store.now pass.new }
     ensures shared { pass.new.seat.seat.me.0.lock.phase ≡ Shared }
 {
@@ -103,10 +137,10 @@ fn read_row(store: &Store, pass: &mut Pass, row: u64) -> (Head, u32)
 }
 
 // The head of argument `j`, where there are so many.
-fn read_child(store: &Store, pass: &mut Pass, row: u64, j: u32) -> Option<Head>
+fn read_child(store: &Store, pass: &mut Pass, row: Row, j: u32) -> Option<Head>
     requires inside { IsInside store.now pass.old }
     requires shared { pass.old.seat.seat.me.0.lock.phase ≡ Shared }
-    requires uses { In row pass.old.seat.seat.me.0.store.got }
+    requires uses { In row.0 pass.old.seat.seat.me.0.store.got }
     ensures inside { IsInside store.now pass.new }
     ensures shared { pass.new.seat.seat.me.0.lock.phase ≡ Shared }
 {
@@ -171,7 +205,7 @@ fn reads_give_what_was_created(rt: HostRuntime) -> Result<(), Fail> {
 }
 
 // In one shared access: a constant, and its row.
-fn constant(rt: &impl Abort, store: &Store, pass: &mut Pass, symbol: u32) -> Result<u64, Full>
+fn constant(rt: &impl Abort, store: &Store, pass: &mut Pass, symbol: u32) -> Result<Row, Full>
     requires store { IsStore store.now.table.shared.table_id store.now.table.shared.key store.now.sizes }
     requires pass { IsPass store.now.table.shared.table_id store.now.sizes pass.old.seat.seat pass.old.seat.seats × IsOut pass.old.seat.seat.me.0 × Tells pass.old }
     ensures pass { IsPass store.now.table.shared.table_id store.now.sizes pass.new.seat.seat pass.new.seat.seats × IsOut pass.new.seat.seat.me.0 × Tells pass.new }
@@ -183,11 +217,11 @@ fn constant(rt: &impl Abort, store: &Store, pass: &mut Pass, symbol: u32) -> Res
 }
 
 // In one shared access: the constants of ten symbols in order, and their rows.
-fn create_ten<R: Abort>(rt: &R, store: &Store, mut pass: Pass) -> [u64; 10]
+fn create_ten<R: Abort>(rt: &R, store: &Store, mut pass: Pass) -> [Row; 10]
     requires store { IsStore store.now.table.shared.table_id store.now.table.shared.key store.now.sizes }
     requires pass { IsPass store.now.table.shared.table_id store.now.sizes pass.seat.seat pass.seat.seats × IsOut pass.seat.seat.me.0 × Tells pass }
 {
-    let mut rows = [0; 10];
+    let mut rows = [Row(0); 10];
     for symbol in 0..10 {
         match constant(rt, store, &mut pass, symbol) {
             Ok(row) => rows[symbol as usize] = row,
@@ -228,22 +262,22 @@ fn two_threads_at_once_share_ten_constants(rt: HostRuntime) -> Result<(), Fail> 
     let (handle, shared) = (&rt, &store);
     let (first_came, second_came) = (AtomicBool::new(false), AtomicBool::new(false));
     let (came, went) = (&first_came, &second_came);
-    let (first, second) = thread::join(
+    let ((first_ran, first), (second_ran, second)) = thread::join(
         handle,
-        move || -> (bool, [u64; 10])
+        move || -> (bool, [Row; 10])
             requires { IsStore shared.now.table.shared.table_id shared.now.table.shared.key shared.now.sizes
                 × IsPass shared.now.table.shared.table_id shared.now.sizes one.seat.seat one.seat.seats × IsOut one.seat.seat.me.0 × Tells one }
         { (meet(came, went), create_ten(handle, shared, one)) },
-        move || -> (bool, [u64; 10])
+        move || -> (bool, [Row; 10])
             requires { IsStore shared.now.table.shared.table_id shared.now.table.shared.key shared.now.sizes
                 × IsPass shared.now.table.shared.table_id shared.now.sizes two.seat.seat two.seat.seats × IsOut two.seat.seat.me.0 × Tells two }
         { (meet(went, came), create_ten(handle, shared, two)) },
     );
-    assert!(rt; first.0 && second.0, "both threads run at once");
-    assert_eq!(rt; first.1, second.1);
+    assert!(rt; first_ran && second_ran, "both threads run at once");
+    assert_eq!(rt; first, second);
     for i in 0..10usize {
         for j in 0..i {
-            assert!(rt; first.1[i] != first.1[j]);
+            assert!(rt; first[i] != first[j]);
         }
     }
     Ok(())

@@ -2,6 +2,7 @@
 ghost use Rattle.std.specs.Prelude.{◌≡◌, ◌≤◌, ◌+◌, pred, MatchBool, MatchOption};
 ghost use Rattle.store_core.specs.declared.view.Call.TheVariants.{Comparing, Finding};
 ghost use Rattle.store_core.specs.Machine.{arrived, ended, widest};
+ghost use Rattle.node_rows.specs.Rows.{names};
 ghost use Rattle.term_create.specs.Counted.{Takes};
 ghost use Rattle.term_create.specs.Stage.{IsAt, SameSeat, Notes, IsOther, HasPassed, content, at_call};
 
@@ -57,7 +58,7 @@ pub(crate) fn walk<L: Ledger>(
     ensures view { MatchOption result
         (HasPassed seat.old.seat.me.0 seat.new.seat.me.0 (content asked.now)
         (ended (content asked.now) walk.drawn walk.from) walk.from walk.old)
-        (Notes seat.old.seat.me.0 seat.new.seat.me.0 asked.now.head asked.now.args.now) }
+        (Notes seat.old.seat.me.0 seat.new.seat.me.0 asked.now.head (names asked.now.args.now)) }
     ensures cost { let z = asked.now.store.now.sizes in let before = seat.old.seat.me.0.store.passed in MatchOption result
         (Takes z 0 before seat.new.seat.me.0.store.passed steps.old steps.new)
         (λ _. Takes z 0 before z.rows steps.old steps.new) }

@@ -8,5 +8,5 @@ abbrev pub invariant-loop : goal.invariant-loop
 invariant-loop l = record {
   inside : IsInside l.store l.pass;
   shared : l.pass.seat.seat.me.0.lock.phase ≡ Shared;
-  uses : In l.row l.pass.seat.seat.me.0.store.got;
+  uses : In l.row.0 l.pass.seat.seat.me.0.store.got;
 }

@@ -7,11 +7,13 @@ use Rattle.store_core.specs.declared.view.Sizes.{Sizes}
 use Rattle.store_core.specs.Bases.{StaysBelow, collect_numbers}
 use Rattle.store_core.specs.Invariant.{span}
 use Rattle.store_core.specs.Machine.{Each}
+use Rattle.store_core.specs.Recalls.{EntriesRecalled}
 use Rattle.store_core.proofs.Histories.{listed_length}
 use Rattle.node_rows.specs.declared.view.NodeView.{NodeView}
 use Rattle.node_rows.specs.Joining.{gathered, HasBase}
-use Rattle.node_rows.specs.Told.{HasEntries, view_of}
-use Rattle.node_rows.proofs.Joins.{lists_are, joined_count, finds, bases}
+use Rattle.node_rows.specs.Crowding.{IsCrowd}
+use Rattle.node_rows.specs.Told.{HasEntries, TellsTrees, TellsCrowd, view_of}
+use Rattle.node_rows.proofs.Joins.{lists_are, joined_count, finds, crowds, bases, trees}
 use Rattle.node_rows.proofs.closing.close_from.Goals as goal
 
 pub returns-clause-count : goal.returns-clause-count
@@ -63,3 +65,29 @@ returns-clause-bases c =
     let each = subst (λ (ls : List (List Entry)). Each (λ x. HasBase z ls x.store.base) (gathered V)) (sym is) told.bases in
     let h = bases z V c.chronicle_of.result each c.args.first c.args.rest.items c.gather_all.ensures.view in
     (h.0, All-from_recursion (λ p. HasBase z c.chronicle_of.result (view_of p).store.base) c.args.rest.items h.1)
+
+pub returns-clause-told : goal.returns-clause-told
+returns-clause-told c =
+    let z : Sizes = c.args.store.now.sizes in
+    let V : NodeView = view_of c.gather_all.new.first in
+    let is = lists_are z V (view_of c.look.new.pass) c.chronicle_of.result c.chronicle_of.ensures c.look.ensures.view c.gather_all.ensures.first.sizes in
+    let count = joined_count (map view_of c.args.rest.items) (view_of c.args.first) V c.gather_all.ensures.view in
+    let long = length-map c.args.rest.items view_of in
+    let all = c.requires.all in
+    let told = c.look.ensures.tells.whole (omega arith) in
+    let each = subst (λ (ls : List (List Entry)). Each (λ x. EntriesRecalled ls x.seat x.store.entries) (gathered V)) (sym is) told.trees in
+    let h = trees V c.chronicle_of.result each c.args.first c.args.rest.items c.gather_all.ensures.view in
+    (h.0, All-from_recursion (TellsTrees c.chronicle_of.result) c.args.rest.items h.1)
+
+pub returns-clause-crowds : goal.returns-clause-crowds
+returns-clause-crowds c =
+    let z : Sizes = c.args.store.now.sizes in
+    let V : NodeView = view_of c.gather_all.new.first in
+    let is = lists_are z V (view_of c.look.new.pass) c.chronicle_of.result c.chronicle_of.ensures c.look.ensures.view c.gather_all.ensures.first.sizes in
+    let count = joined_count (map view_of c.args.rest.items) (view_of c.args.first) V c.gather_all.ensures.view in
+    let long = length-map c.args.rest.items view_of in
+    let all = c.requires.all in
+    let told = c.look.ensures.tells.whole (omega arith) in
+    let each = subst (λ (ls : List (List Entry)). Each (λ x. IsCrowd ls x.seat x.store.entries x.crowd) (gathered V)) (sym is) told.crowds in
+    let h = crowds V c.chronicle_of.result each c.args.first c.args.rest.items c.gather_all.ensures.view in
+    (h.0, All-from_recursion (TellsCrowd c.chronicle_of.result) c.args.rest.items h.1)

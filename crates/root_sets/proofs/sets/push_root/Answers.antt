@@ -25,8 +25,8 @@ set_count-requires-clause-uses c =
     let a = c.args.pass.now.counted in
     let b = known.root_count in
     let f = c.if-pass-store.false in
-    push_uses c.args.store.now.sizes v u c.args.pass.now.root_count c.args.row known a (let l : c.args.pass.now.root_count < c.args.store.now.sizes.depth = grind (arith, nat_tests) in l) c.set_root.ensures.view
-    ((keeps_rooted v u c.args.pass.now.root_count c.args.row c.set_root.ensures.view).uses c.args.row c.requires.uses)
+    push_uses c.args.store.now.sizes v u c.args.pass.now.root_count c.args.row.0 known a (let l : c.args.pass.now.root_count < c.args.store.now.sizes.depth = grind (arith, nat_tests) in l) c.set_root.ensures.view
+    ((keeps_rooted v u c.args.pass.now.root_count c.args.row.0 c.set_root.ensures.view).uses c.args.row.0 c.requires.uses)
 
 pub returns-clause-rows : goal.returns-clause-rows
 returns-clause-rows c =
@@ -37,7 +37,7 @@ returns-clause-rows c =
     let a = c.args.pass.now.counted in
     let b = known.root_count in
     let f = c.if-pass-store.false in
-    push_rows c.args.store.now.sizes v u w c.args.pass.now.root_count c.args.row known a (let l : c.args.pass.now.root_count < c.args.store.now.sizes.depth = grind (arith, nat_tests) in l) c.set_root.ensures.view c.set_count.ensures.view
+    push_rows c.args.store.now.sizes v u w c.args.pass.now.root_count c.args.row.0 known a (let l : c.args.pass.now.root_count < c.args.store.now.sizes.depth = grind (arith, nat_tests) in l) c.set_root.ensures.view c.set_count.ensures.view
 
 pub returns-clause-deep : goal.returns-clause-deep
 returns-clause-deep c =
@@ -52,4 +52,4 @@ returns-clause-keeps c =
     let v = c.args.pass.now.seat.seat.me.0 in
     let u = c.set_root.new.pass.seat.seat.me.0 in
     let w = c.set_count.new.pass.seat.seat.me.0 in
-    keeps_on v u w (keeps_rooted v u c.args.pass.now.root_count c.args.row c.set_root.ensures.view) (keeps_counted u w (c.args.pass.now.root_count + 1) c.set_count.ensures.view)
+    keeps_on v u w (keeps_rooted v u c.args.pass.now.root_count c.args.row.0 c.set_root.ensures.view) (keeps_counted u w (c.args.pass.now.root_count + 1) c.set_count.ensures.view)

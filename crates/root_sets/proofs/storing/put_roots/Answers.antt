@@ -1,6 +1,9 @@
-use Rattle.std.proofs.Common.{◌≡◌, ◌∙◌, ◌<◌, ◌≤◌, length, refl, arith}
+use Rattle.std.proofs.Common.{◌≡◌, ◌∙◌, ◌<◌, ◌≤◌, ℕ, length, set, refl, sym, ap, subst, arith}
+use Rattle.store_core.specs.Machine.{In}
+use Rattle.node_rows.specs.Rows.{names}
 use Rattle.root_sets.proofs.Keeping.{keeps_all, keeps_on, each_kept, each_got}
 use Rattle.root_sets.proofs.Ends.{put_more}
+use Rattle.root_sets.proofs.Numbers.{name_at, names_long}
 use Rattle.root_sets.proofs.storing.put_roots.Goals as goal
 
 pub loop-k-init : goal.loop-k-init
@@ -16,7 +19,10 @@ pub put_root-requires-clause-uses : goal.put_root-requires-clause-uses
 put_root-requires-clause-uses c =
     let v = c.args.pass.now.seat.seat.me.0 in
     let u = c.loop-k.pass.seat.seat.me.0 in
-    each_got u.store.got c.args.rows.now c.loop-k.k (each_kept v u c.args.rows.now c.loop-k.invariant.keeps c.requires.uses) (omega arith)
+    let rows = names c.args.rows.now in
+    let long = names_long c.args.rows.now in
+    subst (λ (r : ℕ). In r u.store.got) (sym (name_at c.args.rows.now c.loop-k.k))
+    (each_got u.store.got rows c.loop-k.k (each_kept v u rows c.loop-k.invariant.keeps c.requires.uses) (omega arith))
 
 pub loop-k-preserved : goal.loop-k-preserved
 loop-k-preserved c =
@@ -27,10 +33,11 @@ loop-k-preserved c =
     let e = c.put_root.ensures in
     let wide = i.inside.ready.known.roots in
     let few = c.requires.few in
+    let long = names_long c.args.rows.now in
     record {
       inside = e.inside;
       same = (record { table = e.same.0.table ∙ i.same.0.table; id = e.same.0.id ∙ i.same.0.id; slots = e.same.0.slots ∙ i.same.0.slots }, e.same.1 ∙ i.same.1);
       count = e.count ∙ i.count;
-      roots = put_more u.store.roots w.store.roots c.args.rows.now c.loop-k.k i.roots e.roots (omega arith) (omega arith);
+      roots = put_more u.store.roots w.store.roots (names c.args.rows.now) c.loop-k.k i.roots (e.roots ∙ ap (λ (r : ℕ). set u.store.roots c.loop-k.k r) (name_at c.args.rows.now c.loop-k.k)) (omega arith) (omega arith);
       keeps = keeps_on v u w i.keeps e.keeps;
     }

@@ -1,22 +1,33 @@
-use Rattle.std.proofs.Common.{◌≡◌, None, subst}
+use Rattle.std.proofs.Common.{◌≡◌, None, [], subst}
 use Rattle.std.specs.Prelude.{IfErr}
 use Rattle.store_core.specs.Machine.{arrived, widest}
+use Rattle.node_rows.specs.Rows.{names}
 use Rattle.node_rows.specs.declared.view.NodeView.{NodeView}
+use Rattle.node_rows.specs.Full.{HoldsAll}
 use Rattle.node_rows.specs.Knowing.{IsAbsent}
 use Rattle.node_rows.specs.Steps.{over}
-use Rattle.term_create.proofs.Told.{ends_whole}
+use Rattle.term_create.proofs.Told.{ends_whole, ends_filled}
 use Rattle.term_create.proofs.Costs.{whole_cost}
 use Rattle.term_create.proofs.creating.create_noted.Goals as goal
 
 pub returns-clause-view : goal.returns-clause-view
 returns-clause-view g c = let n = c.begin-from.result in
-    ends_whole c.args.pass.now.seat.seat.me.0 c.begin-from.new.seat.seat.me.0 c.create_from.new.seat.seat.me.0 c.args.head c.args.args.now (arrived (over c.args.head c.args.args.now) None n 0 n) c.create_from.result
+    ends_whole c.args.pass.now.seat.seat.me.0 c.begin-from.new.seat.seat.me.0 c.create_from.new.seat.seat.me.0 c.args.head (names c.args.args.now) (arrived (over c.args.head (names c.args.args.now)) None n 0 n) c.create_from.result
     c.begin-from.ensures.view c.create_from.ensures.view
 
 pub returns-clause-alone : goal.returns-clause-alone
 returns-clause-alone g c =
-    subst (λ (u : NodeView). IfErr c.create_from.result (λ _. c.args.store.now.sizes.seats ≡ 1 → IsAbsent u.store.entries (over c.args.head c.args.args.now))) c.begin-from.ensures.view c.create_from.ensures.alone
+    subst (λ (u : NodeView). IfErr c.create_from.result (λ _. c.args.store.now.sizes.seats ≡ 1 → IsAbsent u.store.entries (over c.args.head (names c.args.args.now)))) c.begin-from.ensures.view c.create_from.ensures.alone
 
 pub returns-clause-cost : goal.returns-clause-cost
 returns-clause-cost g c =
     whole_cost (widest c.args.store.now.sizes) c.args.store.now.sizes.rows c.args.steps.now c.tick.new.self c.create_from.new.steps c.tick.ensures c.create_from.ensures.cost
+
+pub returns-clause-all : goal.returns-clause-all
+returns-clause-all g c =
+    subst (λ (u : NodeView). IfErr c.create_from.result (λ _. c.args.store.now.sizes.seats ≡ 1 → HoldsAll c.args.store.now.sizes.rows u.store.entries)) c.begin-from.ensures.view c.create_from.ensures.all
+
+pub returns-clause-filled : goal.returns-clause-filled
+returns-clause-filled g c = let n = c.begin-from.result in
+    ends_filled c.args.store.now.sizes c.args.pass.now.seat.number c.begin-from.new.seat.number c.args.pass.now.seat.seat.me.0 c.begin-from.new.seat.seat.me.0 c.args.head (names c.args.args.now)
+    0 [] (arrived (over c.args.head (names c.args.args.now)) None n 0 n) c.create_from.result c.begin-from.ensures.same.1 c.begin-from.ensures.view c.create_from.ensures.filled

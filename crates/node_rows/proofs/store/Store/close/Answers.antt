@@ -3,7 +3,7 @@ use Rattle.std.specs.Prelude.{All}
 use Rattle.std.proofs.lemmas.List.Elements.{All-pop, All-push}
 use Rattle.node_rows.specs.Passes.{IsPass, IsOut}
 use Rattle.node_rows.specs.Joining.{HasBase}
-use Rattle.node_rows.specs.Told.{HasEntries, view_of}
+use Rattle.node_rows.specs.Told.{HasEntries, TellsCrowd, view_of}
 use Rattle.node_rows.proofs.store.Store.close.Goals as goal
 
 pub close_from-requires-clause-rest : goal.close_from-requires-clause-rest
@@ -16,3 +16,7 @@ returns-in-Some-clause-own c = let lists = c.close_from.result in
 pub returns-in-Some-clause-bases : goal.returns-in-Some-clause-bases
 returns-in-Some-clause-bases c = let lists = c.close_from.result in let z = c.args.self.sizes in
     subst (All (λ p. HasBase z lists (view_of p).store.base)) (sym c.in-Some.ensures.items) (All-push (λ p. HasBase z lists (view_of p).store.base) c.pop.new.self.items c.in-Some.first c.close_from.ensures.bases.1 c.close_from.ensures.bases.0)
+
+pub returns-in-Some-clause-crowds : goal.returns-in-Some-clause-crowds
+returns-in-Some-clause-crowds c = let lists = c.close_from.result in
+    subst (All (TellsCrowd lists)) (sym c.in-Some.ensures.items) (All-push (TellsCrowd lists) c.pop.new.self.items c.in-Some.first c.close_from.ensures.crowds.1 c.close_from.ensures.crowds.0)

@@ -1,7 +1,8 @@
+use Rattle.store_core.specs.declared.view.Sizes.{Sizes}
 use Rattle.node_rows.proofs.Tellings.{told_same}
 use Rattle.std.proofs.Common.{sym, ap, ◌∙◌}
 use Rattle.store_core.specs.declared.view.View.{View}
-use Rattle.node_rows.proofs.Entering.{came_from, enters_exclusive_stays}
+use Rattle.node_rows.proofs.Entering.{came_from, enters_exclusive_stays, came_last}
 use Rattle.node_rows.proofs.store.Store.enter_exclusive.Goals as goal
 
 pub arrive-requires-clause-pass : goal.arrive-requires-clause-pass
@@ -20,7 +21,20 @@ returns-clause-came g c =
 pub invariant_of-pass : goal.invariant_of-pass
 invariant_of-pass g c = record {
   counted = c.args.pass.now.counted ∙ ap (λ (v : View). v.root_count) (sym (enters_exclusive_stays c.args.pass.now.seat.number c.args.pass.now.seat.seats c.args.pass.now.seat.seat.me.0 c.enter_exclusive.new.seat.seat.me.0 c.enter_exclusive.ensures.steps c.requires.out.away).store);
+  sized = c.args.pass.now.sized ∙ ap (λ (z : Sizes). z.rows) (sym (enters_exclusive_stays c.args.pass.now.seat.number c.args.pass.now.seat.seats c.args.pass.now.seat.seat.me.0 c.enter_exclusive.new.seat.seat.me.0 c.enter_exclusive.ensures.steps c.requires.out.away).sizes);
+  nexts_are = c.args.pass.now.nexts_are ∙ ap (λ (z : Sizes). z.rows) (sym (enters_exclusive_stays c.args.pass.now.seat.number c.args.pass.now.seat.seats c.args.pass.now.seat.seat.me.0 c.enter_exclusive.new.seat.seat.me.0 c.enter_exclusive.ensures.steps c.requires.out.away).sizes);
+  heads_are = c.args.pass.now.heads_are ∙ ap (λ (z : Sizes). z.buckets) (sym (enters_exclusive_stays c.args.pass.now.seat.number c.args.pass.now.seat.seats c.args.pass.now.seat.seat.me.0 c.enter_exclusive.new.seat.seat.me.0 c.enter_exclusive.ensures.steps c.requires.out.away).sizes);
 }
 
 pub returns-clause-told : goal.returns-clause-told
 returns-clause-told g c = λ h. c.arrive.ensures.told (told_same c.args.pass.now.seat.seat.me.0.store c.enter_exclusive.new.seat.seat.me.0.store c.args.pass.now.rows c.args.pass.now.seen c.args.pass.now.last c.args.pass.now.marks (enters_exclusive_stays c.args.pass.now.seat.number c.args.pass.now.seat.seats c.args.pass.now.seat.seat.me.0 c.enter_exclusive.new.seat.seat.me.0 c.enter_exclusive.ensures.steps c.requires.out.away).store h)
+
+pub returns-clause-last_roots : goal.returns-clause-last_roots
+returns-clause-last_roots g c =
+    let t = enters_exclusive_stays c.args.pass.now.seat.number c.args.pass.now.seat.seats c.args.pass.now.seat.seat.me.0 c.enter_exclusive.new.seat.seat.me.0 c.enter_exclusive.ensures.steps c.requires.out.away in
+    came_last c.args.pass.now.seat.seat.me.0 _ _ _ (came_from c.args.pass.now.seat.seat.me.0 _ _ _ _ t c.arrive.ensures.came) c.requires.out.roots
+
+pub returns-clause-crowd : goal.returns-clause-crowd
+returns-clause-crowd g c =
+    let t = enters_exclusive_stays c.args.pass.now.seat.number c.args.pass.now.seat.seats c.args.pass.now.seat.seat.me.0 c.enter_exclusive.new.seat.seat.me.0 c.enter_exclusive.ensures.steps c.requires.out.away in
+    c.arrive.ensures.crowd ∙ t.crowd

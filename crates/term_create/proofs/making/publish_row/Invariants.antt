@@ -3,7 +3,7 @@ use Rattle.store_core.specs.declared.view.Passed.{Passed}
 use Rattle.store_core.specs.declared.view.Call.TheVariants.{Linking}
 use Rattle.term_create.specs.Counted.{Takes}
 use Rattle.term_create.specs.Stage.{IsAt, SameSeat, content, at_walk}
-use Rattle.term_create.proofs.creating.publish_row.Given as goal
+use Rattle.term_create.proofs.making.publish_row.Given as goal
 
 abbrev pub invariant-loop-step : goal.invariant-loop-step
 invariant-loop-step g l = record {

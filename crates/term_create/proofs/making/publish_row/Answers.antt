@@ -2,10 +2,11 @@ use Rattle.std.proofs.Common.{refl, arith, ◌≤◌, ◌+◌}
 use Rattle.store_core.specs.declared.view.Call.{Call}
 use Rattle.std.proofs.Common.{ap}
 use Rattle.store_core.specs.declared.view.Call.TheVariants.{Linking}
+use Rattle.node_rows.specs.Rows.{names}
 use Rattle.term_create.specs.Stage.{at_call, content}
 use Rattle.term_create.proofs.Told.{notes_on}
 use Rattle.busy_forbidden.specs.Calls.{IsSame}
-use Rattle.term_create.proofs.creating.publish_row.Goals as goal
+use Rattle.term_create.proofs.making.publish_row.Goals as goal
 
 pub loop-step-init : goal.loop-step-init
 loop-step-init g c = let v = c.args.seat.now.seat.me.0 in record {
@@ -20,4 +21,4 @@ returns-in-Ok-clause-view g c =
     let a = c.args.asked.now in
     let d = c.args.drawn in
     let i = c.loop-step.invariant.view in
-    notes_on c.args.seat.now.seat.me.0 c.loop-step.seat.seat.me.0 c.publish_once.new.seat.seat.me.0 i.0 i.1 (Linking (content a) c.loop-step.head_read d.index d.row) a.head a.args.now c.in-Ok.result i.3 c.in-Ok.ensures.view
+    notes_on c.args.seat.now.seat.me.0 c.loop-step.seat.seat.me.0 c.publish_once.new.seat.seat.me.0 i.0 i.1 (Linking (content a) c.loop-step.head_read d.index d.row) a.head (names a.args.now) c.in-Ok.result i.3 c.in-Ok.ensures.view

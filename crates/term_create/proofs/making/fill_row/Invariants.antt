@@ -1,6 +1,6 @@
 use Rattle.std.specs.Prelude.{◌≡◌, ◌≤◌, ◌+◌}
 use Rattle.term_create.specs.Stage.{IsAt, SameSeat, content, at_call, storing}
-use Rattle.term_create.proofs.creating.fill_row.Given as goal
+use Rattle.term_create.proofs.making.fill_row.Given as goal
 
 abbrev pub invariant-loop-k : goal.invariant-loop-k
 invariant-loop-k g l = record {
