@@ -1,0 +1,16 @@
+pub mod Values
+pub mod Stands
+pub mod Loads
+pub mod Gathering
+pub mod Sound
+pub mod Reaches
+pub mod Chains
+pub mod Writes
+pub mod Left
+pub mod Ending
+pub mod Begins
+pub mod Sweeping
+pub mod Whole
+pub mod Nows
+pub mod Since
+pub mod CrowdFull

@@ -1,0 +1,49 @@
+use Rattle.std.proofs.Common.{◌≡◌, ◌≢◌, ℕ, suc, ◌+◌, ◌<◌, ◌≤◌, Bool, true, false, List, length, get_or, set, refl, sym, ap, ◌∙◌, subst, arith}
+use Rattle.std.specs.Prelude.{replicate, ◌%◌}
+use Rattle.std.proofs.lemmas.List.{length-replicate, get_or-replicate}
+use Rattle.hash_buckets.specs.Hash.{mixed, mixed_all}
+use Rattle.store_core.specs.declared.view.Sizes.{Sizes}
+use Rattle.store_core.specs.declared.view.Place.{Place}
+use Rattle.store_core.specs.declared.view.Place.TheVariants.{RowWord}
+use Rattle.store_core.specs.Machine.{widest}
+use Rattle.store_core.specs.Marks.{IsMarked, MarksReached}
+use Rattle.store_core.specs.MarkedChains.{StandsIn}
+use Rattle.store_core.specs.Steps.{ReachesByWords}
+use Rattle.sweep_phase.specs.Gathered.{sizes_of, loads_of, words_of}
+use Rattle.sweep_phase.specs.Chained.{numbers_of, IsHashed, ChainsTo}
+use Rattle.sweep_phase.specs.Read.{again_itself, again_in_turn}
+use Rattle.sweep_phase.proofs.Sound.{row_is_below, row_has_content}
+use Rattle.sweep_phase.proofs.Chains.{numbers_more, hashes_int, hashes_rows, stands_by, chains_none, chains_same, chains_more}
+use Rattle.sweep_phase.proofs.chaining.chain_all.Goals as goal
+
+pub chain_next-requires-clause-marks : goal.chain_next-requires-clause-marks
+chain_next-requires-clause-marks c = subst (λ (u : Place → ℕ). MarksReached u (sizes_of c.args.sweep.now).rows c.args.marks.now) (sym c.loop-row.invariant.again.words) c.requires.marks
+
+pub chain_next-requires-clause-chains : goal.chain_next-requires-clause-chains
+chain_next-requires-clause-chains c = subst (λ (u : Place → ℕ). ChainsTo u c.args.marks.now c.args.in_use c.loop-row.row c.loop-row.heads c.loop-row.nexts) (sym c.loop-row.invariant.again.words) c.loop-row.invariant.chains
+
+pub loop-row-preserved : goal.loop-row-preserved
+loop-row-preserved c =
+    let a = c.args.seat.now in
+    let t = c.loop-row.seat in
+    let s = c.chain_next.new.seat in
+    let i = c.loop-row.invariant in
+    let e = c.chain_next.ensures in record {
+      at = e.at;
+      again = again_in_turn c.args.sweep.now a.seat a.number a.seats t.seat t.number t.seats s.seat s.number s.seats i.again e.again;
+      chains = subst (λ (u : Place → ℕ). ChainsTo u c.args.marks.now c.args.in_use (c.loop-row.row + 1) c.chain_next.new.heads c.chain_next.new.nexts) i.again.words e.chains;
+      nexts = e.lengths.0 ∙ i.nexts;
+      heads = e.lengths.1 ∙ i.heads;
+    }
+
+pub loop-row-init : goal.loop-row-init
+loop-row-init c =
+    let s = c.args.seat.now in
+    let is = c.clear.ensures in record {
+      at = c.requires.at;
+      again = again_itself c.args.sweep.now s.seat s.number s.seats;
+      chains = chains_none (words_of s.seat) c.args.marks.now c.args.in_use c.clear.new.heads c.args.nexts.now
+          (λ b l. ap (λ (hs : List ℕ). get_or hs b 0) is ∙ get_or-replicate (length c.args.heads.now) b 0 0 (let u = c.requires.used.1 in omega arith));
+      nexts = refl;
+      heads = ap length is ∙ length-replicate (length c.args.heads.now) 0;
+    }

@@ -1,0 +1,31 @@
+use Rattle.std.proofs.Common.{◌≡◌, ◌≢◌, ℕ, suc, ◌+◌, ◌<◌, ◌≤◌, Bool, true, false, List, length, get_or, set, refl, sym, ap, ◌∙◌, subst, arith}
+use Rattle.std.specs.Prelude.{replicate, ◌%◌}
+use Rattle.hash_buckets.specs.Hash.{mixed, mixed_all}
+use Rattle.store_core.specs.declared.view.Sizes.{Sizes}
+use Rattle.store_core.specs.declared.view.Place.{Place}
+use Rattle.store_core.specs.declared.view.Place.TheVariants.{RowWord}
+use Rattle.store_core.specs.Machine.{widest}
+use Rattle.store_core.specs.Marks.{IsMarked, MarksReached}
+use Rattle.store_core.specs.MarkedChains.{StandsIn}
+use Rattle.store_core.specs.Steps.{ReachesByWords}
+use Rattle.sweep_phase.specs.Gathered.{sizes_of, loads_of, words_of}
+use Rattle.sweep_phase.specs.Chained.{numbers_of, IsHashed, ChainsTo}
+use Rattle.sweep_phase.specs.Read.{again_itself, again_in_turn}
+use Rattle.sweep_phase.proofs.Sound.{row_is_below, row_has_content}
+use Rattle.sweep_phase.proofs.Chains.{numbers_more, hashes_int, hashes_rows, stands_by, chains_none, chains_same, chains_more}
+use Rattle.sweep_phase.proofs.chaining.chain_marked.Goals as goal
+
+pub bucket_of_row-bucket-requires-clause-reached : goal.bucket_of_row-bucket-requires-clause-reached
+bucket_of_row-bucket-requires-clause-reached c = (c.requires.marks.marked c.args.row).0 c.requires.marked
+
+pub returns-clause-chains : goal.returns-clause-chains
+returns-clause-chains c =
+    let w = words_of c.args.seat.now.seat in
+    let n = c.requires.nexts in
+    let r = c.requires.row in
+    let z = c.requires.marks.size in
+    let e = c.bucket_of_row-bucket.ensures in
+    let ms = c.args._marks.now in
+    subst (λ (hs : List ℕ). ChainsTo w ms c.args.in_use (c.args.row + 1) hs c.chain_row.new.nexts) (sym c.chain_row.ensures.heads)
+    (subst (λ (ns : List ℕ). ChainsTo w ms c.args.in_use (c.args.row + 1) (set c.args.heads.now c.bucket_of_row-bucket.result (c.args.row + 1)) ns) (sym c.chain_row.ensures.nexts)
+    (chains_more w ms c.args.in_use c.args.row c.args.heads.now c.args.nexts.now c.requires.marked c.bucket_of_row-bucket.result e.below e.stands c.requires.chains (omega arith) c.requires.used.1))

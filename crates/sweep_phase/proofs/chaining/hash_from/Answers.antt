@@ -1,0 +1,32 @@
+use Rattle.std.proofs.Common.{◌≡◌, ◌≢◌, ℕ, suc, ◌+◌, ◌<◌, ◌≤◌, Bool, true, false, List, length, get_or, set, refl, sym, ap, ◌∙◌, subst, arith}
+use Rattle.std.specs.Prelude.{replicate, ◌%◌}
+use Rattle.hash_buckets.specs.Hash.{mixed, mixed_all}
+use Rattle.store_core.specs.declared.view.Sizes.{Sizes}
+use Rattle.store_core.specs.declared.view.Place.{Place}
+use Rattle.store_core.specs.declared.view.Place.TheVariants.{RowWord}
+use Rattle.store_core.specs.Machine.{widest}
+use Rattle.store_core.specs.Marks.{IsMarked, MarksReached}
+use Rattle.store_core.specs.MarkedChains.{StandsIn}
+use Rattle.store_core.specs.Steps.{ReachesByWords}
+use Rattle.sweep_phase.specs.Gathered.{sizes_of, loads_of, words_of}
+use Rattle.sweep_phase.specs.Chained.{numbers_of, IsHashed, ChainsTo}
+use Rattle.sweep_phase.specs.Read.{again_itself, again_in_turn}
+use Rattle.sweep_phase.proofs.Sound.{row_is_below, row_has_content}
+use Rattle.sweep_phase.proofs.Chains.{numbers_more, hashes_int, hashes_rows, stands_by, chains_none, chains_same, chains_more}
+use Rattle.sweep_phase.proofs.chaining.hash_from.Goals as goal
+
+pub returns-then-symbol-eq-INTEGER-clause-hash : goal.returns-then-symbol-eq-INTEGER-clause-hash
+returns-then-symbol-eq-INTEGER-clause-hash c =
+    let s = c.args.seat.now in
+    let w = words_of s.seat in
+    let t = row_has_content c.args.sweep.now s.seat s.number s.seats c.requires.at c.args.row c.requires.reached in
+    subst (λ (h : ℕ). IsHashed w c.args.row h) (sym (c.with_value.ensures.hash ∙ ap (λ (h : ℕ). mixed h (w (RowWord c.args.row 2))) (c.with_word-first.ensures ∙ ap (λ (n : ℕ). mixed 14695981039346656037 n) c.requires.symbol)))
+    (hashes_int w c.args.row t.0 t.1 (let e = c.requires.symbol in let f = c.if-symbol-eq-INTEGER.true in omega arith))
+
+pub returns-clause-hash : goal.returns-clause-hash
+returns-clause-hash c =
+    let s = c.args.seat.now in
+    let w = words_of s.seat in
+    let t = row_has_content c.args.sweep.now s.seat s.number s.seats c.requires.at c.args.row c.requires.reached in
+    subst (λ (h : ℕ). IsHashed w c.args.row h) (sym (c.with_arguments.ensures.hash ∙ ap (λ (h : ℕ). mixed_all h (numbers_of w c.args.row (w (RowWord c.args.row 1)))) (c.with_word-first.ensures ∙ ap (λ (n : ℕ). mixed 14695981039346656037 n) c.requires.symbol)))
+    (hashes_rows w c.args.row t.0 t.1 (let e = c.requires.symbol in let f = c.if-symbol-eq-INTEGER.false in λ k. omega arith))

@@ -1,0 +1,32 @@
+use Rattle.std.proofs.Common.{◌≡◌, ◌≢◌, ℕ, suc, ◌+◌, ◌<◌, ◌≤◌, Bool, true, false, List, length, get_or, set, refl, sym, ap, ◌∙◌, subst, arith}
+use Rattle.std.specs.Prelude.{replicate, ◌%◌}
+use Rattle.hash_buckets.specs.Hash.{mixed, mixed_all}
+use Rattle.store_core.specs.declared.view.Sizes.{Sizes}
+use Rattle.store_core.specs.declared.view.Place.{Place}
+use Rattle.store_core.specs.declared.view.Place.TheVariants.{RowWord}
+use Rattle.store_core.specs.Machine.{widest}
+use Rattle.store_core.specs.Marks.{IsMarked, MarksReached}
+use Rattle.store_core.specs.MarkedChains.{StandsIn}
+use Rattle.store_core.specs.Steps.{ReachesByWords}
+use Rattle.sweep_phase.specs.Gathered.{sizes_of, loads_of, words_of}
+use Rattle.sweep_phase.specs.Chained.{numbers_of, IsHashed, ChainsTo}
+use Rattle.sweep_phase.specs.Read.{again_itself, again_in_turn}
+use Rattle.sweep_phase.proofs.Sound.{row_is_below, row_has_content}
+use Rattle.sweep_phase.proofs.Chains.{numbers_more, hashes_int, hashes_rows, stands_by, chains_none, chains_same, chains_more}
+use Rattle.sweep_phase.proofs.chaining.hash_of_row.Goals as goal
+
+pub row_word_of-symbol-requires-clause-below : goal.row_word_of-symbol-requires-clause-below
+row_word_of-symbol-requires-clause-below c = let s = c.args.seat.now in row_is_below c.args.sweep.now s.seat s.number s.seats c.requires.at c.args.row c.requires.reached
+
+pub hash_from-requires-clause-reached : goal.hash_from-requires-clause-reached
+hash_from-requires-clause-reached c = subst (λ (u : Place → ℕ). ReachesByWords u c.args.row) (sym c.row_word_of-symbol.ensures.again.words) c.requires.reached
+
+pub hash_from-requires-clause-symbol : goal.hash_from-requires-clause-symbol
+hash_from-requires-clause-symbol c = c.row_word_of-symbol.ensures.value ∙ ap (λ (u : Place → ℕ). u (RowWord c.args.row 0)) (sym c.row_word_of-symbol.ensures.again.words)
+
+pub returns-clause-again : goal.returns-clause-again
+returns-clause-again c = let a = c.args.seat.now in let t = c.row_word_of-symbol.new.seat in let s = c.hash_from.new.seat in
+    again_in_turn c.args.sweep.now a.seat a.number a.seats t.seat t.number t.seats s.seat s.number s.seats c.row_word_of-symbol.ensures.again c.hash_from.ensures.again
+
+pub returns-clause-hash : goal.returns-clause-hash
+returns-clause-hash c = subst (λ (u : Place → ℕ). IsHashed u c.args.row c.hash_from.result) c.row_word_of-symbol.ensures.again.words c.hash_from.ensures.hash

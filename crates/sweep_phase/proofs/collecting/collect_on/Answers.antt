@@ -1,0 +1,35 @@
+use Rattle.std.proofs.Common.{◌≡◌, ◌+◌, ◌<◌, length, sym, ap, subst, ◌∙◌, arith}
+use Rattle.store_core.specs.declared.view.Sizes.{Sizes}
+use Rattle.node_rows.specs.declared.view.NodeView.{NodeView}
+use Rattle.sweep_phase.specs.Gathered.{sizes_of}
+use Rattle.sweep_phase.specs.Collected.{EndsSo}
+use Rattle.sweep_phase.proofs.Whole.{whole_entries, whole_seen}
+use Rattle.sweep_phase.proofs.collecting.collect_on.Goals as goal
+
+pub sweep_all-kept-requires-clause-size : goal.sweep_all-kept-requires-clause-size
+sweep_all-kept-requires-clause-size c = let p = c.args.pass.now in c.requires.size ∙ (p.sized ∙ ap (λ (z : Sizes). z.rows) c.requires.at.alone.of.sizes)
+
+pub sweep_all-kept-requires-clause-nexts : goal.sweep_all-kept-requires-clause-nexts
+sweep_all-kept-requires-clause-nexts c = let p = c.args.pass.now in ap length c.deref_mut.ensures.value ∙ (p.nexts_are ∙ ap (λ (z : Sizes). z.rows) c.requires.at.alone.of.sizes)
+
+pub sweep_all-kept-requires-clause-heads : goal.sweep_all-kept-requires-clause-heads
+sweep_all-kept-requires-clause-heads c = let p = c.args.pass.now in ap length c.deref_mut-2.ensures.value ∙ (p.heads_are ∙ ap (λ (z : Sizes). z.buckets) c.requires.at.alone.of.sizes)
+
+pub returns-clause-told : goal.returns-clause-told
+returns-clause-told c =
+    let p = c.args.pass.now in
+    let a = p.seat in
+    let b = c.sweep_all-kept.new.seat in
+    let r = c.sweep_all-kept.result in
+    let e = c.sweep_all-kept.ensures.ends in
+    c.tell_collect.ensures.told a.seat.me.0.store.entries e.kept
+    (whole_entries c.args.sweep.now a.seat a.number a.seats b.seat b.number b.seats c.sweep_all-kept.new.marks r.live r.buckets e)
+    (whole_seen c.args.sweep.now a.seat a.number a.seats b.seat b.number b.seats c.sweep_all-kept.new.marks r.live r.buckets e)
+    (e.size ∙ sym (p.sized ∙ ap (λ (z : Sizes). z.rows) c.requires.at.alone.of.sizes))
+    (λ q. e.marked q.0)
+
+pub returns-clause-ends : goal.returns-clause-ends
+returns-clause-ends c =
+    let a = c.args.pass.now.seat in
+    let r = c.sweep_all-kept.result in
+    subst (λ s. EndsSo c.args.sweep.now a.seat a.number a.seats s.seat s.number s.seats r.live r.buckets) (sym c.tell_collect.ensures.seat.0) (c.sweep_all-kept.new.marks, c.sweep_all-kept.ensures.ends)

@@ -1,0 +1,13 @@
+use Rattle.std.proofs.Common.{◌≡◌, ℕ, sym, subst}
+use Rattle.store_core.specs.declared.view.Place.{Place}
+use Rattle.store_core.specs.Marks.{MarksReached}
+use Rattle.sweep_phase.specs.Gathered.{sizes_of, words_of}
+use Rattle.sweep_phase.specs.Read.{stays_in_turn}
+use Rattle.sweep_phase.proofs.collecting.load_and_mark.Goals as goal
+
+pub returns-clause-stays : goal.returns-clause-stays
+returns-clause-stays c = let a = c.args.seat.now in let b = c.load_all.new.seat in let d = c.mark_all.new.seat in
+    stays_in_turn a.seat a.number a.seats b.seat b.number b.seats d.seat d.number d.seats c.load_all.ensures.more.stays c.mark_all.ensures.again.stays
+
+pub returns-clause-marks : goal.returns-clause-marks
+returns-clause-marks c = subst (λ (u : Place → ℕ). MarksReached u (sizes_of c.args.sweep.now).rows c.mark_all.new.marks) (sym c.mark_all.ensures.again.words) c.mark_all.ensures.marks

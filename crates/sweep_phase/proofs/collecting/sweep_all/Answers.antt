@@ -1,0 +1,15 @@
+use Rattle.std.proofs.Common.{◌≡◌, sym, ap, ◌∙◌}
+use Rattle.node_rows.specs.declared.view.NodeView.{NodeView}
+use Rattle.sweep_phase.specs.Gathered.{sizes_of}
+use Rattle.sweep_phase.specs.Read.{stays_in_turn}
+use Rattle.sweep_phase.proofs.Sweeping.{ends_after}
+use Rattle.sweep_phase.proofs.collecting.sweep_all.Goals as goal
+
+pub work_out-kept-requires-clause-in_use : goal.work_out-kept-requires-clause-in_use
+work_out-kept-requires-clause-in_use c = c.requires.in_use ∙ sym (ap (λ (v : NodeView). v.store.in_use) c.load_and_mark.ensures.stays.only)
+
+pub returns-clause-ends : goal.returns-clause-ends
+returns-clause-ends c = let a = c.args.seat.now in let b = c.load_and_mark.new.seat in let d = c.work_out-kept.new.seat in let e = c.store_all.new.seat in let f = c.end.new.seat in
+    ends_after c.args.sweep.now a.seat a.number a.seats e.seat e.number e.seats f.seat f.number f.seats c.load_and_mark.new.marks c.work_out-kept.result.live c.work_out-kept.result.buckets
+    (stays_in_turn a.seat a.number a.seats b.seat b.number b.seats e.seat e.number e.seats c.load_and_mark.ensures.stays
+    (stays_in_turn b.seat b.number b.seats d.seat d.number d.seats e.seat e.number e.seats c.work_out-kept.ensures.stays c.store_all.ensures.stays)) c.end.ensures.ends

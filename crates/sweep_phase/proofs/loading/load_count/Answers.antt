@@ -1,0 +1,8 @@
+use Rattle.sweep_phase.specs.Loaded.{begun}
+use Rattle.sweep_phase.specs.Gathered.{sizes_of}
+use Rattle.sweep_phase.proofs.Stands.{root_count_few}
+use Rattle.sweep_phase.proofs.Gathering.{loaded_few}
+use Rattle.sweep_phase.proofs.loading.load_count.Goals as goal
+
+pub returns-clause-few : goal.returns-clause-few
+returns-clause-few c = let s = c.load.new.seat in loaded_few c.args.sweep.now s.seat s.number s.seats c.load.ensures.at c.args.j c.load.result c.load.ensures.loaded

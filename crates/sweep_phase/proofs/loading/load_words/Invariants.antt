@@ -1,0 +1,12 @@
+use Rattle.std.specs.Prelude.{◌≡◌, ℕ, ◌<◌, Some}
+use Rattle.store_core.specs.declared.view.Place.TheVariants.{RowWord}
+use Rattle.store_core.specs.ByView.{IsLoaded}
+use Rattle.sweep_phase.specs.Gathered.{loads_of, Gathers, LoadsMore}
+use Rattle.sweep_phase.proofs.loading.load_words.Given as goal
+
+abbrev pub invariant-loop-k : goal.invariant-loop-k
+invariant-loop-k l = record {
+  at : Gathers l.sweep l.seat.seat l.seat.number l.seat.seats;
+  more : LoadsMore l.fn.seat.seat l.fn.seat.number l.fn.seat.seats l.seat.seat l.seat.number l.seat.seats;
+  loaded : (k : ℕ) → k < l.k → IsLoaded (RowWord l.row k) (loads_of l.seat.seat);
+}

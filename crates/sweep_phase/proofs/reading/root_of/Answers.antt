@@ -1,0 +1,34 @@
+use Rattle.std.proofs.Common.{◌≡◌, ◌≢◌, ℕ, suc, ◌+◌, ◌<◌, ◌≤◌, Option, Some, List, length, refl, sym, ap, ◌∙◌, subst, arith}
+use Rattle.term_model.specs.declared.Row.{Row}
+use Rattle.mark_phase.specs.Reachable.{Reaches}
+use Rattle.store_core.specs.declared.view.Sizes.{Sizes}
+use Rattle.store_core.specs.declared.view.Place.{Place}
+use Rattle.store_core.specs.declared.view.Place.TheVariants.{RowWord, RootCount, Root}
+use Rattle.store_core.specs.Machine.{widest}
+use Rattle.store_core.specs.Steps.{ReachesByWords, protected_row, argument_row}
+use Rattle.sweep_phase.specs.Gathered.{sizes_of, loads_of, words_of}
+use Rattle.sweep_phase.specs.Marked.{row_of, children_of}
+use Rattle.sweep_phase.proofs.Gathering.{root_words_few}
+use Rattle.sweep_phase.proofs.Reaches.{arguments_count, argument_is, reaches_on}
+use Rattle.sweep_phase.proofs.Sound.{protected_below, protected_loaded, row_is_below, row_counts_few}
+use Rattle.sweep_phase.proofs.reading.root_of.Goals as goal
+
+pub root_word-word-requires : goal.root_word-word-requires
+root_word-word-requires c =
+    let s = c.args.seat.now in
+    let f = root_words_few c.args.sweep.now s.seat s.number s.seats c.requires.at c.args.j c.requires.below in
+    let d = ap (λ (z : Sizes). z.depth) c.args.sweep.now.at.told in
+    let t = ap (λ (z : Sizes). z.seats) c.args.sweep.now.at.told in
+    let l = c.requires.below in
+    let m = c.requires.within in (c.args.sweep.now.at.small, omega arith, omega arith)
+
+pub reload-requires-clause-loaded : goal.reload-requires-clause-loaded
+reload-requires-clause-loaded c = let s = c.args.seat.now in protected_loaded c.args.sweep.now s.seat s.number s.seats c.requires.at c.args.j c.args.k c.requires.within
+
+pub overflow_cast-result : goal.overflow_cast-result
+overflow_cast-result c =
+    let s = c.args.seat.now in
+    let e = c.reload.ensures.value in
+    let f = row_is_below c.args.sweep.now s.seat s.number s.seats c.requires.at (words_of s.seat (Root c.args.j c.args.k)) (protected_row c.args.j c.args.k c.requires.within) in
+    let d = ap (λ (z : Sizes). z.rows) c.args.sweep.now.at.told in
+    let m = c.args.sweep.now.may.rows.1 in omega arith

@@ -1,0 +1,25 @@
+use Rattle.std.proofs.Common.{◌≡◌, ℕ, ◌+◌, ◌<◌, ◌≤◌, false, get_or, refl, sym, ap, ◌∙◌, arith}
+use Rattle.store_core.specs.declared.view.Place.{Place}
+use Rattle.store_core.specs.declared.view.Place.TheVariants.{FreePlace, Bucket, Next}
+use Rattle.sweep_phase.specs.Gathered.{sizes_of}
+use Rattle.sweep_phase.specs.Stored.{seen_of}
+use Rattle.sweep_phase.proofs.Writes.{stores_itself, stores_in_turn, placed_none}
+use Rattle.sweep_phase.proofs.storing.store_places.Goals as goal
+
+pub loop-row-init : goal.loop-row-init
+loop-row-init c = let s = c.args.seat.now in record { at = c.requires.at; more = stores_itself s.seat s.number s.seats; placed = placed_none (λ i. seen_of s.seat (FreePlace i)) c.args.marks.now; has = λ i l. absurd (omega arith); few = omega arith; others = λ p is. refl }
+
+pub loop-row-preserved : goal.loop-row-preserved
+loop-row-preserved c =
+    let a = c.args.seat.now in
+    let t = c.loop-row.seat in
+    let s = c.store_place-count.new.seat in
+    let i = c.loop-row.invariant in
+    let e = c.store_place-count.ensures in record {
+      at = e.at;
+      more = stores_in_turn a.seat a.number a.seats t.seat t.number t.seats s.seat s.number s.seats i.more e.more;
+      placed = e.placed;
+      has = e.has;
+      few = e.few;
+      others = λ p is. e.others p is ∙ i.others p is;
+    }

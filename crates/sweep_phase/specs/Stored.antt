@@ -1,0 +1,56 @@
+-- A seat whose collection stores words.
+use Rattle.std.specs.Prelude.{◌≡◌, ℕ, ◌<◌, nat_lt, Bool, true, false, List, get_or}
+use Rattle.atomic_table.specs.declared.shared.Seat.{Seat}
+use Rattle.store_core.specs.declared.view.Place.{Place}
+use Rattle.store_core.specs.declared.view.Place.TheVariants.{Base, FreeCount, InUse, FreePlace, Bucket, Next}
+use Rattle.store_core.specs.Machine.{Each}
+use Rattle.store_core.specs.Steps.{stores}
+use Rattle.store_core.specs.ByView.{StoresNext}
+use Rattle.store_core.specs.Shown.{in_table}
+use Rattle.node_rows.specs.declared.view.NodeView.{NodeView}
+use Rattle.node_rows.specs.Collecting.{HasSeen, word_seen}
+use Rattle.sweep_phase.specs.declared.sweep.Sweep.{Sweep}
+use Rattle.sweep_phase.specs.Gathered.{sizes_of, loads_of, IsAlone, StaysSeat}
+
+-- the words, as a collection has stored them, or else loaded them
+abbrev pub seen_of : Seat (Unit {0}) NodeView → Place → ℕ
+seen_of seat = word_seen seat.me.0.store
+
+-- Seat i, one of n, is in exclusive access, and its collection has loaded all words and may store.
+pub record Stores (c : Sweep) (seat : Seat (Unit {0}) NodeView) (i n : ℕ) : Type 0 where
+  pub alone : IsAlone c.store.now seat i n
+  pub may : StoresNext (sizes_of c) seat.me.0.store.call
+  pub inside : Each (λ x. in_table (sizes_of c) x.0 ≡ true) (stores seat.me.0.store.call)
+
+-- the same seat, which has stored more
+pub record StoresMore (a : Seat (Unit {0}) NodeView) (i n : ℕ) (b : Seat (Unit {0}) NodeView) (j m : ℕ) : Type 0 where
+  pub stays : StaysSeat a i n b j m
+  pub loads : loads_of b ≡ loads_of a
+  pub seen : (p : Place) → HasSeen a.me.0.store p → HasSeen b.me.0.store p
+
+-- the next words of rows, the heads of the first u buckets, and the free places
+abbrev pub is_next : Place → Bool
+is_next (Next r) = true
+is_next p = false
+
+abbrev pub is_head : ℕ → Place → Bool
+is_head u (Bucket b) = nat_lt b u
+is_head u p = false
+
+abbrev pub is_place : Place → Bool
+is_place (FreePlace i) = true
+is_place p = false
+
+-- the free count, the buckets in use, and the base
+abbrev pub is_number : Place → Bool
+is_number Base = true
+is_number FreeCount = true
+is_number InUse = true
+is_number p = false
+
+-- the first k free places hold, ascending, the rows among the first n that aren't marked
+pub record ArePlaced (place : ℕ → ℕ) (marks : List Bool) (n k : ℕ) : Type 0 where
+  pub below : (i : ℕ) → i < k → place i < n
+  pub free : (i : ℕ) → i < k → get_or marks (place i) false ≡ false
+  pub ascend : (i j : ℕ) → i < j → j < k → place i < place j
+  pub all : (r : ℕ) → r < n → get_or marks r false ≡ false → (i : ℕ) × (i < k) × (place i ≡ r)

@@ -1,0 +1,21 @@
+//! Collections on a running store: the rows that no pass protects are free again.
+#![tactic(auto)]
+
+mod beginning;
+mod chaining;
+mod collecting;
+mod counting;
+mod creating;
+mod loading;
+mod marking;
+mod now;
+mod reading;
+mod storing;
+mod sweep;
+#[cfg(test)]
+mod tests;
+
+pub use collecting::collect;
+pub use creating::create_exclusive;
+pub use now::collect_now;
+pub use sweep::{Kept, TryCollect, Worn};

@@ -1,0 +1,174 @@
+//! A collection's stores: of chains, buckets, free places and numbers.
+ghost use Rattle.std.specs.Prelude.{◌≡◌, ◌<◌, ◌≤◌, ◌+◌, ℕ, Bool, true, false, length, get_or};
+ghost use Rattle.store_core.specs.declared.view.Place.{Place};
+ghost use Rattle.store_core.specs.declared.view.Place.TheVariants.{FreePlace, Bucket, Next};
+ghost use Rattle.store_core.specs.Marks.{IsMarked};
+ghost use Rattle.store_core.specs.Shown.{in_table, index_of};
+ghost use Rattle.store_core.specs.Steps.{is_stored, is_storing};
+ghost use Rattle.store_core.specs.Words.{same_place, write};
+ghost use Rattle.node_rows.specs.Collecting.{HasSeen};
+ghost use Rattle.sweep_phase.specs.Gathered.{sizes_of};
+ghost use Rattle.sweep_phase.specs.Stored.{Stores, StoresMore, ArePlaced, seen_of, is_next, is_head, is_place};
+
+use crate::sweep::Sweep;
+use busy_forbidden::Seat;
+use mark_phase::Marks;
+use node_rows::{NodeRows, bucket_word, free_place_word, next_word, store_any};
+use store_core::Place;
+use term_model::Row;
+
+// Stores a word.
+pub(crate) fn put(
+    sweep: &Sweep<'_>,
+    seat: &mut Seat<NodeRows>,
+    word: usize,
+    place: Place,
+    value: u64,
+)
+    requires at { Stores sweep.now seat.old.seat seat.old.number seat.old.seats }
+    requires there { in_table (sizes_of sweep.now) place ≡ true }
+    requires stored { is_stored place ≡ true }
+    requires word { word ≡ index_of (sizes_of sweep.now) place }
+    ensures at { Stores sweep.now seat.new.seat seat.new.number seat.new.seats }
+    ensures more { StoresMore seat.old.seat seat.old.number seat.old.seats seat.new.seat seat.new.number seat.new.seats }
+    ensures storing { is_storing seat.new.seat.me.0.store.call ≡ true }
+    ensures has { HasSeen seat.new.seat.me.0.store place }
+    ensures words { seen_of seat.new.seat ≡ write (seen_of seat.old.seat) place value }
+{
+    store_any(&sweep.store.table, seat, word, place, value);
+}
+
+// Stores the next word of a row.
+fn put_next(sweep: &Sweep<'_>, seat: &mut Seat<NodeRows>, row: u32, next: u32)
+    requires at { Stores sweep.now seat.old.seat seat.old.number seat.old.seats }
+    requires below { row < (sizes_of sweep.now).rows }
+    ensures at { Stores sweep.now seat.new.seat seat.new.number seat.new.seats }
+    ensures more { StoresMore seat.old.seat seat.old.number seat.old.seats seat.new.seat seat.new.number seat.new.seats }
+    ensures words { seen_of seat.new.seat ≡ write (seen_of seat.old.seat) (Next row) next }
+{
+    let word = next_word(&sweep.store.sizes, u64::from(row));
+    put(sweep, seat, word, Place::Next(row), u64::from(next));
+}
+
+// Stores the next word of a row that is marked.
+fn store_next(sweep: &Sweep<'_>, seat: &mut Seat<NodeRows>, marks: &Marks, nexts: &[u32], row: u32)
+    requires at { Stores sweep.now seat.old.seat seat.old.number seat.old.seats }
+    requires marks { length marks.now ≡ (sizes_of sweep.now).rows }
+    requires nexts { length nexts.now ≡ (sizes_of sweep.now).rows }
+    requires below { row < (sizes_of sweep.now).rows }
+    ensures at { Stores sweep.now seat.new.seat seat.new.number seat.new.seats }
+    ensures more { StoresMore seat.old.seat seat.old.number seat.old.seats seat.new.seat seat.new.number seat.new.seats }
+    ensures next { IsMarked marks.now row → seen_of seat.new.seat (Next row) ≡ get_or nexts.now row 0 }
+    ensures others { (p : Place) → same_place p (Next row) ≡ false → seen_of seat.new.seat p ≡ seen_of seat.old.seat p }
+{
+    if !marks.has(Row(row)) {
+        return;
+    }
+    put_next(sweep, seat, row, nexts[row as usize]);
+}
+
+/// Stores the next words of the marked rows.
+pub(crate) fn store_nexts(
+    sweep: &Sweep<'_>,
+    seat: &mut Seat<NodeRows>,
+    marks: &Marks,
+    nexts: &[u32],
+)
+    requires at { Stores sweep.now seat.old.seat seat.old.number seat.old.seats }
+    requires marks { length marks.now ≡ (sizes_of sweep.now).rows }
+    requires nexts { length nexts.now ≡ (sizes_of sweep.now).rows }
+    ensures at { Stores sweep.now seat.new.seat seat.new.number seat.new.seats }
+    ensures more { StoresMore seat.old.seat seat.old.number seat.old.seats seat.new.seat seat.new.number seat.new.seats }
+    ensures nexts { (r : ℕ) → r < (sizes_of sweep.now).rows → IsMarked marks.now r → seen_of seat.new.seat (Next r) ≡ get_or nexts.now r 0 }
+    ensures others { (p : Place) → is_next p ≡ false → seen_of seat.new.seat p ≡ seen_of seat.old.seat p }
+{
+    for row in 0..sweep.store.sizes.rows {
+        store_next(sweep, seat, marks, nexts, row);
+    }
+}
+
+// Stores the head of a bucket.
+fn store_head(sweep: &Sweep<'_>, seat: &mut Seat<NodeRows>, b: u32, head: u32)
+    requires at { Stores sweep.now seat.old.seat seat.old.number seat.old.seats }
+    requires below { b < (sizes_of sweep.now).buckets }
+    ensures at { Stores sweep.now seat.new.seat seat.new.number seat.new.seats }
+    ensures more { StoresMore seat.old.seat seat.old.number seat.old.seats seat.new.seat seat.new.number seat.new.seats }
+    ensures words { seen_of seat.new.seat ≡ write (seen_of seat.old.seat) (Bucket b) head }
+{
+    let word = bucket_word(&sweep.store.sizes, u64::from(b));
+    put(sweep, seat, word, Place::Bucket(b), u64::from(head));
+}
+
+/// Stores the heads of so many buckets.
+pub(crate) fn store_heads(sweep: &Sweep<'_>, seat: &mut Seat<NodeRows>, heads: &[u32], in_use: u32)
+    requires at { Stores sweep.now seat.old.seat seat.old.number seat.old.seats }
+    requires heads { length heads.now ≡ (sizes_of sweep.now).buckets }
+    requires within { in_use ≤ (sizes_of sweep.now).buckets }
+    ensures at { Stores sweep.now seat.new.seat seat.new.number seat.new.seats }
+    ensures more { StoresMore seat.old.seat seat.old.number seat.old.seats seat.new.seat seat.new.number seat.new.seats }
+    ensures heads { (b : ℕ) → b < in_use → seen_of seat.new.seat (Bucket b) ≡ get_or heads.now b 0 }
+    ensures others { (p : Place) → is_head in_use p ≡ false → seen_of seat.new.seat p ≡ seen_of seat.old.seat p }
+{
+    for b in 0..in_use {
+        store_head(sweep, seat, b, heads[b as usize]);
+    }
+}
+
+// Stores a row in a free place.
+fn put_place(sweep: &Sweep<'_>, seat: &mut Seat<NodeRows>, i: u32, row: u32)
+    requires at { Stores sweep.now seat.old.seat seat.old.number seat.old.seats }
+    requires below { i < (sizes_of sweep.now).rows }
+    ensures at { Stores sweep.now seat.new.seat seat.new.number seat.new.seats }
+    ensures more { StoresMore seat.old.seat seat.old.number seat.old.seats seat.new.seat seat.new.number seat.new.seats }
+    ensures has { HasSeen seat.new.seat.me.0.store (FreePlace i) }
+    ensures words { seen_of seat.new.seat ≡ write (seen_of seat.old.seat) (FreePlace i) row }
+{
+    let word = free_place_word(&sweep.store.sizes, u64::from(i));
+    put(sweep, seat, word, Place::FreePlace(i), u64::from(row));
+}
+
+// Stores a row that isn't marked in the next free place: how many are filled.
+fn store_place(
+    sweep: &Sweep<'_>,
+    seat: &mut Seat<NodeRows>,
+    marks: &Marks,
+    row: u32,
+    count: u32,
+) -> u32
+    requires at { Stores sweep.now seat.old.seat seat.old.number seat.old.seats }
+    requires marks { length marks.now ≡ (sizes_of sweep.now).rows }
+    requires below { row < (sizes_of sweep.now).rows }
+    requires few { count ≤ row }
+    requires placed { ArePlaced (λ i. seen_of seat.old.seat (FreePlace i)) marks.now row count }
+    requires has { (i : ℕ) → i < count → HasSeen seat.old.seat.me.0.store (FreePlace i) }
+    ensures at { Stores sweep.now seat.new.seat seat.new.number seat.new.seats }
+    ensures more { StoresMore seat.old.seat seat.old.number seat.old.seats seat.new.seat seat.new.number seat.new.seats }
+    ensures placed { ArePlaced (λ i. seen_of seat.new.seat (FreePlace i)) marks.now (row + 1) result }
+    ensures has { (i : ℕ) → i < result → HasSeen seat.new.seat.me.0.store (FreePlace i) }
+    ensures few { result ≤ row + 1 }
+    ensures others { (p : Place) → is_place p ≡ false → seen_of seat.new.seat p ≡ seen_of seat.old.seat p }
+{
+    if marks.has(Row(row)) {
+        return count;
+    }
+    put_place(sweep, seat, count, row);
+    count + 1
+}
+
+/// Stores the rows that aren't marked in the free places, ascending: how many they are.
+pub(crate) fn store_places(sweep: &Sweep<'_>, seat: &mut Seat<NodeRows>, marks: &Marks) -> u32
+    requires at { Stores sweep.now seat.old.seat seat.old.number seat.old.seats }
+    requires marks { length marks.now ≡ (sizes_of sweep.now).rows }
+    ensures at { Stores sweep.now seat.new.seat seat.new.number seat.new.seats }
+    ensures more { StoresMore seat.old.seat seat.old.number seat.old.seats seat.new.seat seat.new.number seat.new.seats }
+    ensures placed { ArePlaced (λ i. seen_of seat.new.seat (FreePlace i)) marks.now (sizes_of sweep.now).rows result }
+    ensures has { (i : ℕ) → i < result → HasSeen seat.new.seat.me.0.store (FreePlace i) }
+    ensures few { result ≤ (sizes_of sweep.now).rows }
+    ensures others { (p : Place) → is_place p ≡ false → seen_of seat.new.seat p ≡ seen_of seat.old.seat p }
+{
+    let mut count = 0;
+    for row in 0..sweep.store.sizes.rows {
+        count = store_place(sweep, seat, marks, row, count);
+    }
+    count
+}

@@ -1,0 +1,41 @@
+//! What a collection is about, and what it answers.
+ghost use Rattle.std.specs.Prelude.{◌≡◌, ◌+◌, ◌≤◌, ◌^◌};
+ghost use Rattle.store_core.specs.Invariant.{span};
+ghost use Rattle.store_core.specs.StoreValue.{MaySize};
+ghost use Rattle.node_rows.specs.Passes.{IsStore};
+ghost use Rattle.sweep_phase.specs.Loaded.{FitsRows};
+
+use busy_forbidden::Busy;
+use node_rows::Store;
+
+/// How many rows a collection kept, and how many buckets are in use after it.
+#[derive(Clone, Copy, Debug, PartialEq, Eq)]
+pub struct Kept {
+    pub live: u32,
+    pub buckets: u32,
+}
+
+/// The store's numbers leave no room for another epoch.
+#[derive(Clone, Copy, Debug, PartialEq, Eq)]
+pub struct Worn;
+
+/// Why a collection in an access of its own wasn't made: the entry was refused, or the collection was worn.
+#[derive(Clone, Copy, Debug, PartialEq, Eq)]
+pub enum TryCollect {
+    Busy(Busy),
+    Worn,
+}
+
+/// A collection that has loaded the base, the claim and the free count of its store, and isn't worn.
+#[derive(Drop)]
+pub(crate) struct Sweep<'a> {
+    pub(crate) store: &'a Store,
+    pub(crate) base: u64,
+    pub(crate) claim: u64,
+    pub(crate) count: u64,
+    ghost at: { IsStore store.now.table.shared.table_id store.now.table.shared.key store.now.sizes },
+    ghost room: { base + claim + 1 + span store.now.sizes ≤ 2 ^ 62 },
+    ghost few: { count ≤ store.now.sizes.rows },
+    ghost may: { MaySize store.now.sizes },
+    ghost fits: { FitsRows store.now.table.shared.key },
+}
