@@ -1,0 +1,96 @@
+-- What a desk's steps are to its callers.
+use Rattle.std.proofs.Common.{◌≡◌, ℕ, ◌≤◌, Bool, List, [], ◌∷◌, ◌++◌, Some, refl, ap, sym, ◌∙◌, subst, arith}
+use Rattle.std.specs.Prelude.{max}
+use Rattle.std.specs.List.{flat_map}
+use Rattle.term_model.specs.declared.Row.{Row}
+use Rattle.term_model.specs.declared.Head.{Head}
+use Rattle.term_model.specs.Tree.{Tree, distinct, subtrees}
+use Rattle.terms_api.specs.Terms.{Store, trees, asked, IsSound, Breathed, Built, NotBuilt, IsCrowded, Loses}
+use Rattle.shared_desk.specs.Pass.{PassView, shown, store, own, Arrived, left}
+use Rattle.shared_desk.specs.Code.{Contents}
+use Rattle.shared_desk.specs.Desk.{store_of, IsRight, Passed, Placed}
+use Rattle.std.proofs.lemmas.List.Elements.{Contains-append_left}
+use Rattle.term_model.proofs.Members.{distinct_of_part}
+use Rattle.shared_desk.specs.Places.{Places}
+use Rattle.shared_desk.proofs.Passing.{rooted, crossed, ended, trees_same}
+use Rattle.shared_desk.proofs.Following.{wider}
+
+-- what a refusal counts changes no rows
+pub sound_shown : (v : PassView) (xs : List Row) (k : ℕ) (s : Bool) → IsSound (store v xs) → IsSound (shown v xs k s)
+sound_shown v xs k s so =
+    record { stack = so.stack; depth = so.depth; room = so.room; below = so.below; one_row = so.one_row; arguments = so.arguments; well_formed = so.well_formed; ground = so.ground }
+
+pub sound_desk : (c : Contents) → IsSound (store c.pass c.stack) → IsSound (store_of c)
+sound_desk c so = sound_shown c.pass c.stack c.refusals c.spent so
+
+pub loses_shown : (v w : PassView) (xs ys : List Row) (k m : ℕ) (s t : Bool) → Loses (store v xs) (store w ys) → Loses (shown v xs k s) (shown w ys m t)
+loses_shown v w xs ys k m s t l = record { reachable = l.reachable; epoch = l.epoch }
+
+pub breathed : (v w : PassView) (xs : List Row) (k : ℕ) (s : Bool) → IsSound (store v xs) → Arrived (left (rooted v xs)) w → IsSound (own w) → w.shared ≡ v.shared → Breathed (shown v xs k s) (shown w xs k s)
+breathed v w xs k s so a sound sh =
+    let p = crossed v w xs so a sound in
+    let most = max v.load (distinct (flat_map subtrees (trees (store v xs)))) in
+    let load : w.load ≡ most = ap (λ (x : PassView). x.load) a.rest in
+    let to : Store = record (shown v xs k s) { held = (shown w xs k s).held; load = most; epoch = Some w.base } in
+    record {
+      rest = ap (λ (x : PassView). shown x xs k s) a.rest
+          ∙ ap (λ b. record to { inside = b }) sh
+          ∙ ap (λ l. record to { load = l }) (sym load);
+      none = p.none;
+      rows = loses_shown v w xs xs k k s s p.rows;
+      load = record { least = p.load.least; most = p.load.most };
+    }
+
+pub built_shown : (j : ℕ) (v w : PassView) (xs ys : List Row) (k : ℕ) (s : Bool) (h : Head) (n : ℕ) → j ≤ 1 → Placed j v w xs ys n (asked (store v xs) h n) → w.shared ≡ v.shared → Built (shown v xs k s) (shown w ys k s) h n
+built_shown j v w xs ys k s h n le b sh =
+    record {
+      row = b.row;
+      stack = b.stack;
+      tree = b.tree;
+      built = b.built;
+      only = b.only;
+      rows = loses_shown v w xs ys k k s s b.rows;
+      counts = record {
+        inside = sh;
+        least_sweeps = omega (arith, b.sweeps);
+        most_sweeps = omega (arith, b.sweeps, le);
+        load = record { least = b.load.least; most = b.load.most };
+        rows = b.same.rows;
+        widest = b.same.arity;
+        room = b.same.depth;
+      };
+    }
+
+more_trees : (ts : List Tree) (t : Tree) → distinct (flat_map subtrees ts) ≤ distinct (flat_map subtrees (ts ++ t ∷ []))
+more_trees ts t = distinct_of_part _ _ (wider ts (ts ++ t ∷ []) (λ u k. Contains-append_left ts (t ∷ []) u k))
+
+not_built_here : (j : ℕ) (v w : PassView) (xs : List Row) (k m : ℕ) (s t : Bool) (h : Head) (n : ℕ) → j ≤ 1 → Passed j v w xs → w.shared ≡ v.shared → NotBuilt (shown v xs k s) (shown w xs m t) h n
+not_built_here j v w xs k m s t h n le p sh =
+    record {
+      stack = refl;
+      built = p.built;
+      none = p.none;
+      rows = loses_shown v w xs xs k m s t p.rows;
+      counts = record {
+        inside = sh;
+        least_sweeps = omega (arith, p.sweeps);
+        most_sweeps = omega (arith, p.sweeps, le);
+        load = record { least = p.load.least; most = omega (arith, p.load.most, more_trees (trees (store v xs)) (asked (store v xs) h n)) };
+        rows = p.same.rows;
+        widest = p.same.arity;
+        room = p.same.depth;
+      };
+    }
+
+pub not_built_shown : (j : ℕ) (v w : PassView) (xs ys : List Row) (k m : ℕ) (s t : Bool) (h : Head) (n : ℕ) → j ≤ 1 → ys ≡ xs → Passed j v w xs → w.shared ≡ v.shared → NotBuilt (shown v xs k s) (shown w ys m t) h n
+not_built_shown j v w xs ys k m s t h n le e p sh = subst (λ zs. NotBuilt (shown v xs k s) (shown w zs m t) h n) (sym e) (not_built_here j v w xs k m s t h n le p sh)
+
+pub trees_not_built : (j : ℕ) (v w : PassView) (xs ys : List Row) → IsSound (store v xs) → ys ≡ xs → Passed j v w xs → trees (store w ys) ≡ trees (store v xs)
+trees_not_built j v w xs ys so e p = ap (λ zs. trees (store w zs)) e ∙ trees_same j v w xs so p
+
+pub crowded_shown : (v w : PassView) (xs ys : List Row) (k m : ℕ) (s t : Bool) (h : Head) (n : ℕ) → IsCrowded (store v xs) (store w xs) h n → IsCrowded (shown v xs k s) (shown w ys m t) h n
+crowded_shown v w xs ys k m s t h n c = record { full = c.full; absent = c.absent; hand = c.hand }
+
+-- outside, the stack is protected
+pub right_left : (v : PassView) (p : Places) → IsRight v p → IsRight (left (rooted v p.items)) p
+right_left v p i = record { sound = (ended v p.items i.sound).sound; roots = λ e. refl; alone = refl; room = i.room }

@@ -1,0 +1,17 @@
+pub mod Trees
+pub mod Wholes
+pub mod Views
+pub mod Losing
+pub mod Remembering
+pub mod Gaining
+pub mod Standing
+pub mod Calling
+pub mod Reading
+pub mod Stacks
+pub mod Passing
+pub mod Placing
+pub mod Following
+pub mod Sweeping
+pub mod Walks
+pub mod Desks
+pub mod Telling

@@ -1,0 +1,19 @@
+use Rattle.std.proofs.Common.{◌∙◌, ap, subst}
+use Rattle.terms_api.specs.Terms.{IsSound, trees}
+use Rattle.shared_desk.specs.Code.{Contents}
+use Rattle.shared_desk.specs.Desk.{store_of}
+use Rattle.shared_desk.proofs.Passing.{arrived, trees_same}
+use Rattle.shared_desk.proofs.Desks.{sound_shown}
+use Rattle.shared_desk.proofs.interface.DeskTerms.enter.Goals as goal
+
+pub returns-clause-was_sound : goal.returns-clause-was_sound
+returns-clause-was_sound g c = subst (λ (x : Contents). IsSound (store_of x)) c.self.view_is (sound_shown (g.S.SharedPass.view c.self.inside.pass) c.self.inside.places.items _ _ c.self.invariant.sound)
+
+pub returns-clause-trees : goal.returns-clause-trees
+returns-clause-trees g c =
+    let v = g.S.SharedPass.view c.self.inside.pass in
+    let w = g.S.SharedPass.view c.enter_shared.new.self in
+    let xs = c.self.inside.places.items in
+    let out = ap (λ (x : Contents). x.pass.shared) c.self.view_is ∙ c.requires in
+    trees_same 0 v w xs c.self.invariant.sound (arrived v w xs (c.self.invariant.roots out) c.enter_shared.ensures.arrived c.enter_shared.ensures.sound)
+    ∙ ap (λ (x : Contents). trees (store_of x)) c.self.view_is

@@ -1,0 +1,24 @@
+use Rattle.std.proofs.Common.{◌∙◌, ap, sym, subst}
+use Rattle.terms_api.specs.Terms.{IsSound}
+use Rattle.shared_desk.specs.Pass.{store, left}
+use Rattle.shared_desk.specs.Code.{Contents}
+use Rattle.shared_desk.specs.Desk.{store_of, IsRight}
+use Rattle.shared_desk.proofs.Passing.{rooted}
+use Rattle.shared_desk.proofs.Desks.{sound_shown, right_left}
+use Rattle.shared_desk.proofs.interface.DeskTerms.leave.Goals as goal
+
+pub returns-clause-was_sound : goal.returns-clause-was_sound
+returns-clause-was_sound g c = subst (λ (x : Contents). IsSound (store_of x)) c.self.view_is (sound_shown (g.S.SharedPass.view c.self.inside.pass) c.self.inside.places.items _ _ c.self.invariant.sound)
+
+pub invariant_of-self : goal.invariant_of-self
+invariant_of-self g c =
+    let v = g.S.SharedPass.view c.self.inside.pass in
+    let e = c.leave_shared.ensures ∙ ap left c.store_roots.ensures ∙ ap (λ ys. left (rooted v ys)) c.rows.ensures in
+    subst (λ x. IsRight x c.self.inside.places) (sym e) (right_left v c.self.inside.places c.self.invariant)
+
+pub returns-clause-sound : goal.returns-clause-sound
+returns-clause-sound g c =
+    let v = g.S.SharedPass.view c.self.inside.pass in
+    let p = c.self.inside.places in
+    let e = c.leave_shared.ensures ∙ ap left c.store_roots.ensures ∙ ap (λ ys. left (rooted v ys)) c.rows.ensures in
+    sound_shown (g.S.SharedPass.view c.leave_shared.new.self) p.items _ _ (subst (λ x. IsSound (store x p.items)) (sym e) (right_left v p c.self.invariant).sound)

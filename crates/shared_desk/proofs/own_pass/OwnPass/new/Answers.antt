@@ -1,0 +1,10 @@
+use Rattle.std.proofs.Common.{arith, inl}
+use Rattle.shared_desk.specs.Passes.{IsStanding}
+use Rattle.shared_desk.proofs.Standing.{sound_standing}
+use Rattle.shared_desk.proofs.own_pass.OwnPass.new.Goals as goal
+
+pub returns-clause-sound : goal.returns-clause-sound
+returns-clause-sound g c =
+    let s = c.args.store.now in
+    let standing : IsStanding s c.args.pass = record { of = c.requires.of; told = c.requires.told; placed = inl c.requires.out; whole = c.requires.whole; small = omega arith } in
+    sound_standing s c.args.pass standing

@@ -1,0 +1,84 @@
+-- A desk as a store of terms, and what its steps come to.
+use Rattle.std.specs.Prelude.{◌≡◌, ℕ, ◌+◌, ◌≤◌, ◌⊎◌, true, false, List, [], ◌∷◌, ◌++◌, Result, Ok, Err, refl}
+use Rattle.std.proofs.Common.{◌∙◌}
+use Rattle.term_model.specs.declared.Row.{Row}
+use Rattle.term_model.specs.declared.Head.{Head}
+use Rattle.term_model.specs.Tree.{Tree}
+use Rattle.terms_api.specs.declared.terms.BuildFault.{BuildFault}
+use Rattle.terms_api.specs.declared.terms.BuildFault.TheVariants.{Deep, StoreFull, Worn}
+use Rattle.terms_api.specs.Terms.{Store, HasTree, IsSound, GainsNone, Loses, Loads, IsCrowded, trees, but_last, asked}
+use Rattle.shared_desk.specs.Places.{Places}
+use Rattle.shared_desk.specs.Pass as pass
+use Rattle.shared_desk.specs.Pass.{PassView, shown, store}
+use Rattle.shared_desk.specs.Code.{Contents}
+
+abbrev pub store_of : Contents → Store
+store_of c = shown c.pass c.stack c.refusals c.spent
+
+abbrev pub IsSame : Contents → Contents → Type 0
+IsSame c d = pass.IsSame c.pass d.pass
+
+pub same_itself : (c : Contents) → IsSame c c
+same_itself c = record { rows = refl; arity = refl; depth = refl; store = refl; seat = refl }
+
+pub same_turn : (c d e : Contents) → IsSame c d → IsSame d e → IsSame c e
+same_turn c d e f g = record { rows = g.rows ∙ f.rows; arity = g.arity ∙ f.arity; depth = g.depth ∙ f.depth; store = g.store ∙ f.store; seat = g.seat ∙ f.seat }
+
+-- Between calls no exclusive access is held, and outside the protected rows are the stack.
+pub record IsRight (v : PassView) (p : Places) : Type 0 where
+  pub sound : IsSound (store v p.items)
+  pub roots : v.shared ≡ false → v.roots ≡ p.items
+  pub alone : v.alone ≡ false
+  pub room : v.depth ≤ p.room
+
+pub record IsIn (v : PassView) (p : Places) : Type 0 where
+  pub right : IsRight v p
+  pub shared : v.shared ≡ true
+
+-- in exclusive access, with the stack protected
+pub record IsAlone (v : PassView) (p : Places) : Type 0 where
+  pub sound : IsSound (store v p.items)
+  pub alone : v.alone ≡ true
+  pub shared : v.shared ≡ false
+  pub roots : v.roots ≡ p.items
+  pub room : v.depth ≤ p.room
+
+-- and the last Roots had the stack's trees
+pub record IsReady (v : PassView) (p : Places) : Type 0 where
+  pub alone : IsAlone v p
+  pub noted : v.roots ≡ v.noted
+  pub rooted : v.rooted ≡ trees (store v p.items)
+
+-- The stack stayed, and rows may have been lost, with so many collections.
+pub record Passed (k : ℕ) (v w : PassView) (xs : List Row) : Type 0 where
+  pub none : GainsNone (store v xs) (store w xs)
+  pub rows : Loses (store v xs) (store w xs)
+  pub built : w.built ≡ v.built
+  pub sweeps : w.sweeps ≡ v.sweeps + k
+  pub load : Loads (store v xs) (store w xs) (trees (store v xs))
+  pub same : pass.IsSame v w
+  pub sound : IsSound (store w xs)
+
+-- The last n places of the stack have become the row of the tree.
+pub record Placed (k : ℕ) (v w : PassView) (xs ys : List Row) (n : ℕ) (t : Tree) : Type 0 where
+  pub row : Row
+  pub stack : ys ≡ but_last n xs ++ row ∷ []
+  pub tree : HasTree (store w ys) row t
+  pub built : w.built ≡ v.built ++ t ∷ []
+  pub only : (r : Row) (u : Tree) → HasTree (store w ys) r u → HasTree (store v xs) r u ⊎ (u ≡ t)
+  pub rows : Loses (store v xs) (store w ys)
+  pub sweeps : w.sweeps ≡ v.sweeps + k
+  pub load : Loads (store v xs) (store w ys) (trees (store v xs) ++ t ∷ [])
+  pub same : pass.IsSame v w
+  pub sound : IsSound (store w ys)
+
+-- Without a collection they have become the row of the tree that was asked.
+abbrev pub Creates : PassView → PassView → List Row → List Row → Head → ℕ → Type 0
+Creates v w xs ys h n = Placed 0 v w xs ys n (asked (store v xs) h n)
+
+-- what building leaves, by its answer
+abbrev pub Outcome : PassView → PassView → List Row → List Row → Head → ℕ → Result (Unit {0}) BuildFault → Type 0
+Outcome v w xs ys h n (Ok u) = (k : ℕ) × (k ≤ 1) × Placed k v w xs ys n (asked (store v xs) h n)
+Outcome v w xs ys h n (Err Deep) = ⊥
+Outcome v w xs ys h n (Err StoreFull) = (ys ≡ xs) × Passed 1 v w xs × IsCrowded (store v xs) (store w xs) h n
+Outcome v w xs ys h n (Err Worn) = (ys ≡ xs) × Passed 0 v w xs

@@ -1,0 +1,8 @@
+pub mod Held
+pub mod Places
+pub mod Pass
+pub mod Seen
+pub mod Passes
+pub mod Code
+pub mod Desk
+pub mod Telling

@@ -1,0 +1,21 @@
+//! A desk at the shared store: a pass with a stack of its own, as a store of terms for one caller.
+#![tactic(auto)]
+
+mod building;
+mod desk;
+mod history;
+mod interface;
+mod law;
+mod own_pass;
+mod pass;
+mod places;
+#[cfg(test)]
+mod tests;
+
+pub use desk::Desk;
+pub use faults::Memory;
+pub use law::{desks_are_told, new_passes_may_have_desks};
+pub use own_pass::OwnPass;
+pub use pass::SharedPass;
+pub use sweep_phase::{Kept, Worn};
+pub use term_create::Full;

@@ -1,0 +1,143 @@
+//! A pass of the running store, with all that its desk needs of it.
+ghost use Rattle.std.specs.Prelude.{◌≡◌, false};
+ghost use Rattle.terms_api.specs.Terms.{IsSound};
+ghost use Rattle.shared_desk.specs.Pass.{own};
+ghost use Rattle.shared_desk.specs.Passes.{IsSymbolNumber};
+ghost use Rattle.node_rows.specs.Passes.{IsOut};
+ghost use Rattle.node_rows.specs.Told.{view_of};
+
+use crate::pass::SharedPass;
+use node_rows::{Pass, Store};
+use std::marker::Model;
+use std::sync::Wait;
+use sweep_phase::{Kept, Worn, collect, create_exclusive};
+use term_create::{Full, child_of, count_of, create, head_of};
+use term_model::{Head, Row};
+
+// A symbol is a number of 32 bits.
+#[inline(always)]
+fn fit(head: Head)
+    ensures { IsSymbolNumber head }
+{
+    if let Head::App(symbol) = head {
+        let _number = symbol.0;
+    }
+}
+
+/// A pass of the running store, with the handle by which it waits for its entries.
+#[derive(Drop)]
+pub struct OwnPass<'a, R: Wait> {
+    rt: &'a R,
+    store: &'a Store,
+    pass: Pass,
+}
+
+impl<'a, R: Wait> Model for OwnPass<'a, R> {
+    ghost use Rattle.shared_desk.specs.Pass.{PassView};
+    ghost use Rattle.shared_desk.specs.Code.{pass_code};
+    ghost use Rattle.shared_desk.specs.Passes.{seen_of, IsStanding};
+
+    ghost Value = { PassView };
+
+    ghost coded = { pass_code };
+
+    ghost view = { λ p. seen_of p.store.now p.pass };
+
+    ghost invariant = { λ p. IsStanding p.store.now p.pass };
+}
+
+impl<'a, R: Wait> OwnPass<'a, R> {
+    ghost use Rattle.node_rows.specs.Belonging.{IsPassOf};
+    ghost use Rattle.node_rows.specs.Told.{Tells};
+    ghost use Rattle.shared_desk.specs.Held.{IsWhole};
+    ghost use Rattle.shared_desk.specs.Passes.{seen_of};
+
+    /// A pass of this store, which is out.
+    pub(crate) fn new(rt: &'a R, store: &'a Store, pass: Pass) -> OwnPass<'a, R>
+        requires of { IsPassOf store.now pass }
+        requires out { IsOut (view_of pass) }
+        requires told { Tells pass }
+        requires whole { IsWhole store.now.sizes (view_of pass).store }
+        ensures seen { result ≡ seen_of store.now pass }
+        ensures sound { IsSound (own result) }
+    {
+        let _depth = store.sizes.depth;
+        OwnPass { rt, store, pass }
+    }
+}
+
+impl<'a, R: Wait> OwnPass<'a, R> {
+    ghost use Rattle.shared_desk.specs.Passes.{IsBack};
+
+    /// The pass, which is out.
+    pub(crate) fn into_pass(self) -> Pass
+        requires shared { self.shared ≡ false }
+        requires alone { self.alone ≡ false }
+        ensures back { IsBack self.entry result }
+    {
+        let OwnPass {
+            rt: _,
+            store: _,
+            pass,
+        } = self;
+        pass
+    }
+}
+
+impl<'a, R: Wait> SharedPass for OwnPass<'a, R> {
+    ghost view = { λ v. v };
+
+    fn enter_shared(&mut self) {
+        self.store.enter_shared(self.rt, &mut self.pass);
+    }
+
+    fn leave_shared(&mut self) {
+        self.store.leave_shared(&mut self.pass);
+    }
+
+    fn enter_exclusive(&mut self) {
+        self.store.enter_exclusive(self.rt, &mut self.pass);
+    }
+
+    fn leave_exclusive(&mut self) {
+        self.store.leave_exclusive(&mut self.pass);
+    }
+
+    fn store_roots(&mut self, rows: &[Row]) {
+        root_sets::store_roots(self.store, &mut self.pass, rows);
+    }
+
+    fn create(&mut self, head: Head, rows: &[Row]) -> Result<Row, Full> {
+        fit(head);
+        create(self.store, &mut self.pass, head, rows)
+    }
+
+    fn collect(&mut self) -> Result<Kept, Worn> {
+        collect(self.store, &mut self.pass)
+    }
+
+    fn create_exclusive(&mut self, head: Head, rows: &[Row]) -> Result<Row, Full> {
+        fit(head);
+        create_exclusive(self.store, &mut self.pass, head, rows)
+    }
+
+    fn head(&mut self, row: Row) -> Head {
+        head_of(self.store, &mut self.pass, row)
+    }
+
+    fn count(&mut self, row: Row) -> u32 {
+        count_of(self.store, &mut self.pass, row)
+    }
+
+    fn child(&mut self, row: Row, j: u32) -> Row {
+        child_of(self.store, &mut self.pass, row, j)
+    }
+
+    fn base(&self) -> u64 {
+        self.pass.base
+    }
+
+    fn depth(&self) -> u32 {
+        self.store.sizes.depth
+    }
+}
