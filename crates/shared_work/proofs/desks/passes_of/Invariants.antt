@@ -1,0 +1,7 @@
+use Rattle.std.proofs.Common.{length}
+use Rattle.busy_forbidden.specs.Dealt.{EachPlace}
+use Rattle.shared_work.specs.NewDesks.{IsBackAt}
+use Rattle.shared_work.proofs.desks.passes_of.Given as goal
+
+abbrev pub invariant-loop-desk : goal.invariant-loop-desk
+invariant-loop-desk g l = EachPlace (IsBackAt l.fn.desks.items) (length l.yielded) l.passes.items

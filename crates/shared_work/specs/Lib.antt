@@ -1,0 +1,4 @@
+pub mod NewDesks
+pub mod Running
+pub mod Sharing
+pub mod Filling

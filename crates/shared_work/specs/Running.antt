@@ -1,0 +1,33 @@
+-- What workers leave of the desks at the passes of one store.
+use Rattle.std.specs.Prelude.{◌≡◌, List, Result, Err, IfOk, IfErr, map}
+use Rattle.term_model.specs.Tree.{Tree}
+use Rattle.rewrite_model.specs.Rule.{Rule}
+use Rattle.settings.specs.declared.parts.Settings.{Settings}
+use Rattle.busy_forbidden.specs.Dealt.{EachPlace}
+use Rattle.rewrite_workers.specs.declared.fault.AllFault.{AllFault}
+use Rattle.rewrite_workers.specs.declared.fault.AllFault.TheVariants.{Memory}
+use Rattle.rewrite_workers.specs.declared.lines.Lines.{Lines}
+use Rattle.rewrite_workers.specs.Desks.{EachDesk, KeepsDesk}
+use Rattle.rewrite_workers.specs.Ends.{BuiltAll, Stopped}
+use Rattle.rewrite_workers.specs.Lined.{worker_of, drawn_by}
+use Rattle.rewrite_workers.specs.Works.{need_of}
+use Rattle.node_rows.specs.declared.store.Store.{Store}
+use Rattle.node_rows.specs.declared.store.Pass.{Pass}
+use Rattle.shared_desk.specs.Code.{Contents}
+use Rattle.shared_desk.specs.Desk.{store_of, IsSame}
+use Rattle.shared_work.specs.NewDesks.{IsNewDesk, AreBack}
+
+-- there was no memory
+abbrev pub WantsMemory : Result Lines AllFault → Type 0
+WantsMemory lines = lines ≡ Err Memory
+
+-- The desks were new; what each has built is as `rewrite_all` says; and these passes are those that they gave back.
+pub record HasRun (s : Settings) (rules : List Rule) (terms : List Tree) (store : Store) (lines : Result Lines AllFault) (passes : List Pass) : Type 0 where
+  pub olds : List Contents
+  pub news : List Contents
+  pub new : EachPlace (IsNewDesk store) store.sizes.seats olds
+  pub back : AreBack news passes
+  pub same : EachDesk (λ k old new. IsSame old new) olds news
+  pub kept : EachDesk (λ k old new. KeepsDesk (need_of s rules terms) (store_of old) (store_of new)) olds news
+  pub built : IfOk lines (λ l. EachDesk (λ k old new. BuiltAll s rules (drawn_by k (map worker_of l.list.items) terms) (store_of old) (store_of new)) olds news)
+  pub stopped : IfErr lines (Stopped store_of s rules terms olds news)

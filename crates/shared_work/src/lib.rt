@@ -1,0 +1,10 @@
+//! The terms of some work, rewritten by desks on one shared store.
+#![tactic(auto)]
+
+mod desks;
+mod sharing;
+#[cfg(test)]
+mod tests;
+
+pub use rewrite_workers::{AllFault, Lines, Work};
+pub use sharing::{Rewritten, rewrite_shared};

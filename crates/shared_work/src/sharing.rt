@@ -1,0 +1,156 @@
+// All terms, by workers on one store.
+ghost use Rattle.std.specs.Prelude.{◌≡◌, ◌<◌, ◌≤◌, [], IfOk, IfErr, All, map};
+ghost use Rattle.settings.specs.Words.{AreInRange};
+ghost use Rattle.busy_forbidden.specs.Dealt.{EachPlace};
+ghost use Rattle.history_core.specs.Chronicle.{chronicle, IsLegal};
+ghost use Rattle.node_rows.specs.Passes.{IsStore};
+ghost use Rattle.rewrite_workers.specs.Lined.{said, worker_of, line_of};
+ghost use Rattle.rewrite_workers.specs.Works.{MayWork};
+ghost use Rattle.shared_desk.specs.Telling.{MayHaveDesk};
+ghost use Rattle.shared_work.specs.NewDesks.{sizes_for, IsNewPass};
+ghost use Rattle.shared_work.specs.Filling.{TellsFull};
+ghost use Rattle.shared_work.specs.Running.{HasRun, WantsMemory};
+ghost use Rattle.shared_work.specs.Sharing.{NamesWhatItBuilt, CollectsFew};
+
+use crate::desks::{desks_at, passes_of, store_for};
+use ends::Gate;
+use faults::Memory;
+use node_rows::{Chronicle, Pass, Store};
+use rewrite_workers::{AllFault, Lines, Work, rewrite_all};
+use std::alloc::Global;
+use std::sync::Wait;
+use std::thread::Threads;
+
+/// What comes of some work.
+#[derive(Drop)]
+pub struct Rewritten {
+    /// The lines of its terms.
+    pub lines: Result<Lines, AllFault>,
+    /// The entries of the passes of the store, pass k being that of worker k; or of none, where there was no memory.
+    pub chronicle: Chronicle,
+}
+
+impl Rewritten {
+    // There was no memory.
+    fn nothing() -> Rewritten
+        ensures lines { WantsMemory result.lines }
+        ensures chronicle { result.chronicle ≡ [] }
+    {
+        Rewritten {
+            lines: Err(AllFault::Memory),
+            chronicle: Chronicle::empty(),
+        }
+    }
+}
+
+// The lines, and the passes of the workers, which are out.
+#[derive(Drop)]
+struct Left {
+    lines: Result<Lines, AllFault>,
+    passes: Vec<Pass>,
+}
+
+// Rewrites the terms by workers at the passes of a new store.
+fn rewrite_on<R: Threads + Wait + Sync, G: Gate>(
+    rt: &R,
+    alloc: Global,
+    work: &Work,
+    store: &Store,
+    passes: Vec<Pass>,
+    gate: &G,
+) -> Result<Left, Memory>
+    requires in_range { AreInRange work.now.settings }
+    requires may { MayWork work.now.plan.now work.now.symbols.now work.now.terms.now }
+    requires sizes { store.now.sizes ≡ sizes_for work.now.settings work.now.plan.now }
+    requires passes { All (MayHaveDesk store.now) passes.items }
+    requires new { EachPlace (IsNewPass store.now) store.now.sizes.seats passes.items }
+    ensures lines { IfOk result (λ left. IfOk left.lines (λ l. map said l.list.items
+        ≡ map (line_of work.now.settings work.now.symbols.now work.now.plan.now.rules)
+        work.now.terms.now)) }
+    ensures workers { IfOk result (λ left. IfOk left.lines (λ l. All
+        (λ w. w < work.now.settings.workers) (map worker_of l.list.items))) }
+    ensures run { IfOk result (λ left. HasRun work.now.settings work.now.plan.now.rules
+        work.now.terms.now store.now left.lines left.passes.items) }
+{
+    let mut desks = desks_at(rt, alloc, store, passes)?;
+    let lines = rewrite_all(rt, alloc, work, &mut desks, gate);
+    let passes = passes_of(alloc, desks)?;
+    Ok(Left { lines, passes })
+}
+
+// Rewrites the terms on a new store, and ends the store.
+fn rewrite_at<R: Threads + Wait + Sync, G: Gate>(
+    rt: &R,
+    alloc: Global,
+    work: &Work,
+    store: Store,
+    passes: Vec<Pass>,
+    gate: &G,
+) -> Rewritten
+    requires in_range { AreInRange work.now.settings }
+    requires may { MayWork work.now.plan.now work.now.symbols.now work.now.terms.now }
+    requires store { IsStore store.table.shared.table_id store.table.shared.key store.sizes }
+    requires sizes { store.sizes ≡ sizes_for work.now.settings work.now.plan.now }
+    requires passes { All (MayHaveDesk store) passes.items }
+    requires new { EachPlace (IsNewPass store) store.sizes.seats passes.items }
+    ensures lines { IfOk result.lines (λ l. map said l.list.items
+        ≡ map (line_of work.now.settings work.now.symbols.now work.now.plan.now.rules)
+        work.now.terms.now) }
+    ensures workers { IfOk result.lines (λ l. All (λ w. w < work.now.settings.workers)
+        (map worker_of l.list.items)) }
+    ensures legal { IsLegal work.now.settings.rows (chronicle result.chronicle) }
+    ensures built { IfOk result.lines (λ l. NamesWhatItBuilt work.now.settings
+        work.now.plan.now.rules work.now.terms.now (map worker_of l.list.items) result.chronicle) }
+    ensures collects { CollectsFew work.now.settings result.chronicle }
+    ensures full { IfErr result.lines (TellsFull work.now.settings work.now.plan.now.rules
+        work.now.terms.now result.chronicle) }
+{
+    match rewrite_on(rt, alloc, work, &store, passes, gate) {
+        Ok(left) => {
+            let Left { lines, passes } = left;
+            let chronicle = store.close(passes);
+            Rewritten { lines, chronicle }
+        }
+        Err(_) => Rewritten::nothing(),
+    }
+}
+
+/// Rewrites the terms of some work on one new store, by one worker at a desk of its own for each of the settings' workers. The store
+/// has the rows and the depth of the settings, as many buckets as rows, all in use from the start, and the plan's width. At the end it
+/// is closed: the chronicle has the entries of worker k under the number k. Where there is no memory to begin or to end with the
+/// chronicle is empty. It waits where desks enter the store; `rewrite_all` says how terms are drawn and which fault is told.
+pub fn rewrite_shared<R: Threads + Wait + Sync, G: Gate>(
+    rt: &R,
+    alloc: Global,
+    work: &Work,
+    gate: &G,
+) -> Rewritten
+    requires in_range { AreInRange work.now.settings }
+    requires width { work.now.plan.now.widest ≤ 16 }
+    requires may { MayWork work.now.plan.now work.now.symbols.now work.now.terms.now }
+
+    // The lines are those of the terms, in their order, whoever drew them.
+    ensures lines { IfOk result.lines (λ l. map said l.list.items
+        ≡ map (line_of work.now.settings work.now.symbols.now work.now.plan.now.rules)
+        work.now.terms.now) }
+    ensures workers { IfOk result.lines (λ l. All (λ w. w < work.now.settings.workers)
+        (map worker_of l.list.items)) }
+
+    // All entries together are a legal history of one thread, whatever the answer is.
+    ensures legal { IsLegal work.now.settings.rows (chronicle result.chronicle) }
+
+    // Each worker made or found, in order, the trees that the terms build that it drew.
+    ensures built { IfOk result.lines (λ l. NamesWhatItBuilt work.now.settings
+        work.now.plan.now.rules work.now.terms.now (map worker_of l.list.items) result.chronicle) }
+    ensures collects { CollectsFew work.now.settings result.chronicle }
+
+    // The store is told to be full only where a worker's last Collect kept as many trees as there are
+    // rows, all made by workers, and the worker's next tree isn't among them.
+    ensures full { IfErr result.lines (TellsFull work.now.settings work.now.plan.now.rules
+        work.now.terms.now result.chronicle) }
+{
+    match store_for(alloc, work) {
+        Ok((store, passes)) => rewrite_at(rt, alloc, work, store, passes, gate),
+        Err(_) => Rewritten::nothing(),
+    }
+}
