@@ -1,0 +1,212 @@
+-- The two laws of reading: what is read is right and is all of the bytes, and each right file is read.
+use Rattle.std.proofs.Common.{◌≡◌, ℕ, Bool, true, false, ◌&&◌, eqb, leb, List, [], ◌∷◌, ◌++◌, length, Result, Ok, Some, refl, sym, ap, subst, ◌∙◌, arith}
+use Rattle.std.specs.List.{flat_map, list_all}
+use Rattle.std.specs.Cmp.{first_so, second_so}
+use Rattle.std.specs.Cmp.Lexicographic.{pointwise, bytes_decides}
+use Rattle.std.specs.Prelude.{nat_eq}
+use Rattle.std.proofs.lemmas.Bool.{leb-true, le-leb, eqb-true, eq-eqb}
+use Rattle.std.proofs.lemmas.List.{append-nil}
+use Rattle.byteorder.specs.Endian.{big_bytes}
+use Rattle.faults.specs.declared.refusal.Refusal.{Refusal}
+use Rattle.symbol_pool.specs.Pool.{Named}
+use Rattle.term_file.specs.Contents.{Record, Contents}
+use Rattle.term_file.specs.InOrder.{came_after, visits, visits_at, visits_over, uses}
+use Rattle.term_file.specs.Right.{IsRight, all_after, is_right_symbol, is_right_record}
+use Rattle.term_file.specs.File.{symbol_bytes, record_bytes, numbers_bytes, magic, file_bytes}
+use Rattle.term_file.specs.Reading.{◌>>=◌, checked, text_where, number_where, symbols_at, Records, records_at, Roots, roots_at, is_nil, no_records, no_roots, read_file}
+use Rattle.term_file.proofs.FieldLaws.{IsBytes, bind_ok, checked_ok, wide4, number_where_takes, number_where_again, text_where_takes, text_where_again}
+use Rattle.term_file.proofs.SymbolFields.{symbols_take, symbols_again}
+use Rattle.term_file.proofs.RecordFields.{records_take}
+use Rattle.term_file.proofs.RecordsAgain.{records_again}
+use Rattle.term_file.proofs.RootFields.{is_below, roots_take, roots_again}
+use Rattle.term_file.proofs.Tables.{length-table_of}
+use Rattle.rec_reader.specs.declared.fail.ReadFail.{ReadFail}
+use Rattle.term_syntax.specs.Fault.{IsDue}
+use Rattle.term_file.proofs.Loops.{first_due, same_due, checked_due}
+
+-- what comes after each part of a file
+abbrev pub made : List Named → Records → Roots → Contents
+made symbols found roots = record { symbols = symbols; records = found.records; roots = roots.roots }
+
+abbrev pub after_roots : ℕ → List Named → Records → Roots × List ℕ → Result Contents Refusal
+after_roots total symbols found roots =
+    checked total roots.1 (eqb roots.0.visited (length found.records) && is_nil roots.1) (made symbols found roots.0)
+
+abbrev pub after_root_count : ℕ → List Named → Records → ℕ × List ℕ → Result Contents Refusal
+after_root_count total symbols found count =
+    roots_at total (visits found.records) count.0 no_roots count.1 >>= after_roots total symbols found
+
+abbrev pub all_used : List Named → Records → ℕ → Bool
+all_used symbols found n = eqb found.used (length symbols)
+
+abbrev pub after_records : ℕ → List Named → Records × List ℕ → Result Contents Refusal
+after_records total symbols found =
+    number_where total 4 (all_used symbols found.0) found.1 >>= after_root_count total symbols found.0
+
+abbrev pub after_record_count : ℕ → List Named → ℕ × List ℕ → Result Contents Refusal
+after_record_count total symbols count = records_at total symbols count.0 no_records count.1 >>= after_records total symbols
+
+abbrev pub few_records : ℕ → Bool
+few_records n = leb n 262144
+
+abbrev pub after_symbols : ℕ → List Named × List ℕ → Result Contents Refusal
+after_symbols total symbols = number_where total 4 few_records symbols.1 >>= after_record_count total symbols.0
+
+abbrev pub after_symbol_count : ℕ → ℕ × List ℕ → Result Contents Refusal
+after_symbol_count total count = symbols_at total count.0 [] count.1 >>= after_symbols total
+
+abbrev pub few_symbols : ℕ → Bool
+few_symbols n = leb n 65535
+
+abbrev pub after_magic : ℕ → List ℕ × List ℕ → Result Contents Refusal
+after_magic total start = number_where total 4 few_symbols start.1 >>= after_symbol_count total
+
+nil_is : (bytes : List ℕ) → is_nil bytes ≡ true → bytes ≡ []
+nil_is [] e = refl
+nil_is (b ∷ bs) e = absurd cc
+
+pub record FileTaken (bytes : List ℕ) (c : Contents) : Type 0 where
+  pub right : IsRight c
+  pub bytes_are : bytes ≡ file_bytes c
+
+pub file_takes : (bytes : List ℕ) (c : Contents) → IsBytes bytes → read_file bytes ≡ Ok c → FileTaken bytes c
+unfolding read_file
+file_takes bytes c fits e =
+    let total : ℕ = length bytes in
+    let a = bind_ok (text_where total 8 (pointwise nat_eq magic) bytes) (after_magic total) c e in
+    let b = bind_ok (number_where total 4 few_symbols a.0.1) (after_symbol_count total) c a.2 in
+    let s = bind_ok (symbols_at total b.0.0 [] b.0.1) (after_symbols total) c b.2 in
+    let d = bind_ok (number_where total 4 few_records s.0.1) (after_record_count total s.0.0) c s.2 in
+    let r = bind_ok (records_at total s.0.0 d.0.0 no_records d.0.1) (after_records total s.0.0) c d.2 in
+    let f = bind_ok (number_where total 4 (all_used s.0.0 r.0.0) r.0.1) (after_root_count total s.0.0 r.0.0) c r.2 in
+    let g = bind_ok (roots_at total (visits r.0.0.records) f.0.0 no_roots f.0.1) (after_roots total s.0.0 r.0.0) c f.2 in
+    let k = checked_ok total g.0.1 (eqb g.0.0.visited (length r.0.0.records) && is_nil g.0.1) (made s.0.0 r.0.0 g.0.0) c g.2 in
+    let start = text_where_takes total 8 (pointwise nat_eq magic) bytes a.0 fits a.1 in
+    let symbol_count = number_where_takes total 4 wide4 few_symbols a.0.1 b.0 start.takes.rest_fits b.1 in
+    let symbols = symbols_take total b.0.0 [] b.0.1 s.0 symbol_count.takes.rest_fits s.1 in
+    let record_count = number_where_takes total 4 wide4 few_records s.0.1 d.0 symbols.takes.rest_fits d.1 in
+    let records = records_take total s.0.0 d.0.0 no_records d.0.1 r.0 record_count.takes.rest_fits r.1 in
+    let root_count = number_where_takes total 4 wide4 (all_used s.0.0 r.0.0) r.0.1 f.0 records.takes.rest_fits f.1 in
+    let roots = roots_take total (visits r.0.0.records) f.0.0 no_roots f.0.1 g.0 root_count.takes.rest_fits g.1 in
+    let visited : g.0.0.visited ≡ length r.0.0.records = eqb-true _ _ (first_so (eqb g.0.0.visited (length r.0.0.records)) _ k.0) in
+    let nothing : g.0.1 ≡ [] = nil_is g.0.1 (second_so (eqb g.0.0.visited (length r.0.0.records)) _ k.0) in
+    let used : r.0.0.used ≡ length s.0.0 = eqb-true _ _ root_count.kept in
+    let is_magic : magic ≡ a.0.0 = (bytes_decides magic a.0.0).0 start.kept in
+    let symbols_are : s.0.0 ≡ symbols.symbols = symbols.added in
+    let records_are : r.0.0.records ≡ records.more = records.added in
+    let roots_are : g.0.0.roots ≡ roots.more = roots.added in
+    let symbols_size : length s.0.0 ≡ b.0.0 = ap (λ (x : List Named). length x) symbols_are ∙ symbols.size in
+    let records_size : length r.0.0.records ≡ d.0.0 = ap (λ (x : List Record). length x) records_are ∙ records.size in
+    let roots_size : length g.0.0.roots ≡ f.0.0 = ap (λ (x : List ℕ). length x) roots_are ∙ roots.size in
+    let table : length (visits r.0.0.records) ≡ length r.0.0.records = length-table_of visits_over r.0.0.records in
+    let right : IsRight (made s.0.0 r.0.0 g.0.0) = record {
+      few_symbols = omega (arith, leb-true _ _ symbol_count.kept, symbols_size);
+      symbols_right = subst (λ (x : List Named). all_after is_right_symbol [] x ≡ true) (sym symbols_are) symbols.right;
+      few_records = omega (arith, leb-true _ _ record_count.kept, records_size);
+      records_right = subst (λ (x : List Record). all_after (is_right_record s.0.0) [] x ≡ true) (sym records_are) records.right;
+      uses_in_order = ap (λ (x : List Record). came_after 0 (uses x)) records_are ∙ records.in_order ∙ ap Some used;
+      few_roots = omega (arith, root_count.below, roots_size);
+      roots_right = ap (λ (n : ℕ). list_all (is_below n) g.0.0.roots) (sym table) ∙ ap (λ (x : List ℕ). list_all (is_below (length (visits r.0.0.records))) x) roots_are ∙ roots.right;
+      visits_in_order = ap (λ (x : List ℕ). came_after 0 (flat_map (visits_at (visits r.0.0.records)) x)) roots_are ∙ roots.in_order ∙ ap Some visited;
+    } in
+    let parts7 : f.0.1 ≡ numbers_bytes g.0.0.roots = roots.takes.parts ∙ ap (λ (x : List ℕ). numbers_bytes roots.more ++ x) nothing ∙ append-nil (numbers_bytes roots.more) ∙ ap numbers_bytes (sym roots_are) in
+    let parts6 : r.0.1 ≡ big_bytes 4 (length g.0.0.roots) ++ numbers_bytes g.0.0.roots = root_count.takes.parts ∙ ap (λ (n : ℕ). big_bytes 4 n ++ f.0.1) (sym roots_size) ∙ ap (λ (x : List ℕ). big_bytes 4 (length g.0.0.roots) ++ x) parts7 in
+    let parts5 : d.0.1 ≡ flat_map record_bytes r.0.0.records ++ (big_bytes 4 (length g.0.0.roots) ++ numbers_bytes g.0.0.roots) = records.takes.parts ∙ ap (λ (x : List Record). flat_map record_bytes x ++ r.0.1) (sym records_are) ∙ ap (λ (x : List ℕ). flat_map record_bytes r.0.0.records ++ x) parts6 in
+    let tail5 : List ℕ = flat_map record_bytes r.0.0.records ++ (big_bytes 4 (length g.0.0.roots) ++ numbers_bytes g.0.0.roots) in
+    let parts4 : s.0.1 ≡ big_bytes 4 (length r.0.0.records) ++ tail5 = record_count.takes.parts ∙ ap (λ (n : ℕ). big_bytes 4 n ++ d.0.1) (sym records_size) ∙ ap (λ (x : List ℕ). big_bytes 4 (length r.0.0.records) ++ x) parts5 in
+    let tail4 : List ℕ = big_bytes 4 (length r.0.0.records) ++ tail5 in
+    let parts3 : b.0.1 ≡ flat_map symbol_bytes s.0.0 ++ tail4 = symbols.takes.parts ∙ ap (λ (x : List Named). flat_map symbol_bytes x ++ s.0.1) (sym symbols_are) ∙ ap (λ (x : List ℕ). flat_map symbol_bytes s.0.0 ++ x) parts4 in
+    let tail3 : List ℕ = flat_map symbol_bytes s.0.0 ++ tail4 in
+    let parts2 : a.0.1 ≡ big_bytes 4 (length s.0.0) ++ tail3 = symbol_count.takes.parts ∙ ap (λ (n : ℕ). big_bytes 4 n ++ b.0.1) (sym symbols_size) ∙ ap (λ (x : List ℕ). big_bytes 4 (length s.0.0) ++ x) parts3 in
+    let parts1 : bytes ≡ file_bytes (made s.0.0 r.0.0 g.0.0) = start.takes.parts ∙ ap (λ (x : List ℕ). x ++ a.0.1) (sym is_magic) ∙ ap (λ (x : List ℕ). magic ++ x) parts2 in
+    subst (λ (x : Contents). FileTaken bytes x) k.1 (record { right = right; bytes_are = parts1 })
+
+pub file_again : (c : Contents) → IsRight c → read_file (file_bytes c) ≡ Ok c
+unfolding read_file
+file_again c right =
+    let bytes : List ℕ = file_bytes c in
+    let total : ℕ = length bytes in
+    let tail6 : List ℕ = numbers_bytes c.roots in
+    let tail5 : List ℕ = big_bytes 4 (length c.roots) ++ tail6 in
+    let tail4 : List ℕ = flat_map record_bytes c.records ++ tail5 in
+    let tail3 : List ℕ = big_bytes 4 (length c.records) ++ tail4 in
+    let tail2 : List ℕ = flat_map symbol_bytes c.symbols ++ tail3 in
+    let tail1 : List ℕ = big_bytes 4 (length c.symbols) ++ tail2 in
+    let few1 = right.few_symbols in
+    let few2 = right.few_records in
+    let few3 = right.few_roots in
+    let found : Records = record { records = c.records; used = length c.symbols } in
+    let done : Roots = record { roots = c.roots; visited = length c.records } in
+    let table : length (visits c.records) ≡ length c.records = length-table_of visits_over c.records in
+    let start = text_where_again total 8 (pointwise nat_eq magic) magic tail1 refl ((bytes_decides magic magic).1 refl) in
+    let symbol_count = number_where_again total 4 few_symbols (length c.symbols) tail2 (omega arith) (le-leb _ _ few1) in
+    let symbols = symbols_again total [] c.symbols tail3 right.symbols_right in
+    let record_count = number_where_again total 4 few_records (length c.records) tail4 (omega arith) (le-leb _ _ few2) in
+    let records = records_again total c.symbols no_records c.records (length c.symbols) tail5 few1 (omega arith) right.records_right right.uses_in_order in
+    let root_count = number_where_again total 4 (all_used c.symbols found) (length c.roots) tail6 (omega arith) (eq-eqb (length c.symbols) (length c.symbols) refl) in
+    let roots_right : list_all (is_below (length (visits c.records))) c.roots ≡ true = ap (λ (n : ℕ). list_all (is_below n) c.roots) table ∙ right.roots_right in
+    let roots = roots_again total (visits c.records) no_roots c.roots (length c.records) [] (omega arith) roots_right right.visits_in_order in
+    let roots_read : roots_at total (visits c.records) (length c.roots) no_roots tail6 ≡ Ok (done, []) = ap (roots_at total (visits c.records) (length c.roots) no_roots) (sym (append-nil tail6)) ∙ roots in
+    ap (λ (q : Result (List ℕ × List ℕ) Refusal). q >>= after_magic total) start
+    ∙ ap (λ (q : Result (ℕ × List ℕ) Refusal). q >>= after_symbol_count total) symbol_count
+    ∙ ap (λ (q : Result (List Named × List ℕ) Refusal). q >>= after_symbols total) symbols
+    ∙ ap (λ (q : Result (ℕ × List ℕ) Refusal). q >>= after_record_count total c.symbols) record_count
+    ∙ ap (λ (q : Result (Records × List ℕ) Refusal). q >>= after_records total c.symbols) records
+    ∙ ap (λ (q : Result (ℕ × List ℕ) Refusal). q >>= after_root_count total c.symbols found) root_count
+    ∙ ap (λ (q : Result (Roots × List ℕ) Refusal). q >>= after_roots total c.symbols found) roots_read
+    ∙ ap (λ (b : Bool). checked total [] (b && is_nil []) c) (eq-eqb (length c.records) (length c.records) refl)
+
+-- ---- a file that was read as far as some field
+
+-- a rule that was kept is kept for each value
+kept_for : {A B : Type 0} (total : ℕ) (bytes : List ℕ) (rule : Bool) (x : A) (y : B) → checked total bytes rule x ≡ Ok x → checked total bytes rule y ≡ Ok y
+kept_for total bytes true x y h = refl
+kept_for total bytes false x y h = absurd cc
+
+read_is : (total : ℕ) (bytes : List ℕ) → total ≡ length bytes → read_file bytes ≡ text_where total 8 (pointwise nat_eq magic) bytes >>= after_magic total
+unfolding read_file
+read_is total bytes is = ap (λ t. text_where t 8 (pointwise nat_eq magic) bytes >>= after_magic t) (sym is)
+
+module _ (bytes : List ℕ) (total : ℕ) (is : total ≡ length bytes)
+    (start : List ℕ × List ℕ) (e1 : text_where total 8 (pointwise nat_eq magic) bytes ≡ Ok start)
+    (symbol_count : ℕ × List ℕ) (e2 : number_where total 4 few_symbols start.1 ≡ Ok symbol_count)
+    (symbols : List Named × List ℕ) (e3 : symbols_at total symbol_count.0 [] symbol_count.1 ≡ Ok symbols)
+    (record_count : ℕ × List ℕ) (e4 : number_where total 4 few_records symbols.1 ≡ Ok record_count)
+    (found : Records × List ℕ) (e5 : records_at total symbols.0 record_count.0 no_records record_count.1 ≡ Ok found) where
+  as_far : read_file bytes ≡ after_records total symbols.0 found
+  as_far =
+      read_is total bytes is
+      ∙ ap (λ (q : Result (List ℕ × List ℕ) Refusal). q >>= after_magic total) e1
+      ∙ ap (λ (q : Result (ℕ × List ℕ) Refusal). q >>= after_symbol_count total) e2
+      ∙ ap (λ (q : Result (List Named × List ℕ) Refusal). q >>= after_symbols total) e3
+      ∙ ap (λ (q : Result (ℕ × List ℕ) Refusal). q >>= after_record_count total symbols.0) e4
+      ∙ ap (λ (q : Result (Records × List ℕ) Refusal). q >>= after_records total symbols.0) e5
+
+  pub due_at_root_count : (e : ReadFail) → IsDue (number_where total 4 (all_used symbols.0 found.0) found.1) e → IsDue (read_file bytes) e
+  due_at_root_count e h =
+      same_due (after_records total symbols.0 found) (read_file bytes) e (sym as_far)
+      (first_due (number_where total 4 (all_used symbols.0 found.0) found.1) (after_root_count total symbols.0 found.0) e h)
+
+  module _ (root_count : ℕ × List ℕ) (e6 : number_where total 4 (all_used symbols.0 found.0) found.1 ≡ Ok root_count) where
+    as_far_as_roots : read_file bytes ≡ after_root_count total symbols.0 found.0 root_count
+    as_far_as_roots = as_far ∙ ap (λ (q : Result (ℕ × List ℕ) Refusal). q >>= after_root_count total symbols.0 found.0) e6
+
+    pub due_at_roots : (e : ReadFail) → IsDue (roots_at total (visits found.0.records) root_count.0 no_roots root_count.1) e → IsDue (read_file bytes) e
+    due_at_roots e h =
+        same_due (after_root_count total symbols.0 found.0 root_count) (read_file bytes) e (sym as_far_as_roots)
+        (first_due (roots_at total (visits found.0.records) root_count.0 no_roots root_count.1) (after_roots total symbols.0 found.0) e h)
+
+    module _ (roots : Roots × List ℕ) (e7 : roots_at total (visits found.0.records) root_count.0 no_roots root_count.1 ≡ Ok roots) where
+      as_far_as_end : read_file bytes ≡ after_roots total symbols.0 found.0 roots
+      as_far_as_end = as_far_as_roots ∙ ap (λ (q : Result (Roots × List ℕ) Refusal). q >>= after_roots total symbols.0 found.0) e7
+
+      abbrev pub ends_well : Bool
+      ends_well = eqb roots.0.visited (length found.0.records) && is_nil roots.1
+
+      pub due_at_end : (e : ReadFail) → IsDue (checked {A = Unit {0}} total roots.1 ends_well tt) e → IsDue (read_file bytes) e
+      due_at_end e h =
+          same_due (after_roots total symbols.0 found.0 roots) (read_file bytes) e (sym as_far_as_end)
+          (checked_due total roots.1 ends_well tt (made symbols.0 found.0 roots.0) e h)
+
+      pub read_whole : checked {A = Unit {0}} total roots.1 ends_well tt ≡ Ok tt → read_file bytes ≡ Ok (made symbols.0 found.0 roots.0)
+      read_whole h = as_far_as_end ∙ kept_for total roots.1 ends_well tt (made symbols.0 found.0 roots.0) h

@@ -1,0 +1,38 @@
+//! Terms in a file, each different subterm once.
+#![tactic(auto)]
+
+mod decoding;
+mod encoding;
+mod expanding;
+mod fault;
+mod fields;
+mod found;
+mod frame;
+mod growing;
+mod laws;
+mod numbering;
+mod printing;
+mod record;
+mod records;
+mod roots;
+mod shared;
+mod sharing;
+#[cfg(test)]
+mod sharing_tests;
+mod symbols;
+mod table;
+#[cfg(test)]
+mod tests;
+mod walk;
+
+pub use decoding::decode;
+pub use encoding::encode;
+pub use fault::ShareFault;
+pub use faults::Memory;
+pub use laws::file_laws;
+pub use printing::write_shared;
+pub use rec_reader::ReadFail;
+pub use shared::Shared;
+pub use sharing::share;
+pub use term_syntax::Flats;
+pub use term_text::Printed;
