@@ -62,6 +62,19 @@ KINDS: dict[int, tuple[str, str]] = {
         "leave the conditions out, or use rewrite without --trace",
     ),
 }
+# The same of term text, where it is something else.
+KINDS_OF_TEXT: dict[int, tuple[str, str]] = {
+    1: (
+        "no word or white space begins with this byte, or it can't stand in quotes here",
+        "put names with other bytes than letters, digits and _ ' . - into quotes, and write \\\" and \\\\ there",
+    ),
+    2: ("no term goes on with this word", "see the grammar of term text in docs/LANGUAGE.md"),
+    3: ("the input ends inside a term", "close each parenthesis, bracket and quote"),
+    13: ("a limit is passed here", "keep to 255 bytes a name, 16 arguments of a name and 65,535 symbols"),
+}
+# And of a file of terms.
+KINDS_OF_FILES: dict[int, tuple[str, str]] = {3: ("the file is cut short", "take the whole file, or pack the terms again")}
+KINDS_OF = {"terms": KINDS_OF_TEXT, "pack": KINDS_OF_TEXT, "unpack": KINDS_OF_FILES}
 # A word of a specification, as far as it is to be marked.
 WORD = re.compile(rb"-><-|->/<-|->|<>|[^\s(),:=<>%]*")
 # The kinds whose place is a line.
@@ -75,6 +88,7 @@ CAUSES = {
     7: "the system gave no more memory",
 }
 TOO_LARGE = "the value has too many symbols to be written: --sizes tells its size"
+TOO_LARGE_IN_A_FILE = "the term has too many nodes to be written, or too many were written before it"
 
 
 def what_is(path: str) -> str:
@@ -131,9 +145,16 @@ def word_length(line: bytes, at: int) -> int:
     return len(word[0]) if word else 0
 
 
-def of_fault(kind: int, place: int, text: bytes | None, source: str, is_bytes: bool) -> list[str]:
+def words_of(kind: int, command: str) -> tuple[str, str]:
+    """Says what a fault of the command's input is, and what to do."""
+    return KINDS_OF.get(command, {}).get(kind) or KINDS.get(kind, ("a fault without a name", "see docs/LANGUAGE.md"))
+
+
+def of_fault(
+    kind: int, place: int, text: bytes | None, source: str, is_bytes: bool, command: str = "rewrite"
+) -> list[str]:
     """Says what a fault is and where it stands."""
-    what, advice = KINDS.get(kind, ("a fault without a name", "see docs/LANGUAGE.md"))
+    what, advice = words_of(kind, command)
     name = source or "standard input"
     if kind == 14 or is_bytes or text is None:
         where = f"more than {place} bytes" if kind == 14 else f"{'line' if kind in OF_LINES else 'byte'} {place}"
@@ -157,15 +178,32 @@ def places(numbers: list[int]) -> str:
     return f" in line {numbers[0]}" if len(numbers) == 1 else f" in {len(numbers)} lines, first in line {numbers[0]}"
 
 
+def too_large_in(command: str) -> str:
+    return TOO_LARGE_IN_A_FILE if command == "unpack" else TOO_LARGE
+
+
 def of_lines(table: dict[str, Command], words: list[str], output: bytes | None) -> list[str]:
     """Says which terms have no value, and why: of all that may be so where the output isn't known."""
     said = []
     lines = (output or b"").decode(errors="replace").splitlines()
     for text, option in NO_VALUE.items():
+        if words[0] == "unpack" and option != "--sizes":
+            continue
         numbers = [at for at, line in enumerate(lines, 1) if line == text]
         if numbers or output is None:
-            why = TOO_LARGE if option == "--sizes" else in_force(table, words, option)
+            why = too_large_in(words[0]) if option == "--sizes" else in_force(table, words, option)
             said.append(f"rec: '{text}'{places(numbers)}: {why}")
+    return said
+
+
+def of_counts(table: dict[str, Command], words: list[str], output: bytes | None) -> list[str]:
+    """Says how many terms of a drill have no value, and what may help. Of its values none is too large to be written."""
+    counts = dict(re.findall(r"^(terms|values) ([0-9]+)$", (output or b"").decode(errors="replace"), re.MULTILINE))
+    said = ["rec: some term has no value"]
+    if len(counts) == 2:
+        said = [f"rec: {int(counts['terms']) - int(counts['values'])} of {counts['terms']} terms have no value"]
+    for text in ("out of fuel", "too deep"):
+        said.append(f"rec: '{text}', if a term is: {in_force(table, words, NO_VALUE[text])}")
     return said
 
 
@@ -182,9 +220,9 @@ def told(words: list[str], status: int, line: str, text: bytes | None, output: b
         return []
     fault = re.match(r"fault ([0-9]+) at ([0-9]+)$", line)
     if status == 3 and fault:
-        return of_fault(int(fault[1]), int(fault[2]), text, source, table[words[0]].input == "bytes")
+        return of_fault(int(fault[1]), int(fault[2]), text, source, table[words[0]].input == "bytes", words[0])
     if status == 1:
-        return of_lines(table, words, output)
+        return of_counts(table, words, output) if words[0] == "drill" else of_lines(table, words, output)
     if status == 4:
         return [f"rec: {in_force(table, words, '--rows')}"]
     return [f"rec: {CAUSES[status]}"] if status in CAUSES else []

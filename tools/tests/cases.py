@@ -37,6 +37,13 @@ def fault(kind: int, text: str, marked: str) -> Fault:
     return Fault(kind, case, front.count("\n") + 1, len(front) - front.rfind("\n"), marked)
 
 
+def fault_of_text(kind: int, text: str, marked: str) -> Fault:
+    """A fault of term text, at the place where § stands in it."""
+    front, _, back = text.partition("§")
+    case = Case(("terms",), (front + back).encode(), err=f"fault {kind} at {len(front)}\n".encode(), status=3)
+    return Fault(kind, case, front.count("\n") + 1, len(front) - front.rfind("\n"), marked)
+
+
 def fault_of_line(kind: int, text: str, line: int) -> Fault:
     case = Case(("schedule",), text.encode(), err=f"fault {kind} at {line}\n".encode(), status=3)
     return Fault(kind, case, line, 1, text.split("\n")[line - 1])
@@ -64,6 +71,11 @@ FAULTS = [
     fault_of_line(15, "0 raise\n1 take\n1 give now\n", 3),
     fault_of_line(15, "0 raise\n2 raise\n", 2),
     fault_of_line(16, "0 raise\n1 give\n0 look\n", 2),
+    fault_of_text(1, "f(a)\n§% b", "%"),
+    fault_of_text(2, "[§,]", ","),
+    fault_of_text(3, "f(a§", ""),
+    fault_of_text(13, "f(" + 16 * "a," + "§b)", "b"),
+    fault_of_text(17, "f(1)\n[0,§01]", "01]"),
 ]
 
 
@@ -80,6 +92,11 @@ LARGE = (PAIRS % (20 * "d(" + "z" + 20 * ")")).encode()
 ONE_AND_ONE, TWO_AND_TWO = b"s(s(z))\n", b"s(s(s(s(z))))\n"
 START = b"seat 0 out busy 0 forbidden 0 free\nseat 1 out busy 0 forbidden 0 free\nmutex free\n"
 USAGE = b"usage: rec COMMAND [OPTIONS]\n"
+TERMS = b'f(a, "b c")  f(a,a)'
+# A file: the magic, two symbols, two records (a, and f over a twice), and a root.
+PACKED = b"RECTERM1" + bytes.fromhex(
+    "00000002 016100 016602 00000002 0000000000 00000000010000000000000000 00000001 00000001"
+)
 ANSWERS = [
     Case(("rewrite",), NAT, ONE_AND_ONE),
     Case(("rewrite", "--fuel", "2"), NAT, ONE_AND_ONE),
@@ -90,7 +107,17 @@ ANSWERS = [
     Case(("rewrite", "--rows", "2"), NAT, err=b"store full\n", status=4),
     Case(("rewrite", "--workers", "2"), SUM, TWO_AND_TWO),
     Case(("drill", "3", "--workers=2"), b"", b"terms 3\nvalues 3\nspent 168\n"),
+    # (the three terms take 6, 73 and 89 units of fuel)
+    Case(("drill", "3", "--fuel=72"), b"", b"terms 3\nvalues 1\nspent 6\n", status=1),
     Case(("schedule",), b"", START),
+    Case(("terms",), TERMS, b'f(a,"b c")\nf(a,a)\ndistinct 4 nodes 6\n'),
+    Case(("terms", "--rows", "3"), TERMS, err=b"store full\n", status=4),
+    Case(("terms",), b"", b"distinct 0 nodes 0\n"),
+    Case(("pack",), b"f(a, a)", PACKED),
+    Case(("pack", "--rows", "1"), b"f(a, a)", err=b"store full\n", status=4),
+    Case(("unpack",), PACKED, b"f(a,a)\n"),
+    Case(("unpack",), PACKED[:-1], err=b"fault 3 at 47\n", status=3),
+    Case(("unpack",), PACKED[:-1] + b"\0", err=b"fault 18 at 48\n", status=3),
     *(it.case for it in FAULTS),
 ]
 # Words that are refused, and what is said of them.
@@ -107,4 +134,8 @@ REFUSED = [
     (("drill", "3", "4"), "4 is no file"),
     (("drill", "--sizes", "3"), "drill has no option --sizes"),
     (("schedule", "one", "two"), "one is one word too many"),
+    (("terms", "--sizes"), "terms has no option --sizes"),
+    (("terms", "--rows", "0"), "--rows wants a number from 1 to 262144, and 0 is none"),
+    (("pack", "nowhere.txt"), "nowhere.txt is no file"),
+    (("unpack", "--rows=3"), "unpack has no option --rows"),
 ]

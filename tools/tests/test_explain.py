@@ -40,7 +40,9 @@ class Tells(unittest.TestCase):
         line, head, text, marks, advice = ran[1].decode().split("\n")[:5]
         self.assertEqual((ran[0], line + "\n", ran[2]), (b"", fault.case.err.decode(), 3))
         self.assertEqual(
-            head, f"{source}:{fault.line}:{fault.column}: kind {fault.kind}: {explanations.KINDS[fault.kind][0]}"
+            head,
+            f"{source}:{fault.line}:{fault.column}: kind {fault.kind}: "
+            + explanations.words_of(fault.kind, fault.case.words[0])[0],
         )
         under = [text[at : at + 1] for at, mark in enumerate(marks) if mark == "^"]
         self.assertEqual("".join(under), fault.marked)
@@ -62,7 +64,7 @@ class Tells(unittest.TestCase):
     def test_each_kind_has_its_words(self) -> None:
         self.assertEqual(list(explanations.KINDS), list(range(1, 20)))
         self.assertEqual(len({words for both in explanations.KINDS.values() for words in both}), 38)
-        self.assertEqual({it.kind for it in FAULTS}, set(range(1, 17)) - {14})
+        self.assertEqual({it.kind for it in FAULTS}, set(range(1, 18)) - {14})
         told = explanations.of_fault(18, 48, b"RECTERM1", "terms.bin", True)
         self.assertEqual(told[0], "terms.bin: byte 48: kind 18: the file isn't one that pack writes, from this byte on")
 
@@ -86,6 +88,22 @@ class Tells(unittest.TestCase):
             [it.split(": ")[1] for it in told],
             ["'out of fuel' in line 3", "'too deep' in 2 lines, first in line 2", "'too large' in line 5"],
         )
+
+    def test_a_term_of_a_file_that_is_too_large(self) -> None:
+        told = explanations.told(["unpack"], 1, "", b"", b"a\ntoo large\n", "")
+        self.assertEqual(told, [f"rec: 'too large' in line 2: {explanations.TOO_LARGE_IN_A_FILE}"])
+        told = explanations.told(["unpack"], 3, "fault 3 at 47", b"RECTERM1", b"", "terms.bin")
+        self.assertEqual(told[0], "terms.bin: byte 47: kind 3: the file is cut short")
+
+    def test_a_drill_with_terms_without_a_value(self) -> None:
+        words, lines = ("drill", "3", "--fuel=72"), [
+            "rec: 'out of fuel', if a term is: --fuel was 72: raise it, to at most 1000000000",
+            "rec: 'too deep', if a term is: --depth was 4096: raise it, to at most 65536",
+        ]
+        told = rec(words, REC_EXPLAIN="1")[1].decode().splitlines()
+        self.assertEqual(told, ["rec: some term has no value", *lines])
+        told = explanations.told(list(words), 1, "", b"", b"terms 3\nvalues 1\nspent 6\n", "")
+        self.assertEqual(told, ["rec: 2 of 3 terms have no value", *lines])
 
     def test_the_most_that_an_option_may_be(self) -> None:
         table = explanations.commands()

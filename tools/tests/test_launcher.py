@@ -129,6 +129,12 @@ class Help(unittest.TestCase):
             self.assertEqual((out, status), (b"", 2), words)
             self.assertTrue(err.startswith(USAGE) and all(it in err.decode() for it in parts), (words, err))
 
+    def test_a_file_is_offered_only_where_one_is_read(self) -> None:
+        for words, is_read in (("help", True), ("help rewrite", True), ("help schedule", True), ("help drill", False)):
+            err = rec(words.split(), REC_EXPLAIN="1")[1].decode()
+            self.assertEqual("FILE" in err, is_read, words)
+            self.assertIn("An option is --name N or --name=N.", err)
+
     @unittest.skipUnless(support.IS_BUILT, "no program is built")
     def test_what_is_offered_is_there(self) -> None:
         """The program takes each command and option of the table, and of an option's values just those in its range."""

@@ -1,10 +1,8 @@
 -- What the end of a run says of why it stopped.
-use Rattle.std.proofs.Common.{◌≡◌, ◌⊎◌, inl, inr, ℕ, ◌≤◌, List, [], Option, Some, None, Bool, true, false, refl, sym, ap, subst, ◌∙◌, arith}
+use Rattle.std.proofs.Common.{◌≡◌, ◌⊎◌, inl, inr, ℕ, ◌≤◌, List, [], Option, Some, Bool, true, false, refl, sym, ap, subst, ◌∙◌, arith}
 use Rattle.std.specs.Prelude.{Result, Ok, Err}
-use Rattle.std.specs.Option.{ok_or}
 use Rattle.settings.specs.Words.{AreInRange, settings_of}
 use Rattle.settings.specs.declared.parts.Settings.{Settings}
-use Rattle.settings.specs.declared.parts.WordsFault.{WordsFault}
 use Rattle.faults.specs.declared.refusal.Refusal.{Refusal}
 use Rattle.std.proofs.KnownBytes.{Appends-nil}
 use Rattle.rec_top.specs.Written.{status_for}
@@ -15,11 +13,6 @@ use Rattle.rec_top.specs.Run.{HasFault}
 use Rattle.rec_top.specs.Answered.{StopsAnswering, StopsWith}
 use Rattle.rec_top.specs.declared.stops.Stop.{Stop}
 use Rattle.rec_top.specs.declared.stops.Stop.TheVariants.{Usage, Refused, StoreFull, ReadFault, WriteFault, Memory}
-
--- the settings that words were read as
-pub given_settings : (o : Option Settings) (fault : WordsFault) (s : Settings) → ok_or o fault ≡ Ok s → o ≡ Some s
-given_settings None fault s e = cc
-given_settings (Some t) fault s e = cc
 
 pub has_seats : (s : Settings) → AreInRange s → (1 ≤ s.seats) × (s.seats ≤ 16)
 has_seats s r = let h = r.seats in grind (arith, h)

@@ -1,5 +1,5 @@
 -- A specification without offence has at most 65,535 terms.
-use Rattle.std.proofs.Common.{◌≡◌, ℕ, ◌+◌, ◌-◌, ◌<◌, ◌≤◌, zero, suc, Bool, true, false, List, [], ◌∷◌, ◌++◌, length, map, slice_get, get_or, Option, Some, None, refl, sym, ap, subst, ◌∙◌, arith}
+use Rattle.std.proofs.Common.{◌≡◌, ℕ, ◌-◌, ◌<◌, ◌≤◌, zero, suc, List, [], ◌∷◌, ◌++◌, length, map, slice_get, get_or, Option, Some, None, refl, sym, ap, subst, ◌∙◌, arith}
 use Rattle.std.specs.Prelude.{option_and_then, option_map}
 use Rattle.std.proofs.lemmas.Option.{slice_get-get_or}
 use Rattle.std.specs.Option.{option_to_list}
@@ -11,13 +11,13 @@ use Rattle.rec_reader.specs.declared.token.Name.{Name}
 use Rattle.rec_reader.specs.Parsed.{Parsed}
 use Rattle.rec_offences.specs.Material.{symbols_of, rules_of, headers_of, included, symbols_by, material_of, specifications_at}
 use Rattle.rec_offences.specs.Scope.{root}
-use Rattle.rec_offences.specs.Offences.{first_past, most, past_limits, includes_from, names_in, is_long, is_passing}
+use Rattle.rec_offences.specs.Offences.{first_past, most, includes_from, names_in, is_long, is_passing}
 use Rattle.rec_offences.specs.Faults.{offences_of, offences_from, offences_after}
 use Rattle.rec_check.specs.Symbols.{named_in, with_symbols}
 use Rattle.rec_check.specs.Term.{Scope, all_of, tree_in}
 use Rattle.rec_check.specs.Rule.{◌>>=◌}
 use Rattle.rec_check.specs.Spelled.{Specified, nothing, rules_of as all_rules_of, terms_in, with_few_rules, spelled_by}
-use Rattle.rec_check.specs.Run.{last_of, spelled_with, spelled_in}
+use Rattle.rec_check.specs.Run.{last_of, spelled_with}
 use Rattle.rec_check.proofs.Faultless.{left_empty, right_empty, no_offences, faultless}
 use Rattle.rec_check.proofs.Judged.{option_empty, within_most}
 use Rattle.rec_check.proofs.Plans.{came, cc_some, within_limit}

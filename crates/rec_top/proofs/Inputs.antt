@@ -1,20 +1,20 @@
 -- Which input a command has, and what that says of its answer.
-use Rattle.std.proofs.Common.{◌≡◌, ◌≢◌, ℕ, ◌≤◌, ◌<◌, List, Option, Some, length, Bool, true, refl, sym, ap, subst, ◌∙◌, arith}
+use Rattle.std.proofs.Common.{◌≡◌, ◌≢◌, ℕ, ◌≤◌, List, Option, Some, length, refl, sym, ap, subst, ◌∙◌, arith}
 use Rattle.std.specs.Prelude.{Result, Ok, Err, IfOk, IfErr}
 use Rattle.std.proofs.lemmas.Option.{same_Some}
 use Rattle.ends.specs.Bytes.{GaveAll}
 use Rattle.settings.specs.Words.{AreInRange, settings_of}
 use Rattle.settings.specs.declared.parts.Command.{Command}
-use Rattle.settings.specs.declared.parts.Command.TheVariants.{Rewrite, Drill, Schedule}
+use Rattle.settings.specs.declared.parts.Command.TheVariants.{Rewrite, Drill, Schedule, Terms, Pack, Unpack}
 use Rattle.settings.specs.declared.parts.Settings.{Settings}
 use Rattle.rec_drill.specs.Drill.{drill_bytes}
 use Rattle.rec_drill.proofs.Lengths.{text_short}
 use Rattle.rec_top.specs.Written.{Output}
-use Rattle.rec_top.specs.Rewritten.{RowsAreFew, RowsSuffice}
+use Rattle.rec_top.specs.Rewritten.{RowsSuffice}
 use Rattle.rec_top.specs.Drilled.{IsDrilled}
 use Rattle.rec_top.specs.Input.{ReadsSource, GaveInputTo, GaveInput, HasInputFor, HasInput}
-use Rattle.rec_top.specs.Output.{IsOutput, IsOutputOf, HasRows, HasRowsFor, LacksRowsFor, length_limit}
-use Rattle.rec_top.specs.Run.{GaveOutput, GaveTooMuch, AsksDrill}
+use Rattle.rec_top.specs.Output.{IsOutput, IsOutputOf, HasRows, HasRowsFor, LacksRowsFor, limit_of}
+use Rattle.rec_top.specs.Run.{GaveOutput, AsksDrill}
 use Rattle.rec_top.specs.Lines.{stop_status}
 use Rattle.rec_top.specs.Answered.{IsAnswer, StopsAnswering, StopsDrilling}
 use Rattle.rec_top.specs.declared.answers.Answer.{Answer}
@@ -26,22 +26,38 @@ pub gave_input : {S : Type 0} (c : Command) (count : ℕ) (left : S → Option (
 gave_input Rewrite count left old new input reads g = g
 gave_input Drill count left old new input reads g = absurd reads
 gave_input Schedule count left old new input reads g = g
+gave_input Terms count left old new input reads g = g
+gave_input Pack count left old new input reads g = g
+gave_input Unpack count left old new input reads g = g
 
 pub has_left : {S : Type 0} (c : Command) (count : ℕ) (left : S → Option (List ℕ)) (source : S) (input : List ℕ) → ReadsSource c → HasInputFor c count left source input → left source ≡ Some input
 has_left Rewrite count left source input reads h = h
 has_left Drill count left source input reads h = absurd reads
 has_left Schedule count left source input reads h = h
+has_left Terms count left source input reads h = h
+has_left Pack count left source input reads h = h
+has_left Unpack count left source input reads h = h
+
+-- all but a drill do
+pub reads_unless : (c : Command) → (c ≡ Drill → ⊥) → ReadsSource c
+reads_unless Rewrite other = tt
+reads_unless Drill other = other refl
+reads_unless Schedule other = tt
+reads_unless Terms other = tt
+reads_unless Pack other = tt
+reads_unless Unpack other = tt
 
 pub reads_under : (words : List (List ℕ)) (s t : Settings) → settings_of words ≡ Some s → settings_of words ≡ Some t → ReadsSource t.command → ReadsSource s.command
 reads_under words s t e f h = subst (λ (u : Settings). ReadsSource u.command) (same_Some t s (sym f ∙ e)) h
 
 -- ---- a drill
 -- its text is no longer than an input may be
-short : (s : Settings) → AreInRange s → s.command ≡ Drill → length (drill_bytes s.count) ≤ length_limit
+short : (s : Settings) → AreInRange s → s.command ≡ Drill → length (drill_bytes s.count) ≤ limit_of s.command
 short s r e =
     let few : s.count ≤ 65535 = (let h = r.count e in grind (arith, h)) in
     let l = text_short s.count in
-    omega (arith, few, l)
+    let limit = ap limit_of e in
+    omega (arith, few, l, limit)
 
 gave_text : {S : Type 0} (s : Settings) (left : S → Option (List ℕ)) (old new : S) → s.command ≡ Drill → new ≡ old → GaveInput s left old new (drill_bytes s.count)
 gave_text s left old new e same = subst (λ c. GaveInputTo c s.count left old new (drill_bytes s.count)) (sym e) (same, refl)

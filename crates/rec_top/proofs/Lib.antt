@@ -10,3 +10,4 @@ pub mod Inputs
 pub mod Joined
 pub mod NewDesks
 pub mod Refusals
+pub mod Telling

@@ -1,11 +1,9 @@
 -- Where workers on stores of their own stop for want of rows, some term needs more rows than there are.
-use Rattle.std.proofs.Common.{◌≡◌, ◌⊎◌, inl, inr, ℕ, ◌+◌, ◌<◌, ◌≤◌, zero, suc, List, [], ◌∷◌, ◌++◌, length, slice_get, get_or, Option, Some, None, Bool, true, false, refl, sym, ap, subst, ◌∙◌, arith}
+use Rattle.std.proofs.Common.{◌≡◌, ◌⊎◌, inl, inr, ℕ, ◌<◌, zero, suc, List, [], ◌∷◌, ◌++◌, length, slice_get, get_or, Some, refl, sym, ap, subst, ◌∙◌, arith}
 use Rattle.std.specs.Prelude.{Result, Err, All, Contains}
-use Rattle.std.specs.List.{flat_map}
 use Rattle.std.proofs.lemmas.List.Elements.{All-head, All-tail}
 use Rattle.std.proofs.lemmas.Option.{slice_get-get_or, slice_get_within, same_Some}
 use Rattle.term_model.specs.Tree.{Tree, Leaf}
-use Rattle.terms_api.specs.Terms.{Store}
 use Rattle.plain_store.specs.Contents.{Contents, store_of}
 use Rattle.rule_match.specs.Planned.{Planned, planned}
 use Rattle.rewrite_model.specs.Rule.{Rule}

@@ -1,5 +1,5 @@
 -- Where the rows suffice every line is made; where they don't, both counts are above them.
-use Rattle.std.proofs.Common.{◌≡◌, ◌⊎◌, inl, inr, ℕ, ◌+◌, ◌*◌, ◌<◌, ◌≤◌, List, [], ◌∷◌, length, get_or, refl, ap, subst, arith, zero, suc}
+use Rattle.std.proofs.Common.{◌⊎◌, inl, inr, ℕ, ◌*◌, ◌<◌, ◌≤◌, List, [], ◌∷◌, length, get_or, refl, subst, arith, zero, suc}
 use Rattle.std.specs.Prelude.{Result, Ok, Err, IfOk, IfErr, max}
 use Rattle.std.proofs.Math.Nat.{mul-le-mul_right}
 use Rattle.term_model.specs.Tree.{Tree}

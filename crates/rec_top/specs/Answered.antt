@@ -4,9 +4,11 @@ use Rattle.faults.specs.Count.{Rose}
 use Rattle.ends.specs.Bytes.{GaveMoreThan}
 use Rattle.rec_drill.specs.Drill.{drill_bytes}
 use Rattle.settings.specs.declared.parts.Settings.{Settings}
+use Rattle.term_commands.specs.Listing.{IsTooMuch, IsTextFault}
+use Rattle.term_commands.specs.Unpacking.{IsFileFault}
 use Rattle.rec_top.specs.Written.{Output}
 use Rattle.rec_top.specs.Rewritten.{IsSpecificationFault, RowsAreFew}
-use Rattle.rec_top.specs.Output.{IsFaultWithin, IsScheduleFault, LacksRows, length_limit, too_long}
+use Rattle.rec_top.specs.Output.{IsFaultWithin, IsScheduleFault, LacksRows, too_long}
 use Rattle.rec_top.specs.Input.{ReadsSource}
 use Rattle.rec_top.specs.Run.{GaveFault, GaveTooMuch}
 use Rattle.rec_top.specs.Sequence.{IsSplit}
@@ -23,14 +25,14 @@ pub record IsAnswer (count : ℕ) (answer : Answer) (output : Output) : Type 0 w
   pub values : answer.values ≡ output.values
   pub workers : IsSplit count answer.workers output.terms
 
--- why reading the whole input may stop
-abbrev pub StopsReading : {S : Type 0} (left : S → Option (List ℕ)) (faults : S → ℕ) (old new : S) → Stop → Type 0
-StopsReading left faults old new Usage = ⊥
-StopsReading left faults old new (Refused fault) = (fault ≡ too_long) × GaveMoreThan (left old) (left new) length_limit
-StopsReading left faults old new StoreFull = ⊥
-StopsReading left faults old new ReadFault = Rose (faults old) (faults new)
-StopsReading left faults old new WriteFault = ⊥
-StopsReading left faults old new Memory = Unit {0}
+-- why reading the whole input, of at most so many bytes, may stop
+abbrev pub StopsReading : {S : Type 0} (limit : ℕ) (left : S → Option (List ℕ)) (faults : S → ℕ) (old new : S) → Stop → Type 0
+StopsReading limit left faults old new Usage = ⊥
+StopsReading limit left faults old new (Refused fault) = (fault ≡ too_long limit) × GaveMoreThan (left old) (left new) limit
+StopsReading limit left faults old new StoreFull = ⊥
+StopsReading limit left faults old new ReadFault = Rose (faults old) (faults new)
+StopsReading limit left faults old new WriteFault = ⊥
+StopsReading limit left faults old new Memory = Unit {0}
 
 -- why making the output for an input may stop
 abbrev pub StopsMaking : Settings → List ℕ → Stop → Type 0
@@ -80,6 +82,24 @@ StopsScheduling seats input StoreFull = ⊥
 StopsScheduling seats input ReadFault = ⊥
 StopsScheduling seats input WriteFault = ⊥
 StopsScheduling seats input Memory = Unit {0}
+
+-- why a command on the terms of a text may stop
+abbrev pub StopsTelling : ℕ → List ℕ → Stop → Type 0
+StopsTelling rows input Usage = ⊥
+StopsTelling rows input (Refused fault) = IsTextFault input fault
+StopsTelling rows input StoreFull = IsTooMuch rows input
+StopsTelling rows input ReadFault = ⊥
+StopsTelling rows input WriteFault = ⊥
+StopsTelling rows input Memory = Unit {0}
+
+-- why reading a file of terms may stop
+abbrev pub StopsUnpacking : List ℕ → Stop → Type 0
+StopsUnpacking input Usage = ⊥
+StopsUnpacking input (Refused fault) = IsFileFault input fault
+StopsUnpacking input StoreFull = ⊥
+StopsUnpacking input ReadFault = ⊥
+StopsUnpacking input WriteFault = ⊥
+StopsUnpacking input Memory = Unit {0}
 
 -- why a command may stop before it writes
 abbrev pub StopsAnswering : {S : Type 0} (settings : Settings) (left : S → Option (List ℕ)) (faults : S → ℕ) (old new : S) → Stop → Type 0

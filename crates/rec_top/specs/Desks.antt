@@ -1,5 +1,5 @@
 -- The desks of the workers of a run: stores of their own, each with all rows.
-use Rattle.std.specs.Prelude.{◌≡◌, ℕ, List, length, All}
+use Rattle.std.specs.Prelude.{◌≡◌, List, length, All}
 use Rattle.terms_api.specs.Terms.{Store}
 use Rattle.plain_store.specs.Contents.{Contents, store_of}
 use Rattle.rule_match.specs.Planned.{Planned}

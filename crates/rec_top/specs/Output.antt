@@ -6,16 +6,41 @@ use Rattle.lock_core.specs.Schedule.{ComesTo, lines}
 use Rattle.lock_core.specs.StateText.{state_text}
 use Rattle.lock_core.specs.declared.reading.LineFault.{LineFault}
 use Rattle.settings.specs.declared.parts.Command.{Command}
-use Rattle.settings.specs.declared.parts.Command.TheVariants.{Rewrite, Drill, Schedule}
+use Rattle.settings.specs.declared.parts.Command.TheVariants.{Rewrite, Drill, Schedule, Terms, Pack, Unpack}
 use Rattle.settings.specs.declared.parts.Settings.{Settings}
+use Rattle.term_commands.specs.Listing.{IsListed, IsTooMuch, IsTextFault}
+use Rattle.term_commands.specs.Packing.{IsPacked}
+use Rattle.term_commands.specs.Unpacking.{IsUnpacked, IsFileFault}
 use Rattle.rec_top.specs.Written.{Output}
 use Rattle.rec_top.specs.Rewritten.{IsRewritten, IsSpecificationFault, RowsAreFew, RowsSuffice}
 use Rattle.rec_top.specs.Drilled.{IsDrilled}
 use Rattle.faults.specs.declared.refusal.Refusal.{Refusal}
 
--- how many bytes an input may have
-abbrev pub length_limit : ℕ
-length_limit = 16777216
+-- how many bytes the input of a command may have
+abbrev pub limit_of : Command → ℕ
+limit_of Rewrite = 16777216
+limit_of Drill = 16777216
+limit_of Schedule = 16777216
+limit_of Terms = 16777216
+limit_of Pack = 16777216
+limit_of Unpack = 134217728
+
+-- the input spells terms with no more different subtrees than there are rows, and this is told of them
+pub record IsTold (rows : ℕ) (input : List ℕ) (output : Output) : Type 0 where
+  pub listed : IsListed rows input output.bytes
+  pub values : output.values ≡ true
+  pub terms : output.terms ≡ 0
+
+-- it spells such terms, and this is their one file
+pub record IsFiled (rows : ℕ) (input : List ℕ) (output : Output) : Type 0 where
+  pub packed : IsPacked rows input output.bytes
+  pub values : output.values ≡ true
+  pub terms : output.terms ≡ 0
+
+-- the input is a file of terms, and these are their lines; a term that is too large has no line of its own
+pub record IsUnfiled (input : List ℕ) (output : Output) : Type 0 where
+  pub unpacked : IsUnpacked input output.bytes output.values
+  pub terms : output.terms ≡ 0
 
 -- the lines of the input are a schedule, and this is the lock that it comes to
 pub record IsScheduled (seats : ℕ) (input : List ℕ) (output : Output) : Type 0 where
@@ -33,48 +58,61 @@ abbrev pub IsOutputOf : Command → Settings → List ℕ → Output → Type 0
 IsOutputOf Rewrite s input output = IsRewritten s input output
 IsOutputOf Drill s input output = IsDrilled s input output
 IsOutputOf Schedule s input output = IsScheduled s.seats input output
+IsOutputOf Terms s input output = IsTold s.rows input output
+IsOutputOf Pack s input output = IsFiled s.rows input output
+IsOutputOf Unpack s input output = IsUnfiled input output
 
 -- the input is accepted under the settings, and this is what is written for it
 pub record IsOutput (s : Settings) (input : List ℕ) (output : Output) : Type 0 where
-  pub within : length input ≤ length_limit
+  pub within : length input ≤ limit_of s.command
   pub output_is : IsOutputOf s.command s input output
 
 abbrev pub IsFaultOf : Command → Settings → List ℕ → Refusal → Type 0
 IsFaultOf Rewrite s input fault = IsSpecificationFault input fault
 IsFaultOf Drill s input fault = ⊥
 IsFaultOf Schedule s input fault = IsScheduleFault s.seats input fault
+IsFaultOf Terms s input fault = IsTextFault input fault
+IsFaultOf Pack s input fault = IsTextFault input fault
+IsFaultOf Unpack s input fault = IsFileFault input fault
 
--- the fault of an input that is too long
-abbrev pub too_long : Refusal
-too_long = record { kind = 14; place = length_limit }
+-- the fault of an input that has more bytes than this limit
+abbrev pub too_long : ℕ → Refusal
+too_long limit = record { kind = 14; place = limit }
 
 -- the input is too long, and this is its fault
-abbrev pub IsTooLongAt : List ℕ → Refusal → Type 0
-IsTooLongAt input fault = (length_limit < length input) × (fault ≡ too_long)
+abbrev pub IsTooLongAt : ℕ → List ℕ → Refusal → Type 0
+IsTooLongAt limit input fault = (limit < length input) × (fault ≡ too_long limit)
 
 -- the input isn't too long, and this is the command's fault of it
 pub record IsFaultWithin (s : Settings) (input : List ℕ) (fault : Refusal) : Type 0 where
-  pub within : length input ≤ length_limit
+  pub within : length input ≤ limit_of s.command
   pub fault_is : IsFaultOf s.command s input fault
 
 -- the input is refused under the settings, and this is its fault
 abbrev pub IsFault : Settings → List ℕ → Refusal → Type 0
-IsFault s input fault = IsTooLongAt input fault ⊎ IsFaultWithin s input fault
+IsFault s input fault = IsTooLongAt (limit_of s.command) input fault ⊎ IsFaultWithin s input fault
 
 -- the rows are too few for what the command builds of the input
 abbrev pub LacksRowsFor : Command → Settings → List ℕ → Type 0
 LacksRowsFor Rewrite s input = RowsAreFew s input
 LacksRowsFor Drill s input = RowsAreFew s input
 LacksRowsFor Schedule s input = ⊥
+LacksRowsFor Terms s input = IsTooMuch s.rows input
+LacksRowsFor Pack s input = IsTooMuch s.rows input
+LacksRowsFor Unpack s input = ⊥
 
 abbrev pub LacksRows : Settings → List ℕ → Type 0
 LacksRows s input = LacksRowsFor s.command s input
 
--- the rows suffice for what the command builds of the input
+-- The rows suffice for what the command builds of the input. Where they don't, terms that are told or packed have no
+-- output.
 abbrev pub HasRowsFor : Command → Settings → List ℕ → Type 0
 HasRowsFor Rewrite s input = RowsSuffice s input
 HasRowsFor Drill s input = RowsSuffice s input
 HasRowsFor Schedule s input = Unit {0}
+HasRowsFor Terms s input = Unit {0}
+HasRowsFor Pack s input = Unit {0}
+HasRowsFor Unpack s input = Unit {0}
 
 abbrev pub HasRows : Settings → List ℕ → Type 0
 HasRows s input = HasRowsFor s.command s input

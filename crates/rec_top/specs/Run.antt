@@ -9,7 +9,7 @@ use Rattle.settings.specs.declared.parts.Command.TheVariants.{Drill}
 use Rattle.rec_top.specs.Written.{Output, status_of}
 use Rattle.rec_top.specs.Sequence.{IsSplit}
 use Rattle.rec_top.specs.Input.{ReadsSource, GaveInput, HasInput}
-use Rattle.rec_top.specs.Output.{IsOutput, IsFault, LacksRows, HasRows, too_long}
+use Rattle.rec_top.specs.Output.{IsOutput, IsFault, LacksRows, HasRows, limit_of, too_long}
 use Rattle.faults.specs.declared.refusal.Refusal.{Refusal}
 
 -- the count of faults didn't rise
@@ -28,7 +28,7 @@ pub record GaveFault {S : Type 0} (settings : Settings) (left : S → Option (Li
   pub reads : ReadsSource settings.command
   pub input : List ℕ
   pub given : Consumes (left old) (left new) input
-  pub read : fault ≢ too_long → IsAtEnd (left new)
+  pub read : fault ≢ too_long (limit_of settings.command) → IsAtEnd (left new)
   pub fault_is : IsFault settings input fault
 
 -- the source gave the input whole, and the rows are too few for it

@@ -4,47 +4,63 @@ ghost use Rattle.ends.specs.Bytes.{GaveAll};
 ghost use Rattle.settings.specs.Words.{AreInRange};
 ghost use Rattle.rec_top.specs.Written.{Output};
 ghost use Rattle.rec_top.specs.Input.{ReadsSource, HasInput};
-ghost use Rattle.rec_top.specs.Output.{IsOutput, IsFault, IsFaultWithin, IsTooLongAt, HasRows, length_limit};
+ghost use Rattle.rec_top.specs.Output.{IsOutput, IsFault, IsFaultWithin, IsTooLongAt, HasRows, limit_of, too_long};
 ghost use Rattle.rec_top.specs.Run.{GaveOutput, HasNoFault};
 ghost use Rattle.rec_top.specs.Answered.{IsAnswer, StopsReading, StopsMaking, StopsAnswering, Answers, StopsWith};
 ghost use Rattle.faults.specs.declared.refusal.Refusal.{Refusal};
 
 use crate::answers::Answer;
 use crate::drilling::drilled;
+use crate::listing::listed;
+use crate::packing::packed;
 use crate::rewriting::rewritten;
 use crate::scheduling::scheduled;
 use crate::stops::Stop;
+use crate::unpacking::unpacked;
 use ends::{Gate, ReadAllFault, Source, read_all};
 use faults::{Refusal, kinds};
 use settings::{Command, Settings};
 use std::alloc::Global;
 use std::thread::Threads;
 
-// How many bytes an input may have.
-const LENGTH_LIMIT: u64 = 16_777_216;
+// How many bytes the input of a command may have.
+fn limit_of(command: Command) -> u64
+    ensures { result ≡ limit_of command }
+{
+    match command {
+        Command::Rewrite | Command::Drill | Command::Schedule => 16_777_216,
+        Command::Terms | Command::Pack => 16_777_216,
+        Command::Unpack => 134_217_728,
+    }
+}
 
-const TOO_LONG: Refusal = Refusal {
-    kind: kinds::TOO_LONG,
-    place: LENGTH_LIMIT,
-};
+// The fault of an input that has more bytes than this limit.
+fn too_long(limit: u64) -> Refusal
+    ensures { result ≡ too_long limit }
+{
+    Refusal {
+        kind: kinds::TOO_LONG,
+        place: limit,
+    }
+}
 
-// All bytes that the source has left.
-fn input_of<S: Source>(alloc: Global, source: &mut S) -> Result<Vec<u8>, Stop>
+// All bytes that the source has left, of which there may be so many.
+fn input_of<S: Source>(alloc: Global, source: &mut S, limit: u64) -> Result<Vec<u8>, Stop>
     ensures whole { IfOk result (λ input. GaveAll (S.left source.old) (S.left source.new) input.items) }
-    ensures within { IfOk result (λ input. vec_len input ≤ length_limit) }
-    ensures stopped { IfErr result (StopsReading S.left S.faults source.old source.new) }
+    ensures within { IfOk result (λ input. vec_len input ≤ limit) }
+    ensures stopped { IfErr result (StopsReading limit S.left S.faults source.old source.new) }
     ensures unfailed { IsErrOf result Stop.ReadFault ⊎ (S.faults source.new ≡ S.faults source.old) }
-    ensures read { (input : List ℕ) → S.left source.old ≡ Some input → length input ≤ length_limit
+    ensures read { (input : List ℕ) → S.left source.old ≡ Some input → length input ≤ limit
         → HasNoFault S.faults source.old source.new → Answers result (λ all. all.items ≡ input) }
     ensures refused { (input : List ℕ) (fault : Refusal)
-        → S.left source.old ≡ Some input → IsTooLongAt input fault
+        → S.left source.old ≡ Some input → IsTooLongAt limit input fault
         → HasNoFault S.faults source.old source.new → StopsWith result fault }
     ensures later { S.faults source.old ≤ S.faults source.new }
 {
-    match read_all(alloc, source, LENGTH_LIMIT) {
+    match read_all(alloc, source, limit) {
         Ok(input) => Ok(input),
         Err(ReadAllFault::ReadFault) => Err(Stop::ReadFault),
-        Err(ReadAllFault::TooLong) => Err(Stop::Refused(TOO_LONG)),
+        Err(ReadAllFault::TooLong) => Err(Stop::Refused(too_long(limit))),
         Err(ReadAllFault::Memory) => Err(Stop::Memory),
     }
 }
@@ -57,7 +73,7 @@ fn output_for<R: Threads + Sync, G: Gate>(
     input: &[u8],
     gate: &G,
 ) -> Result<Answer, Stop>
-    requires limit { length input.now ≤ length_limit }
+    requires limit { length input.now ≤ limit_of settings.now.command }
     requires in_range { AreInRange settings.now }
     requires reads { ReadsSource settings.now.command }
     ensures made { IfOk result (λ answer. (output : Output)
@@ -73,6 +89,9 @@ fn output_for<R: Threads + Sync, G: Gate>(
         Command::Rewrite => rewritten(rt, alloc, settings, input, gate),
         Command::Drill => unreachable!(),
         Command::Schedule => scheduled(alloc, settings, input),
+        Command::Terms => listed(alloc, settings, input),
+        Command::Pack => packed(alloc, settings, input),
+        Command::Unpack => unpacked(alloc, settings, input),
     }
 }
 
@@ -100,7 +119,7 @@ fn answer_read<R: Threads + Sync, S: Source, G: Gate>(
         → HasNoFault S.faults source.old source.new → StopsWith result fault }
     ensures later { S.faults source.old ≤ S.faults source.new }
 {
-    let input = input_of(alloc, source)?;
+    let input = input_of(alloc, source, limit_of(settings.command))?;
     output_for(rt, alloc, settings, &input, gate)
 }
 
@@ -129,8 +148,7 @@ pub fn answer_of<R: Threads + Sync, S: Source, G: Gate>(
     ensures later { S.faults source.old ≤ S.faults source.new }
 {
     match settings.command {
-        Command::Rewrite => answer_read(rt, alloc, settings, source, gate),
         Command::Drill => drilled(rt, alloc, settings, gate),
-        Command::Schedule => answer_read(rt, alloc, settings, source, gate),
+        _ => answer_read(rt, alloc, settings, source, gate),
     }
 }

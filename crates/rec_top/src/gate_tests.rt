@@ -1,10 +1,13 @@
 // What a gate is told.
-use crate::run;
-use crate::trial::words_of;
+use crate::trial::{FOUR_SUMS, words_of};
+use crate::{Workers, run};
 use ends::{Gate, MemSink, MemSource};
+use std::alloc::Global;
+use std::process::Abort;
+use std::sync::Wait;
 use std::sync::atomic::{AtomicBool, AtomicU32, Ordering};
 use std::test::Fail;
-use std::thread::yield_now;
+use std::thread::{Threads, yield_now};
 
 // Notes the numbers that it is told, each one more than the term's.
 #[derive(Drop)]
@@ -27,6 +30,10 @@ impl Gate for Noting {
 }
 
 const THREE: &[u8] = b"REC-SPEC A SORTS S CONS a : -> S EVAL a a a END-SPEC";
+
+const THREE_NAMES: &[u8] = b"REC-SPEC A SORTS S CONS a b c : -> S EVAL a b c END-SPEC";
+
+const FOUR_NAMES: &[u8] = b"REC-SPEC A SORTS S CONS a b c d : -> S EVAL a b c d END-SPEC";
 
 const SECOND_IS_LARGER: &[u8] =
     b"REC-SPEC A SORTS S CONS a : -> S f : S -> S EVAL a f(a) a END-SPEC";
@@ -121,24 +128,44 @@ impl Gate for UntilBegun {
     fn after(&self, _term: u32) {}
 }
 
-const FOUR: &[u8] = b"REC-SPEC A SORTS S CONS a b c d : -> S EVAL a b c d END-SPEC";
+// Rewrites the terms of an input by two workers under a gate, and compares the output with what is
+// wanted. Tells the worker of each term.
+fn rewrite_by_two<R: Abort + Alloc<A = Global> + Threads + Wait + Sync, G: Gate>(
+    rt: &R,
+    input: &[u8],
+    wanted: &[u8],
+    gate: &G,
+) -> Result<Workers, Fail> {
+    let alloc = rt.alloc();
+    let words = words_of(alloc, &["rewrite", "--workers", "2"])?;
+    let mut source = MemSource::new(alloc, input, 4096, &[])?;
+    let mut out = MemSink::new(alloc, 100, 100, &[])?;
+    let mut err = MemSink::new(alloc, 100, 100, &[])?;
+    let outcome = run(rt, alloc, &words, &mut source, &mut out, &mut err, gate);
+    assert_eq!(rt; outcome.status, 0);
+    assert_eq!(rt; out.taken(), wanted);
+    Ok(outcome.workers)
+}
 
 #[test]
 fn two_workers_are_at_work_at_the_same_time(rt: HostRuntime) -> Result<(), Fail> {
-    let alloc = rt.alloc();
-    let gate = UntilBegun {
-        begun: AtomicBool::new(false),
-        in_vain: AtomicBool::new(false),
-    };
-    let words = words_of(alloc, &["rewrite", "--workers", "2"])?;
-    let mut source = MemSource::new(alloc, FOUR, 4096, &[])?;
-    let mut out = MemSink::new(alloc, 100, 100, &[])?;
-    let mut err = MemSink::new(alloc, 100, 100, &[])?;
-    let outcome = run(&rt, alloc, &words, &mut source, &mut out, &mut err, &gate);
-    assert!(rt; !gate.in_vain.load(Ordering::SeqCst));
-    assert_eq!(rt; outcome.status, 0);
-    assert_eq!(rt; out.taken(), b"a\nb\nc\nd\n".as_slice());
-    assert_eq!(rt; outcome.workers.as_slice().len(), 4);
+    let rows = [
+        (
+            FOUR_SUMS,
+            b"s(s(z))\ns(s(z))\ns(s(z))\ns(s(z))\n".as_slice(),
+        ),
+        (FOUR_NAMES, b"a\nb\nc\nd\n".as_slice()),
+    ];
+    for (input, wanted) in rows {
+        let gate = UntilBegun {
+            begun: AtomicBool::new(false),
+            in_vain: AtomicBool::new(false),
+        };
+        let workers = rewrite_by_two(&rt, input, wanted, &gate)?;
+        assert!(rt; !gate.in_vain.load(Ordering::SeqCst));
+        assert_eq!(rt; workers.as_slice().len(), 4);
+        assert!(rt; workers.as_slice()[0] != workers.as_slice()[1]);
+    }
     Ok(())
 }
 
@@ -167,25 +194,18 @@ impl Gate for UntilEnded {
     }
 }
 
+// The terms end in the order b, c, a, and the lines stand in that of the terms.
 #[test]
 fn the_other_worker_takes_all_terms_while_one_is_held(rt: HostRuntime) -> Result<(), Fail> {
-    let alloc = rt.alloc();
     let gate = UntilEnded {
         first: AtomicBool::new(false),
         second: AtomicBool::new(false),
         in_vain: AtomicBool::new(false),
     };
-    let words = words_of(alloc, &["rewrite", "--workers", "2"])?;
-    let mut source = MemSource::new(alloc, THREE, 4096, &[])?;
-    let mut out = MemSink::new(alloc, 100, 100, &[])?;
-    let mut err = MemSink::new(alloc, 100, 100, &[])?;
-    let outcome = run(&rt, alloc, &words, &mut source, &mut out, &mut err, &gate);
+    let workers = rewrite_by_two(&rt, THREE_NAMES, b"a\nb\nc\n", &gate)?;
     assert!(rt; !gate.in_vain.load(Ordering::SeqCst));
-    assert_eq!(rt; outcome.status, 0);
-    assert_eq!(rt; out.taken(), b"a\na\na\n".as_slice());
-    let workers = outcome.workers.as_slice();
-    let by_the_second = workers == [0, 1, 1].as_slice();
-    let by_the_first = workers == [1, 0, 0].as_slice();
+    let by_the_second = workers.as_slice() == [0, 1, 1].as_slice();
+    let by_the_first = workers.as_slice() == [1, 0, 0].as_slice();
     assert!(rt; by_the_second || by_the_first);
     Ok(())
 }

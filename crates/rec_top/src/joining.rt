@@ -22,11 +22,14 @@ fn is_value(line: &Line) -> bool
     }
 }
 
-/// All lines in order, each with its end.
+/// All lines in order, each with its end. Their room is taken at once, so that no line is copied twice.
 pub fn joined(alloc: Global, lines: &[Line]) -> Result<Vec<u8>, Memory>
     ensures { IfOk result (λ text. text.items ≡ flat_map (λ l. line l.text.items) lines.now) }
 {
-    let mut text = Vec::new(alloc);
+    let length = lines.iter().fold(lines.len(), |length, line| {
+        length.saturating_add(line.text.len())
+    });
+    let mut text = Vec::with_capacity(alloc, length)?;
     for line in lines {
         text.extend_from_slice(&line.text)?;
         text.push(b'\n')?;

@@ -7,8 +7,8 @@ use std::sync::Wait;
 use std::test::Fail;
 use std::thread::Threads;
 
-// Runs on an input, and compares the status and both outputs.
-fn expect<R: Abort + Alloc<A = Global> + Threads + Wait + Sync>(
+/// Runs on an input, and compares the status and both outputs.
+pub(crate) fn expect<R: Abort + Alloc<A = Global> + Threads + Wait + Sync>(
     rt: &R,
     words: &[&str],
     input: &[u8],
@@ -37,8 +37,8 @@ fn expect<R: Abort + Alloc<A = Global> + Threads + Wait + Sync>(
     Ok(())
 }
 
-// A symbol so many times round a constant.
-fn nested(
+/// A symbol so many times round a constant.
+pub(crate) fn nested(
     alloc: Global,
     before: &[u8],
     symbol: &[u8],
@@ -98,8 +98,8 @@ fn shared_values_are_counted_and_not_walked(rt: HostRuntime) -> Result<(), Fail>
     expect(&rt, &sizes, &many, 0, most, b"")
 }
 
-// The text of a constant that was doubled so many times.
-fn doubled(alloc: Global, times: usize) -> Result<Vec<u8>, Fail> {
+/// The text of a constant that was doubled so many times.
+pub(crate) fn doubled(alloc: Global, times: usize) -> Result<Vec<u8>, Fail> {
     let mut text = b"z".to_vec(alloc)?;
     for _ in 0..times {
         let mut twice = b"p(".to_vec(alloc)?;

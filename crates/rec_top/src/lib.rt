@@ -5,12 +5,15 @@ mod answering;
 mod answers;
 mod drilling;
 mod joining;
+mod listing;
+mod packing;
 mod results;
 mod rewriting;
 mod scheduling;
 mod specification;
 mod stops;
 mod top;
+mod unpacking;
 
 pub use results::{Chronicle, Outcome, Workers};
 pub use stops::out_of_memory;
@@ -19,9 +22,13 @@ pub use top::run;
 #[cfg(test)]
 mod gate_tests;
 #[cfg(test)]
+mod large_term_tests;
+#[cfg(test)]
 mod large_tests;
 #[cfg(test)]
 mod row_tests;
+#[cfg(test)]
+mod term_tests;
 #[cfg(test)]
 mod trial;
 #[cfg(test)]

@@ -4,8 +4,8 @@ ghost use Rattle.std.specs.Prelude.{◌≡◌, [], ◌∷◌, ◌++◌, OnOk};
 use std::alloc::{AllocError, Global};
 use std::marker::Model;
 
-/// The creations and collections of a run in one history. It has no entries yet, since no command
-/// uses a shared store.
+/// The creations and collections of a run in one history. It has no entries, since each worker has a
+/// store of its own, which keeps none.
 #[derive(Clone, Copy, Debug, PartialEq, Eq)]
 pub struct Chronicle;
 
@@ -54,7 +54,7 @@ impl Workers {
 pub struct Outcome {
     /// The exit status.
     pub status: u8,
-    /// The history of the store that the workers share.
+    /// The history of the run.
     pub chronicle: Chronicle,
     /// The worker of each term that was rewritten, where the output was made; else none.
     pub workers: Workers,

@@ -1,7 +1,7 @@
 // Why a run stops without its output, and the line that `err` gets then.
 ghost use Rattle.std.specs.Prelude.{◌≡◌, ◌≤◌, []};
 ghost use Rattle.rec_top.specs.Lines.{fault_line, stop_line, stop_status, status_line, TookLine};
-ghost use Rattle.rec_top.specs.Stops.{stop_of_fail, stop_of_line};
+ghost use Rattle.rec_top.specs.Stops.{stop_of_fail, stop_of_line, stop_of_terms};
 ghost use Rattle.rec_top.specs.declared.stops.Stop.TheVariants as stop;
 
 use crate::results::{Chronicle, Outcome, Workers};
@@ -12,6 +12,7 @@ use itoa::Buffer;
 use lock_core::LineFault;
 use rec_reader::ReadFail;
 use std::alloc::{AllocError, Global};
+use term_commands::TermsFault;
 
 // `fault `, a kind of 3 digits, ` at `, a place of 20, and the end of the line fit.
 const LONGEST_LINE: usize = 34;
@@ -71,6 +72,18 @@ impl From<LineFault> for Stop {
             kind: at.kind,
             place: at.line,
         })
+    }
+}
+
+impl From<TermsFault> for Stop {
+    ghost from_gives = { λ fault e. e ≡ stop_of_terms fault };
+
+    fn from(fault: TermsFault) -> Self {
+        match fault {
+            TermsFault::Refused(fault) => Stop::Refused(fault),
+            TermsFault::StoreFull => Stop::StoreFull,
+            TermsFault::Memory => Stop::Memory,
+        }
     }
 }
 

@@ -1,5 +1,5 @@
 // The top call.
-ghost use Rattle.std.specs.Prelude.{◌≡◌, ◌≢◌, ◌↔◌, ◌⊎◌, ◌≤◌, [], None};
+ghost use Rattle.std.specs.Prelude.{◌≡◌, ◌≢◌, ◌⊎◌, ◌≤◌, [], None};
 ghost use Rattle.faults.specs.Count.{Rose};
 ghost use Rattle.ends.specs.Bytes.{TookFront};
 ghost use Rattle.settings.specs.Words.{settings_of, texts};
@@ -12,7 +12,7 @@ use crate::answering::answer_of;
 use crate::results::{Chronicle, Outcome, Workers};
 use crate::stops::{Stop, stopped};
 use ends::{Gate, Sink, Source, write_all};
-use settings::settings;
+use settings::{WordsFault, settings};
 use std::alloc::Global;
 use std::sync::Wait;
 use std::thread::Threads;
@@ -49,9 +49,10 @@ pub fn run<R: Threads + Wait + Sync, S: Source, O: Sink, E: Sink, G: Gate>(
     err: &mut E,
     gate: &G,
 ) -> Outcome
-    // The words are refused exactly at status 2, and then nothing is read.
-    ensures usage { (result.status ≡ 2) ↔ (settings_of (texts words.now) ≡ None) }
-    ensures unread { result.status ≡ 2 → source.new ≡ source.old }
+    // Refused words end at status 2, memory aside, and no other words do. Then nothing is read.
+    ensures usage_only_where_refused { result.status ≡ 2 → settings_of (texts words.now) ≡ None }
+    ensures refused_words { settings_of (texts words.now) ≡ None → (result.status ≡ 2) ⊎ (result.status ≡ 7) }
+    ensures unread { settings_of (texts words.now) ≡ None → source.new ≡ source.old }
 
     // Each other status comes only where it has its cause.
     ensures whole_only_where_out_took_the_output { IsWhole result.status → (output : Output)
@@ -100,8 +101,10 @@ pub fn run<R: Threads + Wait + Sync, S: Source, O: Sink, E: Sink, G: Gate>(
     ensures err_later { E.faults err.old ≤ E.faults err.new }
     ensures no_worker { (IsMade result.status → ⊥) → result.workers ≡ [] }
 {
-    let Ok(settings) = settings(words) else {
-        return stopped(err, Stop::Usage, Workers::none(alloc));
+    let settings = match settings(alloc, words) {
+        Ok(settings) => settings,
+        Err(WordsFault::Usage) => return stopped(err, Stop::Usage, Workers::none(alloc)),
+        Err(WordsFault::Memory) => return stopped(err, Stop::Memory, Workers::none(alloc)),
     };
     let answer = match answer_of(rt, alloc, &settings, source, gate) {
         Ok(answer) => answer,

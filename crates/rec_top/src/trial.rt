@@ -11,6 +11,10 @@ use std::thread::Threads;
 pub const SUM: &[u8] =
     b"REC-SPEC NAT SORTS Nat CONS z : -> Nat  s : Nat -> Nat OPNS plus : Nat Nat -> Nat VARS X Y : Nat RULES plus(X, z) -> X plus(X, s(Y)) -> s(plus(X, Y)) EVAL plus(s(z), s(z)) END-SPEC";
 
+/// Four times that sum.
+pub const FOUR_SUMS: &[u8] =
+    b"REC-SPEC NAT SORTS Nat CONS z : -> Nat  s : Nat -> Nat OPNS plus : Nat Nat -> Nat VARS X Y : Nat RULES plus(X, z) -> X plus(X, s(Y)) -> s(plus(X, Y)) EVAL plus(s(z), s(z)) plus(s(z), s(z)) plus(s(z), s(z)) plus(s(z), s(z)) END-SPEC";
+
 /// A constant under a symbol.
 pub const PAIR: &[u8] = b"REC-SPEC A SORTS S CONS a : -> S f : S -> S EVAL f(a) END-SPEC";
 

@@ -1,10 +1,6 @@
 // Runs with several workers, and drills.
-use crate::trial::{ROW, Row, check};
+use crate::trial::{FOUR_SUMS, ROW, Row, check};
 use std::test::Fail;
-
-// Four sums of one and one.
-const FOUR: &[u8] =
-    b"REC-SPEC NAT SORTS Nat CONS z : -> Nat  s : Nat -> Nat OPNS plus : Nat Nat -> Nat VARS X Y : Nat RULES plus(X, z) -> X plus(X, s(Y)) -> s(plus(X, Y)) EVAL plus(s(z), s(z)) plus(s(z), s(z)) plus(s(z), s(z)) plus(s(z), s(z)) END-SPEC";
 
 const CONSTANTS: &[u8] = b"REC-SPEC C SORTS S CONS a b c d e : -> S EVAL a b c d e END-SPEC";
 
@@ -38,7 +34,7 @@ fn the_lines_are_the_same_for_any_number_of_workers(rt: HostRuntime) -> Result<(
         let row = Row {
             words,
             workers,
-            input: FOUR,
+            input: FOUR_SUMS,
             out: b"s(s(z))\ns(s(z))\ns(s(z))\ns(s(z))\n",
             terms: 4,
             ..ROW
@@ -56,7 +52,7 @@ fn rows_that_suffice_for_one_worker_suffice_for_each(rt: HostRuntime) -> Result<
         let row = Row {
             words,
             workers,
-            input: FOUR,
+            input: FOUR_SUMS,
             out: b"s(s(z))\ns(s(z))\ns(s(z))\ns(s(z))\n",
             terms: 4,
             ..ROW
@@ -67,7 +63,7 @@ fn rows_that_suffice_for_one_worker_suffice_for_each(rt: HostRuntime) -> Result<
         let full = Row {
             words,
             workers,
-            input: FOUR,
+            input: FOUR_SUMS,
             status: 4,
             out: b"",
             err: b"store full\n",
@@ -94,7 +90,7 @@ fn a_line_without_a_value_gives_status_1_for_any_number_of_workers(
     let row = Row {
         words: &["rewrite", "--workers", "4", "--depth", "5"],
         workers: 4,
-        input: FOUR,
+        input: FOUR_SUMS,
         status: 1,
         out: b"too deep\ntoo deep\ntoo deep\ntoo deep\n",
         terms: 4,
@@ -129,7 +125,7 @@ fn a_write_that_fails_after_all_workers_are_done_gives_status_6(
     let row = Row {
         words: &["rewrite", "--workers", "2"],
         workers: 2,
-        input: FOUR,
+        input: FOUR_SUMS,
         write_most: 3,
         failing_writes: &[4],
         status: 6,

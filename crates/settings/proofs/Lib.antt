@@ -1,5 +1,12 @@
-pub mod Numbers
-pub mod Signs
-pub mod FirstWord
-pub mod Once
+pub mod Basics
+pub mod Hyphens
+pub mod Arguments
+pub mod Values
+pub mod Turns
+pub mod Settling
+pub mod Walking
+pub mod Accepting
+pub mod Showing
 pub mod Ranges
+pub mod Ends
+pub mod Told

@@ -3,14 +3,15 @@
 -- The words are the program's name, a command, and options of that command in any order, with a drill's number among
 -- them. An option is `--name value` or `--name=value`, and stands at most once; `--sizes` has no value. A number is an
 -- optional `+` and one or more digits, within the option's range. Nothing else is accepted.
-use Rattle.std.specs.Prelude.{◌≡◌, ℕ, ◌==◌, ◌&&◌, Bool, true, false, not, List, [], ◌∷◌, length, map, codes, find, Option, Some, None, option_and_then, option_map, if◌then◌else◌, nat_lt, nat_le, String}
+use Rattle.std.specs.Prelude.{◌≡◌, ℕ, ◌==◌, ◌&&◌, ◌||◌, Bool, true, false, not, List, [], ◌∷◌, length, map, codes, find, Option, Some, None, option_and_then, option_map, if◌then◌else◌, nat_lt, nat_le, String}
 use Rattle.std.specs.Global.{Global}
 use Rattle.std.specs.String.{string_bytes}
-use Rattle.std.specs.List.{list_any, before_first, after_first}
+use Rattle.std.specs.List.{list_any, list_all, before_first, after_first}
+use Rattle.std.specs.Option.{option_map_or}
 use Rattle.std.specs.Str.{bytes_eq, all_ascii_digits}
 use Rattle.std.specs.Str.Parse.{without_leading_plus, digits_value}
 use Rattle.settings.specs.declared.parts.Command.{Command}
-use Rattle.settings.specs.declared.parts.Command.TheVariants.{Rewrite, Drill, Schedule}
+use Rattle.settings.specs.declared.parts.Command.TheVariants.{Rewrite, Drill, Schedule, Terms, Pack, Unpack}
 use Rattle.settings.specs.declared.parts.Settings.{Settings}
 use Rattle.settings.specs.declared.options.OptionName.{OptionName}
 use Rattle.settings.specs.declared.options.OptionName.TheVariants.{Workers, Fuel, Rows, Depth, Sizes, Count, Seats}
@@ -28,30 +29,45 @@ abbrev pub command_text : Command → Text
 command_text Rewrite = codes "rewrite"
 command_text Drill = codes "drill"
 command_text Schedule = codes "schedule"
+command_text Terms = codes "terms"
+command_text Pack = codes "pack"
+command_text Unpack = codes "unpack"
 
 abbrev pub commands : List Command
-commands = Rewrite ∷ Drill ∷ Schedule ∷ []
+commands = Rewrite ∷ Drill ∷ Schedule ∷ Terms ∷ Pack ∷ Unpack ∷ []
 
+-- the command that a word names
+unfoldable pub command_named : Text → Option Command
+command_named word = find (λ c. bytes_eq (command_text c) word) commands
+
+-- the options of a command, with its further word
 abbrev pub options_of : Command → List OptionName
 options_of Rewrite = Workers ∷ Fuel ∷ Rows ∷ Depth ∷ Sizes ∷ []
-options_of Drill = Workers ∷ Fuel ∷ Rows ∷ Depth ∷ []
+options_of Drill = Workers ∷ Fuel ∷ Rows ∷ Depth ∷ Count ∷ []
 options_of Schedule = Seats ∷ []
+options_of Terms = Rows ∷ []
+options_of Pack = Rows ∷ []
+options_of Unpack = []
 
--- the word of an option; the further word of a drill has none, and `N` stands for it
-abbrev pub option_text : OptionName → Text
-option_text Workers = codes "--workers"
-option_text Fuel = codes "--fuel"
-option_text Rows = codes "--rows"
-option_text Depth = codes "--depth"
-option_text Sizes = codes "--sizes"
-option_text Count = codes "N"
-option_text Seats = codes "--seats"
+-- the number of a drill is a word of its own: no name stands before it
+abbrev pub stands_alone : OptionName → Bool
+stands_alone Count = true
+stands_alone _ = false
 
 abbrev pub takes_value : OptionName → Bool
 takes_value Sizes = false
 takes_value _ = true
 
--- the least and the greatest number that an option takes; one without a value counts as given with 0
+abbrev pub name_of : OptionName → Text
+name_of Workers = codes "workers"
+name_of Fuel = codes "fuel"
+name_of Rows = codes "rows"
+name_of Depth = codes "depth"
+name_of Sizes = codes "sizes"
+name_of Count = codes "count"
+name_of Seats = codes "seats"
+
+-- the least and the greatest number that an option takes
 abbrev pub least_of : OptionName → ℕ
 least_of Workers = 1
 least_of Fuel = 0
@@ -70,28 +86,23 @@ most_of Sizes = 0
 most_of Count = 65535
 most_of Seats = 16
 
--- the command that a word names, and the option of a command that a text names
-abbrev pub command_named : Text → Option Command
-command_named word = find (λ c. bytes_eq (command_text c) word) commands
-
-abbrev pub option_named : Command → Text → Option OptionName
-option_named c text = find (λ o. bytes_eq (option_text o) text) (options_of c)
-
 -- ---- values
 
--- the number that a text is: an optional `+`, and one or more digits
-abbrev pub number_of : Text → Option ℕ
-number_of text =
+-- an optional `+`, and one or more digits
+abbrev pub is_number : Text → Bool
+is_number text =
     let digits = without_leading_plus text in
-    if nat_lt 0 (length digits) && all_ascii_digits digits then Some (digits_value 10 digits)
-    else None
+    nat_lt 0 (length digits) && all_ascii_digits digits
+
+abbrev pub number_of : Text → ℕ
+number_of text = digits_value 10 (without_leading_plus text)
 
 abbrev pub is_in_range : OptionName → ℕ → Bool
 is_in_range o n = nat_le (least_of o) n && nat_le n (most_of o)
 
--- the number that an option is given by a text
-abbrev pub value_of : OptionName → Text → Option ℕ
-value_of o text = option_and_then (λ n. if is_in_range o n then Some n else None) (number_of text)
+-- the text is a value of the option: a number in its range
+abbrev pub is_value : OptionName → Text → Bool
+is_value o text = not (takes_value o) || (is_number text && is_in_range o (number_of text))
 
 -- ---- words
 
@@ -106,84 +117,94 @@ abbrev pub after_equals_sign : Text → Option Text
 after_equals_sign word =
     if list_any is_equals_sign word then Some (after_first is_equals_sign word) else None
 
--- the options that words give, each with its number
-abbrev pub GivenOptions : Type 0
-GivenOptions = List (OptionName × ℕ)
+-- a text names an option: two hyphens (45) and its name
+abbrev pub names : OptionName → Text → Bool
+names o text = not (stands_alone o) && bytes_eq (45 ∷ 45 ∷ name_of o) text
 
--- an option with its value, and the options that follow
-abbrev pub in_front : OptionName → Option ℕ → Option GivenOptions → Option GivenOptions
-in_front o value following =
-    option_and_then (λ n. option_map (λ given. (o, n) ∷ given) following) value
+abbrev pub option_named : List OptionName → Text → Option OptionName
+option_named options text = find (λ o. names o text) options
+
+-- the options that words use, each with the text of its value; that of one without a value is empty
+abbrev pub Uses : Type 0
+Uses = List (OptionName × Text)
+
+-- an option with its text, and the options that follow
+abbrev pub in_front : OptionName → Text → Option Uses → Option Uses
+in_front o text following = option_map (λ uses. (o, text) ∷ uses) following
 
 -- An option without a value has nothing attached. The value of another is attached by `=`, or it is the next word, for
 -- which the option waits.
-abbrev pub begun : OptionName → Bool → Option Text → Option GivenOptions → Option GivenOptions → Option GivenOptions
-begun o false None following waiting = in_front o (Some 0) following
+abbrev pub begun : OptionName → Bool → Option Text → Option Uses → Option Uses → Option Uses
+begun o false None following waiting = in_front o [] following
 begun o false (Some text) following waiting = None
 begun o true None following waiting = waiting
-begun o true (Some text) following waiting = in_front o (value_of o text) following
+begun o true (Some text) following waiting = in_front o text following
 
--- the number that a further word gives: a drill's, which stands without a name; other commands have none
-abbrev pub further_number : Command → Text → Option ℕ
-further_number Drill word = value_of Count word
-further_number _ word = None
-
--- a word that names an option begins it, and any other is the further word
-abbrev pub read_word : Command → Option OptionName → Text → Option GivenOptions → Option GivenOptions → Option GivenOptions
-read_word c None word following waiting = in_front Count (further_number c word) following
-read_word c (Some o) word following waiting =
+-- a word that names an option begins it; any other is the further word, where there is one
+abbrev pub read_word : List OptionName → Option OptionName → Text → Option Uses → Option Uses → Option Uses
+read_word options None word following waiting =
+    if list_any stands_alone options then in_front Count word following else None
+read_word options (Some o) word following waiting =
     begun o (takes_value o) (after_equals_sign word) following waiting
 
--- the options that the words after a command give, where the first word is the value of an option that waits for one
-abbrev pub given_options : Command → Option OptionName → List Text → Option GivenOptions
-given_options c None [] = Some []
-given_options c (Some o) [] = None
-given_options c None (word ∷ rest) =
-    let named = option_named c (before_equals_sign word) in
-    read_word c named word (given_options c None rest) (given_options c named rest)
-given_options c (Some o) (word ∷ rest) = in_front o (value_of o word) (given_options c None rest)
+-- the options that the words after a command use, where the first word is the value of an option that waits for one
+abbrev pub uses_of : List OptionName → Option OptionName → List Text → Option Uses
+uses_of options None [] = Some []
+uses_of options (Some o) [] = None
+uses_of options None (word ∷ rest) =
+    let named = option_named options (before_equals_sign word) in
+    read_word options named word (uses_of options None rest) (uses_of options named rest)
+uses_of options (Some o) (word ∷ rest) = in_front o word (uses_of options None rest)
 
 -- ---- settings
 
 abbrev pub is_same : OptionName → OptionName → Bool
-is_same o other = bytes_eq (option_text o) (option_text other)
+is_same o other = bytes_eq (name_of o) (name_of other)
 
-abbrev pub is_given : OptionName → GivenOptions → Bool
-is_given o given = list_any (λ g. is_same o g.0) given
+abbrev pub is_given : OptionName → Uses → Bool
+is_given o uses = list_any (λ u. is_same u.0 o) uses
 
 -- each option stands at most once
-abbrev pub stand_once : GivenOptions → Bool
+abbrev pub stand_once : Uses → Bool
 stand_once [] = true
-stand_once (g ∷ given) = not (is_given g.0 given) && stand_once given
+stand_once (u ∷ uses) = not (is_given u.0 uses) && stand_once uses
 
--- a drill has its number
-abbrev pub is_whole : Command → GivenOptions → Bool
-is_whole Drill given = is_given Count given
-is_whole _ given = true
+abbrev pub are_values : Uses → Bool
+are_values uses = list_all (λ u. is_value u.0 u.1) uses
+
+-- the further word is there, where there is one
+abbrev pub is_whole : List OptionName → Uses → Bool
+is_whole options uses = not (list_any stands_alone options) || is_given Count uses
+
+abbrev pub are_accepted : List OptionName → Uses → Bool
+are_accepted options uses = stand_once uses && (are_values uses && is_whole options uses)
+
+-- the text that an option is given
+abbrev pub text_given : OptionName → Uses → Option Text
+text_given o uses = option_map (λ u. u.1) (find (λ u. is_same u.0 o) uses)
 
 -- the number that an option is given, or its default
-abbrev pub number_or : ℕ → OptionName → GivenOptions → ℕ
-number_or default o [] = default
-number_or default o (g ∷ given) = if is_same o g.0 then g.1 else number_or default o given
+abbrev pub number_or : ℕ → OptionName → Uses → ℕ
+number_or default o uses = option_map_or number_of (text_given o uses) default
 
-abbrev pub settings_with : Command → GivenOptions → Settings
-settings_with c given = record {
+abbrev pub settings_with : Command → Uses → Settings
+settings_with c uses = record {
   command = c;
-  workers = number_or 1 Workers given;
-  fuel = number_or 1000000 Fuel given;
-  rows = number_or 65536 Rows given;
-  depth = number_or 4096 Depth given;
-  sizes = is_given Sizes given;
-  count = number_or 0 Count given;
-  seats = number_or 2 Seats given;
+  workers = number_or 1 Workers uses;
+  fuel = number_or 1000000 Fuel uses;
+  rows = number_or 65536 Rows uses;
+  depth = number_or 4096 Depth uses;
+  sizes = is_given Sizes uses;
+  count = number_or 0 Count uses;
+  seats = number_or 2 Seats uses;
 }
 
--- the settings, where each option that is given stands once, and none is missing
-abbrev pub settings_once : Command → GivenOptions → Option Settings
-settings_once c given = if stand_once given && is_whole c given then Some (settings_with c given) else None
+-- the settings of a command whose words use these options
+abbrev pub settings_using : Command → Uses → Option Settings
+settings_using c uses = if are_accepted (options_of c) uses then Some (settings_with c uses) else None
 
 abbrev pub settings_after : Command → List Text → Option Settings
-settings_after c words = option_and_then (settings_once c) (given_options c None words)
+settings_after c words = option_and_then (settings_using c) (uses_of (options_of c) None words)
 
 -- the settings that words give, or none where they are not accepted
 abbrev pub settings_of : List Text → Option Settings

@@ -1,7 +1,7 @@
 //! The command line: the words that the program is started with, as settings.
 #![tactic(auto)]
 
-mod given;
+mod line;
 mod options;
 mod parts;
 mod reading;

@@ -1,10 +1,10 @@
 // Commands and options by their names, and the numbers that options take.
-ghost use Rattle.std.specs.Prelude.{◌≡◌, ◌<◌, ◌^◌};
-ghost use Rattle.settings.specs.Words.{command_text, commands, command_named, options_of, option_text, option_named, takes_value, least_of, most_of, value_of, further_number};
+ghost use Rattle.std.specs.Prelude.{◌≡◌};
+ghost use Rattle.settings.specs.Words.{command_text, commands, command_named, options_of, stands_alone, takes_value, name_of, least_of, most_of};
 
 use crate::parts::Command;
 
-/// The name of an option, or of a further word.
+/// An option, or a further word.
 #[derive(Clone, Copy, Debug, PartialEq, Eq)]
 pub enum OptionName {
     Workers,
@@ -12,7 +12,7 @@ pub enum OptionName {
     Rows,
     Depth,
     Sizes,
-    /// The further word of a drill, which stands without a name.
+    /// The number of a drill, which stands without a name.
     Count,
     Seats,
 }
@@ -24,20 +24,32 @@ fn command_word(command: Command) -> &'static str
         Command::Rewrite => "rewrite",
         Command::Drill => "drill",
         Command::Schedule => "schedule",
+        Command::Terms => "terms",
+        Command::Pack => "pack",
+        Command::Unpack => "unpack",
     }
 }
 
 /// The command that a word names.
+#[tactic(auto, unfolding(crate::specs::Words::command_named))]
 pub fn read_command(word: &str) -> Option<Command>
     ensures { result ≡ command_named word.now }
 {
-    [Command::Rewrite, Command::Drill, Command::Schedule]
-        .iter()
-        .copied()
-        .find(|command| command_word(*command) == word)
+    [
+        Command::Rewrite,
+        Command::Drill,
+        Command::Schedule,
+        Command::Terms,
+        Command::Pack,
+        Command::Unpack,
+    ]
+    .iter()
+    .copied()
+    .find(|command| command_word(*command) == word)
 }
 
-fn options(command: Command) -> &'static [OptionName]
+/// The options of a command, with its further word.
+pub fn options(command: Command) -> &'static [OptionName]
     ensures { result.now ≡ options_of command }
 {
     match command {
@@ -53,33 +65,19 @@ fn options(command: Command) -> &'static [OptionName]
             OptionName::Fuel,
             OptionName::Rows,
             OptionName::Depth,
+            OptionName::Count,
         ],
         Command::Schedule => &[OptionName::Seats],
+        Command::Terms | Command::Pack => &[OptionName::Rows],
+        Command::Unpack => &[],
     }
 }
 
-fn option_word(option: OptionName) -> &'static str
-    ensures { result.now ≡ option_text option }
+/// Whether it is a further word, before which no name stands.
+pub fn stands_alone(option: OptionName) -> bool
+    ensures { result ≡ stands_alone option }
 {
-    match option {
-        OptionName::Workers => "--workers",
-        OptionName::Fuel => "--fuel",
-        OptionName::Rows => "--rows",
-        OptionName::Depth => "--depth",
-        OptionName::Sizes => "--sizes",
-        OptionName::Count => "N",
-        OptionName::Seats => "--seats",
-    }
-}
-
-/// The option of a command that a text names.
-pub fn read_option(command: Command, text: &str) -> Option<OptionName>
-    ensures { result ≡ option_named command text.now }
-{
-    options(command)
-        .iter()
-        .copied()
-        .find(|option| option_word(*option) == text)
+    matches!(option, OptionName::Count)
 }
 
 /// Whether an option has a value.
@@ -89,8 +87,24 @@ pub fn has_value(option: OptionName) -> bool
     !matches!(option, OptionName::Sizes)
 }
 
-// The least number that an option takes.
-fn least(option: OptionName) -> u64
+/// The name of an option, behind two hyphens in its word. It is lent for as long as the words are, since a command
+/// line and its words have one lifetime.
+pub fn name<'a>(option: OptionName, _words: &'a [String]) -> &'a str
+    ensures { result.now ≡ name_of option }
+{
+    match option {
+        OptionName::Workers => "workers",
+        OptionName::Fuel => "fuel",
+        OptionName::Rows => "rows",
+        OptionName::Depth => "depth",
+        OptionName::Sizes => "sizes",
+        OptionName::Count => "count",
+        OptionName::Seats => "seats",
+    }
+}
+
+/// The least number that an option takes.
+pub fn least(option: OptionName) -> u64
     ensures { result ≡ least_of option }
 {
     match option {
@@ -103,8 +117,8 @@ fn least(option: OptionName) -> u64
     }
 }
 
-// The greatest number that an option takes.
-fn most(option: OptionName) -> u64
+/// The greatest number that an option takes.
+pub fn most(option: OptionName) -> u64
     ensures { result ≡ most_of option }
 {
     match option {
@@ -115,29 +129,5 @@ fn most(option: OptionName) -> u64
         OptionName::Sizes => 0,
         OptionName::Count => 65_535,
         OptionName::Seats => 16,
-    }
-}
-
-/// The number that an option is given by a text.
-pub fn read_value(option: OptionName, text: &str) -> Option<u64>
-    ensures { result ≡ value_of option text.now }
-{
-    let Ok(number) = text.parse::<u64>() else {
-        return None;
-    };
-    if least(option) <= number && number <= most(option) {
-        Some(number)
-    } else {
-        None
-    }
-}
-
-/// The number that a further word gives a command.
-pub fn read_further(command: Command, word: &str) -> Option<u64>
-    ensures { result ≡ further_number command word.now }
-{
-    match command {
-        Command::Drill => read_value(OptionName::Count, word),
-        _ => None,
     }
 }

@@ -1,4 +1,5 @@
 // What a command line comes to.
+use std::alloc::AllocError;
 use thiserror::Error;
 
 /// What the program is to do.
@@ -10,6 +11,12 @@ pub enum Command {
     Drill,
     /// Runs a schedule of steps of the lock.
     Schedule,
+    /// Writes terms in their canonical text, and how many nodes they have.
+    Terms,
+    /// Writes terms as a file, in which each different one stands once.
+    Pack,
+    /// Writes the terms of such a file in their canonical text.
+    Unpack,
 }
 
 /// How the program is to do it. A field that the command does not use has its default.
@@ -20,9 +27,10 @@ pub struct Settings {
     pub workers: u32,
     /// Rules that may be applied to one term, 0 to 1,000,000,000. By default 1,000,000.
     pub fuel: u64,
-    /// Trees that the store can hold, 1 to 262,144. By default 65,536.
+    /// Trees that each worker's store can hold at a time, or different trees that terms may have, 1 to 262,144. By
+    /// default 65,536.
     pub rows: u32,
-    /// Places on a worker's stack, the room that a term is rewritten in, 1 to 65,536. By default 4,096.
+    /// Places on each worker's stack, the room that a term is rewritten in, 1 to 65,536. By default 4,096.
     pub depth: u32,
     /// Whether a value's sizes are written in place of its text.
     pub sizes: bool,
@@ -41,4 +49,15 @@ pub enum WordsFault {
     /// There is no memory.
     #[error("out of memory")]
     Memory,
+}
+
+impl From<AllocError> for WordsFault {
+    ghost use Rattle.std.specs.Prelude.{◌≡◌};
+    ghost use Rattle.settings.specs.declared.parts.WordsFault.TheVariants.{Memory};
+
+    ghost from_gives = { λ _ fault. fault ≡ Memory };
+
+    fn from(_: AllocError) -> Self {
+        WordsFault::Memory
+    }
 }

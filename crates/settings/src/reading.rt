@@ -1,89 +1,121 @@
-// The words of a command line, read one option after another.
-ghost use Rattle.std.specs.Prelude.{◌≡◌, ◌≤◌, ◌∷◌, Some, None, IfOk, MatchOption};
-ghost use Rattle.std.specs.Option.{option_copied, ok_or};
+// The words of a command line, read with `clap`.
+ghost use Rattle.std.specs.Prelude.{◌≡◌, ◌<◌, ◌^◌, ◌↔◌, Some, None, true, false, IfOk, MatchOption, MatchResult};
+ghost use Rattle.std.specs.List.{list_any};
 ghost use Rattle.std.specs.String.{string_bytes};
-ghost use Rattle.settings.specs.declared.parts.Command.{Command};
-ghost use Rattle.settings.specs.Words.{texts, given_options, settings_after, settings_of, AreInRange, before_equals_sign, after_equals_sign};
-ghost use Rattle.settings.specs.Reading.{IsRead, given_from};
+ghost use Rattle.clap.specs.Words.{found_of};
+ghost use Rattle.settings.specs.Words.{Uses, texts, takes_value, most_of, number_or, is_given, options_of, settings_with, settings_after, settings_of, AreInRange};
+ghost use Rattle.settings.specs.Line.{Shows, ShowsWords, is_end_of_options};
 
-use crate::given::Given;
-use crate::options::{OptionName, has_value, read_command, read_further, read_option, read_value};
+use crate::line::argument;
+use crate::options::{OptionName, name, options, read_command};
 use crate::parts::{Command, Settings, WordsFault};
+use clap::ArgMatches;
+use clap::error::ErrorKind;
+use std::alloc::Global;
 
-// A word's part before its first `=`, and the part after it, if there is one.
-fn split_at_equals_sign(word: &str) -> (&str, Option<&str>)
-    ensures before { result.0.now ≡ before_equals_sign word.now }
-    ensures after { option_copied result.1 ≡ after_equals_sign word.now }
+// The number that an option is given, or its default.
+fn number(matches: &ArgMatches, words: &[String], option: OptionName, default: u64) -> u64
+    ensures { (uses : Uses) → Shows (found_of matches.now) uses → takes_value option ≡ true
+        → result ≡ number_or default option uses }
 {
-    match word.split_once('=') {
-        Some((name, value)) => (name, Some(value)),
-        None => (word, None),
+    matches
+        .get_one::<u64>(name(option, words))
+        .unwrap_or(default)
+}
+
+// The same of a number that fits 32 bits.
+fn short_number(matches: &ArgMatches, words: &[String], option: OptionName, default: u32) -> u32
+    ensures { (uses : Uses) → Shows (found_of matches.now) uses → takes_value option ≡ true
+        → most_of option < 2 ^ 32 → result ≡ number_or default option uses }
+{
+    matches
+        .get_one::<u32>(name(option, words))
+        .unwrap_or(default)
+}
+
+fn has_flag(matches: &ArgMatches, words: &[String], option: OptionName) -> bool
+    ensures { (uses : Uses) → Shows (found_of matches.now) uses → takes_value option ≡ false
+        → result ≡ is_given option uses }
+{
+    matches.get_flag(name(option, words))
+}
+
+// The settings of a command that the matches of its words have, with its default for each option that is not there.
+fn settings_in(command: Command, matches: &ArgMatches, words: &[String]) -> Settings
+    ensures { (uses : Uses) → Shows (found_of matches.now) uses → result ≡ settings_with command uses }
+{
+    Settings {
+        command,
+        workers: short_number(matches, words, OptionName::Workers, 1),
+        fuel: number(matches, words, OptionName::Fuel, 1_000_000),
+        rows: short_number(matches, words, OptionName::Rows, 65_536),
+        depth: short_number(matches, words, OptionName::Depth, 4_096),
+        sizes: has_flag(matches, words, OptionName::Sizes),
+        count: short_number(matches, words, OptionName::Count, 0),
+        seats: short_number(matches, words, OptionName::Seats, 2),
     }
 }
 
-// The number that an option is given by what its word has attached, or by the next word, and the words after it.
-fn read_number<'a>(
-    option: OptionName,
-    attached: Option<&str>,
-    words: &'a [String],
-) -> Option<(u64, &'a [String])>
-    ensures { (c : Command) → let all = given_from c option (option_copied attached.entry) words.now in
-        MatchOption result (all ≡ None) (λ read. IsRead c all words.now option read.0 read.1.now) }
+// Whether a word is `--`, at which `clap` ends the options.
+fn ends_options(words: &[String]) -> bool
+    ensures { result ≡ list_any (λ word. is_end_of_options (string_bytes word)) words.now }
 {
-    match attached {
-        Some(text) if has_value(option) => Some((read_value(option, text)?, words)),
-        Some(_) => None,
-        None if has_value(option) => {
-            let (text, rest) = words.split_first()?;
-            Some((read_value(option, text.as_str())?, rest))
-        }
-        None => Some((0, words)),
-    }
+    words.iter().any(|word| word.as_str() == "--")
 }
 
-// The first option of a command, or its further word, with its number, and the words after it.
-fn next_option<'a>(
+// What `clap` reads of the words after a command.
+fn read_matches<'a>(
+    alloc: Global,
     command: Command,
-    word: &str,
-    rest: &'a [String],
-) -> Option<(OptionName, u64, &'a [String])>
-    ensures { let all = given_options command None (word.now ∷ texts rest.now) in
-        MatchOption result (all ≡ None) (λ read. IsRead command all rest.now read.0 read.1 read.2.now) }
+    words: &'a [String],
+) -> Result<ArgMatches<'a>, WordsFault>
+    requires { list_any is_end_of_options (texts words.now) ≡ false }
+    ensures { MatchResult result
+        (λ matches. ShowsWords (options_of command) (texts words.now) (found_of matches))
+        (λ fault. fault ≡ WordsFault.Usage → settings_after command (texts words.now) ≡ None) }
 {
-    let (name, attached) = split_at_equals_sign(word);
-    let Some(option) = read_option(command, name) else {
-        return Some((OptionName::Count, read_further(command, word)?, rest));
-    };
-    let (number, rest) = read_number(option, attached, rest)?;
-    Some((option, number, rest))
+    let all = options(command);
+    let mut line = clap::Command::new(alloc, "rec")
+        .no_binary_name(true)
+        .disable_help_flag(true);
+    for option in all {
+        line = line.arg(argument(alloc, *option, name(*option, words)))?;
+    }
+    match line.try_get_matches_from(words) {
+        Ok(matches) => Ok(matches),
+        Err(error) => Err(fault_of(error.kind())),
+    }
+}
+
+// Any fault but want of memory is one of the words.
+fn fault_of(kind: ErrorKind) -> WordsFault
+    ensures { (result ≡ WordsFault.Memory) ↔ (kind ≡ ErrorKind.OutOfMemory) }
+{
+    match kind {
+        ErrorKind::OutOfMemory => WordsFault::Memory,
+        _ => WordsFault::Usage,
+    }
 }
 
 // The settings of a command with these words after it.
-fn read_options(command: Command, words: &[String]) -> Option<Settings>
-    ensures { result ≡ settings_after command (texts words.now) }
+fn read_options(alloc: Global, command: Command, words: &[String]) -> Result<Settings, WordsFault>
+    ensures { MatchResult result (λ given. settings_after command (texts words.now) ≡ Some given)
+        (λ fault. fault ≡ WordsFault.Usage → settings_after command (texts words.now) ≡ None) }
 {
-    let mut given = Given::NONE;
-    let mut words = words;
-    while let Some((word, rest)) = words.split_first() {
-        let (option, number, rest) = next_option(command, word.as_str(), rest)?;
-        if !given.note(option, number) {
-            return None;
-        }
-        words = rest;
+    if ends_options(words) {
+        return Err(WordsFault::Usage);
     }
-    if given.has_all_of(command) {
-        Some(given.settings(command))
-    } else {
-        None
-    }
+    let matches = read_matches(alloc, command, words)?;
+    Ok(settings_in(command, &matches, words))
 }
 
-// The settings, where there are any.
-fn read_words(words: &[String]) -> Option<Settings>
-    ensures { result ≡ settings_of (texts words.now) }
+// The command that words name, and the words after it.
+fn split_command<'a>(words: &'a [String]) -> Option<(Command, &'a [String])>
+    ensures { MatchOption result (None ≡ settings_of (texts words.now))
+        (λ split. settings_after split.0 (texts split.1.now) ≡ settings_of (texts words.now)) }
 {
     match words {
-        [_, command, options @ ..] => read_options(read_command(command.as_str())?, options),
+        [_, command, options @ ..] => Some((read_command(command.as_str())?, options)),
         _ => None,
     }
 }
@@ -93,10 +125,14 @@ fn read_words(words: &[String]) -> Option<Settings>
 ///
 /// An option is `--name value` or `--name=value`, and stands at most once; `--sizes` has no value. A number is an
 /// optional `+` and one or more digits, within the option's range. All other words are `Usage`, among them `--`,
-/// `--help` and the beginning of a name. Nothing is allocated, so that `Memory` is never the answer.
-pub fn settings(words: &[String]) -> Result<Settings, WordsFault>
-    ensures settings { result ≡ ok_or (settings_of (texts words.now)) WordsFault.Usage }
+/// `--help` and the beginning of a name. `Memory` may come wherever there is none.
+pub fn settings(alloc: Global, words: &[String]) -> Result<Settings, WordsFault>
+    ensures settings { MatchResult result (λ given. settings_of (texts words.now) ≡ Some given)
+        (λ fault. fault ≡ WordsFault.Usage → settings_of (texts words.now) ≡ None) }
     ensures in_range { IfOk result AreInRange }
 {
-    read_words(words).ok_or(WordsFault::Usage)
+    match split_command(words) {
+        Some((command, options)) => read_options(alloc, command, options),
+        None => Err(WordsFault::Usage),
+    }
 }

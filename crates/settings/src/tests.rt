@@ -24,6 +24,21 @@ const SCHEDULE: Settings = Settings {
     ..REWRITE
 };
 
+const TERMS: Settings = Settings {
+    command: Command::Terms,
+    ..REWRITE
+};
+
+const PACK: Settings = Settings {
+    command: Command::Pack,
+    ..REWRITE
+};
+
+const UNPACK: Settings = Settings {
+    command: Command::Unpack,
+    ..REWRITE
+};
+
 // The words of a line, between single spaces; no words where the line is empty.
 fn words_of(alloc: Global, line: &str) -> Result<Vec<String>, AllocError> {
     let mut words = Vec::new(alloc);
@@ -148,11 +163,23 @@ fn accepted_words_give_their_settings(rt: HostRuntime) -> Result<(), Fail> {
                 ..SCHEDULE
             },
         ),
+        ("rec terms", TERMS),
+        ("rec terms --rows 1", Settings { rows: 1, ..TERMS }),
+        (
+            "rec terms --rows=+262144",
+            Settings {
+                rows: 262_144,
+                ..TERMS
+            },
+        ),
+        ("rec pack", PACK),
+        ("rec pack --rows=3", Settings { rows: 3, ..PACK }),
+        ("rec unpack", UNPACK),
         ("-- rewrite", REWRITE),
     ];
     for (line, want) in rows {
         let words = words_of(rt.alloc(), line)?;
-        assert_eq!(rt; settings(words.as_slice()), Ok(want), "{line}");
+        assert_eq!(rt; settings(rt.alloc(), words.as_slice()), Ok(want), "{line}");
     }
     Ok(())
 }
@@ -201,7 +228,24 @@ fn other_words_are_usage(rt: HostRuntime) -> Result<(), Fail> {
         "rec drill --cache 0 5",
         "rec drill 5 --log",
         "rec Drill 5",
-        "rec terms",
+        "rec term",
+        "rec terms --rows",
+        "rec terms --rows 0",
+        "rec terms --rows 262145",
+        "rec terms --rows 3 --rows 3",
+        "rec terms --sizes",
+        "rec terms --depth 3",
+        "rec terms x",
+        "rec terms --",
+        "rec pack --rows 0",
+        "rec pack --rows 262145",
+        "rec pack x",
+        "rec unpack --rows 3",
+        "rec unpack --sizes",
+        "rec unpack x",
+        "rec unpack --",
+        "rec unpack --help",
+        "rec outermost",
         "rec rewrite --seats 2",
         "rec schedule --rows 2",
         "rec rewrite --fue 2",
@@ -232,7 +276,7 @@ fn other_words_are_usage(rt: HostRuntime) -> Result<(), Fail> {
     for line in lines {
         let words = words_of(rt.alloc(), line)?;
         assert_eq!(rt;
-            settings(words.as_slice()),
+            settings(rt.alloc(), words.as_slice()),
             Err(WordsFault::Usage),
             "{line}"
         );

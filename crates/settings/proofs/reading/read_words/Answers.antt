@@ -1,5 +1,0 @@
-use Rattle.settings.proofs.FirstWord.{too_few}
-use Rattle.settings.proofs.reading.read_words.Goals as goal
-
-pub returns-in_default : goal.returns-in_default
-returns-in_default c = too_few c.args.words.now c.in_default.len_below

@@ -1,0 +1,71 @@
+-- A store holds no more different trees than it has rows, and one that is filled has too few for one more.
+use Rattle.std.proofs.Common.{◌≡◌, ℕ, zero, suc, ◌<◌, ◌≤◌, inl, inr, List, [], ◌∷◌, ◌++◌, Option, Some, None, length, get_or, true, refl, sym, ap, subst, ◌∙◌, arith}
+use Rattle.std.specs.Prelude.{Contains, All, map}
+use Rattle.std.specs.List.{flat_map}
+use Rattle.std.proofs.lemmas.List.Elements.{All-map, All-weaker, All-contains}
+use Rattle.term_model.specs.declared.Row.{Row}
+use Rattle.term_model.specs.declared.Head.{Head}
+use Rattle.term_model.specs.Tree.{Tree, subtrees, among, distinct}
+use Rattle.term_model.specs.Laws.{IsClosed}
+use Rattle.term_model.proofs.Equality.{among_here, among_there, among_cases, among_from_contains, contains_from_among}
+use Rattle.term_model.proofs.Members.{distinct_of_part, distinct_is_bounded}
+use Rattle.term_model.proofs.Subtrees.{closed_holds_subtrees}
+use Rattle.terms_api.specs.Terms.{IsHeld, IsSound, tree_at, trees, reachable, asked}
+use Rattle.terms_api.proofs.Callers.{has-held}
+use Rattle.plain_store.specs.Contents.{Contents, store_of, IsFilled}
+use Rattle.plain_store.proofs.Crowding.{somes}
+use Rattle.term_commands.specs.Different.{different}
+use Rattle.term_commands.proofs.Within.{IsWithin, within_flat, one_more}
+
+somes_length : (os : List (Option Tree)) → length (somes os) ≤ length os
+somes_length [] = omega arith
+somes_length (None ∷ os) = let r = somes_length os in omega (arith, r)
+somes_length (Some t ∷ os) = let r = somes_length os in omega (arith, r)
+
+among_somes : (os : List (Option Tree)) (k : ℕ) (t : Tree) → get_or os k None ≡ Some t → among t (somes os) ≡ true
+among_somes [] k t e = absurd (cc)
+among_somes (None ∷ os) zero t e = absurd (cc)
+among_somes (None ∷ os) (suc k) t e = among_somes os k t e
+among_somes (Some u ∷ os) zero t e = among_here t u (somes os) (let f : u ≡ t = cc in sym f)
+among_somes (Some u ∷ os) (suc k) t e = among_there t u (somes os) (among_somes os k t e)
+
+place_somes : (os : List (Option Tree)) (t : Tree) → among t (somes os) ≡ true → (k : ℕ) × (get_or os k None ≡ Some t)
+place_somes [] t h = absurd (cc)
+place_somes (None ∷ os) t h = let r = place_somes os t h in (suc r.0, r.1)
+place_somes (Some u ∷ os) t h =
+    elim (among_cases t u (somes os) h) [
+      | inl e ↦ (0, ap (λ (x : Tree). Some x) (sym e))
+      | inr g ↦ (let r = place_somes os t g in (suc r.0, r.1))
+    ]
+
+module _ (c : Contents) (sound : IsSound (store_of c)) where
+  held : (r : Row) (t : Tree) → get_or c.trees r.0 None ≡ Some t → Contains (somes c.trees) t
+  held r t e = contains_from_among t (somes c.trees) (among_somes c.trees r.0 t e)
+
+  closed : IsClosed (somes c.trees)
+  closed t u h k =
+      let p = place_somes c.trees t (among_from_contains t (somes c.trees) h) in
+      let q = sound.arguments (record { 0 = p.0 }) t u p.1 k in
+      held q.0 u q.1
+
+  stacked : All (Contains (somes c.trees)) (trees (store_of c))
+  stacked =
+      All-map (Contains (somes c.trees)) (tree_at (store_of c)) c.stack
+      (All-weaker (IsHeld (store_of c)) (λ r. Contains (somes c.trees) (tree_at (store_of c) r)) (λ r h. held r (tree_at (store_of c) r) (has-held (store_of c) r h)) c.stack sound.stack)
+
+  -- the trees under the stack have no more different subtrees than there are rows
+  pub fits : different (trees (store_of c)) ≤ length c.trees
+  fits =
+      let part = distinct_of_part (reachable (store_of c)) (somes c.trees) (λ t h.
+      (let w = within_flat (trees (store_of c)) t h in
+      closed_holds_subtrees (somes c.trees) closed w.0 t (All-contains (Contains (somes c.trees)) (trees (store_of c)) w.0 stacked w.1) w.2)) in
+      let few = distinct_is_bounded (somes c.trees) in
+      let short = somes_length c.trees in
+      omega (arith, part, few, short)
+
+-- where the trees under the stack fill all rows, one more has no row
+pub too_full : (c : Contents) (h : Head) (n : ℕ) → IsFilled (store_of c) h n → length c.trees < different (trees (store_of c) ++ asked (store_of c) h n ∷ [])
+too_full c h n filled =
+    let full = filled.full in
+    let more = one_more (trees (store_of c)) (asked (store_of c) h n) filled.absent in
+    omega (arith, full, more)

@@ -1,0 +1,7 @@
+pub mod Building
+pub mod Different
+pub mod Failing
+pub mod Listing
+pub mod Packing
+pub mod Unpacking
+pub mod WritingLines

@@ -1,0 +1,60 @@
+//! The command `terms`: term text to the canonical line of each term, and how large they are together.
+ghost use Rattle.std.specs.Prelude.{◌≡◌, ◌++◌, All, IfOk, IfErr, OnOk};
+ghost use Rattle.term_model.specs.Tree.{IsGround};
+ghost use Rattle.term_syntax.specs.Canonical.{canonical_lines};
+ghost use Rattle.term_syntax.specs.Text.{HasNames};
+ghost use Rattle.term_commands.specs.Listing.{IsListed, IsUntold, counts_line};
+
+use crate::fault::TermsFault;
+use crate::measuring::sizes_together;
+use faults::Memory;
+use itoa::Buffer;
+use std::alloc::Global;
+use symbol_pool::Symbols;
+use term_model::Flat;
+use term_text::{TermSizes, read_terms, write_term};
+
+/// Appends the canonical text of each term, and a line feed.
+fn write_lines(terms: &[Flat], symbols: &Symbols, out: &mut Vec<u8>) -> Result<(), Memory>
+    requires ground { All IsGround terms.now }
+    requires held { All (HasNames symbols.now) terms.now }
+    ensures { OnOk result
+        (out.new.items ≡ out.old.items ++ canonical_lines symbols.now terms.now) }
+{
+    for term in terms {
+        write_term(term, symbols, out)?;
+        out.push(b'\n')?;
+    }
+    Ok(())
+}
+
+/// Appends the line of sizes.
+fn write_sizes(sizes: TermSizes, out: &mut Vec<u8>) -> Result<(), Memory>
+    ensures { OnOk result
+        (out.new.items ≡ out.old.items ++ counts_line sizes.distinct sizes.nodes) }
+{
+    out.extend_from_slice(b"distinct ")?;
+    out.extend_from_slice(Buffer::new().format(sizes.distinct).as_bytes())?;
+    out.extend_from_slice(b" nodes ")?;
+    out.extend_from_slice(Buffer::new().format(sizes.nodes).as_bytes())?;
+    out.extend_from_slice(b"\n")?;
+    Ok(())
+}
+
+/// The canonical line of each term that the input spells, and the line `distinct D nodes N`: how many different
+/// subtrees the terms have together, and how many nodes, at most 2^64 - 1.
+///
+/// The input is refused as `read_terms` refuses it. `StoreFull` is answered exactly where there are more different
+/// subtrees than rows, and `Memory` may be wherever there is none.
+pub fn tell_terms(alloc: Global, input: &[u8], rows: u32) -> Result<Vec<u8>, TermsFault>
+    ensures told { IfOk result (λ text. IsListed rows input.now text.items) }
+    ensures untold { IfErr result (IsUntold rows input.now) }
+{
+    let mut symbols = Symbols::new(alloc);
+    let terms = read_terms(alloc, input, &mut symbols)?;
+    let sizes = sizes_together(alloc, terms.as_slice(), rows)?;
+    let mut text = Vec::new(alloc);
+    write_lines(terms.as_slice(), &symbols, &mut text)?;
+    write_sizes(sizes, &mut text)?;
+    Ok(text)
+}

@@ -1,0 +1,38 @@
+//! How large terms are together.
+ghost use Rattle.std.specs.Prelude.{◌≡◌, ◌≤◌, ◌<◌, All, IfOk, IfErr, sum_by};
+ghost use Rattle.term_model.specs.Tree.{nodes, IsGround};
+ghost use Rattle.term_text.specs.Sizes.{saturated};
+ghost use Rattle.term_commands.specs.Different.{different};
+ghost use Rattle.term_commands.specs.Listing.{IsUncounted};
+
+use crate::building::build_terms;
+use crate::counting::{depth_for, widest};
+use crate::fault::TermsFault;
+use plain_store::PlainStore;
+use std::alloc::Global;
+use term_model::Flat;
+use term_text::{SizeMarks, TermSizes, stack_sizes};
+use terms_api::Terms;
+
+/// How many different subtrees the terms have together, and how many nodes, at most 2^64 - 1. They are built in a
+/// store of so many rows, which suffice exactly where there are no more different subtrees.
+pub(crate) fn sizes_together(
+    alloc: Global,
+    terms: &[Flat],
+    rows: u32,
+) -> Result<TermSizes, TermsFault>
+    requires { All IsGround terms.now }
+    ensures distinct { IfOk result (λ sizes. sizes.distinct ≡ different terms.now) }
+    ensures nodes { IfOk result (λ sizes. sizes.nodes ≡ saturated (sum_by nodes terms.now)) }
+    ensures fit { IfOk result (λ sizes. different terms.now ≤ rows) }
+    ensures uncounted { IfErr result (IsUncounted rows terms.now) }
+{
+    let Some(depth) = depth_for(terms) else {
+        return Err(TermsFault::Memory);
+    };
+    let mut store = PlainStore::new(alloc, rows, depth, widest(terms))?;
+    store.enter();
+    build_terms(&mut store, terms)?;
+    let mut marks = SizeMarks::new(alloc, rows)?;
+    Ok(stack_sizes(&mut store, &mut marks))
+}
