@@ -98,7 +98,7 @@ pub absent_is_not_crowded : (z : Sizes) → AbsentIsNotCrowded z
 absent_is_not_crowded z i v h s t lacks c = absent_crowd z i v h s t lacks c
 
 -- where a caller has no Collect
-told_none_by : (i : ℕ) (s : TermSet) (l : History) → Each (λ (y : ℕ × Entry). y.0 ≡ i → is_collect y.1 ≡ false) l → told kept_trees i s l ≡ []
+pub told_none_by : (i : ℕ) (s : TermSet) (l : History) → Each (λ (y : ℕ × Entry). y.0 ≡ i → is_collect y.1 ≡ false) l → told kept_trees i s l ≡ []
 told_none_by i s [] h = refl
 told_none_by i s (y ∷ l) h =
     let next : TermSet = after s y.0 y.1 in

@@ -4,6 +4,7 @@ use Rattle.atomic_table.specs.declared.shared.Seat.{Seat}
 use Rattle.term_model.specs.declared.Row.{Row}
 use Rattle.history_core.specs.declared.entry.Entry.{Entry}
 use Rattle.history_core.specs.declared.entry.Entry.TheVariants as entry
+use Rattle.history_core.specs.Chronicle.{chronicle, part_of}
 use Rattle.mark_phase.specs.Reachable.{IsMarked}
 use Rattle.store_core.specs.declared.view.View.{View}
 use Rattle.store_core.specs.Recalls.{EntriesRecalled}
@@ -51,6 +52,10 @@ view_of p = p.seat.seat.me.0
 -- a pass has its own entries in the lists, under its number
 abbrev pub HasEntries : List (List Entry) → Pass → Type 0
 HasEntries lists p = slice_index_or lists p.seat.number [] ≡ p.seat.seat.me.0.store.entries
+
+-- and they stand in the chronicle of these lists in its own order
+abbrev pub KeepsOrder : List (List Entry) → Pass → Type 0
+KeepsOrder lists p = part_of p.seat.number (chronicle lists) ≡ (view_of p).store.entries
 
 -- The trees that a pass's Make and Find entries name in the chronicle of these lists are, in order, those that its own entries tell; and
 -- so are those of its Roots.

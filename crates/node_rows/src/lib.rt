@@ -27,7 +27,7 @@ pub use law::{
 };
 pub use places::{
     base_word, birth_word, bucket_word, claim_word, free_count_word, free_place_word, in_use_word,
-    next_word, row_word,
+    next_word, row_word, word_in,
 };
 pub use reading::{load_root, read_argument, read_word, store_root, store_root_count};
 pub use root_words::{root_count_word, root_word};

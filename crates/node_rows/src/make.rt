@@ -8,7 +8,9 @@ ghost use Rattle.node_rows.specs.Passes.{IsStore, IsPass, IsOut};
 ghost use Rattle.node_rows.specs.Told.{Tells};
 ghost use Rattle.node_rows.specs.Opening.{UpTo, IsNew, IsFirst};
 
-use crate::places::{base_word, free_count_word, free_place_word, in_use_word, row_width};
+use crate::places::{
+    base_word, first_row, free_count_word, free_place_word, in_use_word, row_size, row_width,
+};
 use crate::rule::{Deal, NodeRows};
 use crate::store::{Last, Pass, Store};
 use busy_forbidden::{Seat, Table};
@@ -107,6 +109,8 @@ fn first_pass(alloc: Global, sizes: &Sizes) -> Result<(Store, Pass), Memory>
     let store = Store {
         table,
         sizes: *sizes,
+        first_row: first_row(sizes),
+        row_size: row_size(sizes),
     };
     let seat = Seat {
         seat,

@@ -4,6 +4,7 @@ ghost use Rattle.store_core.specs.declared.view.Place.TheVariants.{Base, FreeCou
 ghost use Rattle.store_core.specs.Machine.{widest};
 ghost use Rattle.store_core.specs.Shown.{index_of, in_table, total};
 
+use crate::store::Store;
 use store_core::Sizes;
 
 fn first_word(sizes: &Sizes) -> usize
@@ -73,6 +74,25 @@ pub(crate) fn row_width(sizes: &Sizes) -> usize
     }
 }
 
+// The word where the rows begin.
+pub(crate) fn first_row(sizes: &Sizes) -> usize
+    requires { total sizes.now < 2 ^ 62 }
+    ensures { result ≡ 1 + 2 * sizes.now.seats + 4 + sizes.now.rows + sizes.now.buckets }
+{
+    first_word(sizes) + 4 + sizes.rows as usize + sizes.buckets as usize
+}
+
+// How many words a row has.
+pub(crate) fn row_size(sizes: &Sizes) -> usize
+    ensures { result ≡ widest sizes.now + 4 }
+{
+    if sizes.arity < 2 {
+        6
+    } else {
+        sizes.arity as usize + 4
+    }
+}
+
 // Where a row begins.
 fn row_start(sizes: &Sizes, row: u64) -> usize
     requires { (total sizes.now < 2 ^ 62) × (row < sizes.now.rows) }
@@ -93,6 +113,16 @@ pub fn row_word(sizes: &Sizes, row: u64, k: usize) -> usize
     ensures there { in_table sizes.now (RowWord row k) ≡ true }
 {
     row_start(sizes, row) + k
+}
+
+/// The same word of a row, by what the store has worked out once.
+#[inline]
+pub fn word_in(store: &Store, row: u64, k: usize) -> usize
+    requires { (total store.now.sizes < 2 ^ 62) × (row < store.now.sizes.rows) × (k < widest store.now.sizes + 2) }
+    ensures word { result ≡ index_of store.now.sizes (RowWord row k) }
+    ensures there { in_table store.now.sizes (RowWord row k) ≡ true }
+{
+    store.first_row + row as usize * store.row_size + k
 }
 
 /// The birth number of a row.

@@ -1,6 +1,7 @@
 //! A store, its passes, and their accesses.
-ghost use Rattle.std.specs.Prelude.{◌≡◌, IfOk, IfErr, MatchResult, Err, length};
+ghost use Rattle.std.specs.Prelude.{◌≡◌, ◌+◌, ◌*◌, IfOk, IfErr, MatchResult, Err, length};
 ghost use Rattle.lock_core.specs.declared.parts.Phase.TheVariants.{Shared};
+ghost use Rattle.store_core.specs.Machine.{widest};
 ghost use Rattle.store_core.specs.Steps.{AreLastRoots};
 ghost use Rattle.busy_forbidden.specs.Calls.{IsSame};
 ghost use Rattle.busy_forbidden.specs.Entries.{ShowsShared};
@@ -20,6 +21,11 @@ use store_core::Sizes;
 pub struct Store {
     pub table: Table<NodeRows>,
     pub sizes: Sizes,
+    /// The word where the rows begin, and how many words a row has, worked out once, since each read of a row needs them.
+    pub first_row: usize,
+    pub row_size: usize,
+    ghost rows_begin: { first_row ≡ 1 + 2 * sizes.seats + 4 + sizes.rows + sizes.buckets },
+    ghost rows_are: { row_size ≡ widest sizes + 4 },
 }
 
 /// The last entry of a pass: its number, or the greatest that the pass had seen then.

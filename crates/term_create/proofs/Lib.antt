@@ -2,4 +2,5 @@ pub mod Whole
 pub mod Told
 pub mod Costs
 pub mod Reading
+pub mod Remainders
 pub mod Arguments

@@ -1,25 +1,31 @@
 //! What a creation asks for, where, and how it may end.
-ghost use Rattle.std.specs.Prelude.{◌≡◌, ◌+◌, ◌*◌, ◌<◌};
+ghost use Rattle.std.specs.Prelude.{◌≡◌, ◌+◌, ◌*◌, ◌<◌, get_or, length};
+ghost use Rattle.hash_buckets.specs.Spelled.{symbol_word};
+ghost use Rattle.store_core.specs.Calls.{words_of};
 ghost use Rattle.store_core.specs.Machine.{widest};
 ghost use Rattle.node_rows.specs.Rows.{names};
 ghost use Rattle.node_rows.specs.Passes.{IsStore};
+ghost use Rattle.node_rows.specs.Steps.{over};
 ghost use Rattle.term_create.specs.Fitting.{Fits};
 
 use node_rows::Store;
 use term_model::{Head, Row};
 
-/// A head over rows that is asked of a store, at the base of the pass, and the bucket of it; with the word where the rows of the store
-/// begin, and how many words a row has.
+/// A head over rows that is asked of a store, at the base of the pass, its symbol word, and the bucket of it; with the word where the
+/// rows of the store begin, and how many words a row has.
 #[derive(Drop)]
 pub(crate) struct Asked<'a> {
     pub(crate) store: &'a Store,
     pub(crate) head: Head,
     pub(crate) args: &'a [Row],
+    pub(crate) symbol: u64,
     pub(crate) base: u64,
     pub(crate) place: u64,
     pub(crate) first_row: usize,
     pub(crate) row_size: usize,
     ghost at: { IsStore store.now.table.shared.table_id store.now.table.shared.key store.now.sizes },
+    ghost symbol_is: { symbol ≡ symbol_word head },
+    ghost second: { length args.now ≡ get_or (words_of (over head (names args.now))) 1 0 },
     ghost fits: { Fits store.now.sizes head (names args.now) },
     ghost within: { place < store.now.sizes.buckets },
     ghost rows_begin: { first_row ≡ 1 + 2 * store.now.sizes.seats + 4 + store.now.sizes.rows + store.now.sizes.buckets },

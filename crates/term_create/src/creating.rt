@@ -18,11 +18,11 @@ ghost use Rattle.term_create.specs.Created.{MayCreate, NotesOne, Gets, KeepsCaus
 use crate::asked::{Asked, Full, Noted, Walk};
 use crate::counting::Steps;
 use crate::making::{draw_row, publish_row};
-use crate::places::{first_row, row_size};
 use crate::telling::told_of;
 use crate::walking::walk;
 use crate::words::bucket_of;
 use busy_forbidden::Seat;
+use hash_buckets::symbol_word;
 use node_rows::{NodeRows, Pass, Store, begin, bucket_word};
 use std::marker::Brand;
 use std::sync::ledger::{Blank, Ledger};
@@ -61,14 +61,25 @@ fn create_from<L: Ledger>(
     if let Some(noted) = walk(asked, seat, steps, whole) {
         return Ok(noted);
     }
-    match draw_row(asked, seat, steps, from) {
-        Ok(drawn) => Ok(publish_row(asked, seat, steps, drawn)),
+    // What is asked is laid into memory here alone, so that a walk keeps it in registers.
+    let aside = Asked {
+        store: asked.store,
+        head: asked.head,
+        args: asked.args,
+        symbol: asked.symbol,
+        base: asked.base,
+        place: asked.place,
+        first_row: asked.first_row,
+        row_size: asked.row_size,
+    };
+    match draw_row(&aside, seat, steps, from) {
+        Ok(drawn) => Ok(publish_row(&aside, seat, steps, drawn)),
         Err(full) => Err(full),
     }
 }
 
 // Creates a head over rows, and says what the own view is then.
-#[tactic(auto, using(crate::proofs::Whole::words_fit))]
+#[tactic(auto, using(crate::proofs::Whole::words_fit, crate::proofs::Arguments::second_word))]
 #[inline(always)]
 fn create_noted<L: Ledger>(
     store: &Store,
@@ -97,14 +108,16 @@ fn create_noted<L: Ledger>(
         WasFilled store.now.sizes pass.old.seat.number pass.old.seat.seat.me.0 head (names args.now)) }
     ensures cost { steps.new ≤ steps.old + (widest store.now.sizes + 8) * (store.now.sizes.rows + 2) }
 {
+    let symbol = symbol_word(head);
     let asked = Asked {
         store,
         head,
         args,
+        symbol,
         base: pass.base,
-        place: bucket_of(head, args, pass.in_use),
-        first_row: first_row(&store.sizes),
-        row_size: row_size(&store.sizes),
+        place: bucket_of(symbol, head, args, pass.in_use),
+        first_row: store.first_row,
+        row_size: store.row_size,
     };
     let word = bucket_word(&store.sizes, asked.place);
     steps.tick();

@@ -34,7 +34,7 @@ fn fill_row<L: Ledger>(
         (Linking (content asked.now) drawn.from drawn.index drawn.row) }
     ensures cost { steps.new ≤ steps.old + (widest asked.now.store.now.sizes + 3) }
 {
-    let count = word_count(asked.head, asked.args);
+    let count = word_count(asked);
     for k in 0..count {
         fill_one(asked, seat, steps, drawn, k);
     }

@@ -2,29 +2,9 @@
 ghost use Rattle.std.specs.Prelude.{◌≡◌, ◌<◌, ◌+◌, ◌*◌, ◌^◌, true};
 ghost use Rattle.store_core.specs.declared.view.Place.TheVariants.{RowWord, Birth, Next};
 ghost use Rattle.store_core.specs.Machine.{widest};
-ghost use Rattle.store_core.specs.Shown.{index_of, in_table, total};
+ghost use Rattle.store_core.specs.Shown.{index_of, in_table};
 
 use crate::asked::Asked;
-use store_core::Sizes;
-
-/// The word where the rows begin.
-pub(crate) fn first_row(sizes: &Sizes) -> usize
-    requires { total sizes.now < 2 ^ 62 }
-    ensures { result ≡ 1 + 2 * sizes.now.seats + 4 + sizes.now.rows + sizes.now.buckets }
-{
-    1 + 2 * sizes.seats as usize + 4 + sizes.rows as usize + sizes.buckets as usize
-}
-
-/// How many words a row has.
-pub(crate) fn row_size(sizes: &Sizes) -> usize
-    ensures { result ≡ widest sizes.now + 4 }
-{
-    if sizes.arity < 2 {
-        6
-    } else {
-        sizes.arity as usize + 4
-    }
-}
 
 // Where a row begins.
 #[inline(always)]

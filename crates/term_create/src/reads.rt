@@ -13,7 +13,7 @@ ghost use Rattle.node_rows.specs.Knowing.{KnowsTree};
 ghost use Rattle.term_create.specs.Read.{Reads, ReadsChild, HasArgument, word, head_words};
 
 use hash_buckets::INTEGER;
-use node_rows::{Pass, Store, read_argument, read_word, row_of, row_word};
+use node_rows::{Pass, Store, read_argument, read_word, row_of, word_in};
 use store_core::Sizes;
 use term_model::{Head, Row, Symbol};
 
@@ -28,7 +28,7 @@ fn place_of(store: &Store, pass: &Pass, row: Row, k: usize) -> usize
     ensures word { result ≡ index_of store.now.sizes (RowWord row.0 k) }
     ensures there { in_table store.now.sizes (RowWord row.0 k) ≡ true }
 {
-    row_word(&store.sizes, row.0 as u64, k)
+    word_in(store, row.0 as u64, k)
 }
 
 // Loads word k of a row that the pass may use.

@@ -42,7 +42,7 @@ pub(crate) fn compare_one<L: Ledger>(
 {
     steps.tick();
     let found = go_load(&asked.store.table, seat, word_place(asked, at - 1, k));
-    if found == word_at(asked.head, asked.args, k) {
+    if found == word_at(asked, k) {
         return None;
     }
     Some(found)
@@ -205,12 +205,7 @@ pub(crate) fn fill_one<L: Ledger>(
 {
     steps.tick();
     let word = word_place(asked, drawn.row, k);
-    go_store(
-        &asked.store.table,
-        seat,
-        word,
-        word_at(asked.head, asked.args, k),
-    );
+    go_store(&asked.store.table, seat, word, word_at(asked, k));
 }
 
 // Stores the birth number of the drawn row.

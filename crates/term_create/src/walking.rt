@@ -33,7 +33,7 @@ fn compare_row<L: Ledger>(
         (IsOther seat.old.seat.me.0 seat.new.seat.me.0 (content asked.now) walk.drawn walk.from walk.old at) }
     ensures cost { steps.new ≤ steps.old + (widest asked.now.store.now.sizes + 2) }
 {
-    let count = word_count(asked.head, asked.args);
+    let count = word_count(asked);
     for k in 0..count {
         if compare_one(asked, seat, steps, walk, at, k).is_some() {
             return false;

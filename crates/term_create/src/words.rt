@@ -1,59 +1,58 @@
 //! The words that a head over rows has in a row, and its bucket.
-ghost use Rattle.std.specs.Prelude.{◌≡◌, ◌<◌, ◌^◌, get_or, length};
+ghost use Rattle.std.specs.Prelude.{◌≡◌, ◌<◌, ◌%◌, get_or, length};
 ghost use Rattle.hash_buckets.specs.Hash.{mixed_all, hash_of};
+ghost use Rattle.hash_buckets.specs.Spelled.{symbol_word};
 ghost use Rattle.store_core.specs.Calls.{words_of, bucket};
 ghost use Rattle.node_rows.specs.Rows.{names};
 ghost use Rattle.node_rows.specs.Steps.{over};
+ghost use Rattle.term_create.specs.Stage.{content};
 
-use hash_buckets::{OFFSET_BASIS, symbol_word, with_word};
+use crate::asked::Asked;
+use hash_buckets::{OFFSET_BASIS, with_word};
 use term_model::{Head, Row};
 
 /// How many words there are.
-pub(crate) fn word_count(head: Head, args: &[Row]) -> usize
-    requires { length (names args.now) < 2 ^ 62 }
-    ensures { result ≡ length (words_of (over head (names args.now))) }
+#[tactic(auto, using(crate::proofs::Arguments::as_many_names))]
+#[inline]
+pub(crate) fn word_count(asked: &Asked<'_>) -> usize
+    ensures { result ≡ length (words_of (content asked.now)) }
+{
+    let count = asked.args.len();
+    match asked.head {
+        Head::Int(_) => 3,
+        Head::App(_) => count + 2,
+        Head::Nil => count + 2,
+        Head::Cons => count + 2,
+    }
+}
+
+// What stands after the first two words.
+#[inline]
+fn later_word(head: Head, args: &[Row], k: usize) -> u64
+    requires later { 1 < k }
+    requires below { k < length (words_of (over head (names args.now))) }
+    ensures { result ≡ get_or (words_of (over head (names args.now))) k 0 }
 {
     match head {
-        Head::App(_) | Head::Cons => args.len() + 2,
-        Head::Int(_) => 3,
-        Head::Nil => 2,
+        Head::Int(value) => value,
+        Head::App(_) => args[k - 2].0 as u64,
+        Head::Nil => 0,
+        Head::Cons => args[k - 2].0 as u64,
     }
 }
 
 /// One of them.
-pub(crate) fn word_at(head: Head, args: &[Row], k: usize) -> u64
-    requires { k < length (words_of (over head (names args.now))) }
-    ensures { result ≡ get_or (words_of (over head (names args.now))) k 0 }
+#[inline]
+pub(crate) fn word_at(asked: &Asked<'_>, k: usize) -> u64
+    requires { k < length (words_of (content asked.now)) }
+    ensures { result ≡ get_or (words_of (content asked.now)) k 0 }
 {
-    match head {
-        Head::App(symbol) => {
-            if k == 0 {
-                u64::from(symbol.0)
-            } else if k == 1 {
-                args.len() as u64
-            } else {
-                args[k - 2].0 as u64
-            }
-        }
-        Head::Int(value) => {
-            if k == 0 {
-                1 << 32
-            } else if k == 1 {
-                0
-            } else {
-                value
-            }
-        }
-        Head::Nil => { if k == 0 { (1 << 32) + 1 } else { 0 } }
-        Head::Cons => {
-            if k == 0 {
-                (1 << 32) + 2
-            } else if k == 1 {
-                2
-            } else {
-                args[k - 2].0 as u64
-            }
-        }
+    if k == 0 {
+        asked.symbol
+    } else if k == 1 {
+        asked.args.len() as u64
+    } else {
+        later_word(asked.head, asked.args, k)
     }
 }
 
@@ -68,24 +67,40 @@ fn with_rows(first: u64, rows: &[Row]) -> u64
     hash
 }
 
-// The hash of a head over rows.
+// The hash of a head over rows, by its symbol word.
 #[tactic(auto, unfolding(hash_buckets::specs::Hash::hash_of))]
-fn hash(head: Head, args: &[Row]) -> u64
+fn hash(symbol: u64, head: Head, args: &[Row]) -> u64
+    requires { symbol ≡ symbol_word head }
     ensures { result ≡ hash_of head (names args.now) }
 {
-    let first = with_word(OFFSET_BASIS, symbol_word(head));
+    let first = with_word(OFFSET_BASIS, symbol);
     match head {
         Head::Int(value) => with_word(first, value),
         Head::App(_) | Head::Nil | Head::Cons => with_rows(first, args),
     }
 }
 
+// The remainder. A power of two, as the number of buckets mostly is, has it in the low bits, which spares a division.
+#[tactic(auto, using(crate::proofs::Remainders::low_bits))]
+fn remainder(hash: u64, in_use: u64) -> u64
+    requires used { 0 < in_use }
+    ensures { result ≡ hash % in_use }
+{
+    let power = 1 << in_use.ilog2();
+    if in_use == power {
+        hash & (power - 1)
+    } else {
+        hash % in_use
+    }
+}
+
 /// The bucket, of those in use.
 #[tactic(auto, unfolding(hash_buckets::specs::Hash::bucket_of))]
-pub(crate) fn bucket_of(head: Head, args: &[Row], in_use: u64) -> u64
+pub(crate) fn bucket_of(symbol: u64, head: Head, args: &[Row], in_use: u64) -> u64
+    requires symbol { symbol ≡ symbol_word head }
     requires used { 0 < in_use }
     ensures bucket { result ≡ bucket (over head (names args.now)) in_use }
     ensures below { result < in_use }
 {
-    hash(head, args) % in_use
+    remainder(hash(symbol, head, args), in_use)
 }

@@ -1,7 +1,7 @@
 use Rattle.term_create.proofs.Reading.{uses_below}
 use Rattle.term_create.proofs.reads.place_of.Goals as goal
 
-pub row_word-requires : goal.row_word-requires
-row_word-requires c =
+pub word_in-requires : goal.word_in-requires
+word_in-requires c =
     let ready = c.requires.inside.ready in
     (c.requires.inside.store.small, uses_below c.args.store.now.sizes c.args.pass.now.seat.seat.me.0.store c.args.row.0 ready.rest ready.known c.requires.uses, c.requires.within)
