@@ -8,6 +8,7 @@ pub mod Chains
 pub mod Writes
 pub mod Left
 pub mod Ending
+pub mod Compares
 pub mod Begins
 pub mod Sweeping
 pub mod Whole

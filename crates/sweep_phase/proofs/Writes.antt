@@ -24,6 +24,7 @@ use Rattle.node_rows.specs.Steps.{with_store}
 use Rattle.sweep_phase.specs.declared.sweep.Sweep.{Sweep}
 use Rattle.sweep_phase.specs.Gathered.{sizes_of, loads_of, IsAlone, StaysSeat}
 use Rattle.sweep_phase.specs.Read.{stays_itself, stays_in_turn}
+use Rattle.sweep_phase.specs.Compared.{told_by}
 use Rattle.sweep_phase.specs.Stored.{seen_of, Stores, StoresMore, is_next, is_head, is_place, is_number, ArePlaced}
 use Rattle.sweep_phase.proofs.Values.{same_itself}
 use Rattle.sweep_phase.proofs.Loads.{alone_on, stays_by}
@@ -128,20 +129,27 @@ module _ (w u v : Place → ℕ) (row : ℕ) (others : (p : Place) → same_plac
   pub next_others : ((p : Place) → is_next p ≡ false → u p ≡ w p) → (p : Place) → is_next p ≡ false → v p ≡ w p
   next_others f p is = others p (next_apart p row is) ∙ f p is
 
-  pub nexts_more : (marks : List Bool) (nexts : List ℕ) → (IsMarked marks row → v (Next row) ≡ get_or nexts row 0) → ((r : ℕ) → r < row → IsMarked marks r → u (Next r) ≡ get_or nexts r 0) → (r : ℕ) → r < row + 1 → IsMarked marks r → v (Next r) ≡ get_or nexts r 0
-  nexts_more marks nexts is f r l m = ⊎_elim
+  pub nexts_more : (marks : List Bool) (cells : List ℕ) → (IsMarked marks row → v (Next row) ≡ told_by (u (Next row)) (get_or cells row 0)) → u (Next row) ≡ w (Next row)
+      → ((r : ℕ) → r < row → IsMarked marks r → u (Next r) ≡ told_by (w (Next r)) (get_or cells r 0)) → (r : ℕ) → r < row + 1 → IsMarked marks r → v (Next r) ≡ told_by (w (Next r)) (get_or cells r 0)
+  nexts_more marks cells is was f r l m = ⊎_elim
       (λ less. others (Next r) (ne_eqb r row (λ same. let a : r ≡ row = same in omega arith)) ∙ f r less m)
-      (λ past. let a : row ≡ r = omega arith in subst (λ (q : ℕ). IsMarked marks q → v (Next q) ≡ get_or nexts q 0) a is m) (cases_lt r row)
+      (λ past. let a : row ≡ r = omega arith in subst (λ (q : ℕ). IsMarked marks q → v (Next q) ≡ told_by (w (Next q)) (get_or cells q 0)) a (λ k. is k ∙ ap (λ (x : ℕ). told_by x (get_or cells row 0)) was) m) (cases_lt r row)
+
+  pub nexts_rest : ((r : ℕ) → row ≤ r → u (Next r) ≡ w (Next r)) → (r : ℕ) → row + 1 ≤ r → v (Next r) ≡ w (Next r)
+  nexts_rest f r l = others (Next r) (ne_eqb r row (λ same. let a : r ≡ row = same in omega arith)) ∙ f r (omega arith)
 
 -- one head more
 module _ (w u v : Place → ℕ) (b n used : ℕ) (below : b < used) (e : v ≡ write u (Bucket b) n) where
   pub head_others : ((p : Place) → is_head used p ≡ false → u p ≡ w p) → (p : Place) → is_head used p ≡ false → v p ≡ w p
   head_others f p is = written_other v u (Bucket b) n e p (head_apart used p b below is) ∙ f p is
 
-  pub heads_more : (heads : List ℕ) → n ≡ get_or heads b 0 → ((c : ℕ) → c < b → u (Bucket c) ≡ get_or heads c 0) → (c : ℕ) → c < b + 1 → v (Bucket c) ≡ get_or heads c 0
-  heads_more heads is f c l = ⊎_elim
+  pub heads_more : (cells : List ℕ) → n ≡ told_by (w (Bucket b)) (get_or cells b 0) → ((c : ℕ) → c < b → u (Bucket c) ≡ told_by (w (Bucket c)) (get_or cells c 0)) → (c : ℕ) → c < b + 1 → v (Bucket c) ≡ told_by (w (Bucket c)) (get_or cells c 0)
+  heads_more cells is f c l = ⊎_elim
       (λ less. written_other v u (Bucket b) n e (Bucket c) (ne_eqb c b (λ same. let a : c ≡ b = same in omega arith)) ∙ f c less)
-      (λ past. let a : b ≡ c = omega arith in subst (λ (q : ℕ). v (Bucket q) ≡ get_or heads q 0) a (written_here v u (Bucket b) n e ∙ is)) (cases_lt c b)
+      (λ past. let a : b ≡ c = omega arith in subst (λ (q : ℕ). v (Bucket q) ≡ told_by (w (Bucket q)) (get_or cells q 0)) a (written_here v u (Bucket b) n e ∙ is)) (cases_lt c b)
+
+  pub heads_rest : ((c : ℕ) → b ≤ c → u (Bucket c) ≡ w (Bucket c)) → (c : ℕ) → b + 1 ≤ c → v (Bucket c) ≡ w (Bucket c)
+  heads_rest f c l = written_other v u (Bucket b) n e (Bucket c) (ne_eqb c b (λ same. let a : c ≡ b = same in omega arith)) ∙ f c (omega arith)
 
 -- one free place more
 pub placed_none : (place : ℕ → ℕ) (marks : List Bool) → ArePlaced place marks 0 0
@@ -174,6 +182,9 @@ module _ (u v : Place → ℕ) (marks : List Bool) (n k : ℕ) (e : v ≡ write 
     all = λ r l free. ⊎_elim (λ less. let t = h.all r less free in (t.0, (let a = t.1 in omega arith), before t.0 t.1 ∙ t.2))
         (λ past. let s : n ≡ r = omega arith in (k, omega arith, here ∙ s)) (cases_lt r n);
   }
+
+  pub place_later : (i : ℕ) → k + 1 ≤ i → v (FreePlace i) ≡ u (FreePlace i)
+  place_later i l = written_other v u (FreePlace k) n e (FreePlace i) (ne_eqb i k (λ same. let a : i ≡ k = same in omega arith))
 
   pub place_others : (w : Place → ℕ) → ((p : Place) → is_place p ≡ false → u p ≡ w p) → (p : Place) → is_place p ≡ false → v p ≡ w p
   place_others w f p is = written_other v u (FreePlace k) n e p (place_apart p k is) ∙ f p is

@@ -5,4 +5,5 @@ pub mod Read
 pub mod Chained
 pub mod Stored
 pub mod Collected
+pub mod Compared
 pub mod Now

@@ -15,13 +15,15 @@ ghost use Rattle.node_rows.specs.Steps.{Known};
 ghost use Rattle.sweep_phase.specs.Gathered.{sizes_of, words_of, Gathers, HasGathered, StaysSeat, IsWorn, IsAlone};
 ghost use Rattle.sweep_phase.specs.Stored.{Stores, StoresMore, seen_of, is_number};
 ghost use Rattle.sweep_phase.specs.Collected.{Collects, HasKept, IsWorkedOut, HasStored, HasSwept, Ends, EndsSo};
+ghost use Rattle.sweep_phase.specs.Compared.{IsCompared};
 
 use crate::beginning::begin;
 use crate::chaining::chain_all;
+use crate::comparing::compare_all;
 use crate::counting::{buckets_after, count_marked};
 use crate::loading::load_all;
 use crate::marking::mark_all;
-use crate::storing::{put, store_heads, store_nexts, store_places};
+use crate::storing::{put, put_over, store_heads, store_nexts, store_places};
 use crate::sweep::{Kept, Sweep, Worn};
 use busy_forbidden::Seat;
 use mark_phase::Marks;
@@ -67,7 +69,7 @@ fn work_out(
     Kept { live, buckets }
 }
 
-// Stores the chains, the heads and the free places: how many these are.
+// Stores the next words, the heads and the free places that change: how many free places there are.
 fn store_lists(
     sweep: &Sweep<'_>,
     seat: &mut Seat<NodeRows>,
@@ -76,20 +78,30 @@ fn store_lists(
     heads: &[u32],
     kept: Kept,
 ) -> u32
-    requires out { IsWorkedOut sweep.now seat.old.seat seat.old.number seat.old.seats marks.now nexts.now heads.now kept.live kept.buckets }
+    requires compared { IsCompared sweep.now seat.old.seat seat.old.number seat.old.seats marks.now nexts.now heads.now kept.live kept.buckets }
     requires nexts { length nexts.now ≡ (sizes_of sweep.now).rows }
     requires heads { length heads.now ≡ (sizes_of sweep.now).buckets }
     ensures stays { StaysSeat seat.old.seat seat.old.number seat.old.seats seat.new.seat seat.new.number seat.new.seats }
     ensures stored { HasStored sweep.now seat.new.seat seat.new.number seat.new.seats marks.now kept.live kept.buckets result }
+    ensures count { (seen_of seat.new.seat FreeCount ≡ sweep.now.count) × HasSeen seat.new.seat.me.0.store FreeCount }
+    ensures in_use { (seen_of seat.new.seat InUse ≡ seat.old.seat.me.0.store.in_use) × HasSeen seat.new.seat.me.0.store InUse }
 {
     store_nexts(sweep, seat, marks, nexts);
     store_heads(sweep, seat, heads, kept.buckets);
-    store_places(sweep, seat, marks)
+    store_places(sweep, seat, marks, nexts)
 }
 
-// Stores the free count, the buckets in use and the base.
-fn store_numbers(sweep: &Sweep<'_>, seat: &mut Seat<NodeRows>, count: u32, buckets: u32)
+// Stores the free count and the buckets in use, where they change, and the base.
+fn store_numbers(
+    sweep: &Sweep<'_>,
+    seat: &mut Seat<NodeRows>,
+    count: u32,
+    in_use: u32,
+    buckets: u32,
+)
     requires at { Stores sweep.now seat.old.seat seat.old.number seat.old.seats }
+    requires count { (seen_of seat.old.seat FreeCount ≡ sweep.now.count) × HasSeen seat.old.seat.me.0.store FreeCount }
+    requires in_use { (seen_of seat.old.seat InUse ≡ in_use) × HasSeen seat.old.seat.me.0.store InUse }
     ensures at { Stores sweep.now seat.new.seat seat.new.number seat.new.seats }
     ensures more { StoresMore seat.old.seat seat.old.number seat.old.seats seat.new.seat seat.new.number seat.new.seats }
     ensures storing { is_storing seat.new.seat.me.0.store.call ≡ true }
@@ -102,28 +114,33 @@ fn store_numbers(sweep: &Sweep<'_>, seat: &mut Seat<NodeRows>, count: u32, bucke
     let base = sweep.base + sweep.claim + 1;
     let count = u64::from(count);
     let buckets = u64::from(buckets);
-    put(sweep, seat, free_count_word(sizes), Place::FreeCount, count);
-    put(sweep, seat, in_use_word(sizes), Place::InUse, buckets);
+    let in_use = u64::from(in_use);
+    let word = free_count_word(sizes);
+    put_over(sweep, seat, word, Place::FreeCount, sweep.count, count);
+    let word = in_use_word(sizes);
+    put_over(sweep, seat, word, Place::InUse, in_use, buckets);
     put(sweep, seat, base_word(sizes), Place::Base, base);
 }
 
-// Stores what was worked out, but for the claim.
+// Stores what changes of what was worked out, but for the claim.
 fn store_all(
     sweep: &Sweep<'_>,
     seat: &mut Seat<NodeRows>,
     marks: &Marks,
     nexts: &[u32],
     heads: &[u32],
+    in_use: u32,
     kept: Kept,
 )
-    requires out { IsWorkedOut sweep.now seat.old.seat seat.old.number seat.old.seats marks.now nexts.now heads.now kept.live kept.buckets }
+    requires in_use { in_use ≡ seat.old.seat.me.0.store.in_use }
+    requires compared { IsCompared sweep.now seat.old.seat seat.old.number seat.old.seats marks.now nexts.now heads.now kept.live kept.buckets }
     requires nexts { length nexts.now ≡ (sizes_of sweep.now).rows }
     requires heads { length heads.now ≡ (sizes_of sweep.now).buckets }
     ensures stays { StaysSeat seat.old.seat seat.old.number seat.old.seats seat.new.seat seat.new.number seat.new.seats }
     ensures swept { HasSwept sweep.now seat.new.seat seat.new.number seat.new.seats marks.now kept.live kept.buckets }
 {
     let count = store_lists(sweep, seat, marks, nexts, heads, kept);
-    store_numbers(sweep, seat, count, kept.buckets);
+    store_numbers(sweep, seat, count, in_use, kept.buckets);
 }
 
 // Ends the collection.
@@ -153,7 +170,8 @@ fn sweep_all(
 {
     load_and_mark(sweep, seat, marks);
     let kept = work_out(sweep, seat, marks, nexts, heads, in_use);
-    store_all(sweep, seat, marks, nexts, heads, kept);
+    compare_all(sweep, seat, marks, nexts, heads, kept);
+    store_all(sweep, seat, marks, nexts, heads, in_use, kept);
     end(sweep, seat, marks, kept);
     kept
 }

@@ -4,6 +4,7 @@
 mod beginning;
 mod chaining;
 mod collecting;
+mod comparing;
 mod counting;
 mod creating;
 mod loading;

@@ -1,6 +1,6 @@
 //! A collection's loads of words that it has loaded before.
 ghost use Rattle.std.specs.Prelude.{◌≡◌, ◌<◌, ◌≤◌, ◌+◌, true};
-ghost use Rattle.store_core.specs.declared.view.Place.TheVariants.{RowWord, RootCount, Root};
+ghost use Rattle.store_core.specs.declared.view.Place.TheVariants.{FreePlace, Bucket, RowWord, Next, RootCount, Root};
 ghost use Rattle.store_core.specs.Machine.{widest};
 ghost use Rattle.store_core.specs.Shown.{in_table, index_of};
 ghost use Rattle.store_core.specs.ByView.{IsLoaded};
@@ -10,7 +10,9 @@ ghost use Rattle.sweep_phase.specs.Gathered.{sizes_of, loads_of, words_of, HasGa
 use crate::loading::load;
 use crate::sweep::Sweep;
 use busy_forbidden::Seat;
-use node_rows::{NodeRows, root_count_word, root_word, row_word};
+use node_rows::{
+    NodeRows, bucket_word, free_place_word, next_word, root_count_word, root_word, row_word,
+};
 use store_core::Place;
 
 // Loads a word again.
@@ -87,4 +89,40 @@ pub(crate) fn child_of(sweep: &Sweep<'_>, seat: &mut Seat<NodeRows>, row: u32, j
     ensures value { result ≡ words_of seat.old.seat (RowWord row (j + 2)) }
 {
     row_word_of(sweep, seat, row, j + 2) as u32
+}
+
+/// The next word of a row.
+pub(crate) fn next_of(sweep: &Sweep<'_>, seat: &mut Seat<NodeRows>, row: u32) -> u64
+    requires at { HasGathered sweep.now seat.old.seat seat.old.number seat.old.seats }
+    requires below { row < (sizes_of sweep.now).rows }
+    ensures at { HasGathered sweep.now seat.new.seat seat.new.number seat.new.seats }
+    ensures again { LoadsAgain sweep.now seat.old.seat seat.old.number seat.old.seats seat.new.seat seat.new.number seat.new.seats }
+    ensures value { result ≡ words_of seat.old.seat (Next row) }
+{
+    let word = next_word(&sweep.store.sizes, u64::from(row));
+    reload(sweep, seat, word, Place::Next(row))
+}
+
+/// The head of a bucket.
+pub(crate) fn head_of(sweep: &Sweep<'_>, seat: &mut Seat<NodeRows>, b: u32) -> u64
+    requires at { HasGathered sweep.now seat.old.seat seat.old.number seat.old.seats }
+    requires below { b < (sizes_of sweep.now).buckets }
+    ensures at { HasGathered sweep.now seat.new.seat seat.new.number seat.new.seats }
+    ensures again { LoadsAgain sweep.now seat.old.seat seat.old.number seat.old.seats seat.new.seat seat.new.number seat.new.seats }
+    ensures value { result ≡ words_of seat.old.seat (Bucket b) }
+{
+    let word = bucket_word(&sweep.store.sizes, u64::from(b));
+    reload(sweep, seat, word, Place::Bucket(b))
+}
+
+/// The row in a free place that counts.
+pub(crate) fn place_of(sweep: &Sweep<'_>, seat: &mut Seat<NodeRows>, i: u32) -> u64
+    requires at { HasGathered sweep.now seat.old.seat seat.old.number seat.old.seats }
+    requires below { i < sweep.now.count }
+    ensures at { HasGathered sweep.now seat.new.seat seat.new.number seat.new.seats }
+    ensures again { LoadsAgain sweep.now seat.old.seat seat.old.number seat.old.seats seat.new.seat seat.new.number seat.new.seats }
+    ensures value { result ≡ words_of seat.old.seat (FreePlace i) }
+{
+    let word = free_place_word(&sweep.store.sizes, u64::from(i));
+    reload(sweep, seat, word, Place::FreePlace(i))
 }

@@ -1,4 +1,4 @@
-//! A collection's stores: of chains, buckets, free places and numbers.
+//! A collection's stores: of chains, buckets, free places and numbers, where they change.
 ghost use Rattle.std.specs.Prelude.{◌≡◌, ◌<◌, ◌≤◌, ◌+◌, ℕ, Bool, true, false, length, get_or};
 ghost use Rattle.store_core.specs.declared.view.Place.{Place};
 ghost use Rattle.store_core.specs.declared.view.Place.TheVariants.{FreePlace, Bucket, Next};
@@ -8,8 +8,10 @@ ghost use Rattle.store_core.specs.Steps.{is_stored, is_storing};
 ghost use Rattle.store_core.specs.Words.{same_place, write};
 ghost use Rattle.node_rows.specs.Collecting.{HasSeen};
 ghost use Rattle.sweep_phase.specs.Gathered.{sizes_of};
+ghost use Rattle.sweep_phase.specs.Compared.{told_by, unmarked_below};
 ghost use Rattle.sweep_phase.specs.Stored.{Stores, StoresMore, ArePlaced, seen_of, is_next, is_head, is_place};
 
+use crate::comparing::UNCHANGED;
 use crate::sweep::Sweep;
 use busy_forbidden::Seat;
 use mark_phase::Marks;
@@ -38,19 +40,60 @@ pub(crate) fn put(
     store_any(&sweep.store.table, seat, word, place, value);
 }
 
-// Stores the next word of a row.
-fn put_next(sweep: &Sweep<'_>, seat: &mut Seat<NodeRows>, row: u32, next: u32)
+/// Stores a word whose value was seen, unless it stays.
+pub(crate) fn put_over(
+    sweep: &Sweep<'_>,
+    seat: &mut Seat<NodeRows>,
+    word: usize,
+    place: Place,
+    old: u64,
+    value: u64,
+)
+    requires at { Stores sweep.now seat.old.seat seat.old.number seat.old.seats }
+    requires there { in_table (sizes_of sweep.now) place ≡ true }
+    requires stored { is_stored place ≡ true }
+    requires word { word ≡ index_of (sizes_of sweep.now) place }
+    requires seen { (seen_of seat.old.seat place ≡ old) × HasSeen seat.old.seat.me.0.store place }
+    ensures at { Stores sweep.now seat.new.seat seat.new.number seat.new.seats }
+    ensures more { StoresMore seat.old.seat seat.old.number seat.old.seats seat.new.seat seat.new.number seat.new.seats }
+    ensures has { HasSeen seat.new.seat.me.0.store place }
+    ensures words { seen_of seat.new.seat ≡ write (seen_of seat.old.seat) place value }
+{
+    if old == value {
+        return;
+    }
+    put(sweep, seat, word, place, value);
+}
+
+// Stores a word, unless its cell says that it stays.
+fn put_cell(sweep: &Sweep<'_>, seat: &mut Seat<NodeRows>, word: usize, place: Place, cell: u32)
+    requires at { Stores sweep.now seat.old.seat seat.old.number seat.old.seats }
+    requires there { in_table (sizes_of sweep.now) place ≡ true }
+    requires stored { is_stored place ≡ true }
+    requires word { word ≡ index_of (sizes_of sweep.now) place }
+    ensures at { Stores sweep.now seat.new.seat seat.new.number seat.new.seats }
+    ensures more { StoresMore seat.old.seat seat.old.number seat.old.seats seat.new.seat seat.new.number seat.new.seats }
+    ensures words { seen_of seat.new.seat ≡ write (seen_of seat.old.seat) place (told_by (seen_of seat.old.seat place) cell) }
+{
+    if cell == UNCHANGED {
+        return;
+    }
+    put(sweep, seat, word, place, u64::from(cell));
+}
+
+// Stores the next word of a row, unless its cell says that it stays.
+fn put_next(sweep: &Sweep<'_>, seat: &mut Seat<NodeRows>, row: u32, cell: u32)
     requires at { Stores sweep.now seat.old.seat seat.old.number seat.old.seats }
     requires below { row < (sizes_of sweep.now).rows }
     ensures at { Stores sweep.now seat.new.seat seat.new.number seat.new.seats }
     ensures more { StoresMore seat.old.seat seat.old.number seat.old.seats seat.new.seat seat.new.number seat.new.seats }
-    ensures words { seen_of seat.new.seat ≡ write (seen_of seat.old.seat) (Next row) next }
+    ensures words { seen_of seat.new.seat ≡ write (seen_of seat.old.seat) (Next row) (told_by (seen_of seat.old.seat (Next row)) cell) }
 {
     let word = next_word(&sweep.store.sizes, u64::from(row));
-    put(sweep, seat, word, Place::Next(row), u64::from(next));
+    put_cell(sweep, seat, word, Place::Next(row), cell);
 }
 
-// Stores the next word of a row that is marked.
+// Stores the next word of a row that is marked, where it changes.
 fn store_next(sweep: &Sweep<'_>, seat: &mut Seat<NodeRows>, marks: &Marks, nexts: &[u32], row: u32)
     requires at { Stores sweep.now seat.old.seat seat.old.number seat.old.seats }
     requires marks { length marks.now ≡ (sizes_of sweep.now).rows }
@@ -58,7 +101,7 @@ fn store_next(sweep: &Sweep<'_>, seat: &mut Seat<NodeRows>, marks: &Marks, nexts
     requires below { row < (sizes_of sweep.now).rows }
     ensures at { Stores sweep.now seat.new.seat seat.new.number seat.new.seats }
     ensures more { StoresMore seat.old.seat seat.old.number seat.old.seats seat.new.seat seat.new.number seat.new.seats }
-    ensures next { IsMarked marks.now row → seen_of seat.new.seat (Next row) ≡ get_or nexts.now row 0 }
+    ensures next { IsMarked marks.now row → seen_of seat.new.seat (Next row) ≡ told_by (seen_of seat.old.seat (Next row)) (get_or nexts.now row 0) }
     ensures others { (p : Place) → same_place p (Next row) ≡ false → seen_of seat.new.seat p ≡ seen_of seat.old.seat p }
 {
     if !marks.has(Row(row)) {
@@ -67,7 +110,7 @@ fn store_next(sweep: &Sweep<'_>, seat: &mut Seat<NodeRows>, marks: &Marks, nexts
     put_next(sweep, seat, row, nexts[row as usize]);
 }
 
-/// Stores the next words of the marked rows.
+/// Stores the next words of the marked rows that change.
 pub(crate) fn store_nexts(
     sweep: &Sweep<'_>,
     seat: &mut Seat<NodeRows>,
@@ -79,7 +122,8 @@ pub(crate) fn store_nexts(
     requires nexts { length nexts.now ≡ (sizes_of sweep.now).rows }
     ensures at { Stores sweep.now seat.new.seat seat.new.number seat.new.seats }
     ensures more { StoresMore seat.old.seat seat.old.number seat.old.seats seat.new.seat seat.new.number seat.new.seats }
-    ensures nexts { (r : ℕ) → r < (sizes_of sweep.now).rows → IsMarked marks.now r → seen_of seat.new.seat (Next r) ≡ get_or nexts.now r 0 }
+    ensures nexts { (r : ℕ) → r < (sizes_of sweep.now).rows → IsMarked marks.now r
+        → seen_of seat.new.seat (Next r) ≡ told_by (seen_of seat.old.seat (Next r)) (get_or nexts.now r 0) }
     ensures others { (p : Place) → is_next p ≡ false → seen_of seat.new.seat p ≡ seen_of seat.old.seat p }
 {
     for row in 0..sweep.store.sizes.rows {
@@ -87,26 +131,26 @@ pub(crate) fn store_nexts(
     }
 }
 
-// Stores the head of a bucket.
-fn store_head(sweep: &Sweep<'_>, seat: &mut Seat<NodeRows>, b: u32, head: u32)
+// Stores the head of a bucket, unless its cell says that it stays.
+fn store_head(sweep: &Sweep<'_>, seat: &mut Seat<NodeRows>, b: u32, cell: u32)
     requires at { Stores sweep.now seat.old.seat seat.old.number seat.old.seats }
     requires below { b < (sizes_of sweep.now).buckets }
     ensures at { Stores sweep.now seat.new.seat seat.new.number seat.new.seats }
     ensures more { StoresMore seat.old.seat seat.old.number seat.old.seats seat.new.seat seat.new.number seat.new.seats }
-    ensures words { seen_of seat.new.seat ≡ write (seen_of seat.old.seat) (Bucket b) head }
+    ensures words { seen_of seat.new.seat ≡ write (seen_of seat.old.seat) (Bucket b) (told_by (seen_of seat.old.seat (Bucket b)) cell) }
 {
     let word = bucket_word(&sweep.store.sizes, u64::from(b));
-    put(sweep, seat, word, Place::Bucket(b), u64::from(head));
+    put_cell(sweep, seat, word, Place::Bucket(b), cell);
 }
 
-/// Stores the heads of so many buckets.
+/// Stores the heads of so many buckets, where they change.
 pub(crate) fn store_heads(sweep: &Sweep<'_>, seat: &mut Seat<NodeRows>, heads: &[u32], in_use: u32)
     requires at { Stores sweep.now seat.old.seat seat.old.number seat.old.seats }
     requires heads { length heads.now ≡ (sizes_of sweep.now).buckets }
     requires within { in_use ≤ (sizes_of sweep.now).buckets }
     ensures at { Stores sweep.now seat.new.seat seat.new.number seat.new.seats }
     ensures more { StoresMore seat.old.seat seat.old.number seat.old.seats seat.new.seat seat.new.number seat.new.seats }
-    ensures heads { (b : ℕ) → b < in_use → seen_of seat.new.seat (Bucket b) ≡ get_or heads.now b 0 }
+    ensures heads { (b : ℕ) → b < in_use → seen_of seat.new.seat (Bucket b) ≡ told_by (seen_of seat.old.seat (Bucket b)) (get_or heads.now b 0) }
     ensures others { (p : Place) → is_head in_use p ≡ false → seen_of seat.new.seat p ≡ seen_of seat.old.seat p }
 {
     for b in 0..in_use {
@@ -114,29 +158,37 @@ pub(crate) fn store_heads(sweep: &Sweep<'_>, seat: &mut Seat<NodeRows>, heads: &
     }
 }
 
-// Stores a row in a free place.
-fn put_place(sweep: &Sweep<'_>, seat: &mut Seat<NodeRows>, i: u32, row: u32)
+// Stores a row in a free place, unless its cell says that it is there.
+fn put_place(sweep: &Sweep<'_>, seat: &mut Seat<NodeRows>, i: u32, row: u32, cell: u32)
     requires at { Stores sweep.now seat.old.seat seat.old.number seat.old.seats }
     requires below { i < (sizes_of sweep.now).rows }
+    requires held { cell ≡ 4294967295 → (seen_of seat.old.seat (FreePlace i) ≡ row) × HasSeen seat.old.seat.me.0.store (FreePlace i) }
     ensures at { Stores sweep.now seat.new.seat seat.new.number seat.new.seats }
     ensures more { StoresMore seat.old.seat seat.old.number seat.old.seats seat.new.seat seat.new.number seat.new.seats }
     ensures has { HasSeen seat.new.seat.me.0.store (FreePlace i) }
     ensures words { seen_of seat.new.seat ≡ write (seen_of seat.old.seat) (FreePlace i) row }
 {
+    if cell == UNCHANGED {
+        return;
+    }
     let word = free_place_word(&sweep.store.sizes, u64::from(i));
     put(sweep, seat, word, Place::FreePlace(i), u64::from(row));
 }
 
-// Stores a row that isn't marked in the next free place: how many are filled.
+// Stores a row that isn't marked in the next free place, where it changes: how many are filled.
 fn store_place(
     sweep: &Sweep<'_>,
     seat: &mut Seat<NodeRows>,
     marks: &Marks,
+    cells: &[u32],
     row: u32,
     count: u32,
 ) -> u32
     requires at { Stores sweep.now seat.old.seat seat.old.number seat.old.seats }
     requires marks { length marks.now ≡ (sizes_of sweep.now).rows }
+    requires cells { length cells.now ≡ (sizes_of sweep.now).rows }
+    requires held { get_or marks.now row false ≡ false → get_or cells.now row 0 ≡ 4294967295
+        → (seen_of seat.old.seat (FreePlace count) ≡ row) × HasSeen seat.old.seat.me.0.store (FreePlace count) }
     requires below { row < (sizes_of sweep.now).rows }
     requires few { count ≤ row }
     requires placed { ArePlaced (λ i. seen_of seat.old.seat (FreePlace i)) marks.now row count }
@@ -145,20 +197,31 @@ fn store_place(
     ensures more { StoresMore seat.old.seat seat.old.number seat.old.seats seat.new.seat seat.new.number seat.new.seats }
     ensures placed { ArePlaced (λ i. seen_of seat.new.seat (FreePlace i)) marks.now (row + 1) result }
     ensures has { (i : ℕ) → i < result → HasSeen seat.new.seat.me.0.store (FreePlace i) }
-    ensures few { result ≤ row + 1 }
+    ensures few { (count ≤ result) × (result ≤ row + 1) }
+    ensures count { count ≡ unmarked_below marks.now row → result ≡ unmarked_below marks.now (row + 1) }
+    ensures later { (i : ℕ) → result ≤ i → seen_of seat.new.seat (FreePlace i) ≡ seen_of seat.old.seat (FreePlace i) }
     ensures others { (p : Place) → is_place p ≡ false → seen_of seat.new.seat p ≡ seen_of seat.old.seat p }
 {
     if marks.has(Row(row)) {
         return count;
     }
-    put_place(sweep, seat, count, row);
+    put_place(sweep, seat, count, row, cells[row as usize]);
     count + 1
 }
 
-/// Stores the rows that aren't marked in the free places, ascending: how many they are.
-pub(crate) fn store_places(sweep: &Sweep<'_>, seat: &mut Seat<NodeRows>, marks: &Marks) -> u32
+/// Stores the rows that aren't marked in the free places, ascending, where these change: how many they are.
+pub(crate) fn store_places(
+    sweep: &Sweep<'_>,
+    seat: &mut Seat<NodeRows>,
+    marks: &Marks,
+    cells: &[u32],
+) -> u32
     requires at { Stores sweep.now seat.old.seat seat.old.number seat.old.seats }
     requires marks { length marks.now ≡ (sizes_of sweep.now).rows }
+    requires cells { length cells.now ≡ (sizes_of sweep.now).rows }
+    requires held { (r : ℕ) → r < (sizes_of sweep.now).rows → get_or marks.now r false ≡ false → get_or cells.now r 0 ≡ 4294967295
+        → (seen_of seat.old.seat (FreePlace (unmarked_below marks.now r)) ≡ r)
+        × HasSeen seat.old.seat.me.0.store (FreePlace (unmarked_below marks.now r)) }
     ensures at { Stores sweep.now seat.new.seat seat.new.number seat.new.seats }
     ensures more { StoresMore seat.old.seat seat.old.number seat.old.seats seat.new.seat seat.new.number seat.new.seats }
     ensures placed { ArePlaced (λ i. seen_of seat.new.seat (FreePlace i)) marks.now (sizes_of sweep.now).rows result }
@@ -168,7 +231,7 @@ pub(crate) fn store_places(sweep: &Sweep<'_>, seat: &mut Seat<NodeRows>, marks: 
 {
     let mut count = 0;
     for row in 0..sweep.store.sizes.rows {
-        count = store_place(sweep, seat, marks, row, count);
+        count = store_place(sweep, seat, marks, cells, row, count);
     }
     count
 }

@@ -1,10 +1,11 @@
+use Rattle.std.proofs.Common.{sym, ◌∙◌}
 use Rattle.sweep_phase.specs.Gathered.{sizes_of}
 use Rattle.sweep_phase.specs.Read.{stays_in_turn}
 use Rattle.sweep_phase.proofs.Sweeping.{stored_on}
 use Rattle.sweep_phase.proofs.collecting.store_all.Goals as goal
 
 pub store_numbers-requires : goal.store_numbers-requires
-store_numbers-requires c = record { at = c.store_lists-count.ensures.stored.stores }
+store_numbers-requires c = let e = c.store_lists-count.ensures in record { at = e.stored.stores; count = e.count; in_use = (e.in_use.0 ∙ sym c.requires.in_use, e.in_use.1) }
 
 pub returns-clause-stays : goal.returns-clause-stays
 returns-clause-stays c = let a = c.args.seat.now in let b = c.store_lists-count.new.seat in let d = c.store_numbers.new.seat in

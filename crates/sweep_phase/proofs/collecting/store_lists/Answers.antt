@@ -1,13 +1,33 @@
+use Rattle.std.proofs.Common.{◌≡◌, ℕ, ◌<◌, false, get_or, refl, sym, ap, ◌∙◌}
+use Rattle.store_core.specs.declared.view.Place.TheVariants.{FreeCount, InUse, FreePlace, Bucket, Next}
+use Rattle.store_core.specs.declared.view.Call.{Call}
+use Rattle.store_core.specs.Steps.{loads}
+use Rattle.sweep_phase.specs.Loaded.{found}
 use Rattle.sweep_phase.specs.Gathered.{sizes_of}
 use Rattle.sweep_phase.specs.Read.{stays_in_turn}
-use Rattle.sweep_phase.proofs.Sweeping.{gathered_stores, lists_stored}
+use Rattle.sweep_phase.specs.Compared.{told_by, unmarked_below}
+use Rattle.sweep_phase.proofs.Compares.{gathered_seen, place_loaded}
+use Rattle.sweep_phase.proofs.Sweeping.{gathered_stores, seen_start, lists_stored}
 use Rattle.sweep_phase.proofs.collecting.store_lists.Goals as goal
 
 pub store_nexts-requires-clause-at : goal.store_nexts-requires-clause-at
-store_nexts-requires-clause-at c = let s = c.args.seat.now in gathered_stores c.args.sweep.now s.seat s.number s.seats c.requires.out.gathered
+store_nexts-requires-clause-at c = let s = c.args.seat.now in gathered_stores c.args.sweep.now s.seat s.number s.seats c.requires.compared.out.gathered
 
 pub store_nexts-requires-clause-marks : goal.store_nexts-requires-clause-marks
-store_nexts-requires-clause-marks c = c.requires.out.reached.size
+store_nexts-requires-clause-marks c = c.requires.compared.out.reached.size
+
+pub store_places-requires-clause-held : goal.store_places-requires-clause-held
+store_places-requires-clause-held c = λ r l not is.
+    let a = c.args.seat.now in
+    let h = c.requires.compared in
+    let g = h.out.gathered in
+    let k = unmarked_below c.args.marks.now r in
+    let p = h.notes.place r l not is in
+    let x = c.store_nexts.ensures in
+    let y = c.store_heads.ensures in (
+      y.others (FreePlace k) refl ∙ (x.others (FreePlace k) refl ∙ (seen_start c.args.sweep.now a.seat a.number a.seats g (FreePlace k) ∙ p.1)),
+      y.more.seen (FreePlace k) (x.more.seen (FreePlace k) (gathered_seen c.args.sweep.now a.seat a.number a.seats g (FreePlace k) (place_loaded c.args.sweep.now a.seat a.number a.seats g k p.0))),
+    )
 
 pub returns-clause-stays : goal.returns-clause-stays
 returns-clause-stays c = let a = c.args.seat.now in let b = c.store_nexts.new.seat in let d = c.store_heads.new.seat in let e = c.store_places.new.seat in
@@ -17,5 +37,28 @@ returns-clause-stays c = let a = c.args.seat.now in let b = c.store_nexts.new.se
 pub returns-clause-stored : goal.returns-clause-stored
 returns-clause-stored c = let a = c.args.seat.now in let b = c.store_nexts.new.seat in let d = c.store_heads.new.seat in let e = c.store_places.new.seat in
     let x = c.store_nexts.ensures in let y = c.store_heads.ensures in let z = c.store_places.ensures in
-    lists_stored c.args.sweep.now a.seat a.number a.seats c.args.marks.now c.args.nexts.now c.args.heads.now c.args.kept.live c.args.kept.buckets c.requires.out
-    b.seat b.number b.seats d.seat d.number d.seats e.seat e.number e.seats c.store_places.result x.more y.more z.more z.at x.nexts x.others y.heads y.others z.placed z.has z.few z.others
+    let h = c.requires.compared in
+    let start = seen_start c.args.sweep.now a.seat a.number a.seats h.out.gathered in
+    lists_stored c.args.sweep.now a.seat a.number a.seats c.args.marks.now h.new_nexts h.new_heads c.args.kept.live c.args.kept.buckets h.out
+    b.seat b.number b.seats d.seat d.number d.seats e.seat e.number e.seats c.store_places.result x.more y.more z.more z.at
+    (λ r l m. x.nexts r l m ∙ (ap (λ (n : ℕ). told_by n (get_or c.args.nexts.now r 0)) (start (Next r)) ∙ h.notes.next r l m)) x.others
+    (λ q l. y.heads q l ∙ (ap (λ (n : ℕ). told_by n (get_or c.args.heads.now q 0)) (x.others (Bucket q) refl ∙ start (Bucket q)) ∙ h.heads_are q l)) y.others z.placed z.has z.few z.others
+
+pub returns-clause-count : goal.returns-clause-count
+returns-clause-count c =
+    let a = c.args.seat.now in
+    let x = c.store_nexts.ensures in let y = c.store_heads.ensures in let z = c.store_places.ensures in
+    let g = c.requires.compared.out.gathered in (
+      z.others FreeCount refl ∙ (y.others FreeCount refl ∙ (x.others FreeCount refl ∙ (seen_start c.args.sweep.now a.seat a.number a.seats g FreeCount ∙ ap (λ (k : Call). found (loads k) FreeCount) g.gathers.call))),
+      z.more.seen FreeCount (y.more.seen FreeCount (x.more.seen FreeCount (gathered_seen c.args.sweep.now a.seat a.number a.seats g FreeCount g.all.count))),
+    )
+
+pub returns-clause-in_use : goal.returns-clause-in_use
+returns-clause-in_use c =
+    let a = c.args.seat.now in
+    let x = c.store_nexts.ensures in let y = c.store_heads.ensures in let z = c.store_places.ensures in
+    let h = c.requires.compared.out in
+    let g = c.requires.compared.out.gathered in (
+      z.others InUse refl ∙ (y.others InUse refl ∙ (x.others InUse refl ∙ (seen_start c.args.sweep.now a.seat a.number a.seats g InUse ∙ h.use_is))),
+      z.more.seen InUse (y.more.seen InUse (x.more.seen InUse (gathered_seen c.args.sweep.now a.seat a.number a.seats g InUse g.all.in_use))),
+    )

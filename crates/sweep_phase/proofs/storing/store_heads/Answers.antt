@@ -2,12 +2,13 @@ use Rattle.std.proofs.Common.{◌≡◌, ℕ, ◌+◌, ◌<◌, ◌≤◌, false
 use Rattle.store_core.specs.declared.view.Place.{Place}
 use Rattle.store_core.specs.declared.view.Place.TheVariants.{FreePlace, Bucket, Next}
 use Rattle.sweep_phase.specs.Gathered.{sizes_of}
+use Rattle.sweep_phase.specs.Compared.{told_by}
 use Rattle.sweep_phase.specs.Stored.{seen_of}
-use Rattle.sweep_phase.proofs.Writes.{stores_itself, stores_in_turn, heads_more, head_others}
+use Rattle.sweep_phase.proofs.Writes.{stores_itself, stores_in_turn, heads_more, heads_rest, head_others}
 use Rattle.sweep_phase.proofs.storing.store_heads.Goals as goal
 
 pub loop-b-init : goal.loop-b-init
-loop-b-init c = let s = c.args.seat.now in record { at = c.requires.at; more = stores_itself s.seat s.number s.seats; heads = λ b l. absurd (omega arith); others = λ p is. refl }
+loop-b-init c = let s = c.args.seat.now in record { at = c.requires.at; more = stores_itself s.seat s.number s.seats; heads = λ b l. absurd (omega arith); rest = λ b l. refl; others = λ p is. refl }
 
 pub loop-b-preserved : goal.loop-b-preserved
 loop-b-preserved c =
@@ -15,9 +16,12 @@ loop-b-preserved c =
     let t = c.loop-b.seat in
     let s = c.store_head.new.seat in
     let i = c.loop-b.invariant in
-    let e = c.store_head.ensures in record {
+    let e = c.store_head.ensures in
+    let cell = get_or c.args.heads.now c.loop-b.b 0 in
+    let n = told_by (seen_of t.seat (Bucket c.loop-b.b)) (get_or c.args.heads.now c.loop-b.b 0) in record {
       at = e.at;
       more = stores_in_turn a.seat a.number a.seats t.seat t.number t.seats s.seat s.number s.seats i.more e.more;
-      heads = heads_more (seen_of a.seat) (seen_of t.seat) (seen_of s.seat) c.loop-b.b (get_or c.args.heads.now c.loop-b.b 0) c.args.in_use (omega arith) e.words c.args.heads.now refl i.heads;
-      others = head_others (seen_of a.seat) (seen_of t.seat) (seen_of s.seat) c.loop-b.b (get_or c.args.heads.now c.loop-b.b 0) c.args.in_use (omega arith) e.words i.others;
+      heads = heads_more (seen_of a.seat) (seen_of t.seat) (seen_of s.seat) c.loop-b.b n c.args.in_use (omega arith) e.words c.args.heads.now (ap (λ (x : ℕ). told_by x cell) (i.rest c.loop-b.b (omega arith))) i.heads;
+      rest = heads_rest (seen_of a.seat) (seen_of t.seat) (seen_of s.seat) c.loop-b.b n c.args.in_use (omega arith) e.words i.rest;
+      others = head_others (seen_of a.seat) (seen_of t.seat) (seen_of s.seat) c.loop-b.b n c.args.in_use (omega arith) e.words i.others;
     }

@@ -1,11 +1,14 @@
 use Rattle.std.proofs.Common.{◌≡◌, ℕ, false, get_or}
 use Rattle.store_core.specs.declared.view.Place.TheVariants.{Next}
+use Rattle.sweep_phase.specs.Compared.{told_by}
 use Rattle.sweep_phase.specs.Stored.{seen_of}
 use Rattle.sweep_phase.proofs.Writes.{written_here, written_other}
 use Rattle.sweep_phase.proofs.storing.store_next.Goals as goal
 
 pub returns-clause-next : goal.returns-clause-next
-returns-clause-next c = λ m. written_here (seen_of c.put_next.new.seat.seat) (seen_of c.args.seat.now.seat) (Next c.args.row) (get_or c.args.nexts.now c.args.row 0) c.put_next.ensures.words
+returns-clause-next c = λ m. let u = seen_of c.args.seat.now.seat in
+    written_here (seen_of c.put_next.new.seat.seat) u (Next c.args.row) (told_by (u (Next c.args.row)) (get_or c.args.nexts.now c.args.row 0)) c.put_next.ensures.words
 
 pub returns-clause-others : goal.returns-clause-others
-returns-clause-others c = λ p not. written_other (seen_of c.put_next.new.seat.seat) (seen_of c.args.seat.now.seat) (Next c.args.row) (get_or c.args.nexts.now c.args.row 0) c.put_next.ensures.words p not
+returns-clause-others c = λ p not. let u = seen_of c.args.seat.now.seat in
+    written_other (seen_of c.put_next.new.seat.seat) u (Next c.args.row) (told_by (u (Next c.args.row)) (get_or c.args.nexts.now c.args.row 0)) c.put_next.ensures.words p not

@@ -3,11 +3,11 @@ use Rattle.store_core.specs.declared.view.Place.{Place}
 use Rattle.store_core.specs.declared.view.Place.TheVariants.{FreePlace, Bucket, Next}
 use Rattle.sweep_phase.specs.Gathered.{sizes_of}
 use Rattle.sweep_phase.specs.Stored.{seen_of}
-use Rattle.sweep_phase.proofs.Writes.{stores_itself, stores_in_turn, nexts_more, next_others}
+use Rattle.sweep_phase.proofs.Writes.{stores_itself, stores_in_turn, nexts_more, nexts_rest, next_others}
 use Rattle.sweep_phase.proofs.storing.store_nexts.Goals as goal
 
 pub loop-row-init : goal.loop-row-init
-loop-row-init c = let s = c.args.seat.now in record { at = c.requires.at; more = stores_itself s.seat s.number s.seats; nexts = λ r l. absurd (omega arith); others = λ p is. refl }
+loop-row-init c = let s = c.args.seat.now in record { at = c.requires.at; more = stores_itself s.seat s.number s.seats; nexts = λ r l. absurd (omega arith); rest = λ r l. refl; others = λ p is. refl }
 
 pub loop-row-preserved : goal.loop-row-preserved
 loop-row-preserved c =
@@ -18,6 +18,7 @@ loop-row-preserved c =
     let e = c.store_next.ensures in record {
       at = e.at;
       more = stores_in_turn a.seat a.number a.seats t.seat t.number t.seats s.seat s.number s.seats i.more e.more;
-      nexts = nexts_more (seen_of a.seat) (seen_of t.seat) (seen_of s.seat) c.loop-row.row e.others c.args.marks.now c.args.nexts.now e.next i.nexts;
+      nexts = nexts_more (seen_of a.seat) (seen_of t.seat) (seen_of s.seat) c.loop-row.row e.others c.args.marks.now c.args.nexts.now e.next (i.rest c.loop-row.row (omega arith)) i.nexts;
+      rest = nexts_rest (seen_of a.seat) (seen_of t.seat) (seen_of s.seat) c.loop-row.row e.others i.rest;
       others = next_others (seen_of a.seat) (seen_of t.seat) (seen_of s.seat) c.loop-row.row e.others i.others;
     }

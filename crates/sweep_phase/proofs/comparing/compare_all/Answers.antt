@@ -1,0 +1,45 @@
+use Rattle.std.proofs.Common.{◌≡◌, ℕ, ◌<◌, ◌≤◌, refl, sym, ap, ◌∙◌, arith}
+use Rattle.store_core.specs.declared.view.Sizes.{Sizes}
+use Rattle.sweep_phase.specs.Gathered.{sizes_of}
+use Rattle.sweep_phase.specs.Read.{stays_in_turn}
+use Rattle.sweep_phase.proofs.Compares.{heads_few, nexts_few, all_compared}
+use Rattle.sweep_phase.proofs.Ending.{inside_marks}
+use Rattle.sweep_phase.specs.Gathered.{words_of}
+use Rattle.sweep_phase.proofs.comparing.compare_all.Goals as goal
+
+pub compare_rows-requires-clause-at : goal.compare_rows-requires-clause-at
+compare_rows-requires-clause-at c = c.requires.out.gathered
+
+pub compare_rows-requires-clause-marks : goal.compare_rows-requires-clause-marks
+compare_rows-requires-clause-marks c = c.requires.out.reached.size
+
+pub compare_rows-requires-clause-small : goal.compare_rows-requires-clause-small
+compare_rows-requires-clause-small c = λ r m.
+    let h = c.requires.out in
+    let z = sizes_of c.args.sweep.now in
+    let inside = inside_marks c.args.marks.now r m in
+    let size = h.reached.size in
+    let few = nexts_few (words_of c.args.seat.now.seat) c.args.marks.now c.args.kept.buckets z.rows c.args.heads.now c.args.nexts.now h.chains r (omega arith) m in
+    let d = ap (λ (y : Sizes). y.rows) c.args.sweep.now.at.told in
+    let k = c.args.sweep.now.may.rows.1 in omega arith
+
+pub compare_heads-requires-clause-within : goal.compare_heads-requires-clause-within
+compare_heads-requires-clause-within c = c.requires.out.within
+
+pub compare_heads-requires-clause-small : goal.compare_heads-requires-clause-small
+compare_heads-requires-clause-small c = λ b l.
+    let h = c.requires.out in
+    let z = sizes_of c.args.sweep.now in
+    let few = heads_few (words_of c.args.seat.now.seat) c.args.marks.now c.args.kept.buckets z.rows c.args.heads.now c.args.nexts.now h.chains b l in
+    let d = ap (λ (y : Sizes). y.rows) c.args.sweep.now.at.told in
+    let k = c.args.sweep.now.may.rows.1 in omega arith
+
+pub returns-clause-stays : goal.returns-clause-stays
+returns-clause-stays c = let a = c.args.seat.now in let b = c.compare_rows.new.seat in let d = c.compare_heads.new.seat in
+    stays_in_turn a.seat a.number a.seats b.seat b.number b.seats d.seat d.number d.seats c.compare_rows.ensures.again.stays c.compare_heads.ensures.again.stays
+
+pub returns-clause-compared : goal.returns-clause-compared
+returns-clause-compared c = let a = c.args.seat.now in let b = c.compare_rows.new.seat in let d = c.compare_heads.new.seat in
+    all_compared c.args.sweep.now a.seat a.number a.seats c.args.marks.now c.args.nexts.now c.args.heads.now c.args.kept.live c.args.kept.buckets c.requires.out
+    b.seat b.number b.seats d.seat d.number d.seats c.compare_rows.ensures.again c.compare_heads.ensures.again c.compare_heads.ensures.at
+    c.compare_rows.new.cells c.compare_heads.new.heads c.compare_rows.ensures.notes c.compare_heads.ensures.tells

@@ -1,0 +1,4 @@
+use Rattle.sweep_phase.proofs.reading.head_of.Goals as goal
+
+pub reload-requires-clause-loaded : goal.reload-requires-clause-loaded
+reload-requires-clause-loaded c = c.requires.at.all.buckets c.args.b c.requires.below

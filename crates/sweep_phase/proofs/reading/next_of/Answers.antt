@@ -1,0 +1,4 @@
+use Rattle.sweep_phase.proofs.reading.next_of.Goals as goal
+
+pub reload-requires-clause-loaded : goal.reload-requires-clause-loaded
+reload-requires-clause-loaded c = c.requires.at.all.nexts c.args.row c.requires.below
