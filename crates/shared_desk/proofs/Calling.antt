@@ -30,6 +30,7 @@ use Rattle.node_rows.specs.Crowding.{IsSwept, ends_in_collect}
 use Rattle.node_rows.specs.CrowdFull.{IsCrowded}
 use Rattle.node_rows.specs.Steps.{over as node_over}
 use Rattle.sweep_phase.specs.Collected.{Collects}
+use Rattle.sweep_phase.specs.Gathered.{IsWorn}
 use Rattle.sweep_phase.specs.declared.sweep.Kept.{Kept}
 use Rattle.term_create.specs.Created.{MayCreate, NotesOne, Gets, GetsNone, KeepsRest}
 use Rattle.term_create.specs.Read.{Reads, ReadsChild, head_words, word}
@@ -348,6 +349,11 @@ module _ (s : Store) (p q : Pass) (h : IsStanding s p) (g : Goes s p q) where
   pub worn_is : {A E : Type 0} (r : Result A E) → IfErr r (λ _. view_of q ≡ view_of p) → OnErr r (seen_of s q ≡ seen_of s p)
   worn_is (Ok u) e = tt
   worn_is (Err x) e = ap₂ (λ (i : WhichPass) (v : NodeView). seen (store_of s) i (in_shared v) (in_exclusive v) v.crowd v.store) (pass_same p q g.same.0 g.same.1) e
+
+  -- a collection that is worn has loaded a claim below one epoch
+  pub wears : {A E : Type 0} (r : Result A E) → IfErr r (λ _. IsWorn s.sizes p.seat.number (view_of p).store) → OnErr r (desk.IsWorn (seen_of s p))
+  wears (Ok u) e = tt
+  wears (Err x) e = omega (arith, e.loads.few, e.beyond)
 
 -- the last Roots are what the entries tell as such
 roots_told : (t : Told) (es : List Entry) → last_roots t.noted es ≡ (told_from t es).noted

@@ -1,19 +1,24 @@
 -- What a desk's steps are to its callers.
-use Rattle.std.proofs.Common.{◌≡◌, ℕ, ◌≤◌, Bool, List, [], ◌∷◌, ◌++◌, Some, refl, ap, sym, ◌∙◌, subst, arith}
+use Rattle.std.proofs.Math.Nat.{le_refl, le-max_left}
+use Rattle.std.proofs.Common.{◌≡◌, ℕ, ◌≤◌, inl, inr, Bool, true, List, [], ◌∷◌, ◌++◌, Some, refl, ap, sym, ◌∙◌, subst, arith}
 use Rattle.std.specs.Prelude.{max}
 use Rattle.std.specs.List.{flat_map}
 use Rattle.term_model.specs.declared.Row.{Row}
 use Rattle.term_model.specs.declared.Head.{Head}
 use Rattle.term_model.specs.Tree.{Tree, distinct, subtrees}
 use Rattle.terms_api.specs.Terms.{Store, trees, asked, IsSound, Breathed, Built, NotBuilt, IsCrowded, Loses}
-use Rattle.shared_desk.specs.Pass.{PassView, shown, store, own, Arrived, left}
+use Rattle.shared_desk.specs.Pass as pass
+use Rattle.shared_desk.specs.Pass.{PassView, shown, store, own, IsWorn, Arrived, left}
 use Rattle.shared_desk.specs.Code.{Contents}
-use Rattle.shared_desk.specs.Desk.{store_of, IsRight, Passed, Placed}
+use Rattle.shared_desk.specs.Desk.{store_of, IsSame, IsRight, Passed, Placed}
 use Rattle.std.proofs.lemmas.List.Elements.{Contains-append_left}
 use Rattle.term_model.proofs.Members.{distinct_of_part}
 use Rattle.shared_desk.specs.Places.{Places}
 use Rattle.shared_desk.proofs.Passing.{rooted, crossed, ended, trees_same}
 use Rattle.shared_desk.proofs.Following.{wider}
+
+abbrev pub desk_of : PassView → List Row → ℕ → Bool → Contents
+desk_of v xs k s = record { pass = v; stack = xs; refusals = k; spent = s }
 
 -- what a refusal counts changes no rows
 pub sound_shown : (v : PassView) (xs : List Row) (k : ℕ) (s : Bool) → IsSound (store v xs) → IsSound (shown v xs k s)
@@ -40,6 +45,15 @@ breathed v w xs k s so a sound sh =
       rows = loses_shown v w xs xs k k s s p.rows;
       load = record { least = p.load.least; most = p.load.most };
     }
+
+-- a breath may be none at all
+pub breathed_not : (s : Store) → Breathed s s
+breathed_not s = record {
+  rest = refl;
+  none = λ r t h. h;
+  rows = record { reachable = λ r t h in_reach. h; epoch = inl (refl, λ r t h. h) };
+  load = record { least = le_refl s.load; most = le-max_left s.load (distinct (flat_map subtrees (trees s))) };
+}
 
 pub built_shown : (j : ℕ) (v w : PassView) (xs ys : List Row) (k : ℕ) (s : Bool) (h : Head) (n : ℕ) → j ≤ 1 → Placed j v w xs ys n (asked (store v xs) h n) → w.shared ≡ v.shared → Built (shown v xs k s) (shown w ys k s) h n
 built_shown j v w xs ys k s h n le b sh =
@@ -94,3 +108,11 @@ crowded_shown v w xs ys k m s t h n c = record { full = c.full; absent = c.absen
 -- outside, the stack is protected
 pub right_left : (v : PassView) (p : Places) → IsRight v p → IsRight (left (rooted v p.items)) p
 right_left v p i = record { sound = (ended v p.items i.sound).sound; roots = λ e. refl; alone = refl; room = i.room }
+
+-- what a refusal for want of rows, or none, leaves of the desk
+pub same_told : (v w : PassView) (xs ys : List Row) (k m : ℕ) (s : Bool) → pass.IsSame v w → IsSame (desk_of v xs k s) (desk_of w ys m s)
+same_told v w xs ys k m s same = record { pass = same; worn = λ e. inl e }
+
+-- and one for want of numbers
+pub same_worn : (v w : PassView) (xs ys : List Row) (k m : ℕ) (s : Bool) → pass.IsSame v w → IsWorn w → IsSame (desk_of v xs k s) (desk_of w ys m true)
+same_worn v w xs ys k m s same worn = record { pass = same; worn = λ e. inr worn }

@@ -13,8 +13,8 @@ use Rattle.terms_api.specs.Terms.{tree_at, trees, reachable, last, but_last, ask
 use Rattle.terms_api.proofs.Callers.{tree_at-has}
 use Rattle.terms_api.proofs.Staying.{trees_stay}
 use Rattle.shared_desk.specs.Pass.{PassView, store}
-use Rattle.shared_desk.specs.Desk.{Passed, Placed}
-use Rattle.shared_desk.proofs.Passing.{trees_same, lost_twice, same_twice}
+use Rattle.shared_desk.specs.Desk.{Passed, Placed, pass_in_turn}
+use Rattle.shared_desk.proofs.Passing.{trees_same, lost_twice}
 
 pub in_all : (ts : List Tree) (u t : Tree) → Contains ts u → Contains (subtrees u) t → Contains (flat_map subtrees ts) t
 in_all [] u t (k, lt, e) h = absurd (omega arith)
@@ -95,7 +95,7 @@ placed_after j k v m w xs ys h n sound p b =
         least = omega (arith, p.load.least, c.load.least);
         most = omega (arith, p.load.most, c.load.most, more, d);
       };
-      same = same_twice v m w p.same c.same;
+      same = pass_in_turn v m w p.same c.same;
       sound = c.sound;
     }
 
@@ -121,6 +121,6 @@ placed_then j k v m w xs ys h n sound b p =
         least = omega (arith, b.load.least, p.load.least);
         most = omega (arith, b.load.most, p.load.most, less, d);
       };
-      same = same_twice v m w b.same p.same;
+      same = pass_in_turn v m w b.same p.same;
       sound = p.sound;
     }

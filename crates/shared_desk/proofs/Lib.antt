@@ -14,4 +14,5 @@ pub mod Following
 pub mod Sweeping
 pub mod Walks
 pub mod Desks
+pub mod Protecting
 pub mod Telling

@@ -7,11 +7,19 @@ use Rattle.term_model.specs.Tree.{Tree, subtrees, distinct}
 use Rattle.terms_api.specs.Terms.{trees, reachable, IsSound, Loses}
 use Rattle.terms_api.proofs.Staying.{trees-lost}
 use Rattle.shared_desk.specs.Places.{Places}
-use Rattle.shared_desk.specs.Pass.{PassView, store, own, IsSame, Arrived, left}
-use Rattle.shared_desk.specs.Desk.{IsIn, IsAlone, IsReady, Passed}
+use Rattle.shared_desk.specs.Pass.{PassView, store, own, Arrived, left}
+use Rattle.shared_desk.specs.Desk.{IsIn, IsAlone, IsReady, Passed, pass_in_turn}
 
-pub same_twice : (v w x : PassView) → IsSame v w → IsSame w x → IsSame v x
-same_twice v w x f g = record { rows = g.rows ∙ f.rows; arity = g.arity ∙ f.arity; depth = g.depth ∙ f.depth; store = g.store ∙ f.store; seat = g.seat ∙ f.seat }
+some_same : (m n : ℕ) → Some m ≡ Some n → m ≡ n
+some_same m n e = cc
+
+-- where rows may have been lost the base isn't an earlier one
+pub no_earlier : (v w : PassView) (xs ys : List Row) → Loses (store v xs) (store w ys) → v.base ≤ w.base
+no_earlier v w xs ys l =
+    elim (l.epoch) [
+      | inl a ↦ (let e : w.base ≡ v.base = some_same w.base v.base a.0 in omega (arith, e))
+      | inr a ↦ (let c : v.base < w.base = a in omega (arith, c))
+    ]
 
 pub trees_same : (k : ℕ) (v w : PassView) (xs : List Row) → IsSound (store v xs) → Passed k v w xs → trees (store w xs) ≡ trees (store v xs)
 trees_same k v w xs sound p = trees-lost (store v xs) (store w xs) sound p.rows refl
@@ -32,9 +40,6 @@ lost_twice v w x xs ys zs f g reach =
         ]
       ];
     }
-  where
-    some_same : (m n : ℕ) → Some m ≡ Some n → m ≡ n
-    some_same m n e = cc
 
 -- a load rises twice
 pub most_twice : (a b c d e : ℕ) → b ≤ max a d → c ≤ max b e → e ≤ d → c ≤ max a d
@@ -53,7 +58,7 @@ passed_twice j k v w x xs sound f g =
         most = most_twice v.load w.load x.load (distinct (flat_map subtrees (trees (store v xs)))) (distinct (flat_map subtrees (trees (store w xs)))) f.load.most g.load.most
             (let d : distinct (flat_map subtrees (trees (store w xs))) ≡ distinct (flat_map subtrees (trees (store v xs))) = ap (λ ts. distinct (flat_map subtrees ts)) e in omega (arith, d));
       };
-      same = same_twice v w x f.same g.same;
+      same = pass_in_turn v w x f.same g.same;
       sound = g.sound;
     }
 
@@ -78,6 +83,7 @@ arrived v w xs e a sound =
         depth = ap (λ (x : PassView). x.depth) a.rest;
         store = ap (λ (x : PassView). x.store) a.rest;
         seat = ap (λ (x : PassView). x.seat) a.rest;
+        base = no_earlier v w v.roots w.roots a.rows;
       };
       sound = subst (λ ys. IsSound (store w ys)) roots sound;
     }
@@ -94,7 +100,7 @@ ended v xs s =
       built = refl;
       sweeps = omega arith;
       load = record { least = omega arith; most = omega arith };
-      same = record { rows = refl; arity = refl; depth = refl; store = refl; seat = refl };
+      same = record { rows = refl; arity = refl; depth = refl; store = refl; seat = refl; base = omega arith };
       sound = record { stack = s.stack; depth = s.depth; room = s.room; below = s.below; one_row = s.one_row; arguments = s.arguments; well_formed = s.well_formed; ground = s.ground };
     }
 

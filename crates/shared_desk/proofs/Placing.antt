@@ -55,6 +55,7 @@ placed v w xs ys h n row s may place g so is =
     let load : w.load ≡ v.load = ap (λ (x : PassView). x.load) g.rest in
     let sweeps : w.sweeps ≡ v.sweeps = ap (λ (x : PassView). x.sweeps) g.rest in
     let depth : w.depth ≡ v.depth = ap (λ (x : PassView). x.depth) g.rest in
+    let base : w.base ≡ v.base = ap (λ (x : PassView). x.base) g.rest in
     let tree : HasTree (store w ys) row t = subst (λ u. HasTree (own w) row u) e g.tree in
     let all : All P xs = all_map (IsHeld (store v xs)) P xs (λ r k. held-has (store w ys) r (tree_at (store v xs) r) (g.all r (tree_at (store v xs) r) (has-held (store v xs) r k))) s.stack in
     let whole : All P (but_last n xs ++ row ∷ []) = All-append P (but_last n xs) (row ∷ []) (All-take P (length xs - n) xs all) (λ k d lt. one_held P row k d lt (held-has (store w ys) row t tree)) in
@@ -73,6 +74,7 @@ placed v w xs ys h n row s may place g so is =
         depth = depth;
         store = ap (λ (x : PassView). x.store) g.rest;
         seat = ap (λ (x : PassView). x.seat) g.rest;
+        base = omega (arith, base);
       };
       sound = record {
         stack = subst (All P) (sym is) whole;

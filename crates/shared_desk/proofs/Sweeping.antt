@@ -8,9 +8,9 @@ use Rattle.terms_api.specs.declared.terms.BuildFault.{BuildFault}
 use Rattle.terms_api.specs.declared.terms.BuildFault.TheVariants.{Deep, StoreFull, Worn}
 use Rattle.terms_api.specs.Terms.{trees, reachable, last, asked, IsSound, MayBuild, NeedsPlace, IsCrowded}
 use Rattle.shared_desk.specs.Places.{Places}
-use Rattle.shared_desk.specs.Pass.{PassView, store, own, over, Swept, IsFilled}
-use Rattle.shared_desk.specs.Desk.{IsAlone, Passed, Placed, Outcome}
-use Rattle.shared_desk.proofs.Passing.{trees_same, passed_twice, rooted}
+use Rattle.shared_desk.specs.Pass.{PassView, store, own, over, IsWorn, Swept, IsFilled}
+use Rattle.shared_desk.specs.Desk.{IsAlone, Passed, Placed, Outcome, worn_still}
+use Rattle.shared_desk.proofs.Passing.{no_earlier, trees_same, passed_twice, rooted}
 use Rattle.shared_desk.proofs.Placing.{over_asked}
 use Rattle.shared_desk.proofs.Following.{placed_after, placed_then}
 
@@ -47,6 +47,7 @@ swept v m p i a sound =
         depth = ap (λ (x : PassView). x.depth) a.rest;
         store = ap (λ (x : PassView). x.store) a.rest;
         seat = ap (λ (x : PassView). x.seat) a.rest;
+        base = no_earlier v m v.roots m.roots a.rows;
       };
       sound = subst (λ ys. IsSound (store m ys)) roots sound;
     }
@@ -75,7 +76,7 @@ placed_rooted v w xs ys n t b =
       rows = record { reachable = b.rows.reachable; epoch = b.rows.epoch };
       sweeps = b.sweeps;
       load = record { least = b.load.least; most = b.load.most };
-      same = record { rows = b.same.rows; arity = b.same.arity; depth = b.same.depth; store = b.same.store; seat = b.same.seat };
+      same = record { rows = b.same.rows; arity = b.same.arity; depth = b.same.depth; store = b.same.store; seat = b.same.seat; base = b.same.base };
       sound = record { stack = s.stack; depth = s.depth; room = s.room; below = s.below; one_row = s.one_row; arguments = s.arguments; well_formed = s.well_formed; ground = s.ground };
     }
 
@@ -106,4 +107,8 @@ outcome_after v m w xs ys h n (Err StoreFull) s p (e, q, c) =
     let same = trees_same 0 v m xs s p in
     let f : asked (store m xs) h n ≡ asked (store v xs) h n = ap (λ ts. Node h (trees_of (last n ts))) same in
     (e, passed_twice 0 1 v m w xs s p q, record { full = c.full; absent = λ x. c.absent (subst (Contains w.crowd) (sym f) x); hand = c.hand ∙ same })
-outcome_after v m w xs ys h n (Err Worn) s p (e, q) = (e, passed_twice 0 0 v m w xs s p q)
+outcome_after v m w xs ys h n (Err Worn) s p (e, q, worn) = (e, passed_twice 0 0 v m w xs s p q, worn)
+
+-- numbers used up are told after the pass has come back
+pub outcome_worn : (v w : PassView) (xs : List Row) (h : Head) (n : ℕ) → IsWorn v → Passed 0 v w xs → Outcome v w xs xs h n (Err Worn)
+outcome_worn v w xs h n worn q = (refl, q, worn_still v w q.same worn)

@@ -1,5 +1,5 @@
 -- What a desk that gave its pass back showed, by the chronicle; and the passes of a new store.
-use Rattle.std.proofs.Common.{◌≡◌, ◌≢◌, ℕ, zero, suc, ◌+◌, ◌<◌, ◌≤◌, ◌&&◌, ◌==◌, Bool, false, cond, List, [], ◌∷◌, ◌++◌, get_or, map, eq-eqb, ne_eqb, true≢false, refl, sym, ap, ◌∙◌, subst, arith}
+use Rattle.std.proofs.Common.{◌≡◌, ◌≢◌, ◌⊎◌, inl, inr, ℕ, zero, suc, ◌+◌, ◌<◌, ◌≤◌, ◌&&◌, ◌==◌, Bool, false, cond, List, [], ◌∷◌, ◌++◌, get_or, map, eq-eqb, ne_eqb, true≢false, refl, sym, ap, ◌∙◌, subst, arith}
 use Rattle.std.specs.Prelude.{All, IfOk, Result, Ok, Err}
 use Rattle.std.proofs.lemmas.List.{append-nil, append_assoc}
 use Rattle.std.proofs.lemmas.Option.{slice_get-get_or}
@@ -9,24 +9,29 @@ use Rattle.busy_forbidden.specs.Dealt.{EachPlace}
 use Rattle.history_core.specs.declared.entry.Entry.{Entry}
 use Rattle.history_core.specs.declared.entry.Entry.TheVariants.{Make, Find, Roots, Collect}
 use Rattle.history_core.specs.Entry.{is_collect}
-use Rattle.history_core.specs.Chronicle.{History, precedes, put, put_all, put_each, chronicle}
+use Rattle.history_core.specs.Chronicle.{History, precedes, put, put_all, put_each, chronicle, part_of, Legal, IsLegal}
+use Rattle.history_core.specs.TermSet.{empty}
+use Rattle.history_core.specs.Told.{told, rooted_trees}
+use Rattle.history_core.proofs.Sound.{legal_is_sound}
 use Rattle.store_core.proofs.Basics.{choose}
 use Rattle.store_core.specs.Told as store
-use Rattle.store_core.specs.Told.{Told, nothing, all_roots, all_roots_from, told_from}
+use Rattle.store_core.specs.Told.{Told, nothing, all_roots, all_roots_from, told_from, subtrees_in}
 use Rattle.store_core.specs.Machine.{widest}
 use Rattle.node_rows.specs.declared.store.Store.{Store}
 use Rattle.node_rows.specs.declared.store.Pass.{Pass}
 use Rattle.node_rows.specs.Crowding.{EndsWith}
 use Rattle.node_rows.specs.Opening.{IsNew}
 use Rattle.node_rows.specs.Passes.{IsStore, IsPass, IsOut}
-use Rattle.node_rows.specs.Told.{Tells, view_of}
+use Rattle.node_rows.specs.CrowdsKept.{part_join}
+use Rattle.node_rows.specs.Told.{Tells, KeepsOrder, TellsTrees, view_of}
 use Rattle.node_rows.specs.declared.view.NodeView.{NodeView}
 use Rattle.store_core.specs.declared.view.Sizes.{Sizes}
 use Rattle.store_core.specs.Steps.{newcomer}
 use Rattle.shared_desk.specs.Held.{IsWhole}
 use Rattle.shared_desk.specs.Pass.{PassView}
 use Rattle.node_rows.proofs.Crowding.{crowd_at_its_place}
-use Rattle.shared_desk.specs.Telling.{collects_by, BuiltAreNamed, RootedAreLast, CrowdIsLast, CrowdIsOfItsNames, SweepsAreCounted, MayHaveDesk, NewMayHaveDesks}
+use Rattle.shared_desk.specs.Telling.{collects_by, BuiltAreNamed, RootedAreLast, CrowdIsLast, CrowdIsOfItsNames, protected_by, HandIsProtected, LoadIsMost, LoadIsReached, SweepsAreCounted, MayHaveDesk, NewMayHaveDesks}
+use Rattle.shared_desk.proofs.Protecting.{protected_are_told, told_join, hand_stays, load_grows, load_counts, Reaches, load_is_counted}
 use Rattle.shared_desk.proofs.Trees.{tree_names}
 
 -- of the trees of all Roots those of the last one are the last
@@ -116,6 +121,55 @@ pub crowd_is_of_its_names : CrowdIsOfItsNames
 crowd_is_of_its_names lists v p back tells c =
     sym (ap (λ (x : PassView). x.crowd) back.seen)
     ∙ crowd_at_its_place lists p.seat.number (view_of p).store.entries (view_of p).crowd tells c
+
+-- what it protects after the entries before a place
+protected_there : (rows : ℕ) (lists : List (List Entry)) (p : Pass) (before rest : History) → KeepsOrder lists p → TellsTrees lists p → IsLegal rows (chronicle lists) → chronicle lists ≡ before ++ rest
+    → protected_by p.seat.number before ≡ (told_from nothing (part_of p.seat.number before)).rooted
+protected_there rows lists p before rest order tells legal is =
+    let i = p.seat.number in
+    let same : told rooted_trees i empty (chronicle lists) ≡ all_roots (part_of i (chronicle lists)) = tells.rooted ∙ ap all_roots (sym order) in
+    protected_are_told rows i empty nothing before rest (legal_is_sound rows [] tt) (subst (Legal rows empty) is legal)
+    (subst (λ (l : History). told rooted_trees i empty l ≡ all_roots (part_of i l)) is same) refl
+
+-- its entries before a place and after it
+parted : (lists : List (List Entry)) (p : Pass) (before rest : History) → KeepsOrder lists p → chronicle lists ≡ before ++ rest
+    → told_from nothing (view_of p).store.entries ≡ told_from (told_from nothing (part_of p.seat.number before)) (part_of p.seat.number rest)
+parted lists p before rest order is =
+    let i = p.seat.number in
+    ap (told_from nothing) (sym order ∙ (ap (part_of i) is ∙ part_join i before rest)) ∙ told_join nothing (part_of i before) (part_of i rest)
+
+pub hand_is_protected : HandIsProtected
+hand_is_protected rows lists v p back order tells legal c =
+    let i = p.seat.number in
+    let on : History = (i, Collect c.number c.kept) ∷ c.rest in
+    let before = told_from nothing (part_of i c.before) in
+    let own : part_of i on ≡ Collect c.number c.kept ∷ part_of i c.rest = ap (λ (b : Bool). cond b (Collect c.number c.kept ∷ part_of i c.rest) (part_of i c.rest)) (eq-eqb i i refl) in
+    sym (ap (λ (x : PassView). x.hand) back.seen)
+    ∙ (ap (λ (t : Told). t.hand) (parted lists p c.before on order c.is ∙ ap (told_from before) own)
+    ∙ (hand_stays i (store.after before (Collect c.number c.kept)) c.rest c.last
+    ∙ sym (protected_there rows lists p c.before on order tells legal c.is)))
+
+pub load_is_most : LoadIsMost
+load_is_most rows lists v p back order tells legal before rest is =
+    let i = p.seat.number in
+    let there = told_from nothing (part_of i before) in
+    let counts : subtrees_in there.rooted ≤ there.load = load_counts nothing (part_of i before) (omega arith) in
+    let grows = load_grows there (part_of i rest) in
+    let all = ap (λ (t : Told). t.load) (parted lists p before rest order is) in
+    let shown = ap (λ (x : PassView). x.load) back.seen in
+    let same = ap subtrees_in (protected_there rows lists p before rest order tells legal is) in
+    omega (arith, counts, grows, all, shown, same)
+
+pub load_is_reached : LoadIsReached
+load_is_reached rows lists v p back order tells legal = by (load_is_counted p.seat.number nothing (chronicle lists))
+  where
+    shown : (told_from nothing (part_of p.seat.number (chronicle lists))).load ≡ v.load
+    shown = ap (λ (es : List Entry). (told_from nothing es).load) order ∙ ap (λ (x : PassView). x.load) back.seen
+
+    by : Reaches p.seat.number nothing (chronicle lists) (part_of p.seat.number (chronicle lists))
+        → (v.load ≡ 0) ⊎ ((before : History) × (rest : History) × (chronicle lists ≡ before ++ rest) × (subtrees_in (protected_by p.seat.number before) ≡ v.load))
+    by (inl e) = inl (sym shown ∙ e)
+    by (inr r) = inr (r.0, r.1, r.2, ap subtrees_in (protected_there rows lists p r.0 r.1 order tells legal r.2) ∙ (r.3 ∙ shown))
 
 pub sweeps_are_counted : SweepsAreCounted
 sweeps_are_counted lists v p back has =

@@ -1,6 +1,7 @@
 -- A desk as a store of terms, and what its steps come to.
-use Rattle.std.specs.Prelude.{◌≡◌, ℕ, ◌+◌, ◌≤◌, ◌⊎◌, true, false, List, [], ◌∷◌, ◌++◌, Result, Ok, Err, refl}
-use Rattle.std.proofs.Common.{◌∙◌}
+use Rattle.std.specs.Prelude.{◌≡◌, ℕ, ◌+◌, ◌*◌, ◌^◌, ◌<◌, ◌≤◌, ◌⊎◌, true, false, List, [], ◌∷◌, ◌++◌, Result, Ok, Err, refl}
+use Rattle.std.proofs.Common.{◌∙◌, inl, inr, sym, subst, ⊎_elim}
+use Rattle.std.proofs.Math.Nat.{le_refl, le_trans, lt_of_lt_of_le, add-le-add_iff_right}
 use Rattle.term_model.specs.declared.Row.{Row}
 use Rattle.term_model.specs.declared.Head.{Head}
 use Rattle.term_model.specs.Tree.{Tree}
@@ -9,20 +10,46 @@ use Rattle.terms_api.specs.declared.terms.BuildFault.TheVariants.{Deep, StoreFul
 use Rattle.terms_api.specs.Terms.{Store, HasTree, IsSound, GainsNone, Loses, Loads, IsCrowded, trees, but_last, asked}
 use Rattle.shared_desk.specs.Places.{Places}
 use Rattle.shared_desk.specs.Pass as pass
-use Rattle.shared_desk.specs.Pass.{PassView, shown, store}
+use Rattle.store_core.specs.Invariant.{span}
+use Rattle.shared_desk.specs.Pass.{PassView, WhichStore, IsWorn, shown, store}
 use Rattle.shared_desk.specs.Code.{Contents}
 
 abbrev pub store_of : Contents → Store
 store_of c = shown c.pass c.stack c.refusals c.spent
 
-abbrev pub IsSame : Contents → Contents → Type 0
-IsSame c d = pass.IsSame c.pass d.pass
+-- The same store and the same seat. The numbers were told since to be used up only where the pass is worn.
+pub record IsSame (c d : Contents) : Type 0 where
+  pub pass : pass.IsSame c.pass d.pass
+  pub worn : d.spent ≡ true → (c.spent ≡ true) ⊎ IsWorn d.pass
 
 pub same_itself : (c : Contents) → IsSame c c
-same_itself c = record { rows = refl; arity = refl; depth = refl; store = refl; seat = refl }
+same_itself c = record {
+  pass = record { rows = refl; arity = refl; depth = refl; store = refl; seat = refl; base = le_refl c.pass.base };
+  worn = λ spent. inl spent;
+}
+
+pub pass_in_turn : (v w x : PassView) → pass.IsSame v w → pass.IsSame w x → pass.IsSame v x
+pass_in_turn v w x f g = record {
+  rows = g.rows ∙ f.rows;
+  arity = g.arity ∙ f.arity;
+  depth = g.depth ∙ f.depth;
+  store = g.store ∙ f.store;
+  seat = g.seat ∙ f.seat;
+  base = le_trans f.base g.base;
+}
+
+-- a pass that is worn stays so
+pub worn_still : (v w : PassView) → pass.IsSame v w → IsWorn v → IsWorn w
+worn_still v w same worn =
+    let more = 2 * span w.store.sizes in
+    let here : 2 ^ 62 < v.base + more = subst (λ (s : WhichStore). 2 ^ 62 < v.base + 2 * span s.sizes) (sym same.store) worn in
+    lt_of_lt_of_le here ((add-le-add_iff_right more).1 same.base)
 
 pub same_turn : (c d e : Contents) → IsSame c d → IsSame d e → IsSame c e
-same_turn c d e f g = record { rows = g.rows ∙ f.rows; arity = g.arity ∙ f.arity; depth = g.depth ∙ f.depth; store = g.store ∙ f.store; seat = g.seat ∙ f.seat }
+same_turn c d e f g = record {
+  pass = pass_in_turn c.pass d.pass e.pass f.pass g.pass;
+  worn = λ spent. ⊎_elim (λ before. ⊎_elim (λ (first : c.spent ≡ true). inl first) (λ (worn : IsWorn d.pass). inr (worn_still d.pass e.pass g.pass worn)) (f.worn before)) (λ (worn : IsWorn e.pass). inr worn) (g.worn spent);
+}
 
 -- Between calls no exclusive access is held, and outside the protected rows are the stack.
 pub record IsRight (v : PassView) (p : Places) : Type 0 where
@@ -81,4 +108,4 @@ abbrev pub Outcome : PassView → PassView → List Row → List Row → Head �
 Outcome v w xs ys h n (Ok u) = (k : ℕ) × (k ≤ 1) × Placed k v w xs ys n (asked (store v xs) h n)
 Outcome v w xs ys h n (Err Deep) = ⊥
 Outcome v w xs ys h n (Err StoreFull) = (ys ≡ xs) × Passed 1 v w xs × IsCrowded (store v xs) (store w xs) h n
-Outcome v w xs ys h n (Err Worn) = (ys ≡ xs) × Passed 0 v w xs
+Outcome v w xs ys h n (Err Worn) = (ys ≡ xs) × Passed 0 v w xs × IsWorn w

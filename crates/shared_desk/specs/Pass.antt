@@ -1,11 +1,12 @@
 -- What a pass knows of a shared store, and what its calls do to that.
-use Rattle.std.specs.Prelude.{◌≡◌, ℕ, ◌+◌, ◌≤◌, ◌⊎◌, Bool, true, false, List, [], ◌∷◌, ◌++◌, Option, Some, None, All, Contains, length, map, max, slice_index_or}
+use Rattle.std.specs.Prelude.{◌≡◌, ℕ, ◌+◌, ◌*◌, ◌^◌, ◌<◌, ◌≤◌, ◌⊎◌, Bool, true, false, List, [], ◌∷◌, ◌++◌, Option, Some, None, All, Contains, length, map, max, slice_index_or}
 use Rattle.std.specs.List.{flat_map}
 use Rattle.term_model.specs.declared.Row.{Row}
 use Rattle.term_model.specs.declared.Head.{Head}
 use Rattle.term_model.specs.Tree.{Tree, Node, trees_of, subtrees, distinct, may_stand_over}
 use Rattle.atomic_table.specs.Seated.{TableId}
 use Rattle.store_core.specs.declared.view.Sizes.{Sizes}
+use Rattle.store_core.specs.Invariant.{span}
 use Rattle.terms_api.specs.Terms.{Store, HasTree, IsHeld, tree_at, trees, KeepsAll, GainsNone, Loses}
 
 -- which store: its table and sizes; and which of its passes
@@ -76,13 +77,18 @@ store v stack = shown v stack 0 false
 abbrev pub own : PassView → Store
 own v = store v v.roots
 
--- the same store and the same seat
+-- the same store and the same seat, at no earlier base
 pub record IsSame (v w : PassView) : Type 0 where
   pub rows : w.rows ≡ v.rows
   pub arity : w.arity ≡ v.arity
   pub depth : w.depth ≡ v.depth
   pub store : w.store ≡ v.store
   pub seat : w.seat ≡ v.seat
+  pub base : v.base ≤ w.base
+
+-- Numbers end at 2^62, and its base leaves no room for two epochs more.
+abbrev pub IsWorn : PassView → Type 0
+IsWorn v = 2 ^ 62 < v.base + 2 * span v.store.sizes
 
 -- An access was granted, and the base was loaded: rows may be lost that the protected ones don't reach,
 -- but only where the base is a later one.

@@ -1,10 +1,11 @@
 -- What the chronicle of a closed store tells of a desk, by the pass that it gave back; and which passes may have a desk.
-use Rattle.std.specs.Prelude.{◌≡◌, ℕ, ◌+◌, ◌==◌, ◌&&◌, if◌then◌else◌, List, [], ◌∷◌, All}
-use Rattle.term_model.specs.Tree.{list_of}
+use Rattle.std.specs.Prelude.{◌≡◌, ◌⊎◌, ℕ, ◌+◌, ◌≤◌, ◌==◌, ◌&&◌, if◌then◌else◌, List, [], ◌∷◌, ◌++◌, All}
+use Rattle.std.specs.List.{flat_map}
+use Rattle.term_model.specs.Tree.{Tree, list_of, subtrees, distinct}
 use Rattle.busy_forbidden.specs.Dealt.{EachPlace}
 use Rattle.history_core.specs.declared.entry.Entry.{Entry}
 use Rattle.history_core.specs.Entry.{is_collect}
-use Rattle.history_core.specs.Chronicle.{History, chronicle, set_of}
+use Rattle.history_core.specs.Chronicle.{History, chronicle, set_of, IsLegal}
 use Rattle.history_core.specs.TermSet.{empty, trees_at}
 use Rattle.history_core.specs.Told.{told, named, rooted_trees, kept_trees}
 use Rattle.node_rows.specs.declared.store.Store.{Store}
@@ -13,7 +14,7 @@ use Rattle.node_rows.specs.Belonging.{IsPassOf}
 use Rattle.node_rows.specs.Crowding.{EndsWith, IsLastCollect}
 use Rattle.node_rows.specs.Opening.{IsNew}
 use Rattle.node_rows.specs.Passes.{IsStore, IsPass, IsOut}
-use Rattle.node_rows.specs.Told.{Tells, HasEntries, TellsTrees, TellsCrowd, view_of}
+use Rattle.node_rows.specs.Told.{Tells, HasEntries, KeepsOrder, TellsTrees, TellsCrowd, view_of}
 use Rattle.shared_desk.specs.Held.{IsWhole}
 use Rattle.shared_desk.specs.Pass.{PassView}
 use Rattle.shared_desk.specs.Passes.{IsBack}
@@ -42,6 +43,27 @@ CrowdIsLast = (lists : List (List Entry)) (v : PassView) (p : Pass) → IsBack v
 abbrev pub CrowdIsOfItsNames : Type 0
 CrowdIsOfItsNames = (lists : List (List Entry)) (v : PassView) (p : Pass) → IsBack v p → TellsCrowd lists p
     → (c : IsLastCollect (chronicle lists) p.seat.number) → v.crowd ≡ list_of (trees_at (set_of c.before).held c.kept)
+
+-- The trees that a caller protects after these entries: those of its last Roots there, with what they have under their names.
+abbrev pub protected_by : ℕ → History → List Tree
+protected_by caller l = list_of (trees_at (set_of l).held ((set_of l).roots caller))
+
+-- Its hand is what it protected at its last Collect there.
+abbrev pub HandIsProtected : Type 0
+HandIsProtected = (rows : ℕ) (lists : List (List Entry)) (v : PassView) (p : Pass) → IsBack v p → KeepsOrder lists p → TellsTrees lists p
+    → IsLegal rows (chronicle lists) → (c : IsLastCollect (chronicle lists) p.seat.number) → v.hand ≡ protected_by p.seat.number c.before
+
+-- At no place there does it protect trees with more different subtrees than its load.
+abbrev pub LoadIsMost : Type 0
+LoadIsMost = (rows : ℕ) (lists : List (List Entry)) (v : PassView) (p : Pass) → IsBack v p → KeepsOrder lists p → TellsTrees lists p
+    → IsLegal rows (chronicle lists) → (before rest : History) → chronicle lists ≡ before ++ rest
+    → distinct (flat_map subtrees (protected_by p.seat.number before)) ≤ v.load
+
+-- And where that isn't 0, it does so at some place with just as many.
+abbrev pub LoadIsReached : Type 0
+LoadIsReached = (rows : ℕ) (lists : List (List Entry)) (v : PassView) (p : Pass) → IsBack v p → KeepsOrder lists p → TellsTrees lists p
+    → IsLegal rows (chronicle lists) → (v.load ≡ 0) ⊎ ((before : History) × (rest : History) × (chronicle lists ≡ before ++ rest)
+    × (distinct (flat_map subtrees (protected_by p.seat.number before)) ≡ v.load))
 
 -- It has collected as often as its pass has Collects there.
 abbrev pub SweepsAreCounted : Type 0

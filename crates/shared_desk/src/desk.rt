@@ -13,13 +13,16 @@ use std::alloc::Global;
 use std::marker::Model;
 use std::sync::Wait;
 
-/// A store of terms for one caller, over a pass of a shared store, with a stack of its own.
+/// A store of terms for one caller, over a pass of a shared store, with a stack of its own. `rested` counts the breaths since the
+/// last one that went outside. `apart` is there so that desks which stand side by side share no cache line: each build writes to its desk.
 #[derive(Drop)]
 pub struct Desk<S: SharedPass> {
     pub(crate) pass: S,
     pub(crate) places: Stack,
     pub(crate) spent: bool,
     pub(crate) refused: History<(), ()>,
+    pub(crate) rested: usize,
+    pub(crate) apart: [u64; 16],
 }
 
 impl<S: SharedPass> Model for Desk<S> {
@@ -46,6 +49,7 @@ impl<S: SharedPass + Drop> Desk<S> {
         requires sound { IsSound (own (S.view pass)) }
         ensures pass { IfOk result (λ desk. desk.pass ≡ S.view pass) }
         ensures stack { IfOk result (λ desk. desk.stack ≡ []) }
+        ensures unspent { IfOk result (λ desk. desk.spent ≡ false) }
     {
         let places = Stack::new(alloc, pass.depth())?;
         Ok(Desk {
@@ -53,6 +57,8 @@ impl<S: SharedPass + Drop> Desk<S> {
             places,
             spent: false,
             refused: History::new(),
+            rested: 0,
+            apart: [0; 16],
         })
     }
 }
@@ -80,6 +86,7 @@ impl<'a, R: Wait> Desk<OwnPass<'a, R>> {
         requires none { (view_of pass).store.root_count ≡ 0 }
         ensures pass { IfOk result (λ desk. desk.pass ≡ seen_of store.now pass) }
         ensures stack { IfOk result (λ desk. desk.stack ≡ []) }
+        ensures unspent { IfOk result (λ desk. desk.spent ≡ false) }
         ensures outside { IfOk result (λ desk. (store_of desk).inside ≡ false) }
     {
         Desk::over(alloc, OwnPass::new(rt, store, pass))
@@ -95,6 +102,8 @@ impl<'a, R: Wait> Desk<OwnPass<'a, R>> {
             places: _,
             spent: _,
             refused: _,
+            rested: _,
+            apart: _,
         } = self;
         pass.into_pass()
     }

@@ -2,7 +2,7 @@
 ghost use Rattle.std.specs.Prelude.{◌≡◌, ◌⊎◌, ◌<◌, ◌≤◌, Some, OnOk, OnErr, IfOk, All, true, false, length, slice_get};
 ghost use Rattle.term_model.specs.Tree.{arguments, root};
 ghost use Rattle.terms_api.specs.Terms.{IsHeld, IsSound, tree_at};
-ghost use Rattle.shared_desk.specs.Pass.{PassView, own, IsSame, Arrived, left, MayCreate, Got, Swept, IsFilled};
+ghost use Rattle.shared_desk.specs.Pass.{PassView, own, IsSame, IsWorn, Arrived, left, MayCreate, Got, Swept, IsFilled};
 
 use sweep_phase::{Kept, Worn};
 use term_create::Full;
@@ -56,12 +56,14 @@ pub trait SharedPass {
         ensures full { OnErr result (view self.new ≡ view self.old) }
         ensures sound { IsSound (own (view self.new)) };
 
-    /// Collects, in exclusive access, where the protected rows are those of the last Roots. Nothing has changed after `Worn`.
+    /// Collects, in exclusive access, where the protected rows are those of the last Roots. `Worn` comes only where the base leaves no
+    /// room for two epochs more; nothing has changed then.
     fn collect(&mut self) -> Result<Kept, Worn>
         requires alone { (view self.old).alone ≡ true }
         requires roots { (view self.old).roots ≡ (view self.old).noted }
         ensures swept { OnOk result (Swept (view self.old) (view self.new)) }
-        ensures worn { OnErr result (view self.new ≡ view self.old) }
+        ensures unchanged { OnErr result (view self.new ≡ view self.old) }
+        ensures worn { OnErr result (IsWorn (view self.old)) }
         ensures sound { IsSound (own (view self.new)) };
 
     /// Creates after a collection of this access. `Full` comes only where the collection kept as many trees as there are rows, and

@@ -2,7 +2,7 @@ use Rattle.std.proofs.Common.{◌∙◌, ap, subst}
 use Rattle.shared_desk.specs.Places.{Places}
 use Rattle.shared_desk.specs.Pass.{PassView}
 use Rattle.shared_desk.specs.Desk.{Passed}
-use Rattle.shared_desk.proofs.Sweeping.{may_after, swept, outcome_swept, outcome_full}
+use Rattle.shared_desk.proofs.Sweeping.{may_after, swept, outcome_swept, outcome_full, outcome_worn}
 use Rattle.shared_desk.proofs.building.sweep.Goals as goal
 
 pub create_alone-requires-clause-may : goal.create_alone-requires-clause-may
@@ -37,3 +37,11 @@ returns-in-Err-create_alone-clause-outcome g c =
     (ap (λ (z : PassView). z.hand) c.in-Ok.ensures.swept.rest) e.filled passed
     (b.crowd ∙ ap (λ (z : PassView). z.crowd) e.unchanged) (b.hand ∙ ap (λ (z : PassView). z.hand) e.unchanged) in
     (ap (λ (q : Places). q.items) e.stack, o.0, o.1)
+
+pub returns-in-Err-clause-outcome : goal.returns-in-Err-clause-outcome
+returns-in-Err-clause-outcome g c =
+    let v = g.S.SharedPass.view c.args.pass.now in
+    let m = g.S.SharedPass.view c.collect.new.self in
+    let w = g.S.SharedPass.view c.come_back-in-Err.new.pass in
+    let e = c.in-Err.ensures in
+    outcome_worn v w c.args.places.now.items c.args.head c.args.n e.worn (subst (λ z. Passed 0 z w c.args.places.now.items) e.unchanged c.come_back-in-Err.ensures.passed)

@@ -2,9 +2,9 @@ use Rattle.std.proofs.Common.{◌≡◌, ◌∙◌, Err, ◌++◌, ◌∷◌, []
 use Rattle.terms_api.specs.Terms.{IsSound, Built, NotBuilt, IsCrowded, trees, but_last, asked}
 use Rattle.shared_desk.specs.Pass.{shown, store}
 use Rattle.shared_desk.specs.Code.{Contents}
-use Rattle.shared_desk.specs.Desk.{store_of, Outcome}
+use Rattle.shared_desk.specs.Desk.{store_of, IsSame, Outcome}
 use Rattle.shared_desk.proofs.Following.{trees_placed}
-use Rattle.shared_desk.proofs.Desks.{sound_shown, built_shown, not_built_shown, trees_not_built, crowded_shown}
+use Rattle.shared_desk.proofs.Desks.{desk_of, sound_shown, same_told, same_worn, built_shown, not_built_shown, trees_not_built, crowded_shown}
 use Rattle.shared_desk.proofs.interface.DeskTerms.build.Goals as goal
 
 pub returns-then-len-depth-clause-was_sound : goal.returns-then-len-depth-clause-was_sound
@@ -129,3 +129,44 @@ returns-in-Err-StoreFull-clause-store_full_only_where_crowded g c =
     let o = subst (λ f. Outcome v w xs ys h n (Err f)) c.in-Err-StoreFull.field-0-is c.in-Err-StoreFull.ensures.outcome in
     let m = length c.and-self-inside-in-Err-StoreFull.result.items in
     λ e. subst (λ (x : Contents). IsCrowded (store_of x) (shown w ys m s) h n) c.self.view_is (crowded_shown v w xs ys k m s s h n o.2)
+
+pub returns-in-Ok-clause-same : goal.returns-in-Ok-clause-same
+returns-in-Ok-clause-same g c =
+    let v = g.S.SharedPass.view c.self.inside.pass in
+    let w = g.S.SharedPass.view c.build_row.new.pass in
+    let xs = c.self.inside.places.items in
+    let ys = c.build_row.new.places.items in
+    let k = length c.self.inside.refused.items in
+    let s = c.self.inside.spent in
+    let h = c.args.head in
+    let n = c.args.n in
+    let o = c.in-Ok.ensures.outcome in
+    subst (λ (x : Contents). IsSame x (desk_of w ys k s)) c.self.view_is (same_told v w xs ys k k s o.2.same)
+
+pub returns-in-Err-Worn-clause-same : goal.returns-in-Err-Worn-clause-same
+returns-in-Err-Worn-clause-same g c =
+    let v = g.S.SharedPass.view c.self.inside.pass in
+    let w = g.S.SharedPass.view c.build_row.new.pass in
+    let xs = c.self.inside.places.items in
+    let ys = c.build_row.new.places.items in
+    let k = length c.self.inside.refused.items in
+    let s = c.self.inside.spent in
+    let h = c.args.head in
+    let n = c.args.n in
+    let o = subst (λ f. Outcome v w xs ys h n (Err f)) c.in-Err-Worn.field-0-is c.in-Err-Worn.ensures.outcome in
+    let m = length c.and-self-inside.result.items in
+    subst (λ (x : Contents). IsSame x (desk_of w ys m true)) c.self.view_is (same_worn v w xs ys k m s o.1.same o.2)
+
+pub returns-in-Err-StoreFull-clause-same : goal.returns-in-Err-StoreFull-clause-same
+returns-in-Err-StoreFull-clause-same g c =
+    let v = g.S.SharedPass.view c.self.inside.pass in
+    let w = g.S.SharedPass.view c.build_row.new.pass in
+    let xs = c.self.inside.places.items in
+    let ys = c.build_row.new.places.items in
+    let k = length c.self.inside.refused.items in
+    let s = c.self.inside.spent in
+    let h = c.args.head in
+    let n = c.args.n in
+    let o = subst (λ f. Outcome v w xs ys h n (Err f)) c.in-Err-StoreFull.field-0-is c.in-Err-StoreFull.ensures.outcome in
+    let m = length c.and-self-inside-in-Err-StoreFull.result.items in
+    subst (λ (x : Contents). IsSame x (desk_of w ys m s)) c.self.view_is (same_told v w xs ys k m s o.1.same)

@@ -1,10 +1,11 @@
-use Rattle.std.proofs.Common.{◌∙◌, ap, sym, subst}
+use Rattle.std.proofs.Common.{◌∙◌, length, ap, sym, subst}
 use Rattle.terms_api.specs.Terms.{IsSound}
+use Rattle.shared_desk.specs.Pass as pass
 use Rattle.shared_desk.specs.Pass.{store, left}
 use Rattle.shared_desk.specs.Code.{Contents}
-use Rattle.shared_desk.specs.Desk.{store_of, IsRight}
-use Rattle.shared_desk.proofs.Passing.{rooted}
-use Rattle.shared_desk.proofs.Desks.{sound_shown, right_left}
+use Rattle.shared_desk.specs.Desk.{store_of, IsSame, IsRight}
+use Rattle.shared_desk.proofs.Passing.{rooted, ended}
+use Rattle.shared_desk.proofs.Desks.{desk_of, sound_shown, same_told, right_left}
 use Rattle.shared_desk.proofs.interface.DeskTerms.leave.Goals as goal
 
 pub returns-clause-was_sound : goal.returns-clause-was_sound
@@ -22,3 +23,14 @@ returns-clause-sound g c =
     let p = c.self.inside.places in
     let e = c.leave_shared.ensures ∙ ap left c.store_roots.ensures ∙ ap (λ ys. left (rooted v ys)) c.rows.ensures in
     sound_shown (g.S.SharedPass.view c.leave_shared.new.self) p.items _ _ (subst (λ x. IsSound (store x p.items)) (sym e) (right_left v p c.self.invariant).sound)
+
+pub returns-clause-same : goal.returns-clause-same
+returns-clause-same g c =
+    let v = g.S.SharedPass.view c.self.inside.pass in
+    let w = g.S.SharedPass.view c.leave_shared.new.self in
+    let xs = c.self.inside.places.items in
+    let k = length c.self.inside.refused.items in
+    let s = c.self.inside.spent in
+    let e = c.leave_shared.ensures ∙ ap left c.store_roots.ensures ∙ ap (λ ys. left (rooted v ys)) c.rows.ensures in
+    let same = subst (λ x. pass.IsSame v x) (sym e) (ended v xs c.self.invariant.sound).same in
+    subst (λ (x : Contents). IsSame x (desk_of w xs k s)) c.self.view_is (same_told v w xs xs k k s same)
