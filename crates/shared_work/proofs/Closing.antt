@@ -7,11 +7,11 @@ use Rattle.rewrite_model.specs.Rule.{Rule}
 use Rattle.rewrite_model.specs.Built.{built_of_all}
 use Rattle.settings.specs.declared.parts.Settings.{Settings}
 use Rattle.history_core.specs.declared.entry.Entry.{Entry}
-use Rattle.history_core.specs.Chronicle.{chronicle, IsLegal}
+use Rattle.history_core.specs.Chronicle.{chronicle, part_of, entries_of, IsLegal}
 use Rattle.node_rows.specs.declared.store.Store.{Store}
 use Rattle.node_rows.specs.declared.store.Pass.{Pass}
 use Rattle.node_rows.specs.Passes.{IsPass, IsOut}
-use Rattle.node_rows.specs.Told.{HasEntries, TellsTrees}
+use Rattle.node_rows.specs.Told.{HasEntries, KeepsOrder, TellsTrees}
 use Rattle.rewrite_workers.specs.declared.fault.AllFault.{AllFault}
 use Rattle.rewrite_workers.specs.declared.lines.Lines.{Lines}
 use Rattle.rewrite_workers.specs.Lined.{worker_of, drawn_by}
@@ -23,9 +23,9 @@ use Rattle.shared_desk.specs.Telling.{collects_by}
 use Rattle.shared_desk.proofs.Telling.{built_are_named, sweeps_are_counted}
 use Rattle.shared_work.specs.NewDesks.{IsNewDesk}
 use Rattle.shared_work.specs.Running.{HasRun}
-use Rattle.shared_work.specs.Sharing.{named_by, NamesWhatItBuilt, CollectsFew}
+use Rattle.shared_work.specs.Sharing.{named_by, NamesWhatItBuilt, CollectsFew, KeepsOrders}
 
-there : {A : Type 0} (xs : List A) (k : ℕ) → k < length xs → (x : A) × (slice_get xs k ≡ Some x)
+pub there : {A : Type 0} (xs : List A) (k : ℕ) → k < length xs → (x : A) × (slice_get xs k ≡ Some x)
 there [] k l = absurd (omega (arith, l))
 there (x ∷ xs) zero l = (x, refl)
 there (x ∷ xs) (suc k) l = there xs k (omega (arith, l))
@@ -60,7 +60,7 @@ module _ (s : Settings) (rules : List Rule) (terms : List Tree) (store : Store) 
       let same : b.desk ≡ n.0 = same_Some b.desk n.0 (sym b.at ∙ n.1) in
       let back : IsBack n.0.pass p.0 = subst (λ (d : Contents). IsBack d.pass p.0) same b.back in
       let fresh = run.new.each k o.0 o.1 in
-      let seat = (run.same.1 k o.0 n.0 o.1 n.1).seat in
+      let seat = (run.same.1 k o.0 n.0 o.1 n.1).pass.seat in
       record {
         old = o.0;
         new = n.0;
@@ -92,6 +92,12 @@ module _ (s : Settings) (rules : List Rule) (terms : List Tree) (store : Store) 
       let many = counts lists has k w in
       omega (arith, most, none, zero_sweeps, long, many)
 
+  pub keeps_orders : (lists : List (List Entry)) → store.sizes.seats ≡ s.workers → All (HasEntries lists) ps → All (KeepsOrder lists) ps → KeepsOrders s lists
+  keeps_orders lists seats has order k lt =
+      let w = worker k (omega (arith, lt, seats)) in
+      subst (λ j. part_of j (chronicle lists) ≡ entries_of lists j) w.number
+      (all_got (KeepsOrder lists) ps k w.pass order w.at_pass ∙ sym (all_got (HasEntries lists) ps k w.pass has w.at_pass))
+
   -- the passes are those of the store, and out
   pub are_out : All (λ p. IsPass store.table.shared.table_id store.sizes p.seat.seat p.seat.seats × IsOut p.seat.seat.me.0) ps
   are_out k d lt =
@@ -102,7 +108,7 @@ module _ (s : Settings) (rules : List Rule) (terms : List Tree) (store : Store) 
       let three = run.back.count in
       let w = worker k (omega (arith, one, two, three, lt)) in
       let same : w.pass ≡ p = same_Some w.pass p (sym w.at_pass ∙ at) in
-      let of : w.new.pass.store ≡ passes.store_of store = (run.same.1 k w.old w.new w.at_old w.at_new).store ∙ w.fresh.store in
+      let of : w.new.pass.store ≡ passes.store_of store = (run.same.1 k w.old w.new w.at_old w.at_new).pass.store ∙ w.fresh.store in
       let is : IsPass store.table.shared.table_id store.sizes w.pass.seat.seat w.pass.seat.seats = subst (λ (x : WhichStore). IsPass x.table x.sizes w.pass.seat.seat w.pass.seat.seats) of w.back.pass in
       subst (λ (q : Pass). IsPass store.table.shared.table_id store.sizes q.seat.seat q.seat.seats × IsOut q.seat.seat.me.0) same (is, w.back.out)
 
@@ -127,6 +133,10 @@ names_what_it_built s rules terms store (Ok l) ps run lists seats tells = λ k l
 pub none_collect : (s : Settings) (lists : List (List Entry)) → lists ≡ [] → CollectsFew s lists
 none_collect s [] e = λ k lt. omega arith
 none_collect s (x ∷ xs) e = cc
+
+pub none_order : (s : Settings) (lists : List (List Entry)) → lists ≡ [] → KeepsOrders s lists
+none_order s [] e = λ k lt. refl
+none_order s (x ∷ xs) e = cc
 
 pub none_ok : {A E : Type 0} (P : A → Type 0) (r : Result A E) (x : E) → r ≡ Err x → IfOk r P
 none_ok P (Ok a) x e = cc

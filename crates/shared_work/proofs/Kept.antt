@@ -28,7 +28,7 @@ none : {A : Type 0} (t : A) → Contains [] t → ⊥
 none t (k, l, e) = omega (arith, l)
 
 -- a tree of names is the tree of one of them
-tree_of_name : (h : Names) (ns : List ℕ) (t : Tree) → Contains (list_of (trees_at h ns)) t → (n : ℕ) × Contains ns n × (tree_at h n ≡ t)
+pub tree_of_name : (h : Names) (ns : List ℕ) (t : Tree) → Contains (list_of (trees_at h ns)) t → (n : ℕ) × Contains ns n × (tree_at h n ≡ t)
 tree_of_name h [] t c = absurd (none t c)
 tree_of_name h (n ∷ ns) t c = by (tree_of_name h ns t) (Contains-append_cases (tree_at h n ∷ []) (list_of (trees_at h ns)) t c)
   where

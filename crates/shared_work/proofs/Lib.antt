@@ -2,4 +2,13 @@ pub mod Making
 pub mod Readying
 pub mod Closing
 pub mod Kept
+pub mod Refusing
 pub mod Filling
+pub mod Needing
+pub mod Reached
+pub mod Lacking
+pub mod Counting
+pub mod Wearing
+pub mod Members
+pub mod Fronts
+pub mod Fewer

@@ -1,6 +1,6 @@
 -- The desks at the passes of a new store, one after the other, and the passes that they give back.
 use Rattle.std.proofs.Common.{◌≡◌, ℕ, zero, suc, ◌+◌, ◌<◌, ◌≤◌, List, [], ◌∷◌, ◌++◌, get_or, length, refl, sym, ap, subst, ◌∙◌, arith, length-append}
-use Rattle.std.specs.Prelude.{All, Some, slice_get, Result, Ok, Err, IfOk}
+use Rattle.std.specs.Prelude.{All, Some, false, slice_get, Result, Ok, Err, IfOk}
 use Rattle.std.proofs.lemmas.Option.{slice_get_read, same_Some}
 use Rattle.settings.specs.Words.{AreInRange}
 use Rattle.settings.specs.declared.parts.Settings.{Settings}
@@ -18,6 +18,9 @@ use Rattle.shared_desk.specs.Code.{Contents}
 use Rattle.shared_desk.specs.Pass.{PassView}
 use Rattle.shared_desk.specs.Passes.{seen_of, in_shared}
 use Rattle.shared_work.specs.NewDesks.{sizes_for, IsNewPass, IsNewDesk}
+
+pub has_rows : (s : Settings) → AreInRange s → 1 ≤ s.rows
+has_rows s r = let rows = r.rows in let many : (1 ≤ s.rows) × (s.rows ≤ 262144) = grind (arith, rows) in many.0
 
 pub may_size : (s : Settings) (plan : Planned) → AreInRange s → plan.widest ≤ 16 → MaySize (sizes_for s plan)
 may_size s plan r w =
@@ -39,10 +42,11 @@ may_size s plan r w =
     }
 
 -- what a desk at a new pass shows
-pub new_desk : (s : Store) (k : ℕ) (p : Pass) (d : Contents) → IsNewPass s k p → d.pass ≡ seen_of s p → d.stack ≡ [] → IsNewDesk s k d
-new_desk s k p d new e stack = record {
+pub new_desk : (s : Store) (k : ℕ) (p : Pass) (d : Contents) → IsNewPass s k p → d.pass ≡ seen_of s p → d.stack ≡ [] → d.spent ≡ false → IsNewDesk s k d
+new_desk s k p d new e stack unspent = record {
   outside = ap (λ (u : PassView). u.shared) e ∙ ap in_shared new.view;
   stack = stack;
+  unspent = unspent;
   built = ap (λ (u : PassView). u.built) e ∙ ap (λ (v : NodeView). (told v.store.entries).built) new.view;
   sweeps = ap (λ (u : PassView). u.sweeps) e ∙ ap (λ (v : NodeView). (told v.store.entries).sweeps) new.view;
   load = ap (λ (u : PassView). u.load) e ∙ ap (λ (v : NodeView). (told v.store.entries).load) new.view;
@@ -53,10 +57,10 @@ new_desk s k p d new e stack = record {
   depth = ap (λ (u : PassView). u.depth) e;
 }
 
-pub new_desk_of : {E : Type 0} (s : Store) (p : Pass) (r : Result Contents E) → IfOk r (λ d. d.pass ≡ seen_of s p) → IfOk r (λ d. d.stack ≡ [])
+pub new_desk_of : {E : Type 0} (s : Store) (p : Pass) (r : Result Contents E) → IfOk r (λ d. d.pass ≡ seen_of s p) → IfOk r (λ d. d.stack ≡ []) → IfOk r (λ d. d.spent ≡ false)
     → IfOk r (λ d. (k : ℕ) → IsNewPass s k p → IsNewDesk s k d)
-new_desk_of s p (Ok d) e stack = λ k new. new_desk s k p d new e stack
-new_desk_of s p (Err x) e stack = tt
+new_desk_of s p (Ok d) e stack unspent = λ k new. new_desk s k p d new e stack unspent
+new_desk_of s p (Err x) e stack unspent = tt
 
 -- what `Store::make` answers
 pub new_of : {V E : Type 0} (items : V → List Pass) (z : Sizes) (r : Result (Store × V) E)

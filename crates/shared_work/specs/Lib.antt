@@ -2,3 +2,6 @@ pub mod NewDesks
 pub mod Running
 pub mod Sharing
 pub mod Filling
+pub mod Numbers
+pub mod Wearing
+pub mod Fronts

@@ -25,6 +25,7 @@ IsNewPass s k p = IsNew s.table.shared.table_id s.sizes k p.seat.seat p.seat.num
 pub record IsNewDesk (s : Store) (k : ℕ) (desk : Contents) : Type 0 where
   pub outside : desk.pass.shared ≡ false
   pub stack : desk.stack ≡ []
+  pub unspent : desk.spent ≡ false
   pub built : desk.pass.built ≡ []
   pub sweeps : desk.pass.sweeps ≡ 0
   pub load : desk.pass.load ≡ 0

@@ -2,7 +2,7 @@
 use Rattle.std.specs.Prelude.{◌≡◌, ℕ, ◌+◌, ◌≤◌, ◌<◌, List, length}
 use Rattle.term_model.specs.Tree.{Tree}
 use Rattle.history_core.specs.declared.entry.Entry.{Entry}
-use Rattle.history_core.specs.Chronicle.{chronicle}
+use Rattle.history_core.specs.Chronicle.{chronicle, part_of, entries_of}
 use Rattle.history_core.specs.TermSet.{empty}
 use Rattle.history_core.specs.Told.{told, named}
 use Rattle.rewrite_model.specs.Rule.{Rule}
@@ -23,3 +23,7 @@ NamesWhatItBuilt s rules terms workers lists = (k : ℕ) → k < s.workers
 -- each worker collected at most once more than it made or found a tree
 abbrev pub CollectsFew : Settings → List (List Entry) → Type 0
 CollectsFew s lists = (k : ℕ) → k < s.workers → collects_by k (chronicle lists) ≤ length (named_by lists k) + 1
+
+-- Each worker's entries stand in the chronicle in its own order: those that are there under its number are its list.
+abbrev pub KeepsOrders : Settings → List (List Entry) → Type 0
+KeepsOrders s lists = (k : ℕ) → k < s.workers → part_of k (chronicle lists) ≡ entries_of lists k

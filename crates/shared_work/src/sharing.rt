@@ -9,8 +9,11 @@ ghost use Rattle.rewrite_workers.specs.Works.{MayWork};
 ghost use Rattle.shared_desk.specs.Telling.{MayHaveDesk};
 ghost use Rattle.shared_work.specs.NewDesks.{sizes_for, IsNewPass};
 ghost use Rattle.shared_work.specs.Filling.{TellsFull};
+ghost use Rattle.shared_work.specs.Wearing.{TellsWorn};
+ghost use Rattle.shared_work.specs.Fronts.{NamesFronts, NamesOnlyBuilt, TellsEach};
+ghost use Rattle.shared_work.specs.Numbers.{TellsFew, TellsNeed};
 ghost use Rattle.shared_work.specs.Running.{HasRun, WantsMemory};
-ghost use Rattle.shared_work.specs.Sharing.{NamesWhatItBuilt, CollectsFew};
+ghost use Rattle.shared_work.specs.Sharing.{NamesWhatItBuilt, CollectsFew, KeepsOrders};
 
 use crate::desks::{desks_at, passes_of, store_for};
 use ends::Gate;
@@ -99,11 +102,19 @@ fn rewrite_at<R: Threads + Wait + Sync, G: Gate>(
     ensures workers { IfOk result.lines (λ l. All (λ w. w < work.now.settings.workers)
         (map worker_of l.list.items)) }
     ensures legal { IsLegal work.now.settings.rows (chronicle result.chronicle) }
+    ensures order { KeepsOrders work.now.settings result.chronicle }
     ensures built { IfOk result.lines (λ l. NamesWhatItBuilt work.now.settings
         work.now.plan.now.rules work.now.terms.now (map worker_of l.list.items) result.chronicle) }
     ensures collects { CollectsFew work.now.settings result.chronicle }
     ensures full { IfErr result.lines (TellsFull work.now.settings work.now.plan.now.rules
         work.now.terms.now result.chronicle) }
+    ensures need { IfErr result.lines (TellsNeed work.now.settings work.now.plan.now.rules
+        work.now.terms.now) }
+    ensures worn { IfErr result.lines (TellsWorn work.now.settings work.now.plan.now.rules
+        work.now.terms.now) }
+    ensures each { TellsEach work.now.settings result.lines result.chronicle }
+    ensures front { IfErr result.lines (λ fault. NamesFronts work.now.settings
+        work.now.plan.now.rules work.now.terms.now result.chronicle) }
 {
     match rewrite_on(rt, alloc, work, &store, passes, gate) {
         Ok(left) => {
@@ -139,6 +150,9 @@ pub fn rewrite_shared<R: Threads + Wait + Sync, G: Gate>(
     // All entries together are a legal history of one thread, whatever the answer is.
     ensures legal { IsLegal work.now.settings.rows (chronicle result.chronicle) }
 
+    // Each worker's entries stand there in its own order.
+    ensures order { KeepsOrders work.now.settings result.chronicle }
+
     // Each worker made or found, in order, the trees that the terms build that it drew.
     ensures built { IfOk result.lines (λ l. NamesWhatItBuilt work.now.settings
         work.now.plan.now.rules work.now.terms.now (map worker_of l.list.items) result.chronicle) }
@@ -148,6 +162,28 @@ pub fn rewrite_shared<R: Threads + Wait + Sync, G: Gate>(
     // rows, all made by workers, and the worker's next tree isn't among them.
     ensures full { IfErr result.lines (TellsFull work.now.settings work.now.plan.now.rules
         work.now.terms.now result.chronicle) }
+
+    // Then the terms build more different trees than there are rows, and the workers times the most that
+    // one term needs at once are more than the rows too.
+    ensures few { IfErr result.lines (TellsFew work.now.settings work.now.plan.now.rules
+        work.now.terms.now) }
+
+    // The numbers are told to be used up only where so many collections as the terms and the workers may
+    // need can use up all below 2^62.
+    ensures worn { IfErr result.lines (TellsWorn work.now.settings work.now.plan.now.rules
+        work.now.terms.now) }
+
+    // There are the entries of each worker, or of none, where there was no memory.
+    ensures each { TellsEach work.now.settings result.lines result.chronicle }
+
+    // At a fault each worker had drawn terms of its own, and made or found, in order, the first of the
+    // trees that they build.
+    ensures front { IfErr result.lines (λ fault. NamesFronts work.now.settings
+        work.now.plan.now.rules work.now.terms.now result.chronicle) }
+
+    // Whatever the answer is, workers made and found no trees but those that the terms build.
+    ensures only { NamesOnlyBuilt work.now.settings work.now.plan.now.rules work.now.terms.now
+        result.chronicle }
 {
     match store_for(alloc, work) {
         Ok((store, passes)) => rewrite_at(rt, alloc, work, store, passes, gate),

@@ -57,7 +57,7 @@ fn settings_for(workers: u32, rows: u32) -> Settings
         workers,
         fuel: 100,
         rows,
-        depth: 8,
+        depth: 16,
         sizes: false,
         count: 0,
         seats: 2,
@@ -95,13 +95,13 @@ fn text_of(alloc: Global, lines: &Lines) -> Result<Vec<u8>, Fail> {
     Ok(text)
 }
 
-// The different trees are a, b, f(a), g(a,b) and f(g(a,b)), so five rows suffice for any number of workers without a collection; but
-// two workers that make one tree at the same time may each lose a row, so there are ten.
+// The different trees are a, b, f(a), g(a,b) and f(g(a,b)), so five rows suffice for any number of workers. Where two make one tree at
+// the same time each may lose a row until one collects.
 #[test]
 fn the_lines_are_the_same_for_any_number_of_workers(rt: HostRuntime) -> Result<(), Fail> {
     let alloc = rt.alloc();
-    for workers in [1, 2, 4] {
-        let lines = rewrite(&rt, alloc, b"f(a) g(a,b) f(a) f(g(a,b)) b", workers, 10)?;
+    for workers in [1, 2, 16] {
+        let lines = rewrite(&rt, alloc, b"f(a) g(a,b) f(a) f(g(a,b)) b", workers, 5)?;
         let lines = lines.ok().ok_or("no lines")?;
         assert_eq!(rt;
             text_of(alloc, &lines)?.as_slice(),
@@ -134,5 +134,50 @@ fn too_few_rows_are_told(rt: HostRuntime) -> Result<(), Fail> {
     let alloc = rt.alloc();
     let lines = rewrite(&rt, alloc, b"f(a) f(f(a)) b", 1, 2)?;
     assert_eq!(rt; lines.err(), Some(AllFault::StoreFull));
+    Ok(())
+}
+
+// a under so many f: one more different trees than that.
+fn nested(alloc: Global, depth: u32) -> Result<Vec<u8>, Fail> {
+    let mut text = Vec::new(alloc);
+    for _ in 0..depth {
+        text.extend_from_slice(b"f(")?;
+    }
+    text.push(b'a')?;
+    for _ in 0..depth {
+        text.push(b')')?;
+    }
+    Ok(text)
+}
+
+// A term of as many different trees as there are rows has its line, and one of one more has too few rows.
+fn has_its_edge_at<R: Threads + Wait + Abort + Sync>(
+    rt: &R,
+    alloc: Global,
+    workers: u32,
+    rows: u32,
+) -> Result<(), Fail>
+    requires workers { (1 ≤ workers) × (workers ≤ 16) }
+    requires rows { (1 ≤ rows) × (rows ≤ 8) }
+{
+    let mut text = nested(alloc, rows - 1)?;
+    let lines = rewrite(rt, alloc, text.as_slice(), workers, rows)?;
+    let lines = lines.ok().ok_or("no lines")?;
+    text.push(b'\n')?;
+    assert_eq!(rt; text_of(alloc, &lines)?.as_slice(), text.as_slice());
+    let lines = rewrite(rt, alloc, nested(alloc, rows)?.as_slice(), workers, rows)?;
+    assert_eq!(rt; lines.err(), Some(AllFault::StoreFull));
+    Ok(())
+}
+
+// One term is drawn by one worker, however many there are.
+#[test]
+fn the_store_is_full_at_its_edge(rt: HostRuntime) -> Result<(), Fail> {
+    let alloc = rt.alloc();
+    for workers in [1, 2, 16] {
+        for rows in 1..9 {
+            has_its_edge_at(&rt, alloc, workers, rows)?;
+        }
+    }
     Ok(())
 }

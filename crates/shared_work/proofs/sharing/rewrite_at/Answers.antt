@@ -1,8 +1,13 @@
-use Rattle.std.proofs.Common.{ap, subst}
+use Rattle.std.proofs.Common.{ap, subst, ◌∙◌}
 use Rattle.history_core.specs.Chronicle.{chronicle, IsLegal}
 use Rattle.store_core.specs.declared.view.Sizes.{Sizes}
+use Rattle.shared_work.specs.Fronts.{NamesFronts}
 use Rattle.shared_work.proofs.Filling.{tells_full, none_full}
-use Rattle.shared_work.proofs.Closing.{are_out, are_all, names_what_it_built, collects_few, none_collect, none_legal}
+use Rattle.shared_work.proofs.Making.{has_rows}
+use Rattle.shared_work.proofs.Lacking.{tells_need, none_needed}
+use Rattle.shared_work.proofs.Wearing.{tells_worn, none_worn}
+use Rattle.shared_work.proofs.Fronts.{tells_each, nothing_told, tells_fronts, none_fronts, at_err}
+use Rattle.shared_work.proofs.Closing.{are_out, are_all, names_what_it_built, collects_few, keeps_orders, none_collect, none_order, none_legal}
 use Rattle.shared_work.proofs.sharing.rewrite_at.Goals as goal
 
 pub close-chronicle-requires-clause-passes : goal.close-chronicle-requires-clause-passes
@@ -36,8 +41,51 @@ returns-in-Err-clause-collects g c = none_collect c.args.work.now.settings c.not
 pub returns-in-Ok-clause-full : goal.returns-in-Ok-clause-full
 returns-in-Ok-clause-full g c =
     tells_full c.args.work.now.settings c.args.work.now.plan.now.rules c.args.work.now.terms.now c.args.store c.in-Ok.left.lines c.in-Ok.left.passes.items c.in-Ok.ensures.run
-    c.close-chronicle.result c.args.store.sizes.rows (ap (λ (z : Sizes). z.seats) c.requires.sizes) (ap (λ (z : Sizes). z.rows) c.requires.sizes) c.close-chronicle.ensures.count c.close-chronicle.ensures.legal
+    c.close-chronicle.result c.args.store.sizes.rows (has_rows c.args.work.now.settings c.requires.in_range) (ap (λ (z : Sizes). z.seats) c.requires.sizes) (ap (λ (z : Sizes). z.rows) c.requires.sizes) c.close-chronicle.ensures.count c.close-chronicle.ensures.legal
     c.close-chronicle.ensures.told c.close-chronicle.ensures.crowds
 
 pub returns-in-Err-clause-full : goal.returns-in-Err-clause-full
 returns-in-Err-clause-full g c = none_full c.args.work.now.settings c.args.work.now.plan.now.rules c.args.work.now.terms.now c.nothing.result.chronicle c.nothing.result.lines c.nothing.ensures.lines
+
+pub returns-in-Ok-clause-need : goal.returns-in-Ok-clause-need
+returns-in-Ok-clause-need g c =
+    tells_need c.args.work.now.settings c.args.work.now.plan.now.rules c.args.work.now.terms.now c.args.store c.in-Ok.left.lines c.in-Ok.left.passes.items c.in-Ok.ensures.run
+    c.close-chronicle.result (ap (λ (z : Sizes). z.seats) c.requires.sizes) (ap (λ (z : Sizes). z.rows) c.requires.sizes) c.close-chronicle.ensures.count
+    c.args.store.sizes.rows c.close-chronicle.ensures.legal c.close-chronicle.ensures.order c.close-chronicle.ensures.told c.close-chronicle.ensures.crowds
+
+pub returns-in-Err-clause-need : goal.returns-in-Err-clause-need
+returns-in-Err-clause-need g c = none_needed c.args.work.now.settings c.args.work.now.plan.now.rules c.args.work.now.terms.now c.nothing.result.lines c.nothing.ensures.lines
+
+pub returns-in-Ok-clause-worn : goal.returns-in-Ok-clause-worn
+returns-in-Ok-clause-worn g c =
+    tells_worn c.args.work.now.settings c.args.work.now.plan.now.rules c.args.work.now.terms.now c.args.store c.in-Ok.left.lines c.in-Ok.left.passes.items c.in-Ok.ensures.run
+    c.close-chronicle.result (ap (λ (z : Sizes). z.seats) c.requires.sizes) (ap (λ (z : Sizes). z.rows) c.requires.sizes) (ap (λ (z : Sizes). z.first) c.requires.sizes) c.close-chronicle.ensures.count
+    c.close-chronicle.ensures.told c.close-chronicle.ensures.own c.close-chronicle.ensures.numbers c.close-chronicle.ensures.bases
+
+pub returns-in-Err-clause-worn : goal.returns-in-Err-clause-worn
+returns-in-Err-clause-worn g c = none_worn c.args.work.now.settings c.args.work.now.plan.now.rules c.args.work.now.terms.now c.nothing.result.lines c.nothing.ensures.lines
+
+pub returns-in-Ok-clause-each : goal.returns-in-Ok-clause-each
+returns-in-Ok-clause-each g c =
+    tells_each c.args.work.now.settings c.in-Ok.left.lines c.close-chronicle.result (c.close-chronicle.ensures.count ∙ ap (λ (z : Sizes). z.seats) c.requires.sizes)
+
+pub returns-in-Err-clause-each : goal.returns-in-Err-clause-each
+returns-in-Err-clause-each g c = nothing_told c.args.work.now.settings c.nothing.result.lines c.nothing.result.chronicle c.nothing.ensures.lines c.nothing.ensures.chronicle
+
+pub returns-in-Ok-clause-front : goal.returns-in-Ok-clause-front
+returns-in-Ok-clause-front g c =
+    tells_fronts c.args.work.now.settings c.args.work.now.plan.now.rules c.args.work.now.terms.now c.args.store c.in-Ok.left.lines c.in-Ok.left.passes.items c.in-Ok.ensures.run
+    c.close-chronicle.result (ap (λ (z : Sizes). z.seats) c.requires.sizes) c.close-chronicle.ensures.told
+
+pub returns-in-Err-clause-front : goal.returns-in-Err-clause-front
+returns-in-Err-clause-front g c =
+    at_err (NamesFronts c.args.work.now.settings c.args.work.now.plan.now.rules c.args.work.now.terms.now c.nothing.result.chronicle) c.nothing.result.lines
+    (none_fronts c.args.work.now.settings c.args.work.now.plan.now.rules c.args.work.now.terms.now c.nothing.result.chronicle c.nothing.ensures.chronicle)
+
+pub returns-in-Err-clause-order : goal.returns-in-Err-clause-order
+returns-in-Err-clause-order g c = none_order c.args.work.now.settings c.nothing.result.chronicle c.nothing.ensures.chronicle
+
+pub returns-in-Ok-clause-order : goal.returns-in-Ok-clause-order
+returns-in-Ok-clause-order g c =
+    keeps_orders c.args.work.now.settings c.args.work.now.plan.now.rules c.args.work.now.terms.now c.args.store c.in-Ok.left.lines c.in-Ok.left.passes.items c.in-Ok.ensures.run
+    c.close-chronicle.result (ap (λ (z : Sizes). z.seats) c.requires.sizes) c.close-chronicle.ensures.own c.close-chronicle.ensures.order

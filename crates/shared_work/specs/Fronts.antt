@@ -1,0 +1,32 @@
+-- What the chronicle of a store tells of the trees that workers made or found, whether or not all lines were made.
+use Rattle.std.specs.Prelude.{◌≡◌, ◌⊎◌, ℕ, ◌<◌, List, [], ◌++◌, Some, Result, All, Contains, length, slice_get}
+use Rattle.term_model.specs.Tree.{Tree}
+use Rattle.history_core.specs.declared.entry.Entry.{Entry}
+use Rattle.rewrite_model.specs.Rule.{Rule}
+use Rattle.rewrite_model.specs.Built.{built_of_all}
+use Rattle.settings.specs.declared.parts.Settings.{Settings}
+use Rattle.rewrite_workers.specs.Ends.{numbered, AreApart}
+use Rattle.rewrite_workers.specs.declared.fault.AllFault.{AllFault}
+use Rattle.rewrite_workers.specs.declared.lines.Lines.{Lines}
+use Rattle.shared_work.specs.Running.{WantsMemory}
+use Rattle.shared_work.specs.Sharing.{named_by}
+
+-- What the entries of worker k name is a front of what the terms with these numbers build.
+pub record NamesFront (s : Settings) (rules : List Rule) (terms : List Tree) (lists : List (List Entry)) (k : ℕ) (drawn : List ℕ) : Type 0 where
+  pub rest : List Tree
+  pub built : built_of_all rules (numbered terms drawn) s.fuel s.depth ≡ named_by lists k ++ rest
+
+-- Each worker drew terms, upwards, and none was drawn twice; what its entries name is a front of what they build.
+pub record NamesFronts (s : Settings) (rules : List Rule) (terms : List Tree) (lists : List (List Entry)) : Type 0 where
+  pub drawn : List (List ℕ)
+  pub apart : AreApart (length terms) s.workers drawn
+  pub front : (k : ℕ) (numbers : List ℕ) → slice_get drawn k ≡ Some numbers → NamesFront s rules terms lists k numbers
+
+-- Workers made and found no other trees than those that the terms build.
+abbrev pub NamesOnlyBuilt : Settings → List Rule → List Tree → List (List Entry) → Type 0
+NamesOnlyBuilt s rules terms lists = (k : ℕ) → k < s.workers
+    → All (Contains (built_of_all rules terms s.fuel s.depth)) (named_by lists k)
+
+-- There are the entries of each worker, or none, where there was no memory to begin or to end with.
+abbrev pub TellsEach : Settings → Result Lines AllFault → List (List Entry) → Type 0
+TellsEach s lines lists = (length lists ≡ s.workers) ⊎ (WantsMemory lines × (lists ≡ []))
