@@ -17,3 +17,14 @@ pub mod States
 pub mod Using
 pub mod Ways
 pub mod Skipping
+pub mod Constructs
+pub mod Crumbs
+pub mod Parts
+pub mod Sites
+pub mod Walks
+pub mod Lefts
+pub mod Changes
+pub mod Again
+pub mod Rewrites
+pub mod OutwardEnds
+pub mod Pushing

@@ -13,3 +13,10 @@ pub mod Spelled
 pub mod Standing
 pub mod State
 pub mod Tasks
+pub mod BuiltTrees
+pub mod Outward
+pub mod Instances
+pub mod Walking
+pub mod OutwardLaws
+pub mod Rebuilding
+pub mod Rewriting

@@ -1,6 +1,7 @@
 //! What is true of all code, each law the contract of a function that does nothing.
 
 ghost use Rattle.innermost.specs.Laws.{CodeEvaluates, CodeTests, RulesGoOn};
+ghost use Rattle.innermost.specs.OutwardLaws.{CodeConstructs, GoesOn, LeavesTheSame, BuildsAgain, EndsForRoom};
 ghost use Rattle.innermost.specs.State.{Begins, Closes, Builds, BuildsLast, HasNoRoom, PutsBound, Gives, Chooses, Tests, Opens, Stays};
 ghost use Rattle.innermost.specs.Reducing.{TreeStays, RulePasses, NeedsFuel, NeedsRoom, RuleIsUsed};
 
@@ -33,4 +34,13 @@ pub fn step_laws()
     ensures tests { Tests }
     ensures opens { Opens }
     ensures stays { Stays }
+{}
+
+/// Each part of an outermost step comes to what the definition says.
+pub fn outermost_laws()
+    ensures instances { CodeConstructs }
+    ensures goes_on { GoesOn }
+    ensures same { LeavesTheSame }
+    ensures builds { BuildsAgain }
+    ensures no_room { EndsForRoom }
 {}

@@ -5,14 +5,18 @@ ghost use Rattle.term_model.specs.Tree.{IsGround};
 ghost use Rattle.terms_api.specs.Terms.{Store, IsSound};
 ghost use Rattle.rewrite_model.specs.Evaluation.{evaluation};
 ghost use Rattle.rewrite_model.specs.Built.{need};
+ghost use Rattle.rewrite_model.specs.Outermost.{outermost as outermost_of, outermost_built};
 ghost use Rattle.rule_match.specs.Planned.{IsPlain};
 ghost use Rattle.innermost.specs.Normalized.{Answers, Builds, FaultOnlyWhereRefused, SweepsAtMost, LoadsNeedAtMost, KeepsNumbers};
+ghost use Rattle.innermost.specs.BuiltTrees.{BuildsTrees};
 ghost use Rattle.innermost.specs.Machines.{IsFor, settled};
 
 use crate::coding::code_plan;
 use crate::compile::Code;
 use crate::evaluating::evaluate;
 use crate::frames::Frame;
+use crate::outward::rewrite;
+use crate::spots::Spot;
 use crate::windows::Window;
 use crate::{Normal, RunFault};
 use faults::Memory;
@@ -32,18 +36,20 @@ pub struct Machine {
     binds: Binds,
     frames: Vec<Frame>,
     window: Window,
+    spots: Vec<Spot>,
     builds: u32,
 }
 
 impl Model for Machine {
     ghost use Rattle.std.specs.Prelude.{◌<◌, ◌≤◌, length, vec_capacity};
+    ghost use Rattle.innermost.specs.BuiltTrees.{BuildsTrees};
     ghost use Rattle.innermost.specs.Machines.{Made};
 
     ghost Value = { Made };
 
     ghost view = { λ m. record { steps = m.code.steps.items; starts = m.code.starts.items; depth = m.code.depth; bindings = m.binds.room } };
 
-    ghost invariant = { λ m. (m.code.depth ≤ vec_capacity m.frames) × (m.code.depth ≤ vec_capacity m.window.path) × (0 < length m.window.depths.items) };
+    ghost invariant = { λ m. (m.code.depth ≤ vec_capacity m.frames) × (m.code.depth ≤ vec_capacity m.window.path) × (0 < length m.window.depths.items) × (m.code.depth ≤ vec_capacity m.spots) };
 }
 
 impl Machine {
@@ -63,6 +69,7 @@ impl Machine {
                 from: 0,
                 path: Vec::with_capacity(alloc, room)?,
             },
+            spots: Vec::with_capacity(alloc, room)?,
             builds: 0,
         })
     }
@@ -104,6 +111,50 @@ impl Machine {
             &self.code,
             &mut self.binds,
             &mut self.frames,
+            &mut self.window,
+            term,
+            fuel,
+            &mut self.builds,
+            terms,
+        );
+        settle(end, base, terms)
+    }
+
+    /// Rewrites a term by leftmost outermost rewriting: each time at the first position from the
+    /// root that a rule matches, whatever conditions the rule has. A value is on top of the stack,
+    /// and after any other answer the stack is as it was. It takes no memory.
+    pub fn outermost<T: Terms>(
+        &mut self,
+        plan: &Plan,
+        term: &Flat,
+        fuel: u64,
+        terms: &mut T,
+    ) -> Result<Normal, RunFault>
+        requires inside { (T.store terms.old).inside ≡ true }
+        requires machine { IsFor plan.now self.old }
+        requires no_variables { IsGround term.now }
+        requires plain { IsPlain plan.now.widest term.now }
+        requires wide { plan.now.widest ≤ (T.store terms.old).widest }
+        requires free { length (T.store terms.old).stack + self.old.depth
+            ≤ (T.store terms.old).room }
+        ensures answer { Answers (outermost_of plan.now.rules term.now fuel self.old.depth).end
+            (T.store terms.old) (T.store terms.new) result }
+        ensures built { BuildsTrees (outermost_built plan.now.rules term.now fuel self.old.depth)
+            (T.store terms.old) (T.store terms.new) result }
+        ensures faults { FaultOnlyWhereRefused (T.store terms.old) (T.store terms.new) result }
+        ensures sweeps { SweepsAtMost (T.store terms.old) (T.store terms.new) result }
+        ensures numbers { KeepsNumbers (T.store terms.old) (T.store terms.new) }
+        ensures sound { IsSound (T.store terms.new) }
+        ensures machine { self.new ≡ self.old }
+        ensures same { T.same terms.old terms.new }
+    {
+        let base = terms.depth();
+        let _ = plan.rules();
+        let end = rewrite(
+            plan,
+            self.code.depth,
+            &mut self.binds,
+            &mut self.spots,
             &mut self.window,
             term,
             fuel,

@@ -27,10 +27,10 @@ abbrev pub HoldsAll : List Tree → List Tree → Type 0
 HoldsAll b [] = Unit {0}
 HoldsAll b (t ∷ ts) = Holds b t × HoldsAll b ts
 
-holds_more : (b c : List Tree) (t : Tree) → Holds b t → Holds (b ++ c) t
+pub holds_more : (b c : List Tree) (t : Tree) → Holds b t → Holds (b ++ c) t
 holds_more b c t h = λ u i. among_left u b c (h u i)
 
-all_more : (b c : List Tree) (ts : List Tree) → HoldsAll b ts → HoldsAll (b ++ c) ts
+pub all_more : (b c : List Tree) (ts : List Tree) → HoldsAll b ts → HoldsAll (b ++ c) ts
 all_more b c [] h = tt
 all_more b c (t ∷ ts) h = (holds_more b c t h.0, all_more b c ts h.1)
 
@@ -44,7 +44,7 @@ args_held b End u h i = cc
 args_held b (More t ts) u h i =
     elim (among_either u (subtrees t) (subtrees_all ts) i) [ inl l ↦ h.0 u l | inr r ↦ args_held b ts u h.1 r ]
 
-built_held : (b : List Tree) (t : Tree) → HoldsAll b (arguments t) → Holds (b ++ t ∷ []) t
+pub built_held : (b : List Tree) (t : Tree) → HoldsAll b (arguments t) → Holds (b ++ t ∷ []) t
 built_held b (Leaf x) h = λ u i. among_right u b (Leaf x ∷ []) i
 built_held b (Node g ts) h = λ u i.
     elim (among_cases u (Node g ts) (subtrees_all ts) i) [
@@ -53,7 +53,7 @@ built_held b (Node g ts) h = λ u i.
     ]
 
 -- what a pattern binds is part of what it matches
-node_args : (b : List Tree) (g : Head) (ts : Trees) → Holds b (Node g ts) → HoldsAll b (list_of ts)
+pub node_args : (b : List Tree) (g : Head) (ts : Trees) → Holds b (Node g ts) → HoldsAll b (list_of ts)
 node_args b g ts h = go ts (λ u i. h u (among_there u (Node g ts) (subtrees_all ts) i))
   where
     go : (us : Trees) → ((u : Tree) → among u (subtrees_all us) ≡ true → among u b ≡ true) → HoldsAll b (list_of us)
@@ -69,7 +69,7 @@ bind_held b (suc x) t (u ∷ us) bound h k e =
     subst (HoldsAll b) m.2 (k.0, bind_held b x t us m.0 h k.1 m.1)
 
 mutual
-  match_held : (b : List Tree) (p t : Tree) (before bound : List Tree) → Holds b t → HoldsAll b before → match_from p t before ≡ Some bound → HoldsAll b bound
+  pub match_held : (b : List Tree) (p t : Tree) (before bound : List Tree) → Holds b t → HoldsAll b before → match_from p t before ≡ Some bound → HoldsAll b bound
   match_held b (Leaf x) t before bound h k e = bind_held b x t before bound h k e
   match_held b (Node f ps) (Leaf y) before bound h k e = cc
   match_held b (Node f ps) (Node g ts) before bound h k e = matches_held b ps ts before bound (node_args b g ts h) k (if_some (head_eq f g) (match_all ps ts before) bound e).1
@@ -81,7 +81,7 @@ mutual
   matches_held b (More p ps) (More t ts) before bound h k e = option_and_then_some (λ m. match_all ps ts m) (match_from p t before) bound e (λ mid i i'.
       matches_held b ps ts mid bound h.1 (match_held b p t before mid h.0 k i) i')
 
-tree_held : (b : List Tree) (x : ℕ) (bound : List Tree) → nat_lt x (length bound) ≡ true → HoldsAll b bound → Holds b (tree_at x bound)
+pub tree_held : (b : List Tree) (x : ℕ) (bound : List Tree) → nat_lt x (length bound) ≡ true → HoldsAll b bound → Holds b (tree_at x bound)
 tree_held b x bound l h = go x bound (ltb-true x (length bound) l) h
   where
     go : (y : ℕ) (ts : List Tree) → y < length ts → HoldsAll b ts → Holds b (get_or ts y (Leaf x))
@@ -211,7 +211,7 @@ within_good (suc n) rules w = begin_good (reduce_within n rules) rules w (within
 
 -- a ground term has its variables below 0
 mutual
-  ground_below : (t : Tree) → IsGround t → IsBelow 0 t
+  pub ground_below : (t : Tree) → IsGround t → IsBelow 0 t
   ground_below (Leaf x) g = cc
   ground_below (Node h ts) g = all_ground_below ts g
 

@@ -12,3 +12,6 @@ pub mod Comes
 pub mod Measures
 pub mod Counts
 pub mod Steppings
+pub mod Derivations
+pub mod InnermostDerives
+pub mod OutermostClosed

@@ -11,10 +11,10 @@ use Rattle.rewrite_model.specs.Steps.{steps_by, steps_at_root, steps_of, steps_i
 none_contained : {X P : Type 0} (x : X) → Contains [] x → P
 none_contained x c = let l = c.1 in absurd (omega arith)
 
-first_stands : {X : Type 0} (x : X) (xs : List X) → Contains (x ∷ xs) x
+pub first_stands : {X : Type 0} (x : X) (xs : List X) → Contains (x ∷ xs) x
 first_stands x xs = (0, omega arith, refl)
 
-later_stands : {X : Type 0} (x z : X) (xs : List X) → Contains xs z → Contains (x ∷ xs) z
+pub later_stands : {X : Type 0} (x z : X) (xs : List X) → Contains xs z → Contains (x ∷ xs) z
 later_stands x z xs c = let l = c.1 in (suc c.0, omega arith, c.2)
 
 at_place : {X : Type 0} (x z : X) (xs : List X) (k : ℕ) → k < length (x ∷ xs) → get_or (x ∷ xs) k z ≡ z → (x ≡ z) ⊎ Contains xs z

@@ -8,7 +8,7 @@ use Rattle.rewrite_model.specs.Run.{Done}
 use Rattle.rewrite_model.specs.Evaluation.{reduction, begin, evaluation}
 use Rattle.rewrite_model.specs.Step.{Step, Reaches, ReachesInSteps, IsNormalForm}
 use Rattle.rewrite_model.specs.Steps.{steps_of}
-use Rattle.rewrite_model.specs.Outermost.{Same, Changed, step, outermost}
+use Rattle.rewrite_model.specs.Outermost.{Same, Changed, step, outermost, outermost_built}
 use Rattle.rewrite_model.specs.Built.{built_list, need, distinct_built, need_of_all}
 
 -- A pattern matches exactly its instances, and binds a tree to each variable in order.
@@ -38,6 +38,11 @@ MoreFuelIsLeft = (rules : List Rule) (t u : Tree) (fuel room left more : ℕ) �
 abbrev pub SubtreesAreBuilt : Type 0
 SubtreesAreBuilt = (rules : List Rule) (term : Tree) (fuel room : ℕ) → All IsRule rules → IsGround term →
     (front back : List Tree) (t u : Tree) → built_list rules term fuel room ≡ front ++ t ∷ back → IsSubtree u t → Contains (front ++ t ∷ []) u
+
+-- The same of what outermost evaluation builds.
+abbrev pub OutermostSubtreesAreBuilt : Type 0
+OutermostSubtreesAreBuilt = (rules : List Rule) (term : Tree) (fuel room : ℕ) → All IsRule rules → IsGround term →
+    (front back : List Tree) (t u : Tree) → outermost_built rules term fuel room ≡ front ++ t ∷ back → IsSubtree u t → Contains (front ++ t ∷ []) u
 
 -- The trees in hand are built trees: a term needs no more than it builds, and so do many.
 abbrev pub NeedIsBounded : Type 0

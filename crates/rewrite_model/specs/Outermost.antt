@@ -1,7 +1,8 @@
 -- Leftmost outermost evaluation by rules without conditions: the first position from the root that a
 -- left side matches is rewritten, again and again. A run notes the trees that it builds.
-use Rattle.std.specs.Prelude.{ℕ, zero, suc, ◌+◌, ◌-◌, List, [], ◌∷◌, if◌then◌else◌, nat_lt}
-use Rattle.term_model.specs.Tree.{Tree, Leaf, Node, Trees, End, More, count_of}
+use Rattle.std.specs.Prelude.{ℕ, zero, suc, ◌+◌, ◌-◌, List, [], ◌∷◌, length, if◌then◌else◌, nat_lt}
+use Rattle.std.specs.List.{flat_map}
+use Rattle.term_model.specs.Tree.{Tree, Leaf, Node, Trees, End, More, count_of, distinct}
 use Rattle.rewrite_model.specs.Rule.{Rule}
 use Rattle.rewrite_model.specs.Matching.{match_of, if_matched, tree_at}
 use Rattle.rewrite_model.specs.Run.{Run, OutOfFuel, TooDeep, done, ends, noting, ◌>>=◌, in_room}
@@ -81,3 +82,13 @@ outermost rules term fuel room = build [] term fuel room >>= (λ t left. steps r
 
 abbrev pub outermost_built : List Rule → Tree → ℕ → ℕ → List Tree
 outermost_built rules term fuel room = (outermost rules term fuel room).notes
+
+-- of many terms together: what they build, how many trees that are, and how many different ones
+abbrev pub outermost_built_of_all : List Rule → List Tree → ℕ → ℕ → List Tree
+outermost_built_of_all rules terms fuel room = flat_map (λ t. outermost_built rules t fuel room) terms
+
+abbrev pub outermost_total_built : List Rule → List Tree → ℕ → ℕ → ℕ
+outermost_total_built rules terms fuel room = length (outermost_built_of_all rules terms fuel room)
+
+abbrev pub outermost_distinct_built : List Rule → List Tree → ℕ → ℕ → ℕ
+outermost_distinct_built rules terms fuel room = distinct (outermost_built_of_all rules terms fuel room)

@@ -1,6 +1,7 @@
 //! What is true of all matches and evaluations, each law the contract of a function that does nothing.
 
-ghost use Rattle.rewrite_model.specs.Laws.{MatchGivesInstance, MatchBindsVariables, InstancesMatch, BeginsWithItself, FuelFalls, MoreFuelIsLeft, SubtreesAreBuilt, NeedIsBounded, NeedOfAllIsBounded, ValueIsReached, OutermostValueIsReached, ChangeTakesOne, SameTakesNone, OutermostFuelIsSteps, StepsAreAll, NormalHasNone};
+ghost use Rattle.rewrite_model.specs.Laws.{MatchGivesInstance, MatchBindsVariables, InstancesMatch, BeginsWithItself, FuelFalls, MoreFuelIsLeft, SubtreesAreBuilt, OutermostSubtreesAreBuilt, NeedIsBounded, NeedOfAllIsBounded, ValueIsReached, OutermostValueIsReached, ChangeTakesOne, SameTakesNone, OutermostFuelIsSteps, StepsAreAll, NormalHasNone};
+ghost use Rattle.rewrite_model.specs.TraceLaws.{DerivationReaches, EventsLead, EventsReach, EvaluationDerives, TraceLeads};
 
 /// A pattern matches exactly its instances.
 pub fn matching_laws()
@@ -26,6 +27,7 @@ pub fn outermost_fuel_laws()
 /// What is built holds its subtrees, and what is in hand is built.
 pub fn built_laws()
     ensures subtrees { SubtreesAreBuilt }
+    ensures outermost { OutermostSubtreesAreBuilt }
     ensures need { NeedIsBounded }
     ensures need_of_all { NeedOfAllIsBounded }
 {}
@@ -40,4 +42,14 @@ pub fn value_laws()
 pub fn one_step_laws()
     ensures all { StepsAreAll }
     ensures normal { NormalHasNone }
+{}
+
+/// Derivations are steps, their events lead where they lead, and the leftmost innermost derivation
+/// of a term leads to its value.
+pub fn derivation_laws()
+    ensures steps { DerivationReaches }
+    ensures events { EventsLead }
+    ensures reached { EventsReach }
+    ensures value { EvaluationDerives }
+    ensures trace { TraceLeads }
 {}

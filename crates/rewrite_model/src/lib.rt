@@ -5,6 +5,7 @@ mod boxed;
 mod counting;
 mod ends;
 mod evaluating;
+mod event;
 mod finding;
 mod laws;
 mod one_step;
@@ -20,10 +21,12 @@ pub use boxed::{Arguments, Term};
 pub use counting::distinct;
 pub use ends::{End, Evaluated};
 pub use evaluating::{evaluation, need};
+pub use event::Event;
 pub use laws::{
-    built_laws, fuel_laws, matching_laws, one_step_laws, outermost_fuel_laws, value_laws,
+    built_laws, derivation_laws, fuel_laws, matching_laws, one_step_laws, outermost_fuel_laws,
+    value_laws,
 };
 pub use one_step::steps;
-pub use rows::{hand_rows, order_rows, outermost_rows, room_rows, worked_rows};
+pub use rows::{hand_rows, order_rows, outermost_rows, room_rows, trace_rows, worked_rows};
 pub use rules::{Condition, Rule};
 pub use stepping::outermost;

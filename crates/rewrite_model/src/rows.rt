@@ -5,6 +5,7 @@ ghost use Rattle.rewrite_model.specs.OrderRows.{ArgumentsFromLeft, RightSideFrom
 ghost use Rattle.rewrite_model.specs.RoomRows.{LeastRoom, VariableOnTheRight, VariableInNoRoom, RightSideOfTwo, TailInWholeRoom, RoomForVariables, FuelBeforeRoom, RoomOfFirstSide, RoomOfSecondSide, RoomOfSidesOfTwo};
 ghost use Rattle.rewrite_model.specs.HandRows.{EarlierArguments, BoundAtTheRightSide, BoundTreesAreLetGo, BoundRoundArguments, KeptInCondition};
 ghost use Rattle.rewrite_model.specs.OutermostRows.{LeftmostFirst, RightSideInOneLess, RoomToBuildAgain, LeastRoom as LeastOutermostRoom, SecondArgumentInTwoLess, FuelBeforeRoom as OutermostFuelBeforeRoom, CellsAreRewritten as CellsAreRewrittenOutermost};
+ghost use Rattle.rewrite_model.specs.TraceRows.{OneAndOneIsTraced, FewestMoves, ArgumentsFirst, OnlyWhereItMatches, StaysOnTheTerm};
 
 /// Small specifications, their terms, and what comes of them.
 pub fn worked_rows()
@@ -69,4 +70,13 @@ pub fn outermost_rows()
     ensures second_argument { SecondArgumentInTwoLess }
     ensures fuel_before_room { OutermostFuelBeforeRoom }
     ensures cells { CellsAreRewrittenOutermost }
+{}
+
+/// The events of derivations, and what events lead to.
+pub fn trace_rows()
+    ensures one_and_one { OneAndOneIsTraced }
+    ensures fewest_moves { FewestMoves }
+    ensures arguments_first { ArgumentsFirst }
+    ensures matches { OnlyWhereItMatches }
+    ensures stays_on_the_term { StaysOnTheTerm }
 {}

@@ -1,0 +1,61 @@
+use Rattle.std.proofs.Common.{◌≡◌, ℕ, Result, sym, ap, subst, arith}
+use Rattle.rewrite_model.specs.Outermost.{outermost, outermost_built}
+use Rattle.innermost.specs.Normalized.{Answers, FaultOnlyWhereRefused, SweepsAtMost}
+use Rattle.innermost.specs.BuiltTrees.{BuildsTrees}
+use Rattle.innermost.specs.Machines.{Made}
+use Rattle.innermost.specs.declared.normal.Normal.{Normal}
+use Rattle.innermost.specs.declared.normal.RunFault.{RunFault}
+use Rattle.innermost.proofs.OutwardEnds.{all_settled, ends_from, ends_inside, ends_sound, ends_high}
+use Rattle.innermost.proofs.normalizing.Machine.outermost.Goals as goal
+
+pub rewrite-end-requires-clause-free : goal.rewrite-end-requires-clause-free
+rewrite-end-requires-clause-free g c =
+    let depth : c.self.inside.code.depth ≡ c.args.self.now.depth = ap (λ (m : Made). m.depth) c.self.view_is in
+    omega (arith, depth, c.requires.free)
+
+pub settle-requires-clause-inside : goal.settle-requires-clause-inside
+settle-requires-clause-inside g c =
+    ends_inside (g.T.Terms.store c.args.terms.now) (outermost c.args.plan.now.rules c.args.term.now c.args.fuel c.self.inside.code.depth) (g.T.Terms.store c.rewrite-end.new.terms) c.rewrite-end.result (ends_from (g.T.Terms.store c.args.terms.now) (outermost c.args.plan.now.rules c.args.term.now c.args.fuel c.self.inside.code.depth) (g.T.Terms.store c.rewrite-end.new.terms) c.rewrite-end.result c.rewrite-end.ensures.state c.rewrite-end.ensures.fault)
+
+pub settle-requires-clause-base : goal.settle-requires-clause-base
+settle-requires-clause-base g c =
+    let h = ends_high (g.T.Terms.store c.args.terms.now) (outermost c.args.plan.now.rules c.args.term.now c.args.fuel c.self.inside.code.depth) (g.T.Terms.store c.rewrite-end.new.terms) c.rewrite-end.result (ends_from (g.T.Terms.store c.args.terms.now) (outermost c.args.plan.now.rules c.args.term.now c.args.fuel c.self.inside.code.depth) (g.T.Terms.store c.rewrite-end.new.terms) c.rewrite-end.result c.rewrite-end.ensures.state c.rewrite-end.ensures.fault) in
+    omega (arith, h, c.depth-base.ensures.depth)
+
+pub settle-requires-clause-sound : goal.settle-requires-clause-sound
+settle-requires-clause-sound g c =
+    ends_sound (g.T.Terms.store c.args.terms.now) (outermost c.args.plan.now.rules c.args.term.now c.args.fuel c.self.inside.code.depth) (g.T.Terms.store c.rewrite-end.new.terms) c.rewrite-end.result (ends_from (g.T.Terms.store c.args.terms.now) (outermost c.args.plan.now.rules c.args.term.now c.args.fuel c.self.inside.code.depth) (g.T.Terms.store c.rewrite-end.new.terms) c.rewrite-end.result c.rewrite-end.ensures.state c.rewrite-end.ensures.fault)
+
+pub returns-clause-answer : goal.returns-clause-answer
+returns-clause-answer g c =
+    let left = all_settled (g.T.Terms.store c.args.terms.now) (outermost c.args.plan.now.rules c.args.term.now c.args.fuel c.self.inside.code.depth) (g.T.Terms.store c.rewrite-end.new.terms) (g.T.Terms.store c.settle.new.terms) c.depth-base.result c.rewrite-end.result
+    (ends_from (g.T.Terms.store c.args.terms.now) (outermost c.args.plan.now.rules c.args.term.now c.args.fuel c.self.inside.code.depth) (g.T.Terms.store c.rewrite-end.new.terms) c.rewrite-end.result c.rewrite-end.ensures.state c.rewrite-end.ensures.fault) c.depth-base.ensures.depth c.settle.ensures.settled c.settle.ensures.sound in
+    let P : ℕ → Result Normal RunFault → Type 0 = λ d r. Answers (outermost c.args.plan.now.rules c.args.term.now c.args.fuel d).end (g.T.Terms.store c.args.terms.now) (g.T.Terms.store c.settle.new.terms) r in
+    subst (λ d. P d c.settle.result) (ap (λ (m : Made). m.depth) c.self.view_is) (subst (λ r. P c.self.inside.code.depth r) (sym c.settle.ensures.end) left.answer)
+
+pub returns-clause-built : goal.returns-clause-built
+returns-clause-built g c =
+    let left = all_settled (g.T.Terms.store c.args.terms.now) (outermost c.args.plan.now.rules c.args.term.now c.args.fuel c.self.inside.code.depth) (g.T.Terms.store c.rewrite-end.new.terms) (g.T.Terms.store c.settle.new.terms) c.depth-base.result c.rewrite-end.result
+    (ends_from (g.T.Terms.store c.args.terms.now) (outermost c.args.plan.now.rules c.args.term.now c.args.fuel c.self.inside.code.depth) (g.T.Terms.store c.rewrite-end.new.terms) c.rewrite-end.result c.rewrite-end.ensures.state c.rewrite-end.ensures.fault) c.depth-base.ensures.depth c.settle.ensures.settled c.settle.ensures.sound in
+    let P : ℕ → Result Normal RunFault → Type 0 = λ d r. BuildsTrees (outermost_built c.args.plan.now.rules c.args.term.now c.args.fuel d) (g.T.Terms.store c.args.terms.now) (g.T.Terms.store c.settle.new.terms) r in
+    subst (λ d. P d c.settle.result) (ap (λ (m : Made). m.depth) c.self.view_is) (subst (λ r. P c.self.inside.code.depth r) (sym c.settle.ensures.end) left.built)
+
+pub returns-clause-faults : goal.returns-clause-faults
+returns-clause-faults g c =
+    let left = all_settled (g.T.Terms.store c.args.terms.now) (outermost c.args.plan.now.rules c.args.term.now c.args.fuel c.self.inside.code.depth) (g.T.Terms.store c.rewrite-end.new.terms) (g.T.Terms.store c.settle.new.terms) c.depth-base.result c.rewrite-end.result
+    (ends_from (g.T.Terms.store c.args.terms.now) (outermost c.args.plan.now.rules c.args.term.now c.args.fuel c.self.inside.code.depth) (g.T.Terms.store c.rewrite-end.new.terms) c.rewrite-end.result c.rewrite-end.ensures.state c.rewrite-end.ensures.fault) c.depth-base.ensures.depth c.settle.ensures.settled c.settle.ensures.sound in
+    let P : ℕ → Result Normal RunFault → Type 0 = λ d r. FaultOnlyWhereRefused (g.T.Terms.store c.args.terms.now) (g.T.Terms.store c.settle.new.terms) r in
+    subst (λ d. P d c.settle.result) (ap (λ (m : Made). m.depth) c.self.view_is) (subst (λ r. P c.self.inside.code.depth r) (sym c.settle.ensures.end) left.faults)
+
+pub returns-clause-sweeps : goal.returns-clause-sweeps
+returns-clause-sweeps g c =
+    let left = all_settled (g.T.Terms.store c.args.terms.now) (outermost c.args.plan.now.rules c.args.term.now c.args.fuel c.self.inside.code.depth) (g.T.Terms.store c.rewrite-end.new.terms) (g.T.Terms.store c.settle.new.terms) c.depth-base.result c.rewrite-end.result
+    (ends_from (g.T.Terms.store c.args.terms.now) (outermost c.args.plan.now.rules c.args.term.now c.args.fuel c.self.inside.code.depth) (g.T.Terms.store c.rewrite-end.new.terms) c.rewrite-end.result c.rewrite-end.ensures.state c.rewrite-end.ensures.fault) c.depth-base.ensures.depth c.settle.ensures.settled c.settle.ensures.sound in
+    let P : ℕ → Result Normal RunFault → Type 0 = λ d r. SweepsAtMost (g.T.Terms.store c.args.terms.now) (g.T.Terms.store c.settle.new.terms) r in
+    subst (λ d. P d c.settle.result) (ap (λ (m : Made). m.depth) c.self.view_is) (subst (λ r. P c.self.inside.code.depth r) (sym c.settle.ensures.end) left.sweeps)
+
+pub returns-clause-numbers : goal.returns-clause-numbers
+returns-clause-numbers g c =
+    let left = all_settled (g.T.Terms.store c.args.terms.now) (outermost c.args.plan.now.rules c.args.term.now c.args.fuel c.self.inside.code.depth) (g.T.Terms.store c.rewrite-end.new.terms) (g.T.Terms.store c.settle.new.terms) c.depth-base.result c.rewrite-end.result
+    (ends_from (g.T.Terms.store c.args.terms.now) (outermost c.args.plan.now.rules c.args.term.now c.args.fuel c.self.inside.code.depth) (g.T.Terms.store c.rewrite-end.new.terms) c.rewrite-end.result c.rewrite-end.ensures.state c.rewrite-end.ensures.fault) c.depth-base.ensures.depth c.settle.ensures.settled c.settle.ensures.sound in
+    left.numbers

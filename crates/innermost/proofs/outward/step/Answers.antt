@@ -1,0 +1,71 @@
+use Rattle.std.proofs.Common.{◌≡◌, ◌-◌, List, length, sym, ◌∙◌, ap, subst, Some}
+use Rattle.std.specs.Prelude.{slice_get}
+use Rattle.std.proofs.lemmas.Result.{IfOk-weaker, IfErr-weaker}
+use Rattle.term_model.specs.Tree.{Tree}
+use Rattle.term_model.specs.declared.Row.{Row}
+use Rattle.terms_api.specs.Terms.{Store, tree_at}
+use Rattle.rewrite_model.specs.Run.{done, ends, TooDeep}
+use Rattle.rewrite_model.specs.Outermost.{Same, step}
+use Rattle.innermost.specs.Outward.{Stops, Finishes}
+use Rattle.innermost.specs.Walking.{IsFound}
+use Rattle.innermost.specs.Rewriting.{IsReplacing}
+use Rattle.innermost.proofs.Rewrites.{on_tree, on_stops, on_finishes}
+use Rattle.innermost.proofs.outward.step.Goals as goal
+
+pub replace-requires-clause-state : goal.replace-requires-clause-state
+replace-requires-clause-state g c =
+    let s = c.requires.state in
+    let now = g.T.Terms.store c.args.terms.now in
+    let at : slice_get now.stack (length now.stack - 1) ≡ Some c.at-row.result = subst (λ k. slice_get now.stack (k - 1) ≡ Some c.at-row.result) c.depth-place.ensures.depth c.at-row.ensures.row in
+    let tree : tree_at (g.T.Terms.store c.at-row.new.self) c.at-row.result ≡ (s.1).tree = ap (λ (q : Store). tree_at q c.at-row.result) c.at-row.ensures.unchanged ∙ on_tree s.0 c.args.plan.now c.args.depth c.args.left.now now s.1 c.at-row.result at in
+    let found = subst (λ (t : Tree). IsFound c.args.plan.now c.args.depth t (g.T.Terms.store c.walk.new.terms) c.walk.new.spots.items c.walk.new.binds.rows c.in-Found.rule c.in-Found.room) tree c.in-Found.ensures.state in
+    let found' = subst (λ (q : Store). IsFound c.args.plan.now c.args.depth (s.1).tree q c.walk.new.spots.items c.walk.new.binds.rows c.in-Found.rule c.in-Found.room) (c.walk.ensures.unchanged ∙ c.at-row.ensures.unchanged) found in
+    let rows = subst (λ (rs : List Row). IsFound c.args.plan.now c.args.depth (s.1).tree now c.walk.new.spots.items rs c.in-Found.rule c.in-Found.room) (sym c.rows.ensures) found' in
+    let all : IsReplacing (s.0) c.args.plan.now c.args.depth c.args.left.now now c.walk.new.spots.items c.rows.result.now c.in-Found.rule c.in-Found.room = record { on = s.1; found = rows } in
+    let replacing = subst (λ (q : Store). IsReplacing (s.0) c.args.plan.now c.args.depth c.args.left.now q c.walk.new.spots.items c.rows.result.now c.in-Found.rule c.in-Found.room) (sym (c.walk.ensures.unchanged ∙ c.at-row.ensures.unchanged)) all in
+    (s.0, replacing)
+
+pub returns-in-Found-clause-state : goal.returns-in-Found-clause-state
+returns-in-Found-clause-state g c =
+    IfOk-weaker c.replace.result _ _ (λ end h run e.
+    let now = g.T.Terms.store c.args.terms.now in
+    let at : slice_get now.stack (length now.stack - 1) ≡ Some c.at-row.result = subst (λ k. slice_get now.stack (k - 1) ≡ Some c.at-row.result) c.depth-place.ensures.depth c.at-row.ensures.row in
+    let tree : tree_at (g.T.Terms.store c.at-row.new.self) c.at-row.result ≡ (e).tree = ap (λ (q : Store). tree_at q c.at-row.result) c.at-row.ensures.unchanged ∙ on_tree run c.args.plan.now c.args.depth c.args.left.now now e c.at-row.result at in
+    let found = subst (λ (t : Tree). IsFound c.args.plan.now c.args.depth t (g.T.Terms.store c.walk.new.terms) c.walk.new.spots.items c.walk.new.binds.rows c.in-Found.rule c.in-Found.room) tree c.in-Found.ensures.state in
+    let found' = subst (λ (q : Store). IsFound c.args.plan.now c.args.depth (e).tree q c.walk.new.spots.items c.walk.new.binds.rows c.in-Found.rule c.in-Found.room) (c.walk.ensures.unchanged ∙ c.at-row.ensures.unchanged) found in
+    let rows = subst (λ (rs : List Row). IsFound c.args.plan.now c.args.depth (e).tree now c.walk.new.spots.items rs c.in-Found.rule c.in-Found.room) (sym c.rows.ensures) found' in
+    let all : IsReplacing (run) c.args.plan.now c.args.depth c.args.left.now now c.walk.new.spots.items c.rows.result.now c.in-Found.rule c.in-Found.room = record { on = e; found = rows } in
+    let replacing = subst (λ (q : Store). IsReplacing (run) c.args.plan.now c.args.depth c.args.left.now q c.walk.new.spots.items c.rows.result.now c.in-Found.rule c.in-Found.room) (sym (c.walk.ensures.unchanged ∙ c.at-row.ensures.unchanged)) all in
+    h run replacing) c.replace.ensures.state
+
+pub returns-in-Found-clause-fault : goal.returns-in-Found-clause-fault
+returns-in-Found-clause-fault g c =
+    IfErr-weaker c.replace.result _ _ (λ fault h run e.
+    let now = g.T.Terms.store c.args.terms.now in
+    let at : slice_get now.stack (length now.stack - 1) ≡ Some c.at-row.result = subst (λ k. slice_get now.stack (k - 1) ≡ Some c.at-row.result) c.depth-place.ensures.depth c.at-row.ensures.row in
+    let tree : tree_at (g.T.Terms.store c.at-row.new.self) c.at-row.result ≡ (e).tree = ap (λ (q : Store). tree_at q c.at-row.result) c.at-row.ensures.unchanged ∙ on_tree run c.args.plan.now c.args.depth c.args.left.now now e c.at-row.result at in
+    let found = subst (λ (t : Tree). IsFound c.args.plan.now c.args.depth t (g.T.Terms.store c.walk.new.terms) c.walk.new.spots.items c.walk.new.binds.rows c.in-Found.rule c.in-Found.room) tree c.in-Found.ensures.state in
+    let found' = subst (λ (q : Store). IsFound c.args.plan.now c.args.depth (e).tree q c.walk.new.spots.items c.walk.new.binds.rows c.in-Found.rule c.in-Found.room) (c.walk.ensures.unchanged ∙ c.at-row.ensures.unchanged) found in
+    let rows = subst (λ (rs : List Row). IsFound c.args.plan.now c.args.depth (e).tree now c.walk.new.spots.items rs c.in-Found.rule c.in-Found.room) (sym c.rows.ensures) found' in
+    let all : IsReplacing (run) c.args.plan.now c.args.depth c.args.left.now now c.walk.new.spots.items c.rows.result.now c.in-Found.rule c.in-Found.room = record { on = e; found = rows } in
+    let replacing = subst (λ (q : Store). IsReplacing (run) c.args.plan.now c.args.depth c.args.left.now q c.walk.new.spots.items c.rows.result.now c.in-Found.rule c.in-Found.room) (sym (c.walk.ensures.unchanged ∙ c.at-row.ensures.unchanged)) all in
+    h run replacing) c.replace.ensures.fault
+
+pub returns-in-TooDeep-clause-state : goal.returns-in-TooDeep-clause-state
+returns-in-TooDeep-clause-state g c = λ run e.
+    let now = g.T.Terms.store c.args.terms.now in
+    let at : slice_get now.stack (length now.stack - 1) ≡ Some c.at-row.result = subst (λ k. slice_get now.stack (k - 1) ≡ Some c.at-row.result) c.depth-place.ensures.depth c.at-row.ensures.row in
+    let tree : tree_at (g.T.Terms.store c.at-row.new.self) c.at-row.result ≡ (e).tree = ap (λ (q : Store). tree_at q c.at-row.result) c.at-row.ensures.unchanged ∙ on_tree run c.args.plan.now c.args.depth c.args.left.now now e c.at-row.result at in
+    let stop : step c.args.plan.now.rules e.tree c.args.left.now c.args.depth ≡ ends TooDeep = subst (λ (t : Tree). step c.args.plan.now.rules t c.args.left.now c.args.depth ≡ ends TooDeep) tree (c.in-TooDeep.ensures.state c.args.left.now) in
+    subst (λ (q : Store). Stops run.start q run.whole TooDeep) (sym (c.walk.ensures.unchanged ∙ c.at-row.ensures.unchanged)) (on_stops run c.args.plan.now c.args.depth c.args.left.now now e stop)
+
+pub returns-in-Same-clause-state : goal.returns-in-Same-clause-state
+returns-in-Same-clause-state g c = λ run e.
+    let now = g.T.Terms.store c.args.terms.now in
+    let at : slice_get now.stack (length now.stack - 1) ≡ Some c.at-row.result = subst (λ k. slice_get now.stack (k - 1) ≡ Some c.at-row.result) c.depth-place.ensures.depth c.at-row.ensures.row in
+    let tree : tree_at (g.T.Terms.store c.at-row.new.self) c.at-row.result ≡ (e).tree = ap (λ (q : Store). tree_at q c.at-row.result) c.at-row.ensures.unchanged ∙ on_tree run c.args.plan.now c.args.depth c.args.left.now now e c.at-row.result at in
+    let same : step c.args.plan.now.rules e.tree c.args.left.now c.args.depth ≡ done Same c.args.left.now = subst (λ (t : Tree). step c.args.plan.now.rules t c.args.left.now c.args.depth ≡ done Same c.args.left.now) tree (c.in-Same.ensures.state c.args.left.now) in
+    subst (λ (q : Store). Finishes run.start q run.whole c.args.left.now) (sym (c.walk.ensures.unchanged ∙ c.at-row.ensures.unchanged)) (on_finishes run c.args.plan.now c.args.depth c.args.left.now now e same)
+
+pub unreachable-requires : goal.unreachable-requires
+unreachable-requires g c = c.walk.ensures.on c.in-On.is

@@ -1,0 +1,30 @@
+use Rattle.std.proofs.Common.{List, refl, sym, ◌∙◌, ap, subst, arith}
+use Rattle.terms_api.specs.Terms.{Store, tree_at}
+use Rattle.innermost.specs.declared.spots.Spot.{Spot}
+use Rattle.innermost.specs.Walking.{IsTrying}
+use Rattle.innermost.proofs.Walks.{walk_begins}
+use Rattle.innermost.proofs.walking.walk.Goals as goal
+
+pub try_at-found-requires-clause-state : goal.try_at-found-requires-clause-state
+try_at-found-requires-clause-state g c =
+    let now = g.T.Terms.store c.args.terms.now in
+    let t = tree_at now c.args.row in (
+      c.args.depth,
+      t,
+      omega (arith, c.requires.spots_room, c.clear.ensures.capacity),
+      subst (λ (fs : List Spot). IsTrying c.args.plan.now c.args.depth t now fs c.args.row c.args.depth) (sym c.clear.ensures.items) (walk_begins c.args.plan.now c.args.depth t now c.args.row c.requires.held refl),
+    )
+
+pub walk-init : goal.walk-init
+walk-init g c =
+    let now = g.T.Terms.store c.args.terms.now in
+    let t = tree_at now c.args.row in
+    let e = c.try_at-found.ensures in
+    record {
+      inside = ap (λ (q : Store). q.inside) e.unchanged ∙ c.requires.inside;
+      spots_room = e.spots_room ∙ c.clear.ensures.capacity;
+      binds_room = e.binds_room;
+      unchanged = e.unchanged;
+      state = e.state c.args.depth t (subst (λ (fs : List Spot). IsTrying c.args.plan.now c.args.depth t now fs c.args.row c.args.depth) (sym c.clear.ensures.items) (walk_begins c.args.plan.now c.args.depth t now c.args.row c.requires.held refl));
+      same = e.same;
+    }

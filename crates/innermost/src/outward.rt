@@ -1,0 +1,172 @@
+//! Leftmost outermost rewriting of a term.
+
+ghost use Rattle.std.specs.Prelude.{◌≡◌, ℕ, ◌+◌, ◌-◌, ◌<◌, ◌≤◌, List, [], ◌∷◌, ◌++◌, length, ◌⊎◌, IfOk, IfErr, IsSome, true, vec_capacity, slice_index_or};
+ghost use Rattle.term_model.specs.Tree.{IsGround};
+ghost use Rattle.terms_api.specs.Terms.{Store, IsSound};
+ghost use Rattle.rewrite_model.specs.Rule.{Rule};
+ghost use Rattle.rewrite_model.specs.Outermost.{outermost};
+ghost use Rattle.rule_match.specs.Planned.{HasRoom, IsPlain};
+ghost use Rattle.innermost.specs.Outward.{EndsAs, WasGivenUp};
+ghost use Rattle.innermost.specs.Rewriting.{Run, IsOn, IsReplacing, GoesOn};
+
+use crate::instantiating::instantiate;
+use crate::rebuilding::rebuild;
+use crate::spots::{Spot, Walk};
+use crate::walking::walk;
+use crate::windows::Window;
+use crate::{Normal, RunFault};
+use rule_match::{Binds, Plan};
+use term_model::{Flat, Row};
+use terms_api::Terms;
+
+/// The right side of a rule.
+fn right_of(plan: &Plan, rule: u32) -> &Flat
+    requires { rule < length plan.now.rules }
+    ensures { (r : Rule) → r ≡ slice_index_or plan.now.rules rule r → result.now ≡ r.right }
+{
+    plan.rules()[rule as usize].right()
+}
+
+/// Puts the tree that a rule makes of the position found in the place of the tree on top, where
+/// there is fuel and room; else this is the end.
+fn replace<T: Terms>(
+    plan: &Plan,
+    rule: u32,
+    room: u32,
+    rows: &[Row],
+    depth: u32,
+    spots: &mut Vec<Spot>,
+    window: &mut Window,
+    left: &mut u64,
+    builds: &mut u32,
+    terms: &mut T,
+) -> Result<Option<Normal>, RunFault>
+    requires inside { (T.store terms.old).inside ≡ true }
+    requires path_room { depth ≤ vec_capacity window.old.path }
+    requires window { 0 < length window.old.depths.items }
+    requires state { (run : Run)
+        × IsReplacing run plan.now depth left.old (T.store terms.old) spots.old.items rows.now rule room }
+    ensures state { IfOk result (λ end. (run : Run)
+        → IsReplacing run plan.now depth left.old (T.store terms.old) spots.old.items rows.now rule room
+        → GoesOn run plan.now depth left.new (T.store terms.new) end) }
+    ensures fault { IfErr result (λ fault. (run : Run)
+        → IsReplacing run plan.now depth left.old (T.store terms.old) spots.old.items rows.now rule room
+        → WasGivenUp run.start (T.store terms.new) run.whole fault) }
+    ensures smaller { IfOk result (λ end. left.new + 1 ≡ left.old ⊎ IsSome end) }
+    ensures spots_room { vec_capacity spots.new ≡ vec_capacity spots.old }
+    ensures path_room { depth ≤ vec_capacity window.new.path }
+    ensures window { 0 < length window.new.depths.items }
+    ensures same { T.same terms.old terms.new }
+{
+    if *left == 0 {
+        return Ok(Some(Normal::OutOfFuel));
+    }
+    *left -= 1;
+    let place = terms.depth() - 1;
+    let right = right_of(plan, rule);
+    if !instantiate(right, rows, room - 1, depth, window, builds, terms)? {
+        return Ok(Some(Normal::TooDeep));
+    }
+    if !rebuild(spots, builds, terms)? {
+        return Ok(Some(Normal::TooDeep));
+    }
+    terms.keep(place, 1);
+    Ok(None)
+}
+
+/// Rewrites the tree on top once, at the first position from the root that a rule matches. An end
+/// where there is none, or no fuel or room.
+fn step<T: Terms>(
+    plan: &Plan,
+    depth: u32,
+    binds: &mut Binds,
+    spots: &mut Vec<Spot>,
+    window: &mut Window,
+    left: &mut u64,
+    builds: &mut u32,
+    terms: &mut T,
+) -> Result<Option<Normal>, RunFault>
+    requires inside { (T.store terms.old).inside ≡ true }
+    requires binds_room { HasRoom binds.old.room plan.now.rules }
+    requires spots_room { depth ≤ vec_capacity spots.old }
+    requires path_room { depth ≤ vec_capacity window.old.path }
+    requires window { 0 < length window.old.depths.items }
+    requires state { (run : Run) × IsOn run plan.now depth left.old (T.store terms.old) }
+    ensures state { IfOk result (λ end. (run : Run)
+        → IsOn run plan.now depth left.old (T.store terms.old)
+        → GoesOn run plan.now depth left.new (T.store terms.new) end) }
+    ensures fault { IfErr result (λ fault. (run : Run)
+        → IsOn run plan.now depth left.old (T.store terms.old)
+        → WasGivenUp run.start (T.store terms.new) run.whole fault) }
+    ensures smaller { IfOk result (λ end. left.new + 1 ≡ left.old ⊎ IsSome end) }
+    ensures spots_room { vec_capacity spots.new ≡ vec_capacity spots.old }
+    ensures binds_room { binds.new.room ≡ binds.old.room }
+    ensures path_room { depth ≤ vec_capacity window.new.path }
+    ensures window { 0 < length window.new.depths.items }
+    ensures same { T.same terms.old terms.new }
+{
+    let place = terms.depth() - 1;
+    let row = terms.at(place);
+    match walk(plan, row, depth, spots, binds, terms) {
+        Walk::Found(rule, room) => replace(
+            plan,
+            rule,
+            room,
+            binds.rows(),
+            depth,
+            spots,
+            window,
+            left,
+            builds,
+            terms,
+        ),
+        Walk::TooDeep => Ok(Some(Normal::TooDeep)),
+        Walk::Same => Ok(Some(Normal::Value { left: *left })),
+        Walk::On => unreachable!(),
+    }
+}
+
+/// Builds a term, and rewrites it step by step.
+pub(crate) fn rewrite<T: Terms>(
+    plan: &Plan,
+    depth: u32,
+    binds: &mut Binds,
+    spots: &mut Vec<Spot>,
+    window: &mut Window,
+    term: &Flat,
+    fuel: u64,
+    builds: &mut u32,
+    terms: &mut T,
+) -> Result<Normal, RunFault>
+    requires inside { (T.store terms.old).inside ≡ true }
+    requires binds_room { HasRoom binds.old.room plan.now.rules }
+    requires spots_room { depth ≤ vec_capacity spots.old }
+    requires path_room { depth ≤ vec_capacity window.old.path }
+    requires window { 0 < length window.old.depths.items }
+    requires sound { IsSound (T.store terms.old) }
+    requires no_variables { IsGround term.now }
+    requires plain { IsPlain plan.now.widest term.now }
+    requires wide { plan.now.widest ≤ (T.store terms.old).widest }
+    requires free { length (T.store terms.old).stack + depth ≤ (T.store terms.old).room }
+    ensures state { IfOk result (λ end. EndsAs (T.store terms.old) (T.store terms.new)
+        (outermost plan.now.rules term.now fuel depth) end) }
+    ensures fault { IfErr result (λ fault. WasGivenUp (T.store terms.old) (T.store terms.new)
+        (outermost plan.now.rules term.now fuel depth) fault) }
+    ensures spots_room { vec_capacity spots.new ≡ vec_capacity spots.old }
+    ensures binds_room { binds.new.room ≡ binds.old.room }
+    ensures path_room { depth ≤ vec_capacity window.new.path }
+    ensures window { 0 < length window.new.depths.items }
+    ensures same { T.same terms.old terms.new }
+{
+    let _ = plan.rules();
+    if !instantiate(term, &[], depth, depth, window, builds, terms)? {
+        return Ok(Normal::TooDeep);
+    }
+    let mut left = fuel;
+    'steps: loop {
+        match step(plan, depth, binds, spots, window, &mut left, builds, terms)? {
+            Some(end) => return Ok(end),
+            None => {}
+        }
+    }
+}
