@@ -3,7 +3,7 @@
 #![tactic(auto)]
 
 use rec_check::{Spec, check};
-use rec_reader::{ReadFail, Syntax, syntax, tokens};
+use rec_reader::{ReadFail, Syntax};
 use std::alloc::Global;
 use std::io;
 use std::io::Read;
@@ -21,8 +21,7 @@ fn declared(syntax: &Syntax) -> usize {
 
 /// What the bytes spell, and how many symbols they declare.
 fn read(alloc: Global, bytes: &[u8]) -> Result<(Spec, usize), ReadFail> {
-    let tokens = tokens(alloc, bytes)?;
-    let syntax = syntax(alloc, &tokens)?;
+    let syntax = rec_reader::read(alloc, bytes)?;
     Ok((check(alloc, &syntax)?, declared(&syntax)))
 }
 

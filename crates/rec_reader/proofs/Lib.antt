@@ -23,3 +23,4 @@ pub mod Verdicts
 pub mod Wholeness
 pub mod Counts
 pub mod Fewness
+pub mod Passing

@@ -8,3 +8,4 @@ pub mod Refusal
 pub mod Steps
 pub mod Whole
 pub mod Few
+pub mod Reached

@@ -13,7 +13,7 @@ mod token;
 pub use fail::ReadFail;
 pub use faults::Memory;
 pub use laws::token_laws;
-pub use parser::syntax;
+pub use parser::{read, syntax};
 pub use scanner::tokens;
 pub use sequence::Sequence;
 pub use syntax_tree::{Condition, Declaration, Node, Rule, Specification, Syntax, Variables};

@@ -1,12 +1,15 @@
 //! Reads tokens as specifications.
-ghost use Rattle.std.specs.Prelude.{◌≡◌, ◌<◌, ◌^◌, length, List, Some, IfOk, IfErr};
+ghost use Rattle.std.specs.Prelude.{◌≡◌, ◌<◌, ◌≤◌, ◌^◌, length, List, Some, IfOk, IfErr, IsErrOf, OnOk};
 ghost use Rattle.rec_reader.specs.declared.syntax_tree.Specification.{Specification};
+ghost use Rattle.rec_reader.specs.Few.{AreCountsFew};
 ghost use Rattle.rec_reader.specs.Grammar.{IsInput};
+ghost use Rattle.rec_reader.specs.Reached.{HasRun, IsUntaken, IsStoppedIn, Spells, IsReadRefusal};
 ghost use Rattle.rec_reader.specs.Refusal.{IsRefusal};
-ghost use Rattle.rec_reader.specs.Steps.{run, start, IsStopped};
+ghost use Rattle.rec_reader.specs.Steps.{run, start, step, IsStopped};
 
 use crate::fail::ReadFail;
 use crate::machine::{Machine, Stop};
+use crate::scanner::{MOST_BYTES, Piece, piece_at, tokens};
 use crate::syntax_tree::Syntax;
 use crate::token::{Token, Tokens};
 use faults::kinds;
@@ -54,6 +57,81 @@ pub fn syntax(alloc: Global, tokens: &Tokens) -> Result<Syntax, ReadFail>
         None => Err(ReadFail::Refused {
             kind: kinds::UNENDED,
             offset: tokens.text().len() as u64,
+        }),
+    }
+}
+
+// Takes a token of the bytes. One that is unexpected is refused only where all bytes have tokens.
+fn take(alloc: Global, bytes: &[u8], machine: &mut Machine, token: Token) -> Result<(), ReadFail>
+    requires { AreCountsFew machine.old.heads }
+    ensures taken { OnOk result (step machine.old token ≡ Some machine.new) }
+    ensures untaken { IfErr result (IsUntaken bytes.now machine.old token) }
+{
+    let place = token.place();
+    match machine.step(alloc, token) {
+        Ok(()) => Ok(()),
+        Err(Stop::Unexpected) => {
+            let _tokens = tokens(alloc, bytes)?;
+            Err(ReadFail::Refused {
+                kind: kinds::UNEXPECTED,
+                offset: place as u64,
+            })
+        }
+        Err(Stop::Memory) => Err(ReadFail::Memory),
+    }
+}
+
+// Takes all tokens of the bytes. None of them is kept, but for what its sentence needs.
+fn run_bytes(alloc: Global, bytes: &[u8]) -> Result<Machine, ReadFail>
+    requires { length bytes.now < 2 ^ 32 }
+    ensures ran { IfOk result (HasRun bytes.now) }
+    ensures stopped { IfErr result (IsStoppedIn bytes.now) }
+{
+    let mut machine = Machine::start(alloc);
+    let mut at = 0;
+    while at < bytes.len() {
+        match piece_at(bytes, at) {
+            Piece::Blank(more) => at += more + 1,
+            Piece::Whole(token, more) => {
+                take(alloc, bytes, &mut machine, token)?;
+                at += more + 1;
+            }
+            Piece::Bad => {
+                return Err(ReadFail::Refused {
+                    kind: kinds::BAD_BYTE,
+                    offset: at as u64,
+                });
+            }
+        }
+    }
+    Ok(machine)
+}
+
+/// The specifications that bytes spell. It gives what `syntax` gives of their `tokens`, and keeps no token.
+///
+/// Refuses bytes that have no tokens as `tokens` does, and else as `syntax` does.
+pub fn read(alloc: Global, bytes: &[u8]) -> Result<Syntax, ReadFail>
+    ensures bytes { IfOk result (λ s. s.bytes ≡ bytes.now) }
+    ensures sentence { IfOk result (λ s. Spells bytes.now s.specifications) }
+    // Nothing of the grammar is refused, and no other specifications are spelled by these bytes.
+    ensures accepted { (specs : List Specification)
+        → Spells bytes.now specs → IfErr result (λ e. e ≡ ReadFail.Memory) }
+    ensures only { IfOk result (λ s. (others : List Specification)
+        → Spells bytes.now others → others ≡ s.specifications) }
+    ensures refused { IfErr result (IsReadRefusal bytes.now) }
+    ensures too_long { 2 ^ 32 ≤ length bytes.now → IsErrOf result ReadFail.Memory }
+{
+    if bytes.len() > MOST_BYTES {
+        return Err(ReadFail::Memory);
+    }
+    match run_bytes(alloc, bytes)?.finish() {
+        Some(items) => {
+            let text = Vec::from_slice(alloc, bytes)?;
+            Ok(Syntax { text, items })
+        }
+        None => Err(ReadFail::Refused {
+            kind: kinds::UNENDED,
+            offset: bytes.len() as u64,
         }),
     }
 }

@@ -1,5 +1,5 @@
 //! Inputs, and what reading them comes to.
-use crate::{Name, Node, ReadFail, Sign, Token, syntax, tokens};
+use crate::{Name, Node, ReadFail, Sign, Syntax, Token, syntax, tokens};
 use std::alloc::Global;
 use std::test::Fail;
 
@@ -113,12 +113,8 @@ static CUTS: [(&[u8], [Token; 3]); 4] = [
     ),
 ];
 
-// The kind and the place of the refusal, or twice 0 where the bytes spell specifications.
-fn read(alloc: Global, bytes: &[u8]) -> Result<(u8, u64), ReadFail> {
-    let read = match tokens(alloc, bytes) {
-        Ok(tokens) => syntax(alloc, &tokens),
-        Err(fail) => Err(fail),
-    };
+// The kind and the place of a refusal, or twice 0.
+fn outcome_of(read: Result<Syntax, ReadFail>) -> Result<(u8, u64), ReadFail> {
     match read {
         Ok(_) => Ok((0, 0)),
         Err(ReadFail::Refused { kind, offset }) => Ok((kind, offset)),
@@ -126,10 +122,25 @@ fn read(alloc: Global, bytes: &[u8]) -> Result<(u8, u64), ReadFail> {
     }
 }
 
+// The kind and the place of the refusal, or twice 0 where the bytes spell specifications.
+fn read(alloc: Global, bytes: &[u8]) -> Result<(u8, u64), ReadFail> {
+    let read = match tokens(alloc, bytes) {
+        Ok(tokens) => syntax(alloc, &tokens),
+        Err(fail) => Err(fail),
+    };
+    outcome_of(read)
+}
+
+// The same of bytes that are read at once.
+fn read_at_once(alloc: Global, bytes: &[u8]) -> Result<(u8, u64), ReadFail> {
+    outcome_of(crate::read(alloc, bytes))
+}
+
 #[test]
 fn inputs_are_read_or_refused_at_their_places(rt: HostRuntime) -> Result<(), Fail> {
     for (bytes, kind, offset) in &ROWS {
         assert_eq!(rt; read(rt.alloc(), bytes)?, (*kind, *offset));
+        assert_eq!(rt; read_at_once(rt.alloc(), bytes)?, (*kind, *offset));
     }
     Ok(())
 }
@@ -155,6 +166,7 @@ fn long_names_and_deep_terms_are_read(rt: HostRuntime) -> Result<(), Fail> {
     for (letters, depth) in [(256, 1), (65_536, 0), (1, 4096), (1, 100_000)] {
         let text = text_of(rt.alloc(), letters, depth)?;
         assert_eq!(rt; read(rt.alloc(), &text)?, (0, 0));
+        assert_eq!(rt; read_at_once(rt.alloc(), &text)?, (0, 0));
     }
     Ok(())
 }

@@ -8,7 +8,7 @@ use faults::kinds;
 use std::alloc::Global;
 
 /// The most bytes that an input may have: 32 bits hold each count of what it spells.
-const MOST_BYTES: usize = u32::MAX as usize;
+pub(crate) const MOST_BYTES: usize = u32::MAX as usize;
 
 /// What begins at a byte, with the number of bytes that follow its first.
 #[derive(Clone, Copy)]
@@ -129,7 +129,7 @@ fn token_of_run(bytes: &[u8], at: usize, more: usize) -> Token
     }
 }
 
-fn piece_at(bytes: &[u8], at: usize) -> Piece
+pub(crate) fn piece_at(bytes: &[u8], at: usize) -> Piece
     requires { at < length bytes.now }
     ensures piece { result ≡ piece_at at (drop at bytes.now) }
     ensures within { at + more_of result < length bytes.now }

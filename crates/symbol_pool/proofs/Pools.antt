@@ -8,7 +8,8 @@ use Rattle.std.proofs.lemmas.Option.{slice_get_within, get_or_from_slice_get, sl
 use Rattle.std.specs.Cmp.{first_so, second_so}
 use Rattle.std.proofs.lemmas.Bool.{eqb-true, eq-eqb}
 use Rattle.std.proofs.lemmas.List.{length-map}
-use Rattle.symbol_pool.specs.Pool.{Named, named, Lacks, IsPool}
+use Rattle.term_model.specs.declared.Symbol.{Symbol}
+use Rattle.symbol_pool.specs.Pool.{Named, named, name_at, arity_at, Holds, Lacks, IsPool}
 use Rattle.symbol_pool.specs.Names.{name_of, same_name}
 use Rattle.symbol_pool.specs.Kept.{symbol_of, symbols_of, same_pair, AreKept}
 use Rattle.symbol_pool.proofs.Places.{distinct_once, none_at, some_at, within_place}
@@ -118,3 +119,17 @@ module _ (names : List (Vec ℕ)) (pairs : List (ℕ × ℕ)) (k : AreKept names
           let name_is : name_of names p.item.0 ≡ name = ap (name_of names) (sym (alike_number (n, arity) p.item same)) ∙ number_of_name in
           let arity_is : p.item.1 ≡ arity = sym (alike_arity (n, arity) p.item same) in
           slice_get-map (symbol_of names) pairs i ∙ ap (option_map (symbol_of names)) p.at ∙ (λ j. Some (named (name_is j) (arity_is j)))
+
+-- a symbol of this name with this number of arguments
+pub holds_at : (pool : List Named) (symbol : Symbol) (name : List ℕ) (arity : ℕ) → name_at pool symbol ≡ Some name → arity_at pool symbol ≡ Some arity → Holds pool symbol (named name arity)
+holds_at pool symbol name arity = by (slice_get pool symbol.0)
+  where
+    by : (r : Option Named) → option_map (λ s. s.name) r ≡ Some name → option_map (λ s. s.arity) r ≡ Some arity → r ≡ Some (named name arity)
+    by None e f = absurd (let bad : None ≡ Some name = e in cc)
+    by (Some s) e f =
+        let n : s.name ≡ name = cc in
+        let a : s.arity ≡ arity = cc in
+        λ i. Some (named (n i) (a i))
+
+pub same_bytes : (a b name : List ℕ) → pointwise nat_eq a b ≡ true → b ≡ name → a ≡ name
+same_bytes a b name e f = (bytes_decides a b).0 e ∙ f

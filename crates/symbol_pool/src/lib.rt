@@ -2,6 +2,7 @@
 #![tactic(auto)]
 
 mod fault;
+mod recent;
 mod symbols;
 #[cfg(test)]
 mod tests;

@@ -7,6 +7,7 @@ ghost use Rattle.symbol_pool.specs.declared.fault.PoolFault.TheVariants.{Full, M
 ghost use Rattle.std.specs.List.{IsDistinct};
 
 use crate::PoolFault;
+use crate::recent::Recent;
 use indexmap::IndexSet;
 use std::alloc::Global;
 use std::marker::Model;
@@ -21,6 +22,7 @@ pub const MOST_SYMBOLS: usize = 65_535;
 pub struct Symbols {
     names: IndexSet<Vec<u8>>,
     pairs: IndexSet<(usize, u32)>,
+    recent: Recent,
 }
 
 impl Model for Symbols {
@@ -44,12 +46,52 @@ impl Symbols {
         Symbols {
             names: IndexSet::new(alloc),
             pairs: IndexSet::new(alloc),
+            recent: Recent::new(),
         }
     }
 
     /// The symbol that is this name with this number of arguments; None where none is. It takes no
     /// memory.
     pub fn find(&self, name: &[u8], arity: u32) -> Option<Symbol>
+        ensures found { IfSome result (λ s. Holds self.now s (named name.now arity)) }
+        ensures within { IfSome result (λ s. s.0 < length self.now) }
+        ensures absent { IfNone result (Lacks self.now (named name.now arity)) }
+        ensures pool { IsPool self.now }
+    {
+        match self.guess(name, arity) {
+            Some(symbol) => Some(symbol),
+            None => self.look_up(name, arity),
+        }
+    }
+
+    /// How many symbols are held.
+    fn len(&self) -> usize
+        ensures count { result ≡ length self.now }
+        ensures pool { IsPool self.now }
+    {
+        self.pairs.len()
+    }
+
+    /// The symbol that was noted last at the place of this name with this number of arguments, if it is
+    /// that one. No hash is made for it.
+    fn guess(&self, name: &[u8], arity: u32) -> Option<Symbol>
+        ensures found { IfSome result (λ s. Holds self.now s (named name.now arity)) }
+        ensures within { IfSome result (λ s. s.0 < length self.now) }
+        ensures pool { IsPool self.now }
+    {
+        let symbol = self.recent.guess(name, arity);
+        if symbol.0 as usize >= self.len() {
+            return None;
+        }
+        if self.arity(symbol) == arity && self.name(symbol) == name {
+            Some(symbol)
+        } else {
+            None
+        }
+    }
+
+    /// The symbol that is this name with this number of arguments, by hashing.
+    fn look_up(&self, name: &[u8], arity: u32) -> Option<Symbol>
         ensures found { IfSome result (λ s. Holds self.now s (named name.now arity)) }
         ensures within { IfSome result (λ s. s.0 < length self.now) }
         ensures absent { IfNone result (Lacks self.now (named name.now arity)) }
@@ -71,7 +113,25 @@ impl Symbols {
         ensures unchanged { OnErr result (self.new ≡ self.old) }
         ensures pool { IsPool self.new }
     {
-        if let Some(symbol) = self.find(name, arity) {
+        if let Some(symbol) = self.guess(name, arity) {
+            return Ok(symbol);
+        }
+        let symbol = self.take_up(name, arity)?;
+        self.recent.note(name, arity, symbol);
+        Ok(symbol)
+    }
+
+    /// The same, by hashing.
+    fn take_up(&mut self, name: &[u8], arity: u32) -> Result<Symbol, PoolFault>
+        ensures held { IfOk result (λ s. Holds self.new s (named name.now arity)) }
+        ensures within { IfOk result (λ s. s.0 < length self.new) }
+        ensures added { OnOk result (Lacks self.old (named name.now arity) → self.new ≡ self.old ++ named name.now arity ∷ []) }
+        ensures found { OnOk result (Has self.old (named name.now arity) → self.new ≡ self.old) }
+        ensures full { (result ≡ Err Full) ↔ IsFullFor self.old (named name.now arity) }
+        ensures unchanged { OnErr result (self.new ≡ self.old) }
+        ensures pool { IsPool self.new }
+    {
+        if let Some(symbol) = self.look_up(name, arity) {
             return Ok(symbol);
         }
         if self.pairs.len() == MOST_SYMBOLS {

@@ -22,3 +22,4 @@ pub mod TokensBack
 pub mod TermsBack
 pub mod LinesBack
 pub mod Fewness
+pub mod Passing

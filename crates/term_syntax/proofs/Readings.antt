@@ -17,7 +17,8 @@ use Rattle.term_syntax.specs.Fault.{fault, IsDue}
 use Rattle.term_syntax.specs.Tokens.{tokens_of}
 use Rattle.term_syntax.specs.Written.{Written}
 use Rattle.term_syntax.specs.TermGrammar.{IsInput}
-use Rattle.term_syntax.specs.Refusal.{AreRefused, IsSyntaxRefusal}
+use Rattle.term_syntax.specs.Refusal.{AreRefused}
+use Rattle.term_syntax.specs.Reached.{IsSyntaxFault}
 use Rattle.term_syntax.specs.Parts.{parts_of_input, taken_up, symbols_of_parts}
 use Rattle.term_syntax.specs.TakenUp.{take_input, TookFront, tree_in}
 use Rattle.term_syntax.proofs.TakingTerms.{taking_input, symbols_input}
@@ -119,13 +120,11 @@ module _ (tokens : List Token) (parts : List Part) (nodes : List (List Node)) (r
     part_refusal old (Refused kind offset) due = inr (inr (record { terms = r.0; spelled = spelled; refused = sym (taking_input r.0 old) ∙ ap (taken_up old) (sym parts_are) ∙ due }))
     part_refusal old Memory due = tt
 
-pub byte_refusal : (bytes : List ℕ) (old : List Named) (e : ReadFail) → IsDue (tokens_of bytes) e → IsRefusal bytes old e
-byte_refusal bytes old (Refused kind offset) due = inl due
-byte_refusal bytes old Memory due = tt
-
-pub token_refusal : (bytes : List ℕ) (tokens : List Token) (old : List Named) (e : ReadFail) → tokens_of bytes ≡ Ok tokens → IsSyntaxRefusal (length bytes) tokens e → IsRefusal bytes old e
-token_refusal bytes tokens old (Refused kind offset) cut refused = inr (inl (record { tokens = tokens; cut = cut; refused = refused }))
-token_refusal bytes tokens old Memory cut refused = tt
+-- a byte or a token is refused
+pub syntax_refusal : (bytes : List ℕ) (old : List Named) (e : ReadFail) → IsSyntaxFault bytes e → IsRefusal bytes old e
+syntax_refusal bytes old (Refused kind offset) (inl due) = inl due
+syntax_refusal bytes old (Refused kind offset) (inr tokens) = inr (inl tokens)
+syntax_refusal bytes old Memory due = tt
 
 -- bytes that spell terms spell the same parts and nodes
 same_read : (bytes : List ℕ) (ws vs : List Written) → Spells bytes ws → Spells bytes vs → (parts_of_input ws ≡ parts_of_input vs) × (nodes_of_input 0 ws ≡ nodes_of_input 0 vs)

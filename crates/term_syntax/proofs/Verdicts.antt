@@ -1,15 +1,13 @@
 -- What reading says of the tokens.
 use Rattle.std.proofs.Common.{◌≡◌, ◌∙◌, ℕ, List, [], ◌∷◌, ◌++◌, refl, ap, sym, append_assoc, append-nil, inl, inr, Some, None}
 use Rattle.std.specs.Prelude.{option_and_then}
-use Rattle.rec_reader.specs.declared.fail.ReadFail.{ReadFail}
-use Rattle.rec_reader.specs.declared.fail.ReadFail.TheVariants.{Refused, Memory}
 use Rattle.term_syntax.specs.declared.token.Token.{Token}
 use Rattle.term_syntax.specs.declared.machine.Machine.{Machine}
 use Rattle.term_syntax.specs.TermGrammar.{BeginsInput}
 use Rattle.term_syntax.specs.Parts.{parts_of_input}
 use Rattle.term_syntax.specs.Nodes.{nodes_of_input}
-use Rattle.term_syntax.specs.Refusal.{IsFirstUnexpected, IsUnended, AreRefused, IsSyntaxRefusal}
-use Rattle.term_syntax.specs.Steps.{run, start, step, settled_at, accepted, StopsAt, IsStopped, IsRead}
+use Rattle.term_syntax.specs.Refusal.{IsFirstUnexpected, IsUnended, AreRefused}
+use Rattle.term_syntax.specs.Steps.{run, start, step, settled_at, accepted, StopsAt, IsRead}
 use Rattle.term_syntax.proofs.Outcome.{Read, outcome, outcome_more}
 use Rattle.term_syntax.proofs.Complete.{complete}
 use Rattle.term_syntax.proofs.Ahead.{Input, input, sound, Ends_somehow}
@@ -65,11 +63,6 @@ unended tokens m r a = record {
   begins = begins tokens m r;
   unended = λ specs h. let read = complete h in let none = at_last tokens m r ∙ a in absurd cc;
 }
-
--- what stops is refused at its place
-pub refusal : (size : ℕ) (ts : List Token) (e : ReadFail) → IsStopped ts e → IsSyntaxRefusal size ts e
-refusal size ts (Refused kind offset) stopped = inl (stopped.0, first_unexpected ts offset stopped.1)
-refusal size ts Memory stopped = tt
 
 -- the tokens end where no input does
 pub end_refusal : (size : ℕ) (ts : List Token) (m : Machine) → run start ts ≡ Some m → accepted (settled_at m.place m) ≡ None → AreRefused size ts 3 size

@@ -11,6 +11,7 @@ pub mod Nodes
 pub mod Steps
 pub mod Items
 pub mod Reading
+pub mod Reached
 pub mod Text
 pub mod Canonical
 pub mod Writing

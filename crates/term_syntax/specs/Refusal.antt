@@ -2,8 +2,6 @@
 use Rattle.std.specs.Prelude.{◌≡◌, ℕ, List, [], ◌∷◌, ◌++◌, ◌⊎◌}
 use Rattle.term_syntax.specs.declared.token.Token.{Token}
 use Rattle.term_syntax.specs.declared.token.Token.TheVariants.{Word, Number, At}
-use Rattle.rec_reader.specs.declared.fail.ReadFail.{ReadFail}
-use Rattle.rec_reader.specs.declared.fail.ReadFail.TheVariants.{Refused, Memory}
 use Rattle.term_syntax.specs.TermGrammar.{BeginsInput, IsNoInput}
 
 -- the place of a token's first byte
@@ -33,7 +31,3 @@ abbrev pub AreRefused : ℕ → List Token → ℕ → ℕ → Type 0
 AreRefused size tokens kind offset =
     ((kind ≡ 2) × IsFirstUnexpected tokens offset)
     ⊎ ((kind ≡ 3) × (offset ≡ size) × IsUnended tokens)
-
-abbrev pub IsSyntaxRefusal : ℕ → List Token → ReadFail → Type 0
-IsSyntaxRefusal size tokens (Refused kind offset) = AreRefused size tokens kind offset
-IsSyntaxRefusal size tokens Memory = Unit {0}

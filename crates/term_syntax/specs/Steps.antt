@@ -14,8 +14,6 @@ use Rattle.term_syntax.specs.declared.machine.Stop.{Stop}
 use Rattle.term_syntax.specs.declared.machine.Stop.TheVariants as stop
 use Rattle.term_syntax.specs.declared.machine.Machine.{Machine}
 use Rattle.term_syntax.specs.Counts.{with_count}
-use Rattle.rec_reader.specs.declared.fail.ReadFail.{ReadFail}
-use Rattle.rec_reader.specs.declared.fail.ReadFail.TheVariants.{Refused, Memory}
 use Rattle.term_syntax.specs.Written.{Written}
 use Rattle.term_syntax.specs.TermGrammar.{IsInput}
 use Rattle.term_syntax.specs.Refusal.{place_of}
@@ -159,10 +157,6 @@ pub record StopsAt (tokens : List Token) (offset : ℕ) : Type 0 where
   pub reached : run start before ≡ Some machine
   pub stops : step machine token ≡ None
   pub place : offset ≡ place_of token
-
-abbrev pub IsStopped : List Token → ReadFail → Type 0
-IsStopped tokens (Refused kind offset) = (kind ≡ 2) × StopsAt tokens offset
-IsStopped tokens Memory = Unit {0}
 
 -- the parts and the nodes of the terms that the tokens spell
 abbrev pub IsRead : List Token → List Part × List (List Node) → Type 0

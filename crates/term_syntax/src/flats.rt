@@ -37,7 +37,7 @@ fn flat_of(alloc: Global, items: &[Item], nodes: &[Node]) -> Result<Flat, AllocE
     requires within { AreWithin (length items.now) nodes.now }
     ensures { IfOk result (λ t. tree_of (items_at items.now nodes.now) ≡ Some t) }
 {
-    let mut spelled = Vec::new(alloc);
+    let mut spelled = Vec::with_capacity(alloc, nodes.len())?;
     for node in nodes {
         push_items(&mut spelled, item_at(items, node.part), node.cells)?;
     }

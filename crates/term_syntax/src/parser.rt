@@ -1,53 +1,69 @@
-//! Reads tokens as terms.
-ghost use Rattle.std.specs.Prelude.{◌≡◌, ◌<◌, ◌^◌, Some, IfOk, IfErr, length};
+//! Reads the tokens of bytes, one after another, as terms.
+ghost use Rattle.std.specs.Prelude.{◌≡◌, ◌<◌, ◌^◌, Some, IfOk, IfErr, OnOk, length};
 ghost use Rattle.term_syntax.specs.Few.{AreCountsFew};
-ghost use Rattle.term_syntax.specs.Refusal.{place_of, IsSyntaxRefusal};
-ghost use Rattle.term_syntax.specs.Steps.{run, start, IsStopped, IsRead};
+ghost use Rattle.term_syntax.specs.Reached.{HasRun, IsReadOf, IsUntaken, IsStoppedIn, IsSyntaxFault};
+ghost use Rattle.term_syntax.specs.Steps.{step};
 
 use crate::list::Parts;
 use crate::machine::{Machine, Node, Stop};
+use crate::refused::refused;
+use crate::scanner::{Piece, piece_at, tokens};
 use crate::token::Token;
 use faults::kinds;
 use rec_reader::{ReadFail, Sequence};
 use std::alloc::Global;
 
-fn run(alloc: Global, tokens: Vec<Token>) -> Result<Machine, ReadFail>
-    requires { length tokens.items < 2 ^ 32 }
-    ensures ran { IfOk result (λ m. run start tokens.items ≡ Some m) }
-    ensures few { IfOk result (λ m. AreCountsFew 1 m.groups) }
-    ensures stopped { IfErr result (IsStopped tokens.items) }
+// Takes a token of the bytes. One that is unexpected is refused only where all bytes have tokens.
+fn take(alloc: Global, bytes: &[u8], machine: &mut Machine, token: Token) -> Result<(), ReadFail>
+    requires { AreCountsFew 2 machine.old.groups }
+    ensures taken { OnOk result (step machine.old token ≡ Some machine.new) }
+    ensures untaken { IfErr result (IsUntaken bytes.now machine.old token) }
+{
+    let place = token.place();
+    match machine.step(alloc, token) {
+        Ok(()) => Ok(()),
+        Err(Stop::Unexpected) => {
+            let _tokens = tokens(alloc, bytes)?;
+            Err(refused(kinds::UNEXPECTED, place))
+        }
+        Err(Stop::Memory) => Err(ReadFail::Memory),
+    }
+}
+
+// Takes all tokens of the bytes. None of them is kept, but for what its term needs.
+fn run(alloc: Global, bytes: &[u8]) -> Result<Machine, ReadFail>
+    requires { length bytes.now < 2 ^ 32 }
+    ensures ran { IfOk result (HasRun bytes.now) }
+    ensures stopped { IfErr result (IsStoppedIn bytes.now) }
 {
     let mut machine = Machine::start(alloc);
-    for token in tokens {
-        let place = token.place();
-        match machine.step(alloc, token) {
-            Ok(()) => {}
-            Err(Stop::Unexpected) => {
-                return Err(ReadFail::Refused {
-                    kind: kinds::UNEXPECTED,
-                    offset: place as u64,
-                });
+    let mut at = 0;
+    while at < bytes.len() {
+        match piece_at(alloc, bytes, at)? {
+            Piece::Blank => at += 1,
+            Piece::Whole(token, next) => {
+                take(alloc, bytes, &mut machine, token)?;
+                at = next;
             }
-            Err(Stop::Memory) => return Err(ReadFail::Memory),
         }
     }
     Ok(machine)
 }
 
-/// The parts of the terms that the tokens of an input of `size` bytes spell, and their nodes.
+/// The parts of the terms that bytes spell, and their nodes.
 ///
-/// Refuses with kind 2 the first token such that the tokens up to and with it begin no input, at its place;
-/// with kind 3, at `size`, tokens that begin an input and are none.
+/// Refuses with kind 1 or 3, as `tokens` does, bytes that have no tokens; else with kind 2 the first token such
+/// that the tokens up to and with it begin no input, at its place; with kind 3, at the length of the input,
+/// tokens that begin an input and are none.
 pub(crate) fn syntax(
     alloc: Global,
-    tokens: Vec<Token>,
-    size: usize,
+    bytes: &[u8],
 ) -> Result<(Parts, Sequence<Sequence<Node>>), ReadFail>
-    requires { length tokens.items < 2 ^ 32 }
-    ensures read { IfOk result (IsRead tokens.items) }
-    ensures refused { IfErr result (IsSyntaxRefusal size tokens.items) }
+    requires { length bytes.now < 2 ^ 32 }
+    ensures read { IfOk result (IsReadOf bytes.now) }
+    ensures refused { IfErr result (IsSyntaxFault bytes.now) }
 {
-    let mut machine = run(alloc, tokens)?;
+    let mut machine = run(alloc, bytes)?;
     match machine.settle(alloc) {
         Ok(()) => {}
         Err(_) => return Err(ReadFail::Memory),
@@ -56,7 +72,7 @@ pub(crate) fn syntax(
         Some(read) => Ok(read),
         None => Err(ReadFail::Refused {
             kind: kinds::UNENDED,
-            offset: size as u64,
+            offset: bytes.len() as u64,
         }),
     }
 }

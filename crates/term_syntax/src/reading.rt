@@ -10,7 +10,6 @@ ghost use Rattle.term_syntax.specs.Reading.{IsReading, IsRefusal, TookFrontOf};
 
 use crate::flats::{Flats, flats};
 use crate::parser::syntax;
-use crate::scanner::tokens;
 use crate::symbols::items_of;
 use rec_reader::ReadFail;
 use std::alloc::Global;
@@ -48,8 +47,7 @@ pub fn read_terms(alloc: Global, bytes: &[u8], symbols: &mut Symbols) -> Result<
     if bytes.len() > MOST_BYTES {
         return Err(ReadFail::Memory);
     }
-    let tokens = tokens(alloc, bytes)?;
-    let (parts, terms) = syntax(alloc, tokens, bytes.len())?;
+    let (parts, terms) = syntax(alloc, bytes)?;
     let items = items_of(alloc, parts.as_slice(), symbols)?;
     let flats = flats(alloc, items.as_slice(), terms.as_slice())?;
     Ok(flats)

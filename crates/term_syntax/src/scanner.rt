@@ -198,7 +198,7 @@ fn mark(byte: u8, at: usize) -> Result<Piece, ReadFail>
     }
 }
 
-fn piece_at(alloc: Global, bytes: &[u8], at: usize) -> Result<Piece, ReadFail>
+pub(crate) fn piece_at(alloc: Global, bytes: &[u8], at: usize) -> Result<Piece, ReadFail>
     requires { at < length bytes.now }
     ensures piece { IfOk result (λ p. spec.piece_at at (drop at bytes.now) ≡ Ok p) }
     ensures after { IfOk result (λ p. at < spec.next_of at p) }

@@ -71,7 +71,7 @@ pub(crate) fn items_of(
     ensures grows { GrowsPool symbols.old symbols.new }
     ensures front { TookFront (symbols_of_parts parts.now) symbols.old symbols.new }
 {
-    let mut items = Vec::new(alloc);
+    let mut items = Vec::with_capacity(alloc, parts.len())?;
     for part in parts {
         let item = take_part(part, symbols)?;
         items.push(item)?;

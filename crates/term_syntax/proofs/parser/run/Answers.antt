@@ -1,49 +1,40 @@
-use Rattle.std.proofs.Common.{◌≡◌, refl, suc, ◌∙◌, ◌++◌, ◌∷◌, [], ap, sym, subst, arith, length, append_assoc}
-use Rattle.std.proofs.lemmas.List.{length-append}
-use Rattle.std.specs.Vec.Iter.{into_iter_items}
-use Rattle.term_syntax.specs.Steps.{start}
-use Rattle.term_syntax.proofs.Outcome.{run_one}
-use Rattle.term_syntax.proofs.Fewness.{Below, counted_on, few_of}
+use Rattle.std.proofs.Common.{◌<◌, ◌≤◌, ◌∙◌, length, ap, subst, arith, Ok}
+use Rattle.std.proofs.lemmas.Result.{err_from_is_err_and}
+use Rattle.term_syntax.specs.declared.scanner.Piece.{Piece}
+use Rattle.term_syntax.specs.Tokens.{next_of}
+use Rattle.term_syntax.proofs.Passing.{passed_blank, passed_whole, stopped_token}
 use Rattle.term_syntax.proofs.parser.run.Goals as goal
 
-pub loop-token-preserved : goal.loop-token-preserved
-loop-token-preserved c =
-    let l = c.loop-token in
+pub loop-at-preserved-in-Blank : goal.loop-at-preserved-in-Blank
+loop-at-preserved-in-Blank c =
+    let l = c.loop-at in
     record {
-      ran = run_one l.yielded c.in-Some.token start l.machine c.step.new.self l.invariant.ran c.in-Ok.ensures;
-      left = l.invariant.left ∙ ap (λ ts. l.yielded ++ ts) c.in-Some.ensures.steps.0 ∙ sym (append_assoc l.yielded (c.in-Some.token ∷ []) (into_iter_items c.next.new.self));
-      counted =
-          let long = length-append l.yielded (c.in-Some.token ∷ []) in
-          let same : suc (length l.yielded) ≡ length (l.yielded ++ c.in-Some.token ∷ []) = omega (arith, long) in
-          subst (λ k. Below k c.step.new.self.groups) same (counted_on (length l.yielded) l.machine c.step.new.self c.in-Some.token c.in-Ok.ensures l.invariant.counted);
+      within = omega (arith, c.loop-at-test.true);
+      passed = passed_blank c.args.bytes.now l.at l.machine c.loop-at-test.true (c.in_ok-piece_at.ensures.piece ∙ ap Ok c.in-Blank.is) l.invariant.passed;
     }
 
-pub step-requires : goal.step-requires
-step-requires c =
-    let l = c.loop-token in
-    let whole = ap length (l.invariant.left ∙ ap (λ ts. l.yielded ++ ts) c.in-Some.ensures.steps.0) in
-    let long = length-append l.yielded (c.in-Some.token ∷ into_iter_items c.next.new.self) in
-    few_of (length l.yielded) 2 l.machine.groups (omega (arith, whole, long, c.requires)) l.invariant.counted
+pub loop-at-preserved : goal.loop-at-preserved
+loop-at-preserved c =
+    let l = c.loop-at in
+    let bytes = c.args.bytes.now in
+    let P : Piece → Type 0 = λ p. l.at < next_of l.at p in
+    let Q : Piece → Type 0 = λ p. next_of l.at p ≤ length bytes in
+    let after = subst P c.in-Whole.is c.in_ok-piece_at.ensures.after in
+    let fits = subst Q c.in-Whole.is c.in_ok-piece_at.ensures.fits in
+    let piece = c.in_ok-piece_at.ensures.piece ∙ ap Ok c.in-Whole.is in
+    record {
+      within = fits;
+      passed = passed_whole bytes l.at c.in-Whole.next c.in-Whole.token l.machine c.take.new.machine c.loop-at-test.true after fits piece c.in_ok-take-in-Whole.ensures.taken l.invariant.passed;
+    }
 
-pub returns-clause-few : goal.returns-clause-few
-returns-clause-few c =
-    let l = c.loop-token in
-    let whole = ap length l.invariant.left in
-    let long = length-append l.yielded (into_iter_items l.token-iterator) in
-    few_of (length l.yielded) 1 l.machine.groups (omega (arith, whole, long, c.requires)) l.invariant.counted
-
-pub returns-in-Err-Unexpected-clause-stopped : goal.returns-in-Err-Unexpected-clause-stopped
-returns-in-Err-Unexpected-clause-stopped c =
-    let l = c.loop-token in (
-      refl,
-      record {
-        before = l.yielded;
-        token = c.in-Some.token;
-        after = into_iter_items c.next.new.self;
-        is = l.invariant.left ∙ ap (λ ts. l.yielded ++ ts) c.in-Some.ensures.steps.0;
-        machine = l.machine;
-        reached = l.invariant.ran;
-        stops = rw c.in-Err-Unexpected.field-0-is at c.in-Err-Unexpected.ensures;
-        place = c.place-place.ensures;
-      },
-    )
+pub returns-in_err-take-in-Whole-clause-stopped : goal.returns-in_err-take-in-Whole-clause-stopped
+returns-in_err-take-in-Whole-clause-stopped c =
+    let p = err_from_is_err_and c.from_residual-in_err-take-in-Whole.result c.from_residual-in_err-take-in-Whole.ensures.1 in
+    let l = c.loop-at in
+    let bytes = c.args.bytes.now in
+    let P : Piece → Type 0 = λ p. l.at < next_of l.at p in
+    let Q : Piece → Type 0 = λ p. next_of l.at p ≤ length bytes in
+    let after = subst P c.in-Whole.is c.in_ok-piece_at.ensures.after in
+    let fits = subst Q c.in-Whole.is c.in_ok-piece_at.ensures.fits in
+    let piece = c.in_ok-piece_at.ensures.piece ∙ ap Ok c.in-Whole.is in
+    rw (p.1, p.2) (stopped_token bytes l.at c.in-Whole.next c.in-Whole.token l.machine c.in_err-take-in-Whole.field-0.0 c.loop-at-test.true after fits piece c.in_err-take-in-Whole.ensures.untaken l.invariant.passed)

@@ -9,7 +9,7 @@ use Rattle.term_syntax.proofs.symbols.items_of.Goals as goal
 pub returns-in_err-item-clause-refused : goal.returns-in_err-item-clause-refused
 returns-in_err-item-clause-refused c =
     let l = c.loop-part in
-    let p = err_from_is_err_and c.from_residual.result c.from_residual.ensures.1 in
+    let p = err_from_is_err_and c.from_residual-in_err-item.result c.from_residual-in_err-item.ensures.1 in
     rw (p.1, p.2) (part_due c.args.symbols.now l.symbols c.args.parts.now l.part-index l.items.items c.part-item.result c.in_err-item.field-0.0 l.invariant c.loop-part-test.true c.part-item.is c.in_err-item.ensures.refused)
 
 pub returns-in_err-push-clause-grows : goal.returns-in_err-push-clause-grows

@@ -4,7 +4,7 @@ use Rattle.symbol_pool.proofs.Pools.{pool_of_kept}
 use Rattle.symbol_pool.proofs.Grown.{same_symbols, with_name, stands_there, Interned, interned}
 use Rattle.symbol_pool.specs.Pool.{named, Lacks}
 use Rattle.symbol_pool.specs.Kept.{symbols_of, AreKept}
-use Rattle.symbol_pool.proofs.symbols.Symbols.intern.Goals as goal
+use Rattle.symbol_pool.proofs.symbols.Symbols.take_up.Goals as goal
 
 pub returns-in_err-name-clause-unchanged : goal.returns-in_err-name-clause-unchanged
 returns-in_err-name-clause-unchanged c = on_err _ (same_symbols _ _ _ c.self.invariant c.name_index.ensures.stays ∙ c.self.view_is)

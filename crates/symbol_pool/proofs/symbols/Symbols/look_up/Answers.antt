@@ -1,6 +1,6 @@
 use Rattle.symbol_pool.proofs.Places.{if_none}
 use Rattle.symbol_pool.proofs.Pools.{pool_of_kept, no_name, no_pair, yes_pair}
-use Rattle.symbol_pool.proofs.symbols.Symbols.find.Goals as goal
+use Rattle.symbol_pool.proofs.symbols.Symbols.look_up.Goals as goal
 
 pub returns-in_err-name-clause-absent : goal.returns-in_err-name-clause-absent
 returns-in_err-name-clause-absent c = rw (← c.self.view_is) (if_none _ (no_name _ _ c.self.invariant _ _ c.in_err-name.ensures.index))
