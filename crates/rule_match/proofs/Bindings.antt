@@ -12,10 +12,10 @@ use Rattle.terms_api.proofs.Callers.{same_row}
 use Rattle.rewrite_model.specs.Matching.{bind}
 
 -- a test of the tree at a place
-abbrev tested : Bool → List Tree → Option (List Tree)
+abbrev pub tested : Bool → List Tree → Option (List Tree)
 tested b ts = if b then Some ts else None
 
-bind_bound : (x : ℕ) (t d : Tree) (ts : List Tree) → x < length ts → bind x t ts ≡ tested (tree_eq (get_or ts x d) t) ts
+pub bind_bound : (x : ℕ) (t d : Tree) (ts : List Tree) → x < length ts → bind x t ts ≡ tested (tree_eq (get_or ts x d) t) ts
 bind_bound x t d [] l = absurd (omega arith)
 bind_bound zero t d (u ∷ us) l = refl
 bind_bound (suc x) t d (u ∷ us) l = ap (λ o. option_map (λ vs. u ∷ vs) o) (bind_bound x t d us (omega arith)) ∙ inside (tree_eq (get_or us x d) t)
@@ -24,12 +24,12 @@ bind_bound (suc x) t d (u ∷ us) l = ap (λ o. option_map (λ vs. u ∷ vs) o) 
     inside true = refl
     inside false = refl
 
-bind_beyond : (x : ℕ) (t : Tree) (ts : List Tree) → length ts < x → bind x t ts ≡ None
+pub bind_beyond : (x : ℕ) (t : Tree) (ts : List Tree) → length ts < x → bind x t ts ≡ None
 bind_beyond zero t ts l = absurd (omega arith)
 bind_beyond (suc x) t [] l = refl
 bind_beyond (suc x) t (u ∷ us) l = ap (λ o. option_map (λ vs. u ∷ vs) o) (bind_beyond x t us (omega arith))
 
-bind_next : (x : ℕ) (t : Tree) (ts : List Tree) → x ≡ length ts → bind x t ts ≡ Some (ts ++ t ∷ [])
+pub bind_next : (x : ℕ) (t : Tree) (ts : List Tree) → x ≡ length ts → bind x t ts ≡ Some (ts ++ t ∷ [])
 bind_next zero t [] e = refl
 bind_next (suc x) t [] e = cc
 bind_next zero t (u ∷ us) e = cc

@@ -14,5 +14,5 @@ mod tests;
 
 pub use binding::Binds;
 pub use checking::{has_symbols_alone, may_be_planned};
-pub use matching::matches;
+pub use matching::{matches, stands_at};
 pub use planning::Plan;

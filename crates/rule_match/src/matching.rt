@@ -95,7 +95,7 @@ fn run<T: Terms>(
 }
 
 /// Whether the tree of a held row is this symbol over so many trees.
-fn stands_at<T: Terms>(terms: &mut T, row: Row, symbol: Symbol, count: u32) -> bool
+pub fn stands_at<T: Terms>(terms: &mut T, row: Row, symbol: Symbol, count: u32) -> bool
     requires inside { (T.store terms.old).inside ≡ true }
     requires held { IsHeld (T.store terms.old) row }
     ensures stands { result ≡ stands (App symbol) count (tree_at (T.store terms.old) row) }

@@ -79,8 +79,8 @@ impl Plan {
         &self.rules
     }
 
-    /// The left side of a rule in preorder.
-    pub(crate) fn program(&self, rule: u32) -> &[Item]
+    /// The left side of a rule in preorder: each symbol before its arguments, from left to right.
+    pub fn program(&self, rule: u32) -> &[Item]
         requires { rule < length self.now.rules }
         ensures program { result.now ≡ preorder (left_at self.now.rules rule) }
         ensures plan { IsPlan self.now }

@@ -1,0 +1,6 @@
+pub mod Places
+pub mod Shapes
+pub mod Tables
+pub mod Automata
+pub mod Rows
+pub mod Running

@@ -1,0 +1,113 @@
+//! Automata, and rows for their places.
+
+ghost use Rattle.std.specs.Prelude.{◌≡◌, ◌<◌, ◌≤◌, length, true, IfOk};
+ghost use Rattle.terms_api.specs.Terms.{IsHeld, IsSound, tree_at};
+ghost use Rattle.rule_automaton.specs.Shapes.{variables_at};
+ghost use Rattle.rule_automaton.specs.Automata.{IsAutomaton};
+ghost use Rattle.rule_automaton.specs.Running.{made, asked, IsAnswer};
+
+use crate::finding::run;
+use crate::shapes::{Shape, numbers_below, shapes_of};
+use crate::states::{Op, State, Way};
+use crate::table::Table;
+use faults::Memory;
+use rule_match::Plan;
+use std::alloc::Global;
+use term_model::Row;
+use terms_api::Terms;
+
+/// The matching automaton of a plan: the shapes of its rules, the lists of rules of its states, one
+/// after another, its states and their ways, and how many places there are.
+#[derive(Drop)]
+pub struct Automaton {
+    pub(crate) shapes: Vec<Shape>,
+    pub(crate) rules: Vec<u32>,
+    pub(crate) states: Vec<State>,
+    pub(crate) ways: Vec<Way>,
+    pub(crate) places: u32,
+}
+
+/// The rows of an automaton's places.
+#[derive(Drop)]
+pub struct Places {
+    pub(crate) rows: Vec<Row>,
+}
+
+impl Places {
+    /// A row for each place.
+    pub fn of(alloc: Global, automaton: &Automaton) -> Result<Self, Memory>
+        ensures { IfOk result (λ places.
+            (made automaton.now).places ≤ length places.rows.items) }
+    {
+        Ok(Places {
+            rows: vec![in alloc; Row(0); automaton.places as usize]?,
+        })
+    }
+
+    /// The row of each place, the root's first.
+    pub fn rows(&self) -> &[Row]
+        ensures { result.now ≡ self.now.rows.items }
+    {
+        &self.rows
+    }
+}
+
+impl Automaton {
+    /// The automaton of a plan. Memory is wanting where 32 bits don't number its places.
+    pub fn of(alloc: Global, plan: &Plan) -> Result<Self, Memory>
+        ensures { IfOk result (λ automaton. IsAutomaton plan.now.rules (made automaton)) }
+    {
+        let _ = plan.rules();
+        let mut table = Table::new(alloc);
+        let shapes = shapes_of(alloc, plan, &mut table)?;
+        let rules = numbers_below(alloc, shapes.len())?;
+        let first = State {
+            from: 0,
+            to: rules.len(),
+            bound: 0,
+            op: Op::Turn,
+        };
+        Ok(Automaton {
+            shapes,
+            rules,
+            states: vec![in alloc; first]?,
+            ways: Vec::new(alloc),
+            places: table.places(),
+        })
+    }
+
+    /// The places of a rule's variables, in their order. A rule is named by its place in the plan.
+    pub fn variables(&self, rule: u32) -> &[u32]
+        requires { rule < length (made self.now).shapes }
+        ensures { result.now ≡ variables_at (made self.now).shapes rule }
+    {
+        let shape = &self.shapes[rule as usize];
+        &shape.variables
+    }
+
+    /// The first rule of a plan whose left side matches the tree of a held row, read by the plan's
+    /// automaton. The places of the rule's variables then have the bound rows. It takes no memory.
+    pub fn find_rule<T: Terms>(
+        &self,
+        plan: &Plan,
+        row: Row,
+        terms: &mut T,
+        places: &mut Places,
+    ) -> Option<u32>
+        requires inside { (T.store terms.old).inside ≡ true }
+        requires automaton { IsAutomaton plan.now.rules (made self.now) }
+        requires held { IsHeld (T.store terms.old) row }
+        requires places { (made self.now).places ≤ length places.old.rows.items }
+        ensures answer { IsAnswer (made self.now) (T.store terms.old) places.new.rows.items
+            (asked plan.now.rules (tree_at (T.store terms.old) row)) result }
+        ensures places { length places.new.rows.items ≡ length places.old.rows.items }
+        ensures unchanged { T.store terms.new ≡ T.store terms.old }
+        ensures sound { IsSound (T.store terms.new) }
+        ensures same { T.same terms.old terms.new }
+    {
+        let _ = terms.depth();
+        let rows = places.rows.as_mut_slice();
+        rows[0] = row;
+        run(self, 0, terms, rows)
+    }
+}

@@ -1,0 +1,14 @@
+//! Matching automata for the rules of a plan: a tree is read by numbered places, and at each state
+//! the rules that may still match are known.
+#![tactic(auto)]
+
+mod automaton;
+mod finding;
+mod rows;
+mod shapes;
+mod states;
+mod table;
+#[cfg(test)]
+mod tests;
+
+pub use automaton::{Automaton, Places};
