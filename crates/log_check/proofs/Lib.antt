@@ -1,0 +1,5 @@
+pub mod Scanning
+pub mod LineFeeds
+pub mod Rising
+pub mod Ordering
+pub mod Found

@@ -1,0 +1,5 @@
+pub mod Words
+pub mod Form
+pub mod Log
+pub mod Filed
+pub mod Verdict

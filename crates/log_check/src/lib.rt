@@ -1,0 +1,16 @@
+//! A checker of logs: whether what the callers of a store noted of their steps is one legal history.
+#![tactic(auto)]
+
+mod form;
+mod keys;
+mod lines;
+mod log;
+mod merging;
+#[cfg(test)]
+mod tests;
+mod verdict;
+mod words;
+
+pub use faults::Memory;
+pub use rec_reader::ReadFail;
+pub use verdict::{LogVerdict, check_log};
