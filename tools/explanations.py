@@ -86,6 +86,7 @@ CAUSES = {
     5: "standard input couldn't be read",
     6: "standard output couldn't be written: was it closed, or is the disk full?",
     7: "the system gave no more memory",
+    8: "the store's numbers may end: with fewer rows or workers they last longer",
 }
 TOO_LARGE = "the value has too many symbols to be written: --sizes tells its size"
 TOO_LARGE_IN_A_FILE = "the term has too many nodes to be written, or too many were written before it"

@@ -12,7 +12,7 @@ use Rattle.rec_top.specs.Output.{IsFault}
 use Rattle.rec_top.specs.Run.{HasFault}
 use Rattle.rec_top.specs.Answered.{StopsAnswering, StopsWith}
 use Rattle.rec_top.specs.declared.stops.Stop.{Stop}
-use Rattle.rec_top.specs.declared.stops.Stop.TheVariants.{Usage, Refused, StoreFull, ReadFault, WriteFault, Memory}
+use Rattle.rec_top.specs.declared.stops.Stop.TheVariants.{Usage, Refused, StoreFull, ReadFault, WriteFault, Memory, Worn}
 
 pub has_seats : (s : Settings) → AreInRange s → (1 ≤ s.seats) × (s.seats ≤ 16)
 has_seats s r = let h = r.seats in grind (arith, h)
@@ -28,6 +28,7 @@ refused words s left faults old new taken count before after StoreFull e why lin
 refused words s left faults old new taken count before after ReadFault e why line is = cc
 refused words s left faults old new taken count before after WriteFault e why line is = cc
 refused words s left faults old new taken count before after Memory e why line is = cc
+refused words s left faults old new taken count before after Worn e why line is = cc
 
 -- one that stops with a fault, memory aside, has status 3 and the line of the fault
 pub stops_with : {A E : Type 0} (taken : E → Option (List ℕ)) (count : E → ℕ) (before after : E) (r : Result A Stop) (stop : Stop) (fault : Refusal) (status : ℕ) → r ≡ Err stop → StopsWith r fault → status ≡ stop_status stop → TookLine taken count before after (stop_line stop) → ((status ≡ 3) × TookLine taken count before after (fault_line fault)) ⊎ (status ≡ 7)

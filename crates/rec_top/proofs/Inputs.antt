@@ -10,16 +10,16 @@ use Rattle.settings.specs.declared.parts.Settings.{Settings}
 use Rattle.rec_drill.specs.Drill.{drill_bytes}
 use Rattle.rec_drill.proofs.Lengths.{text_short}
 use Rattle.rec_top.specs.Written.{Output}
-use Rattle.rec_top.specs.Rewritten.{RowsSuffice}
+use Rattle.rec_top.specs.Rewritten.{RowsSuffice, NumbersSuffice}
 use Rattle.rec_top.specs.Drilled.{IsDrilled}
 use Rattle.rec_top.specs.Input.{ReadsSource, GaveInputTo, GaveInput, HasInputFor, HasInput}
-use Rattle.rec_top.specs.Output.{IsOutput, IsOutputOf, HasRows, HasRowsFor, LacksRowsFor, limit_of}
+use Rattle.rec_top.specs.Output.{IsOutput, IsOutputOf, HasRows, HasRowsFor, LacksRowsFor, HasNumbers, HasNumbersFor, LacksNumbersFor, limit_of}
 use Rattle.rec_top.specs.Run.{GaveOutput, AsksDrill}
 use Rattle.rec_top.specs.Lines.{stop_status}
 use Rattle.rec_top.specs.Answered.{IsAnswer, StopsAnswering, StopsDrilling}
 use Rattle.rec_top.specs.declared.answers.Answer.{Answer}
 use Rattle.rec_top.specs.declared.stops.Stop.{Stop}
-use Rattle.rec_top.specs.declared.stops.Stop.TheVariants.{Usage, Refused, StoreFull, ReadFault, WriteFault, Memory}
+use Rattle.rec_top.specs.declared.stops.Stop.TheVariants.{Usage, Refused, StoreFull, ReadFault, WriteFault, Memory, Worn}
 
 -- ---- commands that read the source
 pub gave_input : {S : Type 0} (c : Command) (count : ℕ) (left : S → Option (List ℕ)) (old new : S) (input : List ℕ) → ReadsSource c → GaveAll (left old) (left new) input → GaveInputTo c count left old new input
@@ -59,7 +59,7 @@ short s r e =
     let limit = ap limit_of e in
     omega (arith, few, l, limit)
 
-gave_text : {S : Type 0} (s : Settings) (left : S → Option (List ℕ)) (old new : S) → s.command ≡ Drill → new ≡ old → GaveInput s left old new (drill_bytes s.count)
+pub gave_text : {S : Type 0} (s : Settings) (left : S → Option (List ℕ)) (old new : S) → s.command ≡ Drill → new ≡ old → GaveInput s left old new (drill_bytes s.count)
 gave_text s left old new e same = subst (λ c. GaveInputTo c s.count left old new (drill_bytes s.count)) (sym e) (same, refl)
 
 pub drill_made : {S : Type 0} (s : Settings) (left : S → Option (List ℕ)) (old new : S) (r : Result Answer Stop) → AreInRange s → s.command ≡ Drill → new ≡ old
@@ -78,6 +78,8 @@ drill_stop s left faults old new StoreFull e same h =
 drill_stop s left faults old new ReadFault e same h = absurd h
 drill_stop s left faults old new WriteFault e same h = h
 drill_stop s left faults old new Memory e same h = h
+drill_stop s left faults old new Worn e same h =
+    record { input = drill_bytes s.count; read = gave_text s left old new e same; lacks = subst (λ c. LacksNumbersFor c s (drill_bytes s.count)) (sym e) h }
 
 pub drill_stopped : {S : Type 0} (s : Settings) (left : S → Option (List ℕ)) (faults : S → ℕ) (old new : S) (r : Result Answer Stop) → s.command ≡ Drill → new ≡ old → IfErr r (StopsDrilling s) → IfErr r (StopsAnswering s left faults old new)
 drill_stopped s left faults old new (Ok answer) e same h = tt
@@ -94,6 +96,10 @@ pub drill_rows : {S : Type 0} (s : Settings) (left : S → Option (List ℕ)) (s
 drill_rows s left source input e h rows =
     subst (λ text. RowsSuffice s text) (is_text s left source input e h) (subst (λ c. HasRowsFor c s input) e rows)
 
+pub drill_numbers : {S : Type 0} (s : Settings) (left : S → Option (List ℕ)) (source : S) (input : List ℕ) → s.command ≡ Drill → HasInput s left source input → HasNumbers s input → NumbersSuffice s (drill_bytes s.count)
+drill_numbers s left source input e h numbers =
+    subst (λ text. NumbersSuffice s text) (is_text s left source input e h) (subst (λ c. HasNumbersFor c s input) e numbers)
+
 -- a drill that stops is neither refused nor stopped by a read
 stops_otherwise : {S : Type 0} (s : Settings) (left : S → Option (List ℕ)) (faults : S → ℕ) (old new : S) (stop : Stop) (status : ℕ) → s.command ≡ Drill → StopsAnswering s left faults old new stop → status ≡ stop_status stop
     → (status ≢ 3) × (status ≢ 5)
@@ -103,6 +109,7 @@ stops_otherwise s left faults old new StoreFull status e h i = (λ three. omega 
 stops_otherwise s left faults old new ReadFault status e h i = absurd (subst ReadsSource e h.0)
 stops_otherwise s left faults old new WriteFault status e h i = absurd h
 stops_otherwise s left faults old new Memory status e h i = (λ three. omega (arith, i, three), λ five. omega (arith, i, five))
+stops_otherwise s left faults old new Worn status e h i = (λ three. omega (arith, i, three), λ five. omega (arith, i, five))
 
 pub drill_goes_on : {S : Type 0} (words : List (List ℕ)) (s : Settings) (left : S → Option (List ℕ)) (faults : S → ℕ) (old new : S) (stop : Stop) (status : ℕ) → settings_of words ≡ Some s
     → StopsAnswering s left faults old new stop → status ≡ stop_status stop → AsksDrill words → (status ≢ 3) × (status ≢ 5)

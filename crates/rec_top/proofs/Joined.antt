@@ -1,6 +1,6 @@
 -- What is read of lines is what the definition says of the terms.
 use Rattle.std.proofs.Common.{◌≡◌, ℕ, ◌+◌, ◌<◌, List, [], ◌∷◌, length, map, Bool, cond, refl, sym, ap, subst, ◌∙◌, arith}
-use Rattle.std.specs.Prelude.{All, fold, count_by, sum_by}
+use Rattle.std.specs.Prelude.{All, fold, count_by, sum_by, Result, Ok, Err, IfOk}
 use Rattle.std.specs.List.{flat_map, list_all}
 use Rattle.std.proofs.lemmas.List.{length-map}
 use Rattle.std.proofs.lemmas.List.Folds.{flat_map-map, list_all-map}
@@ -9,7 +9,9 @@ use Rattle.rule_match.specs.Planned.{Planned, planned}
 use Rattle.term_lines.specs.Line.{is_value_kind}
 use Rattle.settings.specs.declared.parts.Settings.{Settings}
 use Rattle.rec_check.specs.Spelled.{Specified}
+use Rattle.rewrite_workers.specs.declared.fault.AllFault.{AllFault}
 use Rattle.rewrite_workers.specs.declared.lines.Line.{Line}
+use Rattle.rewrite_workers.specs.declared.lines.Lines.{Lines}
 use Rattle.rewrite_workers.specs.Lined.{Said, said, line_of, worker_of}
 use Rattle.rec_top.specs.Lines.{line}
 use Rattle.rec_top.specs.Sequence.{AreLinesOf, IsSplit}
@@ -45,6 +47,14 @@ pub lines_made : (s : Settings) (spec : Specified) (plan : Planned) (widest : �
 lines_made s spec plan widest terms lines workers p t e below same =
     are_lines s spec lines workers
     (e ∙ ap (λ (q : Planned). map (line_of s spec.symbols q.rules) terms) p ∙ ap (map (line_of s spec.symbols spec.rules)) t) below same
+
+-- the same of lines that may not have been made
+pub shared_made : (s : Settings) (spec : Specified) (plan : Planned) (widest : ℕ) (terms : List Tree) (r : Result Lines AllFault) (lines : Lines) → r ≡ Ok lines → plan ≡ planned spec.rules widest → terms ≡ spec.terms
+    → IfOk r (λ l. map said l.list.items ≡ map (line_of s spec.symbols plan.rules) terms) → IfOk r (λ l. All (λ w. w < s.workers) (map worker_of l.list.items)) → AreLinesOf s spec lines.list.items
+shared_made s spec plan widest terms (Err f) lines is p t e below = absurd (let bad : Err f ≡ Ok lines = is in cc)
+shared_made s spec plan widest terms (Ok l) lines is p t e below =
+    let same : l ≡ lines = cc in
+    subst (λ (m : Lines). AreLinesOf s spec m.list.items) same (lines_made s spec plan widest terms l.list.items s.workers p t e below refl)
 
 -- where there are no terms there are no workers
 pub no_workers : (count : ℕ) (workers : List ℕ) → workers ≡ [] → IsSplit count workers 0

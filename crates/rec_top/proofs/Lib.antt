@@ -4,10 +4,12 @@ pub mod OneFault
 pub mod Named
 pub mod Sufficing
 pub mod Failing
-pub mod Fullness
 pub mod FewTerms
 pub mod Inputs
 pub mod Joined
-pub mod NewDesks
-pub mod Refusals
 pub mod Telling
+pub mod Narrow
+pub mod Recounting
+pub mod Drawing
+pub mod Outcomes
+pub mod AtOnce

@@ -7,17 +7,17 @@ use Rattle.settings.specs.declared.parts.Settings.{Settings}
 use Rattle.term_commands.specs.Listing.{IsTooMuch, IsTextFault}
 use Rattle.term_commands.specs.Unpacking.{IsFileFault}
 use Rattle.rec_top.specs.Written.{Output}
-use Rattle.rec_top.specs.Rewritten.{IsSpecificationFault, RowsAreFew}
-use Rattle.rec_top.specs.Output.{IsFaultWithin, IsScheduleFault, LacksRows, too_long}
+use Rattle.rec_top.specs.Rewritten.{IsSpecificationFault, RowsAreFew, NumbersMayEnd}
+use Rattle.rec_top.specs.Output.{IsFaultWithin, IsScheduleFault, LacksRows, LacksNumbers, too_long}
 use Rattle.rec_top.specs.Input.{ReadsSource}
-use Rattle.rec_top.specs.Run.{GaveFault, GaveTooMuch}
+use Rattle.rec_top.specs.Run.{GaveFault, GaveTooMuch, GaveTooMany}
 use Rattle.rec_top.specs.Sequence.{IsSplit}
 use Rattle.rec_top.specs.declared.answers.Answer.{Answer}
 use Rattle.rec_reader.specs.declared.fail.ReadFail.{ReadFail}
 use Rattle.rec_reader.specs.declared.fail.ReadFail.TheVariants as fail
 use Rattle.faults.specs.declared.refusal.Refusal.{Refusal}
 use Rattle.rec_top.specs.declared.stops.Stop.{Stop}
-use Rattle.rec_top.specs.declared.stops.Stop.TheVariants.{Usage, Refused, StoreFull, ReadFault, WriteFault, Memory}
+use Rattle.rec_top.specs.declared.stops.Stop.TheVariants.{Usage, Refused, StoreFull, ReadFault, WriteFault, Memory, Worn}
 
 -- the answer is this output, and each term has one of so many workers
 pub record IsAnswer (count : ℕ) (answer : Answer) (output : Output) : Type 0 where
@@ -33,6 +33,7 @@ StopsReading limit left faults old new StoreFull = ⊥
 StopsReading limit left faults old new ReadFault = Rose (faults old) (faults new)
 StopsReading limit left faults old new WriteFault = ⊥
 StopsReading limit left faults old new Memory = Unit {0}
+StopsReading limit left faults old new Worn = ⊥
 
 -- why making the output for an input may stop
 abbrev pub StopsMaking : Settings → List ℕ → Stop → Type 0
@@ -42,6 +43,7 @@ StopsMaking settings input StoreFull = LacksRows settings input
 StopsMaking settings input ReadFault = ⊥
 StopsMaking settings input WriteFault = ⊥
 StopsMaking settings input Memory = Unit {0}
+StopsMaking settings input Worn = LacksNumbers settings input
 
 -- why reading a specification may fail, and why a command stops then
 abbrev pub FailsSpelling : List ℕ → ReadFail → Type 0
@@ -55,6 +57,7 @@ StopsSpelling input StoreFull = ⊥
 StopsSpelling input ReadFault = ⊥
 StopsSpelling input WriteFault = ⊥
 StopsSpelling input Memory = Unit {0}
+StopsSpelling input Worn = ⊥
 
 -- why rewriting the terms of an input may stop
 abbrev pub StopsRewriting : Settings → List ℕ → Stop → Type 0
@@ -64,6 +67,7 @@ StopsRewriting settings input StoreFull = RowsAreFew settings input
 StopsRewriting settings input ReadFault = ⊥
 StopsRewriting settings input WriteFault = ⊥
 StopsRewriting settings input Memory = Unit {0}
+StopsRewriting settings input Worn = NumbersMayEnd settings input
 
 -- why a drill may stop
 abbrev pub StopsDrilling : Settings → Stop → Type 0
@@ -73,6 +77,7 @@ StopsDrilling settings StoreFull = RowsAreFew settings (drill_bytes settings.cou
 StopsDrilling settings ReadFault = ⊥
 StopsDrilling settings WriteFault = ⊥
 StopsDrilling settings Memory = Unit {0}
+StopsDrilling settings Worn = NumbersMayEnd settings (drill_bytes settings.count)
 
 -- why running a schedule may stop
 abbrev pub StopsScheduling : ℕ → List ℕ → Stop → Type 0
@@ -82,6 +87,7 @@ StopsScheduling seats input StoreFull = ⊥
 StopsScheduling seats input ReadFault = ⊥
 StopsScheduling seats input WriteFault = ⊥
 StopsScheduling seats input Memory = Unit {0}
+StopsScheduling seats input Worn = ⊥
 
 -- why a command on the terms of a text may stop
 abbrev pub StopsTelling : ℕ → List ℕ → Stop → Type 0
@@ -91,6 +97,7 @@ StopsTelling rows input StoreFull = IsTooMuch rows input
 StopsTelling rows input ReadFault = ⊥
 StopsTelling rows input WriteFault = ⊥
 StopsTelling rows input Memory = Unit {0}
+StopsTelling rows input Worn = ⊥
 
 -- why reading a file of terms may stop
 abbrev pub StopsUnpacking : List ℕ → Stop → Type 0
@@ -100,6 +107,7 @@ StopsUnpacking input StoreFull = ⊥
 StopsUnpacking input ReadFault = ⊥
 StopsUnpacking input WriteFault = ⊥
 StopsUnpacking input Memory = Unit {0}
+StopsUnpacking input Worn = ⊥
 
 -- why a command may stop before it writes
 abbrev pub StopsAnswering : {S : Type 0} (settings : Settings) (left : S → Option (List ℕ)) (faults : S → ℕ) (old new : S) → Stop → Type 0
@@ -109,6 +117,7 @@ StopsAnswering settings left faults old new StoreFull = GaveTooMuch settings lef
 StopsAnswering settings left faults old new ReadFault = ReadsSource settings.command × Rose (faults old) (faults new)
 StopsAnswering settings left faults old new WriteFault = ⊥
 StopsAnswering settings left faults old new Memory = Unit {0}
+StopsAnswering settings left faults old new Worn = GaveTooMany settings left old new
 
 -- the answer is as said, memory aside
 abbrev pub Answers : {A : Type 0} → Result A Stop → (A → Type 0) → Type 0

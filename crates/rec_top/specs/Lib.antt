@@ -1,6 +1,6 @@
 pub mod Answered
-pub mod Desks
 pub mod Drilled
+pub mod Histories
 pub mod Input
 pub mod Lines
 pub mod Output

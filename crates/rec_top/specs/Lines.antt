@@ -6,7 +6,7 @@ use Rattle.faults.specs.Count.{Rose}
 use Rattle.ends.specs.Bytes.{TookFront}
 use Rattle.faults.specs.declared.refusal.Refusal.{Refusal}
 use Rattle.rec_top.specs.declared.stops.Stop.{Stop}
-use Rattle.rec_top.specs.declared.stops.Stop.TheVariants.{Usage, Refused, StoreFull, ReadFault, WriteFault, Memory}
+use Rattle.rec_top.specs.declared.stops.Stop.TheVariants.{Usage, Refused, StoreFull, ReadFault, WriteFault, Memory, Worn}
 
 -- a text, and the end of its line
 abbrev pub line : List ℕ → List ℕ
@@ -23,6 +23,7 @@ stop_line StoreFull = line (codes "store full")
 stop_line ReadFault = line (codes "read fault")
 stop_line WriteFault = line (codes "write fault")
 stop_line Memory = line (codes "out of memory")
+stop_line Worn = line (codes "worn")
 
 -- the exit status
 abbrev pub stop_status : Stop → ℕ
@@ -32,6 +33,7 @@ stop_status StoreFull = 4
 stop_status ReadFault = 5
 stop_status WriteFault = 6
 stop_status Memory = 7
+stop_status Worn = 8
 
 -- the line of each status but 3, whose line names its fault
 abbrev pub status_line : ℕ → List ℕ
@@ -41,6 +43,7 @@ status_line status =
     else if status == 5 then stop_line ReadFault
     else if status == 6 then stop_line WriteFault
     else if status == 7 then stop_line Memory
+    else if status == 8 then stop_line Worn
     else []
 
 -- A front of the line was taken, and all of it where the sink's count of faults didn't rise. What a

@@ -12,7 +12,7 @@ use Rattle.term_commands.specs.Listing.{IsListed, IsTooMuch, IsTextFault}
 use Rattle.term_commands.specs.Packing.{IsPacked}
 use Rattle.term_commands.specs.Unpacking.{IsUnpacked, IsFileFault}
 use Rattle.rec_top.specs.Written.{Output}
-use Rattle.rec_top.specs.Rewritten.{IsRewritten, IsSpecificationFault, RowsAreFew, RowsSuffice}
+use Rattle.rec_top.specs.Rewritten.{IsRewritten, IsSpecificationFault, RowsAreFew, RowsSuffice, NumbersMayEnd, NumbersSuffice}
 use Rattle.rec_top.specs.Drilled.{IsDrilled}
 use Rattle.faults.specs.declared.refusal.Refusal.{Refusal}
 
@@ -116,3 +116,27 @@ HasRowsFor Unpack s input = Unit {0}
 
 abbrev pub HasRows : Settings → List ℕ → Type 0
 HasRows s input = HasRowsFor s.command s input
+
+-- the numbers of the store may end where the command rewrites the terms of the input
+abbrev pub LacksNumbersFor : Command → Settings → List ℕ → Type 0
+LacksNumbersFor Rewrite s input = NumbersMayEnd s input
+LacksNumbersFor Drill s input = NumbersMayEnd s input
+LacksNumbersFor Schedule s input = ⊥
+LacksNumbersFor Terms s input = ⊥
+LacksNumbersFor Pack s input = ⊥
+LacksNumbersFor Unpack s input = ⊥
+
+abbrev pub LacksNumbers : Settings → List ℕ → Type 0
+LacksNumbers s input = LacksNumbersFor s.command s input
+
+-- they suffice for it
+abbrev pub HasNumbersFor : Command → Settings → List ℕ → Type 0
+HasNumbersFor Rewrite s input = NumbersSuffice s input
+HasNumbersFor Drill s input = NumbersSuffice s input
+HasNumbersFor Schedule s input = Unit {0}
+HasNumbersFor Terms s input = Unit {0}
+HasNumbersFor Pack s input = Unit {0}
+HasNumbersFor Unpack s input = Unit {0}
+
+abbrev pub HasNumbers : Settings → List ℕ → Type 0
+HasNumbers s input = HasNumbersFor s.command s input

@@ -1,5 +1,6 @@
--- Rewriting the terms of a specification: what is written, how many rows it needs, and what is wrong with an input.
-use Rattle.std.specs.Prelude.{◌≡◌, ◌⊎◌, ℕ, ◌*◌, ◌≤◌, ◌<◌, List, length, Some, None, Ok, Err, All}
+-- Rewriting the terms of a specification: what is written, how many rows and numbers it needs, and what is wrong with an
+-- input.
+use Rattle.std.specs.Prelude.{◌≡◌, ◌⊎◌, ℕ, ◌+◌, ◌*◌, ◌^◌, ◌≤◌, ◌<◌, List, length, Some, None, Ok, Err, All}
 use Rattle.rec_reader.specs.declared.token.Token.{Token}
 use Rattle.rec_reader.specs.Parsed.{Parsed}
 use Rattle.rec_reader.specs.declared.fail.ReadFail.TheVariants.{Refused}
@@ -10,7 +11,7 @@ use Rattle.rec_offences.specs.Faults.{fault_of}
 use Rattle.faults.specs.declared.refusal.Refusal.{Refusal}
 use Rattle.rec_check.specs.Spelled.{Specified}
 use Rattle.rec_check.specs.Run.{spelled_in}
-use Rattle.rewrite_model.specs.Built.{distinct_built, need_of_all}
+use Rattle.rewrite_model.specs.Built.{distinct_built, need_of_all, total_built}
 use Rattle.settings.specs.declared.parts.Settings.{Settings}
 use Rattle.rec_top.specs.Sequence.{WriteNames, lines_of, all_values}
 use Rattle.term_text.specs.Text.{HasNames}
@@ -84,3 +85,18 @@ abbrev pub RowsSuffice : Settings → List ℕ → Type 0
 RowsSuffice s input = (spec : Specified) → Spells input spec →
     (distinct_built spec.rules spec.terms s.fuel s.depth ≤ s.rows)
     ⊎ (s.workers * need_of_all spec.rules spec.terms s.fuel s.depth ≤ s.rows)
+
+-- How far the numbers of the store's entries may go. There are at most as many collections as trees are built, and one more
+-- for each worker. Each uses up at most as many numbers as there are rows and workers, and one, and wants two such lots.
+abbrev pub most_numbers : Settings → Specified → ℕ
+most_numbers s spec = (total_built spec.rules spec.terms s.fuel s.depth + s.workers + 2) * (s.rows + s.workers + 1)
+
+-- the numbers of the store may end
+pub record NumbersMayEnd (s : Settings) (input : List ℕ) : Type 0 where
+  pub spec : Specified
+  pub spelled : Spells input spec
+  pub many : 2 ^ 62 ≤ most_numbers s spec
+
+-- they suffice
+abbrev pub NumbersSuffice : Settings → List ℕ → Type 0
+NumbersSuffice s input = (spec : Specified) → Spells input spec → most_numbers s spec < 2 ^ 62

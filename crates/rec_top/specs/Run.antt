@@ -9,7 +9,7 @@ use Rattle.settings.specs.declared.parts.Command.TheVariants.{Drill}
 use Rattle.rec_top.specs.Written.{Output, status_of}
 use Rattle.rec_top.specs.Sequence.{IsSplit}
 use Rattle.rec_top.specs.Input.{ReadsSource, GaveInput, HasInput}
-use Rattle.rec_top.specs.Output.{IsOutput, IsFault, LacksRows, HasRows, limit_of, too_long}
+use Rattle.rec_top.specs.Output.{IsOutput, IsFault, LacksRows, HasRows, LacksNumbers, HasNumbers, limit_of, too_long}
 use Rattle.faults.specs.declared.refusal.Refusal.{Refusal}
 
 -- the count of faults didn't rise
@@ -37,6 +37,12 @@ pub record GaveTooMuch {S : Type 0} (settings : Settings) (left : S → Option (
   pub read : GaveInput settings left old new input
   pub lacks : LacksRows settings input
 
+-- the source gave the input whole, and the numbers of the store may end with it
+pub record GaveTooMany {S : Type 0} (settings : Settings) (left : S → Option (List ℕ)) (old new : S) : Type 0 where
+  pub input : List ℕ
+  pub read : GaveInput settings left old new input
+  pub lacks : LacksNumbers settings input
+
 -- the words are accepted, and this is the output for the input
 abbrev pub HasOutput : {S : Type 0} (words : List (List ℕ)) (left : S → Option (List ℕ)) (old new : S) (output : Output) → Type 0
 HasOutput words left old new output =
@@ -52,7 +58,12 @@ abbrev pub HasTooMuch : {S : Type 0} (words : List (List ℕ)) (left : S → Opt
 HasTooMuch words left old new =
     (settings : Settings) × (settings_of words ≡ Some settings) × GaveTooMuch settings left old new
 
--- The words are accepted, there is an input whose output this is, and the rows suffice for it.
+-- the words are accepted, and the numbers of the store may end with the input
+abbrev pub HasTooMany : {S : Type 0} (words : List (List ℕ)) (left : S → Option (List ℕ)) (old new : S) → Type 0
+HasTooMany words left old new =
+    (settings : Settings) × (settings_of words ≡ Some settings) × GaveTooMany settings left old new
+
+-- The words are accepted, there is an input whose output this is, and rows and numbers suffice for it.
 pub record Accepts {S : Type 0} (words : List (List ℕ)) (left : S → Option (List ℕ)) (source : S) (output : Output) : Type 0 where
   pub settings : Settings
   pub input : List ℕ
@@ -60,6 +71,7 @@ pub record Accepts {S : Type 0} (words : List (List ℕ)) (left : S → Option (
   pub has : HasInput settings left source input
   pub output_is : IsOutput settings input output
   pub rows : HasRows settings input
+  pub numbers : HasNumbers settings input
 
 -- the words are accepted, the command reads the source, and the source has an input left that has this fault
 pub record Refuses {S : Type 0} (words : List (List ℕ)) (left : S → Option (List ℕ)) (source : S) (fault : Refusal) : Type 0 where
@@ -96,3 +108,4 @@ IsWhole status = (status ≡ 0) ⊎ (status ≡ 1)
 abbrev pub IsStatus : ℕ → Type 0
 IsStatus status =
     (status ≡ 0) ⊎ (status ≡ 1) ⊎ (status ≡ 2) ⊎ (status ≡ 3) ⊎ (status ≡ 4) ⊎ (status ≡ 5) ⊎ (status ≡ 6) ⊎ (status ≡ 7)
+    ⊎ (status ≡ 8)

@@ -4,17 +4,18 @@ use Rattle.std.specs.List.{flat_map, list_all}
 use Rattle.term_model.specs.Tree.{Tree}
 use Rattle.symbol_pool.specs.Pool.{Named}
 use Rattle.rewrite_model.specs.Rule.{Rule}
-use Rattle.rewrite_model.specs.Built.{need_of_all}
 use Rattle.rewrite_model.specs.Run.{Ended}
 use Rattle.settings.specs.declared.parts.Settings.{Settings}
 use Rattle.term_lines.specs.Laws.{WritesNames}
 use Rattle.term_lines.specs.Line.{line_text, is_value, is_value_kind, spent_of}
 use Rattle.term_lines.specs.Written.{ended}
 use Rattle.rewrite_workers.specs.declared.lines.Line.{Line}
+use Rattle.shared_work.specs.Numbers.{LacksRows}
+use Rattle.shared_work.specs.Wearing.{WearsOut}
 use Rattle.rec_check.specs.Spelled.{Specified}
 use Rattle.rec_top.specs.Lines.{line}
 use Rattle.rec_top.specs.declared.stops.Stop.{Stop}
-use Rattle.rec_top.specs.declared.stops.Stop.TheVariants.{Usage, Refused, StoreFull, ReadFault, WriteFault, Memory}
+use Rattle.rec_top.specs.declared.stops.Stop.TheVariants.{Usage, Refused, StoreFull, ReadFault, WriteFault, Memory, Worn}
 
 -- the right sides of all rules have names
 abbrev pub WriteNames : List Named → List Rule → Type 0
@@ -58,7 +59,8 @@ pub record AreLinesOf (s : Settings) (spec : Specified) (lines : List Line) : Ty
 abbrev pub StopsTerms : Settings → List Rule → List Tree → Stop → Type 0
 StopsTerms s rules terms Usage = ⊥
 StopsTerms s rules terms (Refused fault) = ⊥
-StopsTerms s rules terms StoreFull = s.rows < need_of_all rules terms s.fuel s.depth
+StopsTerms s rules terms StoreFull = LacksRows s rules terms
 StopsTerms s rules terms ReadFault = ⊥
 StopsTerms s rules terms WriteFault = ⊥
 StopsTerms s rules terms Memory = Unit {0}
+StopsTerms s rules terms Worn = WearsOut s rules terms

@@ -1,9 +1,12 @@
--- How a run stops where an input is refused by a reader of bytes or of lines, or a command on terms has no output.
+-- How a run stops where an input is refused by a reader of bytes or of lines, a command on terms has no output, or workers
+-- stop.
 use Rattle.rec_reader.specs.declared.fail.ReadFail.{ReadFail}
 use Rattle.rec_reader.specs.declared.fail.ReadFail.TheVariants as fail
 use Rattle.lock_core.specs.declared.reading.LineFault.{LineFault}
 use Rattle.term_commands.specs.declared.fault.TermsFault.{TermsFault}
 use Rattle.term_commands.specs.declared.fault.TermsFault.TheVariants as terms
+use Rattle.rewrite_workers.specs.declared.fault.AllFault.{AllFault}
+use Rattle.rewrite_workers.specs.declared.fault.AllFault.TheVariants as workers
 use Rattle.rec_top.specs.declared.stops.Stop.{Stop}
 use Rattle.rec_top.specs.declared.stops.Stop.TheVariants as stop
 
@@ -18,3 +21,18 @@ abbrev pub stop_of_terms : TermsFault → Stop
 stop_of_terms (terms.Refused fault) = stop.Refused fault
 stop_of_terms terms.StoreFull = stop.StoreFull
 stop_of_terms terms.Memory = stop.Memory
+
+abbrev pub stop_of_fault : AllFault → Stop
+stop_of_fault workers.StoreFull = stop.StoreFull
+stop_of_fault workers.Worn = stop.Worn
+stop_of_fault workers.Memory = stop.Memory
+
+-- the text of a drill has no fault, so a fault of it is told as want of memory
+abbrev pub stop_of_drill : Stop → Stop
+stop_of_drill stop.Usage = stop.Usage
+stop_of_drill (stop.Refused fault) = stop.Memory
+stop_of_drill stop.StoreFull = stop.StoreFull
+stop_of_drill stop.ReadFault = stop.ReadFault
+stop_of_drill stop.WriteFault = stop.WriteFault
+stop_of_drill stop.Memory = stop.Memory
+stop_of_drill stop.Worn = stop.Worn

@@ -4,12 +4,13 @@ ghost use Rattle.ends.specs.Bytes.{GaveAll};
 ghost use Rattle.settings.specs.Words.{AreInRange};
 ghost use Rattle.rec_top.specs.Written.{Output};
 ghost use Rattle.rec_top.specs.Input.{ReadsSource, HasInput};
-ghost use Rattle.rec_top.specs.Output.{IsOutput, IsFault, IsFaultWithin, IsTooLongAt, HasRows, limit_of, too_long};
+ghost use Rattle.rec_top.specs.Output.{IsOutput, IsFault, IsFaultWithin, IsTooLongAt, HasRows, HasNumbers, limit_of, too_long};
 ghost use Rattle.rec_top.specs.Run.{GaveOutput, HasNoFault};
+ghost use Rattle.rec_top.specs.Histories.{SpellsSuch, GaveSuch, TellsHistory};
 ghost use Rattle.rec_top.specs.Answered.{IsAnswer, StopsReading, StopsMaking, StopsAnswering, Answers, StopsWith};
 ghost use Rattle.faults.specs.declared.refusal.Refusal.{Refusal};
 
-use crate::answers::Answer;
+use crate::answers::Finished;
 use crate::drilling::drilled;
 use crate::listing::listed;
 use crate::packing::packed;
@@ -21,6 +22,7 @@ use ends::{Gate, ReadAllFault, Source, read_all};
 use faults::{Refusal, kinds};
 use settings::{Command, Settings};
 use std::alloc::Global;
+use std::sync::Wait;
 use std::thread::Threads;
 
 // How many bytes the input of a command may have.
@@ -66,85 +68,94 @@ fn input_of<S: Source>(alloc: Global, source: &mut S, limit: u64) -> Result<Vec<
 }
 
 // The output of the command for an input.
-fn output_for<R: Threads + Sync, G: Gate>(
+fn output_for<R: Threads + Wait + Sync, G: Gate>(
     rt: &R,
     alloc: Global,
     settings: &Settings,
     input: &[u8],
     gate: &G,
-) -> Result<Answer, Stop>
+) -> Finished
     requires limit { length input.now ≤ limit_of settings.now.command }
     requires in_range { AreInRange settings.now }
     requires reads { ReadsSource settings.now.command }
-    ensures made { IfOk result (λ answer. (output : Output)
+    ensures made { IfOk result.answer (λ answer. (output : Output)
         × IsOutput settings.now input.now output × IsAnswer settings.now.workers answer output) }
-    ensures stopped { IfErr result (StopsMaking settings.now input.now) }
+    ensures stopped { IfErr result.answer (StopsMaking settings.now input.now) }
     ensures accepted { (output : Output) → IsOutput settings.now input.now output
-        → HasRows settings.now input.now
-        → Answers result (λ answer. IsAnswer settings.now.workers answer output) }
+        → HasRows settings.now input.now → HasNumbers settings.now input.now
+        → Answers result.answer (λ answer. IsAnswer settings.now.workers answer output) }
     ensures refused { (fault : Refusal) → IsFaultWithin settings.now input.now fault
-        → StopsWith result fault }
+        → StopsWith result.answer fault }
+    ensures history { TellsHistory settings.now (SpellsSuch input.now) result.answer result.chronicle }
 {
     match settings.command {
         Command::Rewrite => rewritten(rt, alloc, settings, input, gate),
         Command::Drill => unreachable!(),
-        Command::Schedule => scheduled(alloc, settings, input),
-        Command::Terms => listed(alloc, settings, input),
-        Command::Pack => packed(alloc, settings, input),
-        Command::Unpack => unpacked(alloc, settings, input),
+        Command::Schedule => Finished::alone(scheduled(alloc, settings, input)),
+        Command::Terms => Finished::alone(listed(alloc, settings, input)),
+        Command::Pack => Finished::alone(packed(alloc, settings, input)),
+        Command::Unpack => Finished::alone(unpacked(alloc, settings, input)),
     }
 }
 
 // The output of a command that reads the source, for all that it has left.
-fn answer_read<R: Threads + Sync, S: Source, G: Gate>(
+fn answer_read<R: Threads + Wait + Sync, S: Source, G: Gate>(
     rt: &R,
     alloc: Global,
     settings: &Settings,
     source: &mut S,
     gate: &G,
-) -> Result<Answer, Stop>
+) -> Finished
     requires in_range { AreInRange settings.now }
     requires reads { ReadsSource settings.now.command }
-    ensures made { IfOk result (λ answer. (output : Output)
+    ensures made { IfOk result.answer (λ answer. (output : Output)
         × GaveOutput settings.now S.left source.old source.new output
         × IsAnswer settings.now.workers answer output) }
-    ensures stopped { IfErr result (StopsAnswering settings.now S.left S.faults source.old source.new) }
-    ensures unfailed { IsErrOf result Stop.ReadFault ⊎ (S.faults source.new ≡ S.faults source.old) }
+    ensures stopped { IfErr result.answer (StopsAnswering settings.now S.left S.faults source.old source.new) }
+    ensures unfailed { IsErrOf result.answer Stop.ReadFault ⊎ (S.faults source.new ≡ S.faults source.old) }
     ensures accepted { (input : List ℕ) (output : Output)
         → S.left source.old ≡ Some input → IsOutput settings.now input output
-        → HasRows settings.now input → HasNoFault S.faults source.old source.new
-        → Answers result (λ answer. IsAnswer settings.now.workers answer output) }
+        → HasRows settings.now input → HasNumbers settings.now input
+        → HasNoFault S.faults source.old source.new
+        → Answers result.answer (λ answer. IsAnswer settings.now.workers answer output) }
     ensures refused { (input : List ℕ) (fault : Refusal)
         → S.left source.old ≡ Some input → IsFault settings.now input fault
-        → HasNoFault S.faults source.old source.new → StopsWith result fault }
+        → HasNoFault S.faults source.old source.new → StopsWith result.answer fault }
+    ensures history { TellsHistory settings.now
+        (GaveSuch settings.now S.left source.old source.new) result.answer result.chronicle }
     ensures later { S.faults source.old ≤ S.faults source.new }
 {
-    let input = input_of(alloc, source, limit_of(settings.command))?;
-    output_for(rt, alloc, settings, &input, gate)
+    match input_of(alloc, source, limit_of(settings.command)) {
+        Ok(input) => output_for(rt, alloc, settings, &input, gate),
+        Err(stop) => Finished::alone(Err(stop)),
+    }
 }
 
 /// The output of the command for all that the source has left, or for a drill's text.
-pub fn answer_of<R: Threads + Sync, S: Source, G: Gate>(
+pub fn answer_of<R: Threads + Wait + Sync, S: Source, G: Gate>(
     rt: &R,
     alloc: Global,
     settings: &Settings,
     source: &mut S,
     gate: &G,
-) -> Result<Answer, Stop>
+) -> Finished
     requires in_range { AreInRange settings.now }
-    ensures made { IfOk result (λ answer. (output : Output)
+    ensures made { IfOk result.answer (λ answer. (output : Output)
         × GaveOutput settings.now S.left source.old source.new output
         × IsAnswer settings.now.workers answer output) }
-    ensures stopped { IfErr result (StopsAnswering settings.now S.left S.faults source.old source.new) }
-    ensures unfailed { IsErrOf result Stop.ReadFault ⊎ (S.faults source.new ≡ S.faults source.old) }
+    ensures stopped { IfErr result.answer (StopsAnswering settings.now S.left S.faults source.old source.new) }
+    ensures unfailed { IsErrOf result.answer Stop.ReadFault ⊎ (S.faults source.new ≡ S.faults source.old) }
     ensures accepted { (input : List ℕ) (output : Output)
         → HasInput settings.now S.left source.old input → IsOutput settings.now input output
-        → HasRows settings.now input → HasNoFault S.faults source.old source.new
-        → Answers result (λ answer. IsAnswer settings.now.workers answer output) }
+        → HasRows settings.now input → HasNumbers settings.now input
+        → HasNoFault S.faults source.old source.new
+        → Answers result.answer (λ answer. IsAnswer settings.now.workers answer output) }
     ensures refused { (input : List ℕ) (fault : Refusal) → ReadsSource settings.now.command
         → S.left source.old ≡ Some input → IsFault settings.now input fault
-        → HasNoFault S.faults source.old source.new → StopsWith result fault }
+        → HasNoFault S.faults source.old source.new → StopsWith result.answer fault }
     ensures unread { settings.now.command ≡ Command.Drill → source.new ≡ source.old }
+    ensures history { TellsHistory settings.now
+        (GaveSuch settings.now S.left source.old source.new) result.answer result.chronicle }
     ensures later { S.faults source.old ≤ S.faults source.new }
 {
     match settings.command {

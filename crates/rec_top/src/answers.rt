@@ -1,6 +1,9 @@
 // What a command answers before anything is written.
+ghost use Rattle.std.specs.Prelude.{◌≡◌, []};
 
 use crate::results::Workers;
+use crate::stops::Stop;
+use node_rows::Chronicle;
 
 /// The output of a command, before it is written.
 #[derive(Drop)]
@@ -9,4 +12,26 @@ pub struct Answer {
     /// Whether each term's line is its value.
     pub values: bool,
     pub workers: Workers,
+}
+
+/// How a command ends before anything is written.
+#[derive(Drop)]
+pub struct Finished {
+    /// The output, or why there is none.
+    pub answer: Result<Answer, Stop>,
+    /// The history of its workers.
+    pub chronicle: Chronicle,
+}
+
+impl Finished {
+    /// A command that rewrote no terms.
+    pub fn alone(answer: Result<Answer, Stop>) -> Self
+        ensures answer { result.answer ≡ answer }
+        ensures chronicle { result.chronicle ≡ [] }
+    {
+        Finished {
+            answer,
+            chronicle: Chronicle::empty(),
+        }
+    }
 }

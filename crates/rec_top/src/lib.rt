@@ -15,7 +15,8 @@ mod stops;
 mod top;
 mod unpacking;
 
-pub use results::{Chronicle, Outcome, Workers};
+pub use node_rows::Chronicle;
+pub use results::{Outcome, Workers};
 pub use stops::out_of_memory;
 pub use top::run;
 

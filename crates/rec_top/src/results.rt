@@ -1,13 +1,9 @@
 // What a run answers.
 ghost use Rattle.std.specs.Prelude.{◌≡◌, [], ◌∷◌, ◌++◌, OnOk};
 
+use node_rows::Chronicle;
 use std::alloc::{AllocError, Global};
 use std::marker::Model;
-
-/// The creations and collections of a run in one history. It has no entries, since each worker has a
-/// store of its own, which keeps none.
-#[derive(Clone, Copy, Debug, PartialEq, Eq)]
-pub struct Chronicle;
 
 /// The worker of each term, from 0, in the order of the terms.
 #[derive(Drop)]
@@ -54,7 +50,8 @@ impl Workers {
 pub struct Outcome {
     /// The exit status.
     pub status: u8,
-    /// The history of the run.
+    /// The creations and collections of its workers on their store, those of worker k under the number k. Where no
+    /// terms were rewritten it has none.
     pub chronicle: Chronicle,
     /// The worker of each term that was rewritten, where the output was made; else none.
     pub workers: Workers,

@@ -1,101 +1,139 @@
 // The command `rewrite`: from a specification to the lines of its terms.
-ghost use Rattle.std.specs.Prelude.{◌≡◌, ◌≤◌, IfOk, IfErr, length};
+ghost use Rattle.std.specs.Prelude.{◌≡◌, ◌≤◌, [], Err, IfOk, IfErr, length, map};
 ghost use Rattle.settings.specs.Words.{AreInRange};
 ghost use Rattle.settings.specs.declared.parts.Settings.{Settings};
+ghost use Rattle.history_core.specs.Chronicle.{chronicle, IsLegal};
+ghost use Rattle.rewrite_workers.specs.Lined.{worker_of};
+ghost use Rattle.shared_work.specs.Sharing.{CollectsFew};
 ghost use Rattle.rec_top.specs.Written.{Output};
-ghost use Rattle.rec_top.specs.Rewritten.{IsRewritten, IsSpecificationFault, RowsSuffice, IsNamed, Spells, output_of};
+ghost use Rattle.rec_top.specs.Rewritten.{IsRewritten, IsSpecificationFault, RowsSuffice, NumbersSuffice, IsNamed, Spells, output_of};
 ghost use Rattle.rec_top.specs.Sequence.{AreLinesOf, StopsTerms};
-ghost use Rattle.rec_top.specs.Desks.{AreDesks};
+ghost use Rattle.rec_top.specs.Histories.{CountsWorkers, NamesAll, SpellsSuch, TellsStop, TellsTerms};
 ghost use Rattle.rec_check.specs.Spec.{specified};
 ghost use Rattle.rec_check.specs.Spelled.{Specified};
 ghost use Rattle.rec_check.specs.Run.{MayBeRun};
 ghost use Rattle.rec_check.specs.Symbols.{widest_of};
 ghost use Rattle.rec_top.specs.Answered.{IsAnswer, StopsRewriting, Answers, StopsWith};
+ghost use Rattle.rec_top.specs.declared.stops.Stop.TheVariants as stop;
 ghost use Rattle.faults.specs.declared.refusal.Refusal.{Refusal};
 
-use crate::answers::Answer;
+use crate::answers::{Answer, Finished};
 use crate::joining::{are_values, joined, workers_of};
 use crate::specification::specification_of;
 use crate::stops::Stop;
 use ends::Gate;
 use faults::Memory;
-use plain_store::PlainStore;
+use node_rows::Chronicle;
 use rec_check::Spec;
-use rewrite_workers::{AllFault, Line, Lines, Work, rewrite_all};
+use rewrite_workers::Line;
 use rule_match::Plan;
 use settings::Settings;
+use shared_work::{Lines, Rewritten, Work, rewrite_shared};
 use std::alloc::Global;
+use std::sync::Wait;
 use std::thread::Threads;
 
-// A store of its own for each worker, with all rows.
-fn desks_of(alloc: Global, settings: &Settings, plan: &Plan) -> Result<Vec<PlainStore>, Memory>
-    ensures { IfOk result (λ desks. AreDesks settings.now plan.now desks.items) }
-{
-    let mut desks = Vec::new(alloc);
-    let widest = plan.widest();
-    for _worker in 0..settings.workers {
-        let desk = PlainStore::new(alloc, settings.rows, settings.depth, widest)?;
-        desks.push(desk)?;
-    }
-    Ok(desks)
+/// The lines of terms, or why there are none; and the history of the workers.
+#[derive(Drop)]
+pub struct Worked {
+    pub lines: Result<Lines, Stop>,
+    pub chronicle: Chronicle,
 }
 
-// Rewrites the terms of a specification by the workers that the settings ask for.
-fn rewrite<R: Threads + Sync, G: Gate>(
+impl Worked {
+    // No term was rewritten, for this reason.
+    fn stopped(stop: Stop) -> Self
+        ensures lines { result.lines ≡ Err stop }
+        ensures chronicle { result.chronicle ≡ [] }
+    {
+        Worked {
+            lines: Err(stop),
+            chronicle: Chronicle::empty(),
+        }
+    }
+}
+
+// Rewrites the terms of a specification by the workers that the settings ask for, on one store.
+fn rewrite<R: Threads + Wait + Sync, G: Gate>(
     rt: &R,
     alloc: Global,
     settings: &Settings,
     spec: Spec,
     gate: &G,
-) -> Result<Lines, Stop>
+) -> Worked
     requires in_range { AreInRange settings.now }
     requires may_be_run { MayBeRun (specified spec) }
     requires named { IsNamed (specified spec) }
     requires widest { spec.widest ≡ widest_of spec.symbols }
+    requires narrow { spec.widest ≤ 16 }
     requires few { length spec.terms.items ≤ 65535 }
-    ensures made { IfOk result (λ lines. AreLinesOf settings.now (specified spec) lines.list.items) }
-    ensures stopped { IfErr result (StopsTerms settings.now spec.rules.items spec.terms.items) }
+    ensures made { IfOk result.lines (λ lines. AreLinesOf settings.now (specified spec) lines.list.items) }
+    ensures stopped { IfErr result.lines (StopsTerms settings.now spec.rules.items spec.terms.items) }
+    ensures legal { IsLegal settings.now.rows (chronicle result.chronicle) }
+    ensures collects { CollectsFew settings.now result.chronicle }
+    ensures each { CountsWorkers settings.now result.lines result.chronicle }
+    ensures built { IfOk result.lines (λ lines.
+        NamesAll (map worker_of lines.list.items) result.chronicle settings.now (specified spec)) }
+    ensures ended { IfErr result.lines (TellsStop settings.now (λ P. P (specified spec)) result.chronicle) }
 {
-    let plan = Plan::of(alloc, spec.rules, spec.widest)?;
-    let mut desks = desks_of(alloc, settings, &plan)?;
+    let plan = match Plan::of(alloc, spec.rules, spec.widest) {
+        Ok(plan) => plan,
+        Err(Memory) => return Worked::stopped(Stop::Memory),
+    };
     let work = Work {
         plan: &plan,
         symbols: &spec.symbols,
         terms: &spec.terms,
         settings: *settings,
     };
-    match rewrite_all(rt, alloc, &work, &mut desks, gate) {
-        Ok(lines) => Ok(lines),
-        Err(AllFault::StoreFull) => Err(Stop::StoreFull),
-        Err(AllFault::Worn) => unreachable!(),
-        Err(AllFault::Memory) => Err(Stop::Memory),
+    let Rewritten { lines, chronicle } = rewrite_shared(rt, alloc, &work, gate);
+    match lines {
+        Ok(lines) => Worked {
+            lines: Ok(lines),
+            chronicle,
+        },
+        Err(fault) => Worked {
+            lines: Err(Stop::from(fault)),
+            chronicle,
+        },
     }
 }
 
 /// Reads a specification, and makes the lines of its terms.
-pub fn lines_for<R: Threads + Sync, G: Gate>(
+pub fn lines_for<R: Threads + Wait + Sync, G: Gate>(
     rt: &R,
     alloc: Global,
     settings: &Settings,
     input: &[u8],
     gate: &G,
-) -> Result<Lines, Stop>
+) -> Worked
     requires in_range { AreInRange settings.now }
-    ensures made { IfOk result (λ lines. (spec : Specified)
+    ensures made { IfOk result.lines (λ lines. (spec : Specified)
         × Spells input.now spec × AreLinesOf settings.now spec lines.list.items) }
-    ensures stopped { IfErr result (StopsRewriting settings.now input.now) }
+    ensures stopped { IfErr result.lines (StopsRewriting settings.now input.now) }
     ensures accepted { (spec : Specified) → Spells input.now spec → RowsSuffice settings.now input.now
-        → Answers result (λ lines. AreLinesOf settings.now spec lines.list.items) }
-    ensures refused { (fault : Refusal) → IsSpecificationFault input.now fault → StopsWith result fault }
+        → NumbersSuffice settings.now input.now
+        → Answers result.lines (λ lines. AreLinesOf settings.now spec lines.list.items) }
+    ensures refused { (fault : Refusal) → IsSpecificationFault input.now fault → StopsWith result.lines fault }
+    ensures legal { IsLegal settings.now.rows (chronicle result.chronicle) }
+    ensures collects { CollectsFew settings.now result.chronicle }
+    ensures each { CountsWorkers settings.now result.lines result.chronicle }
+    ensures built { IfOk result.lines (λ lines. SpellsSuch input.now
+        (NamesAll (map worker_of lines.list.items) result.chronicle settings.now)) }
+    ensures ended { IfErr result.lines (TellsStop settings.now (SpellsSuch input.now) result.chronicle) }
 {
-    let spec = specification_of(alloc, input)?;
-    rewrite(rt, alloc, settings, spec, gate)
+    match specification_of(alloc, input) {
+        Ok(spec) => rewrite(rt, alloc, settings, spec, gate),
+        Err(stop) => Worked::stopped(stop),
+    }
 }
 
 // What is written of lines.
-fn told(alloc: Global, lines: &[Line]) -> Result<Answer, Memory>
-    ensures { (s : Settings) (spec : Specified) → AreLinesOf s spec lines.now
+fn told(alloc: Global, lines: &[Line]) -> Result<Answer, Stop>
+    ensures made { (s : Settings) (spec : Specified) → AreLinesOf s spec lines.now
         → IfOk result (λ answer. IsAnswer s.workers answer (output_of s spec)) }
+    ensures workers { IfOk result (λ answer. answer.workers ≡ map worker_of lines.now) }
+    ensures stopped { IfErr result (λ why. why ≡ stop.Memory) }
 {
     let output = joined(alloc, lines)?;
     let workers = workers_of(alloc, lines)?;
@@ -107,22 +145,32 @@ fn told(alloc: Global, lines: &[Line]) -> Result<Answer, Memory>
 }
 
 /// Reads a specification, and answers the lines of its terms.
-pub fn rewritten<R: Threads + Sync, G: Gate>(
+pub fn rewritten<R: Threads + Wait + Sync, G: Gate>(
     rt: &R,
     alloc: Global,
     settings: &Settings,
     input: &[u8],
     gate: &G,
-) -> Result<Answer, Stop>
+) -> Finished
     requires in_range { AreInRange settings.now }
-    ensures made { IfOk result (λ answer. (output : Output)
+    ensures made { IfOk result.answer (λ answer. (output : Output)
         × IsRewritten settings.now input.now output × IsAnswer settings.now.workers answer output) }
-    ensures stopped { IfErr result (StopsRewriting settings.now input.now) }
+    ensures stopped { IfErr result.answer (StopsRewriting settings.now input.now) }
     ensures accepted { (output : Output) → IsRewritten settings.now input.now output
-        → RowsSuffice settings.now input.now
-        → Answers result (λ answer. IsAnswer settings.now.workers answer output) }
-    ensures refused { (fault : Refusal) → IsSpecificationFault input.now fault → StopsWith result fault }
+        → RowsSuffice settings.now input.now → NumbersSuffice settings.now input.now
+        → Answers result.answer (λ answer. IsAnswer settings.now.workers answer output) }
+    ensures refused { (fault : Refusal) → IsSpecificationFault input.now fault → StopsWith result.answer fault }
+    ensures history { TellsTerms settings.now (SpellsSuch input.now) result.answer result.chronicle }
 {
-    let lines = lines_for(rt, alloc, settings, input, gate)?;
-    Ok(told(alloc, &lines.list)?)
+    let Worked { lines, chronicle } = lines_for(rt, alloc, settings, input, gate);
+    match lines {
+        Ok(lines) => Finished {
+            answer: told(alloc, &lines.list),
+            chronicle,
+        },
+        Err(stop) => Finished {
+            answer: Err(stop),
+            chronicle,
+        },
+    }
 }

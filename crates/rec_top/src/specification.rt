@@ -10,7 +10,7 @@ ghost use Rattle.faults.specs.declared.refusal.Refusal.{Refusal};
 
 use crate::stops::Stop;
 use rec_check::{Spec, check};
-use rec_reader::{ReadFail, syntax, tokens};
+use rec_reader::ReadFail;
 use std::alloc::Global;
 
 // Reads, and tells what is wrong.
@@ -21,8 +21,7 @@ fn read(alloc: Global, input: &[u8]) -> Result<Spec, ReadFail>
     ensures widest { IfOk result (λ spec. spec.widest ≡ widest_of spec.symbols) }
     ensures failed { IfErr result (FailsSpelling input.now) }
 {
-    let tokens = tokens(alloc, input)?;
-    let syntax = syntax(alloc, &tokens)?;
+    let syntax = rec_reader::read(alloc, input)?;
     check(alloc, &syntax)
 }
 
@@ -33,6 +32,7 @@ pub fn specification_of(alloc: Global, input: &[u8]) -> Result<Spec, Stop>
     ensures named { IfOk result (λ spec. IsNamed (specified spec)) }
     ensures widest { IfOk result (λ spec. spec.widest ≡ widest_of spec.symbols) }
     ensures few { IfOk result (λ spec. length spec.terms.items ≤ 65535) }
+    ensures narrow { IfOk result (λ spec. spec.widest ≤ 16) }
     ensures stopped { IfErr result (StopsSpelling input.now) }
     ensures accepted { (spec : Specified) → Spells input.now spec
         → Answers result (λ made. specified made ≡ spec) }

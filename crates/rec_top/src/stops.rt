@@ -1,16 +1,18 @@
 // Why a run stops without its output, and the line that `err` gets then.
 ghost use Rattle.std.specs.Prelude.{◌≡◌, ◌≤◌, []};
 ghost use Rattle.rec_top.specs.Lines.{fault_line, stop_line, stop_status, status_line, TookLine};
-ghost use Rattle.rec_top.specs.Stops.{stop_of_fail, stop_of_line, stop_of_terms};
+ghost use Rattle.rec_top.specs.Stops.{stop_of_fail, stop_of_line, stop_of_terms, stop_of_fault};
 ghost use Rattle.rec_top.specs.declared.stops.Stop.TheVariants as stop;
 
-use crate::results::{Chronicle, Outcome, Workers};
+use crate::results::{Outcome, Workers};
 use arrayvec::ArrayString;
 use ends::{Sink, write_all};
 use faults::{Memory, Refusal};
 use itoa::Buffer;
 use lock_core::LineFault;
+use node_rows::Chronicle;
 use rec_reader::ReadFail;
+use shared_work::AllFault;
 use std::alloc::{AllocError, Global};
 use term_commands::TermsFault;
 
@@ -32,6 +34,8 @@ pub enum Stop {
     WriteFault,
     /// There is no memory.
     Memory,
+    /// The numbers of the store's entries are used up.
+    Worn,
 }
 
 impl From<AllocError> for Stop {
@@ -87,6 +91,18 @@ impl From<TermsFault> for Stop {
     }
 }
 
+impl From<AllFault> for Stop {
+    ghost from_gives = { λ fault e. e ≡ stop_of_fault fault };
+
+    fn from(fault: AllFault) -> Self {
+        match fault {
+            AllFault::StoreFull => Stop::StoreFull,
+            AllFault::Worn => Stop::Worn,
+            AllFault::Memory => Stop::Memory,
+        }
+    }
+}
+
 // The line of the fault. It takes no memory.
 fn fault_line(fault: Refusal) -> ArrayString<LONGEST_LINE>
     ensures { result.bytes ≡ fault_line fault }
@@ -119,15 +135,17 @@ fn write_stop_line<E: Sink>(err: &mut E, stop: Stop)
         Stop::ReadFault => write_line(err, b"read fault\n"),
         Stop::WriteFault => write_line(err, b"write fault\n"),
         Stop::Memory => write_line(err, b"out of memory\n"),
+        Stop::Worn => write_line(err, b"worn\n"),
     }
 }
 
 /// Ends a run that stops here: with its status, and its line to `err`.
-pub fn stopped<E: Sink>(err: &mut E, stop: Stop, workers: Workers) -> Outcome
+pub fn stopped<E: Sink>(err: &mut E, stop: Stop, workers: Workers, chronicle: Chronicle) -> Outcome
     ensures status { result.status ≡ stop_status stop }
     ensures line { TookLine E.taken E.faults err.old err.new (stop_line stop) }
     ensures later { E.faults err.old ≤ E.faults err.new }
     ensures workers { result.workers ≡ workers }
+    ensures chronicle { result.chronicle ≡ chronicle }
 {
     write_stop_line(err, stop);
     let status = match stop {
@@ -137,12 +155,24 @@ pub fn stopped<E: Sink>(err: &mut E, stop: Stop, workers: Workers) -> Outcome
         Stop::ReadFault => 5,
         Stop::WriteFault => 6,
         Stop::Memory => 7,
+        Stop::Worn => 8,
     };
     Outcome {
         status,
-        chronicle: Chronicle,
+        chronicle,
         workers,
     }
+}
+
+/// Ends a run that stops before any term is rewritten.
+pub fn stopped_before<E: Sink>(alloc: Global, err: &mut E, stop: Stop) -> Outcome
+    ensures status { result.status ≡ stop_status stop }
+    ensures line { TookLine E.taken E.faults err.old err.new (stop_line stop) }
+    ensures later { E.faults err.old ≤ E.faults err.new }
+    ensures workers { result.workers ≡ [] }
+    ensures chronicle { result.chronicle ≡ [] }
+{
+    stopped(err, stop, Workers::none(alloc), Chronicle::empty())
 }
 
 /// Ends a run for which there is no memory before it begins.
@@ -151,6 +181,7 @@ pub fn out_of_memory<E: Sink>(alloc: Global, err: &mut E) -> Outcome
     ensures line { TookLine E.taken E.faults err.old err.new (status_line 7) }
     ensures later { E.faults err.old ≤ E.faults err.new }
     ensures workers { result.workers ≡ [] }
+    ensures chronicle { result.chronicle ≡ [] }
 {
-    stopped(err, Stop::Memory, Workers::none(alloc))
+    stopped_before(alloc, err, Stop::Memory)
 }

@@ -5,12 +5,14 @@ ghost use Rattle.ends.specs.Bytes.{TookFront};
 ghost use Rattle.settings.specs.Words.{settings_of, texts};
 ghost use Rattle.rec_top.specs.Written.{Output, status_for};
 ghost use Rattle.rec_top.specs.Lines.{fault_line, status_line, TookLine};
-ghost use Rattle.rec_top.specs.Run.{HasOutput, HasFault, HasTooMuch, HasNoFault, Accepts, Refuses, IsWritten, HasWorkers, AsksDrill, IsMade, IsWhole, IsStatus};
+ghost use Rattle.rec_top.specs.Run.{HasOutput, HasFault, HasTooMuch, HasTooMany, HasNoFault, Accepts, Refuses, IsWritten, HasWorkers, AsksDrill, IsMade, IsWhole, IsStatus};
+ghost use Rattle.rec_top.specs.Histories.{AsksRewriting, HasLegalHistory, HasFewCollects, HasEach, HasSuch, NamesAll, NamesAllFronts, Fills};
 ghost use Rattle.faults.specs.declared.refusal.Refusal.{Refusal};
 
 use crate::answering::answer_of;
-use crate::results::{Chronicle, Outcome, Workers};
-use crate::stops::{Stop, stopped};
+use crate::answers::Finished;
+use crate::results::{Outcome, Workers};
+use crate::stops::{Stop, stopped, stopped_before};
 use ends::{Gate, Sink, Source, write_all};
 use settings::{WordsFault, settings};
 use std::alloc::Global;
@@ -26,7 +28,8 @@ fn status_for(values: bool) -> u8
 
 /// Runs the program: reads the words and, but for a drill, all that the source has left, writes the
 /// output to `out`, and to `err` the line that says why there is none. As many workers as the words ask
-/// for rewrite the terms, the caller's thread among them. The output is the same for any number.
+/// for rewrite the terms on one store, the caller's thread among them. The output is the same for any
+/// number, and all creations and collections stand in one legal history of one thread.
 ///
 /// | status | comes | `err` gets |
 /// |---|---|---|
@@ -38,6 +41,7 @@ fn status_for(values: bool) -> u8
 /// | 5 | a read failed | `read fault` |
 /// | 6 | a write to `out` failed; it took a front of the output | `write fault` |
 /// | 7 | there is no memory | `out of memory` |
+/// | 8 | the numbers of the store's entries may end | `worn` |
 ///
 /// The gate is told before and after the work on each term, by its number from 0.
 pub fn run<R: Threads + Wait + Sync, S: Source, O: Sink, E: Sink, G: Gate>(
@@ -63,6 +67,8 @@ pub fn run<R: Threads + Wait + Sync, S: Source, O: Sink, E: Sink, G: Gate>(
         × TookLine E.taken E.faults err.old err.new (fault_line fault) }
     ensures full_only_where_rows_are_few { result.status ≡ 4
         → HasTooMuch (texts words.now) S.left source.old source.new }
+    ensures worn_only_where_numbers_end { result.status ≡ 8
+        → HasTooMany (texts words.now) S.left source.old source.new }
     ensures read_fault_only_where_count_rose { result.status ≡ 5
         → Rose (S.faults source.old) (S.faults source.new) }
     ensures write_fault_only_where_count_rose { result.status ≡ 6
@@ -86,7 +92,7 @@ pub fn run<R: Threads + Wait + Sync, S: Source, O: Sink, E: Sink, G: Gate>(
     ensures quiet { IsWhole result.status → err.new ≡ err.old }
     ensures silent { (IsMade result.status → ⊥) → out.new ≡ out.old }
 
-    // Where no count rises and the rows suffice, an accepted input gives its output, and a refused one its
+    // Where no count rises and rows and numbers suffice, an accepted input gives its output, and a refused one its
     // fault, memory aside.
     ensures complete { (output : Output) → Accepts (texts words.now) S.left source.old output
         → HasNoFault S.faults source.old source.new → HasNoFault O.faults out.old out.new
@@ -100,22 +106,46 @@ pub fn run<R: Threads + Wait + Sync, S: Source, O: Sink, E: Sink, G: Gate>(
     ensures out_later { O.faults out.old ≤ O.faults out.new }
     ensures err_later { E.faults err.old ≤ E.faults err.new }
     ensures no_worker { (IsMade result.status → ⊥) → result.workers ≡ [] }
+
+    // Whatever the status is, the creations and collections of all workers are a legal history of one thread.
+    ensures legal { HasLegalHistory (texts words.now) result.chronicle }
+    ensures collects { HasFewCollects (texts words.now) result.chronicle }
+    ensures no_history { (AsksRewriting (texts words.now) → ⊥) → result.chronicle ≡ [] }
+    ensures no_history_of_the_refused { (result.status ≡ 2) ⊎ (result.status ≡ 3) ⊎ (result.status ≡ 5)
+        → result.chronicle ≡ [] }
+
+    // Where words ask for rewriting it has the entries of each worker asked for, and of no other caller. At 2, 3, 5
+    // and 7 it may be empty.
+    ensures each { AsksRewriting (texts words.now) → HasEach (texts words.now) result.status result.chronicle }
+
+    // Where terms are rewritten it tells what each worker built: all that its terms build, or a front of it.
+    ensures built { IsMade result.status → AsksRewriting (texts words.now)
+        → HasSuch (texts words.now) S.left source.old source.new (NamesAll result.workers result.chronicle) }
+    ensures fronts { (result.status ≡ 4) ⊎ (result.status ≡ 8) → AsksRewriting (texts words.now)
+        → HasSuch (texts words.now) S.left source.old source.new (NamesAllFronts result.chronicle) }
+    ensures fronts_or_nothing { result.status ≡ 7 → (result.chronicle ≡ [])
+        ⊎ HasSuch (texts words.now) S.left source.old source.new (NamesAllFronts result.chronicle) }
+
+    // At 4 a collection of a worker kept as many trees as there are rows, and the worker's next tree isn't one.
+    ensures full { result.status ≡ 4 → AsksRewriting (texts words.now)
+        → HasSuch (texts words.now) S.left source.old source.new (Fills result.chronicle) }
 {
     let settings = match settings(alloc, words) {
         Ok(settings) => settings,
-        Err(WordsFault::Usage) => return stopped(err, Stop::Usage, Workers::none(alloc)),
-        Err(WordsFault::Memory) => return stopped(err, Stop::Memory, Workers::none(alloc)),
+        Err(WordsFault::Usage) => return stopped_before(alloc, err, Stop::Usage),
+        Err(WordsFault::Memory) => return stopped_before(alloc, err, Stop::Memory),
     };
-    let answer = match answer_of(rt, alloc, &settings, source, gate) {
+    let Finished { answer, chronicle } = answer_of(rt, alloc, &settings, source, gate);
+    let answer = match answer {
         Ok(answer) => answer,
-        Err(stop) => return stopped(err, stop, Workers::none(alloc)),
+        Err(stop) => return stopped(err, stop, Workers::none(alloc), chronicle),
     };
     match write_all(out, &answer.output) {
         Ok(()) => Outcome {
             status: status_for(answer.values),
-            chronicle: Chronicle,
+            chronicle,
             workers: answer.workers,
         },
-        Err(_) => stopped(err, Stop::WriteFault, answer.workers),
+        Err(_) => stopped(err, Stop::WriteFault, answer.workers, chronicle),
     }
 }

@@ -1,6 +1,10 @@
 // Runs with several workers, and drills.
 use crate::trial::{FOUR_SUMS, ROW, Row, check};
+use std::alloc::Global;
+use std::process::Abort;
+use std::sync::Wait;
 use std::test::Fail;
+use std::thread::Threads;
 
 const CONSTANTS: &[u8] = b"REC-SPEC C SORTS S CONS a b c d e : -> S EVAL a b c d e END-SPEC";
 
@@ -14,18 +18,45 @@ const REWRITES: Numbers = [
     (&["rewrite", "--workers", "16"], 16),
 ];
 
-const OF_TWO_ROWS: Numbers = [
+// Words, and how many workers they ask for.
+type Asked = (&'static [&'static str], u32);
+
+const TOO_FEW_ROWS: [Asked; 6] = [
+    (&["rewrite", "--rows", "1"], 1),
+    (&["rewrite", "--rows", "1", "--workers", "2"], 2),
+    (&["rewrite", "--workers", "16", "--rows", "1"], 16),
     (&["rewrite", "--rows", "2"], 1),
     (&["rewrite", "--rows", "2", "--workers", "2"], 2),
-    (&["rewrite", "--workers", "4", "--rows", "2"], 4),
     (&["rewrite", "--rows", "2", "--workers", "16"], 16),
 ];
 
-const OF_THREE_ROWS: Numbers = [
+const ROWS_FOR_ONE_WORKER: [Asked; 2] = [
     (&["rewrite", "--rows", "3"], 1),
-    (&["rewrite", "--rows", "3", "--workers", "2"], 2),
-    (&["rewrite", "--workers", "4", "--rows", "3"], 4),
-    (&["rewrite", "--rows", "3", "--workers", "16"], 16),
+    (&["rewrite", "--rows", "4"], 1),
+];
+
+const JUST_ENOUGH_ROWS: [Asked; 6] = [
+    (&["rewrite", "--rows", "5"], 1),
+    (&["rewrite", "--rows", "5", "--workers", "2"], 2),
+    (&["rewrite", "--workers", "16", "--rows", "5"], 16),
+    (&["rewrite", "--rows", "6"], 1),
+    (&["rewrite", "--rows", "6", "--workers", "2"], 2),
+    (&["rewrite", "--rows", "6", "--workers", "16"], 16),
+];
+
+const SOME_MORE_ROWS: [Asked; 6] = [
+    (&["rewrite", "--rows", "7"], 1),
+    (&["rewrite", "--rows", "7", "--workers", "2"], 2),
+    (&["rewrite", "--workers", "16", "--rows", "7"], 16),
+    (&["rewrite", "--rows", "8"], 1),
+    (&["rewrite", "--rows", "8", "--workers", "2"], 2),
+    (&["rewrite", "--rows", "8", "--workers", "16"], 16),
+];
+
+const ROWS_FOR_CONSTANTS: [Asked; 3] = [
+    (&["rewrite", "--rows", "1"], 1),
+    (&["rewrite", "--rows", "2", "--workers", "2"], 2),
+    (&["rewrite", "--rows", "5", "--workers", "16"], 16),
 ];
 
 #[test]
@@ -44,43 +75,69 @@ fn the_lines_are_the_same_for_any_number_of_workers(rt: HostRuntime) -> Result<(
     Ok(())
 }
 
-// Each worker has a store of its own so far, so three rows suffice for any number of workers, and two
-// for none.
-#[test]
-fn rows_that_suffice_for_one_worker_suffice_for_each(rt: HostRuntime) -> Result<(), Fail> {
-    for (words, workers) in OF_THREE_ROWS {
+// What the four sums come to on a store that has rows enough.
+const FOUR_LINES: Row = Row {
+    input: FOUR_SUMS,
+    out: b"s(s(z))\ns(s(z))\ns(s(z))\ns(s(z))\n",
+    terms: 4,
+    ..ROW
+};
+
+// Runs a row with each of these words.
+fn check_each<R: Abort + Alloc<A = Global> + Threads + Wait + Sync>(
+    rt: &R,
+    asked: &[Asked],
+    row: &Row,
+) -> Result<(), Fail> {
+    for (number, (words, workers)) in asked.iter().enumerate() {
         let row = Row {
-            words,
-            workers,
-            input: FOUR_SUMS,
-            out: b"s(s(z))\ns(s(z))\ns(s(z))\ns(s(z))\n",
-            terms: 4,
-            ..ROW
+            words: *words,
+            workers: *workers,
+            ..*row
         };
-        check(&rt, workers as usize, &row)?;
-    }
-    for (words, workers) in OF_TWO_ROWS {
-        let full = Row {
-            words,
-            workers,
-            input: FOUR_SUMS,
-            status: 4,
-            out: b"",
-            err: b"store full\n",
-            ..ROW
-        };
-        check(&rt, workers as usize, &full)?;
-        let names = Row {
-            words,
-            workers,
-            input: CONSTANTS,
-            out: b"a\nb\nc\nd\ne\n",
-            terms: 5,
-            ..ROW
-        };
-        check(&rt, workers as usize, &names)?;
+        check(rt, number, &row)?;
     }
     Ok(())
+}
+
+// Each sum has three trees in hand at once, so two rows suffice for no worker.
+#[test]
+fn too_few_rows_are_told_for_any_number_of_workers(rt: HostRuntime) -> Result<(), Fail> {
+    let full = Row {
+        input: FOUR_SUMS,
+        status: 4,
+        err: b"store full\n",
+        out: b"",
+        ..ROW
+    };
+    check_each(&rt, &TOO_FEW_ROWS, &full)
+}
+
+// With three or four rows several workers may end at status 4 or not, as they happen to meet.
+#[test]
+fn what_one_term_needs_suffices_for_one_worker(rt: HostRuntime) -> Result<(), Fail> {
+    check_each(&rt, &ROWS_FOR_ONE_WORKER, &FOUR_LINES)
+}
+
+// The sums build five different trees: z, s(z), plus(s(z),s(z)), plus(s(z),z) and s(s(z)).
+#[test]
+fn rows_for_all_that_is_built_suffice_for_any_number_of_workers(
+    rt: HostRuntime,
+) -> Result<(), Fail> {
+    check_each(&rt, &JUST_ENOUGH_ROWS, &FOUR_LINES)?;
+    check_each(&rt, &SOME_MORE_ROWS, &FOUR_LINES)
+}
+
+// A constant needs one row, so as many rows as workers suffice, or five.
+#[test]
+fn as_many_rows_as_workers_suffice_for_constants(rt: HostRuntime) -> Result<(), Fail> {
+    let names = Row {
+        input: CONSTANTS,
+        out: b"a\nb\nc\nd\ne\n",
+        terms: 5,
+        ..ROW
+    };
+    check_each(&rt, &ROWS_FOR_CONSTANTS, &names)
 }
 
 #[test]

@@ -27,8 +27,8 @@ pub struct Settings {
     pub workers: u32,
     /// Rules that may be applied to one term, 0 to 1,000,000,000. By default 1,000,000.
     pub fuel: u64,
-    /// Trees that each worker's store can hold at a time, or different trees that terms may have, 1 to 262,144. By
-    /// default 65,536.
+    /// Trees that the store of all workers can hold at a time, or different trees that terms may have, 1 to 262,144.
+    /// By default 65,536.
     pub rows: u32,
     /// Places on each worker's stack, the room that a term is rewritten in, 1 to 65,536. By default 4,096.
     pub depth: u32,

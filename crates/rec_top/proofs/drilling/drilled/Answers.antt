@@ -1,13 +1,44 @@
-use Rattle.std.proofs.Common.{sym, subst, ◌∙◌}
-use Rattle.rec_top.specs.Rewritten.{Spells, RowsSuffice}
+use Rattle.std.proofs.Common.{◌≡◌, map, sym, subst, ◌∙◌}
+use Rattle.std.specs.Prelude.{Err, IfOk}
+use Rattle.rewrite_workers.specs.declared.lines.Lines.{Lines}
+use Rattle.rewrite_workers.specs.Lined.{worker_of}
+use Rattle.rec_top.specs.Drilled.{drill_output}
+use Rattle.rec_top.specs.Rewritten.{Spells, RowsSuffice, NumbersSuffice}
 use Rattle.rec_top.specs.Sequence.{AreLinesOf}
-use Rattle.rec_top.specs.Answered.{IsAnswer}
+use Rattle.rec_top.specs.Answered.{Answers, IsAnswer}
+use Rattle.rec_top.specs.Histories.{SpellsSuch, TellsTerms}
+use Rattle.rec_top.specs.declared.answers.Answer.{Answer}
+use Rattle.rec_top.proofs.Outcomes.{answers_ok, but_memory, tells_lines, tells_no_drill}
 use Rattle.rec_top.proofs.drilling.drilled.Goals as goal
 
-pub returns-in-Ok-clause-accepted : goal.returns-in-Ok-clause-accepted
-returns-in-Ok-clause-accepted g c = λ output d rows.
-    let text = c.deref.ensures.value ∙ c.in_ok-text.ensures in
+pub returns-in-Ok-lines-clause-accepted : goal.returns-in-Ok-lines-clause-accepted
+returns-in-Ok-lines-clause-accepted g c = λ output d rows numbers.
+    let s = c.args.settings.now in
+    let text = c.deref.ensures.value ∙ c.in-Ok.ensures in
     let spells = subst (λ t. Spells t d.spec) (sym text) d.spelled in
-    let suffice = subst (RowsSuffice c.args.settings.now) (sym text) rows in
-    let lines = subst (AreLinesOf c.args.settings.now d.spec) (sym c.deref-in-Ok.ensures.value) (c.in-Ok.ensures.accepted d.spec spells suffice) in
-    subst (IsAnswer c.args.settings.now.workers c.in_ok-told-in-Ok.field-0) (sym d.output_is) (c.in_ok-told-in-Ok.ensures d.spec lines)
+    let suffice = subst (RowsSuffice s) (sym text) rows in
+    let enough = subst (NumbersSuffice s) (sym text) numbers in
+    let lines = answers_ok (λ (l : Lines). AreLinesOf s d.spec l.list.items) c.lines_for-lines.result.lines c.in-Ok-lines.lines c.in-Ok-lines.is (c.lines_for-lines.ensures.accepted d.spec spells suffice enough) in
+    let told = subst (AreLinesOf s d.spec) (sym c.deref-in-Ok-lines.ensures.value) lines in
+    subst (λ out. Answers c.told.result (λ (a : Answer). IsAnswer s.workers a out)) (sym d.output_is)
+    (but_memory (λ (a : Answer). IsAnswer s.workers a (drill_output s d.spec)) c.told.result (c.told.ensures.made d.spec told) c.told.ensures.stopped)
+
+pub returns-in-Ok-lines-clause-history : goal.returns-in-Ok-lines-clause-history
+returns-in-Ok-lines-clause-history g c =
+    let s = c.args.settings.now in
+    let text = c.deref.ensures.value ∙ c.in-Ok.ensures in
+    let workers = subst (λ xs. IfOk c.told.result (λ (a : Answer). a.workers ≡ map worker_of xs)) c.deref-in-Ok-lines.ensures.value c.told.ensures.workers in
+    let lines = c.lines_for-lines.ensures in
+    subst (λ t. TellsTerms s (SpellsSuch t) c.told.result c.lines_for-lines.result.chronicle) text
+    (tells_lines s c.deref.result.now c.lines_for-lines.result.lines c.in-Ok-lines.lines c.told.result c.lines_for-lines.result.chronicle c.in-Ok-lines.is
+    lines.legal lines.collects lines.each lines.made lines.built workers c.told.ensures.stopped)
+
+pub returns-clause-history : goal.returns-clause-history
+returns-clause-history g c =
+    let s = c.args.settings.now in
+    let lists = c.lines_for-lines.result.chronicle in
+    let text = c.deref.ensures.value ∙ c.in-Ok.ensures in
+    let lines = c.lines_for-lines.ensures in
+    let none = tells_no_drill s (SpellsSuch c.deref.result.now) c.lines_for-lines.result.lines c.in-Err-lines.stop lists c.in-Err-lines.is lines.legal lines.collects lines.each lines.ended in
+    subst (λ t. TellsTerms s (SpellsSuch t) (Err c.stop_of.result) lists) text
+    (subst (λ stop. TellsTerms s (SpellsSuch c.deref.result.now) (Err stop) lists) (sym c.stop_of.ensures) none)

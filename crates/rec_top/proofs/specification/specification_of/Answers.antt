@@ -1,7 +1,9 @@
+use Rattle.std.proofs.Common.{arith}
 use Rattle.std.proofs.lemmas.Result.{err_from_is_err_and}
 use Rattle.rec_top.proofs.OneFault.{one_specification, no_fault}
 use Rattle.rec_check.specs.Spec.{specified}
 use Rattle.rec_top.proofs.FewTerms.{few_terms}
+use Rattle.rec_top.proofs.Narrow.{narrow}
 use Rattle.rec_top.proofs.Failing.{fails_for_memory, fails_with}
 use Rattle.rec_top.proofs.specification.specification_of.Goals as goal
 
@@ -23,3 +25,9 @@ returns-clause-refused c = λ fault f. no_fault c.args.input.now _ fault c.in_ok
 
 pub returns-clause-few : goal.returns-clause-few
 returns-clause-few c = few_terms c.args.input.now (specified c.in_ok-read.field-0) c.in_ok-read.ensures.made
+
+pub returns-clause-narrow : goal.returns-clause-narrow
+returns-clause-narrow c =
+    let widest = c.in_ok-read.ensures.widest in
+    let few = narrow c.args.input.now (specified c.in_ok-read.field-0) c.in_ok-read.ensures.made in
+    omega (arith, widest, few)

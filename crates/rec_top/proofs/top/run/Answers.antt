@@ -1,44 +1,118 @@
-use Rattle.std.proofs.Common.{sym, ap, subst, ◌∙◌}
+use Rattle.std.proofs.Common.{◌≡◌, ◌⊎◌, [], sym, ap, subst, ◌∙◌}
 use Rattle.std.specs.Io.KnownBytes.{Appends}
 use Rattle.settings.specs.Words.{texts}
 use Rattle.ends.specs.Bytes.{TookFront}
-use Rattle.rec_top.specs.Written.{status_for}
+use Rattle.rec_top.specs.Written.{Output, status_for}
 use Rattle.rec_top.specs.Sequence.{IsSplit}
+use Rattle.rec_top.specs.Run.{GaveOutput}
+use Rattle.rec_top.specs.Answered.{IsAnswer, StopsAnswering}
+use Rattle.rec_top.specs.Histories.{HasEach, HasSuch, NamesAll, NamesAllFronts, Fills}
+use Rattle.rec_top.specs.declared.answers.Answer.{Answer}
 use Rattle.rec_top.proofs.Ending.{refused, stops_with, fault_under, told_nothing}
 use Rattle.rec_top.proofs.Inputs.{reads_under, drill_goes_on}
+use Rattle.rec_top.proofs.Outcomes.{if_ok, if_err}
+use Rattle.rec_top.proofs.Recounting.{all_named, all_counted, all_filled, all_fronts, all_some, stopped_counted, no_history}
 use Rattle.rec_top.proofs.top.run.Goals as goal
 
 pub returns-in-Err-clause-refused_only_where_faulty : goal.returns-in-Err-clause-refused_only_where_faulty
 returns-in-Err-clause-refused_only_where_faulty g c = λ is.
-    refused (texts c.args.words.now) c.in-Ok.settings g.S.Source.left g.S.Source.faults c.args.source.now c.answer_of.new.source g.E.Sink.taken g.E.Sink.faults c.args.err.now c.stopped-in-Err.new.err c.in-Err.stop
-    c.in-Ok.ensures.settings c.in-Err.ensures.stopped c.stopped-in-Err.ensures.line (sym c.stopped-in-Err.ensures.status ∙ is)
+    let s = c.in-Ok.settings in
+    let a = c.answer_of-answer in
+    let stops = if_err (StopsAnswering s g.S.Source.left g.S.Source.faults c.args.source.now a.new.source) a.result.answer c.in-Err.stop c.in-Err.is a.ensures.stopped in
+    refused (texts c.args.words.now) s g.S.Source.left g.S.Source.faults c.args.source.now a.new.source g.E.Sink.taken g.E.Sink.faults c.args.err.now c.stopped.new.err c.in-Err.stop
+    c.in-Ok.ensures.settings stops c.stopped.ensures.line (sym c.stopped.ensures.status ∙ is)
 
 pub returns-in-Err-clause-complete_for_refused : goal.returns-in-Err-clause-complete_for_refused
 returns-in-Err-clause-complete_for_refused g c = λ fault given quiet.
     let ours = c.in-Ok.ensures.settings in
-    let stops = c.answer_of.ensures.refused given.input fault (reads_under (texts c.args.words.now) c.in-Ok.settings given.settings ours given.accepted given.reads) given.has (fault_under (texts c.args.words.now) c.in-Ok.settings given.settings given.input fault ours given.accepted given.fault_is) quiet in
-    stops_with g.E.Sink.taken g.E.Sink.faults c.args.err.now c.stopped-in-Err.new.err (c.answer_of.result) c.in-Err.stop fault c.stopped-in-Err.result.status c.in-Err.is stops c.stopped-in-Err.ensures.status c.stopped-in-Err.ensures.line
+    let stops = c.answer_of-answer.ensures.refused given.input fault (reads_under (texts c.args.words.now) c.in-Ok.settings given.settings ours given.accepted given.reads) given.has (fault_under (texts c.args.words.now) c.in-Ok.settings given.settings given.input fault ours given.accepted given.fault_is) quiet in
+    stops_with g.E.Sink.taken g.E.Sink.faults c.args.err.now c.stopped.new.err c.answer_of-answer.result.answer c.in-Err.stop fault c.stopped.result.status c.in-Err.is stops c.stopped.ensures.status c.stopped.ensures.line
 
 pub returns-in-Ok-write_all-clause-whole_only_where_out_took_the_output : goal.returns-in-Ok-write_all-clause-whole_only_where_out_took_the_output
 returns-in-Ok-write_all-clause-whole_only_where_out_took_the_output g c = λ is.
-    let made = c.in-Ok-answer_of.ensures.made in
+    let s = c.in-Ok.settings in
     let ours = c.in-Ok.ensures.settings in
+    let a = c.answer_of-answer in
+    let made = if_ok (λ (answer : Answer). (output : Output) × GaveOutput s g.S.Source.left c.args.source.now a.new.source output × IsAnswer s.workers answer output) a.result.answer c.in-Ok-answer.answer c.in-Ok-answer.is a.ensures.made in
     let bytes = subst (λ bs. Appends (g.O.Sink.taken c.args.out.now) (g.O.Sink.taken c.write_all.new.sink) bs) (c.deref.ensures.value ∙ made.2.bytes) c.in-Ok-write_all.ensures.whole in
-    (made.0, (c.in-Ok.settings, ours, made.1), record { bytes = bytes; status_is = c.status_for.ensures ∙ ap status_for made.2.values }, (c.in-Ok.settings, ours, made.2.workers))
+    (made.0, (s, ours, made.1), record { bytes = bytes; status_is = c.status_for.ensures ∙ ap status_for made.2.values }, (s, ours, made.2.workers))
 
 pub returns-clause-write_fault_leaves_a_front : goal.returns-clause-write_fault_leaves_a_front
 returns-clause-write_fault_leaves_a_front g c = λ is.
-    let made = c.in-Ok-answer_of.ensures.made in
+    let s = c.in-Ok.settings in
     let ours = c.in-Ok.ensures.settings in
+    let a = c.answer_of-answer in
+    let made = if_ok (λ (answer : Answer). (output : Output) × GaveOutput s g.S.Source.left c.args.source.now a.new.source output × IsAnswer s.workers answer output) a.result.answer c.in-Ok-answer.answer c.in-Ok-answer.is a.ensures.made in
     let front = subst (λ bs. TookFront (g.O.Sink.taken c.args.out.now) (g.O.Sink.taken c.write_all.new.sink) bs) (c.deref.ensures.value ∙ made.2.bytes) c.in-Err-write_all.ensures.front in
-    let workers = subst (λ ws. IsSplit c.in-Ok.settings.workers ws made.0.terms) (sym c.stopped-in-Err-write_all.ensures.workers) made.2.workers in
-    (made.0, (c.in-Ok.settings, ours, made.1), front, (c.in-Ok.settings, ours, workers))
+    let workers = subst (λ ws. IsSplit s.workers ws made.0.terms) (sym c.stopped-in-Err-write_all.ensures.workers) made.2.workers in
+    (made.0, (s, ours, made.1), front, (s, ours, workers))
 
 pub returns-in-Ok-write_all-clause-line : goal.returns-in-Ok-write_all-clause-line
-returns-in-Ok-write_all-clause-line g c = λ other. told_nothing g.E.Sink.taken g.E.Sink.faults c.args.err.now c.status_for.result c.in-Ok-answer_of.answer.values c.status_for.ensures
+returns-in-Ok-write_all-clause-line g c = λ other. told_nothing g.E.Sink.taken g.E.Sink.faults c.args.err.now c.status_for.result c.in-Ok-answer.answer.values c.status_for.ensures
 
 pub returns-in-Err-clause-drill_unrefused : goal.returns-in-Err-clause-drill_unrefused
 returns-in-Err-clause-drill_unrefused g c = λ asks.
-    let ours = c.in-Ok.ensures.settings in
-    drill_goes_on (texts c.args.words.now) c.in-Ok.settings g.S.Source.left g.S.Source.faults c.args.source.now c.answer_of.new.source c.in-Err.stop c.stopped-in-Err.result.status
-    ours c.in-Err.ensures.stopped c.stopped-in-Err.ensures.status asks
+    let s = c.in-Ok.settings in
+    let a = c.answer_of-answer in
+    let stops = if_err (StopsAnswering s g.S.Source.left g.S.Source.faults c.args.source.now a.new.source) a.result.answer c.in-Err.stop c.in-Err.is a.ensures.stopped in
+    drill_goes_on (texts c.args.words.now) s g.S.Source.left g.S.Source.faults c.args.source.now a.new.source c.in-Err.stop c.stopped.result.status
+    c.in-Ok.ensures.settings stops c.stopped.ensures.status asks
+
+-- ---- what the history tells
+pub returns-in-Err-clause-no_history : goal.returns-in-Err-clause-no_history
+returns-in-Err-clause-no_history g c = λ other.
+    let a = c.answer_of-answer in
+    c.stopped.ensures.chronicle ∙ no_history (texts c.args.words.now) c.in-Ok.settings g.S.Source.left c.args.source.now a.new.source a.result.answer a.result.chronicle c.in-Ok.ensures.settings a.ensures.history other
+
+pub returns-in-Err-clause-fronts : goal.returns-in-Err-clause-fronts
+returns-in-Err-clause-fronts g c = λ ends asks.
+    let a = c.answer_of-answer in
+    subst (λ lists. HasSuch (texts c.args.words.now) g.S.Source.left c.args.source.now a.new.source (NamesAllFronts lists)) (sym c.stopped.ensures.chronicle)
+    (all_fronts (texts c.args.words.now) c.in-Ok.settings g.S.Source.left c.args.source.now a.new.source a.result.answer a.result.chronicle c.in-Ok.ensures.settings a.ensures.history c.in-Err.stop c.in-Err.is c.stopped.result.status c.stopped.ensures.status ends asks)
+
+pub returns-in-Err-clause-fronts_or_nothing : goal.returns-in-Err-clause-fronts_or_nothing
+returns-in-Err-clause-fronts_or_nothing g c = λ ends.
+    let a = c.answer_of-answer in
+    subst (λ lists. (lists ≡ []) ⊎ HasSuch (texts c.args.words.now) g.S.Source.left c.args.source.now a.new.source (NamesAllFronts lists)) (sym c.stopped.ensures.chronicle)
+    (all_some (texts c.args.words.now) c.in-Ok.settings g.S.Source.left c.args.source.now a.new.source a.result.answer a.result.chronicle c.in-Ok.ensures.settings a.ensures.history c.in-Err.stop c.in-Err.is c.stopped.result.status c.stopped.ensures.status ends)
+
+pub returns-in-Err-clause-full : goal.returns-in-Err-clause-full
+returns-in-Err-clause-full g c = λ ends asks.
+    let a = c.answer_of-answer in
+    subst (λ lists. HasSuch (texts c.args.words.now) g.S.Source.left c.args.source.now a.new.source (Fills lists)) (sym c.stopped.ensures.chronicle)
+    (all_filled (texts c.args.words.now) c.in-Ok.settings g.S.Source.left c.args.source.now a.new.source a.result.answer a.result.chronicle c.in-Ok.ensures.settings a.ensures.history c.in-Err.stop c.in-Err.is c.stopped.result.status c.stopped.ensures.status ends asks)
+
+pub returns-in-Ok-write_all-clause-no_history : goal.returns-in-Ok-write_all-clause-no_history
+returns-in-Ok-write_all-clause-no_history g c = λ other.
+    let a = c.answer_of-answer in
+    no_history (texts c.args.words.now) c.in-Ok.settings g.S.Source.left c.args.source.now a.new.source a.result.answer a.result.chronicle c.in-Ok.ensures.settings a.ensures.history other
+
+pub returns-clause-no_history : goal.returns-clause-no_history
+returns-clause-no_history g c = λ other.
+    let a = c.answer_of-answer in
+    c.stopped-in-Err-write_all.ensures.chronicle ∙ no_history (texts c.args.words.now) c.in-Ok.settings g.S.Source.left c.args.source.now a.new.source a.result.answer a.result.chronicle c.in-Ok.ensures.settings a.ensures.history other
+
+pub returns-clause-built : goal.returns-clause-built
+returns-clause-built g c = λ made asks.
+    let a = c.answer_of-answer in
+    let all = all_named (texts c.args.words.now) c.in-Ok.settings g.S.Source.left c.args.source.now a.new.source a.result.answer a.result.chronicle c.in-Ok.ensures.settings a.ensures.history c.in-Ok-answer.answer c.in-Ok-answer.is asks in
+    let told = subst (λ ws. HasSuch (texts c.args.words.now) g.S.Source.left c.args.source.now a.new.source (NamesAll ws a.result.chronicle)) (sym c.stopped-in-Err-write_all.ensures.workers) all in
+    subst (λ lists. HasSuch (texts c.args.words.now) g.S.Source.left c.args.source.now a.new.source (NamesAll c.stopped-in-Err-write_all.result.workers lists)) (sym c.stopped-in-Err-write_all.ensures.chronicle) told
+
+-- ---- whom it tells of
+pub returns-in-Err-clause-each : goal.returns-in-Err-clause-each
+returns-in-Err-clause-each g c = λ asks.
+    let a = c.answer_of-answer in
+    subst (HasEach (texts c.args.words.now) c.stopped.result.status) (sym c.stopped.ensures.chronicle)
+    (stopped_counted (texts c.args.words.now) c.in-Ok.settings g.S.Source.left c.args.source.now a.new.source a.result.answer a.result.chronicle c.in-Ok.ensures.settings a.ensures.history c.in-Err.stop c.in-Err.is c.stopped.result.status c.stopped.ensures.status asks)
+
+pub returns-in-Ok-write_all-clause-each : goal.returns-in-Ok-write_all-clause-each
+returns-in-Ok-write_all-clause-each g c = λ asks.
+    let a = c.answer_of-answer in
+    all_counted (texts c.args.words.now) c.in-Ok.settings g.S.Source.left c.args.source.now a.new.source a.result.answer a.result.chronicle c.in-Ok.ensures.settings a.ensures.history c.in-Ok-answer.answer c.status_for.result c.in-Ok-answer.is asks
+
+pub returns-clause-each : goal.returns-clause-each
+returns-clause-each g c = λ asks.
+    let a = c.answer_of-answer in
+    subst (HasEach (texts c.args.words.now) c.stopped-in-Err-write_all.result.status) (sym c.stopped-in-Err-write_all.ensures.chronicle)
+    (all_counted (texts c.args.words.now) c.in-Ok.settings g.S.Source.left c.args.source.now a.new.source a.result.answer a.result.chronicle c.in-Ok.ensures.settings a.ensures.history c.in-Ok-answer.answer c.stopped-in-Err-write_all.result.status c.in-Ok-answer.is asks)
