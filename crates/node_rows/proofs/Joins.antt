@@ -13,8 +13,9 @@ use Rattle.atomic_table.specs.Table.{State, Me, Joins, Allows, keeps}
 use Rattle.atomic_table.proofs.Lists.{at_map, set_else, set_again}
 use Rattle.term_model.specs.Tree.{Tree}
 use Rattle.history_core.specs.declared.entry.Entry.{Entry}
-use Rattle.history_core.specs.Chronicle.{NeverFalls}
+use Rattle.history_core.specs.Chronicle.{KeysRise, entries_of}
 use Rattle.history_core.proofs.Own.{own_order_stays}
+use Rattle.history_core.proofs.Places.{rising_never_falls}
 use Rattle.lock_core.specs.declared.parts.Phase.TheVariants.{Out, Holder}
 use Rattle.busy_forbidden.specs.declared.view.LockView.{LockView}
 use Rattle.busy_forbidden.specs.Shown as lock
@@ -33,7 +34,7 @@ use Rattle.store_core.specs.Shown.{shown}
 use Rattle.store_core.proofs.Basics.{choose, eqb_is, eqb_not, each_map, each_both}
 use Rattle.store_core.proofs.Histories.{listed_at}
 use Rattle.node_rows.specs.declared.store.Pass.{Pass}
-use Rattle.node_rows.specs.Told.{HasEntries, KeepsOrder, TellsTrees, view_of}
+use Rattle.node_rows.specs.Told.{HasEntries, KeepsOrder, HasRisingKeys, TellsTrees, view_of}
 use Rattle.node_rows.specs.Crowding.{IsCrowd, Crowds, crowd_at}
 use Rattle.node_rows.specs.CrowdsKept.{crowd_here, crowd_same}
 use Rattle.node_rows.specs.Told.{HasEntries, TellsCrowd, view_of}
@@ -192,9 +193,9 @@ tells_all z s id v i rule at is =
           subst (λ (ls : List (List Entry)). AllTold z ls (gathered v)) (sym same) record {
             legal = rule.shows.holds.history.legal;
             numbers = bases.numbers;
-            order = each_map _ _ (gathered v) (λ x t.
+            rises = each_map _ _ (gathered v) (λ x t.
                 let store : view x.seat ≡ x.store = store_here z rule.known x.seat t.0 t.1 ∙ t.2 in
-                subst (λ (u : View). NeverFalls u.entries) store (rule.shows.holds.strengthened.holds.seats x.seat).notes.order) all;
+                subst (λ (u : View). KeysRise u.entries) store (rule.shows.holds.history.rises x.seat)) all;
             trees = each_both _ _ _ (gathered v) (λ x l t.
                 let store : view x.seat ≡ x.store = store_here z rule.known x.seat t.0 t.1 ∙ t.2 in
                 subst (λ (u : View). EntriesRecalled (listed z.seats (λ j. (view j).entries)) x.seat u.entries) store (rule.recalls x.seat l).entries) small all;
@@ -290,11 +291,19 @@ trees V lists h first rest e =
     let of_seat : (p : Pass) → P (known_seat (view_of p)) → TellsTrees lists p = (λ p k. subst (λ (n : ℕ). EntriesRecalled lists n (view_of p).store.entries) (ap number_in p.seat.fits.number) k) in
     (of_seat first t.0, each_map _ _ rest of_seat (each_of_map (λ w. P (known_seat w)) view_of rest t.1))
 
--- and its entries stand in the chronicle in its own order
-pub orders : (V : NodeView) (lists : List (List Entry)) → Each (λ x. NeverFalls x.store.entries) (gathered V) → (first : Pass) (rest : List Pass) → V ≡ all_views (view_of first) (map view_of rest)
-    → HasEntries lists first × Each (HasEntries lists) rest → KeepsOrder lists first × Each (KeepsOrder lists) rest
-orders V lists h first rest e own =
-    let P : JoinedSeat → Type 0 = λ x. NeverFalls x.store.entries in
+-- and the keys of its entries rise
+pub rises : (V : NodeView) (lists : List (List Entry)) → Each (λ x. KeysRise x.store.entries) (gathered V) → (first : Pass) (rest : List Pass) → V ≡ all_views (view_of first) (map view_of rest)
+    → HasEntries lists first × Each (HasEntries lists) rest → HasRisingKeys lists first × Each (HasRisingKeys lists) rest
+rises V lists h first rest e own =
+    let P : JoinedSeat → Type 0 = λ x. KeysRise x.store.entries in
     let t = each_joined P (map view_of rest) (view_of first) (subst (λ (u : NodeView). Each P (gathered u)) e h) in
-    let of : (p : Pass) → P (known_seat (view_of p)) → HasEntries lists p → KeepsOrder lists p = (λ p k has. own_order_stays lists p.seat.number (subst NeverFalls (sym has) k) ∙ has) in
+    let of : (p : Pass) → P (known_seat (view_of p)) → HasEntries lists p → HasRisingKeys lists p = (λ p k has. subst KeysRise (sym has) k) in
     (of first t.0 own.0, each_both _ _ _ rest of (each_of_map (λ w. P (known_seat w)) view_of rest t.1) own.1)
+
+-- so they stand in the chronicle in its own order
+pub orders : (lists : List (List Entry)) (first : Pass) (rest : List Pass) → HasRisingKeys lists first × Each (HasRisingKeys lists) rest
+    → HasEntries lists first × Each (HasEntries lists) rest → KeepsOrder lists first × Each (KeepsOrder lists) rest
+orders lists first rest rising own =
+    let of : (p : Pass) → HasRisingKeys lists p → HasEntries lists p → KeepsOrder lists p =
+    (λ p k has. own_order_stays lists p.seat.number (rising_never_falls (entries_of lists p.seat.number) k) ∙ has) in
+    (of first rising.0 own.0, each_both _ _ _ rest of rising.1 own.1)

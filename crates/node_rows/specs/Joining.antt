@@ -4,7 +4,7 @@ use mathlib.Core.Option.{some}
 use lib.ListN.{get_elem?}
 use Rattle.atomic_table.specs.Table.{State, Me, Step}
 use Rattle.history_core.specs.declared.entry.Entry.{Entry}
-use Rattle.history_core.specs.Chronicle.{chronicle, IsLegal, NeverFalls}
+use Rattle.history_core.specs.Chronicle.{chronicle, IsLegal, KeysRise}
 use Rattle.busy_forbidden.specs.Shown.{nobody}
 use Rattle.busy_forbidden.specs.Rules.{ShowsLock}
 use Rattle.store_core.specs.declared.view.Sizes.{Sizes}
@@ -97,13 +97,13 @@ abbrev pub HasBase : Sizes → List (List Entry) → ℕ → Type 0
 HasBase z lists b = (b ≡ 0) ⊎ IsBase z.first (collect_numbers (chronicle lists)) b
 
 -- Of the entries of all seats: they are a legal history of one thread; the number of its c-th collection is below `first` and c times
--- what an epoch may use; bases come from collections; the places of a seat's entries never fall; the trees that they name are those
--- that they tell; and each seat's crowd is as the lists tell.
+-- what an epoch may use; bases come from collections; the keys of a seat's entries rise; the trees that they name are those that they
+-- tell; and each seat's crowd is as the lists tell.
 pub record AllTold (z : Sizes) (lists : List (List Entry)) (xs : List JoinedSeat) : Type 0 where
   pub legal : IsLegal z.rows (chronicle lists)
   pub numbers : StaysBelow z.first (span z) 1 (collect_numbers (chronicle lists))
   pub bases : Each (λ x. HasBase z lists x.store.base) xs
-  pub order : Each (λ x. NeverFalls x.store.entries) xs
+  pub rises : Each (λ x. KeysRise x.store.entries) xs
   pub trees : Each (λ x. EntriesRecalled lists x.seat x.store.entries) xs
   pub crowds : Each (λ x. IsCrowd lists x.seat x.store.entries x.crowd) xs
 

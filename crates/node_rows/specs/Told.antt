@@ -4,7 +4,7 @@ use Rattle.atomic_table.specs.declared.shared.Seat.{Seat}
 use Rattle.term_model.specs.declared.Row.{Row}
 use Rattle.history_core.specs.declared.entry.Entry.{Entry}
 use Rattle.history_core.specs.declared.entry.Entry.TheVariants as entry
-use Rattle.history_core.specs.Chronicle.{chronicle, part_of}
+use Rattle.history_core.specs.Chronicle.{chronicle, part_of, entries_of, KeysRise}
 use Rattle.mark_phase.specs.Reachable.{IsMarked}
 use Rattle.store_core.specs.declared.view.View.{View}
 use Rattle.store_core.specs.Recalls.{EntriesRecalled}
@@ -56,6 +56,11 @@ HasEntries lists p = slice_index_or lists p.seat.number [] ≡ p.seat.seat.me.0.
 -- and they stand in the chronicle of these lists in its own order
 abbrev pub KeepsOrder : List (List Entry) → Pass → Type 0
 KeepsOrder lists p = part_of p.seat.number (chronicle lists) ≡ (view_of p).store.entries
+
+-- The keys of the entries that it has in the lists rise: none is below an earlier one, and those of Make and Collect are above all
+-- earlier ones.
+abbrev pub HasRisingKeys : List (List Entry) → Pass → Type 0
+HasRisingKeys lists p = KeysRise (entries_of lists p.seat.number)
 
 -- The trees that a pass's Make and Find entries name in the chronicle of these lists are, in order, those that its own entries tell; and
 -- so are those of its Roots.

@@ -5,7 +5,7 @@ ghost use Rattle.store_core.specs.Bases.{StaysBelow, collect_numbers};
 ghost use Rattle.store_core.specs.Invariant.{span};
 ghost use Rattle.node_rows.specs.Passes.{IsStore, IsPass, IsOut};
 ghost use Rattle.node_rows.specs.Joining.{HasBase, TellsAll, all_views, both_views, lists_in};
-ghost use Rattle.node_rows.specs.Told.{HasEntries, KeepsOrder, TellsTrees, TellsCrowd, view_of};
+ghost use Rattle.node_rows.specs.Told.{HasEntries, KeepsOrder, HasRisingKeys, TellsTrees, TellsCrowd, view_of};
 
 use crate::rule::{Gather, OnLook};
 use crate::store::{Pass, Store};
@@ -130,6 +130,7 @@ fn close_from(store: &Store, mut first: Pass, rest: Vec<Pass>) -> Chronicle
     ensures count { length result ≡ store.now.sizes.seats }
     ensures own { HasEntries result first × All (HasEntries result) rest.items }
     ensures order { KeepsOrder result first × All (KeepsOrder result) rest.items }
+    ensures rises { HasRisingKeys result first × All (HasRisingKeys result) rest.items }
     ensures legal { IsLegal store.now.sizes.rows (chronicle result) }
     ensures numbers { StaysBelow store.now.sizes.first (span store.now.sizes) 1 (collect_numbers (chronicle result)) }
     ensures bases { HasBase store.now.sizes result (view_of first).store.base × All (λ p. HasBase store.now.sizes result (view_of p).store.base) rest.items }
@@ -143,8 +144,9 @@ fn close_from(store: &Store, mut first: Pass, rest: Vec<Pass>) -> Chronicle
 
 impl Store {
     /// Ends a store. It needs all of its passes, each out, in whatever order, and takes no memory. The chronicle has the entries
-    /// of each pass under its number; merged, each pass's in its own order, they are a legal history of one thread. The number of its c-th collection is
-    /// below `first` and c times `rows + seats + 1`; each pass's base is `first`, or one more than such a number, or 0 where it
+    /// of each pass under its number, and their keys rise: none is below an earlier one, and those of Make and Collect are above
+    /// all earlier ones. Merged, each pass's in its own order, they are a legal history of one thread. The number of its c-th
+    /// collection is below `first` and c times `rows + seats + 1`; each pass's base is `first`, or one more than such a number, or 0 where it
     /// has entered nothing. The trees that each pass's Make and Find entries name in the chronicle, and those of its Roots, are
     /// those that the pass's own entries tell. Of the trees that a pass's Collects kept in the chronicle, each at its place, its
     /// crowd is the last.
@@ -155,6 +157,7 @@ impl Store {
         ensures count { length result ≡ self.sizes.seats }
         ensures own { All (HasEntries result) passes.items }
         ensures order { All (KeepsOrder result) passes.items }
+        ensures rises { All (HasRisingKeys result) passes.items }
         ensures legal { IsLegal self.sizes.rows (chronicle result) }
         ensures numbers { StaysBelow self.sizes.first (span self.sizes) 1 (collect_numbers (chronicle result)) }
         ensures bases { All (λ p. HasBase self.sizes result (view_of p).store.base) passes.items }

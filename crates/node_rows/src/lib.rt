@@ -13,8 +13,6 @@ mod rows;
 mod rule;
 mod steps;
 mod store;
-#[cfg(test)]
-mod tests;
 mod told;
 mod view;
 

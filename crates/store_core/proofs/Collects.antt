@@ -17,6 +17,7 @@ use Rattle.history_core.specs.Entry.{IsStep}
 use Rattle.history_core.specs.Chronicle.{chronicle, set_of, noted, entries_of, NeverFalls, last_roots}
 use Rattle.history_core.specs.TermSet.{empty}
 use Rattle.history_core.proofs.Own.{own_order_stays, roots_are_last}
+use Rattle.history_core.proofs.Places.{rising_never_falls}
 use Rattle.history_core.proofs.Members.{contains_here, contains_there, contains_none, contains_cases}
 use Rattle.history_core.specs.Recording.{IsFaithful, changed, present}
 use Rattle.history_core.proofs.Recorded.{collect_keeps}
@@ -31,7 +32,7 @@ use Rattle.store_core.specs.Collection.{Reaches, protected, argument, IsCollecte
 use Rattle.store_core.proofs.Locks.{is_in, alone_in}
 use Rattle.store_core.proofs.Basics.{choose, put_case, each_in, each_map, each_both}
 use Rattle.store_core.proofs.Histories.{lists_noted, listed_length, listed_at, seen_changed, live_held, dead_free, held_live}
-use Rattle.store_core.proofs.Gains.{born_below, order_more, keys_more, two_words, enough_words, argument_at, led_seen, led_known, protected_seen}
+use Rattle.store_core.proofs.Gains.{born_below, rises_more, keys_more, two_words, enough_words, argument_at, led_seen, led_known, protected_seen}
 use Rattle.store_core.proofs.Own.{each_roots}
 use Rattle.store_core.proofs.Staying.{each_among, led_has, of_rows, in_rows, goes_on}
 use Rattle.store_core.proofs.Views.{still_apart}
@@ -94,7 +95,7 @@ module _ (z : Sizes) (s : State) (m : Meaning) (h : Holds z s m) where
       let lists = listed z.seats (λ i. (s.view i).entries) in
       roots_are_last empty (chronicle lists) j ∙ ⊎_elim
       (λ l. let e : entries_of lists j ≡ (s.view j).entries = listed_at z.seats (λ i. (s.view i).entries) j [] l in
-      ap (last_roots []) (own_order_stays lists j (subst NeverFalls (sym e) (h.seats j).notes.order) ∙ e) ∙ same l)
+      ap (last_roots []) (own_order_stays lists j (subst NeverFalls (sym e) (rising_never_falls (s.view j).entries (h.seats j).notes.rises)) ∙ e) ∙ same l)
       (λ l. let e : entries_of lists j ≡ [] = get_or_past lists j [] (let a = listed_length z.seats (λ i. (s.view i).entries) in omega arith) in
       ap (last_roots []) (own_order_stays lists j (subst NeverFalls (sym e) tt) ∙ e) ∙ ap (roots_of s.words j) (sym (h.numbers.absent j l))) (cases_lt j z.seats)
 
@@ -244,7 +245,7 @@ module _ (z : Sizes) (s : State) (m : Meaning) (h : Holds z s m) where
           read = tt;
         };
         protects = record { roots = λ q l. root_seen j q l (s.view j).seen (omega arith); wants = tt; got = λ e. absurd (omega arith); knows = λ e. absurd (omega arith); keeps = kept_seen j (s.view j).seen (omega arith); keeps_words = kept_known j };
-        notes = record { order = old.notes.order; keys = old.notes.keys; away = λ e. old.notes.away e ∙ (ap (roots_of s.words j) (sym (k.root_counts j)) ∙ sym (roots_after j (u (RootCount j)))) };
+        notes = record { rises = old.notes.rises; keys = old.notes.keys; away = λ e. old.notes.away e ∙ (ap (roots_of s.words j) (sym (k.root_counts j)) ∙ sym (roots_after j (u (RootCount j)))) };
       }
 
       module _ (match : RootsMatch z s.words s.view) (kept : List ℕ) (are : AreKept n kept) (there : i < z.seats) where
@@ -275,7 +276,7 @@ module _ (z : Sizes) (s : State) (m : Meaning) (h : Holds z s m) where
             keeps_words = led_known u n (words_kept v) (led_to (words_kept v) (protected_in v)) (kept_known i);
           };
           notes = record {
-            order = order_more (s.view i).entries (Collect (s.words Base + s.words Claim) kept) (s.view i).seen old.notes.order old.notes.keys (omega arith);
+            rises = rises_more (s.view i).entries (Collect (s.words Base + s.words Claim) kept) (s.view i).seen old.notes.rises old.notes.keys (omega arith);
             keys = keys_more (s.view i).entries (Collect (s.words Base + s.words Claim) kept) (s.view i).seen (s.words Base + s.words Claim) old.notes.keys (omega arith) (omega arith);
             away = λ e. absurd (cc);
           };

@@ -99,6 +99,6 @@ module _ (z : Sizes) (s : State) (m : Meaning) (h : Holds z s m) (i : ℕ) (ther
               drawn = record { index = tt; row = tt };
               numbers = record { base = seat.numbers.base; in_use = seat.numbers.in_use; calls = λ ne. absurd (ne refl); seen = seat.numbers.seen; entered = seat.numbers.entered; overdraw = λ _. omega arith; own = seat.numbers.own; over = λ b f. let g : v.base ≡ b = cc in let k = seat.numbers.own in omega arith; read = tt };
               protects = record { roots = seat.protects.roots; wants = tt; got = seat.protects.got; knows = seat.protects.knows; keeps = seat.protects.keeps; keeps_words = seat.protects.keeps_words };
-              notes = record { order = seat.notes.order; keys = seat.notes.keys; away = seat.notes.away };
+              notes = record { rises = seat.notes.rises; keys = seat.notes.keys; away = seat.notes.away };
             };
       })

@@ -10,6 +10,7 @@ use Rattle.lock_core.specs.Lock.{seat_of}
 use Rattle.history_core.specs.TermSet.{empty}
 use Rattle.history_core.specs.Chronicle.{chronicle, set_of, entries_of, NeverFalls, last_roots}
 use Rattle.history_core.proofs.Own.{own_order_stays, roots_are_last}
+use Rattle.history_core.proofs.Places.{rising_never_falls}
 use Rattle.history_core.proofs.Sound.{legal_is_sound}
 use Rattle.store_core.specs.Words.{Place, Base, FreeCount, Claim, InUse, FreePlace, Bucket, row_at}
 use Rattle.store_core.specs.Calls.{Content, bucket, Call, Comparing, Passing, Ended, Counting, Drawing, Placing, Filling, Numbering, Linking, Publishing}
@@ -175,7 +176,7 @@ module _ (z : Sizes) (s : State) (w : Place → ℕ) (m : Meaning) (h : Holds z 
   roots_are i l =
       let lists = listed z.seats (λ j. (s.view j).entries) in
       let e : entries_of lists i ≡ (s.view i).entries = listed_at z.seats (λ j. (s.view j).entries) i [] l in
-      roots_are_last empty (chronicle lists) i ∙ ap (last_roots []) (own_order_stays lists i (subst NeverFalls (sym e) (h.seats i).notes.order) ∙ e)
+      roots_are_last empty (chronicle lists) i ∙ ap (last_roots []) (own_order_stays lists i (subst NeverFalls (sym e) (rising_never_falls (s.view i).entries (h.seats i).notes.rises)) ∙ e)
 
   held_row : (j i r : ℕ) → drawn (calls j) ≡ Some (i, r) → HoldsRow w (w Base) (calls j) (i, r)
   held_row j i r e = where_at (drawn (calls j)) (HoldsRow w (w Base) (calls j)) (i, r) e (h.seats j).drawn.row
@@ -250,7 +251,7 @@ eight z s k =
         keeps_words = λ i. (h.seats i).protects.keeps_words;
         away = λ i. (h.seats i).notes.away;
       };
-      history = record { legal = h.history.legal; pairs = h.history.pairs; roots = roots_are z s w m h };
+      history = record { legal = h.history.legal; rises = λ i. (h.seats i).notes.rises; pairs = h.history.pairs; roots = roots_are z s w m h };
       collection = record {
         calm = under.calm;
         loaded = under.loaded;

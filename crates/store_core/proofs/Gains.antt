@@ -2,9 +2,9 @@
 use Rattle.std.proofs.Common.{◌≡◌, ◌⊎◌, ℕ, zero, suc, pred, ◌+◌, ◌*◌, ◌<◌, ◌≤◌, eqb, max, cond, true, None, List, [], ◌∷◌, ◌++◌, length, get_or, refl, sym, ap, ◌∙◌, subst, ⊎_elim, inl, inr, arith, append-nil, true≢false}
 use Rattle.std.proofs.lemmas.Bool.{cases_lt}
 use Rattle.history_core.specs.declared.entry.Entry.{Entry}
-use Rattle.history_core.specs.declared.entry.Entry.TheVariants.{Roots}
-use Rattle.history_core.specs.Entry.{place}
-use Rattle.history_core.specs.Chronicle.{NeverFalls, roots_after, last_roots}
+use Rattle.history_core.specs.declared.entry.Entry.TheVariants.{Make, Find, Roots, Collect}
+use Rattle.history_core.specs.Entry.{key, place, is_numbered}
+use Rattle.history_core.specs.Chronicle.{KeysRise, roots_after, last_roots}
 use Rattle.term_model.specs.declared.Head.{Head}
 use Rattle.term_model.specs.declared.Head.TheVariants.{App, Int, Nil, Cons}
 use Rattle.term_model.specs.Tree.{Tree, Node, may_stand_over, may_be_list}
@@ -113,18 +113,35 @@ led_known w m ks rows known = of_rows (IsKnown w m) rows ks (each_map (IsKnown w
 pub protected_seen : (w : Place → ℕ) (m : Meaning) (seen : ℕ) (v : View) → Each (IsSeen w m seen) (rows_kept v) → Each (IsSeen w m seen) (protected_in v)
 protected_seen w m seen v h = each_often (IsSeen w m seen) v.knows (length v.knows) (protected_in v) h
 
--- one entry more
-pub falls_more : (es : List Entry) (e : Entry) → NeverFalls es → Each (λ d. place d ≤ place e) es → NeverFalls (es ++ e ∷ [])
-falls_more [] e n a = (tt, tt)
-falls_more (d ∷ es) e n a = (each_join (λ x. place d ≤ place x) es (e ∷ []) n.0 (a.0, tt), falls_more es e n.1 a.1)
-
 pub roots_last : (names : List ℕ) (es : List Entry) (seen : ℕ) (rows : List ℕ) → last_roots names (es ++ Roots seen rows ∷ []) ≡ rows
 roots_last names [] seen rows = refl
 roots_last names (e ∷ es) seen rows = roots_last (roots_after names e) es seen rows
 
--- the entries with one more, whose key is at least what was seen, and which is then seen
-pub order_more : (es : List Entry) (e : Entry) (seen : ℕ) → NeverFalls es → Each (λ d. place d ≤ 2 * seen + 1) es → 2 * seen + 1 ≤ place e → NeverFalls (es ++ e ∷ [])
-order_more es e seen n k l = falls_more es e n (each_map (λ d. place d ≤ 2 * seen + 1) (λ d. place d ≤ place e) es (λ d a. omega arith) k)
+-- a key that was seen, and one of an entry that stands after all that was
+key_seen : (d : Entry) (seen : ℕ) → place d ≤ 2 * seen + 1 → key d ≤ seen
+key_seen (Make number head args row) seen l = omega arith
+key_seen (Find after head args row) seen l = omega arith
+key_seen (Roots after names) seen l = omega arith
+key_seen (Collect number kept) seen l = omega arith
+
+key_after : (e : Entry) (seen : ℕ) → 2 * seen + 1 ≤ place e → (seen ≤ key e) × (is_numbered e ≡ true → seen < key e)
+key_after (Make number head args row) seen l = (omega arith, λ _. omega arith)
+key_after (Find after head args row) seen l = (omega arith, λ e. absurd (cc))
+key_after (Roots after names) seen l = (omega arith, λ e. absurd (cc))
+key_after (Collect number kept) seen l = (omega arith, λ _. omega arith)
+
+-- the entries with one more, whose key is above theirs where it is a number, and not below them else
+rises_end : (es : List Entry) (e : Entry) → KeysRise es → Each (λ d. (key d ≤ key e) × (is_numbered e ≡ true → key d < key e)) es → KeysRise (es ++ e ∷ [])
+rises_end [] e n a = (tt, tt)
+rises_end (d ∷ es) e n a = (each_join (λ x. (key d ≤ key x) × (is_numbered x ≡ true → key d < key x)) es (e ∷ []) n.0 (a.0, tt), rises_end es e n.1 a.1)
+
+-- the entries with one more, which stands after all that was seen
+pub rises_more : (es : List Entry) (e : Entry) (seen : ℕ) → KeysRise es → Each (λ d. place d ≤ 2 * seen + 1) es → 2 * seen + 1 ≤ place e → KeysRise (es ++ e ∷ [])
+rises_more es e seen n k l =
+    let after = key_after e seen l in
+    let above = after.0 in
+    rises_end es e n (each_map (λ d. place d ≤ 2 * seen + 1) (λ d. (key d ≤ key e) × (is_numbered e ≡ true → key d < key e)) es
+    (λ d a. let below = key_seen d seen a in (omega arith, λ numbered. let higher = after.1 numbered in omega arith)) k)
 
 pub keys_more : (es : List Entry) (e : Entry) (seen later : ℕ) → Each (λ d. place d ≤ 2 * seen + 1) es → seen ≤ later → place e ≤ 2 * later + 1 → Each (λ d. place d ≤ 2 * later + 1) (es ++ e ∷ [])
 keys_more es e seen later k l p = each_join (λ d. place d ≤ 2 * later + 1) es (e ∷ []) (each_map (λ d. place d ≤ 2 * seen + 1) (λ d. place d ≤ 2 * later + 1) es (λ d a. omega arith) k) (p, tt)
@@ -159,7 +176,7 @@ module _ (w : Place → ℕ) (m : Meaning) (i : ℕ) (v : View) where
           keeps = led_seen z w m (max v.seen number) knows (protected_in v) chains known there;
           keeps_words = led_known w m knows (led_to knows (protected_in v)) known;
         };
-        notes = record { order = order_more v.entries e v.seen h.notes.order h.notes.keys first; keys = keys_more v.entries e v.seen (max v.seen number) h.notes.keys (omega arith) last; away = λ a. absurd (let b = sym stay ∙ a in cc) };
+        notes = record { rises = rises_more v.entries e v.seen h.notes.rises h.notes.keys first; keys = keys_more v.entries e v.seen (max v.seen number) h.notes.keys (omega arith) last; away = λ a. absurd (let b = sym stay ∙ a in cc) };
       }
 
   pub enters : (z : Sizes) → ChainsHold z w m → SeatHolds w m i (with_call v Idle) → SeatHolds w m i (based (with_call v Idle) (w Base))
@@ -192,7 +209,7 @@ module _ (w : Place → ℕ) (m : Meaning) (i : ℕ) (v : View) where
           keeps = led_seen z w m later knows (protected_in v) chains known there;
           keeps_words = led_known w m knows (led_to knows (protected_in v)) known;
         };
-        notes = record { order = h.notes.order; keys = each_map (λ d. place d ≤ 2 * v.seen + 1) (λ d. place d ≤ 2 * max v.seen (pred b) + 1) v.entries (λ d a. omega arith) h.notes.keys; away = λ e. absurd (cc) };
+        notes = record { rises = h.notes.rises; keys = each_map (λ d. place d ≤ 2 * v.seen + 1) (λ d. place d ≤ 2 * max v.seen (pred b) + 1) v.entries (λ d a. omega arith) h.notes.keys; away = λ e. absurd (cc) };
       }
 
   pub readies : SeatHolds w m i (with_call v Idle) → v.stay ≡ Based → SeatHolds w m i (ready (with_call v Idle) (w InUse))
@@ -201,7 +218,7 @@ module _ (w : Place → ℕ) (m : Meaning) (i : ℕ) (v : View) where
     drawn = record { index = tt; row = tt };
     numbers = record { base = λ _. h.numbers.base (λ e. let a = sym stay ∙ e in absurd (cc)); in_use = λ _. refl; calls = λ ne. absurd (ne refl); seen = h.numbers.seen; entered = λ _. h.numbers.entered (λ e. let a = sym stay ∙ e in absurd (cc)); overdraw = h.numbers.overdraw; own = h.numbers.own; over = h.numbers.over; read = tt };
     protects = record { roots = h.protects.roots; wants = tt; got = h.protects.got; knows = h.protects.knows; keeps = h.protects.keeps; keeps_words = h.protects.keeps_words };
-    notes = record { order = h.notes.order; keys = h.notes.keys; away = λ e. absurd (cc) };
+    notes = record { rises = h.notes.rises; keys = h.notes.keys; away = λ e. absurd (cc) };
   }
 
   pub leaves : SeatHolds w m i (with_call v Idle) → (rows : List ℕ) → rows ≡ roots_of w i (w (RootCount i)) → SeatHolds w m i (left (with_call v Idle) rows)
@@ -210,7 +227,7 @@ module _ (w : Place → ℕ) (m : Meaning) (i : ℕ) (v : View) where
     drawn = record { index = tt; row = tt };
     numbers = record { base = λ ne. absurd (ne refl); in_use = λ e. absurd (cc); calls = λ ne. absurd (ne refl); seen = h.numbers.seen; entered = λ ne. absurd (ne refl); overdraw = h.numbers.overdraw; own = h.numbers.own; over = h.numbers.over; read = tt };
     protects = record { roots = h.protects.roots; wants = tt; got = h.protects.got; knows = h.protects.knows; keeps = h.protects.keeps; keeps_words = h.protects.keeps_words };
-    notes = record { order = order_more v.entries (Roots v.seen rows) v.seen h.notes.order h.notes.keys (omega arith); keys = keys_more v.entries (Roots v.seen rows) v.seen v.seen h.notes.keys (omega arith) (omega arith); away = λ _. roots_last [] v.entries v.seen rows ∙ all };
+    notes = record { rises = rises_more v.entries (Roots v.seen rows) v.seen h.notes.rises h.notes.keys (omega arith); keys = keys_more v.entries (Roots v.seen rows) v.seen v.seen h.notes.keys (omega arith) (omega arith); away = λ _. roots_last [] v.entries v.seen rows ∙ all };
   }
 
   -- a creation begins at the head of its chain

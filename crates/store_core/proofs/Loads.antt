@@ -95,7 +95,7 @@ recounted w m i v x n ps h stay = record {
   drawn = record { index = tt; row = tt };
   numbers = record { base = h.numbers.base; in_use = h.numbers.in_use; calls = λ _. stay; seen = h.numbers.seen; entered = h.numbers.entered; overdraw = h.numbers.overdraw; own = h.numbers.own; over = h.numbers.over; read = tt };
   protects = record { roots = h.protects.roots; wants = tt; got = h.protects.got; knows = h.protects.knows; keeps = h.protects.keeps; keeps_words = h.protects.keeps_words };
-  notes = record { order = h.notes.order; keys = h.notes.keys; away = h.notes.away };
+  notes = record { rises = h.notes.rises; keys = h.notes.keys; away = h.notes.away };
 }
 
 module _ (w : Place → ℕ) (m : Meaning) (i : ℕ) (v : View) where

@@ -92,7 +92,7 @@ module _ (z : Sizes) (s : State) (m : Meaning) (h : Holds z s m) (i : ℕ) (ther
         drawn = record { index = tt; row = tt };
         numbers = record { base = λ _. old.numbers.base inside; in_use = λ f. absurd (cc); calls = λ ne. absurd (ne refl); seen = old.numbers.seen; entered = λ _. old.numbers.entered inside; overdraw = old.numbers.overdraw; own = old.numbers.own; over = old.numbers.over; read = tt };
         protects = record { roots = old.protects.roots; wants = tt; got = old.protects.got; knows = old.protects.knows; keeps = old.protects.keeps; keeps_words = old.protects.keeps_words };
-        notes = record { order = old.notes.order; keys = old.notes.keys; away = λ f. absurd (cc) };
+        notes = record { rises = old.notes.rises; keys = old.notes.keys; away = λ f. absurd (cc) };
       } in
       record {
         meaning = m;

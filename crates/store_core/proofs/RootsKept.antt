@@ -100,7 +100,7 @@ module _ (z : Sizes) (s : State) (m : Meaning) (h : Holds z s m) (i : ℕ) (e : 
                   keeps = led_seen z u m v.seen v.knows (protected_in v') h.chains known there;
                   keeps_words = led_known u m v.knows (rows_kept v') known;
                 };
-                notes = record { order = old.notes.order; keys = old.notes.keys; away = λ f. absurd (let a : Away ≡ Ready = sym f ∙ stay in cc) };
+                notes = record { rises = old.notes.rises; keys = old.notes.keys; away = λ f. absurd (let a : Away ≡ Ready = sym f ∙ stay in cc) };
               };
         }
 
@@ -157,6 +157,6 @@ module _ (z : Sizes) (s : State) (m : Meaning) (h : Holds z s m) (i : ℕ) (e : 
                   keeps = led_seen z u m v.seen v.knows (protected_in v') h.chains words (each_map (IsSeen s.words m v.seen) (IsSeen u m v.seen) (protected_in v') same now);
                   keeps_words = led_known u m v.knows (rows_kept v') words;
                 };
-                notes = record { order = old.notes.order; keys = old.notes.keys; away = λ f. absurd (let a : Away ≡ Ready = sym f ∙ stay in cc) };
+                notes = record { rises = old.notes.rises; keys = old.notes.keys; away = λ f. absurd (let a : Away ≡ Ready = sym f ∙ stay in cc) };
               };
         }

@@ -161,7 +161,7 @@ module _ (i : ℕ) (v : View) (w u : Place → ℕ) (m n : Meaning) (y : Rely i 
   roots_same (suc k) = ap₂ (λ (xs : List ℕ) (r : ℕ). xs ++ r ∷ []) (roots_same k) (y.root k)
 
   notes_stay : NotesMatch w i v → NotesMatch u i v
-  notes_stay h = record { order = h.order; keys = h.keys; away = λ e. h.away e ∙ (ap (roots_of w i) (sym y.root_count) ∙ sym (roots_same (u (RootCount i)))) }
+  notes_stay h = record { rises = h.rises; keys = h.keys; away = λ e. h.away e ∙ (ap (roots_of w i) (sym y.root_count) ∙ sym (roots_same (u (RootCount i)))) }
 
   pub stable : ((b : ℕ) → AreLive m (m.chain b)) → SeatHolds w m i v → SeatHolds u n i v
   stable live h = record { walks = walks_stay live h.walks; drawn = drawn_stays h.drawn; numbers = numbers_stay h.numbers; protects = protects_stay h.protects; notes = notes_stay h.notes }

@@ -67,7 +67,7 @@ seat_starts z w a s i = let base = s.base in let first = a.first in let roots = 
     read = tt;
   };
   protects = record { roots = λ k l. absurd (omega arith); wants = tt; got = λ _. tt; knows = λ _. tt; keeps = tt; keeps_words = tt };
-  notes = record { order = tt; keys = tt; away = λ _. ap (roots_of w i) (sym roots) };
+  notes = record { rises = tt; keys = tt; away = λ _. ap (roots_of w i) (sym roots) };
 }
 
 pub start_holds : (z : Sizes) (w : Place → ℕ) → AreSizes z → StartsWith z w → CoreHolds z (at_start z w)

@@ -92,7 +92,7 @@ new_call w m i v x y h stay walks drawn read wants = record {
   drawn = drawn;
   numbers = record { base = h.numbers.base; in_use = h.numbers.in_use; calls = λ _. stay; seen = h.numbers.seen; entered = h.numbers.entered; overdraw = h.numbers.overdraw; own = h.numbers.own; over = h.numbers.over; read = read };
   protects = record { roots = h.protects.roots; wants = wants; got = h.protects.got; knows = h.protects.knows; keeps = h.protects.keeps; keeps_words = h.protects.keeps_words };
-  notes = record { order = h.notes.order; keys = h.notes.keys; away = h.notes.away };
+  notes = record { rises = h.notes.rises; keys = h.notes.keys; away = h.notes.away };
 }
 
 -- what holds of a seat speaks of its own words, its walk and its refusals nowhere else
@@ -105,5 +105,5 @@ regarded w m i v roots root_count got knows path refusals a b c d h = record {
   drawn = record { index = h.drawn.index; row = h.drawn.row };
   numbers = record { base = h.numbers.base; in_use = h.numbers.in_use; calls = h.numbers.calls; seen = h.numbers.seen; entered = h.numbers.entered; overdraw = h.numbers.overdraw; own = h.numbers.own; over = h.numbers.over; read = h.numbers.read };
   protects = record { roots = h.protects.roots; wants = h.protects.wants; got = a; knows = b; keeps = c; keeps_words = d };
-  notes = record { order = h.notes.order; keys = h.notes.keys; away = h.notes.away };
+  notes = record { rises = h.notes.rises; keys = h.notes.keys; away = h.notes.away };
 }

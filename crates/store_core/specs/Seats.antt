@@ -4,7 +4,7 @@ use Rattle.store_core.specs.Words.{Place, Base, FreeCount, Claim, InUse, FreePla
 use Rattle.store_core.specs.Calls.{Content, words_of, IsOver, bucket, Call, Idle, Comparing, Passing, Finding, Ended, Counting, Drawing, Placing, Filling, Numbering, Linking, Publishing, Loading, Storing, KnownWord, Away, Ready, View}
 use Rattle.store_core.specs.Machine.{Sizes, Each, roots_of, rows_kept, words_kept}
 use Rattle.history_core.specs.Entry.{place}
-use Rattle.history_core.specs.Chronicle.{NeverFalls, last_roots}
+use Rattle.history_core.specs.Chronicle.{KeysRise, last_roots}
 use Rattle.store_core.specs.Meaning.{Meaning, Agrees, Matches, Linked, trees_at}
 use Rattle.term_model.specs.Tree.{may_stand_over}
 
@@ -218,9 +218,9 @@ pub record SeatRows (w : Place → ℕ) (m : Meaning) (i : ℕ) (v : View) : Typ
   pub keeps : Each (IsSeen w m v.seen) (rows_kept v)
   pub keeps_words : Each (IsKnown w m) (words_kept v)
 
--- A seat's own entries never fall, and it has seen their keys. While it is away its protected rows are those of its last Roots.
+-- A seat's own keys rise, and it has seen them. While it is away its protected rows are those of its last Roots.
 pub record NotesMatch (w : Place → ℕ) (i : ℕ) (v : View) : Type 0 where
-  pub order : NeverFalls v.entries
+  pub rises : KeysRise v.entries
   pub keys : Each (λ e. place e ≤ 2 * v.seen + 1) v.entries
   pub away : v.stay ≡ Away → last_roots [] v.entries ≡ roots_of w i (w (RootCount i))
 

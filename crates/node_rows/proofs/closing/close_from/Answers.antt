@@ -12,8 +12,8 @@ use Rattle.store_core.proofs.Histories.{listed_length}
 use Rattle.node_rows.specs.declared.view.NodeView.{NodeView}
 use Rattle.node_rows.specs.Joining.{gathered, HasBase}
 use Rattle.node_rows.specs.Crowding.{IsCrowd}
-use Rattle.node_rows.specs.Told.{HasEntries, KeepsOrder, TellsTrees, TellsCrowd, view_of}
-use Rattle.node_rows.proofs.Joins.{lists_are, joined_count, finds, orders, crowds, bases, trees}
+use Rattle.node_rows.specs.Told.{HasEntries, KeepsOrder, HasRisingKeys, TellsTrees, TellsCrowd, view_of}
+use Rattle.node_rows.proofs.Joins.{lists_are, joined_count, finds, rises, orders, crowds, bases, trees}
 use Rattle.node_rows.proofs.closing.close_from.Goals as goal
 
 pub returns-clause-count : goal.returns-clause-count
@@ -41,8 +41,22 @@ returns-clause-order c =
     let all = c.requires.all in
     let told = c.look.ensures.tells.whole (omega arith) in
     let own = finds z V c.look.ensures.tells c.chronicle_of.result is c.args.first c.args.rest.items c.gather_all.ensures.view in
-    let h = orders V c.chronicle_of.result told.order c.args.first c.args.rest.items c.gather_all.ensures.view own in
+    let k = rises V c.chronicle_of.result told.rises c.args.first c.args.rest.items c.gather_all.ensures.view own in
+    let h = orders c.chronicle_of.result c.args.first c.args.rest.items k own in
     (h.0, All-from_recursion (KeepsOrder c.chronicle_of.result) c.args.rest.items h.1)
+
+pub returns-clause-rises : goal.returns-clause-rises
+returns-clause-rises c =
+    let z : Sizes = c.args.store.now.sizes in
+    let V : NodeView = view_of c.gather_all.new.first in
+    let is = lists_are z V (view_of c.look.new.pass) c.chronicle_of.result c.chronicle_of.ensures c.look.ensures.view c.gather_all.ensures.first.sizes in
+    let count = joined_count (map view_of c.args.rest.items) (view_of c.args.first) V c.gather_all.ensures.view in
+    let long = length-map c.args.rest.items view_of in
+    let all = c.requires.all in
+    let told = c.look.ensures.tells.whole (omega arith) in
+    let own = finds z V c.look.ensures.tells c.chronicle_of.result is c.args.first c.args.rest.items c.gather_all.ensures.view in
+    let h = rises V c.chronicle_of.result told.rises c.args.first c.args.rest.items c.gather_all.ensures.view own in
+    (h.0, All-from_recursion (HasRisingKeys c.chronicle_of.result) c.args.rest.items h.1)
 
 pub returns-clause-legal : goal.returns-clause-legal
 returns-clause-legal c =

@@ -3,7 +3,7 @@ use Rattle.std.specs.Prelude.{All}
 use Rattle.std.proofs.lemmas.List.Elements.{All-pop, All-push}
 use Rattle.node_rows.specs.Passes.{IsPass, IsOut}
 use Rattle.node_rows.specs.Joining.{HasBase}
-use Rattle.node_rows.specs.Told.{HasEntries, TellsCrowd, view_of}
+use Rattle.node_rows.specs.Told.{HasEntries, HasRisingKeys, TellsTrees, TellsCrowd, view_of}
 use Rattle.node_rows.proofs.store.Store.close.Goals as goal
 
 pub close_from-requires-clause-rest : goal.close_from-requires-clause-rest
@@ -20,3 +20,11 @@ returns-in-Some-clause-bases c = let lists = c.close_from.result in let z = c.ar
 pub returns-in-Some-clause-crowds : goal.returns-in-Some-clause-crowds
 returns-in-Some-clause-crowds c = let lists = c.close_from.result in
     subst (All (TellsCrowd lists)) (sym c.in-Some.ensures.items) (All-push (TellsCrowd lists) c.pop.new.self.items c.in-Some.first c.close_from.ensures.crowds.1 c.close_from.ensures.crowds.0)
+
+pub returns-in-Some-clause-rises : goal.returns-in-Some-clause-rises
+returns-in-Some-clause-rises c = let lists = c.close_from.result in
+    subst (All (HasRisingKeys lists)) (sym c.in-Some.ensures.items) (All-push (HasRisingKeys lists) c.pop.new.self.items c.in-Some.first c.close_from.ensures.rises.1 c.close_from.ensures.rises.0)
+
+pub returns-in-Some-clause-told : goal.returns-in-Some-clause-told
+returns-in-Some-clause-told c = let lists = c.close_from.result in
+    subst (All (TellsTrees lists)) (sym c.in-Some.ensures.items) (All-push (TellsTrees lists) c.pop.new.self.items c.in-Some.first c.close_from.ensures.told.1 c.close_from.ensures.told.0)
