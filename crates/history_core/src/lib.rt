@@ -8,8 +8,6 @@ mod legality;
 mod marking;
 mod slots;
 mod term_table;
-#[cfg(test)]
-mod tests;
 
 pub use entry::Entry;
 pub use laws::{insertion_laws, merge_laws, noting_laws, recording_laws, set_laws, telling_laws};

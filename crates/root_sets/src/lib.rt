@@ -3,8 +3,6 @@
 
 mod sets;
 mod storing;
-#[cfg(test)]
-mod tests;
 mod words;
 
 pub use sets::{keep_roots, push_root, root_at};

@@ -11,6 +11,7 @@ use term_model::Head;
 use terms_api::BuildFault;
 
 // Creates over the last `n` places, in shared access.
+#[inline(always)]
 fn try_create<S: SharedPass>(
     pass: &mut S,
     places: &mut Stack,
@@ -145,8 +146,10 @@ fn try_again<S: SharedPass>(
     }
 }
 
-/// Creates over the last `n` places; where the store is full, collects and creates.
-pub(crate) fn build_row<S: SharedPass>(
+// Where the store was full: creates once more if another pass has collected meanwhile, and else collects and creates.
+#[cold]
+#[inline(never)]
+fn build_again<S: SharedPass>(
     pass: &mut S,
     places: &mut Stack,
     head: Head,
@@ -159,14 +162,29 @@ pub(crate) fn build_row<S: SharedPass>(
     ensures inside { IsIn (S.view pass.new) places.new }
 {
     let before = pass.base();
+    go_alone(pass, places);
+    match try_again(pass, places, head, n, before) {
+        Ok(()) => Ok(()),
+        Err(_) => sweep(pass, places, head, n),
+    }
+}
+
+/// Creates over the last `n` places; where the store is full, collects and creates.
+#[inline(always)]
+pub(crate) fn build_row<S: SharedPass>(
+    pass: &mut S,
+    places: &mut Stack,
+    head: Head,
+    n: u32,
+) -> Result<(), BuildFault>
+    requires inside { IsIn (S.view pass.old) places.old }
+    requires may { MayBuild (store (S.view pass.old) places.old.items) head n }
+    requires place { NeedsPlace (store (S.view pass.old) places.old.items) n → ⊥ }
+    ensures outcome { Outcome (S.view pass.old) (S.view pass.new) places.old.items places.new.items head n result }
+    ensures inside { IsIn (S.view pass.new) places.new }
+{
     match try_create(pass, places, head, n) {
         Ok(()) => Ok(()),
-        Err(_) => {
-            go_alone(pass, places);
-            match try_again(pass, places, head, n, before) {
-                Ok(()) => Ok(()),
-                Err(_) => sweep(pass, places, head, n),
-            }
-        }
+        Err(_) => build_again(pass, places, head, n),
     }
 }

@@ -13,15 +13,14 @@ use std::alloc::Global;
 use std::marker::Model;
 use std::sync::Wait;
 
-/// A store of terms for one caller, over a pass of a shared store, with a stack of its own. `rested` counts the breaths since the
-/// last one that went outside. `apart` is there so that desks which stand side by side share no cache line: each build writes to its desk.
+/// A store of terms for one caller, over a pass of a shared store, with a stack of its own. `apart` is there so that desks which
+/// stand side by side share no cache line: each build writes to its desk.
 #[derive(Drop)]
 pub struct Desk<S: SharedPass> {
     pub(crate) pass: S,
     pub(crate) places: Stack,
     pub(crate) spent: bool,
     pub(crate) refused: History<(), ()>,
-    pub(crate) rested: usize,
     pub(crate) apart: [u64; 16],
 }
 
@@ -57,7 +56,6 @@ impl<S: SharedPass + Drop> Desk<S> {
             places,
             spent: false,
             refused: History::new(),
-            rested: 0,
             apart: [0; 16],
         })
     }
@@ -102,7 +100,6 @@ impl<'a, R: Wait> Desk<OwnPass<'a, R>> {
             places: _,
             spent: _,
             refused: _,
-            rested: _,
             apart: _,
         } = self;
         pass.into_pass()

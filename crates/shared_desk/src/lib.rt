@@ -9,8 +9,6 @@ mod law;
 mod own_pass;
 mod pass;
 mod places;
-#[cfg(test)]
-mod tests;
 
 pub use desk::Desk;
 pub use faults::Memory;

@@ -107,6 +107,7 @@ impl<'a, R: Wait> SharedPass for OwnPass<'a, R> {
         root_sets::store_roots(self.store, &mut self.pass, rows);
     }
 
+    #[inline(always)]
     fn create(&mut self, head: Head, rows: &[Row]) -> Result<Row, Full> {
         fit(head);
         create(self.store, &mut self.pass, head, rows)
@@ -131,6 +132,13 @@ impl<'a, R: Wait> SharedPass for OwnPass<'a, R> {
 
     fn child(&mut self, row: Row, j: u32) -> Row {
         child_of(self.store, &mut self.pass, row, j)
+    }
+
+    // The own forbidden word, as the lock has it, is set where another pass waits for this one to leave.
+    fn is_asked(&self) -> bool {
+        let forbidden = 2 + 2 * self.pass.seat.number as usize;
+        let table = &self.store.table;
+        forbidden < table.word_count() && table.shared.peek(forbidden) != 0
     }
 
     fn base(&self) -> u64 {

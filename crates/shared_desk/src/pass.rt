@@ -101,6 +101,9 @@ pub trait SharedPass {
             ≡ Some (tree_at (own (view self.old)) result) }
         ensures unchanged { view self.new ≡ view self.old };
 
+    /// Whether another pass has asked for exclusive access. It is a hint, of which no clause says anything.
+    fn is_asked(&self) -> bool;
+
     /// The base that was loaded or stored last.
     fn base(&self) -> u64
         requires { ((view self.now).shared ≡ true) ⊎ ((view self.now).alone ≡ true) }

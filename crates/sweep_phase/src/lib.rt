@@ -10,11 +10,10 @@ mod creating;
 mod loading;
 mod marking;
 mod now;
+mod places;
 mod reading;
 mod storing;
 mod sweep;
-#[cfg(test)]
-mod tests;
 
 pub use collecting::collect;
 pub use creating::create_exclusive;

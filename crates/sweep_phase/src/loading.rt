@@ -8,11 +8,12 @@ ghost use Rattle.store_core.specs.ByView.{IsLoaded};
 ghost use Rattle.sweep_phase.specs.Loaded.{HasRow, HasRoots, HasLists};
 ghost use Rattle.sweep_phase.specs.Gathered.{sizes_of, loads_of, Gathers, LoadsMore, HasGathered};
 
+use crate::places::{birth_place, next_place};
 use crate::sweep::Sweep;
 use busy_forbidden::Seat;
 use node_rows::{
-    NodeRows, birth_word, bucket_word, free_place_word, in_use_word, load_any, next_word,
-    root_count_word, root_word, row_word,
+    NodeRows, bucket_word, free_place_word, in_use_word, load_any, root_count_word, root_word,
+    word_in,
 };
 use store_core::{Place, Sizes};
 
@@ -105,7 +106,7 @@ fn load_word(sweep: &Sweep<'_>, seat: &mut Seat<NodeRows>, row: u32, k: u32)
     ensures more { LoadsMore seat.old.seat seat.old.number seat.old.seats seat.new.seat seat.new.number seat.new.seats }
     ensures loaded { IsLoaded (RowWord row k) (loads_of seat.new.seat) }
 {
-    let word = row_word(&sweep.store.sizes, u64::from(row), k as usize);
+    let word = word_in(sweep.store, u64::from(row), k as usize);
     load(sweep, seat, word, Place::RowWord(row, k));
 }
 
@@ -131,9 +132,9 @@ fn load_links(sweep: &Sweep<'_>, seat: &mut Seat<NodeRows>, row: u32)
     ensures birth { IsLoaded (Birth row) (loads_of seat.new.seat) }
     ensures next { IsLoaded (Next row) (loads_of seat.new.seat) }
 {
-    let birth = birth_word(&sweep.store.sizes, u64::from(row));
+    let birth = birth_place(sweep.store, u64::from(row));
     load(sweep, seat, birth, Place::Birth(row));
-    let next = next_word(&sweep.store.sizes, u64::from(row));
+    let next = next_place(sweep.store, u64::from(row));
     load(sweep, seat, next, Place::Next(row));
 }
 

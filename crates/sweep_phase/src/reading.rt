@@ -8,11 +8,10 @@ ghost use Rattle.store_core.specs.Steps.{ReachesByWords};
 ghost use Rattle.sweep_phase.specs.Gathered.{sizes_of, loads_of, words_of, HasGathered, LoadsAgain};
 
 use crate::loading::load;
+use crate::places::next_place;
 use crate::sweep::Sweep;
 use busy_forbidden::Seat;
-use node_rows::{
-    NodeRows, bucket_word, free_place_word, next_word, root_count_word, root_word, row_word,
-};
+use node_rows::{NodeRows, bucket_word, free_place_word, root_count_word, root_word, word_in};
 use store_core::Place;
 
 // Loads a word again.
@@ -37,7 +36,7 @@ pub(crate) fn row_word_of(sweep: &Sweep<'_>, seat: &mut Seat<NodeRows>, row: u32
     ensures again { LoadsAgain sweep.now seat.old.seat seat.old.number seat.old.seats seat.new.seat seat.new.number seat.new.seats }
     ensures value { result ≡ words_of seat.old.seat (RowWord row k) }
 {
-    let word = row_word(&sweep.store.sizes, u64::from(row), k as usize);
+    let word = word_in(sweep.store, u64::from(row), k as usize);
     reload(sweep, seat, word, Place::RowWord(row, k))
 }
 
@@ -99,7 +98,7 @@ pub(crate) fn next_of(sweep: &Sweep<'_>, seat: &mut Seat<NodeRows>, row: u32) ->
     ensures again { LoadsAgain sweep.now seat.old.seat seat.old.number seat.old.seats seat.new.seat seat.new.number seat.new.seats }
     ensures value { result ≡ words_of seat.old.seat (Next row) }
 {
-    let word = next_word(&sweep.store.sizes, u64::from(row));
+    let word = next_place(sweep.store, u64::from(row));
     reload(sweep, seat, word, Place::Next(row))
 }
 

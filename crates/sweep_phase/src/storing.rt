@@ -12,10 +12,11 @@ ghost use Rattle.sweep_phase.specs.Compared.{told_by, unmarked_below};
 ghost use Rattle.sweep_phase.specs.Stored.{Stores, StoresMore, ArePlaced, seen_of, is_next, is_head, is_place};
 
 use crate::comparing::UNCHANGED;
+use crate::places::next_place;
 use crate::sweep::Sweep;
 use busy_forbidden::Seat;
 use mark_phase::Marks;
-use node_rows::{NodeRows, bucket_word, free_place_word, next_word, store_any};
+use node_rows::{NodeRows, bucket_word, free_place_word, store_any};
 use store_core::Place;
 use term_model::Row;
 
@@ -89,7 +90,7 @@ fn put_next(sweep: &Sweep<'_>, seat: &mut Seat<NodeRows>, row: u32, cell: u32)
     ensures more { StoresMore seat.old.seat seat.old.number seat.old.seats seat.new.seat seat.new.number seat.new.seats }
     ensures words { seen_of seat.new.seat ≡ write (seen_of seat.old.seat) (Next row) (told_by (seen_of seat.old.seat (Next row)) cell) }
 {
-    let word = next_word(&sweep.store.sizes, u64::from(row));
+    let word = next_place(sweep.store, u64::from(row));
     put_cell(sweep, seat, word, Place::Next(row), cell);
 }
 

@@ -5,7 +5,7 @@ use Rattle.term_model.specs.declared.Head.{Head}
 use Rattle.term_model.specs.declared.Row.{Row}
 use Rattle.history_core.specs.declared.entry.Entry.TheVariants as entry
 use Rattle.store_core.specs.declared.view.Call.{Call}
-use Rattle.store_core.specs.declared.view.Call.TheVariants.{Idle}
+use Rattle.store_core.specs.declared.view.Call.TheVariants.{Idle, Ended}
 use Rattle.store_core.specs.declared.view.Passed.{Passed}
 use Rattle.store_core.specs.declared.view.View.{View}
 use Rattle.store_core.specs.declared.view.Sizes.{Sizes}
@@ -20,10 +20,10 @@ use Rattle.node_rows.specs.declared.store.Pass.{Pass}
 use Rattle.node_rows.proofs.Tellings.{told_made, told_found, told_on}
 use Rattle.term_create.specs.declared.asked.Noted.{Noted}
 use Rattle.term_create.specs.declared.asked.Noted.TheVariants.{Made, Found}
-use Rattle.term_create.specs.Stage.{Finds, Makes, Notes, IsRefused, row_of, at_walk}
+use Rattle.term_create.specs.Stage.{Finds, Makes, Notes, HasPassed, IsFull, IsRefused, row_of, at_walk}
 use Rattle.term_create.specs.Ended.{Ends, SamePlain}
 use Rattle.term_create.specs.Created.{NotesOne, Gets, KeepsCause, WasFilled, GetsNone, KeepsRest}
-use Rattle.term_create.proofs.Whole.{at_begin, max_less, made_notes, found_notes, made_gets, found_gets, made_rest, found_rest, made_only, found_only, refused_cause, refused_none, refused_rest, refused_only}
+use Rattle.term_create.proofs.Whole.{at_begin, max_less, made_notes, found_notes, made_gets, found_gets, made_rest, found_rest, made_only, found_only, refused_after, refused_cause, refused_none, refused_rest, refused_only}
 
 -- how a creation that has begun ends
 abbrev pub EndsNoted : {E : Type 0} → NodeView → NodeView → NodeView → Head → List ℕ → Result Noted E → Type 0
@@ -50,6 +50,12 @@ notes_on v u w p ps x f rs (Made r k) e h =
 notes_on v u w p ps x f rs (Found r k) e h =
     let t = subst (λ (q : NodeView). Finds q w f rs r k) e h in
     record { passed = t.passed; path = t.path; view = t.view }
+
+-- what was made, or refused, after a walk to a chain's end
+pub made_after : {E : Type 0} → (v m w : NodeView) (f : Head) (rs : List ℕ) (from : ℕ) (r : Result Noted E) → HasPassed v m (over f rs) (Ended (over f rs) from) from 0
+    → MatchResult r (Notes m w f rs) (λ _. IsFull m w (over f rs) from) → MatchResult r (Notes v w f rs) (λ _. IsRefused v w (over f rs))
+made_after v m w f rs from (Ok n) h o = notes_on v m w h.passed (v.store.path ++ h.path) (Ended (over f rs) from) f rs n h.view o
+made_after v m w f rs from (Err full) h o = refused_after v m w (over f rs) from h o
 
 -- with its first step
 pub ends_whole : {E : Type 0} → (v m w : NodeView) (f : Head) (rs : List ℕ) (x : Call) (r : Result Noted E) → m ≡ with_store v (with_call (with_path v.store 0 []) x) → EndsNoted m m w f rs r → EndsNoted v (at_begin v) w f rs r

@@ -1,16 +1,19 @@
 //! Creations: a walk, and where it ends without the row, the making of one.
-ghost use Rattle.std.specs.Prelude.{◌≡◌, ◌<◌, ◌≤◌, ◌+◌, ◌*◌, true, None, [], MatchResult, IfOk, IfErr};
+ghost use Rattle.std.specs.Prelude.{◌≡◌, ◌<◌, ◌≤◌, ◌+◌, ◌*◌, true, None, [], MatchResult, IfOk, IfErr, get_or, length};
 ghost use Rattle.lock_core.specs.declared.parts.Phase.TheVariants.{Shared};
+ghost use Rattle.store_core.specs.Calls.{words_of, bucket};
+ghost use Rattle.store_core.specs.declared.view.Call.TheVariants.{Ended};
 ghost use Rattle.store_core.specs.Machine.{arrived, with_path, widest};
 ghost use Rattle.busy_forbidden.specs.Calls.{IsSame};
 ghost use Rattle.node_rows.specs.Rows.{names};
 ghost use Rattle.node_rows.specs.Full.{HoldsAll};
 ghost use Rattle.node_rows.specs.Knowing.{IsAbsent};
-ghost use Rattle.node_rows.specs.Steps.{over, with_store, Known, MayCreateBy};
-ghost use Rattle.node_rows.specs.Passes.{IsPass};
+ghost use Rattle.node_rows.specs.Steps.{over, with_store, IsOf, Known, MayCreateBy};
+ghost use Rattle.node_rows.specs.Passes.{IsPass, IsStore};
 ghost use Rattle.node_rows.specs.Inside.{IsInside};
-ghost use Rattle.term_create.specs.Counted.{row_steps};
-ghost use Rattle.term_create.specs.Stage.{IsAt, IsBased, SameSeat, Notes, IsRefused, HoldsAllAlone, FillsAfter, content};
+ghost use Rattle.term_create.specs.Counted.{row_steps, Takes};
+ghost use Rattle.term_create.specs.Fitting.{Fits};
+ghost use Rattle.term_create.specs.Stage.{IsAt, IsBased, SameSeat, Notes, IsFull, IsRefused, HoldsAllAlone, FillsAfter, content};
 ghost use Rattle.term_create.specs.Ended.{Ends, SamePlain};
 ghost use Rattle.node_rows.specs.Told.{Tells};
 ghost use Rattle.term_create.specs.Created.{MayCreate, NotesOne, Gets, KeepsCause, WasFilled, GetsNone, KeepsRest};
@@ -27,6 +30,59 @@ use node_rows::{NodeRows, Pass, Store, begin, bucket_word};
 use std::marker::Brand;
 use std::sync::ledger::{Blank, Ledger};
 use term_model::{Head, Row};
+
+// Makes the row that is asked, where the walk from this head has ended without it. What is asked is laid into memory here alone, so
+// that a walk keeps it in registers.
+#[inline(never)]
+fn make_row<L: Ledger>(
+    store: &Store,
+    head: Head,
+    args: &[Row],
+    base: u64,
+    place: u64,
+    seat: &mut Seat<NodeRows>,
+    steps: &mut Steps<L>,
+    from: u64,
+) -> Result<Noted, Full>
+    requires store { IsStore store.now.table.shared.table_id store.now.table.shared.key store.now.sizes }
+    requires second { length args.now ≡ get_or (words_of (over head (names args.now))) 1 0 }
+    requires fits { Fits store.now.sizes head (names args.now) }
+    requires within { place < store.now.sizes.buckets }
+    requires of { IsOf store.now.table.shared.table_id store.now.table.shared.key seat.old.seat }
+    requires known { Known store.now.sizes seat.old.seat.me.0.store }
+    requires base { base ≡ seat.old.seat.me.0.store.base }
+    requires place { place ≡ bucket (over head (names args.now)) seat.old.seat.me.0.store.in_use }
+    requires stage { seat.old.seat.me.0.store.call ≡ Ended (over head (names args.now)) from }
+    ensures of { IsOf store.now.table.shared.table_id store.now.table.shared.key seat.new.seat }
+    ensures known { Known store.now.sizes seat.new.seat.me.0.store }
+    ensures same { SameSeat seat.old.seat seat.new.seat
+        seat.old.number seat.new.number seat.old.seats seat.new.seats }
+    ensures view { let v = seat.old.seat.me.0 in let w = seat.new.seat.me.0 in MatchResult result
+        (Notes v w head (names args.now))
+        (λ _. IsFull v w (over head (names args.now)) from) }
+    ensures all { IfErr result (λ _. store.now.sizes.seats ≡ 1 →
+        HoldsAll store.now.sizes.rows seat.old.seat.me.0.store.entries) }
+    ensures filled { IfErr result (λ _. seat.old.seat.me.0.store.fresh ≡ true →
+        WasFilled store.now.sizes seat.old.number seat.old.seat.me.0 head (names args.now)) }
+    ensures cost { let z = store.now.sizes in MatchResult result
+        (λ _. Takes z (widest z + 7 + 2 * (z.rows + 1)) seat.old.seat.me.0.store.passed z.rows steps.old steps.new)
+        (λ _. steps.new ≤ steps.old + (widest z + 7)) }
+{
+    let asked = Asked {
+        store,
+        head,
+        args,
+        symbol: symbol_word(head),
+        base,
+        place,
+        first_row: store.first_row,
+        row_size: store.row_size,
+    };
+    match draw_row(&asked, seat, steps, from) {
+        Ok(drawn) => Ok(publish_row(&asked, seat, steps, drawn)),
+        Err(full) => Err(full),
+    }
+}
 
 // Goes on with a creation that has begun with this head of a chain.
 #[inline(always)]
@@ -61,21 +117,16 @@ fn create_from<L: Ledger>(
     if let Some(noted) = walk(asked, seat, steps, whole) {
         return Ok(noted);
     }
-    // What is asked is laid into memory here alone, so that a walk keeps it in registers.
-    let aside = Asked {
-        store: asked.store,
-        head: asked.head,
-        args: asked.args,
-        symbol: asked.symbol,
-        base: asked.base,
-        place: asked.place,
-        first_row: asked.first_row,
-        row_size: asked.row_size,
-    };
-    match draw_row(&aside, seat, steps, from) {
-        Ok(drawn) => Ok(publish_row(&aside, seat, steps, drawn)),
-        Err(full) => Err(full),
-    }
+    make_row(
+        asked.store,
+        asked.head,
+        asked.args,
+        asked.base,
+        asked.place,
+        seat,
+        steps,
+        from,
+    )
 }
 
 // Creates a head over rows, and says what the own view is then.
@@ -168,6 +219,7 @@ fn create_whole<L: Ledger>(
 /// the store has one pass, or the pass has collected in its access, each row has a tree then, and none has the asked one. It needs
 /// shared access, or exclusive access after a collection of it. Each atomic step on a word is a tick of `steps`: with A the greater
 /// of the store's arity and 2, there are at most (A + 8) * (rows + 2).
+#[inline(always)]
 pub fn create_counted<L: Ledger>(
     store: &Store,
     pass: &mut Pass,
@@ -242,6 +294,7 @@ fn create_uncounted<L: Ledger>(
 }
 
 /// Creates a head over rows as `create_counted` does, and counts no step.
+#[inline(always)]
 pub fn create_inside(store: &Store, pass: &mut Pass, head: Head, args: &[Row]) -> Result<Row, Full>
     requires inside { IsInside store.now pass.old }
     requires access { MayCreateBy pass.old.seat.seat.me.0 }
@@ -271,6 +324,7 @@ pub fn create_inside(store: &Store, pass: &mut Pass, head: Head, args: &[Row]) -
 }
 
 /// Creates a head over rows in shared access, as `create_inside` does.
+#[inline(always)]
 pub fn create(store: &Store, pass: &mut Pass, head: Head, args: &[Row]) -> Result<Row, Full>
     requires inside { IsInside store.now pass.old }
     requires shared { pass.old.seat.seat.me.0.lock.phase ≡ Shared }

@@ -9,8 +9,6 @@ mod places;
 mod reads;
 mod stages;
 mod telling;
-#[cfg(test)]
-mod tests;
 mod walking;
 mod words;
 

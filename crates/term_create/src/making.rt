@@ -78,8 +78,7 @@ fn publish_once<L: Ledger>(
 }
 
 /// Publishes the drawn row, or finds one that another seat has published meanwhile.
-#[cold]
-#[inline(never)]
+#[inline]
 pub(crate) fn publish_row<L: Ledger>(
     asked: &Asked<'_>,
     seat: &mut Seat<NodeRows>,
@@ -113,8 +112,7 @@ pub(crate) fn publish_row<L: Ledger>(
 }
 
 /// Draws a row, and stores it, where one is free.
-#[cold]
-#[inline(never)]
+#[inline]
 pub(crate) fn draw_row<L: Ledger>(
     asked: &Asked<'_>,
     seat: &mut Seat<NodeRows>,

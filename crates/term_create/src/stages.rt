@@ -19,7 +19,7 @@ use node_rows::{
 };
 use std::sync::ledger::Ledger;
 
-// Compares word k of the row that the walk is at: the word there, where it differs.
+// Compares word k of the row that the walk is at with the asked one: the word there, where it differs.
 #[inline(always)]
 pub(crate) fn compare_one<L: Ledger>(
     asked: &Asked<'_>,
@@ -28,9 +28,11 @@ pub(crate) fn compare_one<L: Ledger>(
     walk: Walk,
     at: u64,
     k: usize,
+    wanted: u64,
 ) -> Option<u64>
     requires at { IsAt asked.now seat.old.seat }
     requires below { k < length (words_of (content asked.now)) }
+    requires wanted { wanted ≡ get_or (words_of (content asked.now)) k 0 }
     requires stage { seat.old.seat.me.0.store.call ≡ Comparing (content asked.now) walk.drawn walk.from walk.old at k }
     ensures at { IsAt asked.now seat.new.seat }
     ensures same { SameSeat seat.old.seat seat.new.seat
@@ -42,7 +44,7 @@ pub(crate) fn compare_one<L: Ledger>(
 {
     steps.tick();
     let found = go_load(&asked.store.table, seat, word_place(asked, at - 1, k));
-    if found == word_at(asked, k) {
+    if found == wanted {
         return None;
     }
     Some(found)

@@ -1,6 +1,6 @@
 //! The words that a head over rows has in a row, and its bucket.
-ghost use Rattle.std.specs.Prelude.{◌≡◌, ◌<◌, ◌%◌, get_or, length};
-ghost use Rattle.hash_buckets.specs.Hash.{mixed_all, hash_of};
+ghost use Rattle.std.specs.Prelude.{◌≡◌, ◌+◌, ◌<◌, ◌%◌, get_or, length};
+ghost use Rattle.hash_buckets.specs.Hash.{mixed, mixed_all, hash_of};
 ghost use Rattle.hash_buckets.specs.Spelled.{symbol_word};
 ghost use Rattle.store_core.specs.Calls.{words_of, bucket};
 ghost use Rattle.node_rows.specs.Rows.{names};
@@ -56,15 +56,45 @@ pub(crate) fn word_at(asked: &Asked<'_>, k: usize) -> u64
     }
 }
 
-// The hash with the row numbers, in order.
-fn with_rows(first: u64, rows: &[Row]) -> u64
+/// Argument j, which stands after the first two words.
+#[tactic(auto, using(crate::proofs::Arguments::later_argument))]
+#[inline(always)]
+pub(crate) fn argument_at(asked: &Asked<'_>, j: usize) -> u64
+    requires { j < length asked.now.args.now }
+    ensures { result ≡ get_or (words_of (content asked.now)) (j + 2) 0 }
+{
+    asked.args[j].0 as u64
+}
+
+// The hash with one row number more.
+#[inline(always)]
+fn with_row(first: u64, row: Row) -> u64
+    ensures { result ≡ mixed first row.0 }
+{
+    with_word(first, row.0 as u64)
+}
+
+// The hash with the row numbers, in order, however many they are.
+fn with_each(first: u64, rows: &[Row]) -> u64
     ensures { result ≡ mixed_all first (names rows.now) }
 {
     let mut hash = first;
     for row in rows {
-        hash = with_word(hash, row.0 as u64);
+        hash = with_row(hash, *row);
     }
     hash
+}
+
+// The same, without a loop where they are few, as they mostly are.
+#[inline(always)]
+fn with_rows(first: u64, rows: &[Row]) -> u64
+    ensures { result ≡ mixed_all first (names rows.now) }
+{
+    match rows {
+        [one] => with_row(first, *one),
+        [one, two] => with_row(with_row(first, *one), *two),
+        _ => with_each(first, rows),
+    }
 }
 
 // The hash of a head over rows, by its symbol word.

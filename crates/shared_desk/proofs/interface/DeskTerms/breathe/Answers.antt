@@ -43,5 +43,8 @@ returns-clause-same g c =
     let p = crossed v w xs c.self.invariant.sound a c.enter_shared.ensures.sound in
     subst (λ (x : Contents). IsSame x (desk_of w xs k s)) c.self.view_is (same_told v w xs xs k k s p.same)
 
-pub returns-then-self-len-clause-was_sound : goal.returns-then-self-len-clause-was_sound
-returns-then-self-len-clause-was_sound g c = subst (λ (x : Contents). IsSound (store_of x)) c.self.view_is (sound_shown (g.S.SharedPass.view c.self.inside.pass) c.self.inside.places.items _ _ c.self.invariant.sound)
+pub returns-then-not-is_asked-clause-was_sound : goal.returns-then-not-is_asked-clause-was_sound
+returns-then-not-is_asked-clause-was_sound g c = subst (λ (x : Contents). IsSound (store_of x)) c.self.view_is (sound_shown (g.S.SharedPass.view c.self.inside.pass) c.self.inside.places.items _ _ c.self.invariant.sound)
+
+pub returns-then-not-is_asked-clause-sound : goal.returns-then-not-is_asked-clause-sound
+returns-then-not-is_asked-clause-sound g c = subst (λ (x : Contents). IsSound (store_of x)) c.self.view_is (sound_shown (g.S.SharedPass.view c.self.inside.pass) c.self.inside.places.items _ _ c.self.invariant.sound)

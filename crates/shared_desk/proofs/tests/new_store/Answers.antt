@@ -1,5 +1,0 @@
-use Rattle.shared_desk.proofs.Telling.{made_may}
-use Rattle.shared_desk.proofs.tests.new_store.Goals as goal
-
-pub returns : goal.returns
-returns c = made_may (λ v. v.items) c.args.sizes c.make.result c.make.ensures.store c.make.ensures.passes c.make.ensures.ready c.make.ensures.told
