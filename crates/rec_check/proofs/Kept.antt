@@ -1,5 +1,5 @@
 -- Names as they are kept.
-use Rattle.std.proofs.Common.{◌≡◌, ℕ, suc, Bool, true, false, cond, ◌||◌, List, [], ◌∷◌, ◌++◌, Option, Some, refl, sym, ap, ◌∙◌, position}
+use Rattle.std.proofs.Common.{◌≡◌, ℕ, suc, Bool, true, false, cond, ◌||◌, List, [], ◌∷◌, ◌++◌, Option, Some, None, length, refl, sym, ap, ◌∙◌, position, arith}
 use Rattle.std.specs.Prelude.{if◌then◌else◌}
 use Rattle.std.specs.Option.{option_map}
 use Rattle.std.specs.List.{list_any}
@@ -46,3 +46,8 @@ last kept more names copy name view is e keys =
     ∙ map-append (λ v. v.items) kept (copy ∷ [])
     ∙ (λ i. view i ++ is i ∷ [])
     ∙ sym (ap (λ b. if b then names else names ++ name ∷ []) f)
+
+-- no name has a number where there are no names
+pub none_of_none : (test : List ℕ → Bool) (names : List (List ℕ)) → length names ≡ 0 → None ≡ position test names
+none_of_none test [] e = refl
+none_of_none test (n ∷ ns) e = absurd (omega (arith, e))

@@ -16,6 +16,3 @@ mod terms;
 pub use checking::check;
 pub use conditions::unconditional;
 pub use spec::Spec;
-
-#[cfg(test)]
-mod tests;

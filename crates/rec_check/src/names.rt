@@ -52,7 +52,12 @@ impl Names {
     pub(crate) fn number(&self, name: &[u8]) -> Option<usize>
         ensures { result ≡ position (bytes_eq name.now) self.now }
     {
-        self.set.get_index_of(name)
+        let count = self.count();
+        if count == 0 {
+            None
+        } else {
+            self.set.get_index_of(name)
+        }
     }
 
     /// How many names there are.

@@ -10,7 +10,7 @@ use Rattle.faults.specs.declared.refusal.Refusal.{Refusal}
 use Rattle.rec_offences.specs.Faults.{least_with, offences_after, offences_from, fault_of}
 use Rattle.rec_offences.specs.Numbered.{offences_at}
 use Rattle.rec_offences.proofs.Leasts.{in_none, of_all, none_of_all}
-use Rattle.rec_offences.proofs.Order.{only_same}
+use Rattle.rec_offences.proofs.Orders.{only_same}
 
 -- each of one list is in another
 abbrev IsWithin : List Refusal → List Refusal → Type 0

@@ -1,7 +1,7 @@
 pub mod Gathered
 pub mod Including
 pub mod Noted
-pub mod Order
+pub mod Orders
 pub mod Places
 pub mod SortPlaces
 pub mod Numberings
@@ -27,3 +27,4 @@ pub mod AnyOrder
 pub mod Steps
 pub mod Weight
 pub mod Visits
+pub mod Walks

@@ -4,9 +4,10 @@ use Rattle.std.specs.List.{filter}
 use Rattle.rec_reader.specs.declared.token.Name.{Name}
 use Rattle.rec_reader.specs.declared.syntax_tree.Node.{Node}
 use Rattle.faults.specs.declared.refusal.Refusal.{Refusal}
-use Rattle.rec_offences.specs.Scope.{Entry, heads}
-use Rattle.rec_offences.specs.Offences.{clashing}
+use Rattle.rec_offences.specs.declared.terms.Argument.{Argument}
+use Rattle.rec_offences.specs.Scope.{heads}
 use Rattle.rec_offences.specs.Faults.{lesser, least_with, of_kind, offence_at}
+use Rattle.rec_offences.specs.Walked.{clashing_sorts}
 use Rattle.rec_offences.proofs.Gathered.{drop_all}
 
 pub least_append : (found : Option Refusal) (xs ys : List Refusal) → least_with found (xs ++ ys) ≡ least_with (least_with found xs) ys
@@ -54,22 +55,18 @@ marks_append kind test (x ∷ xs) ys = by (test x.head) (marks_append kind test 
     by false e = e
 
 -- no argument is left, or no sort
-pub clashing_end : (bytes : List ℕ) (entries : List Entry) (wanted arguments : List Name) (k : ℕ) → min (length wanted) (length arguments) ≤ k →
-    clashing bytes entries (drop k wanted) (drop k arguments) ≡ []
-clashing_end bytes entries wanted arguments k h = by (drop k wanted) (drop k arguments) (omega (arith, length-drop k wanted, length-drop k arguments))
+pub clashing_end : (bytes : List ℕ) (wanted : List Name) (arguments : List Argument) (k : ℕ) → min (length wanted) (length arguments) ≤ k →
+    clashing_sorts bytes (drop k wanted) (drop k arguments) ≡ []
+clashing_end bytes wanted arguments k h = by (drop k wanted) (drop k arguments) (omega (arith, length-drop k wanted, length-drop k arguments))
   where
-    by : (ws xs : List Name) → min (length ws) (length xs) ≡ 0 → clashing bytes entries ws xs ≡ []
-    by [] xs e = refl
+    by : (ws : List Name) (others : List Argument) → min (length ws) (length others) ≡ 0 → clashing_sorts bytes ws others ≡ []
+    by [] others e = refl
     by (w ∷ ws) [] e = refl
-    by (w ∷ ws) (x ∷ xs) e = absurd (omega arith)
+    by (w ∷ ws) (a ∷ others) e = absurd (omega arith)
 
 -- one list after another
 pub noted_after : (found one two : Option Refusal) (xs ys : List Refusal) → one ≡ least_with found xs → two ≡ least_with one ys → two ≡ least_with found (xs ++ ys)
 noted_after found one two xs ys a b = b ∙ ap (λ o. least_with o ys) a ∙ sym (least_append found xs ys)
-
-pub three_noted : (found one two three : Option Refusal) (xs ys zs : List Refusal) →
-    one ≡ least_with found xs → two ≡ least_with one ys → three ≡ least_with two zs → three ≡ least_with found (xs ++ ys ++ zs)
-three_noted found one two three xs ys zs a b c = noted_after found two three (xs ++ ys) zs (noted_after found one two xs ys a b) c
 
 -- three lists after another
 pub three_after : (found one two : Option Refusal) (ws xs ys zs : List Refusal) →

@@ -153,3 +153,10 @@ found_at bytes (e ∷ es) n = by (same_text bytes n e.declared.name) (place_in (
     by true o h = refl
     by false None h = h
     by false (Some i) h = h
+
+-- an entry whose text is this one has its first place
+pub guessed : (bytes : List ℕ) (names : List Name) (es : List (Vec ℕ × ℕ)) (text : List ℕ) (key : Vec ℕ) (place : ℕ) →
+    Looks bytes names es → lookup (λ k. pointwise nat_eq key.items k.items) es ≡ Some place → pointwise nat_eq key.items text ≡ true →
+    place_in (λ n. bytes_eq text (text_of bytes n)) names ≡ Some place
+guessed bytes names es text key place looks found same =
+    subst (λ q. place_in (λ n. bytes_eq q (text_of bytes n)) names ≡ Some place) ((bytes_decides key.items text).0 same) (sym (looks key.items) ∙ found)

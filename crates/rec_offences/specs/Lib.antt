@@ -13,5 +13,6 @@ pub mod Numbering
 pub mod SortsKept
 pub mod Inclusion
 pub mod Visited
+pub mod Walked
 pub mod Grouped
 pub mod Laws

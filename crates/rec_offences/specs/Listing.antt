@@ -2,7 +2,8 @@
 use Rattle.std.specs.Prelude.{ℕ, suc, List, [], ◌∷◌, Bool, Option, Some, None, map, if◌then◌else◌}
 use Rattle.std.specs.Option.{option_map}
 use Rattle.rec_reader.specs.declared.token.Name.{Name}
-use Rattle.rec_offences.specs.Names.{same_text}
+use Rattle.std.specs.Str.{bytes_eq}
+use Rattle.rec_offences.specs.Names.{same_text, text_of}
 use Rattle.rec_offences.specs.Material.{declared}
 use Rattle.rec_offences.specs.Scope.{Entry}
 use Rattle.rec_offences.specs.declared.signatures.Signature.{Signature}
@@ -21,6 +22,10 @@ place_in test [] = None
 place_in test (x ∷ xs) = if test x then Some 0 else option_map suc (place_in test xs)
 
 -- the place of the first name with this text
+abbrev pub place_of_text : Listing → List ℕ → Option ℕ
+place_of_text l text = place_in (λ n. bytes_eq text (text_of l.bytes n)) l.names
+
+-- the place of the first name with the same text
 abbrev pub place_of : Listing → Name → Option ℕ
 place_of l n = place_in (same_text l.bytes n) l.names
 

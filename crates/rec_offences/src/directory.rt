@@ -1,10 +1,11 @@
 //! Names in order, found by their text.
-ghost use Rattle.std.specs.Prelude.{◌≡◌, ◌++◌, ◌∷◌, [], OnOk, OnErr, length, take};
+ghost use Rattle.std.specs.Prelude.{◌≡◌, ◌++◌, ◌∷◌, [], IfSome, OnOk, OnErr, Some, length, take};
 ghost use Rattle.rec_offences.specs.Names.{is_among, same_text};
 ghost use Rattle.rec_offences.specs.Scope.{heads};
-ghost use Rattle.rec_offences.specs.Listing.{listing, place_in, place_of};
+ghost use Rattle.rec_offences.specs.Listing.{listing, place_in, place_of, place_of_text};
 
 use crate::names::text_of;
+use crate::recent::Recent;
 use faults::Memory;
 use indexmap::IndexMap;
 use rec_reader::{Name, Node};
@@ -13,10 +14,11 @@ use std::marker::Model;
 
 /// Names in the order in which they were added. The first with a text is looked up by hashing.
 #[derive(Drop)]
-pub(crate) struct Directory<'a> {
+pub struct Directory<'a> {
     text: &'a [u8],
     names: Vec<Name>,
     places: IndexMap<Vec<u8>, usize>,
+    recent: Recent,
 }
 
 impl<'a> Model for Directory<'a> {
@@ -39,6 +41,7 @@ impl<'a> Directory<'a> {
             text,
             names: Vec::new(alloc),
             places: IndexMap::new(alloc),
+            recent: Recent::new(),
         }
     }
 
@@ -57,10 +60,29 @@ impl<'a> Directory<'a> {
     }
 
     /// The place of the first name with the same text.
+    #[inline(always)]
     pub(crate) fn place(&self, name: Name) -> Option<usize>
         ensures { result ≡ place_of self.now name }
     {
-        self.places.get(text_of(self.text, name)).copied()
+        let text = text_of(self.text, name);
+        match self.guess(text) {
+            Some(place) => Some(place),
+            None => self.places.get(text).copied(),
+        }
+    }
+
+    /// The place of the first name with this text, if the entry that is guessed is that of the text. No hash
+    /// is made for it.
+    #[inline(always)]
+    fn guess(&self, text: &[u8]) -> Option<usize>
+        ensures { IfSome result (λ place. place_of_text self.now text.now ≡ Some place) }
+    {
+        let (key, place) = self.places.get_index(self.recent.guess(text))?;
+        if key.as_slice() == text {
+            Some(*place)
+        } else {
+            None
+        }
     }
 
     /// Whether a name has the same text.
@@ -109,8 +131,10 @@ impl<'a> Directory<'a> {
             self.names.push(name)?;
             return Ok(());
         }
-        let key = Vec::from_slice(*self.names.allocator(), text_of(self.text, name))?;
+        let text = text_of(self.text, name);
+        let key = Vec::from_slice(*self.names.allocator(), text)?;
         self.names.push(name)?;
+        self.recent.note(text, self.places.len());
         match self.places.insert(key, self.names.len() - 1) {
             Ok(_) => Ok(()),
             Err(_) => {

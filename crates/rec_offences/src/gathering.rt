@@ -21,7 +21,7 @@ struct Frame {
 }
 
 /// The names of headers in order.
-pub(crate) fn header_names<'a>(
+pub fn header_names<'a>(
     alloc: Global,
     text: &'a [u8],
     specifications: &[Specification],

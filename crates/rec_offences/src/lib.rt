@@ -6,33 +6,24 @@ mod declarations;
 mod directory;
 mod entries;
 mod gathering;
-#[cfg(test)]
-mod gathering_tests;
-#[cfg(test)]
-mod include_tests;
 mod inclusion;
 mod input;
 mod laws;
-#[cfg(test)]
-mod limit_tests;
 mod limits;
-#[cfg(test)]
-mod long_include_tests;
 mod names;
 mod numbered;
 mod offence;
 mod ordering;
-#[cfg(test)]
-mod ordering_tests;
+mod recent;
 mod scope;
 mod signatures;
 mod sorts;
 mod terms;
-#[cfg(test)]
-mod tests;
 mod variables;
 
+pub use directory::Directory;
 pub use faults::{Memory, Refusal};
-pub use gathering::material_of;
+pub use gathering::{header_names, material_of};
 pub use input::fault;
 pub use laws::{fault_laws, visit_laws};
+pub use ordering::order;

@@ -5,6 +5,7 @@ ghost use Rattle.rec_offences.specs.Names.{text_of};
 use rec_reader::Name;
 
 /// The bytes of a name.
+#[inline(always)]
 pub(crate) fn text_of<'a>(text: &'a [u8], name: Name) -> &'a [u8]
     ensures { result.now ≡ text_of text.now name }
 {

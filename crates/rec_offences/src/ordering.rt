@@ -74,7 +74,7 @@ fn chained(
 
 /// The numbers of all specifications, each once, and each after the first one that it includes: only
 /// others that hang under this one stand between the two.
-pub(crate) fn order(
+pub fn order(
     alloc: Global,
     headers: &Directory,
     specifications: &[Specification],

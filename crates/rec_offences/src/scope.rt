@@ -68,6 +68,7 @@ impl<'a> Scope<'a> {
     }
 
     /// What a name is first declared as.
+    #[inline(always)]
     pub(crate) fn find(&self, name: Name) -> Option<Signature<'a>>
         ensures { option_map entry_of result ≡ look_up self.now.bytes self.now.entries name }
     {
@@ -77,6 +78,7 @@ impl<'a> Scope<'a> {
         }
     }
 
+    #[inline(always)]
     fn at(&self, place: usize) -> Option<Signature<'a>>
         ensures { option_map entry_of result ≡ slice_get self.now.entries place }
     {

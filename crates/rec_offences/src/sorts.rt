@@ -32,6 +32,9 @@ impl<'a> Model for SortNumbers<'a> {
     ghost invariant = { λ s. AreNumbersKept s };
 }
 
+/// Names of so many bytes are compared by their bytes, which is quicker than to find their numbers.
+const SHORT: usize = 32;
+
 /// The place of a name's text, which is put at the end if it isn't there. An `Err` changes nothing.
 fn number_of(texts: &mut Directory, name: Name) -> Result<usize, Memory>
     ensures place { IfOk result (λ p. place_of texts.new name ≡ Some p) }
@@ -95,16 +98,18 @@ impl<'a> SortNumbers<'a> {
     pub(crate) fn differ(&self, first: Name, second: Name) -> bool
         ensures { result ≡ not (same_text self.now.bytes first second) }
     {
+        let text = self.texts.text();
+        let (one, other) = (text_of(text, first), text_of(text, second));
+        if one.len() <= SHORT || other.len() <= SHORT {
+            return one != other;
+        }
         let numbers = (
             self.numbers.get(&(first.start, first.end)).copied(),
             self.numbers.get(&(second.start, second.end)).copied(),
         );
         match numbers {
             (Some(first), Some(second)) => first != second,
-            _ => {
-                let text = self.texts.text();
-                text_of(text, first) != text_of(text, second)
-            }
+            _ => one != other,
         }
     }
 }

@@ -1,11 +1,11 @@
-//! Offences of heads: what is declared otherwise.
-ghost use Rattle.std.specs.Prelude.{◌≡◌, ◌++◌, ◌∷◌, [], OnOk, Option, None};
+//! Offences of heads: what is declared otherwise, and variables in terms that are to be rewritten.
+ghost use Rattle.std.specs.Prelude.{◌≡◌, ◌++◌, ◌∷◌, [], List, OnOk, false, true};
 ghost use Rattle.std.specs.List.{flat_map};
-ghost use Rattle.std.specs.Option.{option_map, option_map_or, option_to_list};
-ghost use Rattle.rec_offences.specs.Scope.{Visit, visits, visit};
-ghost use Rattle.rec_offences.specs.Offences.{has_other_sort, clashing, clashing_side, clashing_sides, terms_of, all_visits, unknown_names, wrong_counts, sort_clashes};
+ghost use Rattle.rec_reader.specs.declared.token.Name.{Name};
+ghost use Rattle.rec_offences.specs.Scope.{visits};
+ghost use Rattle.rec_offences.specs.Offences.{has_other_sort, clashing_side, clashing_sides, terms_of, unknown_names, wrong_counts, sort_clashes, not_ground};
 ghost use Rattle.rec_offences.specs.Faults.{of_kind, least_with};
-ghost use Rattle.rec_offences.specs.Visited.{at_visit};
+ghost use Rattle.rec_offences.specs.Walked.{arguments_of, at_node, at_side, clashing_sorts, is_other, names_with, sort_of, visit_over};
 
 use crate::limits::root;
 use crate::offence::{note, note_if};
@@ -14,37 +14,63 @@ use faults::{Memory, Refusal, kinds};
 use rec_reader::{Name, Node, Rule, Sequence, Specification};
 use std::alloc::Global;
 
-/// Whether a head is declared with another sort than is wanted.
-fn has_other_sort(scope: &Scope, wanted: Name, head: Name) -> bool
-    ensures { result ≡ has_other_sort scope.now.bytes scope.now.entries wanted head }
+/// The head of an argument, with the sort with which it is first declared, if it is.
+#[derive(Clone, Copy)]
+pub(crate) struct Argument {
+    pub head: Name,
+    pub sort: Option<Name>,
+}
+
+/// Whether a sort is another than the one that is wanted.
+fn is_other(scope: &Scope, wanted: Name, sort: Option<Name>) -> bool
+    ensures { result ≡ is_other scope.now.bytes wanted sort }
 {
-    match scope.find(head) {
-        Some(signature) => scope.differ(wanted, signature.sort),
+    match sort {
+        Some(sort) => scope.differ(wanted, sort),
         None => false,
     }
 }
 
-fn note_clashing(found: &mut Option<Refusal>, scope: &Scope, wanted: &[Name], arguments: &[Name])
+fn note_clashing(
+    found: &mut Option<Refusal>,
+    scope: &Scope,
+    wanted: &[Name],
+    arguments: &[Argument],
+)
     ensures { found.new ≡ least_with found.old (of_kind 8
-        (clashing scope.now.bytes scope.now.entries wanted.now arguments.now)) }
+        (clashing_sorts scope.now.bytes wanted.now arguments.now)) }
 {
     for (sort, argument) in wanted.iter().zip(arguments) {
         note_if(
             found,
             kinds::SORT_CLASH,
-            *argument,
-            has_other_sort(scope, *sort, *argument),
+            argument.head,
+            is_other(scope, *sort, argument.sort),
         );
     }
 }
 
-/// Notes what is wrong at a node.
-fn note_visit(found: &mut Option<Refusal>, scope: &Scope, node: Node, arguments: &[Name])
-    ensures { found.new ≡ least_with found.old
-        (at_visit scope.now.bytes scope.now.entries (visit node arguments.now)) }
+/// Notes what is wrong at a node, of a term that is to be rewritten or of another, and gives the sort of
+/// its head.
+fn note_node(
+    found: &mut Option<Refusal>,
+    scope: &Scope,
+    is_value: bool,
+    node: Node,
+    arguments: &[Argument],
+) -> Option<Name>
+    ensures sort { result ≡ sort_of scope.now.bytes scope.now.entries node.head }
+    ensures noted { found.new ≡ least_with found.old
+        (at_node is_value scope.now.bytes scope.now.entries node arguments.now) }
 {
     match scope.find(node.head) {
         Some(signature) => {
+            note_if(
+                found,
+                kinds::NOT_GROUND,
+                node.head,
+                is_value && signature.is_variable,
+            );
             note_if(
                 found,
                 kinds::ARITY,
@@ -52,27 +78,57 @@ fn note_visit(found: &mut Option<Refusal>, scope: &Scope, node: Node, arguments:
                 node.count != signature.arguments.len(),
             );
             note_clashing(found, scope, signature.arguments, arguments);
+            Some(signature.sort)
         }
-        None => note(found, kinds::UNKNOWN_NAME, node.head),
+        None => {
+            note(found, kinds::UNKNOWN_NAME, node.head);
+            None
+        }
     }
 }
 
-/// Notes what is wrong at the nodes of a term.
+/// Notes what is wrong at a node whose arguments are the newest on the stack, and puts its head in their
+/// place.
+fn note_visit(
+    found: &mut Option<Refusal>,
+    scope: &Scope,
+    is_value: bool,
+    node: Node,
+    stack: &mut Vec<Argument>,
+) -> Result<(), Memory>
+    ensures stack { (names : List Name)
+        → stack.old.items ≡ arguments_of scope.now.bytes scope.now.entries names
+        → OnOk result (stack.new.items
+        ≡ arguments_of scope.now.bytes scope.now.entries (names_with names node)) }
+    ensures noted { (names : List Name)
+        → stack.old.items ≡ arguments_of scope.now.bytes scope.now.entries names
+        → OnOk result (found.new ≡ least_with found.old
+        (at_side is_value scope.now.bytes scope.now.entries (visit_over names node))) }
+{
+    let below = stack.len().saturating_sub(node.count);
+    let sort = note_node(found, scope, is_value, node, &stack[below..]);
+    stack.truncate(below);
+    stack.push(Argument {
+        head: node.head,
+        sort,
+    })?;
+    Ok(())
+}
+
+/// Notes what is wrong at the nodes of a term, of one that is to be rewritten or of another.
 fn note_term(
     alloc: Global,
     found: &mut Option<Refusal>,
     scope: &Scope,
+    is_value: bool,
     nodes: &[Node],
 ) -> Result<(), Memory>
     ensures { OnOk result (found.new ≡ least_with found.old
-        (flat_map (at_visit scope.now.bytes scope.now.entries) (visits [] nodes.now))) }
+        (flat_map (at_side is_value scope.now.bytes scope.now.entries) (visits [] nodes.now))) }
 {
     let mut stack = Vec::new(alloc);
     for node in nodes {
-        let below = stack.len().saturating_sub(node.count);
-        note_visit(found, scope, *node, &stack[below..]);
-        stack.truncate(below);
-        stack.push(node.head)?;
+        note_visit(found, scope, is_value, *node, &mut stack)?;
     }
     Ok(())
 }
@@ -84,35 +140,60 @@ fn note_terms_of(
     rule: &Rule,
 ) -> Result<(), Memory>
     ensures { OnOk result (found.new ≡ least_with found.old
-        (flat_map (at_visit scope.now.bytes scope.now.entries)
+        (flat_map (at_side false scope.now.bytes scope.now.entries)
         (flat_map (visits []) (terms_of rule.now)))) }
 {
-    note_term(alloc, found, scope, rule.left.as_slice())?;
-    note_term(alloc, found, scope, rule.right.as_slice())?;
+    note_term(alloc, found, scope, false, rule.left.as_slice())?;
+    note_term(alloc, found, scope, false, rule.right.as_slice())?;
     for condition in rule.conditions.as_slice() {
-        note_term(alloc, found, scope, condition.first.as_slice())?;
-        note_term(alloc, found, scope, condition.second.as_slice())?;
+        note_term(alloc, found, scope, false, condition.first.as_slice())?;
+        note_term(alloc, found, scope, false, condition.second.as_slice())?;
     }
     Ok(())
 }
 
-/// Notes what is wrong at the heads of all terms.
-fn note_terms(
+/// Notes what is wrong at the nodes of rules.
+fn note_rules(
     alloc: Global,
     found: &mut Option<Refusal>,
     scope: &Scope,
-    specification: &Specification,
+    rules: &[Rule],
 ) -> Result<(), Memory>
     ensures { OnOk result (found.new ≡ least_with found.old
-        (flat_map (at_visit scope.now.bytes scope.now.entries) (all_visits specification.now))) }
+        (flat_map (at_side false scope.now.bytes scope.now.entries)
+        (flat_map (visits []) (flat_map terms_of rules.now)))) }
 {
-    for rule in specification.rules.as_slice() {
+    for rule in rules {
         note_terms_of(alloc, found, scope, rule)?;
     }
-    for term in specification.terms.as_slice() {
-        note_term(alloc, found, scope, term.as_slice())?;
+    Ok(())
+}
+
+/// Notes what is wrong at the nodes of the terms that are to be rewritten.
+fn note_values(
+    alloc: Global,
+    found: &mut Option<Refusal>,
+    scope: &Scope,
+    terms: &[Sequence<Node>],
+) -> Result<(), Memory>
+    ensures { OnOk result (found.new ≡ least_with found.old
+        (flat_map (at_side true scope.now.bytes scope.now.entries)
+        (flat_map (visits []) terms.now))) }
+{
+    for term in terms {
+        note_term(alloc, found, scope, true, term.as_slice())?;
     }
     Ok(())
+}
+
+/// Whether a head is declared with another sort than is wanted.
+fn has_other_sort(scope: &Scope, wanted: Name, head: Name) -> bool
+    ensures { result ≡ has_other_sort scope.now.bytes scope.now.entries wanted head }
+{
+    match scope.find(head) {
+        Some(signature) => scope.differ(wanted, signature.sort),
+        None => false,
+    }
 }
 
 /// Notes a second side whose head has another sort than the first side's.
@@ -157,8 +238,8 @@ fn note_clashing_sides(found: &mut Option<Refusal>, scope: &Scope, rules: &[Rule
     }
 }
 
-/// Notes what is wrong at heads: the unknown, those with another number of arguments and those of
-/// another sort.
+/// Notes what is wrong at heads: the unknown, those with another number of arguments, those of
+/// another sort, and the variables of terms that are to be rewritten.
 pub(crate) fn note_heads(
     alloc: Global,
     found: &mut Option<Refusal>,
@@ -168,9 +249,12 @@ pub(crate) fn note_heads(
     ensures { OnOk result (found.new ≡ least_with found.old
         (of_kind 5 (unknown_names scope.now.bytes scope.now.entries specification.now)
         ++ of_kind 7 (wrong_counts scope.now.bytes scope.now.entries specification.now)
-        ++ of_kind 8 (sort_clashes scope.now.bytes scope.now.entries specification.now))) }
+        ++ of_kind 8 (sort_clashes scope.now.bytes scope.now.entries specification.now)
+        ++ of_kind 11 (not_ground scope.now.bytes scope.now.entries specification.now))) }
 {
-    note_terms(alloc, found, scope, specification)?;
-    note_clashing_sides(found, scope, specification.rules.as_slice());
+    let rules = specification.rules.as_slice();
+    note_rules(alloc, found, scope, rules)?;
+    note_values(alloc, found, scope, specification.terms.as_slice())?;
+    note_clashing_sides(found, scope, rules);
     Ok(())
 }

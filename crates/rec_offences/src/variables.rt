@@ -3,7 +3,7 @@ ghost use Rattle.std.specs.Prelude.{◌≡◌, ◌++◌, ◌∷◌, [], OnOk};
 ghost use Rattle.std.specs.List.{filter, flat_map};
 ghost use Rattle.std.specs.Option.{option_to_list};
 ghost use Rattle.rec_offences.specs.Scope.{is_variable, heads, root};
-ghost use Rattle.rec_offences.specs.Offences.{nodes_but_left, bare_variables, free_variables, not_ground};
+ghost use Rattle.rec_offences.specs.Offences.{nodes_but_left, bare_variables, free_variables};
 ghost use Rattle.rec_offences.specs.Visited.{is_free, free_variables_of};
 ghost use Rattle.rec_offences.specs.Faults.{of_kind, least_with};
 
@@ -12,7 +12,7 @@ use crate::limits::root;
 use crate::offence::note_if;
 use crate::scope::Scope;
 use faults::{Memory, Refusal, kinds};
-use rec_reader::{Condition, Node, Rule, Sequence, Specification};
+use rec_reader::{Condition, Node, Rule, Specification};
 use std::alloc::Global;
 
 fn note_bare_variable(found: &mut Option<Refusal>, scope: &Scope, left: &[Node])
@@ -103,31 +103,7 @@ fn note_free_variables(
     Ok(())
 }
 
-fn note_variables(found: &mut Option<Refusal>, scope: &Scope, nodes: &[Node])
-    ensures { found.new ≡ least_with found.old (of_kind 11
-        (filter (is_variable scope.now.bytes scope.now.entries) (heads nodes.now))) }
-{
-    for node in nodes {
-        note_if(
-            found,
-            kinds::NOT_GROUND,
-            node.head,
-            scope.is_variable(node.head),
-        );
-    }
-}
-
-/// Notes the variables of the terms to be rewritten.
-fn note_not_ground(found: &mut Option<Refusal>, scope: &Scope, terms: &[Sequence<Node>])
-    ensures { found.new ≡ least_with found.old (of_kind 11
-        (filter (is_variable scope.now.bytes scope.now.entries) (flat_map heads terms.now))) }
-{
-    for term in terms {
-        note_variables(found, scope, term.as_slice());
-    }
-}
-
-/// Notes the variables that stand where they may not.
+/// Notes the left sides that are a variable, and the variables that don't occur on the left.
 pub(crate) fn note_misplaced_variables(
     alloc: Global,
     found: &mut Option<Refusal>,
@@ -136,13 +112,10 @@ pub(crate) fn note_misplaced_variables(
 ) -> Result<(), Memory>
     ensures { OnOk result (found.new ≡ least_with found.old
         (of_kind 9 (bare_variables scope.now.bytes scope.now.entries specification.now)
-        ++ of_kind 10
-        (free_variables scope.now.bytes scope.now.entries specification.now)
-        ++ of_kind 11 (not_ground scope.now.bytes scope.now.entries specification.now))) }
+        ++ of_kind 10 (free_variables scope.now.bytes scope.now.entries specification.now))) }
 {
     let rules = specification.rules.as_slice();
     note_bare_variables(found, scope, rules);
     note_free_variables(alloc, found, scope.text(), scope, rules)?;
-    note_not_ground(found, scope, specification.terms.as_slice());
     Ok(())
 }

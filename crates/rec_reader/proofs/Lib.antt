@@ -24,3 +24,4 @@ pub mod Wholeness
 pub mod Counts
 pub mod Fewness
 pub mod Passing
+pub mod Words

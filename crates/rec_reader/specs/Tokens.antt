@@ -20,6 +20,10 @@ is_space b = b == 32 || b == 9 || b == 13 || b == 10
 abbrev pub is_plain : ℕ → Bool
 is_plain b = is_ascii_alphanumeric b || list_any (λ c. c == b) (codes "_'.@#$&*+/!?^~|\\")
 
+-- the byte is '(', ')' or ','
+abbrev pub is_frequent_mark : ℕ → Bool
+is_frequent_mark b = b == 40 || b == 41 || b == 44
+
 -- the bytes begin with these
 abbrev pub begins : List ℕ → List ℕ → Bool
 begins bytes front = starts_with nat_eq bytes front
@@ -38,6 +42,10 @@ run_length (b ∷ bs) = if is_name_byte (b ∷ bs) then run_length bs + 1 else 0
 abbrev pub comment_length : List ℕ → ℕ
 comment_length [] = 0
 comment_length (b ∷ bs) = if b == 10 then 0 else comment_length bs + 1
+
+-- the byte is the last one of a reserved word: 'C', 'S', 'L' or 'f'
+abbrev pub ends_word : ℕ → Bool
+ends_word b = b == 67 || b == 83 || b == 76 || b == 102
 
 -- the reserved word that a run of name bytes is
 abbrev pub word_of : List ℕ → Option Sign

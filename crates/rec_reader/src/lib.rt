@@ -18,6 +18,3 @@ pub use scanner::tokens;
 pub use sequence::Sequence;
 pub use syntax_tree::{Condition, Declaration, Node, Rule, Specification, Syntax, Variables};
 pub use token::{Name, Sign, Token, Tokens};
-
-#[cfg(test)]
-mod reading_tests;

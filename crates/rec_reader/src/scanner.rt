@@ -1,6 +1,7 @@
 //! Cuts bytes into tokens.
-ghost use Rattle.std.specs.Prelude.{◌≡◌, ◌+◌, ◌≤◌, ◌<◌, ◌^◌, length, drop, IfOk, IfErr, IfSome, Ok, Err, IsErrOf, take};
-ghost use Rattle.rec_reader.specs.Tokens.{is_space, is_plain, is_name_byte, run_length, comment_length, word_of, mark_of, more_of, token_of_run, piece_at, tokens_of, IsBadByte};
+ghost use Rattle.std.specs.Prelude.{◌≡◌, ◌+◌, ◌-◌, ◌≤◌, ◌<◌, ◌^◌, ◌∷◌, [], false, length, drop, slice_get, IfOk, IfErr, IfSome, Ok, Err, IsErrOf, take};
+ghost use Rattle.std.specs.Option.{option_map_or};
+ghost use Rattle.rec_reader.specs.Tokens.{is_space, is_plain, is_name_byte, run_length, comment_length, begins, is_frequent_mark, ends_word, word_of, mark_of, more_of, token_of_run, piece_at, tokens_of, IsBadByte};
 
 use crate::fail::ReadFail;
 use crate::token::{Name, Sign, Token, Tokens};
@@ -25,7 +26,24 @@ fn is_space(byte: u8) -> bool
     byte == b' ' || byte == b'\t' || byte == b'\r' || byte == b'\n'
 }
 
+// Most bytes that may not stand in a name are one of these marks.
+fn is_frequent_mark(byte: u8) -> bool
+    ensures { result ≡ is_frequent_mark byte }
+{
+    byte == b'(' || byte == b')' || byte == b','
+}
+
 fn is_plain(byte: u8) -> bool
+    ensures { result ≡ is_plain byte }
+{
+    if is_frequent_mark(byte) {
+        false
+    } else {
+        is_alphanumeric_or_listed(byte)
+    }
+}
+
+fn is_alphanumeric_or_listed(byte: u8) -> bool
     ensures { result ≡ is_plain byte }
 {
     byte.is_ascii_alphanumeric() || b"_'.@#$&*+/!?^~|\\".contains(&byte)
@@ -38,6 +56,7 @@ fn is_name_byte(bytes: &[u8], at: usize) -> bool
     is_plain(bytes[at]) || (bytes[at] == b'-' && !(at + 1 < bytes.len() && bytes[at + 1] == b'>'))
 }
 
+#[inline(always)]
 fn run_length(bytes: &[u8], start: usize) -> usize
     requires { start ≤ length bytes.now }
     ensures counted { result ≡ run_length (drop start bytes.now) }
@@ -50,6 +69,7 @@ fn run_length(bytes: &[u8], start: usize) -> usize
     at - start
 }
 
+#[inline(never)]
 fn comment_length(bytes: &[u8], start: usize) -> usize
     requires { start ≤ length bytes.now }
     ensures counted { result ≡ comment_length (drop start bytes.now) }
@@ -62,7 +82,28 @@ fn comment_length(bytes: &[u8], start: usize) -> usize
     at - start
 }
 
+// Whether the last byte is that of a reserved word. Of most names it isn't, and they need no other test.
+fn may_be_word(run: &[u8]) -> bool
+    ensures { result ≡ option_map_or ends_word (slice_get run.now (length run.now - 1)) false }
+{
+    match run.last() {
+        Some(last) => *last == b'C' || *last == b'S' || *last == b'L' || *last == b'f',
+        None => false,
+    }
+}
+
+// The reserved word that a run is, if it is one.
 fn word_of(run: &[u8]) -> Option<Sign>
+    ensures { result ≡ word_of run.now }
+{
+    if may_be_word(run) {
+        word_among(run)
+    } else {
+        None
+    }
+}
+
+fn word_among(run: &[u8]) -> Option<Sign>
     ensures { result ≡ word_of run.now }
 {
     if run == b"REC-SPEC".as_slice() {
@@ -90,19 +131,30 @@ fn word_of(run: &[u8]) -> Option<Sign>
     }
 }
 
+// Whether the first of the bytes is this one.
+fn begins_with(bytes: &[u8], byte: u8) -> bool
+    ensures { result ≡ begins bytes.now (byte ∷ []) }
+{
+    match bytes.first() {
+        Some(first) => *first == byte,
+        None => false,
+    }
+}
+
+#[inline(always)]
 fn mark_of(bytes: &[u8]) -> Option<(Sign, usize)>
     ensures mark { result ≡ mark_of bytes.now }
     ensures within { IfSome result (λ m. m.1 < length bytes.now) }
 {
-    if bytes.starts_with(b":") {
+    if begins_with(bytes, b':') {
         Some((Sign::Colon, 0))
-    } else if bytes.starts_with(b",") {
+    } else if begins_with(bytes, b',') {
         Some((Sign::Comma, 0))
-    } else if bytes.starts_with(b"(") {
+    } else if begins_with(bytes, b'(') {
         Some((Sign::Open, 0))
-    } else if bytes.starts_with(b")") {
+    } else if begins_with(bytes, b')') {
         Some((Sign::Close, 0))
-    } else if bytes.starts_with(b"=") {
+    } else if begins_with(bytes, b'=') {
         Some((Sign::Equal, 0))
     } else if bytes.starts_with(b"<>") {
         Some((Sign::Unequal, 1))
@@ -118,6 +170,7 @@ fn mark_of(bytes: &[u8]) -> Option<(Sign, usize)>
 }
 
 // The token of a run that begins at `at` and has `more` bytes after its first.
+#[inline(always)]
 fn token_of_run(bytes: &[u8], at: usize, more: usize) -> Token
     requires { at + more < length bytes.now }
     ensures { result ≡ token_of_run at (take (more + 1) (drop at bytes.now)) }
@@ -129,6 +182,7 @@ fn token_of_run(bytes: &[u8], at: usize, more: usize) -> Token
     }
 }
 
+#[inline(always)]
 pub(crate) fn piece_at(bytes: &[u8], at: usize) -> Piece
     requires { at < length bytes.now }
     ensures piece { result ≡ piece_at at (drop at bytes.now) }

@@ -41,6 +41,7 @@ impl<T> Sequence<T> {
 
 impl<T: Drop> Sequence<T> {
     /// Puts an item at the end. An `Err` changes nothing.
+    #[inline(always)]
     pub fn push(&mut self, item: T) -> Result<(), AllocError>
         ensures ok { OnOk result (self.new ≡ self.old ++ item ∷ []) }
         ensures err { OnErr result (self.new ≡ self.old) }
@@ -76,6 +77,7 @@ impl<T> Stack<T> {
         }
     }
 
+    #[inline(always)]
     pub(crate) fn pop(&mut self) -> Option<T>
         ensures { MatchOption result ((self.old ≡ []) × (self.new ≡ [])) (λ x. self.old ≡ x ∷ self.new) }
     {
@@ -84,6 +86,7 @@ impl<T> Stack<T> {
 }
 
 impl<T: Drop> Stack<T> {
+    #[inline(always)]
     pub(crate) fn push(&mut self, item: T) -> Result<(), AllocError>
         ensures ok { OnOk result (self.new ≡ item ∷ self.old) }
         ensures err { OnErr result (self.new ≡ self.old) }

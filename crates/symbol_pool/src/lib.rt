@@ -4,8 +4,6 @@
 mod fault;
 mod recent;
 mod symbols;
-#[cfg(test)]
-mod tests;
 
 pub use fault::PoolFault;
 pub use symbols::{MOST_SYMBOLS, Symbols};

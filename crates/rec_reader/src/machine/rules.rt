@@ -114,6 +114,7 @@ impl Machine {
     }
 
     // What may come after a whole term that is no argument.
+    #[inline(never)]
     pub(super) fn after_term(
         &mut self,
         alloc: Global,

@@ -75,6 +75,7 @@ impl Machine {
     }
 
     // What may come after a term.
+    #[inline(always)]
     pub(super) fn after_whole(
         &mut self,
         alloc: Global,

@@ -20,11 +20,11 @@ invariant_of-self-in-Ok c =
     let s = c.self.inside in
     let es = s.places.entries in
     let new = c.insert.new.self.entries in
-    let i = c.len.result - 1 in
+    let i = c.len-2.result - 1 in
     let k = c.in_ok-key.key in
     let absent = ap (λ d. is_among d.bytes d.names c.args.name) c.self.view_is ∙ sym c.has.ensures ∙ c.if-has.false in
-    let key = c.in_ok-key.ensures.items ∙ c.text_of.ensures in
-    let place : i ≡ length s.names.items = omega (arith, c.in_ok-push-2.ensures.len, s.names.ok.0, c.len.ensures) in
+    let key = c.in_ok-key.ensures.items ∙ c.text_of-text.ensures in
+    let place : i ≡ length s.names.items = omega (arith, c.in_ok-push-2.ensures.len, s.names.ok.0, c.len-2.ensures) in
     let last = added_last s.text.now s.names.items es new c.args.name k i absent key c.in-Ok.ensures.entries c.self.invariant.places in
     let names = sym c.in_ok-push-2.ensures.items in
     record {

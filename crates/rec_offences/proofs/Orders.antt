@@ -2,6 +2,7 @@
 use Rattle.std.proofs.Common.{◌≡◌, ℕ, Bool, true, false, ◌||◌, ◌&&◌, ◌==◌, nat_lt, cond, List, [], ◌∷◌, ◌++◌, Option, Some, None, refl, sym, ap, ◌∙◌, true≢false, arith}
 use Rattle.std.specs.List.{flat_map}
 use Rattle.std.proofs.lemmas.Bool.Decides.{nat_tests}
+use Rattle.std.proofs.lemmas.List.Concat.{flat_map-append}
 use Rattle.rec_reader.specs.declared.token.Name.{Name}
 use Rattle.faults.specs.declared.refusal.Refusal.{Refusal}
 use Rattle.rec_offences.specs.Faults.{goes_before, lesser, least_with, of_kind}
@@ -106,3 +107,45 @@ three_kinds i j k a b c more found after now vs visited is =
     ∙ ap (least_with (least_with (least_with found fa) fb)) (sym (kinds_append k (flat_map c vs) more))
     ∙ ap (λ o. least_with o (of_kind k (flat_map c vs ++ more))) (sym (least_append found fa fb))
     ∙ sym (least_append found (fa ++ fb) (of_kind k (flat_map c vs ++ more)))
+
+-- what is noted at rules and at terms to be rewritten, of which the latter have one kind more, and more of the third kind
+pub four_kinds : {V T : Type 0} (i j k m : ℕ) (a b c : V → List Name) (n : V → List Name) (visit : T → List V) (rules values : List T) (more : List Name) (found one two now : Option Refusal) →
+    one ≡ least_with found (flat_map (λ v. of_kind i (a v) ++ of_kind j (b v) ++ of_kind k (c v)) (flat_map visit rules)) →
+    two ≡ least_with one (flat_map (λ v. of_kind m (n v) ++ (of_kind i (a v) ++ of_kind j (b v) ++ of_kind k (c v))) (flat_map visit values)) →
+    now ≡ least_with two (of_kind k more) →
+    now ≡ least_with found
+    (of_kind i (flat_map a (flat_map visit (rules ++ values)))
+    ++ of_kind j (flat_map b (flat_map visit (rules ++ values)))
+    ++ of_kind k (flat_map c (flat_map visit (rules ++ values)) ++ more)
+    ++ of_kind m (flat_map n (flat_map visit values)))
+four_kinds {V} i j k m a b c n visit rules values more found one two now ruled valued is =
+    let all : V → List Refusal = λ v. of_kind i (a v) ++ of_kind j (b v) ++ of_kind k (c v) in
+    let vs = flat_map visit values in
+    let late = flat_map (λ v. of_kind m (n v)) vs in
+    let both = least_with found (flat_map all (flat_map visit (rules ++ values))) in
+    let whole : least_with one (flat_map all vs) ≡ both =
+    ap (λ o. least_with o (flat_map all vs)) ruled
+    ∙ sym (least_append found (flat_map all (flat_map visit rules)) (flat_map all vs))
+    ∙ ap (least_with found) (sym (flat_map-append all (flat_map visit rules) vs))
+    ∙ ap (λ ws. least_with found (flat_map all ws)) (sym (flat_map-append visit rules values)) in
+    is
+    ∙ ap (λ o. least_with o (of_kind k more)) (valued ∙ together (λ v. of_kind m (n v)) all one vs ∙ swap_all one (flat_map all vs) late ∙ ap (λ o. least_with o late) whole)
+    ∙ swap_all both (of_kind k more) late
+    ∙ ap (λ o. least_with o late) (three_kinds i j k a b c more found both (least_with both (of_kind k more)) (flat_map visit (rules ++ values)) refl refl)
+    ∙ sym (least_append found
+    (of_kind i (flat_map a (flat_map visit (rules ++ values))) ++ of_kind j (flat_map b (flat_map visit (rules ++ values))) ++ of_kind k (flat_map c (flat_map visit (rules ++ values)) ++ more))
+    late)
+    ∙ ap
+    (λ os. least_with found
+    (of_kind i (flat_map a (flat_map visit (rules ++ values))) ++ of_kind j (flat_map b (flat_map visit (rules ++ values))) ++ of_kind k (flat_map c (flat_map visit (rules ++ values)) ++ more) ++ os))
+    (kinds_flat m n vs)
+
+-- what is noted last might have been noted first
+pub last_first : (one two three now : Option Refusal) (a b k e : List Refusal) →
+    two ≡ least_with one a → three ≡ least_with two b → now ≡ least_with three (k ++ e) → now ≡ least_with (least_with (least_with (least_with one e) a) b) k
+last_first one two three now a b k e second third is =
+    is
+    ∙ least_append three k e
+    ∙ swap_all three e k
+    ∙ ap (λ o. least_with o k) (ap (λ o. least_with o e) third ∙ swap_all two e b)
+    ∙ ap (λ o. least_with (least_with o b) k) (ap (λ o. least_with o e) second ∙ swap_all one e a)
