@@ -11,8 +11,6 @@ mod nodes;
 mod places;
 mod store;
 mod table;
-#[cfg(test)]
-mod tests;
 
 pub use faults::Memory;
 pub use store::PlainStore;

@@ -6,7 +6,7 @@ use Rattle.rec_reader.specs.declared.fail.ReadFail.{ReadFail}
 use Rattle.rec_reader.specs.declared.fail.ReadFail.TheVariants as fail
 use Rattle.term_model.specs.Tree.{Tree}
 use Rattle.symbol_pool.specs.Pool.{Named}
-use Rattle.term_syntax.specs.declared.token.Token.{Token}
+use Rattle.term_syntax.specs.Token.{Token}
 use Rattle.term_syntax.specs.Fault.{fault}
 use Rattle.term_syntax.specs.Tokens.{tokens_of}
 use Rattle.term_syntax.specs.Written.{Written}

@@ -7,8 +7,6 @@ mod fault;
 mod listing;
 mod measuring;
 mod packing;
-#[cfg(test)]
-mod tests;
 mod unpacking;
 
 pub use fault::TermsFault;

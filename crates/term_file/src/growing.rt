@@ -1,5 +1,5 @@
 //! Terms that are shared item by item.
-ghost use Rattle.std.specs.Prelude.{◌≡◌, ◌<◌, ◌≤◌, length, All, IfOk, OnOk, Err, true};
+ghost use Rattle.std.specs.Prelude.{◌≡◌, ◌<◌, ◌≤◌, length, All, IfOk, OnErr, OnOk, Err, true};
 ghost use Rattle.symbol_pool.specs.Pool.{IsPool};
 ghost use Rattle.term_syntax.specs.Canonical.{IsWritable};
 ghost use Rattle.term_file.specs.declared.fault.ShareFault.TheVariants.{StoreFull};
@@ -25,12 +25,14 @@ pub(crate) struct Growing {
     pub(crate) stack: Vec<u32>,
 }
 
-/// The number of a record, which becomes the last of at most `rows` where it is none of them.
-fn number_of(table: &mut Table, entry: Record, rows: u32) -> Result<u32, ShareFault>
+/// The number of a record, which becomes the last of at most `rows` where it is none of them. After an error the table is
+/// as before.
+pub fn number_of(table: &mut Table, entry: Record, rows: u32) -> Result<u32, ShareFault>
     requires before { All (λ i. i < length table.old) entry.arguments.items }
     requires few { length table.old ≤ rows }
     ensures placed { IfOk result (IsPlaced table.old table.new (view entry)) }
     ensures few { OnOk result (length table.new ≤ rows) }
+    ensures unchanged { OnErr result (table.new ≡ table.old) }
     ensures full_only_where { result ≡ Err StoreFull → length table.old ≡ rows }
     ensures full_for_new { result ≡ Err StoreFull → right.is_new_record table.old (view entry) ≡ true }
 {

@@ -17,22 +17,21 @@ mod records;
 mod roots;
 mod shared;
 mod sharing;
-#[cfg(test)]
-mod sharing_tests;
 mod symbols;
 mod table;
-#[cfg(test)]
-mod tests;
 mod walk;
 
 pub use decoding::decode;
 pub use encoding::encode;
 pub use fault::ShareFault;
 pub use faults::Memory;
+pub use growing::number_of;
 pub use laws::file_laws;
 pub use printing::write_shared;
 pub use rec_reader::ReadFail;
+pub use record::{Kind, Record};
 pub use shared::Shared;
 pub use sharing::share;
+pub use table::Table;
 pub use term_syntax::Flats;
 pub use term_text::Printed;

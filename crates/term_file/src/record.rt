@@ -2,7 +2,7 @@
 
 /// What stands at the root of a record: a symbol by its number, an integer, the empty list or a cell.
 #[derive(Clone, Copy, Debug, PartialEq, Eq, Hash)]
-pub(crate) enum Kind {
+pub enum Kind {
     Call(u32),
     Integer(u64),
     Empty,
@@ -11,7 +11,7 @@ pub(crate) enum Kind {
 
 /// A head over records, which are given by their numbers.
 #[derive(Debug, PartialEq, Eq, Hash, Drop)]
-pub(crate) struct Record {
-    pub(crate) kind: Kind,
-    pub(crate) arguments: Vec<u32>,
+pub struct Record {
+    pub kind: Kind,
+    pub arguments: Vec<u32>,
 }

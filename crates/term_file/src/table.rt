@@ -14,7 +14,7 @@ use std::marker::Model;
 
 /// Records with their numbers from 0, each with the nodes of its tree. They are found by hashing.
 #[derive(Drop)]
-pub(crate) struct Table {
+pub struct Table {
     records: IndexSet<Record>,
     nodes: Vec<u64>,
 }
@@ -35,7 +35,7 @@ impl Model for Table {
 
 impl Table {
     /// A table without records. It takes no memory.
-    pub(crate) fn new(alloc: Global) -> Self
+    pub fn new(alloc: Global) -> Self
         ensures { result ≡ [] }
     {
         Table {
@@ -45,14 +45,14 @@ impl Table {
     }
 
     /// How many records there are.
-    pub(crate) fn len(&self) -> usize
+    pub fn len(&self) -> usize
         ensures { result ≡ length self.now }
     {
         self.records.len()
     }
 
     /// The record with this number.
-    pub(crate) fn at(&self, number: usize) -> &Record
+    pub fn at(&self, number: usize) -> &Record
         requires { number < length self.now }
         ensures { slice_get self.now number ≡ Some (view result.now) }
     {
@@ -60,7 +60,7 @@ impl Table {
     }
 
     /// The arguments of the record with this number. Those of each record have lesser numbers.
-    pub(crate) fn arguments(&self, number: usize) -> &[u32]
+    pub fn arguments(&self, number: usize) -> &[u32]
         requires { number < length self.now }
         ensures arguments { result.now ≡ contents.arguments_at self.now number }
         ensures lesser { AreLesser self.now }
@@ -72,7 +72,7 @@ impl Table {
     }
 
     /// Whether the record with this number is there, and is a list.
-    pub(crate) fn is_list(&self, number: u32) -> bool
+    pub fn is_list(&self, number: u32) -> bool
         ensures { result ≡ right.is_list_at self.now number }
     {
         match self.records.as_slice().get(number as usize) {
@@ -82,7 +82,7 @@ impl Table {
     }
 
     /// The nodes of the tree of a record, or 2^64 - 1 where there are more.
-    pub(crate) fn node_count(&self, number: usize) -> u64
+    pub fn node_count(&self, number: usize) -> u64
         requires { number < length self.now }
         ensures { result ≡ least_nodes (contents.tree_at (contents.trees self.now) number) }
     {
@@ -90,7 +90,7 @@ impl Table {
     }
 
     /// The number of a record, where it is there.
-    pub(crate) fn find(&self, entry: &Record) -> Option<usize>
+    pub fn find(&self, entry: &Record) -> Option<usize>
         ensures found { IfSome result (λ i. slice_get self.now i ≡ Some (view entry.now)) }
         ensures absent { IfNone result (right.is_new_record self.now (view entry.now) ≡ true) }
     {
@@ -98,7 +98,7 @@ impl Table {
     }
 
     /// Puts a record that isn't there behind the others. After an error the table is as before.
-    pub(crate) fn push(&mut self, entry: Record) -> Result<(), ReadFail>
+    pub fn push(&mut self, entry: Record) -> Result<(), ReadFail>
         requires absent { right.is_new_record self.old (view entry) ≡ true }
         requires before { All (λ i. i < length self.old) entry.arguments.items }
         ensures pushed { OnOk result (self.new ≡ self.old ++ view entry ∷ []) }

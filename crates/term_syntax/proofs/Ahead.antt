@@ -1,14 +1,14 @@
 -- What must still come at each place of an input, in the grammar's words.
 use Rattle.std.proofs.Common.{◌≡◌, ◌+◌, ℕ, List, [], ◌∷◌, ◌++◌, Bool, true, false, Option, Some, None}
 use Rattle.std.specs.Prelude.{option_and_then}
-use Rattle.term_syntax.specs.declared.token.Token.{Token}
-use Rattle.term_syntax.specs.declared.token.Token.TheVariants.{Word, Number, At}
+use Rattle.term_syntax.specs.Token.{Token}
+use Rattle.term_syntax.specs.Token.{Word, Number, At}
 use Rattle.term_syntax.specs.declared.token.Mark.{Mark}
 use Rattle.term_syntax.specs.declared.token.Mark.TheVariants.{Open, Close, OpenList, CloseList, Comma}
 use Rattle.term_syntax.specs.declared.machine.Group.{Group}
 use Rattle.term_syntax.specs.declared.machine.Place.{Place}
 use Rattle.term_syntax.specs.declared.machine.Place.TheVariants.{Settled, Bracketed, Expected, Headed}
-use Rattle.term_syntax.specs.declared.machine.Machine.{Machine}
+use Rattle.term_syntax.specs.State.{Machine}
 use Rattle.term_syntax.specs.Written.{Written, Writtens}
 use Rattle.term_syntax.specs.TermGrammar.{IsTerm, constant, call, number, empty, list, AreTerms, only, more, IsInput, none, next}
 use Rattle.term_syntax.specs.Steps.{step, step_at, start, on_term, after_term_under, in_group, in_brackets, after_name, close_call, close_list, end_under, ended, settled_at, accepted}

@@ -3,15 +3,15 @@ use Rattle.std.proofs.Common.{◌≡◌, ◌<◌, ◌≤◌, ℕ, zero, suc, ◌
 use Rattle.std.specs.Prelude.{All}
 use Rattle.std.proofs.lemmas.List.Elements.{All-nil, All-cons, All-head, All-tail}
 use Rattle.faults.specs.declared.refusal.Refusal.{Refusal}
-use Rattle.term_syntax.specs.declared.token.Token.{Token}
-use Rattle.term_syntax.specs.declared.token.Token.TheVariants.{Word, Number, At}
+use Rattle.term_syntax.specs.Token.{Token}
+use Rattle.term_syntax.specs.Token.{Word, Number, At}
 use Rattle.term_syntax.specs.declared.token.Mark.TheVariants.{Open, Close, OpenList, CloseList, Comma}
-use Rattle.term_syntax.specs.declared.scanner.Piece.{Piece}
-use Rattle.term_syntax.specs.declared.scanner.Piece.TheVariants.{Blank, Whole}
+use Rattle.term_syntax.specs.Token.{Piece}
+use Rattle.term_syntax.specs.Token.{Blank, Whole}
 use Rattle.term_syntax.specs.declared.machine.Group.{Group}
 use Rattle.term_syntax.specs.declared.machine.Place.{Place}
 use Rattle.term_syntax.specs.declared.machine.Place.TheVariants.{Settled, Bracketed, Expected, Headed}
-use Rattle.term_syntax.specs.declared.machine.Machine.{Machine}
+use Rattle.term_syntax.specs.State.{Machine}
 use Rattle.term_syntax.specs.Tokens.{piece_at, next_of, after_token, after_piece, read_piece, tokens_from, tokens_of}
 use Rattle.term_syntax.specs.Steps.{step, step_at, on_term, in_group, close_call, close_list, after_term, after_term_under, in_brackets, after_name, ended, end_under, end}
 use Rattle.term_syntax.specs.Few.{AreCountsFew}

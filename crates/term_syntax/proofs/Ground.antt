@@ -5,8 +5,8 @@ use Rattle.std.proofs.lemmas.List.Elements.{All-head, All-tail, All-nil, All-con
 use Rattle.term_model.specs.Tree.{IsGround, is_ground, all_ground}
 use Rattle.term_model.proofs.Order.{both}
 use Rattle.symbol_pool.specs.Pool.{Named}
-use Rattle.term_syntax.specs.declared.machine.Kind.TheVariants.{Symbol, Brackets}
-use Rattle.term_syntax.specs.declared.machine.Part.{Part}
+use Rattle.term_syntax.specs.State.{Symbol, Brackets}
+use Rattle.term_syntax.specs.State.{Part}
 use Rattle.term_syntax.specs.Written.{Written, Call, Digits, Listed, Writtens, End, More, count_of}
 use Rattle.term_syntax.specs.Parts.{parts_of, parts_of_all, parts_of_input}
 use Rattle.term_syntax.specs.TakenUp.{tree_in, trees_in, cells_in}

@@ -1,6 +1,7 @@
 pub mod Pieces
 pub mod Cutting
 pub mod Counting
+pub mod Keeping
 pub mod Outcome
 pub mod Complete
 pub mod Ahead

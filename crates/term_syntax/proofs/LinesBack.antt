@@ -3,7 +3,7 @@ use Rattle.std.proofs.Common.{◌≡◌, ◌∙◌, ℕ, ◌+◌, List, [], ◌�
 use Rattle.std.proofs.lemmas.List.Elements.{All-head, All-tail, All-nil, All-cons}
 use Rattle.term_model.specs.Tree.{Tree}
 use Rattle.symbol_pool.specs.Pool.{Named, IsPool}
-use Rattle.term_syntax.specs.declared.token.Token.{Token}
+use Rattle.term_syntax.specs.Token.{Token}
 use Rattle.term_syntax.specs.Tokens.{tokens_from}
 use Rattle.term_syntax.specs.Written.{Written}
 use Rattle.term_syntax.specs.TermGrammar.{IsInput, none, next}

@@ -5,17 +5,20 @@ use Rattle.std.proofs.lemmas.List.Elements.{All-nil}
 use Rattle.rec_reader.specs.declared.fail.ReadFail.{ReadFail}
 use Rattle.rec_reader.specs.declared.fail.ReadFail.TheVariants.{Refused, Memory}
 use Rattle.faults.specs.declared.refusal.Refusal.{Refusal}
-use Rattle.term_syntax.specs.declared.token.Token.{Token}
-use Rattle.term_syntax.specs.declared.scanner.Piece.{Piece}
-use Rattle.term_syntax.specs.declared.scanner.Piece.TheVariants.{Blank, Whole}
-use Rattle.term_syntax.specs.declared.machine.Machine.{Machine}
+use Rattle.term_syntax.specs.Token.{Token}
+use Rattle.term_syntax.specs.Token.{Piece}
+use Rattle.term_syntax.specs.Token.{Blank, Whole}
+use Rattle.term_syntax.specs.State.{Machine}
+use Rattle.term_syntax.specs.declared.token.Shape.{Shape}
+use Rattle.term_syntax.specs.declared.token.Shape.TheVariants as shape
+use Rattle.term_syntax.specs.Shown.{token_at}
 use Rattle.term_syntax.specs.Fault.{fault, IsDue}
 use Rattle.term_syntax.specs.Few.{AreCountsFew}
 use Rattle.term_syntax.specs.Tokens.{tokens_from, tokens_of, after_token, piece_at}
 use Rattle.term_syntax.specs.Refusal.{place_of}
 use Rattle.term_syntax.specs.Steps.{run, start, step}
-use Rattle.term_syntax.specs.Reached.{HasRun, HasNoStep, IsUntaken, AreTokensStopped, IsStoppedIn, IsSyntaxFault}
-use Rattle.term_syntax.proofs.Cutting.{after_tokens, after_push, piece_read, due_at}
+use Rattle.term_syntax.specs.Reached.{HasTokens, HasRun, HasNoStep, IsUntaken, AreTokensStopped, IsStoppedIn, IsSyntaxFault}
+use Rattle.term_syntax.proofs.Cutting.{after_tokens, after_none, all_cut, after_push, piece_read, due_at}
 use Rattle.term_syntax.proofs.Outcome.{run_one}
 use Rattle.term_syntax.proofs.Verdicts.{first_unexpected}
 use Rattle.term_syntax.proofs.Fewness.{Below, counted_on, few_of}
@@ -27,10 +30,6 @@ pub record Passed (bytes : List ℕ) (at : ℕ) (m : Machine) : Type 0 where
   pub ran : run start tokens ≡ Some m
   pub counted : Below (length tokens) m.groups
   pub short : length tokens ≤ at
-
-after_none : (r : Result (List Token) Refusal) → after_tokens [] r ≡ r
-after_none (Ok us) = refl
-after_none (Err f) = refl
 
 pub passed_none : (bytes : List ℕ) → Passed bytes 0 start
 passed_none bytes = record {
@@ -74,18 +73,12 @@ few_before bytes at m h few p =
     let short = p.short in
     few_of (length p.tokens) 2 m.groups (omega (arith, short, h, few)) p.counted
 
-all_cut : (bytes : List ℕ) (at : ℕ) (m : Machine) (p : Passed bytes at m) → length bytes ≤ at → tokens_of bytes ≡ Ok p.tokens
-all_cut bytes at m p h =
-    sym p.left
-    ∙ ap (λ bs. after_tokens p.tokens (tokens_from at 0 bs)) (drop_all at bytes h)
-    ∙ ap Ok (append-nil p.tokens)
-
 pub passed_all : (bytes : List ℕ) (at : ℕ) (m : Machine) → length bytes ≤ at → at ≤ length bytes → length bytes < 4294967296 → Passed bytes at m → HasRun bytes m
 passed_all bytes at m h within few p =
     let short = p.short in
     record {
       tokens = p.tokens;
-      cut = all_cut bytes at m p h;
+      cut = all_cut bytes at p.tokens h p.left;
       ran = p.ran;
       few = few_of (length p.tokens) 1 m.groups (omega (arith, short, within, few)) p.counted;
     }
@@ -128,3 +121,25 @@ stop_refusal bytes (Refused kind offset) (inl due) = inl due
 stop_refusal bytes (Refused kind offset) (inr s) =
     inr (record { tokens = s.tokens; cut = s.cut; refused = inl (s.kind_is, first_unexpected s.tokens offset s.stops) })
 stop_refusal bytes Memory stopped = tt
+
+-- a token of the bytes stands at its place
+pub placed : (text : List ℕ) (place : ℕ) (s : Shape) → place_of (token_at text place s) ≡ place
+placed text place shape.Word = refl
+placed text place shape.Quoted = refl
+placed text place shape.Number = refl
+placed text place (shape.At m) = refl
+
+-- a token at which there is no step, where all bytes have tokens
+pub untaken_there : (bytes : List ℕ) (m : Machine) (place : ℕ) (s : Shape) → HasTokens bytes → step m (token_at bytes place s) ≡ None → IsUntaken bytes m (token_at bytes place s) (Refused 2 place)
+untaken_there bytes m place s h stops = inr (record {
+  tokens = h.0;
+  cut = h.1;
+  stops = stops;
+  kind_is = refl;
+  place = sym (placed bytes place s);
+})
+
+-- bytes that have no tokens
+pub untaken_cut : (bytes : List ℕ) (m : Machine) (t : Token) (e : ReadFail) → IsDue (tokens_of bytes) e → IsUntaken bytes m t e
+untaken_cut bytes m t (Refused kind offset) due = inl due
+untaken_cut bytes m t Memory due = tt

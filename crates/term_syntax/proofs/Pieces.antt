@@ -1,5 +1,5 @@
 -- What begins at a place of the bytes.
-use Rattle.std.proofs.Common.{◌≡◌, ◌≤◌, ◌<◌, ◌∙◌, ℕ, ◌+◌, ◌-◌, List, [], ◌∷◌, length, drop, take, get_or, Bool, true, false, cond, refl, ap, sym, subst, arith, Result, Ok, Err, ◌++◌, append_assoc, leb}
+use Rattle.std.proofs.Common.{◌≡◌, ◌≤◌, ◌<◌, ◌∙◌, ℕ, ◌+◌, ◌-◌, List, [], ◌∷◌, length, drop, take, get_or, Bool, true, false, cond, refl, ap, sym, subst, arith, Option, None, Result, Ok, Err, ◌++◌, append_assoc, leb}
 use Rattle.std.proofs.lemmas.List.{drop_more, drop_all}
 use Rattle.std.proofs.lemmas.Bool.{leb-true}
 use Rattle.std.specs.Cmp.{first_so, second_so}
@@ -9,10 +9,12 @@ use Rattle.std.specs.Str.Parse.{AllDigits}
 use Rattle.std.proofs.lemmas.Str.{digit_value_digit}
 use Rattle.faults.specs.declared.refusal.Refusal.{Refusal}
 use Rattle.term_syntax.specs.Fault.{fault}
-use Rattle.term_syntax.specs.declared.token.Token.TheVariants.{Word, Number}
-use Rattle.term_syntax.specs.declared.scanner.Piece.TheVariants.{Whole}
+use Rattle.term_syntax.specs.Token.{Word, Number}
+use Rattle.term_syntax.specs.Token.{Whole}
 use Rattle.term_syntax.specs.declared.scanner.Role.{Role}
-use Rattle.term_syntax.specs.Tokens.{continues_name, front_length, quoted, by_role, role_of, plain_piece, number_piece, with_byte, integer_of}
+use Rattle.term_syntax.specs.Tokens.{continues_name, front_length, quoted, by_role, role_of, plain_piece, number_piece, quoted_piece, with_byte, integer_of}
+use Rattle.term_syntax.specs.Shown.{plain_name, plain_at, name_read, value, value_at}
+use Rattle.term_syntax.specs.Shown as shown
 
 front_one : (p : ℕ → Bool) (b : ℕ) (bs : List ℕ) → p b ≡ true → front_length p (b ∷ bs) ≡ front_length p bs + 1
 front_one p b bs h = ap (λ t. cond t (front_length p bs + 1) 0) h
@@ -54,18 +56,53 @@ front_digits (b ∷ bs) = by (is_ascii_digit b) refl (front_digits bs)
 pub digits_cut : (bytes : List ℕ) (at end : ℕ) → at < length bytes → end ≡ at + 1 + front_length is_ascii_digit (drop (at + 1) bytes) → is_ascii_digit (get_or bytes at 0) ≡ true → AllDigits 10 (take (end - at) (drop at bytes))
 digits_cut bytes at end h e t = subst (AllDigits 10) (sym (cut bytes at _ end h e)) (digit (get_or bytes at 0) t, front_digits (drop (at + 1) bytes))
 
--- the piece of a plain name, and of a number
-pub plain_is : (bytes : List ℕ) (at end : ℕ) (name : List ℕ) → at < length bytes → end ≡ at + 1 + front_length continues_name (drop (at + 1) bytes) → name ≡ take (end - at) (drop at bytes) → Whole (Word name at) end ≡ plain_piece at (drop at bytes)
-plain_is bytes at end name h e is =
-    ap (λ n. Whole (Word n at) end) (is ∙ cut bytes at _ end h e)
+-- the piece of a plain name, of a number, and of a name in quotes
+pub plain_is : (bytes : List ℕ) (at end : ℕ) → at < length bytes → end ≡ at + 1 + front_length continues_name (drop (at + 1) bytes) → Whole (Word (plain_at bytes at) at) end ≡ plain_piece at (drop at bytes)
+plain_is bytes at end h e =
+    ap (λ bs. Whole (Word (plain_name bs) at) end) (drop_more bytes at 0 h)
     ∙ ap (λ k. Whole (Word (get_or bytes at 0 ∷ take (front_length continues_name (drop (at + 1) bytes)) (drop (at + 1) bytes)) at) k) e
     ∙ ap (plain_piece at) (sym (drop_more bytes at 0 h))
 
-pub number_is : (bytes : List ℕ) (at end : ℕ) → at < length bytes → end ≡ at + 1 + front_length is_ascii_digit (drop (at + 1) bytes) → Whole (Number (integer_of (take (end - at) (drop at bytes))) at) end ≡ number_piece at (drop at bytes)
-number_is bytes at end h e =
-    ap (λ ds. Whole (Number (integer_of ds) at) end) (cut bytes at _ end h e)
+-- the number at a place, by whether a digit is there
+value_by : (bytes : List ℕ) (at : ℕ) (t : Bool) → at < length bytes → is_ascii_digit (get_or bytes at 0) ≡ t → value_at bytes at ≡ cond t (integer_of (get_or bytes at 0 ∷ take (front_length is_ascii_digit (drop (at + 1) bytes)) (drop (at + 1) bytes))) None
+value_by bytes at t h d =
+    ap value (drop_more bytes at 0 h)
+    ∙ ap (λ b. cond b (integer_of (get_or bytes at 0 ∷ take (front_length is_ascii_digit (drop (at + 1) bytes)) (drop (at + 1) bytes))) None) d
+
+pub number_is : (bytes : List ℕ) (at end : ℕ) → at < length bytes → is_ascii_digit (get_or bytes at 0) ≡ true → end ≡ at + 1 + front_length is_ascii_digit (drop (at + 1) bytes) → Whole (Number (value_at bytes at) at) end ≡ number_piece at (drop at bytes)
+number_is bytes at end h d e =
+    ap (λ v. Whole (Number v at) end) (value_by bytes at true h d)
     ∙ ap (λ k. Whole (Number (integer_of (get_or bytes at 0 ∷ take (front_length is_ascii_digit (drop (at + 1) bytes)) (drop (at + 1) bytes))) at) k) e
     ∙ ap (number_piece at) (sym (drop_more bytes at 0 h))
+
+pub quoted_is : (at : ℕ) (r : Result (List ℕ × ℕ) Refusal) (q : List ℕ × ℕ) → r ≡ Ok q → quoted_piece at r ≡ Ok (Whole (Word (name_read r) at) q.1)
+quoted_is at r q e = subst (λ s. quoted_piece at s ≡ Ok (Whole (Word (name_read s) at) q.1)) (sym e) refl
+
+-- what stands at a place is cut out again
+pub plain_again : (bytes : List ℕ) (at end : ℕ) → at < length bytes → end ≡ at + 1 + front_length continues_name (drop (at + 1) bytes) → take (end - at) (drop at bytes) ≡ plain_at bytes at
+plain_again bytes at end h e = cut bytes at _ end h e ∙ ap plain_name (sym (drop_more bytes at 0 h))
+
+pub value_again : (bytes : List ℕ) (at end : ℕ) → at < length bytes → is_ascii_digit (get_or bytes at 0) ≡ true → end ≡ at + 1 + front_length is_ascii_digit (drop (at + 1) bytes) → integer_of (take (end - at) (drop at bytes)) ≡ value_at bytes at
+value_again bytes at end h d e = ap integer_of (cut bytes at _ end h e) ∙ sym (value_by bytes at true h d)
+
+pub no_value : (bytes : List ℕ) (at : ℕ) → at < length bytes → is_ascii_digit (get_or bytes at 0) ≡ false → None ≡ value_at bytes at
+no_value bytes at h d = sym (value_by bytes at false h d)
+
+-- behind the bytes there is nothing
+pub plain_past : (bytes : List ℕ) (at : ℕ) → length bytes ≤ at → [] ≡ plain_at bytes at
+plain_past bytes at h = sym (ap plain_name (drop_all at bytes h))
+
+pub value_past : (bytes : List ℕ) (at : ℕ) → length bytes ≤ at → None ≡ value_at bytes at
+value_past bytes at h = sym (ap value (drop_all at bytes h))
+
+pub quoted_past : (bytes : List ℕ) (at : ℕ) → length bytes ≤ at → [] ≡ shown.quoted_at bytes at
+quoted_past bytes at h = sym (ap (λ bs. name_read (quoted (at + 1) false bs)) (drop_all (at + 1) bytes (omega (arith, h))))
+
+pub quoted_again : (bytes : List ℕ) (at : ℕ) (q : List ℕ × ℕ) → quoted (at + 1) false (drop (at + 1) bytes) ≡ Ok q → q.0 ≡ shown.quoted_at bytes at
+quoted_again bytes at q e = sym (ap name_read e)
+
+pub quoted_not : (bytes : List ℕ) (at : ℕ) (f : Refusal) → quoted (at + 1) false (drop (at + 1) bytes) ≡ Err f → [] ≡ shown.quoted_at bytes at
+quoted_not bytes at f e = sym (ap name_read e)
 
 -- a quoted name with bytes before it
 abbrev pub named_before : List ℕ → Result (List ℕ × ℕ) Refusal → Result (List ℕ × ℕ) Refusal

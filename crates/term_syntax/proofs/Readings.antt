@@ -10,8 +10,8 @@ use Rattle.term_model.specs.Tree.{Tree}
 use Rattle.term_model.specs.Postorder.{tree_of}
 use Rattle.term_model.specs.declared.Item.{Item}
 use Rattle.symbol_pool.specs.Pool.{Named}
-use Rattle.term_syntax.specs.declared.token.Token.{Token}
-use Rattle.term_syntax.specs.declared.machine.Part.{Part}
+use Rattle.term_syntax.specs.Token.{Token}
+use Rattle.term_syntax.specs.State.{Part}
 use Rattle.term_syntax.specs.declared.machine.Node.{Node}
 use Rattle.term_syntax.specs.Fault.{fault, IsDue}
 use Rattle.term_syntax.specs.Tokens.{tokens_of}

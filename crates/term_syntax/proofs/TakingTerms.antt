@@ -4,9 +4,9 @@ use Rattle.std.specs.Prelude.{Result}
 use Rattle.std.proofs.lemmas.List.{take-append-drop}
 use Rattle.faults.specs.declared.refusal.Refusal.{Refusal}
 use Rattle.symbol_pool.specs.Pool.{Named, named}
-use Rattle.term_syntax.specs.declared.machine.Kind.{Kind}
-use Rattle.term_syntax.specs.declared.machine.Kind.TheVariants.{Symbol, Integer, Brackets}
-use Rattle.term_syntax.specs.declared.machine.Part.{Part}
+use Rattle.term_syntax.specs.State.{Kind}
+use Rattle.term_syntax.specs.State.{Symbol, Integer, Brackets}
+use Rattle.term_syntax.specs.State.{Part}
 use Rattle.term_syntax.specs.Fault.{fault}
 use Rattle.term_syntax.specs.Written.{Written, Call, Digits, Listed, Writtens, End, More, count_of, place_of}
 use Rattle.term_syntax.specs.TakenUp.{with_symbol, with_symbols, is_full_for, and_then, take_name, take_term, take_arguments, take_elements, take_input, symbols_in, symbols_in_all, symbols_in_input, TookFront}

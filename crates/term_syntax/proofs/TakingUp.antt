@@ -7,9 +7,9 @@ use Rattle.rec_reader.specs.declared.fail.ReadFail.TheVariants.{Refused, Memory}
 use Rattle.term_model.specs.declared.Item.{Item}
 use Rattle.term_model.specs.declared.Item.TheVariants as item
 use Rattle.symbol_pool.specs.Pool.{Named, named}
-use Rattle.term_syntax.specs.declared.machine.Kind.{Kind}
-use Rattle.term_syntax.specs.declared.machine.Kind.TheVariants.{Symbol, Integer, Brackets}
-use Rattle.term_syntax.specs.declared.machine.Part.{Part}
+use Rattle.term_syntax.specs.State.{Kind}
+use Rattle.term_syntax.specs.State.{Symbol, Integer, Brackets}
+use Rattle.term_syntax.specs.State.{Part}
 use Rattle.faults.specs.declared.refusal.Refusal.{Refusal}
 use Rattle.term_syntax.specs.Fault.{fault, IsDue}
 use Rattle.term_syntax.specs.Parts.{pool_after, part_fault, unless_fault, taken_up, symbols_of_parts}

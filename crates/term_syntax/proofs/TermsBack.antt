@@ -10,12 +10,12 @@ use Rattle.term_model.specs.Tree as tree
 use Rattle.term_model.specs.Tree.{Tree, Trees, Leaf, Node, is_well_formed, all_well_formed, may_be_list}
 use Rattle.term_model.proofs.Order.{both_hold}
 use Rattle.symbol_pool.specs.Pool.{Named, named, IsPool, most_symbols}
-use Rattle.term_syntax.specs.declared.token.Token.{Token}
-use Rattle.term_syntax.specs.declared.token.Token.TheVariants.{Word, Number, At}
+use Rattle.term_syntax.specs.Token.{Token}
+use Rattle.term_syntax.specs.Token.{Word, Number, At}
 use Rattle.term_syntax.specs.declared.token.Mark.{Mark}
 use Rattle.term_syntax.specs.declared.token.Mark.TheVariants.{Open, Close, OpenList, CloseList, Comma}
-use Rattle.term_syntax.specs.declared.machine.Kind.TheVariants.{Symbol}
-use Rattle.term_syntax.specs.declared.machine.Part.{Part}
+use Rattle.term_syntax.specs.State.{Symbol}
+use Rattle.term_syntax.specs.State.{Part}
 use Rattle.faults.specs.declared.refusal.Refusal.{Refusal}
 use Rattle.term_syntax.specs.Fault.{fault}
 use Rattle.term_syntax.specs.Tokens.{is_printable, tokens_from, after_token}

@@ -1,8 +1,8 @@
 -- What reading says of the tokens.
 use Rattle.std.proofs.Common.{◌≡◌, ◌∙◌, ℕ, List, [], ◌∷◌, ◌++◌, refl, ap, sym, append_assoc, append-nil, inl, inr, Some, None}
 use Rattle.std.specs.Prelude.{option_and_then}
-use Rattle.term_syntax.specs.declared.token.Token.{Token}
-use Rattle.term_syntax.specs.declared.machine.Machine.{Machine}
+use Rattle.term_syntax.specs.Token.{Token}
+use Rattle.term_syntax.specs.State.{Machine}
 use Rattle.term_syntax.specs.TermGrammar.{BeginsInput}
 use Rattle.term_syntax.specs.Parts.{parts_of_input}
 use Rattle.term_syntax.specs.Nodes.{nodes_of_input}

@@ -8,9 +8,9 @@ use Rattle.term_model.specs.Postorder.{tree_of}
 use Rattle.term_model.specs.declared.Item.{Item}
 use Rattle.term_model.specs.declared.Item.TheVariants.{App, Int, Nil, Cons}
 use Rattle.symbol_pool.specs.Pool.{Named, named}
-use Rattle.term_syntax.specs.declared.machine.Kind.{Kind}
-use Rattle.term_syntax.specs.declared.machine.Kind.TheVariants.{Symbol, Integer, Brackets}
-use Rattle.term_syntax.specs.declared.machine.Part.{Part}
+use Rattle.term_syntax.specs.State.{Kind}
+use Rattle.term_syntax.specs.State.{Symbol, Integer, Brackets}
+use Rattle.term_syntax.specs.State.{Part}
 use Rattle.term_syntax.specs.declared.machine.Node.{Node}
 use Rattle.term_syntax.specs.Fault.{fault}
 use Rattle.term_syntax.specs.Parts.{part_fault, pool_after}

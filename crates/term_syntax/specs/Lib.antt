@@ -1,4 +1,5 @@
 pub mod Fault
+pub mod Token
 pub mod Tokens
 pub mod Written
 pub mod TermGrammar
@@ -8,6 +9,8 @@ pub mod TakenUp
 pub mod Parts
 pub mod Named
 pub mod Nodes
+pub mod State
+pub mod Shown
 pub mod Steps
 pub mod Items
 pub mod Reading

@@ -1,9 +1,9 @@
 -- The parts of written terms, as the machine has them: one for each term in the order of the text.
 use Rattle.std.specs.Prelude.{ℕ, ◌+◌, List, [], ◌∷◌, ◌++◌, length, Bool, true, false, ◌&&◌, ◌||◌, ◌==◌, nat_lt, if◌then◌else◌, Option, Some, None, Result, Ok, Err}
 use Rattle.symbol_pool.specs.Pool.{Named, named}
-use Rattle.term_syntax.specs.declared.machine.Kind.{Kind}
-use Rattle.term_syntax.specs.declared.machine.Kind.TheVariants.{Symbol, Integer, Brackets}
-use Rattle.term_syntax.specs.declared.machine.Part.{Part}
+use Rattle.term_syntax.specs.State.{Kind}
+use Rattle.term_syntax.specs.State.{Symbol, Integer, Brackets}
+use Rattle.term_syntax.specs.State.{Part}
 use Rattle.faults.specs.declared.refusal.Refusal.{Refusal}
 use Rattle.term_syntax.specs.Fault.{fault}
 use Rattle.term_syntax.specs.Written.{Written, Call, Digits, Listed, Writtens, End, More, count_of}

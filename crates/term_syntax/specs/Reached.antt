@@ -2,10 +2,10 @@
 use Rattle.std.specs.Prelude.{◌≡◌, ◌⊎◌, ℕ, List, Option, Some, None, Result, Ok, Err}
 use Rattle.rec_reader.specs.declared.fail.ReadFail.{ReadFail}
 use Rattle.rec_reader.specs.declared.fail.ReadFail.TheVariants.{Refused, Memory}
-use Rattle.term_syntax.specs.declared.token.Token.{Token}
-use Rattle.term_syntax.specs.declared.machine.Part.{Part}
+use Rattle.term_syntax.specs.Token.{Token}
+use Rattle.term_syntax.specs.State.{Part}
 use Rattle.term_syntax.specs.declared.machine.Node.{Node}
-use Rattle.term_syntax.specs.declared.machine.Machine.{Machine}
+use Rattle.term_syntax.specs.State.{Machine}
 use Rattle.term_syntax.specs.Fault.{fault}
 use Rattle.term_syntax.specs.Few.{AreCountsFew}
 use Rattle.term_syntax.specs.Tokens.{tokens_of}
@@ -25,6 +25,10 @@ pub record IsReadOf (bytes : List ℕ) (read : List Part × List (List Node)) : 
   pub tokens : List Token
   pub cut : tokens_of bytes ≡ Ok tokens
   pub spelled : IsRead tokens read
+
+-- the bytes have tokens
+abbrev pub HasTokens : List ℕ → Type 0
+HasTokens bytes = (tokens : List Token) × (tokens_of bytes ≡ Ok tokens)
 
 -- the bytes have tokens, and there is no step at this one
 pub record HasNoStep (bytes : List ℕ) (m : Machine) (t : Token) (kind offset : ℕ) : Type 0 where

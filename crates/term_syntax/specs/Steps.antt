@@ -1,18 +1,18 @@
 -- What reading does at each token.
 use Rattle.std.specs.Prelude.{◌≡◌, ℕ, ◌+◌, List, [], ◌∷◌, ◌++◌, length, Option, Some, None, Bool, true, false, ◌&&◌, ◌==◌, Result, Ok, Err, option_and_then}
-use Rattle.term_syntax.specs.declared.token.Token.{Token}
-use Rattle.term_syntax.specs.declared.token.Token.TheVariants.{Word, Number, At}
+use Rattle.term_syntax.specs.Token.{Token}
+use Rattle.term_syntax.specs.Token.{Word, Number, At}
 use Rattle.term_syntax.specs.declared.token.Mark.TheVariants.{Open, Close, OpenList, CloseList, Comma}
-use Rattle.term_syntax.specs.declared.machine.Kind.{Kind}
-use Rattle.term_syntax.specs.declared.machine.Kind.TheVariants.{Symbol, Integer, Brackets}
-use Rattle.term_syntax.specs.declared.machine.Part.{Part}
+use Rattle.term_syntax.specs.State.{Kind}
+use Rattle.term_syntax.specs.State.{Symbol, Integer, Brackets}
+use Rattle.term_syntax.specs.State.{Part}
 use Rattle.term_syntax.specs.declared.machine.Node.{Node}
 use Rattle.term_syntax.specs.declared.machine.Group.{Group}
 use Rattle.term_syntax.specs.declared.machine.Place.{Place}
 use Rattle.term_syntax.specs.declared.machine.Place.TheVariants.{Settled, Bracketed, Expected, Headed}
 use Rattle.term_syntax.specs.declared.machine.Stop.{Stop}
 use Rattle.term_syntax.specs.declared.machine.Stop.TheVariants as stop
-use Rattle.term_syntax.specs.declared.machine.Machine.{Machine}
+use Rattle.term_syntax.specs.State.{Machine}
 use Rattle.term_syntax.specs.Counts.{with_count}
 use Rattle.term_syntax.specs.Written.{Written}
 use Rattle.term_syntax.specs.TermGrammar.{IsInput}
@@ -65,15 +65,23 @@ ended part cells m =
 abbrev pub end : ℕ → ℕ → Machine → Option Machine
 end part cells m = Some (ended part cells m)
 
+-- a name comes
+abbrev pub headed : Machine → ℕ → Kind → Option Machine
+headed m place kind = at (begin place kind m) (Headed (length m.parts))
+
 abbrev pub on_term : Machine → Token → Option Machine
-on_term m (Word n p) = at (begin p (Symbol n) m) (Headed (length m.parts))
+on_term m (Word n p) = headed m p (Symbol n)
 on_term m (Number v p) = end (length m.parts) 0 (begin p (Integer v) m)
 on_term m (At OpenList p) = open_group false (length m.parts) Bracketed (begin p Brackets m)
 on_term m _ = None
 
+-- so many terms stand in a group
+abbrev pub counted : Group → Machine → Machine
+counted g m = record m { parts = with_count m.parts g.part g.count }
+
 -- a group closes, which is no longer open
 abbrev pub close : Group → ℕ → Machine → Option Machine
-close g cells m = end g.part cells (record m { parts = with_count m.parts g.part g.count })
+close g cells m = end g.part cells (counted g m)
 
 abbrev pub close_call : Bool → Group → Machine → Option Machine
 close_call true g m = close g 0 m

@@ -3,12 +3,12 @@ use Rattle.std.specs.Prelude.{ℕ, zero, suc, ◌+◌, ◌-◌, List, [], ◌∷
 use Rattle.std.specs.Char.{is_ascii_alphabetic, is_ascii_alphanumeric, is_ascii_digit}
 use Rattle.std.specs.List.{list_any}
 use Rattle.std.specs.Str.Parse.{digits_value}
-use Rattle.term_syntax.specs.declared.token.Token.{Token}
-use Rattle.term_syntax.specs.declared.token.Token.TheVariants.{Word, Number, At}
+use Rattle.term_syntax.specs.Token.{Token}
+use Rattle.term_syntax.specs.Token.{Word, Number, At}
 use Rattle.term_syntax.specs.declared.token.Mark.{Mark}
 use Rattle.term_syntax.specs.declared.token.Mark.TheVariants.{Open, Close, OpenList, CloseList, Comma}
-use Rattle.term_syntax.specs.declared.scanner.Piece.{Piece}
-use Rattle.term_syntax.specs.declared.scanner.Piece.TheVariants.{Blank, Whole}
+use Rattle.term_syntax.specs.Token.{Piece}
+use Rattle.term_syntax.specs.Token.{Blank, Whole}
 use Rattle.term_syntax.specs.declared.scanner.Role.{Role}
 use Rattle.term_syntax.specs.declared.scanner.Role.TheVariants.{Closes, Escapes, Stands, Bad}
 use Rattle.faults.specs.declared.refusal.Refusal.{Refusal}

@@ -13,15 +13,11 @@ mod reading;
 mod refused;
 mod scanner;
 mod symbols;
-#[cfg(test)]
-mod tests;
 mod token;
 mod writer;
 
 pub use canonical::write_term;
 pub use flats::Flats;
 pub use laws::canonical_laws;
-pub use name::Name;
 pub use reading::read_terms;
 pub use rec_reader::ReadFail;
-pub use token::{Mark, Token};

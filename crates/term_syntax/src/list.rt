@@ -1,23 +1,23 @@
 //! The parts of an input, and a stack, over vectors.
 ghost use Rattle.std.specs.Prelude.{◌≡◌, ◌++◌, ◌∷◌, [], length, MatchOption, OnOk, OnErr};
-ghost use Rattle.term_syntax.specs.Counts.{with_count, first_of, is_nil};
+ghost use Rattle.term_syntax.specs.Counts.{counted, first_of, is_nil};
 
-use crate::machine::Part;
+use crate::machine::Entry;
 use std::alloc::{AllocError, Global};
 use std::marker::Model;
 
 /// Parts in the order of the text, which contracts see as a list.
 #[derive(Drop)]
-pub struct Parts {
-    items: Vec<Part>,
+pub(crate) struct Parts {
+    items: Vec<Entry>,
 }
 
 impl Model for Parts {
     ghost use Rattle.std.specs.Prelude.{List};
     ghost use Rattle.std.specs.Coded.{coded_list};
-    ghost use Rattle.term_syntax.specs.declared.machine.Part.{Part};
+    ghost use Rattle.term_syntax.specs.declared.machine.Entry.{Entry};
 
-    ghost Value = { List Part };
+    ghost Value = { List Entry };
 
     ghost view = { λ s. s.items.items };
 }
@@ -37,23 +37,23 @@ impl Parts {
         self.items.len()
     }
 
-    pub(crate) fn as_slice(&self) -> &[Part]
+    pub(crate) fn as_slice(&self) -> &[Entry]
         ensures { result.now ≡ self.now }
     {
         self.items.as_slice()
     }
 
-    pub(crate) fn push(&mut self, part: Part) -> Result<(), AllocError>
-        ensures ok { OnOk result (self.new ≡ self.old ++ part ∷ []) }
+    pub(crate) fn push(&mut self, entry: Entry) -> Result<(), AllocError>
+        ensures ok { OnOk result (self.new ≡ self.old ++ entry ∷ []) }
         ensures err { OnErr result (self.new ≡ self.old) }
     {
-        self.items.push(part)?;
+        self.items.push(entry)?;
         Ok(())
     }
 
     // Tells how many terms stand in the part of this number.
     pub(crate) fn set_count(&mut self, part: usize, count: u32)
-        ensures { self.new ≡ with_count self.old part count }
+        ensures { self.new ≡ counted self.old part count }
     {
         if part < self.items.len() {
             self.items[part].count = count;

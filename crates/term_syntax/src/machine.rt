@@ -1,33 +1,26 @@
 //! Reads tokens one at a time: where in an input it stands, and what was read so far.
-ghost use Rattle.std.specs.Prelude.{◌≡◌};
+ghost use Rattle.std.specs.Prelude.{◌≡◌, Some, None, IfSome, IfNone};
 ghost use Rattle.term_syntax.specs.Steps as steps;
 ghost use Rattle.term_syntax.specs.Steps.{Takes};
+ghost use Rattle.term_syntax.specs.Shown.{machine_in, parts_in, token_in, kind_at};
 ghost use Rattle.term_syntax.specs.Few.{AreCountsFew};
 ghost use Rattle.term_syntax.specs.declared.machine.Stop.TheVariants.{Memory};
 
 use crate::list::{Parts, Stack};
-use crate::name::Name;
-use crate::token::{Mark, Token};
+use crate::token::{Mark, Shape, Token};
 use rec_reader::Sequence;
 use std::alloc::{AllocError, Global};
 use std::mem;
 
-/// What a term is: a name, an integer, or a list in brackets.
-#[derive(Drop)]
-pub enum Kind {
-    Symbol(Name),
-    Integer(Option<u64>),
-    Brackets,
-}
-
-/// A term of the input, in the order of the text: the place of its first byte, whether it is the 17th
-/// argument of a name, and how many terms stand in its parentheses or brackets.
-#[derive(Drop)]
-pub struct Part {
+/// A term of the input, in the order of the text: the place of its first byte, how many terms stand in its
+/// parentheses or brackets, whether it is the 17th argument of a name, and the shape of its first token. What that
+/// token says stands in the text.
+#[derive(Clone, Copy)]
+pub(crate) struct Entry {
     pub(crate) place: usize,
-    pub(crate) over: bool,
-    pub(crate) kind: Kind,
     pub(crate) count: u32,
+    pub(crate) over: bool,
+    pub(crate) shape: Shape,
 }
 
 /// A whole term, by the number of its part; a list ends in as many cells.
@@ -82,9 +75,10 @@ pub(crate) struct Machine {
 }
 
 impl Machine {
-    pub(crate) fn start(alloc: Global) -> Self
-        ensures { result ≡ steps.start }
+    pub(crate) fn start(alloc: Global, text: &[u8]) -> Self
+        ensures { machine_in text.now result ≡ steps.start }
     {
+        let _ = text;
         Machine {
             place: Place::Settled,
             groups: Stack::new(alloc),
@@ -94,81 +88,112 @@ impl Machine {
         }
     }
 
-    pub(crate) fn step(&mut self, alloc: Global, token: Token) -> Result<(), Stop>
+    /// Takes a token of the text.
+    #[inline(always)]
+    pub(crate) fn step(&mut self, alloc: Global, text: &[u8], token: Token) -> Result<(), Stop>
         requires { AreCountsFew 2 self.old.groups }
-        ensures { Takes (steps.step self.old token) result self.new }
+        ensures { Takes (steps.step (machine_in text.now self.old) (token_in text.now token))
+            result (machine_in text.now self.new) }
     {
         match self.place {
-            Place::Settled => self.after_term(alloc, token),
-            Place::Bracketed => self.in_brackets(alloc, token),
-            Place::Expected => self.on_term(alloc, token),
-            Place::Headed(part) => self.after_name(alloc, part, token),
+            Place::Settled => self.after_term(alloc, text, token),
+            Place::Bracketed => self.in_brackets(alloc, text, token),
+            Place::Expected => self.on_term(alloc, text, token),
+            Place::Headed(part) => self.after_name(alloc, text, part, token),
         }
     }
 
-    fn go(&mut self, place: Place) -> Result<(), Stop>
-        ensures { Takes (steps.at self.old place) result self.new }
+    #[inline(always)]
+    fn go(&mut self, text: &[u8], place: Place) -> Result<(), Stop>
+        ensures { Takes (steps.at (machine_in text.now self.old) place)
+            result (machine_in text.now self.new) }
     {
+        let _ = text;
         self.place = place;
         Ok(())
     }
 
     // A token comes with which a term begins.
-    fn on_term(&mut self, alloc: Global, token: Token) -> Result<(), Stop>
+    #[inline(always)]
+    fn on_term(&mut self, alloc: Global, text: &[u8], token: Token) -> Result<(), Stop>
         requires { AreCountsFew 1 self.old.groups }
-        ensures { Takes (steps.on_term self.old token) result self.new }
+        ensures { Takes (steps.on_term (machine_in text.now self.old) (token_in text.now token))
+            result (machine_in text.now self.new) }
     {
-        match token {
-            Token::Word(name, place) => {
-                let part = self.begin(place, Kind::Symbol(name))?;
-                self.go(Place::Headed(part))
+        match token.shape {
+            Shape::Word => self.on_name(text, token),
+            Shape::Quoted => self.on_name(text, token),
+            Shape::Number => {
+                let part = self.begin(text, token)?;
+                self.end(alloc, text, part, 0)
             }
-            Token::Number(value, place) => {
-                let part = self.begin(place, Kind::Integer(value))?;
-                self.end(alloc, part, 0)
+            Shape::At(Mark::OpenList) => {
+                let part = self.begin(text, token)?;
+                self.open_group(text, false, part, Place::Bracketed)
             }
-            Token::At(Mark::OpenList, place) => {
-                let part = self.begin(place, Kind::Brackets)?;
-                self.open_group(false, part, Place::Bracketed)
-            }
-            _ => Err(Stop::Unexpected),
+            Shape::At(_) => Err(Stop::Unexpected),
         }
     }
 
-    // A term begins; its part has this number.
-    fn begin(&mut self, place: usize, kind: Kind) -> Result<usize, Stop>
-        ensures { steps.Begins self.old place kind result self.new }
+    // A name comes.
+    #[inline(always)]
+    fn on_name(&mut self, text: &[u8], token: Token) -> Result<(), Stop>
+        ensures { Takes (steps.headed (machine_in text.now self.old) token.place
+            (kind_at text.now token.place token.shape)) result (machine_in text.now self.new) }
     {
+        let part = self.begin(text, token)?;
+        self.go(text, Place::Headed(part))
+    }
+
+    // A term begins; its part has this number.
+    #[tactic(auto, using(crate::proofs::Keeping::parts_push, crate::proofs::Keeping::parts_many))]
+    #[inline(always)]
+    fn begin(&mut self, text: &[u8], token: Token) -> Result<usize, Stop>
+        ensures { steps.Begins (machine_in text.now self.old) token.place
+            (kind_at text.now token.place token.shape) result (machine_in text.now self.new) }
+    {
+        let _ = text;
         let over = match self.groups.last() {
             Some(group) => group.called && group.count == 16,
             None => false,
         };
         let part = self.parts.len();
-        self.parts.push(Part {
-            place,
-            over,
-            kind,
+        self.parts.push(Entry {
+            place: token.place,
             count: 0,
+            over,
+            shape: token.shape,
         })?;
         Ok(part)
     }
 
-    fn open_group(&mut self, called: bool, part: usize, place: Place) -> Result<(), Stop>
-        ensures { Takes (steps.open_group called part place self.old) result self.new }
+    #[inline(always)]
+    fn open_group(
+        &mut self,
+        text: &[u8],
+        called: bool,
+        part: usize,
+        place: Place,
+    ) -> Result<(), Stop>
+        ensures { Takes (steps.open_group called part place (machine_in text.now self.old))
+            result (machine_in text.now self.new) }
     {
         self.groups.push(Group {
             called,
             part,
             count: 0,
         })?;
-        self.go(place)
+        self.go(text, place)
     }
 
     // A term is whole: a list of so many cells, or none.
-    fn end(&mut self, alloc: Global, part: usize, cells: u32) -> Result<(), Stop>
+    #[inline(always)]
+    fn end(&mut self, alloc: Global, text: &[u8], part: usize, cells: u32) -> Result<(), Stop>
         requires { AreCountsFew 1 self.old.groups }
-        ensures { Takes (steps.end part cells self.old) result self.new }
+        ensures { Takes (steps.end part cells (machine_in text.now self.old))
+            result (machine_in text.now self.new) }
     {
+        let _ = text;
         self.nodes.push(Node { part, cells })?;
         self.place = Place::Settled;
         match self.groups.pop() {
@@ -186,81 +211,121 @@ impl Machine {
     }
 
     // What may come after a whole term, or at the start.
-    fn after_term(&mut self, alloc: Global, token: Token) -> Result<(), Stop>
+    #[inline(always)]
+    fn after_term(&mut self, alloc: Global, text: &[u8], token: Token) -> Result<(), Stop>
         requires { AreCountsFew 1 self.old.groups }
-        ensures { Takes (steps.after_term self.old token) result self.new }
+        ensures { Takes (steps.after_term (machine_in text.now self.old) (token_in text.now token))
+            result (machine_in text.now self.new) }
     {
         match self.groups.pop() {
-            None => self.on_term(alloc, token),
-            Some(group) => self.in_group(alloc, group, token),
+            None => self.on_term(alloc, text, token),
+            Some(group) => self.in_group(alloc, text, group, token),
         }
     }
 
     // What may come after a term in this group.
-    fn in_group(&mut self, alloc: Global, group: Group, token: Token) -> Result<(), Stop>
+    #[inline(always)]
+    fn in_group(
+        &mut self,
+        alloc: Global,
+        text: &[u8],
+        group: Group,
+        token: Token,
+    ) -> Result<(), Stop>
         requires { AreCountsFew 1 self.old.groups }
-        ensures { Takes (steps.in_group group self.old token) result self.new }
+        ensures { Takes (steps.in_group group (machine_in text.now self.old)
+            (token_in text.now token)) result (machine_in text.now self.new) }
     {
-        match token {
-            Token::At(Mark::Comma, _) => {
+        match token.shape {
+            Shape::At(Mark::Comma) => {
                 self.groups.push(group)?;
-                self.go(Place::Expected)
+                self.go(text, Place::Expected)
             }
-            Token::At(Mark::Close, _) if group.called => self.close(alloc, group, 0),
-            Token::At(Mark::CloseList, _) if !group.called => self.close(alloc, group, group.count),
+            Shape::At(Mark::Close) if group.called => self.close(alloc, text, group, 0),
+            Shape::At(Mark::CloseList) if !group.called => {
+                self.close(alloc, text, group, group.count)
+            }
             _ => Err(Stop::Unexpected),
         }
     }
 
     // A group closes, which is no longer on the stack.
-    fn close(&mut self, alloc: Global, group: Group, cells: u32) -> Result<(), Stop>
+    #[inline(always)]
+    fn close(&mut self, alloc: Global, text: &[u8], group: Group, cells: u32) -> Result<(), Stop>
         requires { AreCountsFew 1 self.old.groups }
-        ensures { Takes (steps.close group cells self.old) result self.new }
+        ensures { Takes (steps.close group cells (machine_in text.now self.old))
+            result (machine_in text.now self.new) }
     {
+        self.tell_count(text, group);
+        self.end(alloc, text, group.part, cells)
+    }
+
+    // Tells how many terms stand in a group.
+    #[tactic(auto, using(crate::proofs::Keeping::parts_counted))]
+    #[inline(always)]
+    fn tell_count(&mut self, text: &[u8], group: Group)
+        ensures counted { machine_in text.now self.new
+            ≡ steps.counted group (machine_in text.now self.old) }
+        ensures groups { self.new.groups ≡ self.old.groups }
+    {
+        let _ = text;
         self.parts.set_count(group.part, group.count);
-        self.end(alloc, group.part, cells)
     }
 
     // What may come behind an opening bracket.
-    fn in_brackets(&mut self, alloc: Global, token: Token) -> Result<(), Stop>
+    #[inline(always)]
+    fn in_brackets(&mut self, alloc: Global, text: &[u8], token: Token) -> Result<(), Stop>
         requires { AreCountsFew 1 self.old.groups }
-        ensures { Takes (steps.in_brackets self.old token) result self.new }
+        ensures { Takes (steps.in_brackets (machine_in text.now self.old) (token_in text.now token))
+            result (machine_in text.now self.new) }
     {
-        match token {
-            Token::At(Mark::CloseList, _) => self.after_term(alloc, token),
-            _ => self.on_term(alloc, token),
+        match token.shape {
+            Shape::At(Mark::CloseList) => self.after_term(alloc, text, token),
+            _ => self.on_term(alloc, text, token),
         }
     }
 
     // What may come behind a name.
-    fn after_name(&mut self, alloc: Global, part: usize, token: Token) -> Result<(), Stop>
+    #[inline(always)]
+    fn after_name(
+        &mut self,
+        alloc: Global,
+        text: &[u8],
+        part: usize,
+        token: Token,
+    ) -> Result<(), Stop>
         requires { AreCountsFew 2 self.old.groups }
-        ensures { Takes (steps.after_name part self.old token) result self.new }
+        ensures { Takes (steps.after_name part (machine_in text.now self.old)
+            (token_in text.now token)) result (machine_in text.now self.new) }
     {
-        match token {
-            Token::At(Mark::Open, _) => self.open_group(true, part, Place::Expected),
+        match token.shape {
+            Shape::At(Mark::Open) => self.open_group(text, true, part, Place::Expected),
             _ => {
-                self.end(alloc, part, 0)?;
-                self.after_term(alloc, token)
+                self.end(alloc, text, part, 0)?;
+                self.after_term(alloc, text, token)
             }
         }
     }
 
     /// Ends a name that stands last.
-    pub(crate) fn settle(&mut self, alloc: Global) -> Result<(), Stop>
+    pub(crate) fn settle(&mut self, alloc: Global, text: &[u8]) -> Result<(), Stop>
         requires { AreCountsFew 1 self.old.groups }
-        ensures { Takes (steps.settled self.old) result self.new }
+        ensures { Takes (steps.settled (machine_in text.now self.old))
+            result (machine_in text.now self.new) }
     {
         match self.place {
-            Place::Headed(part) => self.end(alloc, part, 0),
+            Place::Headed(part) => self.end(alloc, text, part, 0),
             _ => Ok(()),
         }
     }
 
     /// The parts and the terms that were read, where the input may end here.
-    pub(crate) fn finish(self) -> Option<(Parts, Sequence<Sequence<Node>>)>
-        ensures { result ≡ steps.accepted self }
+    pub(crate) fn finish(self, text: &[u8]) -> Option<(Parts, Sequence<Sequence<Node>>)>
+        ensures some { IfSome result (λ r.
+            steps.accepted (machine_in text.now self) ≡ Some (parts_in text.now r.0, r.1)) }
+        ensures none { IfNone result (steps.accepted (machine_in text.now self) ≡ None) }
     {
+        let _ = text;
         let Machine {
             place,
             groups,

@@ -2,29 +2,33 @@
 ghost use Rattle.std.specs.Prelude.{◌≡◌, ◌<◌, ◌^◌, Some, IfOk, IfErr, OnOk, length};
 ghost use Rattle.term_syntax.specs.Few.{AreCountsFew};
 ghost use Rattle.term_syntax.specs.Reached.{HasRun, IsReadOf, IsUntaken, IsStoppedIn, IsSyntaxFault};
+ghost use Rattle.term_syntax.specs.Shown.{machine_in, parts_in, token_in};
 ghost use Rattle.term_syntax.specs.Steps.{step};
 
 use crate::list::Parts;
 use crate::machine::{Machine, Node, Stop};
 use crate::refused::refused;
-use crate::scanner::{Piece, piece_at, tokens};
+use crate::scanner::{Cut, look_through, piece_at};
 use crate::token::Token;
 use faults::kinds;
 use rec_reader::{ReadFail, Sequence};
 use std::alloc::Global;
 
 // Takes a token of the bytes. One that is unexpected is refused only where all bytes have tokens.
+#[tactic(auto, using(crate::proofs::Passing::untaken_there, crate::proofs::Passing::untaken_cut))]
+#[inline(always)]
 fn take(alloc: Global, bytes: &[u8], machine: &mut Machine, token: Token) -> Result<(), ReadFail>
     requires { AreCountsFew 2 machine.old.groups }
-    ensures taken { OnOk result (step machine.old token ≡ Some machine.new) }
-    ensures untaken { IfErr result (IsUntaken bytes.now machine.old token) }
+    ensures taken { OnOk result (step (machine_in bytes.now machine.old) (token_in bytes.now token)
+        ≡ Some (machine_in bytes.now machine.new)) }
+    ensures untaken { IfErr result
+        (IsUntaken bytes.now (machine_in bytes.now machine.old) (token_in bytes.now token)) }
 {
-    let place = token.place();
-    match machine.step(alloc, token) {
+    match machine.step(alloc, bytes, token) {
         Ok(()) => Ok(()),
         Err(Stop::Unexpected) => {
-            let _tokens = tokens(alloc, bytes)?;
-            Err(refused(kinds::UNEXPECTED, place))
+            look_through(alloc, bytes)?;
+            Err(refused(kinds::UNEXPECTED, token.place))
         }
         Err(Stop::Memory) => Err(ReadFail::Memory),
     }
@@ -33,15 +37,15 @@ fn take(alloc: Global, bytes: &[u8], machine: &mut Machine, token: Token) -> Res
 // Takes all tokens of the bytes. None of them is kept, but for what its term needs.
 fn run(alloc: Global, bytes: &[u8]) -> Result<Machine, ReadFail>
     requires { length bytes.now < 2 ^ 32 }
-    ensures ran { IfOk result (HasRun bytes.now) }
+    ensures ran { IfOk result (λ m. HasRun bytes.now (machine_in bytes.now m)) }
     ensures stopped { IfErr result (IsStoppedIn bytes.now) }
 {
-    let mut machine = Machine::start(alloc);
+    let mut machine = Machine::start(alloc, bytes);
     let mut at = 0;
     while at < bytes.len() {
         match piece_at(alloc, bytes, at)? {
-            Piece::Blank => at += 1,
-            Piece::Whole(token, next) => {
+            Cut::Blank => at += 1,
+            Cut::Whole(token, next) => {
                 take(alloc, bytes, &mut machine, token)?;
                 at = next;
             }
@@ -52,7 +56,7 @@ fn run(alloc: Global, bytes: &[u8]) -> Result<Machine, ReadFail>
 
 /// The parts of the terms that bytes spell, and their nodes.
 ///
-/// Refuses with kind 1 or 3, as `tokens` does, bytes that have no tokens; else with kind 2 the first token such
+/// Refuses with kind 1 or 3, as `piece_at` does, bytes that have no tokens; else with kind 2 the first token such
 /// that the tokens up to and with it begin no input, at its place; with kind 3, at the length of the input,
 /// tokens that begin an input and are none.
 pub(crate) fn syntax(
@@ -60,15 +64,15 @@ pub(crate) fn syntax(
     bytes: &[u8],
 ) -> Result<(Parts, Sequence<Sequence<Node>>), ReadFail>
     requires { length bytes.now < 2 ^ 32 }
-    ensures read { IfOk result (IsReadOf bytes.now) }
+    ensures read { IfOk result (λ r. IsReadOf bytes.now (parts_in bytes.now r.0, r.1)) }
     ensures refused { IfErr result (IsSyntaxFault bytes.now) }
 {
     let mut machine = run(alloc, bytes)?;
-    match machine.settle(alloc) {
+    match machine.settle(alloc, bytes) {
         Ok(()) => {}
         Err(_) => return Err(ReadFail::Memory),
     }
-    match machine.finish() {
+    match machine.finish(bytes) {
         Some(read) => Ok(read),
         None => Err(ReadFail::Refused {
             kind: kinds::UNENDED,

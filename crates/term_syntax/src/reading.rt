@@ -48,7 +48,7 @@ pub fn read_terms(alloc: Global, bytes: &[u8], symbols: &mut Symbols) -> Result<
         return Err(ReadFail::Memory);
     }
     let (parts, terms) = syntax(alloc, bytes)?;
-    let items = items_of(alloc, parts.as_slice(), symbols)?;
+    let items = items_of(alloc, bytes, parts.as_slice(), symbols)?;
     let flats = flats(alloc, items.as_slice(), terms.as_slice())?;
     Ok(flats)
 }

@@ -1,21 +1,23 @@
 //! Cuts bytes into tokens.
-ghost use Rattle.std.specs.Prelude.{◌≡◌, ◌+◌, ◌≤◌, ◌<◌, length, drop, IfOk, IfErr, IfSome, Ok, Err, true, false, slice_index};
+ghost use Rattle.std.specs.Prelude.{◌≡◌, ◌+◌, ◌≤◌, ◌<◌, length, drop, IfOk, IfErr, IfSome, OnOk, Ok, Err, true, false, slice_index};
 ghost use Rattle.std.specs.Char.{is_ascii_digit};
 ghost use Rattle.std.specs.Str.Parse.{digits_value, AllDigits};
 ghost use Rattle.rec_reader.specs.declared.fail.ReadFail.TheVariants.{Memory};
 ghost use Rattle.term_syntax.specs.Fault.{IsDue};
+ghost use Rattle.term_syntax.specs.Shown.{piece_in, plain_at, quoted_at, value_at};
+ghost use Rattle.term_syntax.specs.Reached.{HasTokens};
 ghost use Rattle.term_syntax.specs.Tokens as spec;
 
 use crate::name::Name;
 use crate::refused::refused;
-use crate::token::{Mark, Token};
+use crate::token::{Mark, Shape, Token};
 use faults::kinds;
 use rec_reader::ReadFail;
 use std::alloc::Global;
 
 /// What begins at a byte: white space of one byte, or a token with the place after it.
-#[derive(Drop)]
-pub(crate) enum Piece {
+#[derive(Clone, Copy)]
+pub(crate) enum Cut {
     Blank,
     Whole(Token, usize),
 }
@@ -152,91 +154,160 @@ fn role_of(behind: bool, byte: u8) -> Role
     }
 }
 
-fn plain_name(alloc: Global, bytes: &[u8], at: usize) -> Result<Piece, ReadFail>
+#[inline(always)]
+fn plain_name(bytes: &[u8], at: usize) -> Cut
     requires { at < length bytes.now }
-    ensures name { IfOk result (λ p. p ≡ spec.plain_piece at (drop at bytes.now)) }
-    ensures fits { IfOk result (λ p. spec.next_of at p ≤ length bytes.now) }
-    ensures refused { IfErr result (λ e. e ≡ Memory) }
+    ensures name { piece_in bytes.now result ≡ spec.plain_piece at (drop at bytes.now) }
+    ensures after { at < spec.next_of at (piece_in bytes.now result) }
+    ensures fits { spec.next_of at (piece_in bytes.now result) ≤ length bytes.now }
 {
     let end = name_end(bytes, at + 1);
-    let name = Name::of(alloc, &bytes[at..end])?;
-    Ok(Piece::Whole(Token::Word(name, at), end))
+    let token = Token {
+        shape: Shape::Word,
+        place: at,
+    };
+    Cut::Whole(token, end)
 }
 
-fn quoted_name(alloc: Global, bytes: &[u8], at: usize) -> Result<Piece, ReadFail>
+#[tactic(auto, using(crate::proofs::Pieces::quoted_is))]
+fn quoted_name(alloc: Global, bytes: &[u8], at: usize) -> Result<Cut, ReadFail>
     requires { at < length bytes.now }
-    ensures name { IfOk result (λ p.
-        spec.quoted_piece at (spec.quoted (at + 1) false (drop (at + 1) bytes.now)) ≡ Ok p) }
-    ensures after { IfOk result (λ p. at < spec.next_of at p) }
-    ensures fits { IfOk result (λ p. spec.next_of at p ≤ length bytes.now) }
+    ensures name { IfOk result (λ c.
+        spec.quoted_piece at (spec.quoted (at + 1) false (drop (at + 1) bytes.now))
+        ≡ Ok (piece_in bytes.now c)) }
+    ensures after { IfOk result (λ c. at < spec.next_of at (piece_in bytes.now c)) }
+    ensures fits { IfOk result (λ c. spec.next_of at (piece_in bytes.now c) ≤ length bytes.now) }
     ensures refused { IfErr result
         (IsDue (spec.quoted_piece at (spec.quoted (at + 1) false (drop (at + 1) bytes.now)))) }
 {
-    let (name, end) = quoted(alloc, bytes, at + 1)?;
-    Ok(Piece::Whole(Token::Word(name, at), end))
+    let (_name, end) = quoted(alloc, bytes, at + 1)?;
+    let token = Token {
+        shape: Shape::Quoted,
+        place: at,
+    };
+    Ok(Cut::Whole(token, end))
 }
 
-fn number(bytes: &[u8], at: usize) -> Piece
+#[inline(always)]
+fn number(bytes: &[u8], at: usize) -> Cut
     requires within { at < length bytes.now }
     requires digit { is_ascii_digit (slice_index bytes.now at) ≡ true }
-    ensures number { result ≡ spec.number_piece at (drop at bytes.now) }
-    ensures fits { spec.next_of at result ≤ length bytes.now }
+    ensures number { piece_in bytes.now result ≡ spec.number_piece at (drop at bytes.now) }
+    ensures after { at < spec.next_of at (piece_in bytes.now result) }
+    ensures fits { spec.next_of at (piece_in bytes.now result) ≤ length bytes.now }
 {
     let end = number_end(bytes, at + 1);
-    Piece::Whole(Token::Number(integer_of(&bytes[at..end]), at), end)
+    let token = Token {
+        shape: Shape::Number,
+        place: at,
+    };
+    Cut::Whole(token, end)
 }
 
-fn mark(byte: u8, at: usize) -> Result<Piece, ReadFail>
+#[inline(always)]
+fn mark(bytes: &[u8], byte: u8, at: usize) -> Result<Cut, ReadFail>
     requires { at < usize.MAX }
-    ensures mark { IfOk result (λ p. spec.mark_piece at (spec.mark_of byte) ≡ Ok p) }
-    ensures after { IfOk result (λ p. spec.next_of at p ≡ at + 1) }
+    ensures mark { IfOk result (λ c.
+        spec.mark_piece at (spec.mark_of byte) ≡ Ok (piece_in bytes.now c)) }
+    ensures after { IfOk result (λ c. spec.next_of at (piece_in bytes.now c) ≡ at + 1) }
     ensures refused { IfErr result (IsDue (spec.mark_piece at (spec.mark_of byte))) }
 {
+    let _ = bytes;
     match mark_of(byte) {
-        Some(mark) => Ok(Piece::Whole(Token::At(mark, at), at + 1)),
+        Some(mark) => {
+            let token = Token {
+                shape: Shape::At(mark),
+                place: at,
+            };
+            Ok(Cut::Whole(token, at + 1))
+        }
         None => Err(refused(kinds::BAD_BYTE, at)),
     }
 }
 
-pub(crate) fn piece_at(alloc: Global, bytes: &[u8], at: usize) -> Result<Piece, ReadFail>
+/// What begins at a place of the bytes, in bytes from 0.
+///
+/// White space is space, tab, CR and LF. Refuses with kind 1 the first byte that begins no token or may not
+/// stand in quotes, and with kind 3, at the length of the input, quotes that aren't closed.
+#[inline(always)]
+pub(crate) fn piece_at(alloc: Global, bytes: &[u8], at: usize) -> Result<Cut, ReadFail>
     requires { at < length bytes.now }
-    ensures piece { IfOk result (λ p. spec.piece_at at (drop at bytes.now) ≡ Ok p) }
-    ensures after { IfOk result (λ p. at < spec.next_of at p) }
-    ensures fits { IfOk result (λ p. spec.next_of at p ≤ length bytes.now) }
+    ensures piece { IfOk result (λ c.
+        spec.piece_at at (drop at bytes.now) ≡ Ok (piece_in bytes.now c)) }
+    ensures after { IfOk result (λ c. at < spec.next_of at (piece_in bytes.now c)) }
+    ensures fits { IfOk result (λ c. spec.next_of at (piece_in bytes.now c) ≤ length bytes.now) }
     ensures refused { IfErr result (IsDue (spec.piece_at at (drop at bytes.now))) }
 {
     let byte = bytes[at];
     if is_space(byte) {
-        Ok(Piece::Blank)
+        Ok(Cut::Blank)
     } else if begins_name(byte) {
-        plain_name(alloc, bytes, at)
+        Ok(plain_name(bytes, at))
     } else if byte == b'"' {
         quoted_name(alloc, bytes, at)
     } else if byte.is_ascii_digit() {
         Ok(number(bytes, at))
     } else {
-        mark(byte, at)
+        mark(bytes, byte, at)
     }
 }
 
-/// The tokens of bytes, with their places in bytes from 0.
-///
-/// White space is space, tab, CR and LF. Refuses with kind 1 the first byte that begins no token or may not
-/// stand in quotes, and with kind 3, at the length of the input, quotes that aren't closed.
-pub(crate) fn tokens(alloc: Global, bytes: &[u8]) -> Result<Vec<Token>, ReadFail>
-    ensures tokens { IfOk result (λ t. spec.tokens_of bytes.now ≡ Ok t.items) }
+/// Looks whether all bytes have tokens, and refuses them as `piece_at` does where they don't.
+pub(crate) fn look_through(alloc: Global, bytes: &[u8]) -> Result<(), ReadFail>
+    ensures tokens { OnOk result (HasTokens bytes.now) }
     ensures refused { IfErr result (IsDue (spec.tokens_of bytes.now)) }
 {
-    let mut items = Vec::new(alloc);
     let mut at = 0;
     while at < bytes.len() {
         match piece_at(alloc, bytes, at)? {
-            Piece::Blank => at += 1,
-            Piece::Whole(token, next) => {
-                items.push(token)?;
-                at = next;
-            }
+            Cut::Blank => at += 1,
+            Cut::Whole(_token, next) => at = next,
         }
     }
-    Ok(items)
+    Ok(())
+}
+
+/// The plain name at a place, without bytes where none is.
+#[tactic(auto, using(crate::proofs::Pieces::plain_again, crate::proofs::Pieces::plain_past))]
+pub(crate) fn plain_name_at(bytes: &[u8], place: usize) -> &[u8]
+    ensures { result.now ≡ plain_at bytes.now place }
+{
+    if place < bytes.len() {
+        let end = name_end(bytes, place + 1);
+        &bytes[place..end]
+    } else {
+        &[]
+    }
+}
+
+/// The name in quotes at a place, without bytes where none is.
+#[tactic(auto, using(crate::proofs::Pieces::quoted_again, crate::proofs::Pieces::quoted_not, crate::proofs::Pieces::quoted_past))]
+pub(crate) fn quoted_name_at(alloc: Global, bytes: &[u8], place: usize) -> Result<Name, ReadFail>
+    ensures name { IfOk result (λ n. n ≡ quoted_at bytes.now place) }
+    ensures memory { IfErr result (λ e. e ≡ Memory) }
+{
+    if place >= bytes.len() {
+        return Ok(Name::new(alloc));
+    }
+    match quoted(alloc, bytes, place + 1) {
+        Ok((name, _)) => Ok(name),
+        Err(ReadFail::Refused { .. }) => Ok(Name::new(alloc)),
+        Err(ReadFail::Memory) => Err(ReadFail::Memory),
+    }
+}
+
+/// The number at a place, if one is there that is an integer up to 2^64 - 1 without a leading zero.
+#[tactic(auto, using(crate::proofs::Pieces::value_again, crate::proofs::Pieces::no_value, crate::proofs::Pieces::value_past, crate::proofs::Pieces::digits_cut))]
+pub(crate) fn integer_at(bytes: &[u8], place: usize) -> Option<u64>
+    ensures { result ≡ value_at bytes.now place }
+{
+    if place >= bytes.len() {
+        return None;
+    }
+    if bytes[place].is_ascii_digit() {
+        let end = number_end(bytes, place + 1);
+        integer_of(&bytes[place..end])
+    } else {
+        None
+    }
 }

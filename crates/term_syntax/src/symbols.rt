@@ -5,9 +5,12 @@ ghost use Rattle.term_syntax.specs.Parts.{taken_up, symbols_of_parts};
 ghost use Rattle.term_syntax.specs.TakenUp.{TookFront};
 ghost use Rattle.term_syntax.specs.Items.{item_in, IsTakenUp, IsPartFault, IsThere, GrowsPool};
 ghost use Rattle.term_syntax.specs.Named.{IsSymbolTaken, IsSymbolRefused};
+ghost use Rattle.term_syntax.specs.Shown.{part_in, parts_in, quoted_at};
 
-use crate::machine::{Kind, Part};
+use crate::machine::Entry;
 use crate::refused::refused;
+use crate::scanner::{integer_at, plain_name_at, quoted_name_at};
+use crate::token::Shape;
 use faults::kinds;
 use rec_reader::ReadFail;
 use std::alloc::Global;
@@ -38,42 +41,78 @@ fn take_symbol(
     }
 }
 
-// Takes up the symbol of a part, if it is one.
-fn take_part(part: &Part, symbols: &mut Symbols) -> Result<Item, ReadFail>
-    ensures taken { IfOk result (λ i. IsTakenUp symbols.old part.now i symbols.new) }
-    ensures refused { IfErr result (IsPartFault symbols.old part.now) }
+// Takes up the name in quotes that stands at a place, with a number of arguments.
+fn take_quoted(
+    alloc: Global,
+    text: &[u8],
+    place: usize,
+    count: u32,
+    symbols: &mut Symbols,
+) -> Result<Item, ReadFail>
+    ensures taken { IfOk result (λ i.
+        IsSymbolTaken symbols.old (quoted_at text.now place) count i symbols.new) }
+    ensures refused { IfErr result
+        (IsSymbolRefused symbols.old (quoted_at text.now place) count place) }
+    ensures unchanged { OnErr result (symbols.new ≡ symbols.old) }
+{
+    let name = quoted_name_at(alloc, text, place)?;
+    take_symbol(name.as_slice(), count, place, symbols)
+}
+
+// Takes up the symbol of a part of the text, if it is one.
+fn take_part(
+    alloc: Global,
+    text: &[u8],
+    part: Entry,
+    symbols: &mut Symbols,
+) -> Result<Item, ReadFail>
+    ensures taken { IfOk result (λ i.
+        IsTakenUp symbols.old (part_in text.now part) i symbols.new) }
+    ensures refused { IfErr result (IsPartFault symbols.old (part_in text.now part)) }
     ensures unchanged { OnErr result (symbols.new ≡ symbols.old) }
 {
     if part.over {
         return Err(refused(kinds::LIMIT, part.place));
     }
-    match &part.kind {
-        Kind::Symbol(name) => take_symbol(name.as_slice(), part.count, part.place, symbols),
-        Kind::Integer(Some(value)) => Ok(Item::Int(*value)),
-        Kind::Integer(None) => Err(refused(kinds::BAD_NUMBER, part.place)),
-        Kind::Brackets => Ok(Item::Nil),
+    match part.shape {
+        Shape::Word => take_symbol(
+            plain_name_at(text, part.place),
+            part.count,
+            part.place,
+            symbols,
+        ),
+        Shape::Quoted => take_quoted(alloc, text, part.place, part.count, symbols),
+        Shape::Number => match integer_at(text, part.place) {
+            Some(value) => Ok(Item::Int(value)),
+            None => Err(refused(kinds::BAD_NUMBER, part.place)),
+        },
+        Shape::At(_) => Ok(Item::Nil),
     }
 }
 
-/// The items of parts, whose symbols are taken up in order.
+/// The items of parts of the text, whose symbols are taken up in order.
 ///
 /// Refuses the first part with a fault at its place: with kind 13 a 17th argument, a name of more than 255
 /// bytes and a symbol too many, with kind 17 a number that isn't an integer.
 pub(crate) fn items_of(
     alloc: Global,
-    parts: &[Part],
+    text: &[u8],
+    parts: &[Entry],
     symbols: &mut Symbols,
 ) -> Result<Vec<Item>, ReadFail>
-    ensures taken { OnOk result (taken_up symbols.old parts.now ≡ Ok symbols.new) }
-    ensures items { IfOk result (λ i. i.items ≡ map (item_in symbols.new) parts.now) }
-    ensures there { OnOk result (All (IsThere symbols.new) parts.now) }
-    ensures refused { IfErr result (IsDue (taken_up symbols.old parts.now)) }
+    ensures taken { OnOk result
+        (taken_up symbols.old (parts_in text.now parts.now) ≡ Ok symbols.new) }
+    ensures items { IfOk result (λ i.
+        i.items ≡ map (item_in symbols.new) (parts_in text.now parts.now)) }
+    ensures there { OnOk result (All (IsThere symbols.new) (parts_in text.now parts.now)) }
+    ensures refused { IfErr result (IsDue (taken_up symbols.old (parts_in text.now parts.now))) }
     ensures grows { GrowsPool symbols.old symbols.new }
-    ensures front { TookFront (symbols_of_parts parts.now) symbols.old symbols.new }
+    ensures front { TookFront (symbols_of_parts (parts_in text.now parts.now))
+        symbols.old symbols.new }
 {
     let mut items = Vec::with_capacity(alloc, parts.len())?;
     for part in parts {
-        let item = take_part(part, symbols)?;
+        let item = take_part(alloc, text, *part, symbols)?;
         items.push(item)?;
     }
     Ok(items)

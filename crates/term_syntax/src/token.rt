@@ -1,12 +1,8 @@
 //! What term text is cut into.
-ghost use Rattle.std.specs.Prelude.{◌≡◌};
-ghost use Rattle.term_syntax.specs.Refusal.{place_of};
-
-use crate::name::Name;
 
 /// What stands between names and numbers.
 #[derive(Clone, Copy, Debug, PartialEq, Eq)]
-pub enum Mark {
+pub(crate) enum Mark {
     Open,
     Close,
     OpenList,
@@ -14,22 +10,18 @@ pub enum Mark {
     Comma,
 }
 
-/// A name, a number or a mark, each with the place of its first byte, in bytes from 0. A number has no
-/// value where it isn't an integer up to 2^64 - 1 without a leading zero.
-#[derive(Drop)]
-pub enum Token {
-    Word(Name, usize),
-    Number(Option<u64>, usize),
-    At(Mark, usize),
+/// What a token is: a plain name, a name in quotes, a number or a mark. What it says stands in the text.
+#[derive(Clone, Copy)]
+pub(crate) enum Shape {
+    Word,
+    Quoted,
+    Number,
+    At(Mark),
 }
 
-impl Token {
-    /// The place of its first byte.
-    pub fn place(&self) -> usize
-        ensures { result ≡ place_of self.now }
-    {
-        match self {
-            Token::Word(_, place) | Token::Number(_, place) | Token::At(_, place) => *place,
-        }
-    }
+/// A token: its shape, and the place of its first byte, in bytes from 0.
+#[derive(Clone, Copy)]
+pub(crate) struct Token {
+    pub(crate) shape: Shape,
+    pub(crate) place: usize,
 }

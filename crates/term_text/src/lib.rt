@@ -2,13 +2,9 @@
 #![tactic(auto)]
 
 mod counting;
-#[cfg(test)]
-mod inputs;
 mod measuring;
 mod nodes;
 mod printing;
-#[cfg(test)]
-mod tests;
 mod works;
 
 pub use faults::Memory;

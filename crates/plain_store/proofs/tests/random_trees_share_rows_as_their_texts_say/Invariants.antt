@@ -1,5 +1,0 @@
-use Rattle.std.proofs.Common.{◌≡◌, true}
-use Rattle.plain_store.proofs.tests.random_trees_share_rows_as_their_texts_say.Given as goal
-
-abbrev pub invariant-loop : goal.invariant-loop
-invariant-loop g l = record { inside : l.store.inside ≡ true; widest : l.store.widest ≡ 2 }

@@ -1,5 +1,0 @@
-use Rattle.term_text.specs.Trials.{IsTried}
-use Rattle.term_text.proofs.inputs.build_terms.Given as goal
-
-abbrev pub invariant-loop-flat : goal.invariant-loop-flat
-invariant-loop-flat g l = IsTried l.symbols (g.T.Terms.store l.terms)

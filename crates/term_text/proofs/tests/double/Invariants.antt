@@ -1,5 +1,0 @@
-use Rattle.term_text.specs.Trials.{IsTried}
-use Rattle.term_text.proofs.tests.double.Given as goal
-
-abbrev pub invariant-loop-level : goal.invariant-loop-level
-invariant-loop-level g l = IsTried l.symbols (g.T.Terms.store l.terms)
