@@ -30,7 +30,7 @@ entries_past zero caller (suc i) l le = refl
 entries_past (suc more) caller zero l le = absurd (omega arith)
 entries_past (suc more) caller (suc i) l le = entries_past more (suc caller) i l (omega arith)
 
-raised : (n m : ℕ) (xs : List Noted) → n ≤ m → AllByRecursion (λ x. x.caller < n) xs → AllByRecursion (λ x. x.caller < m) xs
+pub raised : (n m : ℕ) (xs : List Noted) → n ≤ m → AllByRecursion (λ x. x.caller < n) xs → AllByRecursion (λ x. x.caller < m) xs
 raised n m [] le a = tt
 raised n m (x ∷ xs) le a = ((let l = a.0 in omega arith), raised n m xs le a.1)
 
@@ -43,7 +43,7 @@ entries_are log f c = go (cases_lt c log.callers)
         entries_past log.callers 0 c (history log.noted) l
         ∙ sym (no_part c log.noted (raised log.begun c log.noted (let few = f.few in omega arith) f.each))
 
-chronicle_is : (log : Log) (order : List Noted) → IsFiled log.callers log.begun log.noted → Rises log.noted → IsMerged log.noted order → history order ≡ chronicle (lists_of log)
+pub chronicle_is : (log : Log) (order : List Noted) → IsFiled log.callers log.begun log.noted → Rises log.noted → IsMerged log.noted order → history order ≡ chronicle (lists_of log)
 chronicle_is log order f rises m =
     chronicle_is_the_one (lists_of log) (history order)
     (λ c. rising_never_falls (entries_of (lists_of log) c) (subst KeysRise (sym (entries_are log f c)) (rises c)))

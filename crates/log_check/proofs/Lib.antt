@@ -3,3 +3,4 @@ pub mod LineFeeds
 pub mod Rising
 pub mod Ordering
 pub mod Found
+pub mod OneVerdict

@@ -1,5 +1,5 @@
 -- Lines, words and numbers of a text.
-use Rattle.std.specs.Prelude.{◌≢◌, ◌<◌, length, slice_index, ℕ, ◌+◌, ◌-◌, ◌*◌, List, [], ◌∷◌, Option, Some, None, Bool, true, false, not, ◌&&◌, ◌==◌, nat_le, if◌then◌else◌}
+use Rattle.std.specs.Prelude.{◌≢◌, ◌<◌, length, slice_index, min, ℕ, ◌+◌, ◌-◌, ◌*◌, ◌^◌, List, [], ◌∷◌, Option, Some, None, Bool, true, false, not, ◌&&◌, ◌==◌, nat_le, if◌then◌else◌}
 use Rattle.std.specs.List.{list_all}
 
 -- a byte at the front of the first piece, or a piece of its own where there is none
@@ -43,3 +43,7 @@ with_digits n (d ∷ ds) = with_digits (n * 10 + (d - 48)) ds
 -- the number that a word is, in decimal without leading zeros
 abbrev pub number_in : List ℕ → Option ℕ
 number_in word = if has_no_leading_zero word && list_all is_digit word then Some (with_digits 0 word) else None
+
+-- a number, or 2^64 where it is greater
+abbrev pub capped : ℕ → ℕ
+capped n = min n (2 ^ 64)

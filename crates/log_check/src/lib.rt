@@ -3,13 +3,13 @@
 
 mod form;
 mod keys;
-mod lines;
+pub mod lines;
 mod log;
 mod merging;
 #[cfg(test)]
 mod tests;
 mod verdict;
-mod words;
+pub mod words;
 
 pub use faults::Memory;
 pub use rec_reader::ReadFail;

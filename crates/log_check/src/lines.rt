@@ -4,7 +4,7 @@ ghost use Rattle.std.specs.Prelude.{◌≡◌, ◌<◌, ◌∷◌, ◌++◌, [],
 ghost use Rattle.log_check.specs.Words.{Lacks, lines};
 
 /// The bytes before and after the first line feed.
-fn split_line(bytes: &[u8]) -> Option<(&[u8], &[u8])>
+pub fn split_line(bytes: &[u8]) -> Option<(&[u8], &[u8])>
     ensures { MatchOption result (Lacks 10 bytes.now)
         (λ p. Lacks 10 p.0.now × (bytes.now ≡ p.0.now ++ 10 ∷ p.1.now)) }
 {
@@ -17,7 +17,7 @@ fn split_line(bytes: &[u8]) -> Option<(&[u8], &[u8])>
 }
 
 /// The first line, and what comes after it; None where there is no line.
-pub(crate) fn next_line(bytes: &[u8]) -> Option<(&[u8], &[u8])>
+pub fn next_line(bytes: &[u8]) -> Option<(&[u8], &[u8])>
     ensures lines { MatchOption result (lines bytes.now ≡ [])
         (λ p. lines bytes.now ≡ p.0.now ∷ lines p.1.now) }
     ensures less { IfSome result (λ p. length p.1.now < length bytes.now) }

@@ -1,12 +1,13 @@
 //! Words and numbers of a line.
 
-ghost use Rattle.std.specs.Prelude.{◌≡◌, ◌<◌, ◌≤◌, ◌^◌, ◌∷◌, [], length, min, not, IfSome, MatchOption};
+ghost use Rattle.std.specs.Prelude.{◌≡◌, ◌<◌, ◌≤◌, ◌^◌, ◌∷◌, [], length, not, IfSome, MatchOption};
 ghost use Rattle.std.specs.List.{list_all};
+ghost use Rattle.std.specs.Option.{option_map};
 ghost use Rattle.log_check.specs.Form.{number_below};
-ghost use Rattle.log_check.specs.Words.{words, words_after, is_digit, has_no_leading_zero, with_digits};
+ghost use Rattle.log_check.specs.Words.{words, words_after, capped, is_digit, has_no_leading_zero, number_in, with_digits};
 
 /// The first word of a line, and the line from the next space on.
-pub(crate) fn first_word(bytes: &[u8]) -> (&[u8], &[u8])
+pub fn first_word(bytes: &[u8]) -> (&[u8], &[u8])
     ensures words { words bytes.now ≡ result.0.now ∷ words_after result.1.now }
     ensures size { length result.1.now ≤ length bytes.now }
 {
@@ -19,7 +20,7 @@ pub(crate) fn first_word(bytes: &[u8]) -> (&[u8], &[u8])
 }
 
 /// The first word after a space, and the line from the next space on; None at the end of the line.
-pub(crate) fn next_word(rest: &[u8]) -> Option<(&[u8], &[u8])>
+pub fn next_word(rest: &[u8]) -> Option<(&[u8], &[u8])>
     ensures words { MatchOption result (words_after rest.now ≡ [])
         (λ p. words_after rest.now ≡ p.0.now ∷ words_after p.1.now) }
     ensures less { IfSome result (λ p. length p.1.now < length rest.now) }
@@ -28,14 +29,21 @@ pub(crate) fn next_word(rest: &[u8]) -> Option<(&[u8], &[u8])>
     Some(first_word(bytes))
 }
 
-/// The number below 2^64 that a word is in decimal; None where it is none, or has leading zeros.
-pub(crate) fn number_of(word: &[u8]) -> Option<u64>
-    ensures { result ≡ number_below (2 ^ 64) word.now }
+/// The number that a word is in decimal, or 2^64 where it is greater; None where it is none, or has leading zeros.
+pub fn capped_number_of(word: &[u8]) -> Option<u128>
+    ensures { result ≡ option_map capped (number_in word.now) }
 {
     if leads_with_zero(word) || !all_digits(word) {
         return None;
     }
-    let value = value_of(word);
+    Some(value_of(word))
+}
+
+/// The number below 2^64 that a word is in decimal; None where it is none, or has leading zeros.
+pub(crate) fn number_of(word: &[u8]) -> Option<u64>
+    ensures { result ≡ number_below (2 ^ 64) word.now }
+{
+    let value = capped_number_of(word)?;
     if value < 1 << 64 {
         Some(value as u64)
     } else {
@@ -67,7 +75,7 @@ fn is_digit(byte: u8) -> bool
 
 /// The number that digits are in decimal, or 2^64 where it is greater.
 fn value_of(digits: &[u8]) -> u128
-    ensures { result ≡ min (with_digits 0 digits.now) (2 ^ 64) }
+    ensures { result ≡ capped (with_digits 0 digits.now) }
 {
     let mut value: u128 = 0;
     for byte in digits {

@@ -1,0 +1,153 @@
+-- What a replay and a text tell of a trace, and what the parts of an input tell of its verdict.
+use Rattle.std.proofs.Common.{◌≡◌, ℕ, zero, suc, ◌+◌, ◌<◌, ◌≤◌, Bool, true, false, List, [], ◌∷◌, length, map, Option, Some, None, Result, Ok, Err, inl, inr, Bor, refl, sym, ap, subst, ◌∙◌, arith}
+use Rattle.std.specs.Prelude.{IfOk, IsTrue, option_and_then}
+use Rattle.std.specs.Option.{option_map, option_map_or}
+use Rattle.std.specs.Str.{bytes_eq}
+use Rattle.std.proofs.lemmas.Bool.Decides.{same_from_decides}
+use Rattle.std.proofs.lemmas.Slice.Eq.{bytes_eq-Decides}
+use Rattle.faults.specs.declared.refusal.Refusal.{Refusal}
+use Rattle.rec_reader.specs.declared.fail.ReadFail.{ReadFail}
+use Rattle.rec_reader.specs.declared.fail.ReadFail.TheVariants.{Refused, Memory}
+use Rattle.symbol_pool.specs.Pool.{Named}
+use Rattle.term_model.specs.Tree.{Tree, Leaf, Node, Trees, End, More}
+use Rattle.rewrite_model.specs.Rule.{Rule}
+use Rattle.rewrite_model.specs.Matching.{instance, instances}
+use Rattle.rewrite_model.specs.Replay.{replayed}
+use Rattle.rewrite_model.specs.declared.event.Event.{Event}
+use Rattle.rec_check.specs.Spelled.{Specified}
+use Rattle.term_text.specs.Text.{text}
+use Rattle.log_check.specs.Words.{lines}
+use Rattle.run_checks.specs.Form.{values_from, wrong_after, wrong_line}
+use Rattle.run_checks.specs.Held.{Held, Grows, IsPut, IsReplayed, term_at}
+use Rattle.run_checks.specs.Parts.{parts}
+use Rattle.run_checks.specs.Refusing.{IsCut, IsCutOff, IsWrongAt}
+use Rattle.run_checks.specs.Specification.{Spells, IsFaulty}
+use Rattle.run_checks.specs.Verdict.{leads_to, first_underived, told, verdict, term_lines, trace_lines, HasParts, IsChecked, IsRefused}
+use Rattle.run_checks.specs.declared.checking.TraceVerdict.{TraceVerdict}
+use Rattle.run_checks.proofs.Values.{seen_lines, count_taken, cut_take, cut_drop, wrong_after_cut, wrong_cut_off}
+
+-- ---- a pattern to which nothing is bound is its own instance
+
+mutual
+  itself : (p : Tree) → instance p [] ≡ p
+  itself (Leaf x) = refl
+  itself (Node h ps) = ap (Node h) (themselves ps)
+
+  themselves : (ps : Trees) → instances ps [] ≡ ps
+  themselves End = refl
+  themselves (More p ps) = λ i. More (itself p i) (themselves ps i)
+
+-- ---- one trace
+
+pub no_events : (names : List Named) (rules : List Rule) (es : Option (List Event)) (t : Tree) (line : List ℕ) → es ≡ None → false ≡ leads_to names rules es t line
+no_events names rules es t line e = sym (ap (λ (o : Option (List Event)). leads_to names rules o t line) e)
+
+module _ (old put new : Held) (rules : List Rule) (es : Option (List Event)) (t : Tree) (line : List ℕ) (n : ℕ) (is_put : IsPut old put n (instance t [])) where
+  abbrev ends : Option Tree
+  ends = option_and_then (λ events. replayed rules events [] t) es
+
+  abbrev tells : Option Tree → Bool
+  tells o = option_map_or (λ u. bytes_eq line (text old.symbols u)) o false
+
+  from_term : option_and_then (λ events. replayed rules events [] (term_at put n)) es ≡ ends
+  from_term = ap (λ (u : Tree). option_and_then (λ events. replayed rules events [] u) es) (is_put.term ∙ itself t)
+
+  pub never_there : (r : Option ℕ) → IsReplayed put new (option_and_then (λ events. replayed rules events [] (term_at put n)) es) r → r ≡ None → false ≡ leads_to old.symbols rules es t line
+  never_there r s e = go ends refl (subst (λ o. IsReplayed put new o r) from_term s)
+    where
+      go : (o : Option Tree) → ends ≡ o → IsReplayed put new o r → false ≡ leads_to old.symbols rules es t line
+      go None q s = sym (ap tells q)
+      go (Some u) q s = absurd (let bad : Some u ≡ None = subst (λ (x : Option ℕ). IsReplayed put new (Some u) x) e s in cc)
+
+  record Ended (value : ℕ) : Type 0 where
+    tree : Tree
+    is : ends ≡ Some tree
+    at : IsPut put new value tree
+
+  ended : (r : Option ℕ) (value : ℕ) → IsReplayed put new (option_and_then (λ events. replayed rules events [] (term_at put n)) es) r → r ≡ Some value → Ended value
+  ended r value s e = go ends refl (subst (λ (x : Option ℕ). IsReplayed put new ends x) e (subst (λ o. IsReplayed put new o r) from_term s))
+    where
+      go : (o : Option Tree) → ends ≡ o → IsReplayed put new o (Some value) → Ended value
+      go None q s = absurd s
+      go (Some u) q s = record { tree = u; is = q; at = s }
+
+  pub symbols_stay : (r : Option ℕ) (value : ℕ) → IsReplayed put new (option_and_then (λ events. replayed rules events [] (term_at put n)) es) r → r ≡ Some value → new.symbols ≡ old.symbols
+  symbols_stay r value s e = (ended r value s e).at.grows.symbols ∙ is_put.grows.symbols
+
+  pub read_there : (r : Option ℕ) (value : ℕ) (b : Bool) → IsReplayed put new (option_and_then (λ events. replayed rules events [] (term_at put n)) es) r → r ≡ Some value
+      → (IsTrue b → line ≡ text new.symbols (term_at new value)) × (line ≡ text new.symbols (term_at new value) → IsTrue b) → b ≡ leads_to old.symbols rules es t line
+  read_there r value b s e d =
+      let w = ended r value s e in
+      let same : text new.symbols (term_at new value) ≡ text old.symbols w.tree = λ i. text (symbols_stay r value s e i) (w.at.term i) in
+      same_from_decides b (bytes_eq line (text old.symbols w.tree)) ((λ h. d.0 h ∙ same), (λ h. d.1 (h ∙ sym same))) (bytes_eq-Decides line (text old.symbols w.tree))
+      ∙ sym (ap tells w.is)
+
+  pub tells_so : {E : Type 0} (b : Result Bool E) (r : Option ℕ) (value : ℕ) (told : Option (List Event)) → IsReplayed put new (option_and_then (λ events. replayed rules events [] (term_at put n)) es) r → r ≡ Some value
+      → IfOk b (λ c. (IsTrue c → line ≡ text new.symbols (term_at new value)) × (line ≡ text new.symbols (term_at new value) → IsTrue c)) → told ≡ es → IfOk b (λ c. c ≡ leads_to old.symbols rules told t line)
+  tells_so (Ok c) r value told s e d is = read_there r value c s e d ∙ ap (λ (o : Option (List Event)). leads_to old.symbols rules o t line) (sym is)
+  tells_so (Err x) r value told s e d is = tt
+
+  pub tells_none : (r : Option ℕ) (told : Option (List Event)) → IsReplayed put new (option_and_then (λ events. replayed rules events [] (term_at put n)) es) r → r ≡ None → told ≡ es → false ≡ leads_to old.symbols rules told t line
+  tells_none r told s e is = never_there r s e ∙ ap (λ (o : Option (List Event)). leads_to old.symbols rules o t line) (sym is)
+
+-- ---- refusals
+
+abbrev pub Halves : Type 0
+Halves = Bor (List ℕ) × Bor (List ℕ)
+
+pub no_heading : (bytes : List ℕ) (r : Option Halves) (e : ReadFail) → option_map (λ (p : Halves). (p.0.now, p.1.now)) r ≡ parts bytes → r ≡ None → e ≡ Refused 15 0 → IsRefused bytes e
+no_heading bytes r e p n is =
+    subst (IsRefused bytes) (sym is) (inl (record { no_parts = sym p ∙ ap (option_map (λ (p : Halves). (p.0.now, p.1.now))) n; kind = refl; line = refl }))
+
+pub in_halves : (bytes spec_text output : List ℕ) (r : Option Halves) (a b : Bor (List ℕ)) → option_map (λ (p : Halves). (p.0.now, p.1.now)) r ≡ parts bytes → r ≡ Some (a, b) → a.now ≡ spec_text → b.now ≡ output → parts bytes ≡ Some (spec_text, output)
+in_halves bytes spec_text output r a b p e x y = sym p ∙ ap (option_map (λ (p : Halves). (p.0.now, p.1.now))) e ∙ (λ i. Some (x i, y i))
+
+module _ (bytes spec_text output : List ℕ) (are : parts bytes ≡ Some (spec_text, output)) where
+  pub bad_specification : (e : ReadFail) → IsFaulty spec_text e → IsRefused bytes e
+  bad_specification (Refused kind offset) f = inr (inl (record { spec_text = spec_text; output = output; parts_are = are; fault_is = f }))
+  bad_specification Memory f = tt
+
+  module _ (spec : Specified) (spells : Spells spec_text spec) (count : ℕ) (wanted : count ≡ length spec.terms) where
+    has_parts : HasParts bytes spec (lines output)
+    has_parts = record { spec_text = spec_text; output = output; parts_are = are; spelled = spells; lines_are = refl }
+
+    pub too_short : (e : ReadFail) → IsCutOff count (lines output) e → IsRefused bytes e
+    too_short (Refused kind line) f =
+        let less : length (lines output) < length spec.terms = omega (arith, f.1, wanted) in
+        inr (inr (record { spec = spec; all_lines = lines output; in_parts = has_parts; kind = f.0; line = wrong_cut_off (length spec.terms) (lines output) less ∙ ap Some (sym f.2) }))
+    too_short Memory f = tt
+
+    module _ (taken items : List (Bor (List ℕ))) (rest : List (List ℕ)) (same : items ≡ taken) (cut : IsCut count (lines output) (seen_lines taken) rest) where
+      pub few_taken : length spec.terms ≤ 65535 → length items ≤ 65535
+      few_taken few =
+          let n = count_taken taken in
+          let m = ap (λ (xs : List (Bor (List ℕ))). length xs) same in
+          omega (arith, n, m, few, cut.size, wanted)
+
+      cut_there : IsCut (length spec.terms) (lines output) (seen_lines taken) rest
+      cut_there = subst (λ (m : ℕ). IsCut m (lines output) (seen_lines taken) rest) wanted cut
+
+      wrong_there : wrong_line (length spec.terms) (lines output) ≡ wrong_after (seen_lines items) rest
+      wrong_there = wrong_after_cut (length spec.terms) (lines output) (seen_lines taken) rest cut_there ∙ ap (λ (xs : List (Bor (List ℕ))). wrong_after (seen_lines xs) rest) (sym same)
+
+      pub wrong_form : (e : ReadFail) → IsWrongAt (wrong_after (seen_lines items) rest) e → IsRefused bytes e
+      wrong_form (Refused kind line) f =
+          inr (inr (record { spec = spec; all_lines = lines output; in_parts = has_parts; kind = f.0; line = wrong_there ∙ f.1 }))
+      wrong_form Memory f = tt
+
+      verdict_there : (found : Option ℕ) (values : ℕ) → values ≡ length (values_from 0 (seen_lines items)) → found ≡ first_underived spec (seen_lines taken) (values_from 0 (seen_lines taken)) rest → told found values ≡ verdict spec (term_lines spec (lines output)) (trace_lines spec (lines output))
+      verdict_there found values n f =
+          let m : values ≡ length (values_from 0 (seen_lines taken)) = n ∙ ap (λ (xs : List (Bor (List ℕ))). length (values_from 0 (seen_lines xs))) same in
+          let here : told found values ≡ verdict spec (seen_lines taken) rest = (λ i. told (f i) (m i)) in
+          let there : verdict spec (seen_lines taken) rest ≡ verdict spec (term_lines spec (lines output)) (trace_lines spec (lines output)) =
+          (λ i. verdict spec (sym (cut_take (length spec.terms) (lines output) (seen_lines taken) rest cut_there) i) (sym (cut_drop (length spec.terms) (lines output) (seen_lines taken) rest cut_there) i)) in
+          here ∙ there
+
+      pub is_checked : (v : TraceVerdict) (found : Option ℕ) (values : ℕ) → wrong_after (seen_lines items) rest ≡ None → values ≡ length (values_from 0 (seen_lines items)) → found ≡ first_underived spec (seen_lines taken) (values_from 0 (seen_lines taken)) rest → v ≡ told found values → IsChecked bytes v
+      is_checked v found values formed n f e = record {
+        spec = spec;
+        all_lines = lines output;
+        in_parts = has_parts;
+        formed = wrong_there ∙ formed;
+        verdict_is = e ∙ verdict_there found values n f;
+      }

@@ -1,0 +1,15 @@
+pub mod Form
+pub mod Held
+pub mod HeldCode
+pub mod Instances
+pub mod Matched
+pub mod Named
+pub mod Parts
+pub mod Pieces
+pub mod Reached
+pub mod Refusing
+pub mod Rules
+pub mod Shelved
+pub mod Specification
+pub mod Standing
+pub mod Verdict
