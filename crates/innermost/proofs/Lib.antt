@@ -14,6 +14,8 @@ pub mod Choosing
 pub mod Starts
 pub mod Spelling
 pub mod States
+pub mod Telling
+pub mod Tellings
 pub mod Using
 pub mod Ways
 pub mod Skipping
@@ -28,3 +30,9 @@ pub mod Again
 pub mod Rewrites
 pub mod OutwardEnds
 pub mod Pushing
+pub mod Placing
+pub mod NodePlaces
+pub mod Trails
+pub mod Turns
+pub mod Tracings
+pub mod TracedEnds

@@ -2,6 +2,7 @@ pub mod Building
 pub mod Code
 pub mod Depths
 pub mod Evaluating
+pub mod Faults
 pub mod Fits
 pub mod Follow
 pub mod Laws
@@ -12,6 +13,7 @@ pub mod Shown
 pub mod Spelled
 pub mod Standing
 pub mod State
+pub mod Whole
 pub mod Tasks
 pub mod BuiltTrees
 pub mod Outward
@@ -20,3 +22,6 @@ pub mod Walking
 pub mod OutwardLaws
 pub mod Rebuilding
 pub mod Rewriting
+pub mod Traced
+pub mod Trail
+pub mod Noting

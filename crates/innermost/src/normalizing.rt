@@ -9,6 +9,7 @@ ghost use Rattle.rewrite_model.specs.Outermost.{outermost as outermost_of, outer
 ghost use Rattle.rule_match.specs.Planned.{IsPlain};
 ghost use Rattle.innermost.specs.Normalized.{Answers, Builds, FaultOnlyWhereRefused, SweepsAtMost, LoadsNeedAtMost, KeepsNumbers};
 ghost use Rattle.innermost.specs.BuiltTrees.{BuildsTrees};
+ghost use Rattle.innermost.specs.Traced.{TracedAnswers, TracedBuilds, RefusedOnlyWhereTold, TracedSweeps, TellsReplacements};
 ghost use Rattle.innermost.specs.Machines.{IsFor, settled};
 
 use crate::coding::code_plan;
@@ -17,8 +18,9 @@ use crate::evaluating::evaluate;
 use crate::frames::Frame;
 use crate::outward::rewrite;
 use crate::spots::Spot;
+use crate::trail::Trail;
 use crate::windows::Window;
-use crate::{Normal, RunFault};
+use crate::{Event, Normal, RunFault, TraceFault, tracing};
 use faults::Memory;
 use rule_match::{Binds, Plan};
 use std::alloc::Global;
@@ -37,6 +39,7 @@ pub struct Machine {
     frames: Vec<Frame>,
     window: Window,
     spots: Vec<Spot>,
+    trail: Trail,
     builds: u32,
 }
 
@@ -70,6 +73,7 @@ impl Machine {
                 path: Vec::with_capacity(alloc, room)?,
             },
             spots: Vec::with_capacity(alloc, room)?,
+            trail: Trail::new(alloc),
             builds: 0,
         })
     }
@@ -120,6 +124,59 @@ impl Machine {
         settle(end, base, terms)
     }
 
+    /// Normalizes a term as `normalize` does, and appends the events of what it replaces: moves of a
+    /// cursor that begins at the root, no more than are needed, and uses of rules where it stands.
+    /// By rules with conditions what is appended says nothing. It takes memory for the events alone;
+    /// after any fault the stack is as it was, and the events so far stand there.
+    pub fn normalize_traced<T: Terms>(
+        &mut self,
+        plan: &Plan,
+        term: &Flat,
+        fuel: u64,
+        terms: &mut T,
+        trace: &mut Vec<Event>,
+    ) -> Result<Normal, TraceFault>
+        requires inside { (T.store terms.old).inside ≡ true }
+        requires machine { IsFor plan.now self.old }
+        requires no_variables { IsGround term.now }
+        requires plain { IsPlain plan.now.widest term.now }
+        requires wide { plan.now.widest ≤ (T.store terms.old).widest }
+        requires free { length (T.store terms.old).stack + self.old.depth
+            ≤ (T.store terms.old).room }
+        ensures answer { TracedAnswers (evaluation plan.now.rules term.now fuel self.old.depth).end
+            (T.store terms.old) (T.store terms.new) result }
+        ensures built { TracedBuilds (evaluation plan.now.rules term.now fuel self.old.depth).notes
+            (T.store terms.old) (T.store terms.new) result }
+        ensures faults { RefusedOnlyWhereTold (T.store terms.old) (T.store terms.new) result }
+        ensures sweeps { TracedSweeps (T.store terms.old) (T.store terms.new) result }
+        ensures load { LoadsNeedAtMost (need plan.now.rules term.now fuel self.old.depth)
+            (T.store terms.old) (T.store terms.new) }
+        ensures numbers { KeepsNumbers (T.store terms.old) (T.store terms.new) }
+        ensures sound { IsSound (T.store terms.new) }
+        ensures machine { self.new ≡ self.old }
+        ensures same { T.same terms.old terms.new }
+        ensures events { TellsReplacements plan.now.rules term.now fuel trace.old.items
+            trace.new.items result }
+    {
+        let base = terms.depth();
+        let _ = plan.rules();
+        let _ = self.code.steps.len();
+        let end = tracing::trace(
+            plan,
+            &self.code,
+            &mut self.binds,
+            &mut self.frames,
+            &mut self.window,
+            term,
+            fuel,
+            &mut self.builds,
+            terms,
+            &mut self.trail,
+            trace,
+        );
+        settle(end, base, terms)
+    }
+
     /// Rewrites a term by leftmost outermost rewriting: each time at the first position from the
     /// root that a rule matches, whatever conditions the rule has. A value is on top of the stack,
     /// and after any other answer the stack is as it was. It takes no memory.
@@ -166,11 +223,7 @@ impl Machine {
 }
 
 /// Leaves the stack as it was, with so many places, where there is no value.
-fn settle<T: Terms>(
-    end: Result<Normal, RunFault>,
-    base: u32,
-    terms: &mut T,
-) -> Result<Normal, RunFault>
+fn settle<T: Terms, F: Copy>(end: Result<Normal, F>, base: u32, terms: &mut T) -> Result<Normal, F>
     requires inside { (T.store terms.old).inside ≡ true }
     requires base { base ≤ length (T.store terms.old).stack }
     requires sound { IsSound (T.store terms.old) }

@@ -14,8 +14,6 @@ mod reading;
 mod rows;
 mod rules;
 mod stepping;
-#[cfg(test)]
-mod tests;
 
 pub use boxed::{Arguments, Term};
 pub use counting::distinct;

@@ -9,8 +9,6 @@ mod heads;
 mod linking;
 mod matching;
 mod planning;
-#[cfg(test)]
-mod tests;
 
 pub use binding::Binds;
 pub use checking::{has_symbols_alone, may_be_planned};

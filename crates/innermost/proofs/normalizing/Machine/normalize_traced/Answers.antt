@@ -1,0 +1,81 @@
+use Rattle.std.proofs.Common.{◌≡◌, ℕ, Result, sym, ap, subst, arith}
+use Rattle.rewrite_model.specs.Evaluation.{evaluation}
+use Rattle.rewrite_model.specs.Built.{need}
+use Rattle.innermost.specs.Normalized.{LoadsNeedAtMost}
+use Rattle.innermost.specs.Traced.{TracedAnswers, TracedBuilds, RefusedOnlyWhereTold, TracedSweeps, Tells}
+use Rattle.innermost.specs.Tasks.{HasCode}
+use Rattle.innermost.specs.Machines.{Made}
+use Rattle.innermost.specs.declared.normal.Normal.{Normal}
+use Rattle.innermost.specs.declared.normal.TraceFault.{TraceFault}
+use Rattle.innermost.proofs.TracedEnds.{traced_left, traced_from, traced_inside, traced_sound, traced_high}
+use Rattle.innermost.proofs.normalizing.Machine.normalize_traced.Goals as goal
+
+pub trace-end-requires-clause-ready : goal.trace-end-requires-clause-ready
+trace-end-requires-clause-ready g c =
+    let depth : c.self.inside.code.depth ≡ c.args.self.now.depth = ap (λ (m : Made). m.depth) c.self.view_is in
+    record {
+      planned = c.rules.ensures.plan;
+      coded = subst (λ (m : Made). HasCode c.args.plan.now m.steps m.starts) (sym c.self.view_is) c.requires.machine.code;
+      free = omega (arith, depth, c.requires.free);
+      wide = c.requires.wide;
+      depth = omega (arith, depth, c.requires.free, c.depth-base.ensures.sound.room);
+      short = omega (arith, c.len.ensures, c.len.type_inv, c.self.inside.code.steps.ok.0);
+    }
+
+pub settle-requires-clause-inside : goal.settle-requires-clause-inside
+settle-requires-clause-inside g c =
+    traced_inside c.args.plan.now c.self.inside.code c.args.term.now c.args.fuel (g.T.Terms.store c.args.terms.now) (g.T.Terms.store c.trace-end.new.terms) c.trace-end.result (traced_from c.args.plan.now c.self.inside.code c.args.term.now c.args.fuel (g.T.Terms.store c.args.terms.now) (g.T.Terms.store c.trace-end.new.terms) c.trace-end.result c.trace-end.ensures.state c.trace-end.ensures.fault)
+
+pub settle-requires-clause-base : goal.settle-requires-clause-base
+settle-requires-clause-base g c =
+    let h = traced_high c.args.plan.now c.self.inside.code c.args.term.now c.args.fuel (g.T.Terms.store c.args.terms.now) (g.T.Terms.store c.trace-end.new.terms) c.trace-end.result (traced_from c.args.plan.now c.self.inside.code c.args.term.now c.args.fuel (g.T.Terms.store c.args.terms.now) (g.T.Terms.store c.trace-end.new.terms) c.trace-end.result c.trace-end.ensures.state c.trace-end.ensures.fault) in
+    omega (arith, h, c.depth-base.ensures.depth)
+
+pub settle-requires-clause-sound : goal.settle-requires-clause-sound
+settle-requires-clause-sound g c =
+    traced_sound c.args.plan.now c.self.inside.code c.args.term.now c.args.fuel (g.T.Terms.store c.args.terms.now) (g.T.Terms.store c.trace-end.new.terms) c.trace-end.result (traced_from c.args.plan.now c.self.inside.code c.args.term.now c.args.fuel (g.T.Terms.store c.args.terms.now) (g.T.Terms.store c.trace-end.new.terms) c.trace-end.result c.trace-end.ensures.state c.trace-end.ensures.fault)
+
+pub returns-clause-answer : goal.returns-clause-answer
+returns-clause-answer g c =
+    let left = traced_left c.args.plan.now c.self.inside.code c.args.term.now c.args.fuel (g.T.Terms.store c.args.terms.now) (g.T.Terms.store c.trace-end.new.terms) (g.T.Terms.store c.settle.new.terms) c.depth-base.result c.trace-end.result
+    (traced_from c.args.plan.now c.self.inside.code c.args.term.now c.args.fuel (g.T.Terms.store c.args.terms.now) (g.T.Terms.store c.trace-end.new.terms) c.trace-end.result c.trace-end.ensures.state c.trace-end.ensures.fault) c.depth-base.ensures.depth c.settle.ensures.settled c.settle.ensures.sound in
+    let P : ℕ → Result Normal TraceFault → Type 0 = λ d r. TracedAnswers (evaluation c.args.plan.now.rules c.args.term.now c.args.fuel d).end (g.T.Terms.store c.args.terms.now) (g.T.Terms.store c.settle.new.terms) r in
+    subst (λ d. P d c.settle.result) (ap (λ (m : Made). m.depth) c.self.view_is) (subst (λ r. P c.self.inside.code.depth r) (sym c.settle.ensures.end) left.answer)
+
+pub returns-clause-built : goal.returns-clause-built
+returns-clause-built g c =
+    let left = traced_left c.args.plan.now c.self.inside.code c.args.term.now c.args.fuel (g.T.Terms.store c.args.terms.now) (g.T.Terms.store c.trace-end.new.terms) (g.T.Terms.store c.settle.new.terms) c.depth-base.result c.trace-end.result
+    (traced_from c.args.plan.now c.self.inside.code c.args.term.now c.args.fuel (g.T.Terms.store c.args.terms.now) (g.T.Terms.store c.trace-end.new.terms) c.trace-end.result c.trace-end.ensures.state c.trace-end.ensures.fault) c.depth-base.ensures.depth c.settle.ensures.settled c.settle.ensures.sound in
+    let P : ℕ → Result Normal TraceFault → Type 0 = λ d r. TracedBuilds (evaluation c.args.plan.now.rules c.args.term.now c.args.fuel d).notes (g.T.Terms.store c.args.terms.now) (g.T.Terms.store c.settle.new.terms) r in
+    subst (λ d. P d c.settle.result) (ap (λ (m : Made). m.depth) c.self.view_is) (subst (λ r. P c.self.inside.code.depth r) (sym c.settle.ensures.end) left.built)
+
+pub returns-clause-faults : goal.returns-clause-faults
+returns-clause-faults g c =
+    let left = traced_left c.args.plan.now c.self.inside.code c.args.term.now c.args.fuel (g.T.Terms.store c.args.terms.now) (g.T.Terms.store c.trace-end.new.terms) (g.T.Terms.store c.settle.new.terms) c.depth-base.result c.trace-end.result
+    (traced_from c.args.plan.now c.self.inside.code c.args.term.now c.args.fuel (g.T.Terms.store c.args.terms.now) (g.T.Terms.store c.trace-end.new.terms) c.trace-end.result c.trace-end.ensures.state c.trace-end.ensures.fault) c.depth-base.ensures.depth c.settle.ensures.settled c.settle.ensures.sound in
+    let P : ℕ → Result Normal TraceFault → Type 0 = λ d r. RefusedOnlyWhereTold (g.T.Terms.store c.args.terms.now) (g.T.Terms.store c.settle.new.terms) r in
+    subst (λ d. P d c.settle.result) (ap (λ (m : Made). m.depth) c.self.view_is) (subst (λ r. P c.self.inside.code.depth r) (sym c.settle.ensures.end) left.faults)
+
+pub returns-clause-sweeps : goal.returns-clause-sweeps
+returns-clause-sweeps g c =
+    let left = traced_left c.args.plan.now c.self.inside.code c.args.term.now c.args.fuel (g.T.Terms.store c.args.terms.now) (g.T.Terms.store c.trace-end.new.terms) (g.T.Terms.store c.settle.new.terms) c.depth-base.result c.trace-end.result
+    (traced_from c.args.plan.now c.self.inside.code c.args.term.now c.args.fuel (g.T.Terms.store c.args.terms.now) (g.T.Terms.store c.trace-end.new.terms) c.trace-end.result c.trace-end.ensures.state c.trace-end.ensures.fault) c.depth-base.ensures.depth c.settle.ensures.settled c.settle.ensures.sound in
+    let P : ℕ → Result Normal TraceFault → Type 0 = λ d r. TracedSweeps (g.T.Terms.store c.args.terms.now) (g.T.Terms.store c.settle.new.terms) r in
+    subst (λ d. P d c.settle.result) (ap (λ (m : Made). m.depth) c.self.view_is) (subst (λ r. P c.self.inside.code.depth r) (sym c.settle.ensures.end) left.sweeps)
+
+pub returns-clause-load : goal.returns-clause-load
+returns-clause-load g c =
+    let left = traced_left c.args.plan.now c.self.inside.code c.args.term.now c.args.fuel (g.T.Terms.store c.args.terms.now) (g.T.Terms.store c.trace-end.new.terms) (g.T.Terms.store c.settle.new.terms) c.depth-base.result c.trace-end.result
+    (traced_from c.args.plan.now c.self.inside.code c.args.term.now c.args.fuel (g.T.Terms.store c.args.terms.now) (g.T.Terms.store c.trace-end.new.terms) c.trace-end.result c.trace-end.ensures.state c.trace-end.ensures.fault) c.depth-base.ensures.depth c.settle.ensures.settled c.settle.ensures.sound in
+    let P : ℕ → Result Normal TraceFault → Type 0 = λ d r. LoadsNeedAtMost (need c.args.plan.now.rules c.args.term.now c.args.fuel d) (g.T.Terms.store c.args.terms.now) (g.T.Terms.store c.settle.new.terms) in
+    subst (λ d. P d c.settle.result) (ap (λ (m : Made). m.depth) c.self.view_is) (subst (λ r. P c.self.inside.code.depth r) (sym c.settle.ensures.end) left.load)
+
+pub returns-clause-numbers : goal.returns-clause-numbers
+returns-clause-numbers g c =
+    let left = traced_left c.args.plan.now c.self.inside.code c.args.term.now c.args.fuel (g.T.Terms.store c.args.terms.now) (g.T.Terms.store c.trace-end.new.terms) (g.T.Terms.store c.settle.new.terms) c.depth-base.result c.trace-end.result
+    (traced_from c.args.plan.now c.self.inside.code c.args.term.now c.args.fuel (g.T.Terms.store c.args.terms.now) (g.T.Terms.store c.trace-end.new.terms) c.trace-end.result c.trace-end.ensures.state c.trace-end.ensures.fault) c.depth-base.ensures.depth c.settle.ensures.settled c.settle.ensures.sound in
+    left.numbers
+
+pub returns-clause-events : goal.returns-clause-events
+returns-clause-events g c = λ u.
+    subst (λ r. Tells c.args.plan.now.rules c.args.term.now c.args.fuel c.args.trace.now.items c.trace-end.new.events.items r) (sym c.settle.ensures.end) (c.trace-end.ensures.events u)
