@@ -6,3 +6,8 @@ pub mod Steps
 pub mod Trying
 pub mod Readings
 pub mod Tried
+pub mod Ways
+pub mod Asked
+pub mod Growing
+pub mod Built
+pub mod Decided

@@ -17,7 +17,7 @@ use Rattle.rule_automaton.specs.Places.{Tabled, IsTable}
 use Rattle.rule_automaton.specs.declared.shapes.Shape.{Shape}
 use Rattle.rule_automaton.proofs.Laying.{All-numbers}
 use Rattle.rule_automaton.specs.Shapes.{HaveShapes, IsShape, tests_at, pairs_at, variables_at, numbers}
-use Rattle.rule_automaton.specs.Automata.{first_match, Made, part, rules_of, IsWay, IsReading, IsRight, IsState, IsAutomaton}
+use Rattle.rule_automaton.specs.Automata.{first_match, Made, part, rules_of, AreInOrder, IsWay, IsReading, IsRight, IsState, IsAutomaton}
 use Rattle.rule_automaton.specs.Rows.{row_at, IsFull, Fills}
 use Rattle.rule_automaton.specs.Running.{Known, AreKnown, Asked, asked, IsBegun, IsRun, is_way_of}
 use Rattle.rule_automaton.proofs.Standing as standing
@@ -44,6 +44,9 @@ module _ (a : Made) (s : Store) (rows : List Row) (m : Asked) (k : ℕ) (run : I
 
   pub within_ways : last ≤ length a.ways
   within_ways = reading.within
+
+  pub ways_in_order : AreInOrder (part a.ways first last)
+  ways_in_order = reading.sorted
 
   shape : (r : ℕ) → r < length m.rules → IsShape run.begun.automaton.table (left_at m.rules r) (tests_at a.shapes r) (pairs_at a.shapes r) (variables_at a.shapes r)
   shape r l = run.begun.automaton.shapes.each r (let n = run.begun.automaton.shapes.count in omega (arith, l, n))

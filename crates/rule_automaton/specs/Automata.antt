@@ -1,6 +1,7 @@
 -- Automata: states, each with the rules that may still match, and what is done there.
-use Rattle.std.specs.Prelude.{◌≡◌, ℕ, ◌+◌, ◌-◌, ◌<◌, ◌≤◌, ◌&&◌, ◌||◌, ◌==◌, nat_lt, nat_le, not, Bool, true, List, [], ◌∷◌, Option, Some, None, if◌then◌else◌, length, take, drop, All, Contains, is_some, slice_index_or}
+use Rattle.std.specs.Prelude.{◌≡◌, ℕ, ◌+◌, ◌-◌, ◌*◌, ◌<◌, ◌≤◌, ◌&&◌, ◌||◌, ◌==◌, nat_lt, nat_le, not, Bool, true, List, [], ◌∷◌, Option, Some, None, if◌then◌else◌, length, take, drop, All, Contains, is_some, slice_index_or}
 use Rattle.std.specs.List.{list_all, filter}
+use Rattle.std.specs.List.Sorted.{IsNonDecreasingBy}
 use Rattle.term_model.specs.Tree.{Tree}
 use Rattle.term_model.specs.declared.Symbol.{Symbol}
 use Rattle.rewrite_model.specs.Rule.{Rule}
@@ -71,6 +72,17 @@ pub record IsWay (table : Tabled) (a : Made) (at : ℕ) (s : State) (place : ℕ
   pub base : table.base_of place w.count ≡ Some w.base
   pub goes : GoesOn a at w.to (place + 1) (kept a.shapes place w.symbol w.count (rules_of a s))
 
+-- a number for a symbol over so many trees
+abbrev pub key_of : Symbol → ℕ → ℕ
+key_of f n = f.0 * 4294967296 + n
+
+abbrev pub way_key : Way → ℕ
+way_key w = key_of w.symbol w.count
+
+-- ways in the order of their symbols
+abbrev pub AreInOrder : List Way → Type 0
+AreInOrder ways = IsNonDecreasingBy way_key ways
+
 -- Some rule of the state asks for the symbol at the place, none for one at a place between the
 -- bound and this one, and each symbol that is asked for has its way.
 pub record IsReading (table : Tabled) (a : Made) (at : ℕ) (s : State) (place first last other : ℕ) : Type 0 where
@@ -82,6 +94,7 @@ pub record IsReading (table : Tabled) (a : Made) (at : ℕ) (s : State) (place f
   pub least : All (λ r. list_all (λ (t : Test). nat_lt t.place s.bound || nat_le place t.place) (tests_at a.shapes r) ≡ true) (rules_of a s)
   pub order : first ≤ last
   pub within : last ≤ length a.ways
+  pub sorted : AreInOrder (part a.ways first last)
   pub ways : All (IsWay table a at s place) (part a.ways first last)
   pub covered : (r : ℕ) (t : Test) → Contains (rules_of a s) r → Contains (tests_at a.shapes r) t → t.place ≡ place → (w : Way) × Contains (part a.ways first last) w × (asks_for w.symbol w.count t ≡ true)
   pub none : GoesOn a at other (place + 1) (passing a.shapes place (rules_of a s))

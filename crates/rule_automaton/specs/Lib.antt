@@ -4,3 +4,5 @@ pub mod Tables
 pub mod Automata
 pub mod Rows
 pub mod Running
+pub mod Asking
+pub mod Building

@@ -2,10 +2,13 @@
 
 ghost use Rattle.std.specs.Prelude.{◌≡◌, ◌<◌, ◌≤◌, length, true, IfOk};
 ghost use Rattle.terms_api.specs.Terms.{IsHeld, IsSound, tree_at};
-ghost use Rattle.rule_automaton.specs.Shapes.{variables_at};
+ghost use Rattle.rule_automaton.specs.Shapes.{numbers, variables_at};
 ghost use Rattle.rule_automaton.specs.Automata.{IsAutomaton};
+ghost use Rattle.rule_automaton.specs.Building.{HasFewStates};
 ghost use Rattle.rule_automaton.specs.Running.{made, asked, IsAnswer};
 
+use crate::asking::size_of;
+use crate::building::{Budget, build};
 use crate::finding::run;
 use crate::shapes::{Shape, numbers_below, shapes_of};
 use crate::states::{Op, State, Way};
@@ -15,6 +18,9 @@ use rule_match::Plan;
 use std::alloc::Global;
 use term_model::Row;
 use terms_api::Terms;
+
+/// How often a test may be looked at while an automaton is made: about as many as take a second.
+const STEPS: usize = 1 << 28;
 
 /// The matching automaton of a plan: the shapes of its rules, the lists of rules of its states, one
 /// after another, its states and their ways, and how many places there are.
@@ -55,7 +61,29 @@ impl Places {
 impl Automaton {
     /// The automaton of a plan. Memory is wanting where 32 bits don't number its places.
     pub fn of(alloc: Global, plan: &Plan) -> Result<Self, Memory>
-        ensures { IfOk result (λ automaton. IsAutomaton plan.now.rules (made automaton)) }
+        ensures automaton { IfOk result (λ automaton.
+            IsAutomaton plan.now.rules (made automaton)) }
+        ensures small { IfOk result (λ automaton. HasFewStates (made automaton)) }
+    {
+        let mut automaton = Self::in_turn(alloc, plan)?;
+        let size = size_of(&automaton.shapes, &automaton.rules);
+        let most = size.saturating_mul(4);
+        let mut budget = Budget {
+            states: most,
+            rules: most.saturating_mul(4),
+            steps: STEPS,
+        };
+        build(alloc, &mut automaton, most, &mut budget)?;
+        Ok(automaton)
+    }
+
+    /// One state, which tries all rules in turn.
+    fn in_turn(alloc: Global, plan: &Plan) -> Result<Self, Memory>
+        ensures automaton { IfOk result (λ automaton.
+            IsAutomaton plan.now.rules (made automaton)) }
+        ensures one { IfOk result (λ automaton. length automaton.states.items ≡ 1) }
+        ensures rules { IfOk result (λ automaton. automaton.rules.items
+            ≡ numbers 0 (length automaton.shapes.items)) }
     {
         let _ = plan.rules();
         let mut table = Table::new(alloc);

@@ -4,14 +4,14 @@ ghost use Rattle.std.specs.Prelude.{◌≡◌, ℕ, ◌<◌, ◌≤◌, length, 
 ghost use Rattle.std.specs.List.{list_all};
 ghost use Rattle.term_model.specs.Tree.{Tree};
 ghost use Rattle.terms_api.specs.Terms.{Store, IsSound};
-ghost use Rattle.rule_automaton.specs.Automata.{part};
+ghost use Rattle.rule_automaton.specs.Automata.{part, AreInOrder};
 ghost use Rattle.rule_automaton.specs.declared.states.State.{State};
 ghost use Rattle.rule_automaton.specs.Running.{made, Asked, IsBegun, IsRun, IsNext, IsAnswer, IsReady, AreTested, IsTried, IsAnswerOf, have_one_row, is_way_of};
 
 use crate::Automaton;
 use crate::rows::fill;
 use crate::shapes::{Pair, Test};
-use crate::states::{Node, Op, Way};
+use crate::states::{Node, Op, Way, key_of};
 use rule_match::stands_at;
 use term_model::{Head, Row};
 use terms_api::Terms;
@@ -37,8 +37,9 @@ fn have_one_row(pairs: &[Pair], rows: &[Row]) -> bool
     true
 }
 
-/// The way of a head over so many trees, the first where there are several.
+/// The way of a head over so many trees, of ways in order.
 fn find_way(ways: &[Way], head: Head, count: u32) -> Option<Way>
+    requires { AreInOrder ways.now }
     ensures some { IfSome result (λ way. Contains ways.now way
         × (is_way_of head count way ≡ true)) }
     ensures none { IfNone result (All (λ (w : Way). is_way_of head count w ≡ false) ways.now) }
@@ -46,9 +47,19 @@ fn find_way(ways: &[Way], head: Head, count: u32) -> Option<Way>
     let Head::App(symbol) = head else {
         return None;
     };
-    for way in ways {
+    let key = key_of(symbol, count);
+    let mut low = 0;
+    let mut high = ways.len();
+    'halves: while low < high {
+        let middle = low + (high - low) / 2;
+        let way = ways[middle];
         if way.symbol.0 == symbol.0 && way.count == count {
-            return Some(*way);
+            return Some(way);
+        }
+        if key_of(way.symbol, way.count) < key {
+            low = middle + 1;
+        } else {
+            high = middle;
         }
     }
     None

@@ -2,13 +2,13 @@
 //! the rules that may still match are known.
 #![tactic(auto)]
 
+mod asking;
 mod automaton;
+mod building;
 mod finding;
 mod rows;
 mod shapes;
 mod states;
 mod table;
-#[cfg(test)]
-mod tests;
 
 pub use automaton::{Automaton, Places};

@@ -1,6 +1,17 @@
 //! The states of an automaton, each with the rules that may still match, in written order.
 
+ghost use Rattle.std.specs.Prelude.{◌≡◌, ◌^◌, ◌<◌};
+ghost use Rattle.rule_automaton.specs.Automata.{key_of};
+
 use term_model::Symbol;
+
+/// A number for a symbol over so many trees, by which ways stand in order.
+pub(crate) fn key_of(symbol: Symbol, count: u32) -> u64
+    ensures key { result ≡ key_of symbol count }
+    ensures small { count < 2 ^ 32 }
+{
+    u64::from(symbol.0) * 0x1_0000_0000 + u64::from(count)
+}
 
 /// A place whose node is read. It goes on by one of the ways from the first up to the last, or else
 /// at another state.

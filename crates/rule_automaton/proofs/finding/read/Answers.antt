@@ -1,14 +1,14 @@
-use Rattle.std.proofs.Common.{◌≡◌, List, length, get_or, ◌∙◌, subst, arith, eqb-true}
+use Rattle.std.proofs.Common.{◌≡◌, List, length, get_or, sym, ◌∙◌, subst, arith, eqb-true}
 use Rattle.std.specs.Prelude.{◌==◌, All, Contains, true, false}
 use Rattle.std.proofs.lemmas.Bool.{and_parts}
 use Rattle.term_model.specs.Tree.{arguments, head_eq}
 use Rattle.term_model.specs.declared.Head.TheVariants.{App}
 use Rattle.terms_api.specs.Terms.{Store, tree_at}
-use Rattle.rule_automaton.specs.Automata.{part}
+use Rattle.rule_automaton.specs.Automata.{part, AreInOrder}
 use Rattle.rule_automaton.specs.Rows.{row_at, Fills}
 use Rattle.rule_automaton.specs.Running.{made, is_way_of}
 use Rattle.rule_automaton.specs.declared.states.Way.{Way}
-use Rattle.rule_automaton.proofs.Readings.{place_full, way_fits, way_stands, goes_else, goes_way}
+use Rattle.rule_automaton.proofs.Readings.{place_full, ways_in_order, way_fits, way_stands, goes_else, goes_way}
 use Rattle.rule_automaton.proofs.finding.read.Goals as goal
 
 pub slice_copy_out-row : goal.slice_copy_out-row
@@ -18,6 +18,10 @@ slice_copy_out-row g c =
 pub head-head-requires-clause-held : goal.head-head-requires-clause-held
 head-head-requires-clause-held g c =
     (place_full (made c.args.automaton.now) (g.T.Terms.store c.args.terms.now) c.args.rows.now c.requires.run.0 c.args.at c.requires.run.1 c.args.node.place c.args.node.first c.args.node.last c.args.node.other c.requires.op).held
+
+pub find_way-requires : goal.find_way-requires
+find_way-requires g c =
+    subst (λ (ws : List Way). AreInOrder (part ws c.args.node.first c.args.node.last)) (sym c.deref.ensures.value) (ways_in_order (made c.args.automaton.now) (g.T.Terms.store c.args.terms.now) c.args.rows.now c.requires.run.0 c.args.at c.requires.run.1 c.args.node.place c.args.node.first c.args.node.last c.args.node.other c.requires.op)
 
 pub returns-in_default-clause-next : goal.returns-in_default-clause-next
 returns-in_default-clause-next g c = λ m run.

@@ -1,16 +1,26 @@
-use Rattle.std.proofs.Common.{◌≡◌, ◌≤◌, length, ◌∙◌, ap, arith}
+use Rattle.std.proofs.Common.{◌≡◌, ◌≤◌, ℕ, List, length, sym, ◌∙◌, ap, arith, subst}
 use Rattle.rule_automaton.specs.Shapes.{numbers}
-use Rattle.rule_automaton.specs.Tables.{tabled}
-use Rattle.rule_automaton.proofs.Readings.{first_automaton}
+use Rattle.rule_automaton.specs.Asking.{total}
+use Rattle.rule_automaton.specs.Running.{made}
+use Rattle.rule_automaton.specs.declared.shapes.Shape.{Shape}
+use Rattle.rule_automaton.proofs.Decided.{is_built, automaton_grown}
 use Rattle.rule_automaton.proofs.automaton.Automaton.of.Goals as goal
 
-pub numbers_below-requires : goal.numbers_below-requires
-numbers_below-requires c =
-    let n = c.in_ok-shapes.ensures.shapes.count in
-    let p = c.rules.ensures.plan.count in
-    omega (arith, n, p, c.len.ensures)
+pub build-requires : goal.build-requires
+build-requires c =
+    let au = c.in_ok-automaton.ensures.automaton in
+    (au.table, is_built c.args.plan.now.rules (made c.in_ok-automaton.automaton) au)
 
-pub returns : goal.returns
-returns c =
-    let low : (tabled c.shapes_of.new.table).places ≤ c.places.result = omega (arith, c.places.ensures) in
-    first_automaton (tabled c.shapes_of.new.table) c.in_ok-shapes.ensures.table c.args.plan.now.rules c.in_ok-shapes.shapes.items c.in_ok-shapes.ensures.shapes c.in_ok-rules.rules.items (c.in_ok-rules.ensures ∙ ap (numbers 0) (let e : c.len.result ≡ length c.in_ok-shapes.shapes.items = omega (arith, c.len.ensures) in e)) c.len-2.result (omega (arith, c.len-2.ensures)) c.places.result low _ c.in_ok-vec.ensures.items _
+pub returns-clause-automaton : goal.returns-clause-automaton
+returns-clause-automaton c = automaton_grown c.args.plan.now.rules (made c.in_ok-automaton.automaton) (made c.build.new.automaton) c.in_ok-automaton.ensures.automaton c.in_ok-build.ensures.grown
+
+pub returns-clause-small : goal.returns-clause-small
+returns-clause-small c =
+    let a = made c.in_ok-automaton.automaton in
+    let au = c.in_ok-automaton.ensures.automaton in
+    let grown = c.in_ok-build.ensures.grown au.table (is_built c.args.plan.now.rules a au) in
+    let same = ap (total a.shapes) c.in_ok-automaton.ensures.rules ∙ ap (λ (ss : List Shape). total ss (numbers 0 (length ss))) (sym grown.shapes) in
+    let size = subst (λ (rs : List ℕ). c.size_of-size.result ≤ total a.shapes rs) c.deref-2.ensures.value (subst (λ (ss : List Shape). c.size_of-size.result ≤ total ss c.deref-2.result.now) c.deref.ensures.value c.size_of-size.ensures) in
+    let one = c.in_ok-automaton.ensures.one in
+    let paid = c.in_ok-build.ensures.paid in
+    omega (arith, same, size, one, paid, c.saturating_mul-most.ensures)
