@@ -7,14 +7,15 @@ use Rattle.std.proofs.lemmas.Grind.{flat_map-append}
 use Rattle.term_model.specs.Tree.{Tree, Leaf}
 use Rattle.terms_api.specs.Terms.{Store}
 use Rattle.rewrite_model.specs.Rule.{Rule}
-use Rattle.rewrite_model.specs.Built.{built_list, built_of_all, need, greatest, need_of_all}
+use Rattle.rewrite_model.specs.Built.{need, greatest, need_of_all}
+use Rattle.term_lines.specs.Strategies.{built_by}
 use Rattle.settings.specs.declared.parts.Settings.{Settings}
 use Rattle.innermost.specs.declared.normal.RunFault.{RunFault}
 use Rattle.term_lines.specs.declared.stop.LineStop.{LineStop}
 use Rattle.term_lines.specs.declared.stop.LineStop.TheVariants as stop
 use Rattle.rewrite_workers.specs.Desks.{KeepsDesk}
 use Rattle.rewrite_workers.specs.Ends.{BuiltAll, RefusedLast, Ended, numbered}
-use Rattle.rewrite_workers.specs.Works.{term_at, need_at, need_of}
+use Rattle.rewrite_workers.specs.Works.{term_at, strategy_of, built_of, need_at, need_of}
 use Rattle.rewrite_workers.specs.Working.{WorksOn, more_sweeps}
 
 pub numbered-append : (terms : List Tree) (xs ys : List ℕ) → numbered terms (xs ++ ys) ≡ numbered terms xs ++ numbered terms ys
@@ -23,10 +24,10 @@ numbered-append terms (x ∷ xs) ys = ap (λ (ts : List Tree). term_at terms x �
 
 module _ (s : Settings) (rules : List Rule) where
   abbrev built : List Tree → List Tree
-  built ts = built_of_all rules ts s.fuel s.depth
+  built ts = built_of s rules ts
 
   built-append : (ts us : List Tree) → built (ts ++ us) ≡ built ts ++ built us
-  built-append ts us = flat_map-append (λ t. built_list rules t s.fuel s.depth) ts us
+  built-append ts us = flat_map-append (λ t. built_by (strategy_of s.command) rules t s.fuel s.depth) ts us
 
   pub built_after : (ts us : List Tree) (a b c : Store) → BuiltAll s rules ts a b → BuiltAll s rules us b c → BuiltAll s rules (ts ++ us) a c
   built_after ts us a b c one two =
@@ -59,43 +60,43 @@ module _ (s : Settings) (rules : List Rule) where
   ended_stop A B ts a b stop.Worn e = e
   ended_stop A B ts a b stop.Memory e = e
 
-pub works_stop : (A B : Type 0) (n : ℕ) (a b : Store) (e : LineStop) → WorksOn {A = A} n a b (Err e) → WorksOn {A = B} n a b (Err e)
-works_stop A B n a b stop.StoreFull w = record { rows = w.rows; widest = w.widest; room = w.room; least_sweeps = w.least_sweeps; most_sweeps = w.most_sweeps; least_load = w.least_load; most_load = w.most_load }
-works_stop A B n a b stop.Worn w = record { rows = w.rows; widest = w.widest; room = w.room; least_sweeps = w.least_sweeps; most_sweeps = w.most_sweeps; least_load = w.least_load; most_load = w.most_load }
-works_stop A B n a b stop.Memory w = record { rows = w.rows; widest = w.widest; room = w.room; least_sweeps = w.least_sweeps; most_sweeps = w.most_sweeps; least_load = w.least_load; most_load = w.most_load }
+pub works_stop : (A B : Type 0) (s : Settings) (n : ℕ) (a b : Store) (e : LineStop) → WorksOn {A = A} s n a b (Err e) → WorksOn {A = B} s n a b (Err e)
+works_stop A B s n a b stop.StoreFull w = record { rows = w.rows; widest = w.widest; room = w.room; least_sweeps = w.least_sweeps; most_sweeps = w.most_sweeps; least_load = w.least_load; most_load = w.most_load }
+works_stop A B s n a b stop.Worn w = record { rows = w.rows; widest = w.widest; room = w.room; least_sweeps = w.least_sweeps; most_sweeps = w.most_sweeps; least_load = w.least_load; most_load = w.most_load }
+works_stop A B s n a b stop.Memory w = record { rows = w.rows; widest = w.widest; room = w.room; least_sweeps = w.least_sweeps; most_sweeps = w.most_sweeps; least_load = w.least_load; most_load = w.most_load }
 
-pub works_after : {A B : Type 0} (n m : ℕ) (a b c : Store) (x : A) (r : Result B LineStop) → m ≤ n → WorksOn n a b (Ok x) → WorksOn m b c r → WorksOn n a c r
-works_after n m a b c x r most one two = record {
+pub works_after : {A B : Type 0} (s : Settings) (n m : ℕ) (a b c : Store) (x : A) (r : Result B LineStop) → m ≤ n → WorksOn s n a b (Ok x) → WorksOn s m b c r → WorksOn s n a c r
+works_after s n m a b c x r most one two = record {
   rows = two.rows ∙ one.rows;
   widest = two.widest ∙ one.widest;
   room = two.room ∙ one.room;
   least_sweeps = let p = one.least_sweeps in let q = two.least_sweeps in omega arith;
   most_sweeps = let p = one.most_sweeps in let q = two.most_sweeps in omega arith;
   least_load = let p = one.least_load in let q = two.least_load in omega arith;
-  most_load = let p = one.most_load in let q = two.most_load in omega arith;
+  most_load = λ is. let p = one.most_load is in let q = two.most_load is in omega arith;
 }
 
-pub works_begin : {A : Type 0} (n : ℕ) (a : Store) (x : A) → WorksOn n a a (Ok x)
-works_begin n a x = record {
+pub works_begin : {A : Type 0} (s : Settings) (n : ℕ) (a : Store) (x : A) → WorksOn s n a a (Ok x)
+works_begin s n a x = record {
   rows = refl;
   widest = refl;
   room = refl;
   least_sweeps = omega arith;
   most_sweeps = omega arith;
   least_load = omega arith;
-  most_load = omega arith;
+  most_load = λ is. omega arith;
 }
 
 -- there was no memory to begin
-pub works_unbegun : (A : Type 0) (n : ℕ) (a : Store) → WorksOn {A = A} n a a (Err stop.Memory)
-works_unbegun A n a = record {
+pub works_unbegun : (A : Type 0) (s : Settings) (n : ℕ) (a : Store) → WorksOn {A = A} s n a a (Err stop.Memory)
+works_unbegun A s n a = record {
   rows = refl;
   widest = refl;
   room = refl;
   least_sweeps = omega arith;
   most_sweeps = omega arith;
   least_load = omega arith;
-  most_load = omega arith;
+  most_load = λ is. omega arith;
 }
 
 -- one of some numbers is no more than the greatest
@@ -119,7 +120,7 @@ more_refusals s rules ts a b (Err stop.StoreFull) e = let h = e.refusals in omeg
 more_refusals s rules ts a b (Err stop.Worn) e = let h = e.refusals in omega arith
 more_refusals s rules ts a b (Err stop.Memory) e = let h = e.1 in omega arith
 
-pub keeps_desk : {A : Type 0} (n : ℕ) (s : Settings) (rules : List Rule) (ts : List Tree) (a b : Store) (r : Result A LineStop) → WorksOn n a b r → Ended s rules ts a b r → KeepsDesk n a b
+pub keeps_desk : {A : Type 0} (n : ℕ) (s : Settings) (rules : List Rule) (ts : List Tree) (a b : Store) (r : Result A LineStop) → WorksOn s n a b r → Ended s rules ts a b r → KeepsDesk s n a b
 keeps_desk n s rules ts a b r w e = record {
   rows = w.rows;
   widest = w.widest;

@@ -90,8 +90,8 @@ module _ {D : Type 0} (store : D → Store) (same : D → D → Type 0) (s : Set
   pub ready : All (λ d. IsReady s plan (store d)) news
   ready = all_desks Each (λ d. IsReady s plan (store d)) (λ d e x y p. p.1.ready) olds news f.begun shares f.each
 
-  pub kept : EachDesk (λ k d e. KeepsDesk (need_of s plan.rules terms) (store d) (store e)) olds news
-  kept = each_desk Each (λ k d e. KeepsDesk (need_of s plan.rules terms) (store d) (store e)) olds news f.begun shares f.each
+  pub kept : EachDesk (λ k d e. KeepsDesk s (need_of s plan.rules terms) (store d) (store e)) olds news
+  kept = each_desk Each (λ k d e. KeepsDesk s (need_of s plan.rules terms) (store d) (store e)) olds news f.begun shares f.each
       (λ k p. let w = p.holds.1.worked in keeps_desk (need_of s plan.rules terms) s plan.rules (numbered terms (hand p.y)) (store p.d) (store p.e) p.y.end w.works w.ended)
 
   pub same_desks : EachDesk (λ k d e. same d e) olds news

@@ -8,7 +8,6 @@ use Rattle.term_model.specs.Tree.{Tree}
 use Rattle.terms_api.specs.Terms.{Store}
 use Rattle.symbol_pool.specs.Pool.{Named}
 use Rattle.rewrite_model.specs.Rule.{Rule}
-use Rattle.rewrite_model.specs.Built.{built_of_all}
 use Rattle.settings.specs.declared.parts.Settings.{Settings}
 use Rattle.atomic_table.specs.Seated.{TableId}
 use Rattle.term_lines.specs.declared.stop.LineStop.{LineStop}
@@ -17,7 +16,7 @@ use Rattle.rewrite_workers.specs.declared.draws.Drawn.{Drawn}
 use Rattle.rewrite_workers.specs.declared.worker.Numbered.{Numbered}
 use Rattle.rewrite_workers.specs.declared.worker.Share.{Share}
 use Rattle.rewrite_workers.specs.Dealt.{IsIn, drew, times}
-use Rattle.rewrite_workers.specs.Works.{term_at, need_at, need_of}
+use Rattle.rewrite_workers.specs.Works.{term_at, built_of, need_at, need_of}
 use Rattle.rewrite_workers.specs.Lined.{line_of}
 use Rattle.rewrite_workers.specs.Ends.{BuiltAll, Ended, Rises, numbered}
 use Rattle.rewrite_workers.specs.Working.{WorksOn}
@@ -74,7 +73,7 @@ pub record Going (table : TableId) (s : Settings) (symbols : List Named) (rules 
   pub worker : share.worker ≡ begun.worker
   pub built : BuiltAll s rules (numbered terms (drawn_of share)) old now
   pub refusals : now.refusals ≡ old.refusals
-  pub works : WorksOn {A = Unit {0}} (need_of s rules terms) old now (Ok tt)
+  pub works : WorksOn {A = Unit {0}} s (need_of s rules terms) old now (Ok tt)
 
 -- a number was drawn
 pub record Draws (table : TableId) (share next : Share) (n : ℕ) : Type 0 where
@@ -96,9 +95,9 @@ module _ (table : TableId) (s : Settings) (symbols : List Named) (rules : List R
     lines = subst (All (IsLineAt s symbols rules terms share.worker)) (sym fresh.no_lines) (All-nil (IsLineAt s symbols rules terms share.worker));
     places = subst (All (λ (x : Numbered). x.number < length terms)) (sym fresh.no_lines) (All-nil (λ (x : Numbered). x.number < length terms));
     worker = refl;
-    built = sym (ap (λ (xs : List ℕ). a.built ++ built_of_all rules (numbered terms xs) s.fuel s.depth) fresh.none ∙ append-nil a.built);
+    built = sym (ap (λ (xs : List ℕ). a.built ++ built_of s rules (numbered terms xs)) fresh.none ∙ append-nil a.built);
     refusals = refl;
-    works = works_begin (need_of s rules terms) a tt;
+    works = works_begin s (need_of s rules terms) a tt;
   }
 
   -- the view and the numbers after a draw
@@ -159,7 +158,7 @@ module _ (table : TableId) (s : Settings) (symbols : List Named) (rules : List R
 
   -- it stopped at the term that it drew
   pub halt : (a b c : Store) (begun share next last : Share) (n : ℕ) (e : LineStop) → Going table s symbols rules terms a b begun share → Draws table share next n → n < length terms →
-      KeepsSeat next last → last.lines.items ≡ next.lines.items → Ended {A = Unit {0}} s rules (term_at terms n ∷ []) b c (Err e) → WorksOn {A = Unit {0}} (need_at s rules terms n) b c (Err e) →
+      KeepsSeat next last → last.lines.items ≡ next.lines.items → Ended {A = Unit {0}} s rules (term_at terms n ∷ []) b c (Err e) → WorksOn {A = Unit {0}} s (need_at s rules terms n) b c (Err e) →
       Drew table begun last × Worked s symbols rules terms a c last (Err e)
   halt a b c begun share next last n e g d inside keeps unmade ended works =
       let kept : drawn_of last ≡ drawn_of next = ap (λ x. x.me.0.numbers) keeps.seat in
@@ -173,7 +172,7 @@ module _ (table : TableId) (s : Settings) (symbols : List Named) (rules : List R
         record {
           ended = subst (λ (ts : List Tree). Ended {A = Unit {0}} s rules ts a c (Err e)) (sym (ap (numbered terms) same ∙ on_numbered share next n d))
               (ended_after s rules {A = Unit {0}} (numbered terms (drawn_of share)) (term_at terms n) a b c (Err e) g.built g.refusals ended);
-          works = works_after (need_of s rules terms) (need_at s rules terms n) a b c tt (Err e) (need_most s rules terms n inside) g.works works;
+          works = works_after s (need_of s rules terms) (need_at s rules terms n) a b c tt (Err e) (need_most s rules terms n inside) g.works works;
           places = subst (All (λ (x : Numbered). x.number < length terms)) (sym (unmade ∙ ap (λ l. l.items) d.lines)) g.places;
           lines = tt;
         },
@@ -182,7 +181,7 @@ module _ (table : TableId) (s : Settings) (symbols : List Named) (rules : List R
   -- the line of the term was made
   pub go_on : (a b c : Store) (begun share next last : Share) (n : ℕ) → Going table s symbols rules terms a b begun share → Draws table share next n → n < length terms →
       KeepsSeat next last → AddsLine next last n (line_of s symbols rules (term_at terms n)) →
-      Ended {A = Unit {0}} s rules (term_at terms n ∷ []) b c (Ok tt) → WorksOn {A = Unit {0}} (need_at s rules terms n) b c (Ok tt) →
+      Ended {A = Unit {0}} s rules (term_at terms n ∷ []) b c (Ok tt) → WorksOn {A = Unit {0}} s (need_at s rules terms n) b c (Ok tt) →
       Going table s symbols rules terms a c begun last
   go_on a b c begun share next last n g d inside keeps adds ended works =
       let kept : drawn_of last ≡ drawn_of next = ap (λ x. x.me.0.numbers) keeps.seat in
@@ -210,7 +209,7 @@ module _ (table : TableId) (s : Settings) (symbols : List Named) (rules : List R
         worker = keeps.worker ∙ (d.worker ∙ g.worker);
         built = subst (λ (ts : List Tree). BuiltAll s rules ts a c) (sym (ap (numbered terms) kept ∙ on_numbered share next n d)) whole.0;
         refusals = whole.1;
-        works = works_after (need_of s rules terms) (need_at s rules terms n) a b c tt (Ok tt) (need_most s rules terms n inside) g.works works;
+        works = works_after s (need_of s rules terms) (need_at s rules terms n) a b c tt (Ok tt) (need_most s rules terms n inside) g.works works;
       }
 
   -- fewer terms are left
@@ -228,7 +227,7 @@ module _ (table : TableId) (s : Settings) (symbols : List Named) (rules : List R
         record { seat = fresh.seat; shares = fresh.shares; rises = g.rises; worker = refl },
         record {
           ended = (subst (λ (xs : List ℕ). BuiltAll s rules (numbered terms xs) a a) (sym (all_of_terms (length terms) (drawn_of share) g.below)) g.built, refl);
-          works = works_unbegun (Unit {0}) (need_of s rules terms) a;
+          works = works_unbegun (Unit {0}) s (need_of s rules terms) a;
           places = g.places;
           lines = tt;
         },

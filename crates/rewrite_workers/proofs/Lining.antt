@@ -8,23 +8,32 @@ use Rattle.term_model.specs.Tree.{Tree, subtrees, distinct}
 use Rattle.terms_api.specs.Terms.{Store, trees, tree_at, Entered, Left}
 use Rattle.rewrite_model.specs.Rule.{Rule}
 use Rattle.rewrite_model.specs.Evaluation.{Point}
-use Rattle.rewrite_model.specs.Built.{built_list, built_of_all, need, trees_at}
+use Rattle.rewrite_model.specs.Built.{need}
+use Rattle.rewrite_model.specs.Outermost.{outermost_built}
 use Rattle.rule_match.specs.Planned.{Planned}
 use Rattle.settings.specs.declared.parts.Settings.{Settings}
-use Rattle.innermost.specs.Normalized.{KeepsNumbers, StoppedAt, WasRefused, IsFullWithout, IsPartOf}
+use Rattle.innermost.specs.Normalized.{KeepsNumbers, StoppedAt, IsFullWithout, IsPartOf}
+use Rattle.innermost.specs.BuiltTrees.{StoppedBefore}
 use Rattle.innermost.specs.declared.normal.RunFault.{RunFault}
 use Rattle.innermost.specs.declared.normal.RunFault.TheVariants as fault
-use Rattle.term_lines.specs.Written.{points_of, BuildsForLine, CountsRefusals, SweepsForLine}
+use Rattle.term_lines.specs.Strategies.{built_by, points_of, RefusedBy}
+use Rattle.term_lines.specs.Written.{BuildsForLine, CountsRefusals, SweepsForLine}
+use Rattle.term_lines.specs.declared.strategy.Strategy.{Strategy}
+use Rattle.term_lines.specs.declared.strategy.Strategy.TheVariants.{Innermost, Outermost}
 use Rattle.term_lines.specs.declared.ending.Ending.{Ending}
 use Rattle.term_lines.specs.declared.stop.LineStop.{LineStop}
 use Rattle.term_lines.specs.declared.stop.LineStop.TheVariants as stop
 use Rattle.rewrite_workers.specs.Desks.{IsReady}
 use Rattle.rewrite_workers.specs.Ends.{BuiltAll, RefusedLast, Ended}
 use Rattle.rewrite_workers.specs.Working.{WorksOn, more_sweeps}
+use Rattle.rewrite_workers.specs.Works.{strategy_of, built_of, IsInnermost}
 
 module _ (s : Settings) (plan : Planned) (term : Tree) (a b c d : Store) (ready : IsReady s plan a) (entered : Entered a b) (numbers : KeepsNumbers b c) (empty : c.stack ≡ []) (left : Left c d) where
-  abbrev points : List Point
-  points = points_of plan.rules term s.fuel s.depth
+  abbrev strategy : Strategy
+  strategy = strategy_of s.command
+
+  abbrev builds : List Tree
+  builds = built_by strategy plan.rules term s.fuel s.depth
 
   built_before : b.built ≡ a.built
   built_before = ap (λ (x : Store). x.built) entered.rest
@@ -32,11 +41,11 @@ module _ (s : Settings) (plan : Planned) (term : Tree) (a b c d : Store) (ready 
   built_same : d.built ≡ c.built
   built_same = ap (λ (x : Store). x.built) left.rest
 
-  built_one : built_of_all plan.rules (term ∷ []) s.fuel s.depth ≡ trees_at points
-  built_one = flat_map-cons (λ t. built_list plan.rules t s.fuel s.depth) term [] ∙ append-nil (trees_at points)
+  built_one : built_of s plan.rules (term ∷ []) ≡ builds
+  built_one = flat_map-cons (λ t. built_by strategy plan.rules t s.fuel s.depth) term [] ∙ append-nil builds
 
-  all_built : c.built ≡ b.built ++ trees_at points → BuiltAll s plan.rules (term ∷ []) a d
-  all_built h = built_same ∙ (h ∙ (ap (λ (xs : List Tree). xs ++ trees_at points) built_before ∙ ap (λ (xs : List Tree). a.built ++ xs) (sym built_one)))
+  all_built : c.built ≡ b.built ++ builds → BuiltAll s plan.rules (term ∷ []) a d
+  all_built h = built_same ∙ (h ∙ (ap (λ (xs : List Tree). xs ++ builds) built_before ∙ ap (λ (xs : List Tree). a.built ++ xs) (sym built_one)))
 
   refusals_before : b.refusals ≡ a.refusals
   refusals_before = ap (λ (x : Store). x.refusals) entered.rest
@@ -47,22 +56,36 @@ module _ (s : Settings) (plan : Planned) (term : Tree) (a b c d : Store) (ready 
   same_refusals : c.refusals ≡ b.refusals → d.refusals ≡ a.refusals
   same_refusals h = refusals_same ∙ (h ∙ refusals_before)
 
+  abbrev points : List Point
+  points = points_of plan.rules term s.fuel s.depth
+
+  abbrev trees_out : List Tree
+  trees_out = outermost_built plan.rules term s.fuel s.depth
+
   stopped_at : (p : Point) → StoppedAt points b c p → StoppedAt points b d p
   stopped_at p st = record { front = st.front; back = st.back; split = st.split; built = built_same ∙ st.built }
 
-  refused : (f : RunFault) → WasRefused points b c f → WasRefused points b d f
-  refused fault.StoreFull w = (
+  stopped_before : (t : Tree) → StoppedBefore trees_out b c t → StoppedBefore trees_out b d t
+  stopped_before t st = record { front = st.front; back = st.back; split = st.split; built = built_same ∙ st.built }
+
+  full_without : (t : Tree) → IsFullWithout c t → IsFullWithout d t
+  full_without t w = record {
+    full = ap (λ (x : Store). distinct x.crowd) left.rest ∙ (w.full ∙ sym (ap (λ (x : Store). x.rows) left.rest));
+    absent = λ h. w.absent (subst (λ (x : Store). Contains x.crowd t) left.rest h);
+  }
+
+  refused : (by : Strategy) (f : RunFault) → RefusedBy by plan.rules term s.fuel s.depth b c f → RefusedBy by plan.rules term s.fuel s.depth b d f
+  refused Innermost fault.StoreFull w = (
     w.0,
     stopped_at w.0 w.1,
-    record {
-      full = ap (λ (x : Store). distinct x.crowd) left.rest ∙ (w.2.full ∙ sym (ap (λ (x : Store). x.rows) left.rest));
-      absent = λ h. w.2.absent (subst (λ (x : Store). Contains x.crowd w.0.tree) left.rest h);
-    },
+    full_without w.0.tree w.2,
     λ e. subst (λ (ts : List Tree). All (IsPartOf w.0.hand) ts) (sym (ap (λ (x : Store). x.hand) left.rest)) (w.3 e),
   )
-  refused fault.Worn w = (w.0, stopped_at w.0 w.1, ap (λ (x : Store). x.spent) left.rest ∙ w.2)
+  refused Innermost fault.Worn w = (w.0, stopped_at w.0 w.1, ap (λ (x : Store). x.spent) left.rest ∙ w.2)
+  refused Outermost fault.StoreFull w = (w.0, stopped_before w.0 w.1, full_without w.0 w.2)
+  refused Outermost fault.Worn w = (w.0, stopped_before w.0 w.1, ap (λ (x : Store). x.spent) left.rest ∙ w.2)
 
-  refused_last : (f : RunFault) → WasRefused points b c f → b.refusals < c.refusals → RefusedLast s plan.rules (term ∷ []) a d f
+  refused_last : (f : RunFault) → RefusedBy strategy plan.rules term s.fuel s.depth b c f → b.refusals < c.refusals → RefusedLast s plan.rules (term ∷ []) a d f
   refused_last f w h = record {
     before = [];
     term = term;
@@ -70,11 +93,11 @@ module _ (s : Settings) (plan : Planned) (term : Tree) (a b c d : Store) (ready 
     begun = b;
     built = built_before ∙ sym (append-nil a.built);
     empty = ap (λ (x : Store). x.stack) entered.rest ∙ ready.empty;
-    refused = refused f w;
+    refused = refused strategy f w;
     refusals = let p = refusals_before in let q = refusals_same in omega arith;
   }
 
-  pub line_ended : (r : Result Ending LineStop) → BuildsForLine points b c r → CountsRefusals b c r → Ended s plan.rules (term ∷ []) a d r
+  pub line_ended : (r : Result Ending LineStop) → BuildsForLine strategy plan.rules term s.fuel s.depth b c r → CountsRefusals b c r → Ended s plan.rules (term ∷ []) a d r
   line_ended (Ok ending) built counts = (all_built built, same_refusals counts)
   line_ended (Err stop.StoreFull) built counts = refused_last fault.StoreFull built counts
   line_ended (Err stop.Worn) built counts = refused_last fault.Worn built counts
@@ -87,8 +110,8 @@ module _ (s : Settings) (plan : Planned) (term : Tree) (a b c d : Store) (ready 
       let nothing : distinct (flat_map subtrees (trees c)) ≡ 0 = ap (λ (ts : List Tree). distinct (flat_map subtrees ts)) none in
       let most = left.load.most in omega arith
 
-  works : {A : Type 0} (r : Result A LineStop) → d.sweeps + length a.built ≤ a.sweeps + length d.built + more_sweeps r → c.load ≤ max b.load (need plan.rules term s.fuel s.depth) →
-      WorksOn (need plan.rules term s.fuel s.depth) a d r
+  works : {A : Type 0} (r : Result A LineStop) → d.sweeps + length a.built ≤ a.sweeps + length d.built + more_sweeps r → (IsInnermost s → c.load ≤ max b.load (need plan.rules term s.fuel s.depth)) →
+      WorksOn s (need plan.rules term s.fuel s.depth) a d r
   works r sweeps load = record {
     rows = ap (λ (x : Store). x.rows) left.rest ∙ (numbers.rows ∙ ap (λ (x : Store). x.rows) entered.rest);
     widest = ap (λ (x : Store). x.widest) left.rest ∙ (numbers.widest ∙ ap (λ (x : Store). x.widest) entered.rest);
@@ -96,7 +119,7 @@ module _ (s : Settings) (plan : Planned) (term : Tree) (a b c d : Store) (ready 
     least_sweeps = let p = ap (λ (x : Store). x.sweeps) left.rest in let q = ap (λ (x : Store). x.sweeps) entered.rest in let n = numbers.sweeps in omega arith;
     most_sweeps = sweeps;
     least_load = let p = left.load.least in let q = ap (λ (x : Store). x.load) entered.rest in let n = numbers.load in omega arith;
-    most_load = let p = load_same in let q = ap (λ (x : Store). x.load) entered.rest in omega arith;
+    most_load = λ is. let h = load is in let p = load_same in let q = ap (λ (x : Store). x.load) entered.rest in omega arith;
   }
 
   more : (n : ℕ) → c.sweeps + length b.built ≤ b.sweeps + length c.built + n → d.sweeps + length a.built ≤ a.sweeps + length d.built + n
@@ -104,8 +127,8 @@ module _ (s : Settings) (plan : Planned) (term : Tree) (a b c d : Store) (ready 
       let p = ap (λ (x : Store). x.sweeps) left.rest in let q = ap (λ (x : Store). x.sweeps) entered.rest in
       let u = ap (λ (xs : List Tree). length xs) built_before in let v = ap (λ (xs : List Tree). length xs) built_same in omega arith
 
-  pub line_works : (r : Result Ending LineStop) → SweepsForLine b c r → c.load ≤ max b.load (need plan.rules term s.fuel s.depth) →
-      WorksOn (need plan.rules term s.fuel s.depth) a d r
+  pub line_works : (r : Result Ending LineStop) → SweepsForLine b c r → (IsInnermost s → c.load ≤ max b.load (need plan.rules term s.fuel s.depth)) →
+      WorksOn s (need plan.rules term s.fuel s.depth) a d r
   line_works (Ok ending) sweeps load = works (Ok ending) (more 0 sweeps) load
   line_works (Err stop.StoreFull) sweeps load = works (Err stop.StoreFull) (more 1 sweeps) load
   line_works (Err stop.Worn) sweeps load = works (Err stop.Worn) (more 1 sweeps) load

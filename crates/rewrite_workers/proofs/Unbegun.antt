@@ -47,14 +47,14 @@ module _ {D : Type 0} (store : D → Store) where
     worst = inr refl;
   }
 
-  pub unkept : (needed : ℕ) (ds : List D) → EachDesk (λ k old new. KeepsDesk needed (store old) (store new)) ds ds
-  unkept needed ds = each_unchanged (λ k old new. KeepsDesk needed (store old) (store new)) ds (λ k d at. record {
+  pub unkept : (s : Settings) (needed : ℕ) (ds : List D) → EachDesk (λ k old new. KeepsDesk s needed (store old) (store new)) ds ds
+  unkept s needed ds = each_unchanged (λ k old new. KeepsDesk s needed (store old) (store new)) ds (λ k d at. record {
     rows = refl;
     widest = refl;
     room = refl;
     least_sweeps = omega arith;
     most_sweeps = omega arith;
     least_load = omega arith;
-    most_load = omega arith;
+    most_load = λ is. omega arith;
     refusals = omega arith;
   })

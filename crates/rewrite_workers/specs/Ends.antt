@@ -4,19 +4,17 @@ use Rattle.std.specs.List.{flat_map}
 use Rattle.term_model.specs.Tree.{Tree}
 use Rattle.terms_api.specs.Terms.{Store}
 use Rattle.rewrite_model.specs.Rule.{Rule}
-use Rattle.rewrite_model.specs.Built.{built_of_all}
 use Rattle.settings.specs.declared.parts.Settings.{Settings}
-use Rattle.innermost.specs.Normalized.{WasRefused}
 use Rattle.innermost.specs.declared.normal.RunFault.{RunFault}
 use Rattle.innermost.specs.declared.normal.RunFault.TheVariants as fault
-use Rattle.term_lines.specs.Written.{points_of}
+use Rattle.term_lines.specs.Strategies.{RefusedBy}
 use Rattle.term_lines.specs.declared.stop.LineStop.{LineStop}
 use Rattle.term_lines.specs.declared.stop.LineStop.TheVariants as stop
 use Rattle.rewrite_workers.specs.declared.fault.AllFault.{AllFault}
 use Rattle.rewrite_workers.specs.declared.fault.AllFault.TheVariants.{StoreFull, Worn, Memory}
 use Rattle.rewrite_workers.specs.Dealt.{times}
 use Rattle.rewrite_workers.specs.Desks.{EachDesk}
-use Rattle.rewrite_workers.specs.Works.{term_at}
+use Rattle.rewrite_workers.specs.Works.{term_at, strategy_of, built_of}
 
 -- the terms with these numbers, in their order
 abbrev pub numbered : List Tree → List ℕ → List Tree
@@ -37,7 +35,7 @@ pub record AreApart (count workers : ℕ) (hands : List (List ℕ)) : Type 0 whe
 
 -- the desk built all that these terms build, in order, and nothing else
 abbrev pub BuiltAll : Settings → List Rule → List Tree → Store → Store → Type 0
-BuiltAll s rules drawn old new = new.built ≡ old.built ++ built_of_all rules drawn s.fuel s.depth
+BuiltAll s rules drawn old new = new.built ≡ old.built ++ built_of s rules drawn
 
 -- The desk refused a tree of the last of these terms, and built all that they build before it.
 pub record RefusedLast (s : Settings) (rules : List Rule) (drawn : List Tree) (old new : Store) (fault : RunFault) : Type 0 where
@@ -47,7 +45,7 @@ pub record RefusedLast (s : Settings) (rules : List Rule) (drawn : List Tree) (o
   pub begun : Store
   pub built : BuiltAll s rules before old begun
   pub empty : begun.stack ≡ []
-  pub refused : WasRefused (points_of rules term s.fuel s.depth) begun new fault
+  pub refused : RefusedBy (strategy_of s.command) rules term s.fuel s.depth begun new fault
   pub refusals : old.refusals < new.refusals
 
 -- How a worker ended that drew these terms: none was left to draw, or it stopped at the last one, or before it drew any.

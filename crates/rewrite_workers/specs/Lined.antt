@@ -6,9 +6,10 @@ use Rattle.rewrite_model.specs.Rule.{Rule}
 use Rattle.rewrite_model.specs.Run.{Ended}
 use Rattle.settings.specs.declared.parts.Settings.{Settings}
 use Rattle.term_lines.specs.Line.{line_text, kind_of, spent_of}
-use Rattle.term_lines.specs.Written.{ended}
+use Rattle.term_lines.specs.Strategies.{ended}
 use Rattle.term_lines.specs.declared.ending.LineKind.{LineKind}
 use Rattle.rewrite_workers.specs.declared.lines.Line.{Line}
+use Rattle.rewrite_workers.specs.Works.{strategy_of}
 
 -- what a line says of its term
 pub record Said : Type 0 where
@@ -22,9 +23,9 @@ said l = record { kind = l.kind; text = l.text.items; spent = l.spent }
 abbrev pub worker_of : Line → ℕ
 worker_of l = l.worker
 
--- how a term ends with the fuel and the room of the settings
+-- how a term ends by the settings' command, with their fuel and room
 abbrev pub end_of : Settings → List Rule → Tree → Ended Tree
-end_of s rules term = ended rules term s.fuel s.depth
+end_of s rules term = ended (strategy_of s.command) rules term s.fuel s.depth
 
 -- the line of a term
 abbrev pub line_of : Settings → List Named → List Rule → Tree → Said

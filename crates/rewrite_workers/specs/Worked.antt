@@ -75,6 +75,6 @@ HasLinesWhere s symbols rules terms share (Err stop) = Unit {0}
 -- What a worker leaves: the lines of the terms that it drew, or why it stopped, and its desk.
 pub record Worked (s : Settings) (symbols : List Named) (rules : List Rule) (terms : List Tree) (old new : Store) (share : Share) (end : Result (Unit {0}) LineStop) : Type 0 where
   pub ended : Ended s rules (numbered terms (of_terms (length terms) (drawn_of share))) old new end
-  pub works : WorksOn (need_of s rules terms) old new end
+  pub works : WorksOn s (need_of s rules terms) old new end
   pub places : All (λ x. x.number < length terms) share.lines.items
   pub lines : HasLinesWhere s symbols rules terms share end

@@ -10,11 +10,13 @@ use Rattle.settings.specs.declared.parts.Settings.{Settings}
 use Rattle.term_lines.specs.Written.{SweepsMore}
 use Rattle.term_lines.specs.declared.rewriter.Rewriter.{Rewriter}
 use Rattle.term_lines.specs.declared.stop.LineStop.{LineStop}
+use Rattle.rewrite_workers.specs.Works.{strategy_of, IsInnermost}
 use Rattle.term_lines.specs.declared.stop.LineStop.TheVariants as stop
 
--- a rewriter of a plan, with the settings' fuel, depth and rows
+-- a rewriter of a plan, with the strategy of the settings' command, and their fuel, depth and rows
 pub record IsRewriterOf (s : Settings) (plan : Planned) (rewriter : Rewriter) : Type 0 where
   pub machine : IsFor plan rewriter.machine
+  pub strategy : rewriter.strategy ≡ strategy_of s.command
   pub depth : rewriter.machine.depth ≡ s.depth
   pub rows : rewriter.marks ≡ s.rows
   pub fuel : rewriter.fuel ≡ s.fuel
@@ -27,12 +29,13 @@ more_sweeps (Err stop.StoreFull) = 1
 more_sweeps (Err stop.Worn) = 1
 more_sweeps (Err stop.Memory) = 0
 
--- The numbers of a desk stay. It collected so often, and no more was protected at once than a term needs.
-pub record WorksOn {A : Type 0} (needed : ℕ) (old new : Store) (result : Result A LineStop) : Type 0 where
+-- The numbers of a desk stay. It collected so often, and where terms are rewritten innermost no more was protected at once than
+-- a term needs.
+pub record WorksOn {A : Type 0} (s : Settings) (needed : ℕ) (old new : Store) (result : Result A LineStop) : Type 0 where
   pub rows : new.rows ≡ old.rows
   pub widest : new.widest ≡ old.widest
   pub room : new.room ≡ old.room
   pub least_sweeps : old.sweeps ≤ new.sweeps
   pub most_sweeps : SweepsMore old new (more_sweeps result)
   pub least_load : old.load ≤ new.load
-  pub most_load : new.load ≤ max old.load needed
+  pub most_load : IsInnermost s → new.load ≤ max old.load needed

@@ -1,13 +1,18 @@
--- What workers ask of the terms and the rules.
-use Rattle.std.specs.Prelude.{ℕ, ◌<◌, ◌^◌, List, All, length, slice_index_or}
+-- How the settings ask terms to be rewritten, and what workers ask of the terms and the rules.
+use Rattle.std.specs.Prelude.{◌≡◌, ℕ, ◌<◌, ◌^◌, List, All, length, slice_index_or}
 use Rattle.term_model.specs.Tree.{Tree, Leaf, IsGround}
 use Rattle.symbol_pool.specs.Pool.{Named}
 use Rattle.rewrite_model.specs.Rule.{Rule}
 use Rattle.rewrite_model.specs.Built.{need, need_of_all}
+use Rattle.settings.specs.declared.parts.Command.{Command}
+use Rattle.settings.specs.declared.parts.Command.TheVariants as command
 use Rattle.settings.specs.declared.parts.Settings.{Settings}
 use Rattle.rule_match.specs.Planned.{Planned, IsPlain}
 use Rattle.term_text.specs.Text.{HasNames}
 use Rattle.term_lines.specs.Laws.{WritesNames}
+use Rattle.term_lines.specs.Strategies.{built_by_all}
+use Rattle.term_lines.specs.declared.strategy.Strategy.{Strategy}
+use Rattle.term_lines.specs.declared.strategy.Strategy.TheVariants.{Innermost, Outermost}
 
 -- A term without variables, of symbols alone that have names and no more arguments than the plan's width.
 pub record IsTermFor (plan : Planned) (symbols : List Named) (term : Tree) : Type 0 where
@@ -23,7 +28,19 @@ WriteNames symbols rules = All (WritesNames symbols) rules
 abbrev pub term_at : List Tree → ℕ → Tree
 term_at terms i = slice_index_or terms i (Leaf 0)
 
--- how many trees are in hand at once, at the term with a number, and at any term
+-- how a command rewrites terms
+abbrev pub strategy_of : Command → Strategy
+strategy_of command.Outermost = Outermost
+strategy_of _ = Innermost
+
+abbrev pub IsInnermost : Settings → Type 0
+IsInnermost s = strategy_of s.command ≡ Innermost
+
+-- what terms build, in order
+abbrev pub built_of : Settings → List Rule → List Tree → List Tree
+built_of s rules terms = built_by_all (strategy_of s.command) rules terms s.fuel s.depth
+
+-- how many trees innermost rewriting has in hand at once, at the term with a number, and at any term
 abbrev pub need_at : Settings → List Rule → List Tree → ℕ → ℕ
 need_at s rules terms i = need rules (term_at terms i) s.fuel s.depth
 

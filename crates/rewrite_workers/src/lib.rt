@@ -18,8 +18,3 @@ pub use fault::AllFault;
 pub use law::{each_number_is_drawn_once, hands_are_joined};
 pub use lines::{Line, Lines};
 pub use work::Work;
-
-#[cfg(test)]
-mod tests;
-#[cfg(test)]
-mod told;

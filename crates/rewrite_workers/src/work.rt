@@ -1,7 +1,11 @@
 // What is to be rewritten, and how.
+ghost use Rattle.std.specs.Prelude.{◌≡◌};
+ghost use Rattle.rewrite_workers.specs.Works.{strategy_of};
+
 use rule_match::Plan;
-use settings::Settings;
+use settings::{Command, Settings};
 use symbol_pool::Symbols;
+use term_lines::Strategy;
 use term_model::Flat;
 
 /// What is to be rewritten, and how.
@@ -13,6 +17,19 @@ pub struct Work<'a> {
     pub symbols: &'a Symbols,
     /// The terms, which are numbered from 0.
     pub terms: &'a [Flat],
-    /// The fuel and the depth of each term, the rows of each desk, and whether sizes are written.
+    /// The command, by which terms are rewritten outermost or innermost; the fuel and the depth of each
+    /// term, the rows of each desk, and whether sizes are written.
     pub settings: Settings,
+}
+
+impl Work<'_> {
+    /// How the terms are rewritten: innermost, but for the command that asks for the other.
+    pub(crate) fn strategy(&self) -> Strategy
+        ensures { result ≡ strategy_of self.now.settings.command }
+    {
+        match self.settings.command {
+            Command::Outermost => Strategy::Outermost,
+            _ => Strategy::Innermost,
+        }
+    }
 }

@@ -59,6 +59,7 @@ fn rewriter_of<G>(job: &Job<G>) -> Result<Rewriter, Memory>
 {
     Ok(Rewriter {
         machine: Machine::new(job.alloc, job.work.plan, job.work.settings.depth)?,
+        strategy: job.work.strategy(),
         marks: SizeMarks::new(job.alloc, job.work.settings.rows)?,
         fuel: job.work.settings.fuel,
         sizes: job.work.settings.sizes,
@@ -82,7 +83,7 @@ fn make_line<T: Terms, G: Gate>(
     ensures worker { IfOk result (λ l. l.worker ≡ worker) }
     ensures ended { Ended job.now.work.settings job.now.work.plan.now.rules
         (term_at job.now.work.terms.now number ∷ []) (T.store desk.old) (T.store desk.new) result }
-    ensures works { WorksOn (need_at job.now.work.settings job.now.work.plan.now.rules job.now.work.terms.now number)
+    ensures works { WorksOn job.now.work.settings (need_at job.now.work.settings job.now.work.plan.now.rules job.now.work.terms.now number)
         (T.store desk.old) (T.store desk.new) result }
     ensures ready { IsReady job.now.work.settings job.now.work.plan.now (T.store desk.new) }
     ensures rewriter { rewriter.new ≡ rewriter.old }
@@ -124,7 +125,7 @@ fn add_line<T: Terms, G: Gate>(
     ensures seat { KeepsSeat share.old share.new }
     ensures ended { Ended job.now.work.settings job.now.work.plan.now.rules
         (term_at job.now.work.terms.now number ∷ []) (T.store desk.old) (T.store desk.new) result }
-    ensures works { WorksOn (need_at job.now.work.settings job.now.work.plan.now.rules job.now.work.terms.now number)
+    ensures works { WorksOn job.now.work.settings (need_at job.now.work.settings job.now.work.plan.now.rules job.now.work.terms.now number)
         (T.store desk.old) (T.store desk.new) result }
     ensures ready { IsReady job.now.work.settings job.now.work.plan.now (T.store desk.new) }
     ensures rewriter { rewriter.new ≡ rewriter.old }

@@ -1,20 +1,22 @@
 -- What the chronicle tells of the workers, by the passes that their desks gave back.
-use Rattle.std.proofs.Common.{◌≡◌, ℕ, zero, suc, ◌<◌, List, [], ◌∷◌, ◌++◌, get_or, length, map, refl, sym, ap, subst, ◌∙◌, arith}
+use Rattle.std.proofs.Common.{◌≡◌, ℕ, zero, suc, ◌<◌, List, [], ◌∷◌, ◌++◌, get_or, length, map, refl, sym, ap, subst, ◌∙◌, ⊎_elim, arith}
+use Rattle.std.proofs.lemmas.Bool.{cases_lt}
+use Rattle.std.proofs.lemmas.List.{get_or_past}
 use Rattle.std.specs.Prelude.{All, Some, slice_get, Result, Ok, Err, IfOk}
 use Rattle.std.proofs.lemmas.Option.{slice_get_within, slice_get-get_or, same_Some}
 use Rattle.term_model.specs.Tree.{Tree}
 use Rattle.rewrite_model.specs.Rule.{Rule}
-use Rattle.rewrite_model.specs.Built.{built_of_all}
 use Rattle.settings.specs.declared.parts.Settings.{Settings}
 use Rattle.history_core.specs.declared.entry.Entry.{Entry}
-use Rattle.history_core.specs.Chronicle.{chronicle, part_of, entries_of, IsLegal}
+use Rattle.history_core.specs.Chronicle.{chronicle, part_of, entries_of, KeysRise, IsLegal}
 use Rattle.node_rows.specs.declared.store.Store.{Store}
 use Rattle.node_rows.specs.declared.store.Pass.{Pass}
 use Rattle.node_rows.specs.Passes.{IsPass, IsOut}
-use Rattle.node_rows.specs.Told.{HasEntries, KeepsOrder, TellsTrees}
+use Rattle.node_rows.specs.Told.{HasEntries, KeepsOrder, HasRisingKeys, TellsTrees}
 use Rattle.rewrite_workers.specs.declared.fault.AllFault.{AllFault}
 use Rattle.rewrite_workers.specs.declared.lines.Lines.{Lines}
 use Rattle.rewrite_workers.specs.Lined.{worker_of, drawn_by}
+use Rattle.rewrite_workers.specs.Works.{built_of}
 use Rattle.shared_desk.specs.Code.{Contents}
 use Rattle.shared_desk.specs.Pass.{PassView, WhichStore, WhichPass}
 use Rattle.shared_desk.specs.Passes.{IsBack}
@@ -23,7 +25,7 @@ use Rattle.shared_desk.specs.Telling.{collects_by}
 use Rattle.shared_desk.proofs.Telling.{built_are_named, sweeps_are_counted}
 use Rattle.shared_work.specs.NewDesks.{IsNewDesk}
 use Rattle.shared_work.specs.Running.{HasRun}
-use Rattle.shared_work.specs.Sharing.{named_by, NamesWhatItBuilt, CollectsFew, KeepsOrders}
+use Rattle.shared_work.specs.Sharing.{named_by, NamesWhatItBuilt, CollectsFew, KeepsOrders, EachRises}
 
 pub there : {A : Type 0} (xs : List A) (k : ℕ) → k < length xs → (x : A) × (slice_get xs k ≡ Some x)
 there [] k l = absurd (omega (arith, l))
@@ -98,6 +100,13 @@ module _ (s : Settings) (rules : List Rule) (terms : List Tree) (store : Store) 
       subst (λ j. part_of j (chronicle lists) ≡ entries_of lists j) w.number
       (all_got (KeepsOrder lists) ps k w.pass order w.at_pass ∙ sym (all_got (HasEntries lists) ps k w.pass has w.at_pass))
 
+  -- a caller that is no worker has no entries
+  pub each_rises : (lists : List (List Entry)) → length lists ≡ store.sizes.seats → All (HasRisingKeys lists) ps → EachRises lists
+  each_rises lists count rises k = ⊎_elim
+      (λ lt. let w = worker k lt in subst (λ j. KeysRise (entries_of lists j)) w.number (all_got (HasRisingKeys lists) ps k w.pass rises w.at_pass))
+      (λ past. subst KeysRise (sym (get_or_past lists k [] (omega (arith, past, count)))) tt)
+      (cases_lt k store.sizes.seats)
+
   -- the passes are those of the store, and out
   pub are_out : All (λ p. IsPass store.table.shared.table_id store.sizes p.seat.seat p.seat.seats × IsOut p.seat.seat.me.0) ps
   are_out k d lt =
@@ -127,7 +136,7 @@ names_what_it_built s rules terms store (Ok l) ps run lists seats tells = λ k l
     let w = worker s rules terms store (Ok l) ps run k (omega (arith, lt, seats)) in
     let all = run.built.1 k w.old w.new w.at_old w.at_new in
     names_built s rules terms store (Ok l) ps run lists tells k w ∙ all
-    ∙ ap (λ ts. ts ++ built_of_all rules (drawn_by k (map worker_of l.list.items) terms) s.fuel s.depth) w.fresh.built
+    ∙ ap (λ ts. ts ++ built_of s rules (drawn_by k (map worker_of l.list.items) terms)) w.fresh.built
 
 -- the chronicle of nothing
 pub none_collect : (s : Settings) (lists : List (List Entry)) → lists ≡ [] → CollectsFew s lists
@@ -137,6 +146,10 @@ none_collect s (x ∷ xs) e = cc
 pub none_order : (s : Settings) (lists : List (List Entry)) → lists ≡ [] → KeepsOrders s lists
 none_order s [] e = λ k lt. refl
 none_order s (x ∷ xs) e = cc
+
+pub none_rises : (lists : List (List Entry)) → lists ≡ [] → EachRises lists
+none_rises [] e = λ k. tt
+none_rises (x ∷ xs) e = cc
 
 pub none_ok : {A E : Type 0} (P : A → Type 0) (r : Result A E) (x : E) → r ≡ Err x → IfOk r P
 none_ok P (Ok a) x e = cc

@@ -6,10 +6,10 @@ use Rattle.term_model.specs.Tree.{Tree, among, distinct}
 use Rattle.term_model.proofs.Equality.{contains_from_among}
 use Rattle.term_model.proofs.Members.{distinct_of_part}
 use Rattle.rewrite_model.specs.Rule.{Rule}
-use Rattle.rewrite_model.specs.Built.{built_of_all, distinct_built}
 use Rattle.settings.specs.declared.parts.Settings.{Settings}
 use Rattle.history_core.specs.declared.entry.Entry.{Entry}
 use Rattle.rewrite_workers.specs.Ends.{numbered}
+use Rattle.rewrite_workers.specs.Works.{built_of}
 use Rattle.rewrite_workers.specs.declared.fault.AllFault.{AllFault}
 use Rattle.rewrite_workers.specs.declared.lines.Lines.{Lines}
 use Rattle.shared_work.specs.Filling.{IsMade, FillsRows, TellsFull}
@@ -29,7 +29,7 @@ one_more t ts absent = ap (λ b. if b then distinct ts else distinct ts + 1) (ne
 
 module _ (s : Settings) (rules : List Rule) (terms : List Tree) (lists : List (List Entry)) (only : NamesOnlyBuilt s rules terms lists) (f : FillsRows s rules terms lists) where
   abbrev all : List Tree
-  all = built_of_all rules terms s.fuel s.depth
+  all = built_of s rules terms
 
   of : All (λ i. i < length terms) f.drawn
   of = all_got (λ hand. All (λ i. i < length terms) hand) f.hands f.worker f.drawn f.apart.below f.drawn_is
@@ -47,7 +47,7 @@ module _ (s : Settings) (rules : List Rule) (terms : List Tree) (lists : List (L
   each_within : (t : Tree) → Contains (f.next ∷ f.crowd) t → Contains all t
   each_within t c = elim (first_or_other f.next f.crowd t c) [ inl e ↦ subst (Contains all) e next_within | inr more ↦ crowd_within t more ]
 
-  pub builds_more : s.rows < distinct_built rules terms s.fuel s.depth
+  pub builds_more : s.rows < distinct (built_of s rules terms)
   builds_more =
       let more = one_more f.next f.crowd f.absent in
       let full = f.full in

@@ -4,14 +4,15 @@ use Rattle.std.specs.Prelude.{All, Contains, Result, Ok, Err, IfErr}
 use Rattle.std.proofs.lemmas.List.Elements.{Contains-append_right, Contains-get_or}
 use Rattle.term_model.specs.Tree.{Tree, list_of, distinct}
 use Rattle.rewrite_model.specs.Rule.{Rule}
-use Rattle.rewrite_model.specs.Built.{trees_at as trees_of}
 use Rattle.settings.specs.declared.parts.Settings.{Settings}
 use Rattle.history_core.specs.declared.entry.Entry.{Entry}
 use Rattle.history_core.specs.Chronicle.{chronicle, set_of, IsLegal, IsNoted}
 use Rattle.history_core.specs.TermSet.{empty, Holds, trees_at}
 use Rattle.history_core.specs.Told.{told, named, kept_trees}
 use Rattle.history_core.proofs.Chronicles.{has_the_noted}
+use Rattle.innermost.specs.BuiltTrees.{TreeWasRefused}
 use Rattle.innermost.specs.declared.normal.RunFault.TheVariants as fault
+use Rattle.term_lines.specs.Strategies.{built_by}
 use Rattle.node_rows.specs.declared.store.Store.{Store}
 use Rattle.node_rows.specs.declared.store.Pass.{Pass}
 use Rattle.node_rows.specs.Crowding.{EndsWith, IsLastCollect}
@@ -20,7 +21,9 @@ use Rattle.node_rows.proofs.Crowding.{told_none_by}
 use Rattle.rewrite_workers.specs.declared.fault.AllFault.{AllFault}
 use Rattle.rewrite_workers.specs.declared.fault.AllFault.TheVariants.{StoreFull}
 use Rattle.rewrite_workers.specs.declared.lines.Lines.{Lines}
-use Rattle.rewrite_workers.specs.Ends.{AreApart}
+use Rattle.rewrite_workers.specs.Ends.{numbered, AreApart}
+use Rattle.rewrite_workers.specs.Works.{strategy_of}
+use Rattle.shared_desk.specs.Desk.{store_of}
 use Rattle.shared_desk.proofs.Telling.{crowd_is_last, crowd_is_of_its_names}
 use Rattle.shared_work.specs.Running.{HasRun, WantsMemory}
 use Rattle.shared_work.specs.Filling.{IsMade, FillsRows, TellsFull}
@@ -28,6 +31,7 @@ use Rattle.shared_work.proofs.Kept.{IsNamed, kept_made, told_some}
 use Rattle.shared_work.proofs.Closing.{Worker, all_got}
 use Rattle.shared_work.proofs.Fronts.{next_built}
 use Rattle.shared_work.proofs.Reached.{NoneBy, last_collect, end_of_nothing}
+use Rattle.shared_work.proofs.Refusals.{last_refused}
 use Rattle.shared_work.proofs.Refusing.{Refused, refused}
 
 -- a tree that a Collect of a legal chronicle kept was made or found by a caller
@@ -57,6 +61,9 @@ module _ (s : Settings) (rules : List Rule) (terms : List Tree) (store : Store) 
   abbrev crowd : List Tree
   crowd = one.new.pass.crowd
 
+  was : TreeWasRefused (built_by (strategy_of s.command) rules off.last.term s.fuel s.depth) off.last.begun (store_of one.new) fault.StoreFull
+  was = last_refused s rules (numbered terms off.drawn) (store_of one.old) (store_of one.new) fault.StoreFull off.last
+
   tells_crowd : TellsCrowd lists one.pass
   tells_crowd = all_got (TellsCrowd lists) ps k one.pass crowds one.at_pass
 
@@ -64,7 +71,7 @@ module _ (s : Settings) (rules : List Rule) (terms : List Tree) (store : Store) 
   ends = crowd_is_last lists one.new.pass one.pass one.back tells_crowd
 
   full : distinct crowd ≡ s.rows
-  full = off.last.refused.2.full ∙ ((run.kept.1 k one.old one.new one.at_old one.at_new).rows ∙ (one.fresh.rows ∙ same_rows))
+  full = was.2.full ∙ ((run.kept.1 k one.old one.new one.at_old one.at_new).rows ∙ (one.fresh.rows ∙ same_rows))
 
   -- it has collected, since it kept as many trees as there are rows
   collected : IsLastCollect (chronicle lists) one.pass.seat.number
@@ -101,15 +108,15 @@ module _ (s : Settings) (rules : List Rule) (terms : List Tree) (store : Store) 
         apart = subst (λ n. AreApart (length terms) n run.stopped.hands) many run.stopped.apart;
         drawn = off.drawn;
         drawn_is = off.drawn_is;
-        next = off.last.refused.0.tree;
-        rest = trees_of off.last.refused.1.back;
-        built = next_built s rules terms store StoreFull ps run lists tells k one off.drawn fault.StoreFull off.last off.last.refused.0 off.last.refused.1;
+        next = was.0;
+        rest = was.1.back;
+        built = next_built s rules terms store StoreFull ps run lists tells k one off.drawn fault.StoreFull off.last was.0 was.1;
         collect = last_kept.0;
         crowd = crowd;
         crowd_is = last_kept.1;
         full = full;
         made = made_each;
-        absent = off.last.refused.2.absent;
+        absent = was.2.absent;
       }
 
 -- where the workers stopped for want of rows

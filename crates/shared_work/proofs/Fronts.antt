@@ -2,22 +2,21 @@
 use Rattle.std.proofs.Common.{◌≡◌, inl, inr, ℕ, zero, suc, ◌<◌, ◌≤◌, List, [], ◌∷◌, ◌++◌, get_or, length, refl, sym, ap, subst, ◌∙◌, arith}
 use Rattle.std.specs.Prelude.{All, Contains, Result, Ok, Err, IfOk, IfErr, map}
 use Rattle.std.specs.List.{flat_map}
-use Rattle.std.proofs.lemmas.List.{append-nil, append_assoc, map-append}
+use Rattle.std.proofs.lemmas.List.{append-nil, append_assoc}
 use Rattle.std.proofs.lemmas.List.Concat.{flat_map-append}
 use Rattle.std.proofs.lemmas.List.Elements.{Contains-append_left, Contains-get_or}
 use Rattle.std.proofs.lemmas.Option.{slice_get_within, slice_get-get_or, same_Some}
 use Rattle.term_model.specs.Tree.{Tree}
 use Rattle.rewrite_model.specs.Rule.{Rule}
-use Rattle.rewrite_model.specs.Evaluation.{Point}
-use Rattle.rewrite_model.specs.Built.{built_list, built_of_all, trees_at}
 use Rattle.settings.specs.declared.parts.Settings.{Settings}
 use Rattle.history_core.specs.declared.entry.Entry.{Entry}
-use Rattle.innermost.specs.Normalized.{StoppedAt}
+use Rattle.innermost.specs.BuiltTrees.{StoppedBefore}
 use Rattle.innermost.specs.declared.normal.RunFault.{RunFault}
+use Rattle.innermost.specs.declared.normal.RunFault.TheVariants as refusal
 use Rattle.node_rows.specs.declared.store.Store.{Store}
 use Rattle.node_rows.specs.declared.store.Pass.{Pass}
 use Rattle.node_rows.specs.Told.{TellsTrees}
-use Rattle.term_lines.specs.Written.{points_of}
+use Rattle.term_lines.specs.Strategies.{built_by}
 use Rattle.term_lines.specs.declared.stop.LineStop.{LineStop}
 use Rattle.term_lines.specs.declared.stop.LineStop.TheVariants as stop
 use Rattle.rewrite_workers.specs.declared.fault.AllFault.{AllFault}
@@ -25,11 +24,13 @@ use Rattle.rewrite_workers.specs.declared.lines.Lines.{Lines}
 use Rattle.rewrite_workers.specs.Dealt.{times}
 use Rattle.rewrite_workers.specs.Ends.{numbered, Rises, AreApart, BuiltAll, RefusedLast, Ended}
 use Rattle.rewrite_workers.specs.Lined.{worker_of, drawn_by}
+use Rattle.rewrite_workers.specs.Works.{strategy_of, built_of}
 use Rattle.shared_desk.specs.Desk.{store_of}
 use Rattle.shared_work.specs.Running.{HasRun, WantsMemory}
 use Rattle.shared_work.specs.Sharing.{named_by, NamesWhatItBuilt}
 use Rattle.shared_work.specs.Fronts.{NamesFront, NamesFronts, NamesOnlyBuilt, TellsEach}
 use Rattle.shared_work.proofs.Closing.{Worker, worker, names_built, there}
+use Rattle.shared_work.proofs.Refusals.{last_refused}
 use Rattle.shared_work.proofs.Members.{built_by_all, numbered_within, drawn_within}
 
 module _ (s : Settings) (rules : List Rule) (terms : List Tree) (store : Store) (fault : AllFault) (ps : List Pass) (run : HasRun s rules terms store (Err fault) ps) (lists : List (List Entry)) (tells : All (TellsTrees lists) ps) where
@@ -42,27 +43,29 @@ module _ (s : Settings) (rules : List Rule) (terms : List Tree) (store : Store) 
 
   -- the tree that was refused is the next one of those that the terms drawn build
   pub next_built : (k : ℕ) (w : At k) (drawn : List ℕ) (by : RunFault) (last : RefusedLast s rules (numbered terms drawn) (store_of w.old) (store_of w.new) by)
-      → (p : Point) (at : StoppedAt (points_of rules last.term s.fuel s.depth) last.begun (store_of w.new) p)
-      → built_of_all rules (numbered terms drawn) s.fuel s.depth ≡ named_by lists k ++ p.tree ∷ trees_at at.back
-  next_built k w drawn by last p at =
-      let bl : Tree → List Tree = λ t. built_list rules t s.fuel s.depth in
+      → (t : Tree) (at : StoppedBefore (built_by (strategy_of s.command) rules last.term s.fuel s.depth) last.begun (store_of w.new) t)
+      → built_of s rules (numbered terms drawn) ≡ named_by lists k ++ t ∷ at.back
+  next_built k w drawn by last t at =
+      let bl : Tree → List Tree = λ u. built_by (strategy_of s.command) rules u s.fuel s.depth in
       let before : List Tree = flat_map bl last.before in
-      let front = trees_at at.front in
-      let rest : List Tree = p.tree ∷ trees_at at.back in
-      let points : bl last.term ≡ front ++ rest = ap trees_at at.split ∙ map-append (λ (q : Point). q.tree) at.front (p ∷ at.back) in
+      let front = at.front in
+      let rest : List Tree = t ∷ at.back in
+      let points : bl last.term ≡ front ++ rest = at.split in
       let own : w.new.pass.built ≡ w.old.pass.built ++ (before ++ front) = at.built ∙ ap (λ zs. zs ++ front) last.built ∙ append_assoc w.old.pass.built before front in
       ap (flat_map bl) last.drawn_is ∙ flat_map-append bl last.before (last.term ∷ [])
       ∙ ap (λ ys. before ++ ys) (append-nil (bl last.term) ∙ points) ∙ sym (append_assoc before front rest) ∙ ap (λ zs. zs ++ rest) (sym (names k w (before ++ front) own))
 
   whole : (k : ℕ) (w : At k) (drawn : List ℕ) → BuiltAll s rules (numbered terms drawn) (store_of w.old) (store_of w.new) → NamesFront s rules terms lists k drawn
-  whole k w drawn e = record { rest = []; built = sym (names k w (built_of_all rules (numbered terms drawn) s.fuel s.depth) e) ∙ sym (append-nil (named_by lists k)) }
+  whole k w drawn e = record { rest = []; built = sym (names k w (built_of s rules (numbered terms drawn)) e) ∙ sym (append-nil (named_by lists k)) }
 
   front_at : (k : ℕ) (w : At k) (drawn : List ℕ) (end : Result (Unit {0}) LineStop) → Ended s rules (numbered terms drawn) (store_of w.old) (store_of w.new) end → NamesFront s rules terms lists k drawn
   front_at k w drawn (Ok x) e = whole k w drawn e.0
   front_at k w drawn (Err stop.StoreFull) e =
-      record { rest = e.refused.0.tree ∷ trees_at e.refused.1.back; built = next_built k w drawn _ e e.refused.0 e.refused.1 }
+      let r = last_refused s rules (numbered terms drawn) (store_of w.old) (store_of w.new) refusal.StoreFull e in
+      record { rest = r.0 ∷ r.1.back; built = next_built k w drawn refusal.StoreFull e r.0 r.1 }
   front_at k w drawn (Err stop.Worn) e =
-      record { rest = e.refused.0.tree ∷ trees_at e.refused.1.back; built = next_built k w drawn _ e e.refused.0 e.refused.1 }
+      let r = last_refused s rules (numbered terms drawn) (store_of w.old) (store_of w.new) refusal.Worn e in
+      record { rest = r.0 ∷ r.1.back; built = next_built k w drawn refusal.Worn e r.0 r.1 }
   front_at k w drawn (Err stop.Memory) e = whole k w drawn e.0
 
   pub fronts : store.sizes.seats ≡ s.workers → NamesFronts s rules terms lists

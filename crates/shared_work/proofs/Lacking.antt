@@ -6,6 +6,9 @@ use Rattle.term_model.specs.Tree.{Tree, distinct}
 use Rattle.term_model.proofs.Members.{distinct_of_part}
 use Rattle.rewrite_model.specs.Rule.{Rule}
 use Rattle.settings.specs.declared.parts.Settings.{Settings}
+use Rattle.innermost.specs.Normalized.{WasRefused}
+use Rattle.innermost.specs.declared.normal.RunFault.TheVariants as fault
+use Rattle.term_lines.specs.Strategies.{points_of, RefusedBy}
 use Rattle.history_core.specs.declared.entry.Entry.{Entry}
 use Rattle.history_core.specs.Chronicle.{chronicle, IsLegal}
 use Rattle.history_core.specs.TermSet.{empty}
@@ -19,7 +22,8 @@ use Rattle.node_rows.proofs.Crowding.{told_none_by}
 use Rattle.rewrite_workers.specs.declared.fault.AllFault.{AllFault}
 use Rattle.rewrite_workers.specs.declared.fault.AllFault.TheVariants.{StoreFull}
 use Rattle.rewrite_workers.specs.declared.lines.Lines.{Lines}
-use Rattle.rewrite_workers.specs.Works.{need_of}
+use Rattle.rewrite_workers.specs.Works.{need_of, IsInnermost}
+use Rattle.shared_desk.specs.Desk.{store_of}
 use Rattle.shared_desk.specs.Telling.{protected_by}
 use Rattle.shared_desk.proofs.Telling.{crowd_is_last, crowd_is_of_its_names, hand_is_protected, load_is_most}
 use Rattle.shared_work.specs.Running.{HasRun, WantsMemory}
@@ -29,7 +33,7 @@ use Rattle.shared_work.proofs.Needing.{below, asked_in_hand, point_needs, drawn_
 use Rattle.shared_work.proofs.Reached.{NoneBy, last_collect, end_of_nothing, kept_below}
 use Rattle.shared_work.proofs.Refusing.{Refused, refused}
 
-module _ (s : Settings) (rules : List Rule) (terms : List Tree) (store : Store) (ps : List Pass) (run : HasRun s rules terms store (Err StoreFull) ps)
+module _ (s : Settings) (innermost : IsInnermost s) (rules : List Rule) (terms : List Tree) (store : Store) (ps : List Pass) (run : HasRun s rules terms store (Err StoreFull) ps)
     (lists : List (List Entry)) (seats : store.sizes.seats ≡ s.workers) (same_rows : store.sizes.rows ≡ s.rows) (count : length lists ≡ store.sizes.seats)
     (rows : ℕ) (legal : IsLegal rows (chronicle lists)) (order : All (KeepsOrder lists) ps) (tells : All (TellsTrees lists) ps) (crowds : All (TellsCrowd lists) ps) where
   abbrev needed : ℕ
@@ -47,15 +51,18 @@ module _ (s : Settings) (rules : List Rule) (terms : List Tree) (store : Store) 
   abbrev crowd : List Tree
   crowd = one.new.pass.crowd
 
+  was : WasRefused (points_of rules off.last.term s.fuel s.depth) off.last.begun (store_of one.new) fault.StoreFull
+  was = subst (λ by. RefusedBy by rules off.last.term s.fuel s.depth off.last.begun (store_of one.new) fault.StoreFull) innermost off.last.refused
+
   abbrev next : Tree
-  next = off.last.refused.0.tree
+  next = was.0.tree
 
   -- it had the refused tree and what it protected in hand
   hand_needs : distinct (next ∷ below one.new.pass.hand) ≤ needed
   hand_needs =
-      let p = off.last.refused.0 in
-      let at = off.last.refused.1 in
-      let asked = asked_in_hand p one.new.pass.hand (off.last.refused.3 off.last.empty) in
+      let p = was.0 in
+      let at = was.1 in
+      let asked = asked_in_hand p one.new.pass.hand (was.3 off.last.empty) in
       let point = point_needs s rules off.last.term at.front at.back p at.split in
       let drawn = drawn_needs s rules terms off.drawn off.of off.last.term
       (subst (λ ts. Contains ts off.last.term) (sym off.last.drawn_is) (Contains-append_right off.last.before (off.last.term ∷ []) off.last.term (contains_here off.last.term []))) in
@@ -66,7 +73,7 @@ module _ (s : Settings) (rules : List Rule) (terms : List Tree) (store : Store) 
   load_needs j w c =
       let load = load_is_most rows lists w.new.pass w.pass w.back (all_got (KeepsOrder lists) ps j w.pass order w.at_pass) (all_got (TellsTrees lists) ps j w.pass tells w.at_pass) legal c.before _ c.is in
       let here = subst (λ i. distinct (below (protected_by i c.before)) ≤ w.new.pass.load) w.number load in
-      let most = subst (λ n. w.new.pass.load ≤ max n needed) w.fresh.load (run.kept.1 j w.old w.new w.at_old w.at_new).most_load in
+      let most = subst (λ n. w.new.pass.load ≤ max n needed) w.fresh.load ((run.kept.1 j w.old w.new w.at_old w.at_new).most_load innermost) in
       omega (arith, here, most)
 
   -- what its last Collect kept is below what the workers protected there
@@ -84,7 +91,7 @@ module _ (s : Settings) (rules : List Rule) (terms : List Tree) (store : Store) 
       let b = kept_below rows lists one.pass.seat.number legal c t (subst (λ ts. Contains ts t) names has) in
       let here = b.1.1.present in
       (b.0, omega (arith, here, count, seats), b.2))
-      off.last.refused.2.absent
+      was.2.absent
 
   -- without a Collect it kept nothing
   at_none : crowd ≡ [] → distinct crowd < s.workers * needed
@@ -94,15 +101,15 @@ module _ (s : Settings) (rules : List Rule) (terms : List Tree) (store : Store) 
       (λ j l ne. omega arith)
       (let one_tree = distinct_of_part (next ∷ []) (next ∷ below one.new.pass.hand) (λ t c. front t (contains_cases next [] t c)) in let h = hand_needs in omega (arith, one_tree, h))
       (λ t has. absurd (contains_none t (subst (λ ts. Contains ts t) none has)))
-      off.last.refused.2.absent
+      was.2.absent
     where
       front : (t : Tree) → (next ≡ t) ⊎ Contains [] t → Contains (next ∷ below one.new.pass.hand) t
       front t (inl same) = subst (Contains (next ∷ below one.new.pass.hand)) same (contains_here next (below one.new.pass.hand))
       front t (inr nothing) = absurd (contains_none t nothing)
 
-  needs : NeedsMore s rules terms
+  needs : s.rows < s.workers * needed
   needs =
-      let full = off.last.refused.2.full ∙ ((run.kept.1 k one.old one.new one.at_old one.at_new).rows ∙ (one.fresh.rows ∙ same_rows)) in
+      let full = was.2.full ∙ ((run.kept.1 k one.old one.new one.at_old one.at_new).rows ∙ (one.fresh.rows ∙ same_rows)) in
       subst (λ n. n < s.workers * needed) full (by (last_collect one.pass.seat.number (chronicle lists)))
     where
       by : IsLastCollect (chronicle lists) one.pass.seat.number ⊎ NoneBy one.pass.seat.number (chronicle lists) → distinct crowd < s.workers * needed
@@ -115,8 +122,8 @@ pub tells_need : (s : Settings) (rules : List Rule) (terms : List Tree) (store :
     → (lists : List (List Entry)) → store.sizes.seats ≡ s.workers → store.sizes.rows ≡ s.rows → length lists ≡ store.sizes.seats
     → (rows : ℕ) → IsLegal rows (chronicle lists) → All (KeepsOrder lists) ps → All (TellsTrees lists) ps → All (TellsCrowd lists) ps → IfErr lines (TellsNeed s rules terms)
 tells_need s rules terms store (Ok l) ps run lists seats same_rows count rows legal order tells crowds = tt
-tells_need s rules terms store (Err f) ps run lists seats same_rows count rows legal order tells crowds = λ e.
-    needs s rules terms store ps (subst (λ (x : AllFault). let r : Result Lines AllFault = Err x in HasRun s rules terms store r ps) e run) lists seats same_rows count rows legal order tells crowds
+tells_need s rules terms store (Err f) ps run lists seats same_rows count rows legal order tells crowds = λ e innermost.
+    needs s innermost rules terms store ps (subst (λ (x : AllFault). let r : Result Lines AllFault = Err x in HasRun s rules terms store r ps) e run) lists seats same_rows count rows legal order tells crowds
 
 pub none_needed : (s : Settings) (rules : List Rule) (terms : List Tree) (lines : Result Lines AllFault) → WantsMemory lines → IfErr lines (TellsNeed s rules terms)
 none_needed s rules terms (Ok l) e = tt

@@ -2,6 +2,7 @@ pub mod Making
 pub mod Readying
 pub mod Closing
 pub mod Kept
+pub mod Refusals
 pub mod Refusing
 pub mod Filling
 pub mod Needing

@@ -5,11 +5,11 @@ use Rattle.std.specs.List.{flat_map}
 use Rattle.std.proofs.lemmas.List.Elements.{All-head, All-tail, Contains-append_left, Contains-append_right, Contains-append_cases, Contains-get_or}
 use Rattle.term_model.specs.Tree.{Tree, Leaf}
 use Rattle.rewrite_model.specs.Rule.{Rule}
-use Rattle.rewrite_model.specs.Built.{built_list, built_of_all}
+use Rattle.term_lines.specs.Strategies.{built_by}
 use Rattle.settings.specs.declared.parts.Settings.{Settings}
 use Rattle.rewrite_workers.specs.Ends.{numbered}
 use Rattle.rewrite_workers.specs.Lined.{drawn_by}
-use Rattle.rewrite_workers.specs.Works.{term_at}
+use Rattle.rewrite_workers.specs.Works.{term_at, strategy_of, built_of}
 
 one_of_none : {A : Type 0} (x : A) → Contains [] x → ⊥
 one_of_none x (k, l, e) = omega (arith, l)
@@ -42,10 +42,10 @@ in_all f (z ∷ xs) x y c here = elim (first_or_other z xs x c) [
 
 -- what some of the terms build all of them build
 pub built_by_all : (s : Settings) (rules : List Rule) (some all : List Tree) → ((t : Tree) → Contains some t → Contains all t)
-    → (u : Tree) → Contains (built_of_all rules some s.fuel s.depth) u → Contains (built_of_all rules all s.fuel s.depth) u
+    → (u : Tree) → Contains (built_of s rules some) u → Contains (built_of s rules all) u
 built_by_all s rules some all within u c =
-    let q = in_some (λ t. built_list rules t s.fuel s.depth) some u c in
-    in_all (λ t. built_list rules t s.fuel s.depth) all q.0 u (within q.0 q.1) q.2
+    let q = in_some (λ t. built_by (strategy_of s.command) rules t s.fuel s.depth) some u c in
+    in_all (λ t. built_by (strategy_of s.command) rules t s.fuel s.depth) all q.0 u (within q.0 q.1) q.2
 
 pub numbered_within : (terms : List Tree) (drawn : List ℕ) → All (λ i. i < length terms) drawn → (t : Tree) → Contains (numbered terms drawn) t → Contains terms t
 numbered_within terms [] below t c = absurd (one_of_none t c)

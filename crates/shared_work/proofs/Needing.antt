@@ -18,7 +18,7 @@ use Rattle.rewrite_model.specs.Evaluation.{Point}
 use Rattle.rewrite_model.specs.Built.{trees_in_hand, greatest, need}
 use Rattle.innermost.specs.Normalized.{IsPartOf}
 use Rattle.settings.specs.declared.parts.Settings.{Settings}
-use Rattle.term_lines.specs.Written.{points_of}
+use Rattle.term_lines.specs.Strategies.{points_of}
 use Rattle.rewrite_workers.specs.Ends.{numbered}
 use Rattle.rewrite_workers.specs.Works.{term_at, need_of}
 

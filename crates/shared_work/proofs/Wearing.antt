@@ -3,20 +3,18 @@ use Rattle.std.proofs.Common.{◌≡◌, ◌⊎◌, inl, inr, ℕ, zero, suc, �
 use Rattle.std.specs.Prelude.{All, Contains, Some, slice_get, ◌==◌, Result, Ok, Err, IfErr}
 use Rattle.std.specs.List.{flat_map}
 use Rattle.std.proofs.Math.Nat.{mul-le-mul_right}
-use Rattle.std.proofs.lemmas.List.{append-nil, length-append, map-append}
+use Rattle.std.proofs.lemmas.List.{append-nil, length-append}
 use Rattle.std.proofs.lemmas.List.Concat.{flat_map-append}
 use Rattle.std.proofs.lemmas.List.Elements.{All-head, All-tail}
 use Rattle.std.proofs.lemmas.Option.{slice_get_within, slice_get-get_or, same_Some}
 use Rattle.term_model.specs.Tree.{Tree}
 use Rattle.terms_api.specs.Terms as terms
 use Rattle.rewrite_model.specs.Rule.{Rule}
-use Rattle.rewrite_model.specs.Evaluation.{Point}
-use Rattle.rewrite_model.specs.Built.{built_list, built_of_all, total_built, trees_at}
 use Rattle.settings.specs.declared.parts.Settings.{Settings}
 use Rattle.history_core.specs.declared.entry.Entry.{Entry}
 use Rattle.history_core.specs.Chronicle.{chronicle, IsNoted}
 use Rattle.history_core.proofs.Chronicles.{has_the_noted}
-use Rattle.innermost.specs.Normalized.{StoppedAt}
+use Rattle.innermost.specs.BuiltTrees.{StoppedBefore}
 use Rattle.innermost.specs.declared.normal.RunFault.TheVariants as fault
 use Rattle.store_core.proofs.Basics.{eqb_is}
 use Rattle.store_core.specs.declared.view.Sizes.{Sizes}
@@ -26,7 +24,7 @@ use Rattle.node_rows.specs.declared.store.Store.{Store}
 use Rattle.node_rows.specs.declared.store.Pass.{Pass}
 use Rattle.node_rows.specs.Joining.{HasBase}
 use Rattle.node_rows.specs.Told.{HasEntries, TellsTrees, view_of}
-use Rattle.term_lines.specs.Written.{points_of}
+use Rattle.term_lines.specs.Strategies.{built_by}
 use Rattle.term_lines.specs.declared.stop.LineStop.{LineStop}
 use Rattle.term_lines.specs.declared.stop.LineStop.TheVariants as stop
 use Rattle.rewrite_workers.specs.declared.fault.AllFault.{AllFault}
@@ -34,7 +32,7 @@ use Rattle.rewrite_workers.specs.declared.fault.AllFault.TheVariants.{Worn, Memo
 use Rattle.rewrite_workers.specs.declared.lines.Lines.{Lines}
 use Rattle.rewrite_workers.specs.Dealt.{times}
 use Rattle.rewrite_workers.specs.Ends.{numbered, BuiltAll, Ended, RefusedLast, IsWorst}
-use Rattle.rewrite_workers.specs.Works.{term_at}
+use Rattle.rewrite_workers.specs.Works.{term_at, strategy_of, built_of}
 use Rattle.rewrite_workers.proofs.Dealing.{hit, times_cons, times_append}
 use Rattle.shared_desk.specs.Desk.{store_of}
 use Rattle.shared_desk.specs.Pass.{PassView, WhichStore, IsWorn}
@@ -44,22 +42,23 @@ use Rattle.shared_work.specs.Running.{HasRun, WantsMemory}
 use Rattle.shared_work.specs.Sharing.{named_by}
 use Rattle.shared_work.specs.Wearing.{WearsOut, TellsWorn}
 use Rattle.shared_work.proofs.Closing.{Worker, worker, names_built, collects_few, all_got}
+use Rattle.shared_work.proofs.Refusals.{last_refused}
 use Rattle.shared_work.proofs.Counting.{total, total_most, total_more, weigh, weigh_hands, weigh_once, collects_most, stays_most}
 
 -- ---- what the terms drawn build, by how many trees
 module _ (s : Settings) (rules : List Rule) where
-  abbrev built_by : Tree → List Tree
-  built_by t = built_list rules t s.fuel s.depth
+  abbrev builds : Tree → List Tree
+  builds t = built_by (strategy_of s.command) rules t s.fuel s.depth
 
-  stopped_long : (drawn before : List Tree) (term : Tree) (old begun new : terms.Store) (p : Point) → drawn ≡ before ++ term ∷ [] → BuiltAll s rules before old begun → StoppedAt (points_of rules term s.fuel s.depth) begun new p
-      → length new.built ≤ length old.built + length (built_of_all rules drawn s.fuel s.depth)
-  stopped_long drawn before term old begun new p is all at =
-      let front = trees_at at.front in
-      let rest : List Tree = p.tree ∷ trees_at at.back in
-      let first = flat_map built_by before in
-      let points : built_by term ≡ front ++ rest = ap trees_at at.split ∙ map-append (λ (q : Point). q.tree) at.front (p ∷ at.back) in
-      let whole : flat_map built_by drawn ≡ first ++ (front ++ rest) = ap (flat_map built_by) is ∙ flat_map-append built_by before (term ∷ []) ∙ ap (λ ys. first ++ ys) (append-nil (built_by term) ∙ points) in
-      let a : length (flat_map built_by drawn) ≡ length (first ++ (front ++ rest)) = ap length whole in
+  stopped_long : (drawn before : List Tree) (term : Tree) (old begun new : terms.Store) (t : Tree) → drawn ≡ before ++ term ∷ [] → BuiltAll s rules before old begun → StoppedBefore (builds term) begun new t
+      → length new.built ≤ length old.built + length (built_of s rules drawn)
+  stopped_long drawn before term old begun new t is all at =
+      let front = at.front in
+      let rest : List Tree = t ∷ at.back in
+      let first = flat_map builds before in
+      let points : builds term ≡ front ++ rest = at.split in
+      let whole : flat_map builds drawn ≡ first ++ (front ++ rest) = ap (flat_map builds) is ∙ flat_map-append builds before (term ∷ []) ∙ ap (λ ys. first ++ ys) (append-nil (builds term) ∙ points) in
+      let a : length (flat_map builds drawn) ≡ length (first ++ (front ++ rest)) = ap length whole in
       let b = length-append first (front ++ rest) in
       let c = length-append front rest in
       let d : length new.built ≡ length (begun.built ++ front) = ap length at.built in
@@ -68,36 +67,40 @@ module _ (s : Settings) (rules : List Rule) where
       let g = length-append old.built first in
       omega (arith, a, b, c, d, e, f, g)
 
-  all_long : (drawn : List Tree) (old new : terms.Store) → BuiltAll s rules drawn old new → length new.built ≤ length old.built + length (built_of_all rules drawn s.fuel s.depth)
+  all_long : (drawn : List Tree) (old new : terms.Store) → BuiltAll s rules drawn old new → length new.built ≤ length old.built + length (built_of s rules drawn)
   all_long drawn old new all =
-      let f : length new.built ≡ length (old.built ++ built_of_all rules drawn s.fuel s.depth) = ap length all in
-      let g = length-append old.built (built_of_all rules drawn s.fuel s.depth) in
+      let f : length new.built ≡ length (old.built ++ built_of s rules drawn) = ap length all in
+      let g = length-append old.built (built_of s rules drawn) in
       omega (arith, f, g)
 
   -- however the worker ended
   ended_long : (drawn : List Tree) (old new : terms.Store) (end : Result (Unit {0}) LineStop) → Ended s rules drawn old new end
-      → length new.built ≤ length old.built + length (built_of_all rules drawn s.fuel s.depth)
+      → length new.built ≤ length old.built + length (built_of s rules drawn)
   ended_long drawn old new (Ok u) (all, same) = all_long drawn old new all
-  ended_long drawn old new (Err stop.StoreFull) last = stopped_long drawn last.before last.term old last.begun new last.refused.0 last.drawn_is last.built last.refused.1
-  ended_long drawn old new (Err stop.Worn) last = stopped_long drawn last.before last.term old last.begun new last.refused.0 last.drawn_is last.built last.refused.1
+  ended_long drawn old new (Err stop.StoreFull) last =
+      let r = last_refused s rules drawn old new fault.StoreFull last in
+      stopped_long drawn last.before last.term old last.begun new r.0 last.drawn_is last.built r.1
+  ended_long drawn old new (Err stop.Worn) last =
+      let r = last_refused s rules drawn old new fault.Worn last in
+      stopped_long drawn last.before last.term old last.begun new r.0 last.drawn_is last.built r.1
   ended_long drawn old new (Err stop.Memory) (all, same) = all_long drawn old new all
 
   -- how many trees the term with a number builds
   abbrev long_at : List Tree → ℕ → ℕ
-  long_at ts i = length (built_by (term_at ts i))
+  long_at ts i = length (builds (term_at ts i))
 
-  numbered_long : (ts : List Tree) (hand : List ℕ) → length (flat_map built_by (numbered ts hand)) ≡ weigh (long_at ts) hand
+  numbered_long : (ts : List Tree) (hand : List ℕ) → length (flat_map builds (numbered ts hand)) ≡ weigh (long_at ts) hand
   numbered_long ts [] = omega arith
   numbered_long ts (i ∷ is) =
       let a = numbered_long ts is in
-      let b = length-append (built_by (term_at ts i)) (flat_map built_by (numbered ts is)) in
+      let b = length-append (builds (term_at ts i)) (flat_map builds (numbered ts is)) in
       omega (arith, a, b)
 
-  whole_long : (ts : List Tree) → length (flat_map built_by ts) ≡ total (length ts) (long_at ts)
+  whole_long : (ts : List Tree) → length (flat_map builds ts) ≡ total (length ts) (long_at ts)
   whole_long [] = omega arith
   whole_long (t ∷ ts) =
       let a = whole_long ts in
-      let b = length-append (built_by t) (flat_map built_by ts) in
+      let b = length-append (builds t) (flat_map builds ts) in
       omega (arith, a, b)
 
 -- ---- numbers in hands
@@ -168,7 +171,7 @@ module _ (s : Settings) (rules : List Rule) (terms : List Tree) (store : Store) 
       omega (arith, long, none, told, drew)
 
   -- and all workers' are no more than all terms build
-  all_named_most : total s.workers (λ k. length (named_by lists k)) ≤ total_built rules terms s.fuel s.depth
+  all_named_most : total s.workers (λ k. length (named_by lists k)) ≤ length (built_of s rules terms)
   all_named_most =
       let hands = run.stopped.hands in
       let f = long_at s rules terms in
@@ -181,7 +184,7 @@ module _ (s : Settings) (rules : List Rule) (terms : List Tree) (store : Store) 
       omega (arith, a, b, c, d)
 
   -- so there are so many collections
-  collects_all : length lists ≡ store.sizes.seats → length (collect_numbers (chronicle lists)) ≤ total_built rules terms s.fuel s.depth + s.workers
+  collects_all : length lists ≡ store.sizes.seats → length (collect_numbers (chronicle lists)) ≤ length (built_of s rules terms) + s.workers
   collects_all count =
       let g : ℕ → ℕ = λ k. length (named_by lists k) in
       let callers : (y : ℕ × Entry) → Contains (chronicle lists) y → y.0 < s.workers = λ y c. (let noted : IsNoted lists y = (has_the_noted lists y).0 c in let p = noted.present in omega (arith, p, count, seats)) in
@@ -199,8 +202,8 @@ module _ (s : Settings) (rules : List Rule) (terms : List Tree) (store : Store) 
       let base : (view_of w.pass).store.base ≡ w.new.pass.base = ap (λ (v : PassView). v.base) w.back.seen in
       let from = base_most store.sizes lists (view_of w.pass).store.base first below (all_got (λ p. HasBase store.sizes lists (view_of p).store.base) ps k w.pass bases w.at_pass) in
       let far : 2 ^ 62 < (view_of w.pass).store.base + 2 * span store.sizes = (let e : span w.new.pass.store.sizes ≡ span store.sizes = ap (λ (x : WhichStore). span x.sizes) of in omega (arith, worn, e, base)) in
-      let used = used_up (length (collect_numbers (chronicle lists))) (total_built rules terms s.fuel s.depth + s.workers) (span store.sizes) (view_of w.pass).store.base from (collects_all count) far in
-      subst (λ wide. 2 ^ 62 ≤ (total_built rules terms s.fuel s.depth + s.workers + 2) * wide) (let e : span store.sizes ≡ s.rows + s.workers + 1 = omega (arith, rows, seats) in e) used
+      let used = used_up (length (collect_numbers (chronicle lists))) (length (built_of s rules terms) + s.workers) (span store.sizes) (view_of w.pass).store.base from (collects_all count) far in
+      subst (λ wide. 2 ^ 62 ≤ (length (built_of s rules terms) + s.workers + 2) * wide) (let e : span store.sizes ≡ s.rows + s.workers + 1 = omega (arith, rows, seats) in e) used
 
   wears : store.sizes.first ≡ 1 → store.sizes.rows ≡ s.rows → length lists ≡ store.sizes.seats → StaysBelow store.sizes.first (span store.sizes) 1 (collect_numbers (chronicle lists))
       → All (λ p. HasBase store.sizes lists (view_of p).store.base) ps → WearsOut s rules terms
@@ -220,7 +223,7 @@ module _ (s : Settings) (rules : List Rule) (terms : List Tree) (store : Store) 
           let d = run.stopped.desks.1 k w.old w.new w.at_old w.at_new in
           let same : d.1 ≡ Err stop.Worn = same_Some d.1 (Err stop.Worn) (sym d.3 ∙ end) in
           let last : RefusedLast s rules (numbered terms d.0) (store_of w.old) (store_of w.new) fault.Worn = subst (λ (r : Result (Unit {0}) LineStop). Ended s rules (numbered terms d.0) (store_of w.old) (store_of w.new) r) same d.4 in
-          let told = (run.same.1 k w.old w.new w.at_old w.at_new).worn last.refused.2 in
+          let told = (run.same.1 k w.old w.new w.at_old w.at_new).worn (last_refused s rules (numbered terms d.0) (store_of w.old) (store_of w.new) fault.Worn last).2 in
           elim told [
             | inl before ↦ absurd (let x : true ≡ false = sym before ∙ w.fresh.unspent in cc)
             | inr worn ↦ wears_at k lt first rows count below bases worn

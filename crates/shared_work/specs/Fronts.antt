@@ -3,9 +3,9 @@ use Rattle.std.specs.Prelude.{◌≡◌, ◌⊎◌, ℕ, ◌<◌, List, [], ◌+
 use Rattle.term_model.specs.Tree.{Tree}
 use Rattle.history_core.specs.declared.entry.Entry.{Entry}
 use Rattle.rewrite_model.specs.Rule.{Rule}
-use Rattle.rewrite_model.specs.Built.{built_of_all}
 use Rattle.settings.specs.declared.parts.Settings.{Settings}
 use Rattle.rewrite_workers.specs.Ends.{numbered, AreApart}
+use Rattle.rewrite_workers.specs.Works.{built_of}
 use Rattle.rewrite_workers.specs.declared.fault.AllFault.{AllFault}
 use Rattle.rewrite_workers.specs.declared.lines.Lines.{Lines}
 use Rattle.shared_work.specs.Running.{WantsMemory}
@@ -14,7 +14,7 @@ use Rattle.shared_work.specs.Sharing.{named_by}
 -- What the entries of worker k name is a front of what the terms with these numbers build.
 pub record NamesFront (s : Settings) (rules : List Rule) (terms : List Tree) (lists : List (List Entry)) (k : ℕ) (drawn : List ℕ) : Type 0 where
   pub rest : List Tree
-  pub built : built_of_all rules (numbered terms drawn) s.fuel s.depth ≡ named_by lists k ++ rest
+  pub built : built_of s rules (numbered terms drawn) ≡ named_by lists k ++ rest
 
 -- Each worker drew terms, upwards, and none was drawn twice; what its entries name is a front of what they build.
 pub record NamesFronts (s : Settings) (rules : List Rule) (terms : List Tree) (lists : List (List Entry)) : Type 0 where
@@ -25,8 +25,8 @@ pub record NamesFronts (s : Settings) (rules : List Rule) (terms : List Tree) (l
 -- Workers made and found no other trees than those that the terms build.
 abbrev pub NamesOnlyBuilt : Settings → List Rule → List Tree → List (List Entry) → Type 0
 NamesOnlyBuilt s rules terms lists = (k : ℕ) → k < s.workers
-    → All (Contains (built_of_all rules terms s.fuel s.depth)) (named_by lists k)
+    → All (Contains (built_of s rules terms)) (named_by lists k)
 
--- There are the entries of each worker, or none, where there was no memory to begin or to end with.
+-- There are the entries of each worker, or none, where there was no memory to begin with.
 abbrev pub TellsEach : Settings → Result Lines AllFault → List (List Entry) → Type 0
 TellsEach s lines lists = (length lists ≡ s.workers) ⊎ (WantsMemory lines × (lists ≡ []))

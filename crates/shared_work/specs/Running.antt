@@ -28,6 +28,6 @@ pub record HasRun (s : Settings) (rules : List Rule) (terms : List Tree) (store 
   pub new : EachPlace (IsNewDesk store) store.sizes.seats olds
   pub back : AreBack news passes
   pub same : EachDesk (λ k old new. IsSame old new) olds news
-  pub kept : EachDesk (λ k old new. KeepsDesk (need_of s rules terms) (store_of old) (store_of new)) olds news
+  pub kept : EachDesk (λ k old new. KeepsDesk s (need_of s rules terms) (store_of old) (store_of new)) olds news
   pub built : IfOk lines (λ l. EachDesk (λ k old new. BuiltAll s rules (drawn_by k (map worker_of l.list.items) terms) (store_of old) (store_of new)) olds news)
   pub stopped : IfErr lines (Stopped store_of s rules terms olds news)

@@ -1,5 +1,5 @@
 // The store of some work, and the desks at its passes.
-ghost use Rattle.std.specs.Prelude.{◌≡◌, ℕ, ◌≤◌, IfOk, All, false};
+ghost use Rattle.std.specs.Prelude.{◌≡◌, ℕ, ◌≤◌, [], IfOk, All, false, vec_len, vec_capacity};
 ghost use Rattle.settings.specs.Words.{AreInRange};
 ghost use Rattle.busy_forbidden.specs.Dealt.{EachPlace};
 ghost use Rattle.store_core.specs.StoreValue.{MaySize};
@@ -79,17 +79,16 @@ pub(crate) fn desks_at<'a, R: Wait>(
     Ok(desks)
 }
 
-/// The passes of desks that are out, in their order.
-pub(crate) fn passes_of<R: Wait>(
-    alloc: Global,
-    desks: Vec<Desk<OwnPass<'_, R>>>,
-) -> Result<Vec<Pass>, Memory>
+/// The passes of desks that are out, in their order, in memory that has room for them.
+pub(crate) fn passes_of<R: Wait>(room: Vec<Pass>, desks: Vec<Desk<OwnPass<'_, R>>>) -> Vec<Pass>
     requires outside { All (λ d. (store_of d).inside ≡ false) desks.items }
-    ensures back { IfOk result (λ passes. AreBack desks.entry.items passes.items) }
+    requires empty { room.items ≡ [] }
+    requires wide { vec_len desks ≤ vec_capacity room }
+    ensures back { AreBack desks.entry.items result.items }
 {
-    let mut passes = Vec::new(alloc);
+    let mut passes = room;
     for desk in desks {
-        passes.push(desk.into_pass())?;
+        passes.push_reserved(desk.into_pass());
     }
-    Ok(passes)
+    passes
 }

@@ -3,8 +3,6 @@
 
 mod desks;
 mod sharing;
-#[cfg(test)]
-mod tests;
 
 pub use rewrite_workers::{AllFault, Lines, Work};
 pub use sharing::{Rewritten, rewrite_shared};

@@ -13,7 +13,7 @@ ghost use Rattle.shared_work.specs.Wearing.{TellsWorn};
 ghost use Rattle.shared_work.specs.Fronts.{NamesFronts, NamesOnlyBuilt, TellsEach};
 ghost use Rattle.shared_work.specs.Numbers.{TellsFew, TellsNeed};
 ghost use Rattle.shared_work.specs.Running.{HasRun, WantsMemory};
-ghost use Rattle.shared_work.specs.Sharing.{NamesWhatItBuilt, CollectsFew, KeepsOrders};
+ghost use Rattle.shared_work.specs.Sharing.{NamesWhatItBuilt, CollectsFew, KeepsOrders, EachRises};
 
 use crate::desks::{desks_at, passes_of, store_for};
 use ends::Gate;
@@ -29,7 +29,7 @@ use std::thread::Threads;
 pub struct Rewritten {
     /// The lines of its terms.
     pub lines: Result<Lines, AllFault>,
-    /// The entries of the passes of the store, pass k being that of worker k; or of none, where there was no memory.
+    /// The entries of the passes of the store, pass k being that of worker k; or of none, where there was no memory to begin with.
     pub chronicle: Chronicle,
 }
 
@@ -53,7 +53,8 @@ struct Left {
     passes: Vec<Pass>,
 }
 
-// Rewrites the terms by workers at the passes of a new store.
+// Rewrites the terms by workers at the passes of a new store. All memory that the end takes is taken first: where
+// there is none, no term is drawn.
 fn rewrite_on<R: Threads + Wait + Sync, G: Gate>(
     rt: &R,
     alloc: Global,
@@ -76,8 +77,9 @@ fn rewrite_on<R: Threads + Wait + Sync, G: Gate>(
         work.now.terms.now store.now left.lines left.passes.items) }
 {
     let mut desks = desks_at(rt, alloc, store, passes)?;
+    let room = Vec::with_capacity(alloc, desks.len())?;
     let lines = rewrite_all(rt, alloc, work, &mut desks, gate);
-    let passes = passes_of(alloc, desks)?;
+    let passes = passes_of(room, desks);
     Ok(Left { lines, passes })
 }
 
@@ -103,6 +105,7 @@ fn rewrite_at<R: Threads + Wait + Sync, G: Gate>(
         (map worker_of l.list.items)) }
     ensures legal { IsLegal work.now.settings.rows (chronicle result.chronicle) }
     ensures order { KeepsOrders work.now.settings result.chronicle }
+    ensures rises { EachRises result.chronicle }
     ensures built { IfOk result.lines (λ l. NamesWhatItBuilt work.now.settings
         work.now.plan.now.rules work.now.terms.now (map worker_of l.list.items) result.chronicle) }
     ensures collects { CollectsFew work.now.settings result.chronicle }
@@ -128,8 +131,8 @@ fn rewrite_at<R: Threads + Wait + Sync, G: Gate>(
 
 /// Rewrites the terms of some work on one new store, by one worker at a desk of its own for each of the settings' workers. The store
 /// has the rows and the depth of the settings, as many buckets as rows, all in use from the start, and the plan's width. At the end it
-/// is closed: the chronicle has the entries of worker k under the number k. Where there is no memory to begin or to end with the
-/// chronicle is empty. It waits where desks enter the store; `rewrite_all` says how terms are drawn and which fault is told.
+/// is closed: the chronicle has the entries of worker k under the number k. Where there is no memory to begin with no term is drawn,
+/// and the chronicle is empty. It waits where desks enter the store; `rewrite_all` says how terms are drawn and which fault is told.
 pub fn rewrite_shared<R: Threads + Wait + Sync, G: Gate>(
     rt: &R,
     alloc: Global,
@@ -150,8 +153,10 @@ pub fn rewrite_shared<R: Threads + Wait + Sync, G: Gate>(
     // All entries together are a legal history of one thread, whatever the answer is.
     ensures legal { IsLegal work.now.settings.rows (chronicle result.chronicle) }
 
-    // Each worker's entries stand there in its own order.
+    // Each worker's entries stand there in its own order, none at a number below those of its earlier
+    // ones, and a creation that adds or a collection at one above them.
     ensures order { KeepsOrders work.now.settings result.chronicle }
+    ensures rises { EachRises result.chronicle }
 
     // Each worker made or found, in order, the trees that the terms build that it drew.
     ensures built { IfOk result.lines (λ l. NamesWhatItBuilt work.now.settings
@@ -173,7 +178,7 @@ pub fn rewrite_shared<R: Threads + Wait + Sync, G: Gate>(
     ensures worn { IfErr result.lines (TellsWorn work.now.settings work.now.plan.now.rules
         work.now.terms.now) }
 
-    // There are the entries of each worker, or of none, where there was no memory.
+    // There are the entries of each worker, or of none, where there was no memory to begin with.
     ensures each { TellsEach work.now.settings result.lines result.chronicle }
 
     // At a fault each worker had drawn terms of its own, and made or found, in order, the first of the

@@ -8,18 +8,18 @@ use Rattle.term_model.proofs.Order.{both_hold}
 use Rattle.symbol_pool.specs.Pool.{Named}
 use Rattle.rewrite_model.specs.Rule.{Rule}
 use Rattle.rewrite_model.specs.Matching.{bind, match_from, match_all, match_of, if_matched, tree_at}
-use Rattle.rewrite_model.specs.Run.{Ended, Done, OutOfFuel, TooDeep, done, ends, after, ◌>>=◌, in_room}
+use Rattle.rewrite_model.specs.Run.{Run, Ended, Done, OutOfFuel, TooDeep, done, ends, after, ◌>>=◌, in_room}
 use Rattle.rewrite_model.specs.Evaluation.{Point, Evaluated, Reducer, evaluate, evaluate_all, hold, replace, apply, reduce_by, reduce_within, reduction, evaluation}
 use Rattle.rewrite_model.proofs.Matches.{chosen, mapped, if_some}
 use Rattle.rewrite_model.proofs.Closed.{OfValue}
 use Rattle.term_text.specs.Text.{is_named, has_names, all_have_names, HasNames}
 use Rattle.term_lines.specs.Laws.{WritesNames}
 
-abbrev AllNamed : List Named → List Tree → Type 0
+abbrev pub AllNamed : List Named → List Tree → Type 0
 AllNamed names [] = Unit {0}
 AllNamed names (t ∷ ts) = HasNames names t × AllNamed names ts
 
-both : (a b : Bool) → a ≡ true → b ≡ true → (a && b) ≡ true
+pub both : (a b : Bool) → a ≡ true → b ≡ true → (a && b) ≡ true
 both true b e f = f
 both false b e f = e
 
@@ -33,7 +33,7 @@ module _ (names : List Named) where
       subst (AllNamed names) m.2 (k.0, bind_named x t us m.0 h k.1 m.1)
 
   mutual
-    match_named : (p t : Tree) (before bound : List Tree) → HasNames names t → AllNamed names before → match_from p t before ≡ Some bound → AllNamed names bound
+    pub match_named : (p t : Tree) (before bound : List Tree) → HasNames names t → AllNamed names before → match_from p t before ≡ Some bound → AllNamed names bound
     match_named (Leaf x) t before bound h k e = bind_named x t before bound h k e
     match_named (Node f ps) (Leaf y) before bound h k e = cc
     match_named (Node f ps) (Node g ts) before bound h k e =
@@ -54,22 +54,22 @@ module _ (names : List Named) where
   got_named x zero (t ∷ ts) k = k.0
   got_named x (suc y) (t ∷ ts) k = got_named x y ts k.1
 
-  tree_named : (x : ℕ) (bound : List Tree) → AllNamed names bound → HasNames names (tree_at x bound)
+  pub tree_named : (x : ℕ) (bound : List Tree) → AllNamed names bound → HasNames names (tree_at x bound)
   tree_named x bound k = got_named x x bound k
 
-  value_after : {A B : Type 0} (P : A → Type 0) (Q : B → Type 0) (notes : List Point) (e : Ended A) (g : A → ℕ → Evaluated B) → OfValue P e → ((a : A) (left : ℕ) → P a → OfValue Q (g a left).end) → OfValue Q (after notes e g).end
+  pub value_after : {N A B : Type 0} (P : A → Type 0) (Q : B → Type 0) (notes : List N) (e : Ended A) (g : A → ℕ → Run N B) → OfValue P e → ((a : A) (left : ℕ) → P a → OfValue Q (g a left).end) → OfValue Q (after notes e g).end
   value_after P Q notes (Done a left) g v go = go a left v
   value_after P Q notes OutOfFuel g v go = tt
   value_after P Q notes TooDeep g v go = tt
 
-  value_then : {A B : Type 0} (P : A → Type 0) (Q : B → Type 0) (x : Evaluated A) (g : A → ℕ → Evaluated B) → OfValue P x.end → ((a : A) (left : ℕ) → P a → OfValue Q (g a left).end) → OfValue Q (x >>= g).end
+  pub value_then : {N A B : Type 0} (P : A → Type 0) (Q : B → Type 0) (x : Run N A) (g : A → ℕ → Run N B) → OfValue P x.end → ((a : A) (left : ℕ) → P a → OfValue Q (g a left).end) → OfValue Q (x >>= g).end
   value_then P Q x g v go = value_after P Q x.notes x.end g v go
 
-  value_if : {A : Type 0} (P : A → Type 0) (c : Bool) (x y : Evaluated A) → OfValue P x.end → OfValue P y.end → OfValue P (if c then x else y).end
+  pub value_if : {N A : Type 0} (P : A → Type 0) (c : Bool) (x y : Run N A) → OfValue P x.end → OfValue P y.end → OfValue P (if c then x else y).end
   value_if P true x y s r = s
   value_if P false x y s r = r
 
-  value_in_room : {A : Type 0} (P : A → Type 0) (room : ℕ) (x : Evaluated A) → OfValue P x.end → OfValue P (in_room room x).end
+  pub value_in_room : {N A : Type 0} (P : A → Type 0) (room : ℕ) (x : Run N A) → OfValue P x.end → OfValue P (in_room room x).end
   value_in_room P zero x v = tt
   value_in_room P (suc n) x v = v
 
@@ -81,7 +81,7 @@ module _ (names : List Named) where
   any_value OutOfFuel = tt
   any_value TooDeep = tt
 
-  abbrev AllHaveNames : Trees → Type 0
+  abbrev pub AllHaveNames : Trees → Type 0
   AllHaveNames ts = all_have_names names ts ≡ true
 
   abbrev Good : Reducer → Type 0
@@ -136,9 +136,9 @@ module _ (names : List Named) where
   reduction_named : (rules : List Rule) → All (WritesNames names) rules → Good (reduction rules)
   reduction_named rules w given kept t fuel room h = within_named fuel rules w given kept t fuel room h
 
-of_done : {A : Type 0} (P : A → Type 0) (e : Ended A) (a : A) (left : ℕ) → OfValue P e → e ≡ Done a left → P a
+pub of_done : {A : Type 0} (P : A → Type 0) (e : Ended A) (a : A) (left : ℕ) → OfValue P e → e ≡ Done a left → P a
 of_done P e a left v is = subst (OfValue P) is v
 
-pub values_have_names : (names : List Named) (rules : List Rule) (term value : Tree) (fuel room left : ℕ) → All (WritesNames names) rules → HasNames names term → (evaluation rules term fuel room).end ≡ Done value left → HasNames names value
-values_have_names names rules term value fuel room left w h e =
+pub evaluated_have_names : (names : List Named) (rules : List Rule) (term value : Tree) (fuel room left : ℕ) → All (WritesNames names) rules → HasNames names term → (evaluation rules term fuel room).end ≡ Done value left → HasNames names value
+evaluated_have_names names rules term value fuel room left w h e =
     of_done (HasNames names) (evaluation rules term fuel room).end value left (evaluate_named names (reduction rules) (reduction_named names rules w) [] tt term [] fuel room h) e

@@ -6,19 +6,20 @@ use Rattle.symbol_pool.specs.Pool.{Named}
 use Rattle.terms_api.specs.Terms.{Store, trees, tree_at}
 use Rattle.rewrite_model.specs.Rule.{Rule}
 use Rattle.rewrite_model.specs.Run.{Done}
-use Rattle.rewrite_model.specs.Evaluation.{evaluation}
 use Rattle.innermost.specs.Normalized.{IsOnTop}
 use Rattle.term_text.specs.Text.{HasNames}
 use Rattle.term_lines.specs.Laws.{WritesNames}
+use Rattle.term_lines.specs.Strategies.{ended}
+use Rattle.term_lines.specs.declared.strategy.Strategy.{Strategy}
 use Rattle.term_lines.specs.Written.{top_tree, HasValueAlone}
-use Rattle.term_lines.proofs.Naming.{values_have_names}
+use Rattle.term_lines.proofs.OutermostNaming.{values_have_names}
 
-pub has_value : (old new : Store) (names : List Named) (rules : List Rule) (term t : Tree) (fuel room left : ℕ) → old.stack ≡ [] → All (WritesNames names) rules → HasNames names term → (evaluation rules term fuel room).end ≡ Done t left → IsOnTop old new t → HasValueAlone new names
-has_value old new names rules term t fuel room left empty writes named end top =
+pub has_value : (strategy : Strategy) (old new : Store) (names : List Named) (rules : List Rule) (term t : Tree) (fuel room left : ℕ) → old.stack ≡ [] → All (WritesNames names) rules → HasNames names term → ended strategy rules term fuel room ≡ Done t left → IsOnTop old new t → HasValueAlone new names
+has_value strategy old new names rules term t fuel room left empty writes named end top =
     let none : trees old ≡ [] = ap (λ rows. map (tree_at old) rows) empty in
     let only : trees new ≡ t ∷ [] = top.trees ∙ ap (λ ts. ts ++ t ∷ []) none in
     let first : top_tree new ≡ t = ap (λ ts. slice_index_or ts 0 (Leaf 0)) only in
     record {
       alone = top.count ∙ ap (λ rows. length rows + 1) empty;
-      named = subst (HasNames names) (sym first) (values_have_names names rules term t fuel room left writes named end);
+      named = subst (HasNames names) (sym first) (values_have_names strategy names rules term t fuel room left writes named end);
     }

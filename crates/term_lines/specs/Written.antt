@@ -5,14 +5,12 @@ use Rattle.terms_api.specs.Terms.{Store, trees}
 use Rattle.symbol_pool.specs.Pool.{Named}
 use Rattle.term_text.specs.Text.{HasNames}
 use Rattle.rewrite_model.specs.Rule.{Rule}
-use Rattle.rewrite_model.specs.Run.{Ended}
-use Rattle.rewrite_model.specs.Evaluation.{Point, evaluation}
-use Rattle.rewrite_model.specs.Built.{trees_at}
-use Rattle.innermost.specs.Normalized.{WasRefused}
 use Rattle.innermost.specs.declared.normal.RunFault.TheVariants as fault
 use Rattle.term_lines.specs.declared.ending.Ending.{Ending}
+use Rattle.term_lines.specs.declared.strategy.Strategy.{Strategy}
 use Rattle.term_lines.specs.declared.stop.LineStop.{LineStop}
 use Rattle.term_lines.specs.declared.stop.LineStop.TheVariants.{StoreFull, Worn, Memory}
+use Rattle.term_lines.specs.Strategies.{built_by, RefusedBy}
 
 -- the tree of the first place of the stack
 abbrev pub top_tree : Store → Tree
@@ -23,20 +21,13 @@ pub record HasValueAlone (s : Store) (names : List Named) : Type 0 where
   pub alone : length s.stack ≡ 1
   pub named : HasNames names (top_tree s)
 
--- how the evaluation of a term ends, and its points
-abbrev pub ended : List Rule → Tree → (fuel room : ℕ) → Ended Tree
-ended rules term fuel room = (evaluation rules term fuel room).end
-
-abbrev pub points_of : List Rule → Tree → (fuel room : ℕ) → List Point
-points_of rules term fuel room = (evaluation rules term fuel room).notes
-
 -- What was built: all that the definition builds, also where there was no memory for the line; where
 -- a build was refused, what it builds before that tree.
-abbrev pub BuildsForLine : List Point → Store → Store → Result Ending LineStop → Type 0
-BuildsForLine points old new (Ok ending) = new.built ≡ old.built ++ trees_at points
-BuildsForLine points old new (Err StoreFull) = WasRefused points old new fault.StoreFull
-BuildsForLine points old new (Err Worn) = WasRefused points old new fault.Worn
-BuildsForLine points old new (Err Memory) = new.built ≡ old.built ++ trees_at points
+abbrev pub BuildsForLine : Strategy → List Rule → Tree → (fuel room : ℕ) → Store → Store → Result Ending LineStop → Type 0
+BuildsForLine strategy rules term fuel room old new (Ok ending) = new.built ≡ old.built ++ built_by strategy rules term fuel room
+BuildsForLine strategy rules term fuel room old new (Err StoreFull) = RefusedBy strategy rules term fuel room old new fault.StoreFull
+BuildsForLine strategy rules term fuel room old new (Err Worn) = RefusedBy strategy rules term fuel room old new fault.Worn
+BuildsForLine strategy rules term fuel room old new (Err Memory) = new.built ≡ old.built ++ built_by strategy rules term fuel room
 
 -- A build was refused where rows or numbers are wanted, and nowhere else.
 abbrev pub CountsRefusals : Store → Store → Result Ending LineStop → Type 0

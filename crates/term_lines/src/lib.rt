@@ -6,9 +6,11 @@ mod ending;
 mod laws;
 mod rewriter;
 mod stop;
+mod strategy;
 mod value;
 
 pub use ending::{Ending, LineKind};
 pub use laws::name_laws;
 pub use rewriter::Rewriter;
 pub use stop::LineStop;
+pub use strategy::Strategy;

@@ -1,20 +1,22 @@
 // From a term to its line.
-ghost use Rattle.std.specs.Prelude.{◌≡◌, ◌++◌, ◌≤◌, [], max, All, IfOk, OnErr, OnOk, true};
+ghost use Rattle.std.specs.Prelude.{◌≡◌, ◌+◌, ◌++◌, ◌≤◌, [], length, max, All, IfOk, OnErr, OnOk, true};
 ghost use Rattle.term_model.specs.Tree.{IsGround};
 ghost use Rattle.rewrite_model.specs.Built.{need};
 ghost use Rattle.rule_match.specs.Planned.{IsPlain};
 ghost use Rattle.innermost.specs.Machines.{IsFor};
-ghost use Rattle.innermost.specs.Normalized.{KeepsNumbers};
+ghost use Rattle.innermost.specs.Normalized.{Answers, FaultOnlyWhereRefused, SweepsAtMost, LoadsNeedAtMost, KeepsNumbers};
 ghost use Rattle.term_text.specs.Text.{HasNames};
 ghost use Rattle.term_lines.specs.Laws.{WritesNames};
 ghost use Rattle.terms_api.specs.Terms.{kept, IsSound};
 ghost use Rattle.term_lines.specs.Line.{line_text, value_text, is_written, kind_of, spent_of};
-ghost use Rattle.term_lines.specs.Written.{ended, points_of, top_tree, HasValueAlone};
+ghost use Rattle.term_lines.specs.Strategies.{ended, BuildsBy};
+ghost use Rattle.term_lines.specs.Written.{top_tree, HasValueAlone};
 ghost use Rattle.term_lines.specs.Written.{BuildsForLine, CountsRefusals, SweepsForLine};
+ghost use Rattle.term_lines.specs.declared.strategy.Strategy.TheVariants.{Innermost};
 
 use crate::ending::value_ending;
 use crate::value::write_value;
-use crate::{Ending, LineKind, LineStop};
+use crate::{Ending, LineKind, LineStop, Strategy};
 use faults::Memory;
 use innermost::{Machine, Normal, RunFault};
 use rule_match::Plan;
@@ -28,6 +30,8 @@ use terms_api::Terms;
 pub struct Rewriter {
     pub machine: Machine,
     pub marks: SizeMarks,
+    /// How terms are rewritten.
+    pub strategy: Strategy,
     /// The fuel of each term.
     pub fuel: u64,
     /// Whether a value's sizes are written in place of its text.
@@ -35,6 +39,42 @@ pub struct Rewriter {
 }
 
 impl Rewriter {
+    // Rewrites a term by the strategy that is asked.
+    fn rewrite<T: Terms>(
+        &mut self,
+        plan: &Plan,
+        term: &Flat,
+        terms: &mut T,
+    ) -> Result<Normal, RunFault>
+        requires inside { (T.store terms.old).inside ≡ true }
+        requires machine { IsFor plan.now self.old.machine }
+        requires no_variables { IsGround term.now }
+        requires plain { IsPlain plan.now.widest term.now }
+        requires width { plan.now.widest ≤ (T.store terms.old).widest }
+        requires free { length (T.store terms.old).stack + self.old.machine.depth
+            ≤ (T.store terms.old).room }
+        ensures answer { Answers
+            (ended self.old.strategy plan.now.rules term.now self.old.fuel self.old.machine.depth)
+            (T.store terms.old) (T.store terms.new) result }
+        ensures built { BuildsBy self.old.strategy
+            plan.now.rules term.now self.old.fuel self.old.machine.depth
+            (T.store terms.old) (T.store terms.new) result }
+        ensures faults { FaultOnlyWhereRefused (T.store terms.old) (T.store terms.new) result }
+        ensures sweeps { SweepsAtMost (T.store terms.old) (T.store terms.new) result }
+        ensures load { self.old.strategy ≡ Innermost → LoadsNeedAtMost
+            (need plan.now.rules term.now self.old.fuel self.old.machine.depth)
+            (T.store terms.old) (T.store terms.new) }
+        ensures numbers { KeepsNumbers (T.store terms.old) (T.store terms.new) }
+        ensures sound { IsSound (T.store terms.new) }
+        ensures rewriter { self.new ≡ self.old }
+        ensures same { T.same terms.old terms.new }
+    {
+        match self.strategy {
+            Strategy::Innermost => self.machine.normalize(plan, term, self.fuel, terms),
+            Strategy::Outermost => self.machine.outermost(plan, term, self.fuel, terms),
+        }
+    }
+
     // Appends the line of the value on top of an otherwise empty stack.
     fn write_top<T: Terms>(
         &mut self,
@@ -60,7 +100,7 @@ impl Rewriter {
         written
     }
 
-    /// Rewrites a term on a store and appends the line of its end to `out`, without the end of the line:
+    /// Rewrites a term on a store, by the strategy, and appends the line of its end to `out`, without the end of the line:
     /// the text of the value or its sizes, `too large`, `out of fuel` or `too deep`. Tells which of these
     /// it is, and how much fuel a value took. The stack, which must be empty, is empty again. Where it
     /// stops without a line, `out` is as before.
@@ -85,20 +125,22 @@ impl Rewriter {
         // The line.
         ensures text { OnOk result (out.new.items ≡ out.old.items
             ++ line_text self.old.sizes symbols.now
-            (ended plan.now.rules term.now self.old.fuel self.old.machine.depth)) }
+            (ended self.old.strategy plan.now.rules term.now self.old.fuel self.old.machine.depth)) }
         ensures kind { IfOk result (λ ending. ending.kind
-            ≡ kind_of self.old.sizes (ended plan.now.rules term.now self.old.fuel self.old.machine.depth)) }
+            ≡ kind_of self.old.sizes
+            (ended self.old.strategy plan.now.rules term.now self.old.fuel self.old.machine.depth)) }
         ensures spent { IfOk result (λ ending. ending.spent ≡ spent_of self.old.sizes self.old.fuel
-            (ended plan.now.rules term.now self.old.fuel self.old.machine.depth)) }
+            (ended self.old.strategy plan.now.rules term.now self.old.fuel self.old.machine.depth)) }
         ensures unwritten { OnErr result (out.new.items ≡ out.old.items) }
 
         // What was built, and what that cost the store.
-        ensures built { BuildsForLine
-            (points_of plan.now.rules term.now self.old.fuel self.old.machine.depth)
+        ensures built { BuildsForLine self.old.strategy
+            plan.now.rules term.now self.old.fuel self.old.machine.depth
             (T.store terms.old) (T.store terms.new) result }
         ensures refusals { CountsRefusals (T.store terms.old) (T.store terms.new) result }
         ensures sweeps { SweepsForLine (T.store terms.old) (T.store terms.new) result }
-        ensures load { (T.store terms.new).load ≤ max (T.store terms.old).load
+        ensures load { self.old.strategy ≡ Innermost
+            → (T.store terms.new).load ≤ max (T.store terms.old).load
             (need plan.now.rules term.now self.old.fuel self.old.machine.depth) }
 
         // What is as before.
@@ -108,7 +150,7 @@ impl Rewriter {
         ensures rewriter { self.new ≡ self.old }
         ensures same { T.same terms.old terms.new }
     {
-        match self.machine.normalize(plan, term, self.fuel, terms) {
+        match self.rewrite(plan, term, terms) {
             Ok(Normal::Value { left }) => {
                 let spent = self.fuel - left;
                 let written = self.write_top(symbols, terms, out)?;

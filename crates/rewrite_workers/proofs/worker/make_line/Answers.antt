@@ -2,10 +2,10 @@ use Rattle.std.proofs.Common.{◌≡◌, ◌∷◌, [], get_or, subst}
 use Rattle.std.specs.Prelude.{Err}
 use Rattle.std.proofs.lemmas.Option.{get_or_from_slice_get, slice_get-get_or}
 use Rattle.term_model.specs.Tree.{Tree, Leaf}
-use Rattle.term_lines.specs.Written.{points_of, BuildsForLine}
+use Rattle.term_lines.specs.Written.{BuildsForLine}
 use Rattle.term_lines.specs.declared.ending.Ending.{Ending}
 use Rattle.rewrite_workers.specs.declared.lines.Line.{Line}
-use Rattle.rewrite_workers.specs.Works.{term_at}
+use Rattle.rewrite_workers.specs.Works.{term_at, strategy_of}
 use Rattle.rewrite_workers.proofs.Ending.{ended_stop}
 use Rattle.rewrite_workers.proofs.Lining.{line_ended}
 use Rattle.rewrite_workers.proofs.worker.make_line.Goals as goal
@@ -24,9 +24,12 @@ returns-in-Err-clause-ended g c =
     let after = store c.leave.new.self in
     let read : Tree = get_or work.terms.now c.args.number c.index-job-number.result in
     let same : read ≡ term = get_or_from_slice_get work.terms.now c.args.number term c.index-job-number.result (slice_get-get_or work.terms.now c.args.number (Leaf 0) c.requires.number) in
-    let built = subst (λ t. BuildsForLine (points_of plan.rules t s.fuel s.depth) begun made (Err stop)) same
-    (subst (λ n. BuildsForLine (points_of plan.rules read s.fuel n) begun made (Err stop)) c.requires.rewriter.depth
-    (subst (λ n. BuildsForLine (points_of plan.rules read n c.args.rewriter.now.machine.depth) begun made (Err stop)) c.requires.rewriter.fuel c.in-Err.ensures.built)) in
+    let strategy = strategy_of s.command in
+    let machine = c.args.rewriter.now.machine in
+    let built = subst (λ t. BuildsForLine strategy plan.rules t s.fuel s.depth begun made (Err stop)) same
+    (subst (λ n. BuildsForLine strategy plan.rules read s.fuel n begun made (Err stop)) c.requires.rewriter.depth
+    (subst (λ n. BuildsForLine strategy plan.rules read n machine.depth begun made (Err stop)) c.requires.rewriter.fuel
+    (subst (λ by. BuildsForLine by plan.rules read c.args.rewriter.now.fuel machine.depth begun made (Err stop)) c.requires.rewriter.strategy c.in-Err.ensures.built))) in
     ended_stop s plan.rules Ending Line (term ∷ []) before after stop
     (line_ended s plan term before begun made after c.requires.ready c.enter.ensures.entered c.write_line-made.ensures.numbers c.write_line-made.ensures.empty c.leave.ensures.left
     (Err stop) built c.in-Err.ensures.refusals)

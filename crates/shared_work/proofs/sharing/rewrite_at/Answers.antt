@@ -7,7 +7,7 @@ use Rattle.shared_work.proofs.Making.{has_rows}
 use Rattle.shared_work.proofs.Lacking.{tells_need, none_needed}
 use Rattle.shared_work.proofs.Wearing.{tells_worn, none_worn}
 use Rattle.shared_work.proofs.Fronts.{tells_each, nothing_told, tells_fronts, none_fronts, at_err}
-use Rattle.shared_work.proofs.Closing.{are_out, are_all, names_what_it_built, collects_few, keeps_orders, none_collect, none_order, none_legal}
+use Rattle.shared_work.proofs.Closing.{are_out, are_all, names_what_it_built, collects_few, keeps_orders, each_rises, none_collect, none_order, none_rises, none_legal}
 use Rattle.shared_work.proofs.sharing.rewrite_at.Goals as goal
 
 pub close-chronicle-requires-clause-passes : goal.close-chronicle-requires-clause-passes
@@ -89,3 +89,11 @@ pub returns-in-Ok-clause-order : goal.returns-in-Ok-clause-order
 returns-in-Ok-clause-order g c =
     keeps_orders c.args.work.now.settings c.args.work.now.plan.now.rules c.args.work.now.terms.now c.args.store c.in-Ok.left.lines c.in-Ok.left.passes.items c.in-Ok.ensures.run
     c.close-chronicle.result (ap (λ (z : Sizes). z.seats) c.requires.sizes) c.close-chronicle.ensures.own c.close-chronicle.ensures.order
+
+pub returns-in-Err-clause-rises : goal.returns-in-Err-clause-rises
+returns-in-Err-clause-rises g c = none_rises c.nothing.result.chronicle c.nothing.ensures.chronicle
+
+pub returns-in-Ok-clause-rises : goal.returns-in-Ok-clause-rises
+returns-in-Ok-clause-rises g c =
+    each_rises c.args.work.now.settings c.args.work.now.plan.now.rules c.args.work.now.terms.now c.args.store c.in-Ok.left.lines c.in-Ok.left.passes.items c.in-Ok.ensures.run
+    c.close-chronicle.result c.close-chronicle.ensures.count c.close-chronicle.ensures.rises
