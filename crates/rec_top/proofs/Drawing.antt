@@ -9,11 +9,10 @@ use Rattle.std.proofs.lemmas.List.Concat.{flat_map-cons}
 use Rattle.term_model.specs.Tree.{Tree, Leaf}
 use Rattle.history_core.specs.declared.entry.Entry.{Entry}
 use Rattle.rewrite_model.specs.Rule.{Rule}
-use Rattle.rewrite_model.specs.Built.{built_of_all}
 use Rattle.settings.specs.declared.parts.Settings.{Settings}
 use Rattle.rewrite_workers.specs.Dealt.{times}
 use Rattle.rewrite_workers.specs.Lined.{drawn_by}
-use Rattle.rewrite_workers.specs.Works.{term_at}
+use Rattle.rewrite_workers.specs.Works.{term_at, built_of}
 use Rattle.rewrite_workers.specs.Ends.{AreApart, Rises, numbered}
 use Rattle.rewrite_workers.proofs.Dealing.{hit, times_cons, times_append, hit_same, hit_other}
 use Rattle.rewrite_workers.proofs.Dividing.{times_none}
@@ -166,7 +165,7 @@ fronts s rules terms workers lists long built = record {
       drawn_places terms k 0 workers terms long (λ j h. ap (term_at terms) (sym (zero-add j))) ∙ ap (numbered terms) (sym hand) in
       record {
         rest = [];
-        built = ap (λ ts. built_of_all rules ts s.fuel s.depth) (sym drawn) ∙ sym (built k below) ∙ sym (append-nil (named_by lists k));
+        built = ap (λ ts. built_of s rules ts) (sym drawn) ∙ sym (built k below) ∙ sym (append-nil (named_by lists k));
       };
 }
 

@@ -44,11 +44,13 @@ pub fault_under : (words : List (List ℕ)) (s t : Settings) (input : List ℕ) 
 fault_under words s t input fault e f h = subst (λ u. IsFault u input fault) (same_Some t s (sym f ∙ e)) h
 
 -- where the whole output was written nothing is to be told
-line_for : (values : Bool) → status_line (status_for values) ≡ []
-line_for true = refl
-line_for false = refl
+line_for : (values refuted : Bool) → status_line (status_for values refuted) ≡ []
+line_for true true = refl
+line_for false true = refl
+line_for true false = refl
+line_for false false = refl
 
-pub told_nothing : {E : Type 0} (taken : E → Option (List ℕ)) (count : E → ℕ) (err : E) (status : ℕ) (values : Bool) → status ≡ status_for values → TookLine taken count err err (status_line status)
-told_nothing taken count err status values is =
+pub told_nothing : {E : Type 0} (taken : E → Option (List ℕ)) (count : E → ℕ) (err : E) (status : ℕ) (values refuted : Bool) → status ≡ status_for values refuted → TookLine taken count err err (status_line status)
+told_nothing taken count err status values refuted is =
     let none : TookLine taken count err err [] = record { front = (0, omega arith, Appends-nil (taken err)); whole = inr (Appends-nil (taken err)) } in
-    subst (λ line. TookLine taken count err err line) (sym (ap status_line is ∙ line_for values)) none
+    subst (λ line. TookLine taken count err err line) (sym (ap status_line is ∙ line_for values refuted)) none

@@ -5,7 +5,7 @@ use Rattle.std.proofs.lemmas.Option.{same_Some}
 use Rattle.ends.specs.Bytes.{GaveAll}
 use Rattle.settings.specs.Words.{AreInRange, settings_of}
 use Rattle.settings.specs.declared.parts.Command.{Command}
-use Rattle.settings.specs.declared.parts.Command.TheVariants.{Rewrite, Drill, Schedule, Terms, Pack, Unpack}
+use Rattle.settings.specs.declared.parts.Command.TheVariants.{Rewrite, Drill, Schedule, Terms, Pack, Unpack, CheckLog, CheckTrace, Outermost}
 use Rattle.settings.specs.declared.parts.Settings.{Settings}
 use Rattle.rec_drill.specs.Drill.{drill_bytes}
 use Rattle.rec_drill.proofs.Lengths.{text_short}
@@ -29,6 +29,9 @@ gave_input Schedule count left old new input reads g = g
 gave_input Terms count left old new input reads g = g
 gave_input Pack count left old new input reads g = g
 gave_input Unpack count left old new input reads g = g
+gave_input CheckLog count left old new input reads g = g
+gave_input CheckTrace count left old new input reads g = g
+gave_input Outermost count left old new input reads g = g
 
 pub has_left : {S : Type 0} (c : Command) (count : ℕ) (left : S → Option (List ℕ)) (source : S) (input : List ℕ) → ReadsSource c → HasInputFor c count left source input → left source ≡ Some input
 has_left Rewrite count left source input reads h = h
@@ -37,6 +40,9 @@ has_left Schedule count left source input reads h = h
 has_left Terms count left source input reads h = h
 has_left Pack count left source input reads h = h
 has_left Unpack count left source input reads h = h
+has_left CheckLog count left source input reads h = h
+has_left CheckTrace count left source input reads h = h
+has_left Outermost count left source input reads h = h
 
 -- all but a drill do
 pub reads_unless : (c : Command) → (c ≡ Drill → ⊥) → ReadsSource c
@@ -46,6 +52,9 @@ reads_unless Schedule other = tt
 reads_unless Terms other = tt
 reads_unless Pack other = tt
 reads_unless Unpack other = tt
+reads_unless CheckLog other = tt
+reads_unless CheckTrace other = tt
+reads_unless Outermost other = tt
 
 pub reads_under : (words : List (List ℕ)) (s t : Settings) → settings_of words ≡ Some s → settings_of words ≡ Some t → ReadsSource t.command → ReadsSource s.command
 reads_under words s t e f h = subst (λ (u : Settings). ReadsSource u.command) (same_Some t s (sym f ∙ e)) h

@@ -13,3 +13,6 @@ pub mod Recounting
 pub mod Drawing
 pub mod Outcomes
 pub mod AtOnce
+pub mod LogVerdicts
+pub mod Judging
+pub mod Tracing

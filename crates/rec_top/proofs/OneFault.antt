@@ -81,7 +81,7 @@ IsTokenRefusal input ts f =
     ((f.kind ≡ 2) × IsFirstUnexpected ts f.place)
     ⊎ ((f.kind ≡ 3) × (f.place ≡ length input) × IsUnended ts)
 
-same_fault : (f g : Refusal) → f.kind ≡ g.kind → f.place ≡ g.place → f ≡ g
+pub same_fault : (f g : Refusal) → f.kind ≡ g.kind → f.place ≡ g.place → f ≡ g
 same_fault f g e d =
     let middle : Refusal = record { kind = g.kind; place = f.place } in
     let first : f ≡ middle = ap (λ k. let z : Refusal = record { kind = k; place = f.place } in z) e in
@@ -106,7 +106,7 @@ same_parsed a b e f =
     let second : middle ≡ b = ap (λ ss. let z : Parsed = record { bytes = b.bytes; specifications = ss } in z) f in
     first ∙ second
 
-one_syntax : (input : List ℕ) (a b : Parsed) → IsRead input a → IsRead input b → a ≡ b
+pub one_syntax : (input : List ℕ) (a b : Parsed) → IsRead input a → IsRead input b → a ≡ b
 one_syntax input a b p q =
     let ts : p.tokens ≡ q.tokens = same_tokens (tokens_of input) p.tokens q.tokens p.cut q.cut in
     same_parsed a b (p.bytes ∙ sym q.bytes)
@@ -119,12 +119,15 @@ one_specification input a b p q = same_Some a b (sym p.spec_is ∙ ap spelled_in
 faulty : (syntax other : Parsed) (o : Refusal) → syntax ≡ other → fault_of syntax ≡ None → fault_of other ≡ Some o → ⊥
 faulty syntax other o e n s = let none : None ≡ Some o = sym n ∙ ap fault_of e ∙ s in cc
 
+pub none_of_faultless : (input : List ℕ) (syntax : Parsed) (f : Refusal) → IsRead input syntax → fault_of syntax ≡ None → IsSpecificationFault input f → ⊥
+none_of_faultless input syntax f read none (inl b) = never_both (tokens_of input) read.tokens f.place read.cut b.place
+none_of_faultless input syntax f read none (inr (inl t)) =
+    let ts : read.tokens ≡ t.tokens = same_tokens (tokens_of input) read.tokens t.tokens read.cut t.cut in
+    no_refusal input t.tokens syntax.specifications f (subst (λ us. IsInput us syntax.specifications) ts read.sentence) t.refusal
+none_of_faultless input syntax f read none (inr (inr o)) = faulty syntax o.syntax _ (one_syntax input syntax o.syntax read o.read) none o.first
+
 pub no_fault : (input : List ℕ) (spec : Specified) (f : Refusal) → Spells input spec → IsSpecificationFault input f → ⊥
-no_fault input spec f p (inl b) = never_both (tokens_of input) p.read.tokens f.place p.read.cut b.place
-no_fault input spec f p (inr (inl t)) =
-    let ts : p.read.tokens ≡ t.tokens = same_tokens (tokens_of input) p.read.tokens t.tokens p.read.cut t.cut in
-    no_refusal input t.tokens p.syntax.specifications f (subst (λ us. IsInput us p.syntax.specifications) ts p.read.sentence) t.refusal
-no_fault input spec f p (inr (inr o)) = faulty p.syntax o.syntax _ (one_syntax input p.syntax o.syntax p.read o.read) p.faultless o.first
+no_fault input spec f p fault = none_of_faultless input p.syntax f p.read p.faultless fault
 
 -- a sentence has no refusal
 sentence_refused : {A : Type 0} (input : List ℕ) (f : Refusal) (t : IsTokenFault input f) (syntax : Parsed) → IsRead input syntax → A

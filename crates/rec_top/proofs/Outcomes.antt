@@ -7,7 +7,7 @@ use Rattle.history_core.specs.Chronicle.{chronicle, IsLegal}
 use Rattle.settings.specs.declared.parts.Settings.{Settings}
 use Rattle.rewrite_workers.specs.declared.lines.Lines.{Lines}
 use Rattle.rewrite_workers.specs.Lined.{worker_of}
-use Rattle.shared_work.specs.Sharing.{CollectsFew}
+use Rattle.shared_work.specs.Sharing.{CollectsFew, EachRises}
 use Rattle.rec_check.specs.Spelled.{Specified}
 use Rattle.rec_top.specs.Rewritten.{Spells}
 use Rattle.rec_top.specs.Sequence.{AreLinesOf}
@@ -64,11 +64,12 @@ count_stopped s (Err why) stop lists is (inl e) = inl e
 count_stopped s (Err why) stop lists is (inr h) = let same : why ≡ stop = cc in inr (subst StopsEarly same h.0, h.1)
 
 -- ---- the history of an answer that is told of lines
-module _ (s : Settings) (input : List ℕ) (lines : Lines) (lists : List (List Entry)) (legal : IsLegal s.rows (chronicle lists)) (few : CollectsFew s lists) (count : length lists ≡ s.workers)
+module _ (s : Settings) (input : List ℕ) (lines : Lines) (lists : List (List Entry)) (legal : IsLegal s.rows (chronicle lists)) (rises : EachRises lists) (few : CollectsFew s lists) (count : length lists ≡ s.workers)
     (made : (spec : Specified) × Spells input spec × AreLinesOf s spec lines.list.items) (built : SpellsSuch input (NamesAll (map worker_of lines.list.items) lists s)) where
   told_lines : (a : Result Answer Stop) → IfOk a (λ answer. answer.workers ≡ map worker_of lines.list.items) → IfErr a (λ why. why ≡ Memory) → TellsTerms s (SpellsSuch input) a lists
   told_lines (Ok answer) workers why = record {
     legal = legal;
+    rises = rises;
     collects = few;
     each = inl count;
     answered = subst (λ ws. SpellsSuch input (NamesAll ws lists s)) (sym workers) built;
@@ -76,25 +77,26 @@ module _ (s : Settings) (input : List ℕ) (lines : Lines) (lists : List (List E
   }
   told_lines (Err stop) workers why = record {
     legal = legal;
+    rises = rises;
     collects = few;
     each = inl count;
     answered = tt;
     stopped = subst (TellsStop s (SpellsSuch input) lists) (sym why) (inr (whole_front s input lines.list.items lists made built));
   }
 
-pub tells_lines : (s : Settings) (input : List ℕ) (r : Result Lines Stop) (lines : Lines) (a : Result Answer Stop) (lists : List (List Entry)) → r ≡ Ok lines → IsLegal s.rows (chronicle lists) → CollectsFew s lists → CountsWorkers s r lists
+pub tells_lines : (s : Settings) (input : List ℕ) (r : Result Lines Stop) (lines : Lines) (a : Result Answer Stop) (lists : List (List Entry)) → r ≡ Ok lines → IsLegal s.rows (chronicle lists) → EachRises lists → CollectsFew s lists → CountsWorkers s r lists
     → IfOk r (λ l. (spec : Specified) × Spells input spec × AreLinesOf s spec l.list.items) → IfOk r (λ l. SpellsSuch input (NamesAll (map worker_of l.list.items) lists s))
     → IfOk a (λ answer. answer.workers ≡ map worker_of lines.list.items) → IfErr a (λ why. why ≡ Memory) → TellsTerms s (SpellsSuch input) a lists
-tells_lines s input r lines a lists is legal few count made built workers why =
-    told_lines s input lines lists legal few (count_of s r lines lists is count)
+tells_lines s input r lines a lists is legal rises few count made built workers why =
+    told_lines s input lines lists legal rises few (count_of s r lines lists is count)
     (if_ok (λ (l : Lines). (spec : Specified) × Spells input spec × AreLinesOf s spec l.list.items) r lines is made)
     (if_ok (λ (l : Lines). SpellsSuch input (NamesAll (map worker_of l.list.items) lists s)) r lines is built) a workers why
 
 -- and of one without lines
-pub tells_no_lines : {A : Type 0} (s : Settings) (of : Of) (r : Result A Stop) (stop : Stop) (lists : List (List Entry)) → r ≡ Err stop → IsLegal s.rows (chronicle lists) → CollectsFew s lists → CountsWorkers s r lists → IfErr r (TellsStop s of lists)
+pub tells_no_lines : {A : Type 0} (s : Settings) (of : Of) (r : Result A Stop) (stop : Stop) (lists : List (List Entry)) → r ≡ Err stop → IsLegal s.rows (chronicle lists) → EachRises lists → CollectsFew s lists → CountsWorkers s r lists → IfErr r (TellsStop s of lists)
     → TellsTerms s of (Err stop) lists
-tells_no_lines s of r stop lists is legal few count ended =
-    record { legal = legal; collects = few; each = count_stopped s r stop lists is count; answered = tt; stopped = if_err (TellsStop s of lists) r stop is ended }
+tells_no_lines s of r stop lists is legal rises few count ended =
+    record { legal = legal; rises = rises; collects = few; each = count_stopped s r stop lists is count; answered = tt; stopped = if_err (TellsStop s of lists) r stop is ended }
 
 -- ---- why a drill stops
 drill_tells : (s : Settings) (of : Of) (lists : List (List Entry)) (stop : Stop) → TellsStop s of lists stop → TellsStop s of lists (stop_of_drill stop)
@@ -115,7 +117,7 @@ drill_count s lists WriteFault h = h
 drill_count s lists Memory h = h
 drill_count s lists Worn h = h
 
-pub tells_no_drill : {A : Type 0} (s : Settings) (of : Of) (r : Result A Stop) (stop : Stop) (lists : List (List Entry)) → r ≡ Err stop → IsLegal s.rows (chronicle lists) → CollectsFew s lists → CountsWorkers s r lists → IfErr r (TellsStop s of lists)
+pub tells_no_drill : {A : Type 0} (s : Settings) (of : Of) (r : Result A Stop) (stop : Stop) (lists : List (List Entry)) → r ≡ Err stop → IsLegal s.rows (chronicle lists) → EachRises lists → CollectsFew s lists → CountsWorkers s r lists → IfErr r (TellsStop s of lists)
     → TellsTerms s of (Err (stop_of_drill stop)) lists
-tells_no_drill s of r stop lists is legal few count ended =
-    record { legal = legal; collects = few; each = drill_count s lists stop (count_stopped s r stop lists is count); answered = tt; stopped = drill_tells s of lists stop (if_err (TellsStop s of lists) r stop is ended) }
+tells_no_drill s of r stop lists is legal rises few count ended =
+    record { legal = legal; rises = rises; collects = few; each = drill_count s lists stop (count_stopped s r stop lists is count); answered = tt; stopped = drill_tells s of lists stop (if_err (TellsStop s of lists) r stop is ended) }

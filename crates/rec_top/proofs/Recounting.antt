@@ -3,12 +3,14 @@ use Rattle.std.proofs.Common.{◌≡◌, ◌⊎◌, inl, inr, ℕ, List, [], Opt
 use Rattle.std.specs.Prelude.{Result, Ok, Err, IfOk, IfErr, IsErrAnd, map, length}
 use Rattle.std.proofs.lemmas.Option.{same_Some}
 use Rattle.history_core.specs.declared.entry.Entry.{Entry}
-use Rattle.history_core.specs.Chronicle.{chronicle, IsLegal}
+use Rattle.history_core.specs.Chronicle.{chronicle, entries_of, IsLegal}
+use Rattle.history_core.proofs.Own.{own_order_stays}
+use Rattle.history_core.proofs.Places.{rising_never_falls}
 use Rattle.settings.specs.Words.{settings_of}
 use Rattle.settings.specs.declared.parts.Command.{Command}
-use Rattle.settings.specs.declared.parts.Command.TheVariants.{Rewrite, Drill, Schedule, Terms, Pack, Unpack}
+use Rattle.settings.specs.declared.parts.Command.TheVariants.{Rewrite, Drill, Schedule, Terms, Pack, Unpack, CheckLog, CheckTrace, Outermost}
 use Rattle.settings.specs.declared.parts.Settings.{Settings}
-use Rattle.shared_work.specs.Sharing.{CollectsFew}
+use Rattle.shared_work.specs.Sharing.{CollectsFew, EachRises}
 use Rattle.rec_check.specs.Spelled.{Specified}
 use Rattle.rec_drill.specs.Drill.{drill_bytes}
 use Rattle.rec_top.specs.Rewritten.{Spells}
@@ -16,8 +18,9 @@ use Rattle.rec_top.specs.Input.{GaveInput}
 use Rattle.rec_top.specs.Lines.{stop_status}
 use Rattle.rec_top.specs.Run.{IsMade}
 use Rattle.rec_top.specs.Answered.{StopsSpelling, StopsReading, StopsAnswering}
-use Rattle.rec_top.specs.Histories.{Rewrites, AsksRewriting, HasLegalHistory, HasFewCollects, MayEndEarly, HasEach, StopsEarly, CountsWorkers, SpellsSuch, GaveSuch, HasSuch, NamesAll, NamesAllFronts, Fills, TellsStop, TellsTerms, TellsFor, TellsHistory}
+use Rattle.rec_top.specs.Histories.{Rewrites, AsksRewriting, HasLegalHistory, StandInTurn, HasFewCollects, MayEndEarly, HasEach, StopsEarly, CountsWorkers, SpellsSuch, GaveSuch, HasSuch, NamesAll, NamesAllFronts, Fills, TellsStop, TellsTerms, TellsFor, TellsHistory}
 use Rattle.rec_top.specs.declared.answers.Answer.{Answer}
+use Rattle.rec_top.specs.declared.specification.Conditions.{Conditions}
 use Rattle.rec_top.specs.declared.stops.Stop.{Stop}
 use Rattle.rec_top.proofs.Inputs.{gave_text}
 use Rattle.rec_top.specs.declared.stops.Stop.TheVariants.{Usage, Refused, StoreFull, ReadFault, WriteFault, Memory, Worn}
@@ -28,6 +31,16 @@ legal_nothing rows lists e = subst (λ l. IsLegal rows (chronicle l)) (sym e) tt
 
 pub few_nothing : (s : Settings) (lists : List (List Entry)) → lists ≡ [] → CollectsFew s lists
 few_nothing s lists e = subst (CollectsFew s) (sym e) (λ k below. omega arith)
+
+pub rises_nothing : (lists : List (List Entry)) → lists ≡ [] → EachRises lists
+rises_nothing lists e = subst EachRises (sym e) (λ k. tt)
+
+-- entries whose keys rise stand in the chronicle in their own order
+pub in_turn : (lists : List (List Entry)) → EachRises lists → StandInTurn lists
+in_turn lists rises = λ k. (own_order_stays lists k (rising_never_falls (entries_of lists k) (rises k)), rises k)
+
+pub none_in_turn : (lists : List (List Entry)) → lists ≡ [] → StandInTurn lists
+none_in_turn lists e = in_turn lists (rises_nothing lists e)
 
 pub legal_of_none : (words : List (List ℕ)) (lists : List (List Entry)) → lists ≡ [] → HasLegalHistory words lists
 legal_of_none words lists e = λ s accepted. legal_nothing s.rows lists e
@@ -60,6 +73,7 @@ answer_known s of more lists (Err stop) f h = tt
 terms_known : (s : Settings) (of more : Of) (lists : List (List Entry)) (r : Result Answer Stop) → ((P : Specified → Type 0) → of P → more P) → TellsTerms s of r lists → TellsTerms s more r lists
 terms_known s of more lists r f t = record {
   legal = t.legal;
+  rises = t.rises;
   collects = t.collects;
   each = t.each;
   answered = answer_known s of more lists r f t.answered;
@@ -73,6 +87,9 @@ history_known Schedule s of more lists r f t = t
 history_known Terms s of more lists r f t = t
 history_known Pack s of more lists r f t = t
 history_known Unpack s of more lists r f t = t
+history_known CheckLog s of more lists r f t = t
+history_known CheckTrace s of more lists r f t = t
+history_known Outermost s of more lists r f t = terms_known s of more lists r f t
 
 -- the source gave the input
 pub given : {S : Type 0} (s : Settings) (left : S → Option (List ℕ)) (old new : S) (input : List ℕ) (r : Result Answer Stop) (lists : List (List Entry)) → GaveInput s left old new input
@@ -87,14 +104,14 @@ drill_history s left old new r lists e same t =
     (terms_known s (SpellsSuch (drill_bytes s.count)) (GaveSuch s left old new) lists r (λ P p. (drill_bytes s.count, gave_text s left old new e same, p)) t)
 
 -- ---- a command that stops before any term is rewritten
-pub stops_spelling : (s : Settings) (of : Of) (input : List ℕ) (lists : List (List Entry)) (stop : Stop) → lists ≡ [] → StopsSpelling input stop → TellsStop s of lists stop
-stops_spelling s of input lists Usage e h = e
-stops_spelling s of input lists (Refused fault) e h = e
-stops_spelling s of input lists StoreFull e h = absurd h
-stops_spelling s of input lists ReadFault e h = e
-stops_spelling s of input lists WriteFault e h = e
-stops_spelling s of input lists Memory e h = inl e
-stops_spelling s of input lists Worn e h = absurd h
+pub stops_spelling : (kind : Conditions) (s : Settings) (of : Of) (input : List ℕ) (lists : List (List Entry)) (stop : Stop) → lists ≡ [] → StopsSpelling kind input stop → TellsStop s of lists stop
+stops_spelling kind s of input lists Usage e h = e
+stops_spelling kind s of input lists (Refused fault) e h = e
+stops_spelling kind s of input lists StoreFull e h = absurd h
+stops_spelling kind s of input lists ReadFault e h = e
+stops_spelling kind s of input lists WriteFault e h = e
+stops_spelling kind s of input lists Memory e h = inl e
+stops_spelling kind s of input lists Worn e h = absurd h
 
 stops_reading : {S : Type 0} (s : Settings) (of : Of) (limit : ℕ) (left : S → Option (List ℕ)) (faults : S → ℕ) (old new : S) (lists : List (List Entry)) (stop : Stop) → lists ≡ [] → StopsReading limit left faults old new stop → TellsStop s of lists stop
 stops_reading s of limit left faults old new lists Usage e h = e
@@ -105,14 +122,14 @@ stops_reading s of limit left faults old new lists WriteFault e h = e
 stops_reading s of limit left faults old new lists Memory e h = inl e
 stops_reading s of limit left faults old new lists Worn e h = absurd h
 
-pub early_spelling : (input : List ℕ) (stop : Stop) → StopsSpelling input stop → StopsEarly stop
-early_spelling input Usage h = tt
-early_spelling input (Refused fault) h = tt
-early_spelling input StoreFull h = h
-early_spelling input ReadFault h = tt
-early_spelling input WriteFault h = h
-early_spelling input Memory h = tt
-early_spelling input Worn h = h
+pub early_spelling : (kind : Conditions) (input : List ℕ) (stop : Stop) → StopsSpelling kind input stop → StopsEarly stop
+early_spelling kind input Usage h = tt
+early_spelling kind input (Refused fault) h = tt
+early_spelling kind input StoreFull h = h
+early_spelling kind input ReadFault h = tt
+early_spelling kind input WriteFault h = h
+early_spelling kind input Memory h = tt
+early_spelling kind input Worn h = h
 
 early_reading : {S : Type 0} (limit : ℕ) (left : S → Option (List ℕ)) (faults : S → ℕ) (old new : S) (stop : Stop) → StopsReading limit left faults old new stop → StopsEarly stop
 early_reading limit left faults old new Usage h = tt
@@ -123,16 +140,19 @@ early_reading limit left faults old new WriteFault h = h
 early_reading limit left faults old new Memory h = tt
 early_reading limit left faults old new Worn h = h
 
-pub spelling_count : {A : Type 0} (s : Settings) (input : List ℕ) (r : Result A Stop) (stop : Stop) (lists : List (List Entry)) → r ≡ Err stop → lists ≡ [] → StopsSpelling input stop → CountsWorkers s r lists
-spelling_count s input r stop lists is e h = inr (subst (λ q. IsErrAnd q StopsEarly) (sym is) (early_spelling input stop h), e)
+pub spelling_count : {A : Type 0} (kind : Conditions) (s : Settings) (input : List ℕ) (r : Result A Stop) (stop : Stop) (lists : List (List Entry)) → r ≡ Err stop → lists ≡ [] → StopsSpelling kind input stop → CountsWorkers s r lists
+spelling_count kind s input r stop lists is e h = inr (subst (λ q. IsErrAnd q StopsEarly) (sym is) (early_spelling kind input stop h), e)
 
 nothing_read : (c : Command) (s : Settings) (of : Of) (lists : List (List Entry)) (stop : Stop) → lists ≡ [] → StopsEarly stop → TellsStop s of lists stop → TellsFor c s of (Err stop) lists
-nothing_read Rewrite s of lists stop e early t = record { legal = legal_nothing s.rows lists e; collects = few_nothing s lists e; each = inr (early, e); answered = tt; stopped = t }
-nothing_read Drill s of lists stop e early t = record { legal = legal_nothing s.rows lists e; collects = few_nothing s lists e; each = inr (early, e); answered = tt; stopped = t }
+nothing_read Rewrite s of lists stop e early t = record { legal = legal_nothing s.rows lists e; rises = rises_nothing lists e; collects = few_nothing s lists e; each = inr (early, e); answered = tt; stopped = t }
+nothing_read Drill s of lists stop e early t = record { legal = legal_nothing s.rows lists e; rises = rises_nothing lists e; collects = few_nothing s lists e; each = inr (early, e); answered = tt; stopped = t }
 nothing_read Schedule s of lists stop e early t = e
 nothing_read Terms s of lists stop e early t = e
 nothing_read Pack s of lists stop e early t = e
 nothing_read Unpack s of lists stop e early t = e
+nothing_read CheckLog s of lists stop e early t = e
+nothing_read CheckTrace s of lists stop e early t = e
+nothing_read Outermost s of lists stop e early t = record { legal = legal_nothing s.rows lists e; rises = rises_nothing lists e; collects = few_nothing s lists e; each = inr (early, e); answered = tt; stopped = t }
 
 pub unread : {S : Type 0} (s : Settings) (limit : ℕ) (left : S → Option (List ℕ)) (faults : S → ℕ) (old new : S) (r : Result Answer Stop) (lists : List (List Entry)) (stop : Stop) → r ≡ Err stop → lists ≡ [] → StopsReading limit left faults old new stop
     → TellsHistory s (GaveSuch s left old new) r lists
@@ -149,6 +169,20 @@ module _ (s : Settings) (of : Of) (lists : List (List Entry)) where
   legal_of Terms r t = legal_nothing s.rows lists t
   legal_of Pack r t = legal_nothing s.rows lists t
   legal_of Unpack r t = legal_nothing s.rows lists t
+  legal_of CheckLog r t = legal_nothing s.rows lists t
+  legal_of CheckTrace r t = legal_nothing s.rows lists t
+  legal_of Outermost r t = t.legal
+
+  rises_of : (c : Command) (r : Result Answer Stop) → TellsFor c s of r lists → EachRises lists
+  rises_of Rewrite r t = t.rises
+  rises_of Drill r t = t.rises
+  rises_of Schedule r t = rises_nothing lists t
+  rises_of Terms r t = rises_nothing lists t
+  rises_of Pack r t = rises_nothing lists t
+  rises_of Unpack r t = rises_nothing lists t
+  rises_of CheckLog r t = rises_nothing lists t
+  rises_of CheckTrace r t = rises_nothing lists t
+  rises_of Outermost r t = t.rises
 
   few_of : (c : Command) (r : Result Answer Stop) → TellsFor c s of r lists → CollectsFew s lists
   few_of Rewrite r t = t.collects
@@ -157,6 +191,9 @@ module _ (s : Settings) (of : Of) (lists : List (List Entry)) where
   few_of Terms r t = few_nothing s lists t
   few_of Pack r t = few_nothing s lists t
   few_of Unpack r t = few_nothing s lists t
+  few_of CheckLog r t = few_nothing s lists t
+  few_of CheckTrace r t = few_nothing s lists t
+  few_of Outermost r t = t.collects
 
   none_of : (c : Command) (r : Result Answer Stop) → (Rewrites c → ⊥) → TellsFor c s of r lists → lists ≡ []
   none_of Rewrite r other t = absurd (other tt)
@@ -165,6 +202,9 @@ module _ (s : Settings) (of : Of) (lists : List (List Entry)) where
   none_of Terms r other t = t
   none_of Pack r other t = t
   none_of Unpack r other t = t
+  none_of CheckLog r other t = t
+  none_of CheckTrace r other t = t
+  none_of Outermost r other t = absurd (other tt)
 
   terms_of : (c : Command) (r : Result Answer Stop) → Rewrites c → TellsFor c s of r lists → TellsTerms s of r lists
   terms_of Rewrite r asks t = t
@@ -173,6 +213,9 @@ module _ (s : Settings) (of : Of) (lists : List (List Entry)) where
   terms_of Terms r asks t = absurd asks
   terms_of Pack r asks t = absurd asks
   terms_of Unpack r asks t = absurd asks
+  terms_of CheckLog r asks t = absurd asks
+  terms_of CheckTrace r asks t = absurd asks
+  terms_of Outermost r asks t = t
 
   abbrev IsRefusal : ℕ → Type 0
   IsRefusal n = (n ≡ 2) ⊎ (n ≡ 3) ⊎ (n ≡ 5)
@@ -193,6 +236,9 @@ module _ (s : Settings) (of : Of) (lists : List (List Entry)) where
   refused_none Terms stop t h = t
   refused_none Pack stop t h = t
   refused_none Unpack stop t h = t
+  refused_none CheckLog stop t h = t
+  refused_none CheckTrace stop t h = t
+  refused_none Outermost stop t h = no_entries stop t.stopped h
 
   filled : (stop : Stop) → TellsStop s of lists stop → stop_status stop ≡ 4 → of (Fills lists s)
   filled Usage t h = absurd (omega (arith, h))
@@ -228,6 +274,9 @@ module _ (s : Settings) (of : Of) (lists : List (List Entry)) where
   some_of Terms stop t h = inl t
   some_of Pack stop t h = inl t
   some_of Unpack stop t h = inl t
+  some_of CheckLog stop t h = inl t
+  some_of CheckTrace stop t h = inl t
+  some_of Outermost stop t h = some stop t.stopped h
 
 -- ---- how many workers it tells of
 early_status : (stop : Stop) → StopsEarly stop → MayEndEarly (stop_status stop)
@@ -259,6 +308,9 @@ module _ {S : Type 0} (words : List (List ℕ)) (s : Settings) (left : S → Opt
 
   pub legal_history : HasLegalHistory words lists
   legal_history = λ u e. subst (λ (v : Settings). IsLegal v.rows (chronicle lists)) (same_Some s u (sym ours ∙ e)) (legal_of s of_run lists s.command r t)
+
+  pub all_in_turn : StandInTurn lists
+  all_in_turn = in_turn lists (rises_of s of_run lists s.command r t)
 
   pub few_collects : HasFewCollects words lists
   few_collects = λ u e. subst (λ (v : Settings). CollectsFew v lists) (same_Some s u (sym ours ∙ e)) (few_of s of_run lists s.command r t)

@@ -1,5 +1,5 @@
 -- Commands on terms: what they answer, or why they stop, is what the definitions say of the input.
-use Rattle.std.proofs.Common.{◌≡◌, ◌⊎◌, inl, inr, ℕ, List, true, refl, sym, ap, subst, ◌∙◌}
+use Rattle.std.proofs.Common.{◌≡◌, ◌⊎◌, inl, inr, ℕ, List, true, false, refl, sym, ap, subst, ◌∙◌}
 use Rattle.faults.specs.declared.refusal.Refusal.{Refusal}
 use Rattle.term_commands.specs.declared.fault.TermsFault.{TermsFault}
 use Rattle.term_commands.specs.declared.fault.TermsFault.TheVariants as terms
@@ -40,17 +40,19 @@ text_fault_or_memory rows input (terms.Refused given) fault u bad = inl (ap stop
 text_fault_or_memory rows input terms.StoreFull fault u bad = absurd (no_fault input u.symbols u.terms fault u.read bad)
 text_fault_or_memory rows input terms.Memory fault u bad = inr refl
 
-pub told_answer : (rows : ℕ) (input text : List ℕ) (count : ℕ) (answer : Answer) (output : Output) → IsListed rows input text → answer.output.items ≡ text → answer.values ≡ true → IsSplit count answer.workers 0 → IsTold rows input output → IsAnswer count answer output
-told_answer rows input text count answer output l bytes values workers o = record {
+pub told_answer : (rows : ℕ) (input text : List ℕ) (count : ℕ) (answer : Answer) (output : Output) → IsListed rows input text → answer.output.items ≡ text → answer.values ≡ true → answer.refuted ≡ false → IsSplit count answer.workers 0 → IsTold rows input output → IsAnswer count answer output
+told_answer rows input text count answer output l bytes values refuted workers o = record {
   bytes = bytes ∙ one_text rows input text output.bytes l o.listed;
   values = values ∙ sym o.values;
+  refuted = refuted ∙ sym o.refuted;
   workers = subst (IsSplit count answer.workers) (sym o.terms) workers;
 }
 
-pub filed_answer : (rows : ℕ) (input file : List ℕ) (count : ℕ) (answer : Answer) (output : Output) → IsPacked rows input file → answer.output.items ≡ file → answer.values ≡ true → IsSplit count answer.workers 0 → IsFiled rows input output → IsAnswer count answer output
-filed_answer rows input file count answer output p bytes values workers o = record {
+pub filed_answer : (rows : ℕ) (input file : List ℕ) (count : ℕ) (answer : Answer) (output : Output) → IsPacked rows input file → answer.output.items ≡ file → answer.values ≡ true → answer.refuted ≡ false → IsSplit count answer.workers 0 → IsFiled rows input output → IsAnswer count answer output
+filed_answer rows input file count answer output p bytes values refuted workers o = record {
   bytes = bytes ∙ one_packed rows input file output.bytes p o.packed;
   values = values ∙ sym o.values;
+  refuted = refuted ∙ sym o.refuted;
   workers = subst (IsSplit count answer.workers) (sym o.terms) workers;
 }
 
@@ -70,11 +72,12 @@ file_fault_or_memory input (terms.Refused given) fault u bad = inl (ap stop.Refu
 file_fault_or_memory input terms.StoreFull fault u bad = absurd u
 file_fault_or_memory input terms.Memory fault u bad = inr refl
 
-pub unfiled_answer : (input : List ℕ) (count : ℕ) (answer : Answer) (output : Output) → IsUnpacked input answer.output.items answer.values → IsSplit count answer.workers 0 → IsUnfiled input output → IsAnswer count answer output
-unfiled_answer input count answer output p workers o =
+pub unfiled_answer : (input : List ℕ) (count : ℕ) (answer : Answer) (output : Output) → IsUnpacked input answer.output.items answer.values → answer.refuted ≡ false → IsSplit count answer.workers 0 → IsUnfiled input output → IsAnswer count answer output
+unfiled_answer input count answer output p refuted workers o =
     let same = one_unpacked input answer.output.items output.bytes answer.values output.values p o.unpacked in
     record {
       bytes = same.0;
       values = same.1;
+      refuted = refuted ∙ sym o.refuted;
       workers = subst (IsSplit count answer.workers) (sym o.terms) workers;
     }

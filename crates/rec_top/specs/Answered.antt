@@ -7,15 +7,17 @@ use Rattle.settings.specs.declared.parts.Settings.{Settings}
 use Rattle.term_commands.specs.Listing.{IsTooMuch, IsTextFault}
 use Rattle.term_commands.specs.Unpacking.{IsFileFault}
 use Rattle.rec_top.specs.Written.{Output}
-use Rattle.rec_top.specs.Rewritten.{IsSpecificationFault, RowsAreFew, NumbersMayEnd}
+use Rattle.rec_top.specs.Rewritten.{IsInputFault, RowsAreFew, NumbersMayEnd}
 use Rattle.rec_top.specs.Output.{IsFaultWithin, IsScheduleFault, LacksRows, LacksNumbers, too_long}
 use Rattle.rec_top.specs.Input.{ReadsSource}
 use Rattle.rec_top.specs.Run.{GaveFault, GaveTooMuch, GaveTooMany}
+use Rattle.rec_top.specs.Checked.{IsLogFault, IsTraceFault}
 use Rattle.rec_top.specs.Sequence.{IsSplit}
 use Rattle.rec_top.specs.declared.answers.Answer.{Answer}
 use Rattle.rec_reader.specs.declared.fail.ReadFail.{ReadFail}
 use Rattle.rec_reader.specs.declared.fail.ReadFail.TheVariants as fail
 use Rattle.faults.specs.declared.refusal.Refusal.{Refusal}
+use Rattle.rec_top.specs.declared.specification.Conditions.{Conditions}
 use Rattle.rec_top.specs.declared.stops.Stop.{Stop}
 use Rattle.rec_top.specs.declared.stops.Stop.TheVariants.{Usage, Refused, StoreFull, ReadFault, WriteFault, Memory, Worn}
 
@@ -23,6 +25,7 @@ use Rattle.rec_top.specs.declared.stops.Stop.TheVariants.{Usage, Refused, StoreF
 pub record IsAnswer (count : ℕ) (answer : Answer) (output : Output) : Type 0 where
   pub bytes : answer.output.items ≡ output.bytes
   pub values : answer.values ≡ output.values
+  pub refuted : answer.refuted ≡ output.refuted
   pub workers : IsSplit count answer.workers output.terms
 
 -- why reading the whole input, of at most so many bytes, may stop
@@ -46,28 +49,28 @@ StopsMaking settings input Memory = Unit {0}
 StopsMaking settings input Worn = LacksNumbers settings input
 
 -- why reading a specification may fail, and why a command stops then
-abbrev pub FailsSpelling : List ℕ → ReadFail → Type 0
-FailsSpelling input (fail.Refused kind offset) = IsSpecificationFault input (record { kind = kind; place = offset })
-FailsSpelling input fail.Memory = Unit {0}
+abbrev pub FailsSpelling : Conditions → List ℕ → ReadFail → Type 0
+FailsSpelling conditions input (fail.Refused kind offset) = IsInputFault conditions input (record { kind = kind; place = offset })
+FailsSpelling conditions input fail.Memory = Unit {0}
 
-abbrev pub StopsSpelling : List ℕ → Stop → Type 0
-StopsSpelling input Usage = ⊥
-StopsSpelling input (Refused fault) = IsSpecificationFault input fault
-StopsSpelling input StoreFull = ⊥
-StopsSpelling input ReadFault = ⊥
-StopsSpelling input WriteFault = ⊥
-StopsSpelling input Memory = Unit {0}
-StopsSpelling input Worn = ⊥
+abbrev pub StopsSpelling : Conditions → List ℕ → Stop → Type 0
+StopsSpelling conditions input Usage = ⊥
+StopsSpelling conditions input (Refused fault) = IsInputFault conditions input fault
+StopsSpelling conditions input StoreFull = ⊥
+StopsSpelling conditions input ReadFault = ⊥
+StopsSpelling conditions input WriteFault = ⊥
+StopsSpelling conditions input Memory = Unit {0}
+StopsSpelling conditions input Worn = ⊥
 
 -- why rewriting the terms of an input may stop
-abbrev pub StopsRewriting : Settings → List ℕ → Stop → Type 0
-StopsRewriting settings input Usage = ⊥
-StopsRewriting settings input (Refused fault) = IsSpecificationFault input fault
-StopsRewriting settings input StoreFull = RowsAreFew settings input
-StopsRewriting settings input ReadFault = ⊥
-StopsRewriting settings input WriteFault = ⊥
-StopsRewriting settings input Memory = Unit {0}
-StopsRewriting settings input Worn = NumbersMayEnd settings input
+abbrev pub StopsRewriting : Conditions → Settings → List ℕ → Stop → Type 0
+StopsRewriting conditions settings input Usage = ⊥
+StopsRewriting conditions settings input (Refused fault) = IsInputFault conditions input fault
+StopsRewriting conditions settings input StoreFull = RowsAreFew settings input
+StopsRewriting conditions settings input ReadFault = ⊥
+StopsRewriting conditions settings input WriteFault = ⊥
+StopsRewriting conditions settings input Memory = Unit {0}
+StopsRewriting conditions settings input Worn = NumbersMayEnd settings input
 
 -- why a drill may stop
 abbrev pub StopsDrilling : Settings → Stop → Type 0
@@ -108,6 +111,26 @@ StopsUnpacking input ReadFault = ⊥
 StopsUnpacking input WriteFault = ⊥
 StopsUnpacking input Memory = Unit {0}
 StopsUnpacking input Worn = ⊥
+
+-- why checking a log may stop
+abbrev pub StopsChecking : List ℕ → Stop → Type 0
+StopsChecking input Usage = ⊥
+StopsChecking input (Refused fault) = IsLogFault input fault
+StopsChecking input StoreFull = ⊥
+StopsChecking input ReadFault = ⊥
+StopsChecking input WriteFault = ⊥
+StopsChecking input Memory = Unit {0}
+StopsChecking input Worn = ⊥
+
+-- why checking an output with traces may stop
+abbrev pub StopsTracing : List ℕ → Stop → Type 0
+StopsTracing input Usage = ⊥
+StopsTracing input (Refused fault) = IsTraceFault input fault
+StopsTracing input StoreFull = ⊥
+StopsTracing input ReadFault = ⊥
+StopsTracing input WriteFault = ⊥
+StopsTracing input Memory = Unit {0}
+StopsTracing input Worn = ⊥
 
 -- why a command may stop before it writes
 abbrev pub StopsAnswering : {S : Type 0} (settings : Settings) (left : S → Option (List ℕ)) (faults : S → ℕ) (old new : S) → Stop → Type 0

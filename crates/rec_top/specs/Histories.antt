@@ -1,12 +1,12 @@
 -- What the history of a run tells: the entries of each worker's pass, and their merge, the chronicle.
 use Rattle.std.specs.Prelude.{◌≡◌, ◌⊎◌, ℕ, List, [], Option, Some, Result, IfOk, IfErr, IsErrAnd, length}
 use Rattle.history_core.specs.declared.entry.Entry.{Entry}
-use Rattle.history_core.specs.Chronicle.{chronicle, IsLegal}
+use Rattle.history_core.specs.Chronicle.{chronicle, part_of, entries_of, KeysRise, IsLegal}
 use Rattle.settings.specs.Words.{settings_of}
 use Rattle.settings.specs.declared.parts.Command.{Command}
-use Rattle.settings.specs.declared.parts.Command.TheVariants.{Rewrite, Drill, Schedule, Terms, Pack, Unpack}
+use Rattle.settings.specs.declared.parts.Command.TheVariants.{Rewrite, Drill, Schedule, Terms, Pack, Unpack, CheckLog, CheckTrace, Outermost}
 use Rattle.settings.specs.declared.parts.Settings.{Settings}
-use Rattle.shared_work.specs.Sharing.{NamesWhatItBuilt, CollectsFew}
+use Rattle.shared_work.specs.Sharing.{NamesWhatItBuilt, CollectsFew, EachRises}
 use Rattle.shared_work.specs.Filling.{FillsRows}
 use Rattle.shared_work.specs.Fronts.{NamesFronts}
 use Rattle.rec_check.specs.Spelled.{Specified}
@@ -24,6 +24,9 @@ Rewrites Schedule = ⊥
 Rewrites Terms = ⊥
 Rewrites Pack = ⊥
 Rewrites Unpack = ⊥
+Rewrites CheckLog = ⊥
+Rewrites CheckTrace = ⊥
+Rewrites Outermost = Unit {0}
 
 -- the words ask for such a command
 abbrev pub AsksRewriting : List (List ℕ) → Type 0
@@ -33,6 +36,12 @@ AsksRewriting words = (settings : Settings) × (settings_of words ≡ Some setti
 -- says that it is empty then.
 abbrev pub HasLegalHistory : List (List ℕ) → List (List Entry) → Type 0
 HasLegalHistory words lists = (settings : Settings) → settings_of words ≡ Some settings → IsLegal settings.rows (chronicle lists)
+
+-- Each caller's own entries stand in the chronicle once, in the caller's order. Each is at a number that isn't below those of the caller's
+-- earlier entries, and a creation that adds or a collection at one above them: so it stands after all that these tell that its caller had
+-- seen.
+abbrev pub StandInTurn : List (List Entry) → Type 0
+StandInTurn lists = (caller : ℕ) → (part_of caller (chronicle lists) ≡ entries_of lists caller) × KeysRise (entries_of lists caller)
 
 -- each of the workers that the words ask for collected at most once more than it made or found a tree
 abbrev pub HasFewCollects : List (List ℕ) → List (List Entry) → Type 0
@@ -106,6 +115,7 @@ CountsWorkers s answer lists = (length lists ≡ s.workers) ⊎ (IsErrAnd answer
 -- What the history tells of a command that rewrites terms, and that ended with this answer or for this reason.
 pub record TellsTerms (s : Settings) (of : (Specified → Type 0) → Type 0) (answer : Result Answer Stop) (lists : List (List Entry)) : Type 0 where
   pub legal : IsLegal s.rows (chronicle lists)
+  pub rises : EachRises lists
   pub collects : CollectsFew s lists
   pub each : CountsWorkers s answer lists
   pub answered : IfOk answer (TellsAnswer s of lists)
@@ -119,6 +129,9 @@ TellsFor Schedule s of answer lists = lists ≡ []
 TellsFor Terms s of answer lists = lists ≡ []
 TellsFor Pack s of answer lists = lists ≡ []
 TellsFor Unpack s of answer lists = lists ≡ []
+TellsFor CheckLog s of answer lists = lists ≡ []
+TellsFor CheckTrace s of answer lists = lists ≡ []
+TellsFor Outermost s of answer lists = TellsTerms s of answer lists
 
 abbrev pub TellsHistory : Settings → (of : (Specified → Type 0) → Type 0) → Result Answer Stop → List (List Entry) → Type 0
 TellsHistory s of answer lists = TellsFor s.command s of answer lists

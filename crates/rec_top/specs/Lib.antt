@@ -1,4 +1,6 @@
 pub mod Answered
+pub mod Checked
+pub mod Conditioned
 pub mod Drilled
 pub mod Histories
 pub mod Input

@@ -1,6 +1,6 @@
 -- Rewriting the terms of a specification: what is written, how many rows and numbers it needs, and what is wrong with an
 -- input.
-use Rattle.std.specs.Prelude.{◌≡◌, ◌⊎◌, ℕ, ◌+◌, ◌*◌, ◌^◌, ◌≤◌, ◌<◌, List, length, Some, None, Ok, Err, All}
+use Rattle.std.specs.Prelude.{◌≡◌, ◌⊎◌, ℕ, ◌+◌, ◌*◌, ◌^◌, ◌≤◌, ◌<◌, List, length, false, Some, None, Ok, Err, All}
 use Rattle.rec_reader.specs.declared.token.Token.{Token}
 use Rattle.rec_reader.specs.Parsed.{Parsed}
 use Rattle.rec_reader.specs.declared.fail.ReadFail.TheVariants.{Refused}
@@ -11,11 +11,16 @@ use Rattle.rec_offences.specs.Faults.{fault_of}
 use Rattle.faults.specs.declared.refusal.Refusal.{Refusal}
 use Rattle.rec_check.specs.Spelled.{Specified}
 use Rattle.rec_check.specs.Run.{spelled_in}
-use Rattle.rewrite_model.specs.Built.{distinct_built, need_of_all, total_built}
+use Rattle.rec_check.specs.Conditional.{first_if}
+use Rattle.rewrite_model.specs.Built.{need_of_all}
+use Rattle.term_model.specs.Tree.{distinct}
 use Rattle.settings.specs.declared.parts.Settings.{Settings}
+use Rattle.rewrite_workers.specs.Works.{built_of, IsInnermost}
 use Rattle.rec_top.specs.Sequence.{WriteNames, lines_of, all_values}
 use Rattle.term_text.specs.Text.{HasNames}
 use Rattle.rec_top.specs.Written.{Output}
+use Rattle.rec_top.specs.declared.specification.Conditions.{Conditions}
+use Rattle.rec_top.specs.declared.specification.Conditions.TheVariants as conditions
 
 -- the tokens of the input are a sentence, of which this is the syntax
 pub record IsRead (input : List ℕ) (syntax : Parsed) : Type 0 where
@@ -41,6 +46,7 @@ abbrev pub output_of : Settings → Specified → Output
 output_of s spec = record {
   bytes = lines_of s spec.symbols spec.rules spec.terms;
   values = all_values s spec.rules spec.terms;
+  refuted = false;
   terms = length spec.terms;
 }
 
@@ -71,25 +77,47 @@ pub record IsOffenceFault (input : List ℕ) (fault : Refusal) : Type 0 where
 abbrev pub IsSpecificationFault : List ℕ → Refusal → Type 0
 IsSpecificationFault input fault = IsByteFault input fault ⊎ IsTokenFault input fault ⊎ IsOffenceFault input fault
 
+-- the rules that are run have no conditions
+abbrev pub HasNoConditions : List ℕ → Type 0
+HasNoConditions input = (syntax : Parsed) → IsRead input syntax → first_if syntax ≡ None
+
+abbrev pub MeetsConditions : Conditions → List ℕ → Type 0
+MeetsConditions conditions.Accepted input = Unit {0}
+MeetsConditions conditions.Refused input = HasNoConditions input
+
+-- The input spells a specification without an offence; but its rules may have no conditions, and this is the first one.
+pub record IsConditionFault (input : List ℕ) (fault : Refusal) : Type 0 where
+  pub syntax : Parsed
+  pub read : IsRead input syntax
+  pub faultless : fault_of syntax ≡ None
+  pub kind : fault.kind ≡ 19
+  pub first : first_if syntax ≡ Some fault.place
+
+-- the fault of an input, where conditions are accepted or not
+abbrev pub IsInputFault : Conditions → List ℕ → Refusal → Type 0
+IsInputFault conditions.Accepted input fault = IsSpecificationFault input fault
+IsInputFault conditions.Refused input fault = IsSpecificationFault input fault ⊎ IsConditionFault input fault
+
 -- Both the different trees that the terms build, and the most that the workers may have in hand at once, are more
--- than the rows. A worker has at most as many in hand as the term that needs most.
+-- than the rows. A worker has at most as many in hand as the term that needs most. Of outermost rewriting no need is
+-- known, and the trees that are built decide alone.
 pub record RowsAreFew (s : Settings) (input : List ℕ) : Type 0 where
   pub spec : Specified
   pub spelled : Spells input spec
-  pub built : s.rows < distinct_built spec.rules spec.terms s.fuel s.depth
-  pub need : s.rows < s.workers * need_of_all spec.rules spec.terms s.fuel s.depth
+  pub built : s.rows < distinct (built_of s spec.rules spec.terms)
+  pub need : IsInnermost s → s.rows < s.workers * need_of_all spec.rules spec.terms s.fuel s.depth
 
--- the different trees that the terms build, or the most that the workers may have in hand at once, aren't more than
--- the rows
+-- the different trees that the terms build, or the most that the workers may have in hand at once, where that is known,
+-- aren't more than the rows
 abbrev pub RowsSuffice : Settings → List ℕ → Type 0
 RowsSuffice s input = (spec : Specified) → Spells input spec →
-    (distinct_built spec.rules spec.terms s.fuel s.depth ≤ s.rows)
-    ⊎ (s.workers * need_of_all spec.rules spec.terms s.fuel s.depth ≤ s.rows)
+    (distinct (built_of s spec.rules spec.terms) ≤ s.rows)
+    ⊎ (IsInnermost s × (s.workers * need_of_all spec.rules spec.terms s.fuel s.depth ≤ s.rows))
 
 -- How far the numbers of the store's entries may go. There are at most as many collections as trees are built, and one more
 -- for each worker. Each uses up at most as many numbers as there are rows and workers, and one, and wants two such lots.
 abbrev pub most_numbers : Settings → Specified → ℕ
-most_numbers s spec = (total_built spec.rules spec.terms s.fuel s.depth + s.workers + 2) * (s.rows + s.workers + 1)
+most_numbers s spec = (length (built_of s spec.rules spec.terms) + s.workers + 2) * (s.rows + s.workers + 1)
 
 -- the numbers of the store may end
 pub record NumbersMayEnd (s : Settings) (input : List ℕ) : Type 0 where

@@ -5,11 +5,12 @@ use Rattle.std.specs.Io.KnownBytes.{Consumes, Appends, IsAtEnd}
 use Rattle.faults.specs.Count.{Rose}
 use Rattle.settings.specs.Words.{settings_of}
 use Rattle.settings.specs.declared.parts.Settings.{Settings}
+use Rattle.settings.specs.declared.parts.Command.{Command}
 use Rattle.settings.specs.declared.parts.Command.TheVariants.{Drill}
 use Rattle.rec_top.specs.Written.{Output, status_of}
 use Rattle.rec_top.specs.Sequence.{IsSplit}
 use Rattle.rec_top.specs.Input.{ReadsSource, GaveInput, HasInput}
-use Rattle.rec_top.specs.Output.{IsOutput, IsFault, LacksRows, HasRows, LacksNumbers, HasNumbers, limit_of, too_long}
+use Rattle.rec_top.specs.Output.{IsOutput, IsFault, IsUpheldBy, IsRefutedBy, LacksRows, HasRows, LacksNumbers, HasNumbers, limit_of, too_long}
 use Rattle.faults.specs.declared.refusal.Refusal.{Refusal}
 
 -- the count of faults didn't rise
@@ -87,6 +88,20 @@ pub record IsWritten {O : Type 0} (taken : O → Option (List ℕ)) (old new : O
   pub bytes : Appends (taken old) (taken new) output.bytes
   pub status_is : status ≡ status_of output
 
+-- the words are accepted, the source gave the input whole, and this holds of it by the command
+abbrev pub HasGiven : {S : Type 0} (words : List (List ℕ)) (left : S → Option (List ℕ)) (old new : S) → (Command → List ℕ → Type 0) → Type 0
+HasGiven words left old new P =
+    (settings : Settings) × (settings_of words ≡ Some settings)
+    × ((input : List ℕ) × GaveInput settings left old new input × P settings.command input)
+
+-- where the words ask for a check, the input is right
+abbrev pub IsUpheld : {S : Type 0} (words : List (List ℕ)) (left : S → Option (List ℕ)) (old new : S) → Type 0
+IsUpheld words left old new = HasGiven words left old new IsUpheldBy
+
+-- the words ask for a check, and the input isn't right
+abbrev pub IsRefuted : {S : Type 0} (words : List (List ℕ)) (left : S → Option (List ℕ)) (old new : S) → Type 0
+IsRefuted words left old new = HasGiven words left old new IsRefutedBy
+
 -- each term of the output has one of the workers that the words ask for
 abbrev pub HasWorkers : (words : List (List ℕ)) → List ℕ → Output → Type 0
 HasWorkers words workers output =
@@ -98,14 +113,14 @@ AsksDrill words = (settings : Settings) × (settings_of words ≡ Some settings)
 
 -- the output was made: it was written, or a write failed
 abbrev pub IsMade : ℕ → Type 0
-IsMade status = (status ≡ 0) ⊎ (status ≡ 1) ⊎ (status ≡ 6)
+IsMade status = (status ≡ 0) ⊎ (status ≡ 1) ⊎ (status ≡ 6) ⊎ (status ≡ 9)
 
 -- it was written whole
 abbrev pub IsWhole : ℕ → Type 0
-IsWhole status = (status ≡ 0) ⊎ (status ≡ 1)
+IsWhole status = (status ≡ 0) ⊎ (status ≡ 1) ⊎ (status ≡ 9)
 
 -- a status that a run ends with
 abbrev pub IsStatus : ℕ → Type 0
 IsStatus status =
     (status ≡ 0) ⊎ (status ≡ 1) ⊎ (status ≡ 2) ⊎ (status ≡ 3) ⊎ (status ≡ 4) ⊎ (status ≡ 5) ⊎ (status ≡ 6) ⊎ (status ≡ 7)
-    ⊎ (status ≡ 8)
+    ⊎ (status ≡ 8) ⊎ (status ≡ 9)

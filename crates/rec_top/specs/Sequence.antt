@@ -4,11 +4,10 @@ use Rattle.std.specs.List.{flat_map, list_all}
 use Rattle.term_model.specs.Tree.{Tree}
 use Rattle.symbol_pool.specs.Pool.{Named}
 use Rattle.rewrite_model.specs.Rule.{Rule}
-use Rattle.rewrite_model.specs.Run.{Ended}
 use Rattle.settings.specs.declared.parts.Settings.{Settings}
 use Rattle.term_lines.specs.Laws.{WritesNames}
 use Rattle.term_lines.specs.Line.{line_text, is_value, is_value_kind, spent_of}
-use Rattle.term_lines.specs.Written.{ended}
+use Rattle.rewrite_workers.specs.Lined.{end_of}
 use Rattle.rewrite_workers.specs.declared.lines.Line.{Line}
 use Rattle.shared_work.specs.Numbers.{LacksRows}
 use Rattle.shared_work.specs.Wearing.{WearsOut}
@@ -20,10 +19,6 @@ use Rattle.rec_top.specs.declared.stops.Stop.TheVariants.{Usage, Refused, StoreF
 -- the right sides of all rules have names
 abbrev pub WriteNames : List Named → List Rule → Type 0
 WriteNames symbols rules = All (WritesNames symbols) rules
-
--- how a term ends with the fuel and the room of the settings
-abbrev pub end_of : Settings → List Rule → Tree → Ended Tree
-end_of s rules term = ended rules term s.fuel s.depth
 
 -- the lines of terms in order
 abbrev pub lines_of : Settings → List Named → List Rule → List Tree → List ℕ

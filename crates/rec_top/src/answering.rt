@@ -11,11 +11,13 @@ ghost use Rattle.rec_top.specs.Answered.{IsAnswer, StopsReading, StopsMaking, St
 ghost use Rattle.faults.specs.declared.refusal.Refusal.{Refusal};
 
 use crate::answers::Finished;
+use crate::checking::{log_checked, trace_checked};
 use crate::drilling::drilled;
 use crate::listing::listed;
 use crate::packing::packed;
 use crate::rewriting::rewritten;
 use crate::scheduling::scheduled;
+use crate::specification::Conditions;
 use crate::stops::Stop;
 use crate::unpacking::unpacked;
 use ends::{Gate, ReadAllFault, Source, read_all};
@@ -31,8 +33,8 @@ fn limit_of(command: Command) -> u64
 {
     match command {
         Command::Rewrite | Command::Drill | Command::Schedule => 16_777_216,
-        Command::Terms | Command::Pack => 16_777_216,
-        Command::Unpack => 134_217_728,
+        Command::Terms | Command::Pack | Command::Outermost => 16_777_216,
+        Command::Unpack | Command::CheckLog | Command::CheckTrace => 134_217_728,
     }
 }
 
@@ -89,12 +91,15 @@ fn output_for<R: Threads + Wait + Sync, G: Gate>(
     ensures history { TellsHistory settings.now (SpellsSuch input.now) result.answer result.chronicle }
 {
     match settings.command {
-        Command::Rewrite => rewritten(rt, alloc, settings, input, gate),
+        Command::Rewrite => rewritten(rt, alloc, settings, Conditions::Accepted, input, gate),
+        Command::Outermost => rewritten(rt, alloc, settings, Conditions::Refused, input, gate),
         Command::Drill => unreachable!(),
         Command::Schedule => Finished::alone(scheduled(alloc, settings, input)),
         Command::Terms => Finished::alone(listed(alloc, settings, input)),
         Command::Pack => Finished::alone(packed(alloc, settings, input)),
         Command::Unpack => Finished::alone(unpacked(alloc, settings, input)),
+        Command::CheckLog => Finished::alone(log_checked(alloc, settings, input)),
+        Command::CheckTrace => Finished::alone(trace_checked(alloc, settings, input)),
     }
 }
 

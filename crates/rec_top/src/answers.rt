@@ -11,6 +11,8 @@ pub struct Answer {
     pub output: Vec<u8>,
     /// Whether each term's line is its value.
     pub values: bool,
+    /// Whether the input was checked, and isn't right.
+    pub refuted: bool,
     pub workers: Workers,
 }
 

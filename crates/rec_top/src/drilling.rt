@@ -16,6 +16,7 @@ ghost use Rattle.rec_check.specs.Spelled.{Specified};
 use crate::answers::{Answer, Finished};
 use crate::joining::{are_values, count_values, counts, total_spent, workers_of};
 use crate::rewriting::{Worked, lines_for};
+use crate::specification::Conditions;
 use crate::stops::Stop;
 use ends::Gate;
 use faults::Memory;
@@ -43,6 +44,7 @@ fn told(alloc: Global, settings: &Settings, lines: &[Line]) -> Result<Answer, St
     Ok(Answer {
         output,
         values: are_values(lines),
+        refuted: false,
         workers,
     })
 }
@@ -86,7 +88,14 @@ pub fn drilled<R: Threads + Wait + Sync, G: Gate>(
         Ok(text) => text,
         Err(Memory) => return Finished::alone(Err(Stop::Memory)),
     };
-    let Worked { lines, chronicle } = lines_for(rt, alloc, settings, &text, gate);
+    let Worked { lines, chronicle } = lines_for(
+        rt,
+        alloc,
+        settings,
+        Conditions::Accepted,
+        &text,
+        gate,
+    );
     match lines {
         Ok(lines) => Finished {
             answer: told(alloc, settings, &lines.list),

@@ -3,6 +3,7 @@
 
 mod answering;
 mod answers;
+mod checking;
 mod drilling;
 mod joining;
 mod listing;
@@ -19,18 +20,3 @@ pub use node_rows::Chronicle;
 pub use results::{Outcome, Workers};
 pub use stops::out_of_memory;
 pub use top::run;
-
-#[cfg(test)]
-mod gate_tests;
-#[cfg(test)]
-mod large_term_tests;
-#[cfg(test)]
-mod large_tests;
-#[cfg(test)]
-mod row_tests;
-#[cfg(test)]
-mod term_tests;
-#[cfg(test)]
-mod trial;
-#[cfg(test)]
-mod worker_tests;

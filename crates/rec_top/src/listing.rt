@@ -26,6 +26,7 @@ pub fn listed(alloc: Global, settings: &Settings, input: &[u8]) -> Result<Answer
     Ok(Answer {
         output,
         values: true,
+        refuted: false,
         workers: Workers::none(alloc),
     })
 }

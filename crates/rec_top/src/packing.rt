@@ -28,6 +28,7 @@ pub fn packed(alloc: Global, settings: &Settings, input: &[u8]) -> Result<Answer
     Ok(Answer {
         output,
         values: true,
+        refuted: false,
         workers: Workers::none(alloc),
     })
 }

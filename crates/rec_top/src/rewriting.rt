@@ -1,12 +1,12 @@
 // The command `rewrite`: from a specification to the lines of its terms.
-ghost use Rattle.std.specs.Prelude.{◌≡◌, ◌≤◌, [], Err, IfOk, IfErr, length, map};
+ghost use Rattle.std.specs.Prelude.{◌≡◌, ◌≤◌, [], Err, IfOk, IfErr, OnOk, length, map};
 ghost use Rattle.settings.specs.Words.{AreInRange};
 ghost use Rattle.settings.specs.declared.parts.Settings.{Settings};
 ghost use Rattle.history_core.specs.Chronicle.{chronicle, IsLegal};
 ghost use Rattle.rewrite_workers.specs.Lined.{worker_of};
-ghost use Rattle.shared_work.specs.Sharing.{CollectsFew};
+ghost use Rattle.shared_work.specs.Sharing.{CollectsFew, EachRises};
 ghost use Rattle.rec_top.specs.Written.{Output};
-ghost use Rattle.rec_top.specs.Rewritten.{IsRewritten, IsSpecificationFault, RowsSuffice, NumbersSuffice, IsNamed, Spells, output_of};
+ghost use Rattle.rec_top.specs.Rewritten.{IsRewritten, IsInputFault, MeetsConditions, RowsSuffice, NumbersSuffice, IsNamed, Spells, output_of};
 ghost use Rattle.rec_top.specs.Sequence.{AreLinesOf, StopsTerms};
 ghost use Rattle.rec_top.specs.Histories.{CountsWorkers, NamesAll, SpellsSuch, TellsStop, TellsTerms};
 ghost use Rattle.rec_check.specs.Spec.{specified};
@@ -19,7 +19,7 @@ ghost use Rattle.faults.specs.declared.refusal.Refusal.{Refusal};
 
 use crate::answers::{Answer, Finished};
 use crate::joining::{are_values, joined, workers_of};
-use crate::specification::specification_of;
+use crate::specification::{Conditions, specification_of};
 use crate::stops::Stop;
 use ends::Gate;
 use faults::Memory;
@@ -70,6 +70,7 @@ fn rewrite<R: Threads + Wait + Sync, G: Gate>(
     ensures made { IfOk result.lines (λ lines. AreLinesOf settings.now (specified spec) lines.list.items) }
     ensures stopped { IfErr result.lines (StopsTerms settings.now spec.rules.items spec.terms.items) }
     ensures legal { IsLegal settings.now.rows (chronicle result.chronicle) }
+    ensures rises { EachRises result.chronicle }
     ensures collects { CollectsFew settings.now result.chronicle }
     ensures each { CountsWorkers settings.now result.lines result.chronicle }
     ensures built { IfOk result.lines (λ lines.
@@ -99,30 +100,33 @@ fn rewrite<R: Threads + Wait + Sync, G: Gate>(
     }
 }
 
-/// Reads a specification, and makes the lines of its terms.
+/// Reads a specification, whose rules may have conditions or not, and makes the lines of its terms.
 pub fn lines_for<R: Threads + Wait + Sync, G: Gate>(
     rt: &R,
     alloc: Global,
     settings: &Settings,
+    conditions: Conditions,
     input: &[u8],
     gate: &G,
 ) -> Worked
     requires in_range { AreInRange settings.now }
     ensures made { IfOk result.lines (λ lines. (spec : Specified)
         × Spells input.now spec × AreLinesOf settings.now spec lines.list.items) }
-    ensures stopped { IfErr result.lines (StopsRewriting settings.now input.now) }
-    ensures accepted { (spec : Specified) → Spells input.now spec → RowsSuffice settings.now input.now
-        → NumbersSuffice settings.now input.now
+    ensures meets { OnOk result.lines (MeetsConditions conditions input.now) }
+    ensures stopped { IfErr result.lines (StopsRewriting conditions settings.now input.now) }
+    ensures accepted { (spec : Specified) → Spells input.now spec → MeetsConditions conditions input.now
+        → RowsSuffice settings.now input.now → NumbersSuffice settings.now input.now
         → Answers result.lines (λ lines. AreLinesOf settings.now spec lines.list.items) }
-    ensures refused { (fault : Refusal) → IsSpecificationFault input.now fault → StopsWith result.lines fault }
+    ensures refused { (fault : Refusal) → IsInputFault conditions input.now fault → StopsWith result.lines fault }
     ensures legal { IsLegal settings.now.rows (chronicle result.chronicle) }
+    ensures rises { EachRises result.chronicle }
     ensures collects { CollectsFew settings.now result.chronicle }
     ensures each { CountsWorkers settings.now result.lines result.chronicle }
     ensures built { IfOk result.lines (λ lines. SpellsSuch input.now
         (NamesAll (map worker_of lines.list.items) result.chronicle settings.now)) }
     ensures ended { IfErr result.lines (TellsStop settings.now (SpellsSuch input.now) result.chronicle) }
 {
-    match specification_of(alloc, input) {
+    match specification_of(alloc, conditions, input) {
         Ok(spec) => rewrite(rt, alloc, settings, spec, gate),
         Err(stop) => Worked::stopped(stop),
     }
@@ -140,29 +144,32 @@ fn told(alloc: Global, lines: &[Line]) -> Result<Answer, Stop>
     Ok(Answer {
         output,
         values: are_values(lines),
+        refuted: false,
         workers,
     })
 }
 
-/// Reads a specification, and answers the lines of its terms.
+/// Reads a specification, whose rules may have conditions or not, and answers the lines of its terms.
 pub fn rewritten<R: Threads + Wait + Sync, G: Gate>(
     rt: &R,
     alloc: Global,
     settings: &Settings,
+    conditions: Conditions,
     input: &[u8],
     gate: &G,
 ) -> Finished
     requires in_range { AreInRange settings.now }
     ensures made { IfOk result.answer (λ answer. (output : Output)
         × IsRewritten settings.now input.now output × IsAnswer settings.now.workers answer output) }
-    ensures stopped { IfErr result.answer (StopsRewriting settings.now input.now) }
+    ensures meets { OnOk result.answer (MeetsConditions conditions input.now) }
+    ensures stopped { IfErr result.answer (StopsRewriting conditions settings.now input.now) }
     ensures accepted { (output : Output) → IsRewritten settings.now input.now output
-        → RowsSuffice settings.now input.now → NumbersSuffice settings.now input.now
+        → MeetsConditions conditions input.now → RowsSuffice settings.now input.now → NumbersSuffice settings.now input.now
         → Answers result.answer (λ answer. IsAnswer settings.now.workers answer output) }
-    ensures refused { (fault : Refusal) → IsSpecificationFault input.now fault → StopsWith result.answer fault }
+    ensures refused { (fault : Refusal) → IsInputFault conditions input.now fault → StopsWith result.answer fault }
     ensures history { TellsTerms settings.now (SpellsSuch input.now) result.answer result.chronicle }
 {
-    let Worked { lines, chronicle } = lines_for(rt, alloc, settings, input, gate);
+    let Worked { lines, chronicle } = lines_for(rt, alloc, settings, conditions, input, gate);
     match lines {
         Ok(lines) => Finished {
             answer: told(alloc, &lines.list),

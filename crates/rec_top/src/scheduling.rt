@@ -30,6 +30,7 @@ pub fn scheduled(alloc: Global, settings: &Settings, input: &[u8]) -> Result<Ans
         Ok(()) => Ok(Answer {
             output,
             values: true,
+            refuted: false,
             workers: Workers::none(alloc),
         }),
         Err(_) => Err(Stop::Memory),

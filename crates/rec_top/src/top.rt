@@ -5,8 +5,8 @@ ghost use Rattle.ends.specs.Bytes.{TookFront};
 ghost use Rattle.settings.specs.Words.{settings_of, texts};
 ghost use Rattle.rec_top.specs.Written.{Output, status_for};
 ghost use Rattle.rec_top.specs.Lines.{fault_line, status_line, TookLine};
-ghost use Rattle.rec_top.specs.Run.{HasOutput, HasFault, HasTooMuch, HasTooMany, HasNoFault, Accepts, Refuses, IsWritten, HasWorkers, AsksDrill, IsMade, IsWhole, IsStatus};
-ghost use Rattle.rec_top.specs.Histories.{AsksRewriting, HasLegalHistory, HasFewCollects, HasEach, HasSuch, NamesAll, NamesAllFronts, Fills};
+ghost use Rattle.rec_top.specs.Run.{HasOutput, HasFault, HasTooMuch, HasTooMany, HasNoFault, Accepts, Refuses, IsWritten, HasWorkers, AsksDrill, IsMade, IsWhole, IsStatus, IsUpheld, IsRefuted};
+ghost use Rattle.rec_top.specs.Histories.{AsksRewriting, HasLegalHistory, StandInTurn, HasFewCollects, HasEach, HasSuch, NamesAll, NamesAllFronts, Fills};
 ghost use Rattle.faults.specs.declared.refusal.Refusal.{Refusal};
 
 use crate::answering::answer_of;
@@ -20,16 +20,24 @@ use std::sync::Wait;
 use std::thread::Threads;
 
 // The status where the whole output was written.
-fn status_for(values: bool) -> u8
-    ensures { result ≡ status_for values }
+fn status_for(values: bool, refuted: bool) -> u8
+    ensures status { result ≡ status_for values refuted }
+    ensures whole { IsWhole result }
 {
-    if values { 0 } else { 1 }
+    if refuted {
+        9
+    } else if values {
+        0
+    } else {
+        1
+    }
 }
 
 /// Runs the program: reads the words and, but for a drill, all that the source has left, writes the
 /// output to `out`, and to `err` the line that says why there is none. As many workers as the words ask
 /// for rewrite the terms on one store, the caller's thread among them. The output is the same for any
-/// number, and all creations and collections stand in one legal history of one thread.
+/// number, and all creations and collections stand in one legal history of one thread, each worker's own
+/// once and after all that it had seen.
 ///
 /// | status | comes | `err` gets |
 /// |---|---|---|
@@ -42,6 +50,7 @@ fn status_for(values: bool) -> u8
 /// | 6 | a write to `out` failed; it took a front of the output | `write fault` |
 /// | 7 | there is no memory | `out of memory` |
 /// | 8 | the numbers of the store's entries may end | `worn` |
+/// | 9 | `out` took the whole output, and the input was checked and isn't right | nothing |
 ///
 /// The gate is told before and after the work on each term, by its number from 0.
 pub fn run<R: Threads + Wait + Sync, S: Source, O: Sink, E: Sink, G: Gate>(
@@ -62,6 +71,8 @@ pub fn run<R: Threads + Wait + Sync, S: Source, O: Sink, E: Sink, G: Gate>(
     ensures whole_only_where_out_took_the_output { IsWhole result.status → (output : Output)
         × HasOutput (texts words.now) S.left source.old source.new output
         × IsWritten O.taken out.old out.new output result.status × HasWorkers (texts words.now) result.workers output }
+    ensures upheld_where_right { result.status ≡ 0 → IsUpheld (texts words.now) S.left source.old source.new }
+    ensures refuted_only_where_wrong { result.status ≡ 9 → IsRefuted (texts words.now) S.left source.old source.new }
     ensures refused_only_where_faulty { result.status ≡ 3 → (fault : Refusal)
         × HasFault (texts words.now) S.left source.old source.new fault
         × TookLine E.taken E.faults err.old err.new (fault_line fault) }
@@ -109,6 +120,12 @@ pub fn run<R: Threads + Wait + Sync, S: Source, O: Sink, E: Sink, G: Gate>(
 
     // Whatever the status is, the creations and collections of all workers are a legal history of one thread.
     ensures legal { HasLegalHistory (texts words.now) result.chronicle }
+
+    // Each worker's own stand there once, in its order, and each after all that its earlier ones tell that it had
+    // seen: a creation that adds and a collection at a number above theirs, the others at one not below.
+    ensures rises { StandInTurn result.chronicle }
+
+    // Each collected at most once more than it made or found a tree. Where nothing is rewritten there is no history.
     ensures collects { HasFewCollects (texts words.now) result.chronicle }
     ensures no_history { (AsksRewriting (texts words.now) → ⊥) → result.chronicle ≡ [] }
     ensures no_history_of_the_refused { (result.status ≡ 2) ⊎ (result.status ≡ 3) ⊎ (result.status ≡ 5)
@@ -142,7 +159,7 @@ pub fn run<R: Threads + Wait + Sync, S: Source, O: Sink, E: Sink, G: Gate>(
     };
     match write_all(out, &answer.output) {
         Ok(()) => Outcome {
-            status: status_for(answer.values),
+            status: status_for(answer.values, answer.refuted),
             chronicle,
             workers: answer.workers,
         },

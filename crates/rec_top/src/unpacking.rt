@@ -27,6 +27,7 @@ pub fn unpacked(alloc: Global, settings: &Settings, input: &[u8]) -> Result<Answ
     Ok(Answer {
         output: text,
         values: whole,
+        refuted: false,
         workers: Workers::none(alloc),
     })
 }

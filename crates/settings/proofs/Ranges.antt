@@ -1,14 +1,14 @@
 -- The numbers of accepted words are in their options' ranges.
 use Rattle.std.proofs.Common.{◌≡◌, ℕ, Bool, true, false, cond, ◌&&◌, ◌||◌, List, [], ◌∷◌, Option, Some, None, refl, sym, subst, true≢false}
-use Rattle.std.specs.Prelude.{find, option_map, if◌then◌else◌}
+use Rattle.std.specs.Prelude.{find, codes, bytes_eq, option_map, option_and_then, if◌then◌else◌}
 use Rattle.std.specs.Option.{option_map_or}
 use Rattle.std.proofs.lemmas.Option.{option_and_then_some, same_Some}
 use Rattle.settings.specs.declared.parts.Command.{Command}
-use Rattle.settings.specs.declared.parts.Command.TheVariants.{Rewrite, Drill, Schedule, Terms, Pack, Unpack}
+use Rattle.settings.specs.declared.parts.Command.TheVariants.{Rewrite, Drill, Schedule, Terms, Pack, Unpack, Outermost, CheckLog, CheckTrace}
 use Rattle.settings.specs.declared.parts.Settings.{Settings}
 use Rattle.settings.specs.declared.options.OptionName.{OptionName}
 use Rattle.settings.specs.declared.options.OptionName.TheVariants.{Workers, Fuel, Rows, Depth, Count, Seats}
-use Rattle.settings.specs.Words.{Text, Uses, command_named, options_of, takes_value, number_of, is_in_range, is_same, is_given, are_values, is_whole, are_accepted, stand_once, text_given, number_or, uses_of, settings_with, settings_using, settings_after, settings_of, AreInRange}
+use Rattle.settings.specs.Words.{Text, Uses, command_named, options_of, takes_value, number_of, is_in_range, is_same, is_given, are_values, is_whole, are_accepted, stand_once, text_given, number_or, uses_of, settings_with, settings_using, settings_after, check_named, settings_of_check, settings_of, AreInRange}
 use Rattle.settings.proofs.Basics.{both}
 use Rattle.settings.proofs.Values.{given_number}
 
@@ -44,6 +44,9 @@ count_range Schedule uses v w e = cc
 count_range Terms uses v w e = cc
 count_range Pack uses v w e = cc
 count_range Unpack uses v w e = cc
+count_range Outermost uses v w e = cc
+count_range CheckLog uses v w e = cc
+count_range CheckTrace uses v w e = cc
 
 accepted_range : (c : Command) (uses : Uses) (b : Bool) (s : Settings) → are_accepted (options_of c) uses ≡ b → (if b then Some (settings_with c uses) else None) ≡ Some s → AreInRange s
 accepted_range c uses false s a e = cc
@@ -61,11 +64,21 @@ accepted_range c uses true s a e =
       seats = number_range 2 Seats uses refl v refl;
     })
 
+after_range : (c : Command) (rest : List Text) (s : Settings) → settings_after c rest ≡ Some s → AreInRange s
+after_range c rest s e =
+    option_and_then_some (settings_using c) (uses_of (options_of c) None rest) s e (λ uses _ g.
+    accepted_range c uses (are_accepted (options_of c) uses) s refl g)
+
+check_range : (rest : List Text) (s : Settings) → settings_of_check rest ≡ Some s → AreInRange s
+check_range [] s e = cc
+check_range (what ∷ rest) s e = option_and_then_some (λ c. settings_after c rest) (check_named what) s e (λ c _ f. after_range c rest s f)
+
 -- the settings that words give are in their ranges
 pub settings_range : (words : List Text) (s : Settings) → settings_of words ≡ Some s → AreInRange s
 settings_range [] s e = cc
 settings_range (program ∷ []) s e = cc
-settings_range (program ∷ command ∷ rest) s e =
-    option_and_then_some (λ c. settings_after c rest) (command_named command) s e (λ c _ f.
-    option_and_then_some (settings_using c) (uses_of (options_of c) None rest) s f (λ uses _ g.
-    accepted_range c uses (are_accepted (options_of c) uses) s refl g))
+settings_range (program ∷ command ∷ rest) s e = go (bytes_eq command (codes "check")) e
+  where
+    go : (b : Bool) → (if b then settings_of_check rest else option_and_then (λ c. settings_after c rest) (command_named command)) ≡ Some s → AreInRange s
+    go true f = check_range rest s f
+    go false f = option_and_then_some (λ c. settings_after c rest) (command_named command) s f (λ c _ g. after_range c rest s g)

@@ -1,8 +1,9 @@
 -- The command line: which words are accepted, and the settings that they give.
 --
 -- The words are the program's name, a command, and options of that command in any order, with a drill's number among
--- them. An option is `--name value` or `--name=value`, and stands at most once; `--sizes` has no value. A number is an
--- optional `+` and one or more digits, within the option's range. Nothing else is accepted.
+-- them. `check` is a command with the word after it, and has no options. An option is `--name value` or `--name=value`,
+-- and stands at most once; `--sizes` has no value. A number is an optional `+` and one or more digits, within the
+-- option's range. Nothing else is accepted.
 use Rattle.std.specs.Prelude.{◌≡◌, ℕ, ◌==◌, ◌&&◌, ◌||◌, Bool, true, false, not, List, [], ◌∷◌, length, map, codes, find, Option, Some, None, option_and_then, option_map, if◌then◌else◌, nat_lt, nat_le, String}
 use Rattle.std.specs.Global.{Global}
 use Rattle.std.specs.String.{string_bytes}
@@ -11,7 +12,7 @@ use Rattle.std.specs.Option.{option_map_or}
 use Rattle.std.specs.Str.{bytes_eq, all_ascii_digits}
 use Rattle.std.specs.Str.Parse.{without_leading_plus, digits_value}
 use Rattle.settings.specs.declared.parts.Command.{Command}
-use Rattle.settings.specs.declared.parts.Command.TheVariants.{Rewrite, Drill, Schedule, Terms, Pack, Unpack}
+use Rattle.settings.specs.declared.parts.Command.TheVariants.{Rewrite, Drill, Schedule, Terms, Pack, Unpack, Outermost, CheckLog, CheckTrace}
 use Rattle.settings.specs.declared.parts.Settings.{Settings}
 use Rattle.settings.specs.declared.options.OptionName.{OptionName}
 use Rattle.settings.specs.declared.options.OptionName.TheVariants.{Workers, Fuel, Rows, Depth, Sizes, Count, Seats}
@@ -25,6 +26,7 @@ texts words = map string_bytes words
 
 -- ---- commands and their options
 
+-- the word that names a command; for a check, the word after `check`
 abbrev pub command_text : Command → Text
 command_text Rewrite = codes "rewrite"
 command_text Drill = codes "drill"
@@ -32,13 +34,23 @@ command_text Schedule = codes "schedule"
 command_text Terms = codes "terms"
 command_text Pack = codes "pack"
 command_text Unpack = codes "unpack"
+command_text Outermost = codes "outermost"
+command_text CheckLog = codes "log"
+command_text CheckTrace = codes "trace"
 
 abbrev pub commands : List Command
-commands = Rewrite ∷ Drill ∷ Schedule ∷ Terms ∷ Pack ∷ Unpack ∷ []
+commands = Rewrite ∷ Drill ∷ Schedule ∷ Terms ∷ Pack ∷ Unpack ∷ Outermost ∷ []
+
+abbrev pub checks : List Command
+checks = CheckLog ∷ CheckTrace ∷ []
 
 -- the command that a word names
 unfoldable pub command_named : Text → Option Command
 command_named word = find (λ c. bytes_eq (command_text c) word) commands
+
+-- the check that a word after `check` names
+unfoldable pub check_named : Text → Option Command
+check_named word = find (λ c. bytes_eq (command_text c) word) checks
 
 -- the options of a command, with its further word
 abbrev pub options_of : Command → List OptionName
@@ -48,6 +60,9 @@ options_of Schedule = Seats ∷ []
 options_of Terms = Rows ∷ []
 options_of Pack = Rows ∷ []
 options_of Unpack = []
+options_of Outermost = Workers ∷ Fuel ∷ Rows ∷ Depth ∷ Sizes ∷ []
+options_of CheckLog = []
+options_of CheckTrace = []
 
 -- the number of a drill is a word of its own: no name stands before it
 abbrev pub stands_alone : OptionName → Bool
@@ -206,11 +221,18 @@ settings_using c uses = if are_accepted (options_of c) uses then Some (settings_
 abbrev pub settings_after : Command → List Text → Option Settings
 settings_after c words = option_and_then (settings_using c) (uses_of (options_of c) None words)
 
+-- the settings that the words after `check` give
+abbrev pub settings_of_check : List Text → Option Settings
+settings_of_check [] = None
+settings_of_check (what ∷ rest) = option_and_then (λ c. settings_after c rest) (check_named what)
+
 -- the settings that words give, or none where they are not accepted
 abbrev pub settings_of : List Text → Option Settings
 settings_of [] = None
 settings_of (program ∷ []) = None
-settings_of (program ∷ command ∷ rest) = option_and_then (λ c. settings_after c rest) (command_named command)
+settings_of (program ∷ command ∷ rest) =
+    if bytes_eq command (codes "check") then settings_of_check rest
+    else option_and_then (λ c. settings_after c rest) (command_named command)
 
 -- the numbers of settings are in the ranges of their options, the count of a drill in that of its word
 pub record AreInRange (s : Settings) : Type 0 where

@@ -5,8 +5,6 @@ mod line;
 mod options;
 mod parts;
 mod reading;
-#[cfg(test)]
-mod tests;
 
 pub use parts::{Command, Settings, WordsFault};
 pub use reading::settings;

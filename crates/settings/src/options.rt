@@ -1,6 +1,6 @@
 // Commands and options by their names, and the numbers that options take.
 ghost use Rattle.std.specs.Prelude.{◌≡◌};
-ghost use Rattle.settings.specs.Words.{command_text, commands, command_named, options_of, stands_alone, takes_value, name_of, least_of, most_of};
+ghost use Rattle.settings.specs.Words.{command_text, commands, command_named, check_named, options_of, stands_alone, takes_value, name_of, least_of, most_of};
 
 use crate::parts::Command;
 
@@ -17,6 +17,7 @@ pub enum OptionName {
     Seats,
 }
 
+// The word that names a command; for a check, the word after `check`.
 fn command_word(command: Command) -> &'static str
     ensures { result.now ≡ command_text command }
 {
@@ -27,6 +28,9 @@ fn command_word(command: Command) -> &'static str
         Command::Terms => "terms",
         Command::Pack => "pack",
         Command::Unpack => "unpack",
+        Command::Outermost => "outermost",
+        Command::CheckLog => "log",
+        Command::CheckTrace => "trace",
     }
 }
 
@@ -42,10 +46,22 @@ pub fn read_command(word: &str) -> Option<Command>
         Command::Terms,
         Command::Pack,
         Command::Unpack,
+        Command::Outermost,
     ]
     .iter()
     .copied()
     .find(|command| command_word(*command) == word)
+}
+
+/// The check that a word after `check` names.
+#[tactic(auto, unfolding(crate::specs::Words::check_named))]
+pub fn read_check(word: &str) -> Option<Command>
+    ensures { result ≡ check_named word.now }
+{
+    [Command::CheckLog, Command::CheckTrace]
+        .iter()
+        .copied()
+        .find(|command| command_word(*command) == word)
 }
 
 /// The options of a command, with its further word.
@@ -69,7 +85,14 @@ pub fn options(command: Command) -> &'static [OptionName]
         ],
         Command::Schedule => &[OptionName::Seats],
         Command::Terms | Command::Pack => &[OptionName::Rows],
-        Command::Unpack => &[],
+        Command::Unpack | Command::CheckLog | Command::CheckTrace => &[],
+        Command::Outermost => &[
+            OptionName::Workers,
+            OptionName::Fuel,
+            OptionName::Rows,
+            OptionName::Depth,
+            OptionName::Sizes,
+        ],
     }
 }
 

@@ -17,6 +17,12 @@ pub enum Command {
     Pack,
     /// Writes the terms of such a file in their canonical text.
     Unpack,
+    /// Rewrites the terms of a specification at the leftmost outermost place.
+    Outermost,
+    /// Checks the log of a run.
+    CheckLog,
+    /// Checks the traces of a run.
+    CheckTrace,
 }
 
 /// How the program is to do it. A field that the command does not use has its default.

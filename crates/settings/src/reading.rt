@@ -3,11 +3,11 @@ ghost use Rattle.std.specs.Prelude.{◌≡◌, ◌<◌, ◌^◌, ◌↔◌, Some
 ghost use Rattle.std.specs.List.{list_any};
 ghost use Rattle.std.specs.String.{string_bytes};
 ghost use Rattle.clap.specs.Words.{found_of};
-ghost use Rattle.settings.specs.Words.{Uses, texts, takes_value, most_of, number_or, is_given, options_of, settings_with, settings_after, settings_of, AreInRange};
+ghost use Rattle.settings.specs.Words.{Uses, texts, takes_value, most_of, number_or, is_given, options_of, settings_with, settings_after, settings_of_check, settings_of, AreInRange};
 ghost use Rattle.settings.specs.Line.{Shows, ShowsWords, is_end_of_options};
 
 use crate::line::argument;
-use crate::options::{OptionName, name, options, read_command};
+use crate::options::{OptionName, name, options, read_check, read_command};
 use crate::parts::{Command, Settings, WordsFault};
 use clap::ArgMatches;
 use clap::error::ErrorKind;
@@ -109,19 +109,31 @@ fn read_options(alloc: Global, command: Command, words: &[String]) -> Result<Set
     Ok(settings_in(command, &matches, words))
 }
 
+// The check that the words after `check` name, and the words after it.
+fn split_check<'a>(words: &'a [String]) -> Option<(Command, &'a [String])>
+    ensures { MatchOption result (None ≡ settings_of_check (texts words.now))
+        (λ split. settings_after split.0 (texts split.1.now) ≡ settings_of_check (texts words.now)) }
+{
+    match words {
+        [what, options @ ..] => Some((read_check(what.as_str())?, options)),
+        _ => None,
+    }
+}
+
 // The command that words name, and the words after it.
 fn split_command<'a>(words: &'a [String]) -> Option<(Command, &'a [String])>
     ensures { MatchOption result (None ≡ settings_of (texts words.now))
         (λ split. settings_after split.0 (texts split.1.now) ≡ settings_of (texts words.now)) }
 {
     match words {
+        [_, command, rest @ ..] if command.as_str() == "check" => split_check(rest),
         [_, command, options @ ..] => Some((read_command(command.as_str())?, options)),
         _ => None,
     }
 }
 
 /// Reads the words that the program is started with: its name, a command, and options of that command in any order,
-/// with the number of a drill among them.
+/// with the number of a drill among them. `check` is a command with the word after it, and has no options.
 ///
 /// An option is `--name value` or `--name=value`, and stands at most once; `--sizes` has no value. A number is an
 /// optional `+` and one or more digits, within the option's range. All other words are `Usage`, among them `--`,

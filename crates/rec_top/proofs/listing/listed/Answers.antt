@@ -1,4 +1,4 @@
-use Rattle.std.proofs.Common.{true, refl}
+use Rattle.std.proofs.Common.{true, false, refl}
 use Rattle.std.proofs.lemmas.Result.{err_from_is_err_and}
 use Rattle.term_commands.proofs.OneText.{no_fault}
 use Rattle.rec_top.specs.Written.{Output}
@@ -19,17 +19,17 @@ returns-in_err-output-clause-refused c = λ fault f.
 
 pub returns-clause-made : goal.returns-clause-made
 returns-clause-made c =
-    let output : Output = record { bytes = c.in_ok-output.output.items; values = true; terms = 0 } in (
+    let output : Output = record { bytes = c.in_ok-output.output.items; values = true; refuted = false; terms = 0 } in (
       output,
-      record { listed = c.in_ok-output.ensures.told; values = refl; terms = refl },
-      record { bytes = refl; values = refl; workers = no_workers c.args.settings.now.workers c.none.result c.none.ensures },
+      record { listed = c.in_ok-output.ensures.told; values = refl; refuted = refl; terms = refl },
+      record { bytes = refl; values = refl; refuted = refl; workers = no_workers c.args.settings.now.workers c.none.result c.none.ensures },
     )
 
 pub returns-clause-accepted : goal.returns-clause-accepted
 returns-clause-accepted c = λ output o.
-    let answer : Answer = record { output = c.in_ok-output.output; values = true; workers = c.none.result } in
+    let answer : Answer = record { output = c.in_ok-output.output; values = true; refuted = false; workers = c.none.result } in
     told_answer c.args.settings.now.rows c.args.input.now c.in_ok-output.output.items c.args.settings.now.workers answer output
-    c.in_ok-output.ensures.told refl refl (no_workers c.args.settings.now.workers c.none.result c.none.ensures) o
+    c.in_ok-output.ensures.told refl refl refl (no_workers c.args.settings.now.workers c.none.result c.none.ensures) o
 
 pub returns-clause-refused : goal.returns-clause-refused
 returns-clause-refused c = λ fault f.

@@ -10,9 +10,9 @@ use Rattle.rec_top.proofs.Outcomes.{answers_ok, answers_err, stops_ok, stops_err
 use Rattle.rec_top.proofs.rewriting.rewritten.Goals as goal
 
 pub returns-in-Ok-clause-accepted : goal.returns-in-Ok-clause-accepted
-returns-in-Ok-clause-accepted g c = λ output o rows numbers.
+returns-in-Ok-clause-accepted g c = λ output o m rows numbers.
     let s = c.args.settings.now in
-    let lines = answers_ok (λ (l : Lines). AreLinesOf s o.spec l.list.items) c.lines_for-lines.result.lines c.in-Ok.lines c.in-Ok.is (c.lines_for-lines.ensures.accepted o.spec o.spelled rows numbers) in
+    let lines = answers_ok (λ (l : Lines). AreLinesOf s o.spec l.list.items) c.lines_for-lines.result.lines c.in-Ok.lines c.in-Ok.is (c.lines_for-lines.ensures.accepted o.spec o.spelled m rows numbers) in
     let told = subst (AreLinesOf s o.spec) (sym c.deref.ensures.value) lines in
     subst (λ out. Answers c.told.result (λ (a : Answer). IsAnswer s.workers a out)) (sym o.output_is)
     (but_memory (λ (a : Answer). IsAnswer s.workers a (output_of s o.spec)) c.told.result (c.told.ensures.made s o.spec told) c.told.ensures.stopped)
@@ -25,11 +25,11 @@ returns-in-Ok-clause-history g c =
     let workers = subst (λ xs. IfOk c.told.result (λ (a : Answer). a.workers ≡ map worker_of xs)) c.deref.ensures.value c.told.ensures.workers in
     let lines = c.lines_for-lines.ensures in
     tells_lines c.args.settings.now c.args.input.now c.lines_for-lines.result.lines c.in-Ok.lines c.told.result c.lines_for-lines.result.chronicle c.in-Ok.is
-    lines.legal lines.collects lines.each lines.made lines.built workers c.told.ensures.stopped
+    lines.legal lines.rises lines.collects lines.each lines.made lines.built workers c.told.ensures.stopped
 
 pub returns-in-Err-clause-accepted : goal.returns-in-Err-clause-accepted
-returns-in-Err-clause-accepted g c = λ output o rows numbers.
-    answers_err (λ (l : Lines). AreLinesOf c.args.settings.now o.spec l.list.items) c.lines_for-lines.result.lines c.in-Err.stop c.in-Err.is (c.lines_for-lines.ensures.accepted o.spec o.spelled rows numbers)
+returns-in-Err-clause-accepted g c = λ output o m rows numbers.
+    answers_err (λ (l : Lines). AreLinesOf c.args.settings.now o.spec l.list.items) c.lines_for-lines.result.lines c.in-Err.stop c.in-Err.is (c.lines_for-lines.ensures.accepted o.spec o.spelled m rows numbers)
 
 pub returns-in-Err-clause-refused : goal.returns-in-Err-clause-refused
 returns-in-Err-clause-refused g c = λ fault f. stops_err c.lines_for-lines.result.lines c.in-Err.stop fault c.in-Err.is (c.lines_for-lines.ensures.refused fault f)

@@ -19,7 +19,7 @@ returns-in_err-state-clause-refused c = λ fault s.
 pub returns-in-Ok-clause-made : goal.returns-in-Ok-clause-made
 returns-in-Ok-clause-made c =
     let made = c.in-Ok.ensures.ok ∙ ap (λ xs. xs ++ state_text c.in_ok-state.state) c.new-output.ensures.items in
-    (_, record { lock = c.in_ok-state.state; comes = c.in_ok-state.ensures; output_is = refl }, record { bytes = made; values = refl; workers = no_workers _ _ c.none.ensures })
+    (_, record { lock = c.in_ok-state.state; comes = c.in_ok-state.ensures; output_is = refl }, record { bytes = made; values = refl; refuted = refl; workers = no_workers _ _ c.none.ensures })
 
 pub returns-in-Ok-clause-accepted : goal.returns-in-Ok-clause-accepted
 returns-in-Ok-clause-accepted c = λ output s.
@@ -28,6 +28,7 @@ returns-in-Ok-clause-accepted c = λ output s.
     record {
       bytes = made ∙ sym (ap (λ o. o.bytes) is);
       values = sym (ap (λ o. o.values) is);
+      refuted = sym (ap (λ o. o.refuted) is);
       workers = subst (λ n. IsSplit c.args.settings.now.workers c.none.result n) (sym (ap (λ o. o.terms) is)) (no_workers _ _ c.none.ensures);
     }
 

@@ -1,4 +1,4 @@
-use Rattle.std.proofs.Common.{◌≡◌, ◌⊎◌, [], sym, ap, subst, ◌∙◌}
+use Rattle.std.proofs.Common.{◌≡◌, ◌⊎◌, [], sym, ap₂, subst, ◌∙◌}
 use Rattle.std.specs.Io.KnownBytes.{Appends}
 use Rattle.settings.specs.Words.{texts}
 use Rattle.ends.specs.Bytes.{TookFront}
@@ -6,12 +6,13 @@ use Rattle.rec_top.specs.Written.{Output, status_for}
 use Rattle.rec_top.specs.Sequence.{IsSplit}
 use Rattle.rec_top.specs.Run.{GaveOutput}
 use Rattle.rec_top.specs.Answered.{IsAnswer, StopsAnswering}
-use Rattle.rec_top.specs.Histories.{HasEach, HasSuch, NamesAll, NamesAllFronts, Fills}
+use Rattle.rec_top.specs.Histories.{HasEach, HasSuch, NamesAll, NamesAllFronts, Fills, StandInTurn}
 use Rattle.rec_top.specs.declared.answers.Answer.{Answer}
 use Rattle.rec_top.proofs.Ending.{refused, stops_with, fault_under, told_nothing}
 use Rattle.rec_top.proofs.Inputs.{reads_under, drill_goes_on}
 use Rattle.rec_top.proofs.Outcomes.{if_ok, if_err}
-use Rattle.rec_top.proofs.Recounting.{all_named, all_counted, all_filled, all_fronts, all_some, stopped_counted, no_history}
+use Rattle.rec_top.proofs.Recounting.{all_named, all_counted, all_filled, all_fronts, all_some, all_in_turn, none_in_turn, stopped_counted, no_history}
+use Rattle.rec_top.proofs.Judging.{upheld, refutes}
 use Rattle.rec_top.proofs.top.run.Goals as goal
 
 pub returns-in-Err-clause-refused_only_where_faulty : goal.returns-in-Err-clause-refused_only_where_faulty
@@ -35,7 +36,24 @@ returns-in-Ok-write_all-clause-whole_only_where_out_took_the_output g c = λ is.
     let a = c.answer_of-answer in
     let made = if_ok (λ (answer : Answer). (output : Output) × GaveOutput s g.S.Source.left c.args.source.now a.new.source output × IsAnswer s.workers answer output) a.result.answer c.in-Ok-answer.answer c.in-Ok-answer.is a.ensures.made in
     let bytes = subst (λ bs. Appends (g.O.Sink.taken c.args.out.now) (g.O.Sink.taken c.write_all.new.sink) bs) (c.deref.ensures.value ∙ made.2.bytes) c.in-Ok-write_all.ensures.whole in
-    (made.0, (s, ours, made.1), record { bytes = bytes; status_is = c.status_for.ensures ∙ ap status_for made.2.values }, (s, ours, made.2.workers))
+    (made.0, (s, ours, made.1), record { bytes = bytes; status_is = c.status_for.ensures.status ∙ ap₂ status_for made.2.values made.2.refuted }, (s, ours, made.2.workers))
+
+-- ---- what a check says
+pub returns-in-Ok-write_all-clause-upheld_where_right : goal.returns-in-Ok-write_all-clause-upheld_where_right
+returns-in-Ok-write_all-clause-upheld_where_right g c = λ is.
+    let s = c.in-Ok.settings in
+    let ours = c.in-Ok.ensures.settings in
+    let a = c.answer_of-answer in
+    let made = if_ok (λ (answer : Answer). (output : Output) × GaveOutput s g.S.Source.left c.args.source.now a.new.source output × IsAnswer s.workers answer output) a.result.answer c.in-Ok-answer.answer c.in-Ok-answer.is a.ensures.made in
+    upheld (texts c.args.words.now) g.S.Source.left c.args.source.now a.new.source made.0 c.status_for.result (s, ours, made.1) (c.status_for.ensures.status ∙ ap₂ status_for made.2.values made.2.refuted) is
+
+pub returns-in-Ok-write_all-clause-refuted_only_where_wrong : goal.returns-in-Ok-write_all-clause-refuted_only_where_wrong
+returns-in-Ok-write_all-clause-refuted_only_where_wrong g c = λ is.
+    let s = c.in-Ok.settings in
+    let ours = c.in-Ok.ensures.settings in
+    let a = c.answer_of-answer in
+    let made = if_ok (λ (answer : Answer). (output : Output) × GaveOutput s g.S.Source.left c.args.source.now a.new.source output × IsAnswer s.workers answer output) a.result.answer c.in-Ok-answer.answer c.in-Ok-answer.is a.ensures.made in
+    refutes (texts c.args.words.now) g.S.Source.left c.args.source.now a.new.source made.0 c.status_for.result (s, ours, made.1) (c.status_for.ensures.status ∙ ap₂ status_for made.2.values made.2.refuted) is
 
 pub returns-clause-write_fault_leaves_a_front : goal.returns-clause-write_fault_leaves_a_front
 returns-clause-write_fault_leaves_a_front g c = λ is.
@@ -48,7 +66,7 @@ returns-clause-write_fault_leaves_a_front g c = λ is.
     (made.0, (s, ours, made.1), front, (s, ours, workers))
 
 pub returns-in-Ok-write_all-clause-line : goal.returns-in-Ok-write_all-clause-line
-returns-in-Ok-write_all-clause-line g c = λ other. told_nothing g.E.Sink.taken g.E.Sink.faults c.args.err.now c.status_for.result c.in-Ok-answer.answer.values c.status_for.ensures
+returns-in-Ok-write_all-clause-line g c = λ other. told_nothing g.E.Sink.taken g.E.Sink.faults c.args.err.now c.status_for.result c.in-Ok-answer.answer.values c.in-Ok-answer.answer.refuted c.status_for.ensures.status
 
 pub returns-in-Err-clause-drill_unrefused : goal.returns-in-Err-clause-drill_unrefused
 returns-in-Err-clause-drill_unrefused g c = λ asks.
@@ -116,3 +134,21 @@ returns-clause-each g c = λ asks.
     let a = c.answer_of-answer in
     subst (HasEach (texts c.args.words.now) c.stopped-in-Err-write_all.result.status) (sym c.stopped-in-Err-write_all.ensures.chronicle)
     (all_counted (texts c.args.words.now) c.in-Ok.settings g.S.Source.left c.args.source.now a.new.source a.result.answer a.result.chronicle c.in-Ok.ensures.settings a.ensures.history c.in-Ok-answer.answer c.stopped-in-Err-write_all.result.status c.in-Ok-answer.is asks)
+
+-- ---- each caller's own
+pub returns-in-Err-clause-rises : goal.returns-in-Err-clause-rises
+returns-in-Err-clause-rises g c =
+    let a = c.answer_of-answer in
+    subst StandInTurn (sym c.stopped.ensures.chronicle)
+    (all_in_turn (texts c.args.words.now) c.in-Ok.settings g.S.Source.left c.args.source.now a.new.source a.result.answer a.result.chronicle c.in-Ok.ensures.settings a.ensures.history)
+
+pub returns-in-Ok-write_all-clause-rises : goal.returns-in-Ok-write_all-clause-rises
+returns-in-Ok-write_all-clause-rises g c =
+    let a = c.answer_of-answer in
+    all_in_turn (texts c.args.words.now) c.in-Ok.settings g.S.Source.left c.args.source.now a.new.source a.result.answer a.result.chronicle c.in-Ok.ensures.settings a.ensures.history
+
+pub returns-clause-rises : goal.returns-clause-rises
+returns-clause-rises g c =
+    let a = c.answer_of-answer in
+    subst StandInTurn (sym c.stopped-in-Err-write_all.ensures.chronicle)
+    (all_in_turn (texts c.args.words.now) c.in-Ok.settings g.S.Source.left c.args.source.now a.new.source a.result.answer a.result.chronicle c.in-Ok.ensures.settings a.ensures.history)

@@ -1,4 +1,4 @@
-use Rattle.std.proofs.Common.{refl}
+use Rattle.std.proofs.Common.{false, refl}
 use Rattle.std.proofs.lemmas.Result.{err_from_is_err_and}
 use Rattle.term_commands.proofs.OneFile.{no_file_fault}
 use Rattle.rec_top.specs.Written.{Output}
@@ -14,16 +14,16 @@ returns-in_err-lines-clause-accepted c = λ output o.
 
 pub returns-clause-made : goal.returns-clause-made
 returns-clause-made c =
-    let output : Output = record { bytes = c.in_ok-lines.lines.text.items; values = c.in_ok-lines.lines.whole; terms = 0 } in (
+    let output : Output = record { bytes = c.in_ok-lines.lines.text.items; values = c.in_ok-lines.lines.whole; refuted = false; terms = 0 } in (
       output,
-      record { unpacked = c.in_ok-lines.ensures.unpacked; terms = refl },
-      record { bytes = refl; values = refl; workers = no_workers c.args.settings.now.workers c.none.result c.none.ensures },
+      record { unpacked = c.in_ok-lines.ensures.unpacked; refuted = refl; terms = refl },
+      record { bytes = refl; values = refl; refuted = refl; workers = no_workers c.args.settings.now.workers c.none.result c.none.ensures },
     )
 
 pub returns-clause-accepted : goal.returns-clause-accepted
 returns-clause-accepted c = λ output o.
-    let answer : Answer = record { output = c.in_ok-lines.lines.text; values = c.in_ok-lines.lines.whole; workers = c.none.result } in
-    unfiled_answer c.args.input.now c.args.settings.now.workers answer output c.in_ok-lines.ensures.unpacked (no_workers c.args.settings.now.workers c.none.result c.none.ensures) o
+    let answer : Answer = record { output = c.in_ok-lines.lines.text; values = c.in_ok-lines.lines.whole; refuted = false; workers = c.none.result } in
+    unfiled_answer c.args.input.now c.args.settings.now.workers answer output c.in_ok-lines.ensures.unpacked refl (no_workers c.args.settings.now.workers c.none.result c.none.ensures) o
 
 pub returns-clause-refused : goal.returns-clause-refused
 returns-clause-refused c = λ fault f.
