@@ -7,6 +7,8 @@ mod adding;
 #[cfg(test)]
 mod agreement;
 #[cfg(test)]
+mod automata;
+#[cfg(test)]
 mod building;
 #[cfg(test)]
 mod chance;
@@ -17,6 +19,10 @@ mod counting;
 #[cfg(test)]
 mod matching;
 #[cfg(test)]
+mod models;
+#[cfg(test)]
+mod plans;
+#[cfg(test)]
 mod reading;
 #[cfg(test)]
 mod rows;
@@ -24,6 +30,8 @@ mod rows;
 mod sight;
 #[cfg(test)]
 mod stores;
+#[cfg(test)]
+mod traces;
 #[cfg(test)]
 mod watched;
 #[cfg(test)]

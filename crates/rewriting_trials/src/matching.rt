@@ -24,7 +24,12 @@ fn three_rules(alloc: Global) -> Result<Plan, Fail>
 }
 
 /// Whether the left side of a rule matches the tree on top of the stack.
-fn matches_top<T: Terms>(plan: &Plan, rule: u32, binds: &mut Binds, terms: &mut T) -> bool
+pub(crate) fn matches_top<T: Terms>(
+    plan: &Plan,
+    rule: u32,
+    binds: &mut Binds,
+    terms: &mut T,
+) -> bool
     requires inside { (T.store terms.old).inside ≡ true }
     requires room { HasRoom binds.old.room plan.now.rules }
     ensures unchanged { T.store terms.new ≡ T.store terms.old }

@@ -1,0 +1,5 @@
+//! Tests of the checkers of what the program writes: `run_checks`.
+#![tactic(auto)]
+
+#[cfg(test)]
+mod traces;

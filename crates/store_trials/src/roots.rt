@@ -1,0 +1,202 @@
+//! Protected rows on one thread, in stores with hand-worked answers.
+ghost use Rattle.std.specs.Prelude.{◌≡◌, ◌<◌, ℕ, All, IfOk, length};
+ghost use Rattle.lock_core.specs.declared.parts.Phase.TheVariants.{Shared};
+ghost use Rattle.store_core.specs.Machine.{In, Each, protected_in};
+ghost use Rattle.node_rows.specs.Inside.{IsInside};
+ghost use Rattle.node_rows.specs.Rows.{names};
+ghost use Rattle.node_rows.specs.Told.{Tells};
+ghost use Rattle.node_rows.specs.Passes.{IsStore, IsPass, IsOut};
+
+use busy_forbidden::Busy;
+use node_rows::{Pass, Store};
+use root_sets::{keep_roots, push_root, root_at, store_roots};
+use std::process::Abort;
+use std::test::Fail;
+use store_core::Sizes;
+use term_create::{Full, create};
+use term_model::{Head, Row, Symbol};
+use terms_api::Deep;
+
+// A store of two rows and two passes.
+const SMALL: Sizes = Sizes {
+    rows: 2,
+    buckets: 1,
+    start: 1,
+    seats: 2,
+    depth: 4,
+    arity: 1,
+    first: 1,
+};
+
+// The last of the passes that are left.
+fn last_pass(rt: &impl Abort, store: &Store, passes: &mut Vec<Pass>) -> Pass
+    requires passes { All (λ p. IsPass store.now.table.shared.table_id store.now.sizes p.seat.seat p.seat.seats × IsOut p.seat.seat.me.0) passes.old.items }
+    requires told { All Tells passes.old.items }
+    ensures told { All Tells passes.new.items }
+    ensures left { All (λ p. IsPass store.now.table.shared.table_id store.now.sizes p.seat.seat p.seat.seats × IsOut p.seat.seat.me.0) passes.new.items }
+    ensures pass { IsPass store.now.table.shared.table_id store.now.sizes result.seat.seat result.seat.seats × IsOut result.seat.seat.me.0 × Tells result }
+{
+    match passes.pop() {
+        Some(pass) => pass,
+        None => panic!(rt; "a pass is left"),
+    }
+}
+
+// Enters shared access.
+fn enter(rt: &impl Abort, store: &Store, pass: &mut Pass)
+    requires store { IsStore store.now.table.shared.table_id store.now.table.shared.key store.now.sizes }
+    requires pass { IsPass store.now.table.shared.table_id store.now.sizes pass.old.seat.seat pass.old.seat.seats × IsOut pass.old.seat.seat.me.0 × Tells pass.old }
+    ensures inside { IsInside store.now pass.new }
+    ensures shared { pass.new.seat.seat.me.0.lock.phase ≡ Shared }
+{
+    match store.try_enter_shared(pass) {
+        Ok(()) => {}
+        Err(_) => panic!(rt; "nobody is in exclusive access"),
+    }
+}
+
+// A constant, whose row is then protected.
+fn protect_constant(rt: &impl Abort, store: &Store, pass: &mut Pass, symbol: u32) -> Row
+    requires inside { IsInside store.now pass.old }
+    requires shared { pass.old.seat.seat.me.0.lock.phase ≡ Shared }
+    ensures inside { IsInside store.now pass.new }
+    ensures shared { pass.new.seat.seat.me.0.lock.phase ≡ Shared }
+    ensures uses { In result.0 pass.new.seat.seat.me.0.store.got }
+    ensures keeps { (r : ℕ) → In r pass.old.seat.seat.me.0.store.got → In r pass.new.seat.seat.me.0.store.got }
+{
+    match create(store, pass, Head::App(Symbol(symbol)), &[]) {
+        Ok(row) => {
+            let pushed = push_root(store, pass, row);
+            assert_eq!(rt; pushed, Ok(()));
+            row
+        }
+        Err(_) => panic!(rt; "a row is free"),
+    }
+}
+
+// Two constants, whose rows are then protected.
+fn protect_two(rt: &impl Abort, store: &Store, pass: &mut Pass, symbol: u32) -> (Row, Row)
+    requires inside { IsInside store.now pass.old }
+    requires shared { pass.old.seat.seat.me.0.lock.phase ≡ Shared }
+    requires below { symbol < 8 }
+    ensures inside { IsInside store.now pass.new }
+    ensures shared { pass.new.seat.seat.me.0.lock.phase ≡ Shared }
+    ensures first { In result.0.0 pass.new.seat.seat.me.0.store.got }
+    ensures second { In result.1.0 pass.new.seat.seat.me.0.store.got }
+    ensures keeps { (r : ℕ) → In r pass.old.seat.seat.me.0.store.got → In r pass.new.seat.seat.me.0.store.got }
+{
+    let first = protect_constant(rt, store, pass, symbol);
+    let second = protect_constant(rt, store, pass, symbol + 1);
+    (first, second)
+}
+
+// Four constants, whose rows are then protected in order.
+fn protect_four(rt: &impl Abort, store: &Store, pass: &mut Pass) -> [Row; 4]
+    requires inside { IsInside store.now pass.old }
+    requires shared { pass.old.seat.seat.me.0.lock.phase ≡ Shared }
+    ensures inside { IsInside store.now pass.new }
+    ensures shared { pass.new.seat.seat.me.0.lock.phase ≡ Shared }
+    ensures uses { Each (λ r. In r pass.new.seat.seat.me.0.store.got) (names result) }
+{
+    let (a, b) = protect_two(rt, store, pass, 0);
+    let (c, d) = protect_two(rt, store, pass, 2);
+    [a, b, c, d]
+}
+
+// Protects four rows in place of those before, and of these keeps the first and the last.
+fn keep_two(store: &Store, pass: &mut Pass, rows: &[Row])
+    requires inside { IsInside store.now pass.old }
+    requires four { (length rows.now ≡ 4) × (store.now.sizes.depth ≡ 4) }
+    requires uses { Each (λ r. In r pass.old.seat.seat.me.0.store.got) (names rows.now) }
+    ensures inside { IsInside store.now pass.new }
+    ensures lock { pass.new.seat.seat.me.0.lock ≡ pass.old.seat.seat.me.0.lock }
+    ensures two { length (protected_in pass.new.seat.seat.me.0.store) ≡ 2 }
+{
+    store_roots(store, pass, rows);
+    keep_roots(store, pass, 1, 1);
+}
+
+// The two protected rows.
+fn two_roots(store: &Store, pass: &mut Pass) -> (Row, Row)
+    requires inside { IsInside store.now pass.old }
+    requires two { length (protected_in pass.old.seat.seat.me.0.store) ≡ 2 }
+    ensures inside { IsInside store.now pass.new }
+    ensures lock { pass.new.seat.seat.me.0.lock ≡ pass.old.seat.seat.me.0.lock }
+{
+    let first = root_at(store, pass, 0);
+    let second = root_at(store, pass, 1);
+    (first, second)
+}
+
+// In shared access of the second pass: the constant that the first pass made, another one, and a term over the first, which is
+// Full.
+fn create_past_the_room(rt: &impl Abort, store: &Store, pass: &mut Pass, row: Row)
+    requires inside { IsInside store.now pass.old }
+    requires shared { pass.old.seat.seat.me.0.lock.phase ≡ Shared }
+    ensures inside { IsInside store.now pass.new }
+    ensures shared { pass.new.seat.seat.me.0.lock.phase ≡ Shared }
+{
+    let same = protect_constant(rt, store, pass, 0);
+    assert_eq!(rt; same, row);
+    let other = create(store, pass, Head::App(Symbol(1)), &[]);
+    assert!(rt; other.is_ok() && other != Ok(row));
+    let third = create(store, pass, Head::App(Symbol(2)), &[same]);
+    assert_eq!(rt; third, Err(Full));
+}
+
+#[test]
+fn two_rows_are_full_by_two_passes(rt: HostRuntime) -> Result<(), Fail> {
+    let (store, mut passes) = Store::make(rt.alloc(), SMALL)?;
+    let mut second = last_pass(&rt, &store, &mut passes);
+    let mut first = last_pass(&rt, &store, &mut passes);
+    enter(&rt, &store, &mut first);
+    let row = protect_constant(&rt, &store, &mut first, 0);
+    store.leave_shared(&mut first);
+    enter(&rt, &store, &mut second);
+    create_past_the_room(&rt, &store, &mut second, row);
+    store.leave_shared(&mut second);
+    Ok(())
+}
+
+#[test]
+fn exclusive_access_waits_for_shared(rt: HostRuntime) -> Result<(), Fail> {
+    let (store, mut passes) = Store::make(rt.alloc(), SMALL)?;
+    let mut second = last_pass(&rt, &store, &mut passes);
+    let mut first = last_pass(&rt, &store, &mut passes);
+    enter(&rt, &store, &mut first);
+    let Err(busy) = store.try_enter_exclusive(&mut second) else {
+        panic!(rt; "the first pass is in");
+    };
+    assert_eq!(rt; busy, Busy::Seat(0));
+    store.leave_shared(&mut first);
+    let Ok(()) = store.try_enter_exclusive(&mut second) else {
+        panic!(rt; "nobody is in");
+    };
+    let Err(busy) = store.try_enter_shared(&mut first) else {
+        panic!(rt; "the second pass is in");
+    };
+    assert_eq!(rt; busy, Busy::Forbidden);
+    let Err(busy) = store.try_enter_exclusive(&mut first) else {
+        panic!(rt; "the second pass has the mutex");
+    };
+    assert_eq!(rt; busy, Busy::Mutex);
+    store.leave_exclusive(&mut second);
+    Ok(())
+}
+
+// All four places are taken, so a fifth row is `Deep`. The four rows are then stored in the other order, of which the first and the
+// last are kept.
+#[test]
+fn protected_rows_are_stored_kept_and_read(rt: HostRuntime) -> Result<(), Fail> {
+    let sizes = Sizes { rows: 4, ..SMALL };
+    let (store, mut passes) = Store::make(rt.alloc(), sizes)?;
+    let mut pass = last_pass(&rt, &store, &mut passes);
+    enter(&rt, &store, &mut pass);
+    let [a, b, c, d] = protect_four(&rt, &store, &mut pass);
+    assert_eq!(rt; push_root(&store, &mut pass, a), Err(Deep));
+    keep_two(&store, &mut pass, &[d, c, b, a]);
+    assert_eq!(rt; two_roots(&store, &mut pass), (d, a));
+    assert!(rt; a != d);
+    store.leave_shared(&mut pass);
+    Ok(())
+}
