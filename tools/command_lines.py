@@ -21,6 +21,8 @@ class Option:
 class Command:
     words: list[str]
     input: str
+    # The words of further commands with the same first word.
+    others: list[list[str]] = field(default_factory=list)
     # None stands for a switch, which has no value.
     options: dict[str, Option | None] = field(default_factory=dict)
 
@@ -32,7 +34,10 @@ def commands() -> dict[str, Command]:
         entries = [line.rstrip("\n").split("|") for line in table]
     for entry in entries:
         if entry[0] == "command":
-            last = found.setdefault(entry[1].split()[0], Command(entry[1].split(), entry[2]))
+            words = entry[1].split()
+            last = found.setdefault(words[0], Command(words, entry[2]))
+            if last.words != words:
+                last.others.append(words)
         elif entry[0] == "option":
             least, most, default = entry[2:5]
             last.options[entry[1]] = None if least == "-" else Option(int(least), int(most), int(default))

@@ -72,9 +72,25 @@ KINDS_OF_TEXT: dict[int, tuple[str, str]] = {
     3: ("the input ends inside a term", "close each parenthesis, bracket and quote"),
     13: ("a limit is passed here", "keep to 255 bytes a name, 16 arguments of a name and 65,535 symbols"),
 }
+# Of a log.
+KINDS_OF_LOGS: dict[int, tuple[str, str]] = {
+    15: (
+        "no line of a log has this form or may stand here, or the log has no end",
+        "see docs/FORMATS.md: a log begins with '# log', and ends with '# end'",
+    ),
+}
+# Of an output with traces.
+TRACE = "check trace"
+KINDS_OF_TRACES: dict[int, tuple[str, str]] = {
+    15: (
+        "no line here has this form, or a line is missing; where it is line 0, the specification isn't there whole",
+        "see docs/FORMATS.md: a line 'spec N', N bytes and a line feed, then the output, and '# end'",
+    ),
+    19: ("a rule has a condition, of which no trace tells", "leave the conditions out"),
+}
 # And of a file of terms.
 KINDS_OF_FILES: dict[int, tuple[str, str]] = {3: ("the file is cut short", "take the whole file, or pack the terms again")}
-KINDS_OF = {"terms": KINDS_OF_TEXT, "pack": KINDS_OF_TEXT, "unpack": KINDS_OF_FILES}
+KINDS_OF = {"terms": KINDS_OF_TEXT, "pack": KINDS_OF_TEXT, "unpack": KINDS_OF_FILES, "check": KINDS_OF_LOGS, TRACE: KINDS_OF_TRACES}
 # A word of a specification, as far as it is to be marked.
 WORD = re.compile(rb"-><-|->/<-|->|<>|[^\s(),:=<>%]*")
 # The kinds whose place is a line.
@@ -87,6 +103,7 @@ CAUSES = {
     6: "standard output couldn't be written: was it closed, or is the disk full?",
     7: "the system gave no more memory",
     8: "the store's numbers may end: with fewer rows or workers they last longer",
+    9: "what was checked isn't right: docs/FORMATS.md says what the line means",
 }
 TOO_LARGE = "the value has too many symbols to be written: --sizes tells its size"
 TOO_LARGE_IN_A_FILE = "the term has too many nodes to be written, or too many were written before it"
@@ -113,7 +130,7 @@ def of_words(table: dict[str, Command], words: list[str]) -> list[str]:
         elif surplus:
             why = f"{surplus[0]} is one word too many"
         elif len(plain) < len(command.words) - 1:
-            why = f"a word is missing: {' '.join(command.words)}"
+            why = "a word is missing: " + " or ".join(" ".join(it) for it in (command.words, *command.others))
     except ValueError as fault:
         why = str(fault)
     return [f"rec: {why}", f"rec: 'rec help {words[0]}' tells more"]
@@ -173,6 +190,17 @@ def of_fault(
     return [head, f" {number} | {written}", f" {margin} | {marks}", f" {margin} what to do: {advice}"]
 
 
+def place_in_all(command: str, kind: int, place: int, text: bytes | None) -> int:
+    """Returns a fault's place in the whole input: behind its heading an output with traces has two parts, each with places of its own."""
+    heading = re.match(rb"spec ([0-9]+)\n", text or b"") if command == TRACE else None
+    if heading is None or text is None or kind == 14:
+        return max(place, 1) if command == TRACE and kind in OF_LINES else place
+    if kind not in OF_LINES:
+        return heading.end() + place
+    lines = text.count(b"\n", 0, heading.end() + int(heading[1]) + 1)
+    return lines + place if place else 1
+
+
 def places(numbers: list[int]) -> str:
     if not numbers:
         return ", if that is a line"
@@ -221,7 +249,10 @@ def told(words: list[str], status: int, line: str, text: bytes | None, output: b
         return []
     fault = re.match(r"fault ([0-9]+) at ([0-9]+)$", line)
     if status == 3 and fault:
-        return of_fault(int(fault[1]), int(fault[2]), text, source, table[words[0]].input == "bytes", words[0])
+        plain = [it for it in words if not it.startswith("-")]
+        command = TRACE if plain[:2] == TRACE.split() else words[0]
+        place = place_in_all(command, int(fault[1]), int(fault[2]), text)
+        return of_fault(int(fault[1]), place, text, source, table[words[0]].input == "bytes", command)
     if status == 1:
         return of_counts(table, words, output) if words[0] == "drill" else of_lines(table, words, output)
     if status == 4:

@@ -44,8 +44,8 @@ def fault_of_text(kind: int, text: str, marked: str) -> Fault:
     return Fault(kind, case, front.count("\n") + 1, len(front) - front.rfind("\n"), marked)
 
 
-def fault_of_line(kind: int, text: str, line: int) -> Fault:
-    case = Case(("schedule",), text.encode(), err=f"fault {kind} at {line}\n".encode(), status=3)
+def fault_of_line(kind: int, text: str, line: int, words: tuple[str, ...] = ("schedule",)) -> Fault:
+    case = Case(words, text.encode(), err=f"fault {kind} at {line}\n".encode(), status=3)
     return Fault(kind, case, line, 1, text.split("\n")[line - 1])
 
 
@@ -71,6 +71,7 @@ FAULTS = [
     fault_of_line(15, "0 raise\n1 take\n1 give now\n", 3),
     fault_of_line(15, "0 raise\n2 raise\n", 2),
     fault_of_line(16, "0 raise\n1 give\n0 look\n", 2),
+    fault_of_line(15, "# log 1 1\n# caller 0\n# made 1 0 s0\n# end\n", 3, ("check", "log")),
     fault_of_text(1, "f(a)\n§% b", "%"),
     fault_of_text(2, "[§,]", ","),
     fault_of_text(3, "f(a§", ""),
@@ -84,15 +85,19 @@ def read(name: str) -> bytes:
         return file.read()
 
 
-NAT, SUM = read("examples/nat.rec"), read("examples/sum.rec")
+NAT, SUM, LAZY = read("examples/nat.rec"), read("examples/sum.rec"), read("examples/lazy.rec")
 PAIRS = (
     "REC-SPEC P SORTS S CONS z : -> S p : S S -> S OPNS d : S -> S VARS X : S RULES d(X) -> p(X,X) EVAL %s END-SPEC\n"
 )
 LARGE = (PAIRS % (20 * "d(" + "z" + 20 * ")")).encode()
 ONE_AND_ONE, TWO_AND_TWO = b"s(s(z))\n", b"s(s(s(s(z))))\n"
+FIRST_TWO = b"cons(z,cons(s(z),nil))\n"
 START = b"seat 0 out busy 0 forbidden 0 free\nseat 1 out busy 0 forbidden 0 free\nmutex free\n"
 USAGE = b"usage: rec COMMAND [OPTIONS]\n"
 TERMS = b'f(a, "b c")  f(a,a)'
+LOG = b"# log 2 1\n# caller 0\n# make 1 0 s0\n# make 2 1 s1 0\n# roots 2 1\n# end\n"
+# A specification, and its output with a trace.
+TRACE = b"spec 63\nREC-SPEC A SORTS S CONS a b : -> S RULES a -> b EVAL a END-SPEC\nb\n# trace 0 r0\n# end\n"
 # A file: the magic, two symbols, two records (a, and f over a twice), and a root.
 PACKED = b"RECTERM1" + bytes.fromhex(
     "00000002 016100 016602 00000002 0000000000 00000000010000000000000000 00000001 00000001"
@@ -106,6 +111,8 @@ ANSWERS = [
     Case(("rewrite",), LARGE, b"too large\n", status=1),
     Case(("rewrite", "--rows", "2"), NAT, err=b"store full\n", status=4),
     Case(("rewrite", "--workers", "2"), SUM, TWO_AND_TWO),
+    Case(("rewrite", "--fuel", "1000"), LAZY, b"out of fuel\n", status=1),
+    Case(("outermost", "--fuel", "1000"), LAZY, FIRST_TWO),
     Case(("drill", "3", "--workers=2"), b"", b"terms 3\nvalues 3\nspent 168\n"),
     # (the three terms take 6, 73 and 89 units of fuel)
     Case(("drill", "3", "--fuel=72"), b"", b"terms 3\nvalues 1\nspent 6\n", status=1),
@@ -118,6 +125,13 @@ ANSWERS = [
     Case(("unpack",), PACKED, b"f(a,a)\n"),
     Case(("unpack",), PACKED[:-1], err=b"fault 3 at 47\n", status=3),
     Case(("unpack",), PACKED[:-1] + b"\0", err=b"fault 18 at 48\n", status=3),
+    Case(("check", "log"), LOG, b"legal 3\n"),
+    Case(("check", "log"), LOG.replace(b"# make 2 1", b"# make 1 1"), b"illegal 4\n", status=9),
+    Case(("check", "trace"), TRACE, b"derived 1\n"),
+    Case(("check", "trace"), TRACE.replace(b" r0", b" r1"), b"underived 0\n", status=9),
+    Case(("check", "trace"), TRACE.replace(b"spec 63", b"spec 62"), err=b"fault 15 at 0\n", status=3),
+    Case(("check", "trace"), TRACE.replace(b"trace 0", b"trace 1"), err=b"fault 15 at 2\n", status=3),
+    Case(("check", "trace"), TRACE.replace(b"-> b", b"-> c"), err=b"fault 5 at 46\n", status=3),
     *(it.case for it in FAULTS),
 ]
 # Words that are refused, and what is said of them.
@@ -131,6 +145,7 @@ REFUSED = [
     (("rewrite", "nowhere.rec"), "nowhere.rec is no file"),
     (("rewrite", "--workers", "17"), "--workers wants a number from 1 to 16, and 17 is none"),
     (("drill",), "a word is missing: drill N"),
+    (("check",), "a word is missing: check log or check trace"),
     (("drill", "3", "4"), "4 is no file"),
     (("drill", "--sizes", "3"), "drill has no option --sizes"),
     (("schedule", "one", "two"), "one is one word too many"),
@@ -138,4 +153,6 @@ REFUSED = [
     (("terms", "--rows", "0"), "--rows wants a number from 1 to 262144, and 0 is none"),
     (("pack", "nowhere.txt"), "nowhere.txt is no file"),
     (("unpack", "--rows=3"), "unpack has no option --rows"),
+    (("check", "log", "--rows=3"), "check has no option --rows"),
+    (("check", "log", "nowhere.txt"), "nowhere.txt is no file"),
 ]

@@ -10,6 +10,7 @@ import support
 from support import call, run
 
 DRAW = f"{support.TOOLS}/draw"
+SVG = "{http://www.w3.org/2000/svg}"
 # A term, the labels of its different subterms, and the arrows between these, by label where that tells which.
 PICTURES = [
     (b"a\n", ["a"], []),
@@ -45,6 +46,60 @@ WRONG = [
     b"out of fuel\n",
 ]
 
+# A log of two callers, and its marks: kind, column of time and lane. The times are 1, 2, 3, after 3, 8, 9 and after 9.
+LOG = b"""s(z)
+# log 4 2
+# caller 0
+# make 1 0 s0
+# make 3 1 s1 0
+# roots 3 1
+# collect 8 0 1
+# make 9 2 s1 1
+# roots 9 2
+# caller 1
+# make 2 2 s2
+# find 3 1 s1 0
+# roots 3
+# find 9 2 s1 1
+# end
+"""
+MARKS = [
+    ("collect", 4, 0),
+    ("find", 3, 1),
+    ("find", 6, 1),
+    ("make", 0, 0),
+    ("make", 1, 1),
+    ("make", 2, 0),
+    ("make", 5, 0),
+    ("roots", 3, 0),
+    ("roots", 3, 1),
+    ("roots", 6, 0),
+]
+WRONG_LOGS = [
+    b"s(z)\n",
+    b"# log 4 1\n# caller 0\n# make 1 0 s0\n",
+    b"# caller 0\n# log 4 1\n# end\n",
+    b"# log 4 2\n# caller 1\n# end\n",
+    b"# log 4 1\n# caller 0\n# caller 1\n# end\n",
+    b"# log 4 1\n# make 1 0 s0\n# end\n",
+    b"# log 4 1\n# caller 0\n# make 01 0 s0\n# end\n",
+    b"# log 4 1\n# caller 0\n# make 1 0 t0\n# end\n",
+    b"# log 4 1\n# caller 0\n# roots\n# end\n",
+    b"# log 4 1\n# log 4 1\n# end\n",
+]
+
+
+def marks(picture: str) -> list[tuple[str, int, int]]:
+    """Returns the kind, the column and the lane of each mark of a log's picture, in order."""
+    found = []
+    for it in xml.etree.ElementTree.fromstring(picture).iter():
+        if kind := it.get("class"):
+            at = it.find(f"{SVG}rect") if kind == "collect" else it
+            half = {"collect": (5, 5), "roots": (3, 6)}.get(kind, (0, 0))
+            x, y = (int(at.get(short) or at.get(f"c{short}")) + more for short, more in zip("xy", half))
+            found.append((kind, *((x - 78) / 12, (y - 54) / 28)))
+    return sorted(found)
+
 
 def parts(picture: str) -> tuple[list[str], list[str]]:
     """Returns the sorted labels of a picture's nodes, and its arrows by label in order."""
@@ -73,13 +128,27 @@ class Draw(unittest.TestCase):
     @unittest.skipUnless(support.is_here("dot"), "dot isn't here")
     def test_svg_has_the_same_nodes(self) -> None:
         out, err, status = run([DRAW, "--svg"], b"p(p(z,z),p(z,z))\n")
-        groups = [it.get("class") for it in xml.etree.ElementTree.fromstring(out).iter("{http://www.w3.org/2000/svg}g")]
+        groups = [it.get("class") for it in xml.etree.ElementTree.fromstring(out).iter(f"{SVG}g")]
         self.assertEqual((groups.count("node"), groups.count("edge"), err, status), (3, 4, b"", 0))
+
+    def test_a_log_has_a_mark_for_each_entry(self) -> None:
+        out, err, status = call(DRAW, "--log", given=LOG)
+        self.assertEqual((marks(out), err, status), (MARKS, "", 0))
+        self.assertIn("<title>caller 0, make 3: row 1 is s1(0)</title>", out)
+        self.assertIn("<title>caller 0, collect 8: kept 2 rows: 0 1</title>", out)
+
+    def test_what_is_no_log(self) -> None:
+        for text in WRONG_LOGS:
+            out, err, status = call(DRAW, "--log", given=text)
+            self.assertEqual((out, status), ("", 1), text)
+            self.assertIn("draw: ", err)
+        self.assertEqual(call(DRAW, "--log", "--most", "9", given=LOG)[2], 1)
+        self.assertEqual(call(DRAW, "--log", "--most", "10", given=LOG)[2], 0)
 
     def test_the_picture_of_the_repository(self) -> None:
         """docs/sort.svg shows the value of examples/sort.rec: three cells, nil, and the numbers 0, 1 and 2."""
         tree = xml.etree.ElementTree.parse(f"{support.TOP}/docs/sort.svg")
-        shown = sorted(it.text for it in tree.iter("{http://www.w3.org/2000/svg}text"))
+        shown = sorted(it.text for it in tree.iter(f"{SVG}text"))
         self.assertEqual(shown, ["cons", "cons", "cons", "nil", "s", "s", "z"])
 
 

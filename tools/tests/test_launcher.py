@@ -23,6 +23,8 @@ HELP = {
     ("help", "schedule"): ["--seats N", "1 to 16, 2 if not given"],
     ("help", "rewrite"): ["--depth N", "1 to 65536, 4096 if not given", "--sizes"],
     ("rewrite", "--help"): ["--fuel N", "0 to 1000000000, 1000000 if not given"],
+    ("help", "check", "trace"): ["rec check log", "rec check trace"],
+    ("check", "log", "--help"): ["rec check log", "rec check trace"],
     ("--version",): ["rec: commit ", "rec: toolchain "],
 }
 # Entries of commands that the program doesn't have.
