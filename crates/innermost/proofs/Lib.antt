@@ -14,6 +14,7 @@ pub mod Choosing
 pub mod Starts
 pub mod Spelling
 pub mod States
+pub mod Counting
 pub mod Telling
 pub mod Tellings
 pub mod Using
@@ -36,3 +37,5 @@ pub mod Trails
 pub mod Turns
 pub mod Tracings
 pub mod TracedEnds
+pub mod Halting
+pub mod NodeHalts

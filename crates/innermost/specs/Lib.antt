@@ -24,4 +24,5 @@ pub mod Rebuilding
 pub mod Rewriting
 pub mod Traced
 pub mod Trail
+pub mod Uses
 pub mod Noting

@@ -30,7 +30,7 @@ pub enum TraceFault {
     StoreFull,
     /// The numbers of the store are used up.
     Worn,
-    /// There is no memory for an event.
+    /// There is no memory for the events, or for the way to the tree that is looked at.
     Memory,
 }
 

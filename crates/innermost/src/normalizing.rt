@@ -57,7 +57,8 @@ impl Model for Machine {
 
 impl Machine {
     /// A machine for a plan that evaluates terms in so much room. Each evaluation that is under way
-    /// at a time takes room, so there is a place for each. It takes memory here alone.
+    /// at a time takes room, so there is a place for each. After this `normalize_traced` alone takes
+    /// memory.
     pub fn new(alloc: Global, plan: &Plan, depth: u32) -> Result<Self, Memory>
         ensures plan { IfOk result (λ machine. IsFor plan.now machine) }
         ensures depth { IfOk result (λ machine. machine.depth ≡ depth) }
@@ -126,8 +127,9 @@ impl Machine {
 
     /// Normalizes a term as `normalize` does, and appends the events of what it replaces: moves of a
     /// cursor that begins at the root, no more than are needed, and uses of rules where it stands.
-    /// By rules with conditions what is appended says nothing. It takes memory for the events alone;
-    /// after any fault the stack is as it was, and the events so far stand there.
+    /// By rules with conditions what is appended says nothing. It takes memory for the events and for
+    /// the way to the tree that is looked at; after any fault the stack is as it was, and the events
+    /// so far stand there.
     pub fn normalize_traced<T: Terms>(
         &mut self,
         plan: &Plan,
@@ -155,8 +157,8 @@ impl Machine {
         ensures sound { IsSound (T.store terms.new) }
         ensures machine { self.new ≡ self.old }
         ensures same { T.same terms.old terms.new }
-        ensures events { TellsReplacements plan.now.rules term.now fuel trace.old.items
-            trace.new.items result }
+        ensures events { TellsReplacements plan.now.rules term.now fuel (T.store terms.old)
+            (T.store terms.new) trace.old.items trace.new.items result }
     {
         let base = terms.depth();
         let _ = plan.rules();

@@ -21,6 +21,8 @@ mod matching;
 #[cfg(test)]
 mod models;
 #[cfg(test)]
+mod outward;
+#[cfg(test)]
 mod plans;
 #[cfg(test)]
 mod reading;

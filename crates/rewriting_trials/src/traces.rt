@@ -5,7 +5,7 @@ ghost use Rattle.innermost.specs.Machines.{IsFor};
 
 use crate::adding::{ONE_AND_ONE, one_rule, sums};
 use crate::watched::Watched;
-use crate::writing::{A, B, C, E, F, G, PLUS, S, WIDEST, X, Z, condition, flat, planned, rule};
+use crate::writing::{A, B, C, E, F, G, PLUS, S, WIDEST, X, Y, Z, condition, flat, planned, rule};
 use innermost::{Event, Machine, Normal, TraceFault, may_be_normalized};
 use rewrite_model::Rule;
 use rule_match::Plan;
@@ -166,6 +166,38 @@ fn a_rule_may_follow_a_rule_in_its_place(rt: HostRuntime) -> Result<(), Fail> {
         Event::Rule(1),
     ];
     assert_eq!(rt; events.as_slice(), &want[..]);
+    Ok(())
+}
+
+#[test]
+fn a_rule_without_room_is_not_told(rt: HostRuntime) -> Result<(), Fail> {
+    let alloc = rt.alloc();
+    let mut rules = Vec::new(alloc);
+    rules.push(rule(alloc, &[X, G], &[X, F, S], 1)?)?;
+    rules.push(rule(alloc, &[X, Y, PLUS, F], &[X], 2)?)?;
+    let plan = planned(alloc, rules)?;
+    let mut events = Vec::new(alloc);
+    let got = trace(alloc, &plan, &[A, B, PLUS, G], (1000, 5, 99), &mut events)?;
+    assert_eq!(rt; got, Ok(Normal::Value { left: 998 }));
+    assert_eq!(rt;
+        events.as_slice(),
+        &[Event::Rule(0), Event::Down(1), Event::Rule(1)][..]
+    );
+    let mut events = Vec::new(alloc);
+    let got = trace(alloc, &plan, &[A, B, PLUS, G], (1000, 4, 99), &mut events)?;
+    assert_eq!(rt; got, Ok(Normal::TooDeep));
+    assert_eq!(rt; events.as_slice(), &[Event::Rule(0)][..]);
+    Ok(())
+}
+
+#[test]
+fn what_was_replaced_is_told_where_a_build_is_refused(rt: HostRuntime) -> Result<(), Fail> {
+    let alloc = rt.alloc();
+    let plan = one_rule(alloc, &[X, F], &[X, S, X, G, PLUS])?;
+    let mut events = Vec::new(alloc);
+    let got = trace(alloc, &plan, &[A, F], (1000, 99, 2), &mut events)?;
+    assert_eq!(rt; got, Err(TraceFault::StoreFull));
+    assert_eq!(rt; events.as_slice(), &[Event::Rule(0)][..]);
     Ok(())
 }
 

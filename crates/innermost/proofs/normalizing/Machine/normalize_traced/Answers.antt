@@ -1,4 +1,4 @@
-use Rattle.std.proofs.Common.{◌≡◌, ℕ, Result, sym, ap, subst, arith}
+use Rattle.std.proofs.Common.{◌≡◌, ℕ, Result, length, drop, sym, ap, subst, arith}
 use Rattle.rewrite_model.specs.Evaluation.{evaluation}
 use Rattle.rewrite_model.specs.Built.{need}
 use Rattle.innermost.specs.Normalized.{LoadsNeedAtMost}
@@ -7,6 +7,8 @@ use Rattle.innermost.specs.Tasks.{HasCode}
 use Rattle.innermost.specs.Machines.{Made}
 use Rattle.innermost.specs.declared.normal.Normal.{Normal}
 use Rattle.innermost.specs.declared.normal.TraceFault.{TraceFault}
+use Rattle.innermost.specs.Uses.{trees_between}
+use Rattle.innermost.proofs.NodeHalts.{settled_built}
 use Rattle.innermost.proofs.TracedEnds.{traced_left, traced_from, traced_inside, traced_sound, traced_high}
 use Rattle.innermost.proofs.normalizing.Machine.normalize_traced.Goals as goal
 
@@ -78,4 +80,6 @@ returns-clause-numbers g c =
 
 pub returns-clause-events : goal.returns-clause-events
 returns-clause-events g c = λ u.
-    subst (λ r. Tells c.args.plan.now.rules c.args.term.now c.args.fuel c.args.trace.now.items c.trace-end.new.events.items r) (sym c.settle.ensures.end) (c.trace-end.ensures.events u)
+    let trees = ap (λ b. drop (length (g.T.Terms.store c.args.terms.now).built) b) (settled_built (g.T.Terms.store c.trace-end.new.terms) (g.T.Terms.store c.settle.new.terms) c.depth-base.result c.trace-end.result c.settle.ensures.settled) in
+    subst (λ ts. Tells c.args.plan.now.rules c.args.term.now c.args.fuel ts c.args.trace.now.items c.trace-end.new.events.items c.settle.result) (sym trees)
+    (subst (λ r. Tells c.args.plan.now.rules c.args.term.now c.args.fuel (trees_between (g.T.Terms.store c.args.terms.now) (g.T.Terms.store c.trace-end.new.terms)) c.args.trace.now.items c.trace-end.new.events.items r) (sym c.settle.ensures.end) (c.trace-end.ensures.events u))
