@@ -19,3 +19,7 @@ pub mod Judged
 pub mod Entire
 pub mod Accepted
 pub mod Fewness
+pub mod WithoutIf
+pub mod Widths
+pub mod NameBytes
+pub mod Clear

@@ -9,3 +9,4 @@ pub mod Spec
 pub mod Run
 pub mod Conditional
 pub mod Checked
+pub mod Laws

@@ -4,6 +4,7 @@
 mod checking;
 mod conditions;
 mod last;
+mod laws;
 mod names;
 mod rules;
 mod scope;
@@ -15,4 +16,5 @@ mod terms;
 
 pub use checking::check;
 pub use conditions::unconditional;
+pub use laws::condition_laws;
 pub use spec::Spec;

@@ -4,7 +4,6 @@ use Rattle.std.specs.Prelude.{is_some, nat_lt, option_and_then, if◌then◌else
 use Rattle.std.specs.List.{AllByRecursion}
 use Rattle.std.specs.Option.{option_map_or}
 use Rattle.std.specs.Str.{bytes_eq}
-use Rattle.std.proofs.lemmas.Bool.{ltb-true, cases_lt, lt-ltb, le-ltb}
 use Rattle.std.proofs.lemmas.List.{length-take}
 use Rattle.std.proofs.lemmas.Option.{slice_get-get_or}
 use Rattle.std.proofs.lemmas.Slice.Eq.{bytes_eq-Decides}
@@ -14,10 +13,12 @@ use Rattle.rewrite_model.specs.Replay.{replayed}
 use Rattle.rewrite_model.specs.declared.event.Event.{Event}
 use Rattle.rewrite_model.proofs.Derivations.{events_reach}
 use Rattle.rec_check.specs.Spelled.{Specified}
+use Rattle.rec_check.proofs.WithoutIf.{unconditional_rules}
 use Rattle.term_text.specs.Text.{text}
 use Rattle.run_checks.specs.declared.checking.TraceVerdict.{TraceVerdict}
 use Rattle.run_checks.specs.declared.checking.TraceVerdict.TheVariants.{Derived, Underived}
 use Rattle.run_checks.specs.Form.{trace_in, is_no_value, values_from, wrong_from, wrong_after, wrong_line}
+use Rattle.run_checks.specs.Specification.{Spells}
 use Rattle.run_checks.specs.Verdict.{leads_to, is_derived, first_underived, told, term_lines, trace_lines, IsChecked}
 use Rattle.run_checks.specs.Reached.{IsReached, AreReached, IsSound}
 
@@ -96,6 +97,9 @@ module _ (bytes : List ℕ) (n : ℕ) (c : IsChecked bytes (Derived n)) where
   abbrev values : List ℕ
   values = values_from 0 first
 
+  abbrev spelled : Spells c.in_parts.spec_text c.spec
+  spelled = c.in_parts.spelled
+
   few : 0 + length first ≤ length c.spec.terms
   few = let l = length-take (length c.spec.terms) c.all_lines in grind (arith, l)
 
@@ -104,6 +108,7 @@ module _ (bytes : List ℕ) (n : ℕ) (c : IsChecked bytes (Derived n)) where
     spec = c.spec;
     all_lines = c.all_lines;
     in_parts = c.in_parts;
+    unconditional = unconditional_rules spelled.syntax spelled.read.tokens c.spec spelled.read.sentence spelled.unconditional spelled.spec_is;
     count = derived_count n (length values) e;
     each = each_one (IsReached c.spec first) values (all_reached c.spec first (length first + 1) values rest (in_range 0 (length c.spec.terms) first few) (after_lines (length c.spec.terms) c.all_lines c.formed) d);
   }

@@ -1,7 +1,9 @@
+pub mod Endings
 pub mod Form
 pub mod Held
 pub mod HeldCode
 pub mod Instances
+pub mod Laws
 pub mod Matched
 pub mod Named
 pub mod Parts

@@ -43,7 +43,10 @@ pub enum TraceVerdict {
 ///
 /// Each trace is replayed from its term by steps of the rules, with nothing of the rewriter. Refused with kind 15 at a
 /// line of a wrong form, counted from 1 (0 is the line `spec N` and the bytes after it), and with a fault of the
-/// specification at its place there. It takes time linear in the input, times what a rule or a node has of arguments.
+/// specification at its place there.
+///
+/// The lines are read twice. An event costs the arguments of a node or the nodes of a rule, and never
+/// the whole term.
 pub fn check_trace(alloc: Global, bytes: &[u8]) -> Result<TraceVerdict, ReadFail>
     ensures checked { IfOk result (IsChecked bytes.now) }
     ensures sound { IfOk result (IsSound bytes.now) }

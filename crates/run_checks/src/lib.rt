@@ -5,6 +5,7 @@ mod building;
 mod checking;
 mod cursor;
 mod form;
+mod laws;
 mod lines;
 mod matching;
 mod parts;
@@ -14,5 +15,6 @@ mod text;
 
 pub use checking::{TraceVerdict, check_trace};
 pub use faults::Memory;
+pub use laws::acceptance_laws;
 pub use log_check::{LogVerdict, check_log};
 pub use rec_reader::ReadFail;

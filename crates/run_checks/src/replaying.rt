@@ -18,7 +18,7 @@ use std::alloc::Global;
 /// The term to which the events of a trace lead from a term by the rules of a plan; None where one of them isn't
 /// possible, or is no event. The events are words, each after a space.
 ///
-/// It takes time linear in the events, times the arguments of a node and the nodes of a rule.
+/// An event costs the arguments of a node or the nodes of a rule.
 pub(crate) fn replay(
     alloc: Global,
     table: &mut TermTable,

@@ -1,0 +1,263 @@
+-- The names of tokens, and of the declarations that they spell, have no space and no line feed.
+use Rattle.std.proofs.Common.{◌≡◌, ℕ, zero, suc, ◌+◌, ◌-◌, ◌<◌, ◌≤◌, Bool, true, false, ◌⊎◌, inl, inr, List, [], ◌∷◌, ◌++◌, length, take, drop, Option, Some, None, Ok, refl, sym, ap, subst, ◌∙◌, arith, append_assoc, lt-ltb, ne_eqb, codes, ⊎_elim}
+use Rattle.std.specs.Prelude.{◌&&◌, ◌||◌, ◌==◌, not, nat_lt, slice_range}
+use Rattle.std.specs.List.{list_all, AllByRecursion}
+use Rattle.std.specs.Option.{option_to_list}
+use Rattle.std.proofs.lemmas.Bool.{cases_lt}
+use Rattle.std.proofs.lemmas.List.{length-append}
+use Rattle.std.proofs.Math.Seq.{drop-append_seam, take-append_seam}
+use Rattle.term_model.proofs.Order.{both_hold}
+use Rattle.rec_reader.specs.declared.token.Name.{Name}
+use Rattle.rec_reader.specs.declared.token.Token.{Token}
+use Rattle.rec_reader.specs.declared.token.Token.TheVariants as token
+use Rattle.rec_reader.specs.declared.token.Sign.{Sign}
+use Rattle.rec_reader.specs.declared.syntax_tree.Declaration.{Declaration}
+use Rattle.rec_reader.specs.declared.syntax_tree.Specification.{Specification}
+use Rattle.rec_reader.specs.Tokens.{is_plain, is_name_byte, begins, tokens_of}
+use Rattle.rec_reader.specs.Cut.{Part, IsPart, joined, tokens_in, AreParts, IsCut}
+use Rattle.rec_reader.specs.Grammar.{Any, none, next, Maybe, without, with, Section, absent, present, Listed, last, beside, with_comma, IsName, named as name_read, IsNames, IsDeclaration, declaration, IsVariables, variables, IsTerm, constant, call, IsArguments, only, more, IsTerms, IsCondition, condition, IsConditions, one, and, IsRule, plain, conditional, IsSpecification, specification, IsInput, input}
+use Rattle.rec_reader.proofs.Cutting.{tokens_are_cut}
+use Rattle.rec_offences.specs.Names.{text_of}
+
+-- ---- bytes above the space
+
+-- no space, no line feed, and no byte below them
+abbrev pub is_clear : List ℕ → Bool
+is_clear bytes = list_all (λ b. nat_lt 32 b) bytes
+
+abbrev pub IsClear : List ℕ → Type 0
+IsClear bytes = is_clear bytes ≡ true
+
+both : (a b : Bool) → a ≡ true → b ≡ true → (a && b) ≡ true
+both true b e f = f
+both false b e f = absurd cc
+
+abbrev none_below : (ℕ → Bool) → ℕ → Bool
+none_below p zero = true
+none_below p (suc n) = not (p n) && none_below p n
+
+not_one : (b : Bool) → not b ≡ true → b ≡ false
+not_one true e = absurd cc
+not_one false e = refl
+
+none_is : (p : ℕ → Bool) (n : ℕ) → none_below p n ≡ true → (b : ℕ) → b < n → p b ≡ false
+none_is p zero e b lt = absurd (omega arith)
+none_is p (suc n) e b lt =
+    let q = both_hold (not (p n)) (none_below p n) e in
+    let last_one : n ≤ b → p b ≡ false = λ l. let same : n ≡ b = omega (arith, l, lt) in subst
+    (λ k. p k ≡ false) same (not_one (p n) q.0) in
+    ⊎_elim (λ l. none_is p n q.1 b l) last_one (cases_lt b n)
+
+low_is_not_plain : (b : ℕ) → b < 33 → is_plain b ≡ false
+low_is_not_plain = none_is is_plain 33 refl
+
+name_byte_clear : (b : ℕ) (bs : List ℕ) → is_name_byte (b ∷ bs) ≡ true → nat_lt 32 b ≡ true
+name_byte_clear b bs e = by (cases_lt 32 b)
+  where
+    never : (p q : Bool) → is_plain b ≡ false → (b == 45) ≡ false
+        → (is_plain b || (b == 45 && q)) ≡ true → nat_lt 32 b ≡ true
+    never p q f g h = absurd (let bad : false ≡ true = sym (λ i. f i || (g i && q)) ∙ h in cc)
+
+    by : (32 < b) ⊎ (b ≤ 32) → nat_lt 32 b ≡ true
+    by (inl l) = lt-ltb 32 b l
+    by (inr l) = never true (not (begins bs (codes ">"))) (low_is_not_plain b (omega (arith, l)))
+        (ne_eqb b 45 (λ s. omega (arith, l, s))) e
+
+text_clear : (text rest : List ℕ)
+    → ((k : ℕ) → k < length text → is_name_byte (drop k (text ++ rest)) ≡ true) → IsClear text
+text_clear [] rest each = refl
+text_clear (b ∷ bs) rest each =
+    both (nat_lt 32 b) (is_clear bs) (name_byte_clear b (bs ++ rest) (each 0 (omega arith)))
+    (text_clear bs rest (λ k lt. each (suc k) (omega (arith, lt))))
+
+-- ---- the names of tokens
+
+module _ (bytes : List ℕ) where
+  abbrev pub ClearName : Name → Type 0
+  ClearName n = IsClear (text_of bytes n)
+
+  abbrev ClearToken : Token → Type 0
+  ClearToken (token.Named n) = ClearName n
+  ClearToken (token.At sign p) = Unit {0}
+
+  abbrev ClearTokens : List Token → Type 0
+  ClearTokens [] = Unit {0}
+  ClearTokens (t ∷ ts) = ClearToken t × ClearTokens ts
+
+  cut_out : (before text rest : List ℕ) (n : Name) → bytes ≡ before ++ (text ++ rest)
+      → n.start ≡ length before → n.end ≡ length before + length text → text_of bytes n ≡ text
+  cut_out before text rest n is start end =
+      let count : n.end - n.start ≡ length text = omega (arith, start, end) in
+      ap (λ xs. slice_range xs n.start n.end) is
+      ∙ ap (λ k. take (n.end - n.start) (drop k (before ++ (text ++ rest)))) start
+      ∙ ap (take (n.end - n.start)) (drop-append_seam before (text ++ rest))
+      ∙ ap (λ k. take k (text ++ rest)) count
+      ∙ take-append_seam text rest
+
+  one_part : (before text rest : List ℕ) (o : Option Token) (ts : List Token)
+      → bytes ≡ before ++ (text ++ rest) → IsPart (length before) text rest o → ClearTokens ts
+      → ClearTokens (option_to_list o ++ ts)
+  one_part before text rest None ts is p c = c
+  one_part before text rest (Some (token.Named n)) ts is p c = (
+    subst IsClear (sym (cut_out before text rest n is p.0 p.1))
+        (text_clear text rest p.2.each),
+    c,
+  )
+  one_part before text rest (Some (token.At sign at)) ts is p c = (tt, c)
+
+  parts_clear : (before : List ℕ) (ps : List Part) → AreParts (length before) ps
+      → bytes ≡ before ++ joined ps → ClearTokens (tokens_in ps)
+  parts_clear before [] a is = tt
+  parts_clear before (p ∷ ps) a is =
+      let there : length before + length p.text ≡ length (before ++ p.text) =
+      sym (length-append before p.text) in
+      one_part before p.text (joined ps) p.token (tokens_in ps) is a.0
+      (parts_clear (before ++ p.text) ps (subst (λ at. AreParts at ps) there a.1)
+      (is ∙ sym (append_assoc before p.text (joined ps))))
+
+  pub tokens_clear : (tokens : List Token) → tokens_of bytes ≡ Ok tokens → ClearTokens tokens
+  tokens_clear tokens e =
+      let c : IsCut 0 bytes tokens = tokens_are_cut bytes tokens e in
+      subst ClearTokens c.spelled (parts_clear [] c.parts c.each (sym c.join))
+
+  -- ---- what a production leaves has clear names
+
+  abbrev Keeps : {A : Type 0} → (List Token → A → List Token → Type 0) → Type 0
+  Keeps {A} Is = (ts : List Token) (x : A) (rest : List Token) → Is ts x rest → ClearTokens ts
+      → ClearTokens rest
+
+  any_keeps : {A : Type 0} (Is : List Token → A → List Token → Type 0) → Keeps Is → Keeps (Any Is)
+  any_keeps Is f _ _ _ none c = c
+  any_keeps Is f _ _ _ (next h hs) c = any_keeps Is f _ _ _ hs (f _ _ _ h c)
+
+  listed_keeps : {A : Type 0} (Is : List Token → A → List Token → Type 0) → Keeps Is
+      → Keeps (Listed Is)
+  listed_keeps Is f _ _ _ (last h) c = f _ _ _ h c
+  listed_keeps Is f _ _ _ (beside h hs) c = listed_keeps Is f _ _ _ hs (f _ _ _ h c)
+  listed_keeps Is f _ _ _ (with_comma h hs) c = listed_keeps Is f _ _ _ hs (f _ _ _ h c).1
+
+  maybe_keeps : {A : Type 0} (Is : List Token → List A → List Token → Type 0) → Keeps Is
+      → Keeps (Maybe Is)
+  maybe_keeps Is f _ _ _ without c = c
+  maybe_keeps Is f _ _ _ (with h) c = f _ _ _ h c
+
+  section_keeps : {A : Type 0} (Is : List Token → List A → List Token → Type 0) → Keeps Is
+      → (sign : Sign) → Keeps (Section sign Is)
+  section_keeps Is f sign _ _ _ absent c = c
+  section_keeps Is f sign _ _ _ (present h) c = f _ _ _ h c.1
+
+  name_keeps : Keeps IsName
+  name_keeps _ _ _ name_read c = c.1
+
+  names_keep : Keeps (Maybe IsNames)
+  names_keep = maybe_keeps IsNames (listed_keeps IsName name_keeps)
+
+  declaration_keeps : Keeps IsDeclaration
+  declaration_keeps _ _ _ (declaration n a) c =
+      (names_keep _ _ _ a (listed_keeps IsName name_keeps _ _ _ n c).1).1.1
+
+  variables_keep : Keeps IsVariables
+  variables_keep _ _ _ (variables n) c = (listed_keeps IsName name_keeps _ _ _ n c).1.1
+
+  mutual
+    term_keeps : Keeps IsTerm
+    term_keeps _ _ _ constant c = c.1
+    term_keeps _ _ _ (call {a = a} h) c = (arguments_keep _ a _ h c.1.1).1
+
+    arguments_keep : Keeps IsArguments
+    arguments_keep _ _ _ (only h) c = term_keeps _ _ _ h c
+    arguments_keep _ _ _ (more {t = t} {a = a} h hs) c =
+        arguments_keep _ a _ hs (term_keeps _ t _ h c).1
+
+  condition_keeps : Keeps IsCondition
+  condition_keeps _ _ _ (condition f r s) c = term_keeps _ _ _ s (term_keeps _ _ _ f c).1
+
+  conditions_keep : Keeps IsConditions
+  conditions_keep _ _ _ (one h) c = condition_keeps _ _ _ h c
+  conditions_keep _ _ _ (and h s hs) c = conditions_keep _ _ _ hs (condition_keeps _ _ _ h c).1
+
+  rule_keeps : Keeps IsRule
+  rule_keeps _ _ _ (plain l r) c = term_keeps _ _ _ r (term_keeps _ _ _ l c).1
+  rule_keeps _ _ _ (conditional l r cs) c =
+      conditions_keep _ _ _ cs (term_keeps _ _ _ r (term_keeps _ _ _ l c).1).1
+
+  -- ---- the names of declarations
+
+  abbrev pub ClearNames : List Name → Type 0
+  ClearNames ns = AllByRecursion ClearName ns
+
+  abbrev pub ClearDeclarations : List Declaration → Type 0
+  ClearDeclarations ds = AllByRecursion (λ (d : Declaration). ClearNames d.names) ds
+
+  name_clear : (ts : List Token) (n : Name) (rest : List Token) → IsName ts n rest
+      → ClearTokens ts → ClearName n
+  name_clear _ _ _ name_read c = c.0
+
+  names_clear : (ts : List Token) (ns : List Name) (rest : List Token) → IsNames ts ns rest
+      → ClearTokens ts → ClearNames ns
+  names_clear _ _ _ (last h) c = (name_clear _ _ _ h c, tt)
+  names_clear _ _ _ (beside h hs) c =
+      (name_clear _ _ _ h c, names_clear _ _ _ hs (name_keeps _ _ _ h c))
+  names_clear _ _ _ (with_comma h hs) c =
+      (name_clear _ _ _ h c, names_clear _ _ _ hs (name_keeps _ _ _ h c).1)
+
+  declaration_clear : (ts : List Token) (d : Declaration) (rest : List Token)
+      → IsDeclaration ts d rest → ClearTokens ts → ClearNames d.names
+  declaration_clear _ _ _ (declaration n a) c = names_clear _ _ _ n c
+
+  declarations_clear : (ts : List Token) (ds : List Declaration) (rest : List Token)
+      → Any IsDeclaration ts ds rest → ClearTokens ts → ClearDeclarations ds
+  declarations_clear _ _ _ none c = tt
+  declarations_clear _ _ _ (next h hs) c =
+      (declaration_clear _ _ _ h c, declarations_clear _ _ _ hs (declaration_keeps _ _ _ h c))
+
+  section_clear : (sign : Sign) (ts : List Token) (ds : List Declaration) (rest : List Token)
+      → Section sign (Any IsDeclaration) ts ds rest → ClearTokens ts → ClearDeclarations ds
+  section_clear sign _ _ _ absent c = tt
+  section_clear sign _ _ _ (present h) c = declarations_clear _ _ _ h c.1
+
+  two_clear : (ds es : List Declaration) → ClearDeclarations ds → ClearDeclarations es
+      → ClearDeclarations (ds ++ es)
+  two_clear [] es a b = b
+  two_clear (d ∷ ds) es a b = (a.0, two_clear ds es a.1 b)
+
+  includes_keep : (sign : Sign) → Keeps (Section sign (Maybe IsNames))
+  includes_keep = section_keeps (Maybe IsNames) names_keep
+
+  group_keeps : (sign : Sign) → Keeps (Section sign (Any IsDeclaration))
+  group_keeps = section_keeps (Any IsDeclaration) (any_keeps IsDeclaration declaration_keeps)
+
+  specification_keeps : Keeps IsSpecification
+  specification_keeps _ _ _ (specification i s d o v r t) c =
+      let a1 = includes_keep _ _ _ _ i c.1.1 in
+      let a2 = includes_keep _ _ _ _ s a1 in
+      let a3 = group_keeps _ _ _ _ d a2 in
+      let a4 = group_keeps _ _ _ _ o a3 in
+      let a5 = section_keeps (Any IsVariables) (any_keeps IsVariables variables_keep) _ _ _ _ v
+      a4 in
+      let a6 = section_keeps (Any IsRule) (any_keeps IsRule rule_keeps) _ _ _ _ r a5 in
+      (section_keeps (Maybe IsTerms) (maybe_keeps IsTerms (listed_keeps IsTerm term_keeps)) _ _ _
+      _ t a6).1
+
+  specification_clear : (ts : List Token) (s : Specification) (rest : List Token)
+      → IsSpecification ts s rest → ClearTokens ts → ClearDeclarations s.declarations
+  specification_clear _ _ _ (specification {cons = cons} {opns = opns} i s d o v r t) c =
+      let a1 = includes_keep _ _ _ _ i c.1.1 in
+      let a2 = includes_keep _ _ _ _ s a1 in
+      let a3 = group_keeps _ _ _ _ d a2 in
+      two_clear cons opns (section_clear _ _ _ _ d a2) (section_clear _ _ _ _ o a3)
+
+  abbrev pub ClearSpecifications : List Specification → Type 0
+  ClearSpecifications ss =
+      AllByRecursion (λ (s : Specification). ClearDeclarations s.declarations) ss
+
+  specifications_clear : (ts : List Token) (ss : List Specification) (rest : List Token)
+      → Any IsSpecification ts ss rest → ClearTokens ts → ClearSpecifications ss
+  specifications_clear _ _ _ none c = tt
+  specifications_clear _ _ _ (next h hs) c =
+      (specification_clear _ _ _ h c, specifications_clear _ _ _ hs (specification_keeps _ _ _ h c))
+
+  pub input_clear : (ts : List Token) (ss : List Specification) → IsInput ts ss → ClearTokens ts
+      → ClearSpecifications ss
+  input_clear _ _ (input h hs) c =
+      (specification_clear _ _ _ h c, specifications_clear _ _ _ hs (specification_keeps _ _ _ h c))
