@@ -1,5 +1,5 @@
 //! Builds terms in a store, item by item.
-ghost use Rattle.std.specs.Prelude.{◌≡◌, ◌+◌, ◌<◌, ◌≤◌, ◌++◌, ◌∷◌, [], true, All, OnOk, OnErr, length, sum_by};
+ghost use Rattle.std.specs.Prelude.{◌≡◌, ◌+◌, ◌<◌, ◌≤◌, ◌++◌, ◌∷◌, [], true, All, OnOk, OnErr, length};
 ghost use Rattle.term_model.specs.Tree.{nodes, IsGround};
 ghost use Rattle.term_model.specs.Postorder.{arity_of};
 ghost use Rattle.terms_api.specs.Terms.{IsSound, MayBuild, but_last, asked, trees};
@@ -85,7 +85,7 @@ pub(crate) fn build_terms(store: &mut PlainStore, terms: &[Flat]) -> Result<(), 
     requires empty { store.old.stack ≡ [] }
     requires ground { All IsGround terms.now }
     requires width { All (IsNarrow store.old.widest) terms.now }
-    requires room { sum_by nodes terms.now ≤ store.old.room }
+    requires room { All (λ t. length terms.now + nodes t ≤ store.old.room) terms.now }
     ensures built { OnOk result (trees (store_of store.new) ≡ terms.now) }
     ensures full { OnErr result (length store.old.trees < different terms.now) }
     ensures inside { store.new.inside ≡ true }

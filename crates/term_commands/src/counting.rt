@@ -1,30 +1,29 @@
 //! How large a store terms need.
-ghost use Rattle.std.specs.Prelude.{◌≡◌, ◌≤◌, All, IfSome, max, sum_by};
+ghost use Rattle.std.specs.Prelude.{◌≤◌, ◌+◌, All, IfSome, length};
 ghost use Rattle.term_model.specs.Tree.{nodes};
 ghost use Rattle.term_model.specs.Postorder.{arity_of};
 ghost use Rattle.term_commands.specs.Building.{IsNarrow};
 
 use term_model::{Flat, Item};
 
-/// How many items the terms have, where 32 bits hold it.
-fn item_count(terms: &[Flat]) -> Option<u32>
-    ensures { IfSome result (λ count. count ≡ sum_by nodes terms.now) }
+/// The most nodes that a term has.
+fn most_nodes(terms: &[Flat]) -> usize
+    ensures { All (λ t. nodes t ≤ result) terms.now }
 {
-    let mut count: u32 = 0;
+    let mut most = 0;
     for term in terms {
-        let items = u32::try_from(term.node_count()).ok()?;
-        count = count.checked_add(items)?;
+        most = term.node_count().max(most);
     }
-    Some(count)
+    most
 }
 
-/// The room of a stack on which the terms are built: the greater of 1 and the number of their items, where 32 bits
-/// hold it.
+/// The room of a stack on which the terms are built one after another, each above those before it: the number of
+/// terms, and the nodes of the largest, where 32 bits hold it.
 pub(crate) fn depth_for(terms: &[Flat]) -> Option<u32>
-    ensures { IfSome result (λ depth. depth ≡ max (sum_by nodes terms.now) 1) }
+    ensures { IfSome result (λ depth. All (λ t. length terms.now + nodes t ≤ depth) terms.now) }
 {
-    let count = item_count(terms)?;
-    Some(count.max(1))
+    let depth = terms.len().checked_add(most_nodes(terms))?;
+    u32::try_from(depth).ok()
 }
 
 /// The most arguments that an item takes.

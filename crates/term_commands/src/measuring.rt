@@ -14,13 +14,12 @@ use term_model::Flat;
 use term_text::{SizeMarks, TermSizes, stack_sizes};
 use terms_api::Terms;
 
+/// How many rows are tried first: a store of so few rows is made at once, and serves most inputs.
+const FEW_ROWS: u32 = 16_384;
+
 /// How many different subtrees the terms have together, and how many nodes, at most 2^64 - 1. They are built in a
 /// store of so many rows, which suffice exactly where there are no more different subtrees.
-pub(crate) fn sizes_together(
-    alloc: Global,
-    terms: &[Flat],
-    rows: u32,
-) -> Result<TermSizes, TermsFault>
+fn sizes_in(alloc: Global, terms: &[Flat], rows: u32) -> Result<TermSizes, TermsFault>
     requires { All IsGround terms.now }
     ensures distinct { IfOk result (λ sizes. sizes.distinct ≡ different terms.now) }
     ensures nodes { IfOk result (λ sizes. sizes.nodes ≡ saturated (sum_by nodes terms.now)) }
@@ -35,4 +34,24 @@ pub(crate) fn sizes_together(
     build_terms(&mut store, terms)?;
     let mut marks = SizeMarks::new(alloc, rows)?;
     Ok(stack_sizes(&mut store, &mut marks))
+}
+
+/// The same, with few rows first, and with all of them only where those don't do.
+pub(crate) fn sizes_together(
+    alloc: Global,
+    terms: &[Flat],
+    rows: u32,
+) -> Result<TermSizes, TermsFault>
+    requires { All IsGround terms.now }
+    ensures distinct { IfOk result (λ sizes. sizes.distinct ≡ different terms.now) }
+    ensures nodes { IfOk result (λ sizes. sizes.nodes ≡ saturated (sum_by nodes terms.now)) }
+    ensures fit { IfOk result (λ sizes. different terms.now ≤ rows) }
+    ensures uncounted { IfErr result (IsUncounted rows terms.now) }
+{
+    if rows > FEW_ROWS {
+        if let Ok(sizes) = sizes_in(alloc, terms, FEW_ROWS) {
+            return Ok(sizes);
+        }
+    }
+    sizes_in(alloc, terms, rows)
 }

@@ -9,6 +9,7 @@ pub mod TakenUp
 pub mod Parts
 pub mod Named
 pub mod Nodes
+pub mod Room
 pub mod State
 pub mod Shown
 pub mod Steps

@@ -1,59 +1,59 @@
 //! A text that is written from its end.
-ghost use Rattle.std.specs.Prelude.{◌≡◌, ◌++◌, ◌∷◌, [], OnOk, OnErr};
+ghost use Rattle.std.specs.Prelude.{◌≡◌, ◌++◌, ◌∷◌, [], IfOk, OnOk, OnErr};
 
+use crate::room::Room;
 use std::alloc::{AllocError, Global};
 use std::marker::Model;
 
-/// A text that grows at its front. It is kept from its end, and contracts see it from its front.
+/// A text that grows at its front. Contracts see it alone.
 #[derive(Drop)]
 pub(crate) struct Backwards {
-    bytes: Vec<u8>,
+    room: Room,
 }
 
 impl Model for Backwards {
-    ghost use Rattle.std.specs.Prelude.{List, ℕ, reverse};
+    ghost use Rattle.std.specs.Prelude.{List, ℕ};
 
     ghost Value = { List ℕ };
 
-    ghost view = { λ s. reverse s.bytes.items };
+    ghost view = { λ s. s.room.text };
 }
 
 impl Backwards {
-    pub(crate) fn new(alloc: Global) -> Self
-        ensures { result ≡ [] }
+    /// No text, and room for so many bytes. It grows where they don't suffice.
+    pub(crate) fn new(alloc: Global, size: usize) -> Result<Self, AllocError>
+        ensures { IfOk result (λ text. text ≡ []) }
     {
-        Backwards {
-            bytes: Vec::new(alloc),
-        }
+        let room = Room::new(alloc, size)?;
+        Ok(Backwards { room })
     }
 
     /// Puts a byte before the text.
+    #[inline(always)]
     pub(crate) fn put_byte(&mut self, byte: u8) -> Result<(), AllocError>
         ensures { OnOk result (self.new ≡ byte ∷ self.old) }
     {
-        self.bytes.push(byte)?;
+        self.room.make_room(1)?;
+        self.room.put_byte(byte);
         Ok(())
     }
 
     /// Puts bytes before the text.
+    #[inline(always)]
     pub(crate) fn put(&mut self, bytes: &[u8]) -> Result<(), AllocError>
         ensures { OnOk result (self.new ≡ bytes.now ++ self.old) }
     {
-        let mut at = bytes.len();
-        while at > 0 {
-            at -= 1;
-            self.put_byte(bytes[at])?;
-        }
+        self.room.make_room(bytes.len())?;
+        self.room.put(bytes);
         Ok(())
     }
 
     /// Puts the text behind what `out` has. An `Err` changes nothing.
-    pub(crate) fn append_to(mut self, out: &mut Vec<u8>) -> Result<(), AllocError>
+    pub(crate) fn append_to(self, out: &mut Vec<u8>) -> Result<(), AllocError>
         ensures ok { OnOk result (out.new.items ≡ out.old.items ++ self) }
         ensures err { OnErr result (out.new.items ≡ out.old.items) }
     {
-        self.bytes.reverse();
-        out.extend_from_slice(self.bytes.as_slice())?;
+        out.extend_from_slice(self.room.text())?;
         Ok(())
     }
 }

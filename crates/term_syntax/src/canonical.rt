@@ -9,6 +9,9 @@ use faults::Memory;
 use symbol_pool::Symbols;
 use term_model::Flat;
 
+/// How much room is taken for each item at first.
+const BYTES_AN_ITEM: usize = 4;
+
 /// Puts the canonical text of a term without variables, whose symbols are held, behind what `out` has.
 ///
 /// There is no white space in it, names are plain where they can be and else in quotes, integers are decimal
@@ -21,8 +24,9 @@ pub fn write_term(term: &Flat, symbols: &Symbols, out: &mut Vec<u8>) -> Result<(
         (out.new.items ≡ out.old.items ++ canonical symbols.now term.now) }
     ensures unchanged { OnErr result (out.new.items ≡ out.old.items) }
 {
-    let mut writer = Writer::new(*out.allocator());
     let items = term.items();
+    let size = items.len().saturating_mul(BYTES_AN_ITEM);
+    let mut writer = Writer::new(*out.allocator(), size)?;
     let mut at = items.len();
     while at > 0 {
         at -= 1;

@@ -39,7 +39,7 @@ fn flat_of(alloc: Global, items: &[Item], nodes: &[Node]) -> Result<Flat, AllocE
 {
     let mut spelled = Vec::with_capacity(alloc, nodes.len())?;
     for node in nodes {
-        push_items(&mut spelled, item_at(items, node.part), node.cells)?;
+        push_items(&mut spelled, item_at(items, node.part as usize), node.cells)?;
     }
     match Flat::of(spelled) {
         Some(flat) => Ok(flat),

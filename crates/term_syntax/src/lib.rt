@@ -11,6 +11,7 @@ mod name;
 mod parser;
 mod reading;
 mod refused;
+mod room;
 mod scanner;
 mod symbols;
 mod token;

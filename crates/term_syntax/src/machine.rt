@@ -1,5 +1,5 @@
 //! Reads tokens one at a time: where in an input it stands, and what was read so far.
-ghost use Rattle.std.specs.Prelude.{◌≡◌, Some, None, IfSome, IfNone};
+ghost use Rattle.std.specs.Prelude.{◌≡◌, Some, None, IfSome, IfNone, IfOk, IfErr};
 ghost use Rattle.term_syntax.specs.Steps as steps;
 ghost use Rattle.term_syntax.specs.Steps.{Takes};
 ghost use Rattle.term_syntax.specs.Shown.{machine_in, parts_in, token_in, kind_at};
@@ -17,7 +17,7 @@ use std::mem;
 /// token says stands in the text.
 #[derive(Clone, Copy)]
 pub(crate) struct Entry {
-    pub(crate) place: usize,
+    pub(crate) place: u32,
     pub(crate) count: u32,
     pub(crate) over: bool,
     pub(crate) shape: Shape,
@@ -26,7 +26,7 @@ pub(crate) struct Entry {
 /// A whole term, by the number of its part; a list ends in as many cells.
 #[derive(Clone, Copy)]
 pub(crate) struct Node {
-    pub(crate) part: usize,
+    pub(crate) part: u32,
     pub(crate) cells: u32,
 }
 
@@ -34,7 +34,7 @@ pub(crate) struct Node {
 #[derive(Clone, Copy)]
 pub(crate) struct Group {
     pub(crate) called: bool,
-    pub(crate) part: usize,
+    pub(crate) part: u32,
     pub(crate) count: u32,
 }
 
@@ -45,7 +45,7 @@ pub(crate) enum Place {
     Settled,
     Bracketed,
     Expected,
-    Headed(usize),
+    Headed(u32),
 }
 
 /// Why a token isn't taken.
@@ -72,6 +72,18 @@ pub(crate) struct Machine {
     pub(crate) parts: Parts,
     pub(crate) nodes: Sequence<Node>,
     pub(crate) terms: Sequence<Sequence<Node>>,
+}
+
+// The number in 32 bits, which hold each place and each number of a part of a text that is read.
+#[inline(always)]
+fn in_32_bits(n: usize) -> Result<u32, Stop>
+    ensures number { IfOk result (λ number. number ≡ n) }
+    ensures memory { IfErr result (λ stop. stop ≡ Memory) }
+{
+    match u32::try_from(n) {
+        Ok(number) => Ok(number),
+        Err(_) => Err(Stop::Memory),
+    }
 }
 
 impl Machine {
@@ -148,7 +160,7 @@ impl Machine {
     // A term begins; its part has this number.
     #[tactic(auto, using(crate::proofs::Keeping::parts_push, crate::proofs::Keeping::parts_many))]
     #[inline(always)]
-    fn begin(&mut self, text: &[u8], token: Token) -> Result<usize, Stop>
+    fn begin(&mut self, text: &[u8], token: Token) -> Result<u32, Stop>
         ensures { steps.Begins (machine_in text.now self.old) token.place
             (kind_at text.now token.place token.shape) result (machine_in text.now self.new) }
     {
@@ -157,9 +169,10 @@ impl Machine {
             Some(group) => group.called && group.count == 16,
             None => false,
         };
-        let part = self.parts.len();
+        let part = in_32_bits(self.parts.len())?;
+        let place = in_32_bits(token.place)?;
         self.parts.push(Entry {
-            place: token.place,
+            place,
             count: 0,
             over,
             shape: token.shape,
@@ -168,13 +181,7 @@ impl Machine {
     }
 
     #[inline(always)]
-    fn open_group(
-        &mut self,
-        text: &[u8],
-        called: bool,
-        part: usize,
-        place: Place,
-    ) -> Result<(), Stop>
+    fn open_group(&mut self, text: &[u8], called: bool, part: u32, place: Place) -> Result<(), Stop>
         ensures { Takes (steps.open_group called part place (machine_in text.now self.old))
             result (machine_in text.now self.new) }
     {
@@ -188,7 +195,7 @@ impl Machine {
 
     // A term is whole: a list of so many cells, or none.
     #[inline(always)]
-    fn end(&mut self, alloc: Global, text: &[u8], part: usize, cells: u32) -> Result<(), Stop>
+    fn end(&mut self, alloc: Global, text: &[u8], part: u32, cells: u32) -> Result<(), Stop>
         requires { AreCountsFew 1 self.old.groups }
         ensures { Takes (steps.end part cells (machine_in text.now self.old))
             result (machine_in text.now self.new) }
@@ -269,7 +276,7 @@ impl Machine {
         ensures groups { self.new.groups ≡ self.old.groups }
     {
         let _ = text;
-        self.parts.set_count(group.part, group.count);
+        self.parts.set_count(group.part as usize, group.count);
     }
 
     // What may come behind an opening bracket.
@@ -291,7 +298,7 @@ impl Machine {
         &mut self,
         alloc: Global,
         text: &[u8],
-        part: usize,
+        part: u32,
         token: Token,
     ) -> Result<(), Stop>
         requires { AreCountsFew 2 self.old.groups }

@@ -22,6 +22,17 @@ pub(crate) enum Cut {
     Whole(Token, usize),
 }
 
+// Each byte that may stand in a plain name is at its own place, and a comma is at every other place.
+static NAME_BYTES: [u8; 256] = *b"\
+    ,,,,,,,,,,,,,,,,,,,,,,,,,,,,,,,,\
+    ,,,,,,,',,,,,-.,0123456789,,,,,,\
+    ,ABCDEFGHIJKLMNOPQRSTUVWXYZ,,,,_\
+    ,abcdefghijklmnopqrstuvwxyz,,,,,\
+    ,,,,,,,,,,,,,,,,,,,,,,,,,,,,,,,,\
+    ,,,,,,,,,,,,,,,,,,,,,,,,,,,,,,,,\
+    ,,,,,,,,,,,,,,,,,,,,,,,,,,,,,,,,\
+    ,,,,,,,,,,,,,,,,,,,,,,,,,,,,,,,,";
+
 fn is_space(byte: u8) -> bool
     ensures { result ≡ spec.is_space byte }
 {
@@ -37,7 +48,7 @@ pub(crate) fn begins_name(byte: u8) -> bool
 pub(crate) fn continues_name(byte: u8) -> bool
     ensures { result ≡ spec.continues_name byte }
 {
-    byte.is_ascii_alphanumeric() || b"_'.-".contains(&byte)
+    NAME_BYTES[byte as usize] != b','
 }
 
 // The place after the name bytes that stand from `start` on.

@@ -71,20 +71,16 @@ fn take_part(
     ensures refused { IfErr result (IsPartFault symbols.old (part_in text.now part)) }
     ensures unchanged { OnErr result (symbols.new ≡ symbols.old) }
 {
+    let place = part.place as usize;
     if part.over {
-        return Err(refused(kinds::LIMIT, part.place));
+        return Err(refused(kinds::LIMIT, place));
     }
     match part.shape {
-        Shape::Word => take_symbol(
-            plain_name_at(text, part.place),
-            part.count,
-            part.place,
-            symbols,
-        ),
-        Shape::Quoted => take_quoted(alloc, text, part.place, part.count, symbols),
-        Shape::Number => match integer_at(text, part.place) {
+        Shape::Word => take_symbol(plain_name_at(text, place), part.count, place, symbols),
+        Shape::Quoted => take_quoted(alloc, text, place, part.count, symbols),
+        Shape::Number => match integer_at(text, place) {
             Some(value) => Ok(Item::Int(value)),
-            None => Err(refused(kinds::BAD_NUMBER, part.place)),
+            None => Err(refused(kinds::BAD_NUMBER, place)),
         },
         Shape::At(_) => Ok(Item::Nil),
     }

@@ -1,5 +1,5 @@
 //! Writes the items of a term from the last to the first, with an explicit stack of open groups.
-ghost use Rattle.std.specs.Prelude.{◌≡◌, ◌++◌, ◌∷◌, ◌<◌, [], length, OnOk, OnErr};
+ghost use Rattle.std.specs.Prelude.{◌≡◌, ◌++◌, ◌∷◌, ◌<◌, [], length, IfOk, OnOk, OnErr};
 ghost use Rattle.std.specs.List.{list_all};
 ghost use Rattle.term_syntax.specs.Tokens as tokens;
 ghost use Rattle.term_syntax.specs.Canonical as canonical;
@@ -98,14 +98,15 @@ fn put_opening(
 }
 
 impl Writer {
-    pub(crate) fn new(alloc: Global) -> Self
-        ensures { result ≡ record { text = []; frames = []; cells = 0 } }
+    /// No text yet, and room for so many bytes.
+    pub(crate) fn new(alloc: Global, size: usize) -> Result<Self, AllocError>
+        ensures { IfOk result (λ w. w ≡ record { text = []; frames = []; cells = 0 }) }
     {
-        Writer {
-            text: Backwards::new(alloc),
+        Ok(Writer {
+            text: Backwards::new(alloc, size)?,
             frames: Stack::new(alloc),
             cells: 0,
-        }
+        })
     }
 
     // A term was written.

@@ -1,5 +1,4 @@
-use Rattle.std.proofs.Common.{◌≡◌, ◌+◌, ◌≤◌, true, length, take, drop, sum_by}
-use Rattle.term_model.specs.Tree.{nodes}
+use Rattle.std.proofs.Common.{◌≡◌, true, take}
 use Rattle.terms_api.specs.Terms.{IsSound, trees}
 use Rattle.plain_store.specs.Contents.{store_of, IsSame}
 use Rattle.term_commands.proofs.building.build_terms.Given as goal
@@ -9,6 +8,5 @@ invariant-loop-term l = record {
   inside : l.store.inside ≡ true;
   sound : IsSound (store_of l.store);
   built : trees (store_of l.store) ≡ take l.term-index l.terms;
-  room : length l.store.stack + sum_by nodes (drop l.term-index l.terms) ≤ l.store.room;
   same : IsSame l.fn.store l.store;
 }

@@ -1,7 +1,6 @@
 use Rattle.std.proofs.Common.{◌≤◌, All, take, subst, arith}
 use Rattle.std.proofs.lemmas.List.{take_all}
 use Rattle.std.proofs.lemmas.List.Elements.{All-more, All-weaker}
-use Rattle.term_model.specs.declared.Item.{Item}
 use Rattle.term_model.specs.declared.Item.TheVariants.{Var}
 use Rattle.term_model.specs.Postorder.{arity_of}
 use Rattle.term_commands.proofs.counting.most_arguments.Goals as goal

@@ -4,7 +4,7 @@ use Rattle.plain_store.specs.Contents.{Contents}
 use Rattle.term_model.specs.Tree.{Tree}
 use Rattle.term_commands.specs.Different.{different}
 use Rattle.term_commands.proofs.Fitting.{fits}
-use Rattle.term_commands.proofs.measuring.sizes_together.Goals as goal
+use Rattle.term_commands.proofs.measuring.sizes_in.Goals as goal
 
 pub returns-clause-fit : goal.returns-clause-fit
 returns-clause-fit c =
