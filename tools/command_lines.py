@@ -25,6 +25,8 @@ class Command:
     others: list[list[str]] = field(default_factory=list)
     # None stands for a switch, which has no value.
     options: dict[str, Option | None] = field(default_factory=dict)
+    # Pairs of options of which at most one is taken.
+    apart: list[tuple[str, str]] = field(default_factory=list)
 
 
 def commands() -> dict[str, Command]:
@@ -41,6 +43,8 @@ def commands() -> dict[str, Command]:
         elif entry[0] == "option":
             least, most, default = entry[2:5]
             last.options[entry[1]] = None if least == "-" else Option(int(least), int(most), int(default))
+        elif entry[0] == "apart":
+            last.apart.append((entry[1], entry[2]))
     return found
 
 
@@ -70,4 +74,7 @@ def options_given(command: Command, words: list[str]) -> tuple[dict[str, str], l
                     + (f", and {value} is none" if value else "")
                 )
         given[name] = value
+    for one, other in command.apart:
+        if one in given and other in given:
+            raise ValueError(f"{one} and {other} aren't taken together")
     return given, plain

@@ -18,7 +18,7 @@ use Rattle.rewrite_workers.proofs.Dealing.{hit, times_cons, times_append, hit_sa
 use Rattle.rewrite_workers.proofs.Dividing.{times_none}
 use Rattle.shared_work.specs.Sharing.{NamesWhatItBuilt, named_by}
 use Rattle.shared_work.specs.Fronts.{NamesFronts}
-use Rattle.rewrite_workers.specs.declared.lines.Line.{Line}
+use Rattle.rewrite_workers.specs.declared.lines.Lines.{Lines}
 use Rattle.rewrite_workers.specs.Lined.{worker_of}
 use Rattle.rec_check.specs.Spelled.{Specified}
 use Rattle.rec_top.specs.Rewritten.{Spells}
@@ -170,9 +170,9 @@ fronts s rules terms workers lists long built = record {
 }
 
 -- of the lines of an input
-pub whole_front : (s : Settings) (input : List ℕ) (lines : List Line) (lists : List (List Entry)) → ((spec : Specified) × Spells input spec × AreLinesOf s spec lines)
-    → SpellsSuch input (NamesAll (map worker_of lines) lists s) → SpellsSuch input (NamesAllFronts lists s)
-whole_front s input lines lists made built =
+pub whole_front : (s : Settings) (input : List ℕ) (all : Lines) (lists : List (List Entry)) → ((spec : Specified) × Spells input spec × AreLinesOf s spec all)
+    → SpellsSuch input (NamesAll (map worker_of all.list.items) lists s) → SpellsSuch input (NamesAllFronts lists s)
+whole_front s input all lists made built =
     let same = one_specification input made.0 built.0 made.1 built.1 in
-    let split = subst (λ (spec : Specified). IsSplit s.workers (map worker_of lines) (length spec.terms)) same made.2.workers in
-    (built.0, built.1, fronts s built.0.rules built.0.terms (map worker_of lines) lists split.each built.2)
+    let split = subst (λ (spec : Specified). IsSplit s.workers (map worker_of all.list.items) (length spec.terms)) same made.2.workers in
+    (built.0, built.1, fronts s built.0.rules built.0.terms (map worker_of all.list.items) lists split.each built.2)

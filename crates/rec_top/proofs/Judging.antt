@@ -39,7 +39,7 @@ never : (output : Output) → output.refuted ≡ false → output.refuted ≡ tr
 never output f t = let bad : false ≡ true = sym f ∙ t in cc
 
 refuted_by : (c : Command) (s : Settings) (input : List ℕ) (output : Output) → IsOutputOf c s input output → output.refuted ≡ true → IsRefutedBy c input
-refuted_by Rewrite s input output o e = never output (ap (λ (x : Output). x.refuted) o.output_is) e
+refuted_by Rewrite s input output o e = never output (ap (λ (x : Output). x.refuted) o.0.output_is) e
 refuted_by Drill s input output o e = never output (ap (λ (x : Output). x.refuted) o.output_is) e
 refuted_by Schedule s input output o e = never output (ap (λ (x : Output). x.refuted) o.output_is) e
 refuted_by Terms s input output o e = never output o.refuted e

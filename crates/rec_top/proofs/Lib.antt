@@ -16,3 +16,7 @@ pub mod AtOnce
 pub mod LogVerdicts
 pub mod Judging
 pub mod Tracing
+pub mod Pushing
+pub mod Traces
+pub mod Unconditional
+pub mod Accepting

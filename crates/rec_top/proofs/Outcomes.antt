@@ -65,7 +65,7 @@ count_stopped s (Err why) stop lists is (inr h) = let same : why ≡ stop = cc i
 
 -- ---- the history of an answer that is told of lines
 module _ (s : Settings) (input : List ℕ) (lines : Lines) (lists : List (List Entry)) (legal : IsLegal s.rows (chronicle lists)) (rises : EachRises lists) (few : CollectsFew s lists) (count : length lists ≡ s.workers)
-    (made : (spec : Specified) × Spells input spec × AreLinesOf s spec lines.list.items) (built : SpellsSuch input (NamesAll (map worker_of lines.list.items) lists s)) where
+    (made : (spec : Specified) × Spells input spec × AreLinesOf s spec lines) (built : SpellsSuch input (NamesAll (map worker_of lines.list.items) lists s)) where
   told_lines : (a : Result Answer Stop) → IfOk a (λ answer. answer.workers ≡ map worker_of lines.list.items) → IfErr a (λ why. why ≡ Memory) → TellsTerms s (SpellsSuch input) a lists
   told_lines (Ok answer) workers why = record {
     legal = legal;
@@ -81,15 +81,15 @@ module _ (s : Settings) (input : List ℕ) (lines : Lines) (lists : List (List E
     collects = few;
     each = inl count;
     answered = tt;
-    stopped = subst (TellsStop s (SpellsSuch input) lists) (sym why) (inr (whole_front s input lines.list.items lists made built));
+    stopped = subst (TellsStop s (SpellsSuch input) lists) (sym why) (inr (whole_front s input lines lists made built));
   }
 
 pub tells_lines : (s : Settings) (input : List ℕ) (r : Result Lines Stop) (lines : Lines) (a : Result Answer Stop) (lists : List (List Entry)) → r ≡ Ok lines → IsLegal s.rows (chronicle lists) → EachRises lists → CollectsFew s lists → CountsWorkers s r lists
-    → IfOk r (λ l. (spec : Specified) × Spells input spec × AreLinesOf s spec l.list.items) → IfOk r (λ l. SpellsSuch input (NamesAll (map worker_of l.list.items) lists s))
+    → IfOk r (λ l. (spec : Specified) × Spells input spec × AreLinesOf s spec l) → IfOk r (λ l. SpellsSuch input (NamesAll (map worker_of l.list.items) lists s))
     → IfOk a (λ answer. answer.workers ≡ map worker_of lines.list.items) → IfErr a (λ why. why ≡ Memory) → TellsTerms s (SpellsSuch input) a lists
 tells_lines s input r lines a lists is legal rises few count made built workers why =
     told_lines s input lines lists legal rises few (count_of s r lines lists is count)
-    (if_ok (λ (l : Lines). (spec : Specified) × Spells input spec × AreLinesOf s spec l.list.items) r lines is made)
+    (if_ok (λ (l : Lines). (spec : Specified) × Spells input spec × AreLinesOf s spec l) r lines is made)
     (if_ok (λ (l : Lines). SpellsSuch input (NamesAll (map worker_of l.list.items) lists s)) r lines is built) a workers why
 
 -- and of one without lines

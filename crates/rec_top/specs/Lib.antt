@@ -4,10 +4,12 @@ pub mod Conditioned
 pub mod Drilled
 pub mod Histories
 pub mod Input
+pub mod Laws
 pub mod Lines
 pub mod Output
 pub mod Rewritten
 pub mod Run
+pub mod Traced
 pub mod Sequence
 pub mod Stops
 pub mod Written

@@ -12,7 +12,7 @@ use Rattle.term_commands.specs.Listing.{IsListed, IsTooMuch, IsTextFault}
 use Rattle.term_commands.specs.Packing.{IsPacked}
 use Rattle.term_commands.specs.Unpacking.{IsUnpacked, IsFileFault}
 use Rattle.rec_top.specs.Written.{Output}
-use Rattle.rec_top.specs.Rewritten.{IsRewritten, IsSpecificationFault, HasNoConditions, IsConditionFault, RowsAreFew, RowsSuffice, NumbersMayEnd, NumbersSuffice}
+use Rattle.rec_top.specs.Rewritten.{IsRewritten, IsSpecificationFault, IsInputFault, MeetsConditions, conditions_of, HasNoConditions, IsConditionFault, RowsAreFew, RowsSuffice, NumbersMayEnd, NumbersSuffice}
 use Rattle.rec_top.specs.Drilled.{IsDrilled}
 use Rattle.rec_top.specs.Checked.{IsLogChecked, IsLogFault, IsGoodLog, IsBadLog, IsTraceChecked, IsTraceFault, IsDerived, IsUnderived}
 use Rattle.faults.specs.declared.refusal.Refusal.{Refusal}
@@ -65,7 +65,7 @@ pub record IsScheduleFault (seats : ℕ) (input : List ℕ) (fault : Refusal) : 
   pub fault_is : fault ≡ record { kind = at.kind; place = at.line }
 
 abbrev pub IsOutputOf : Command → Settings → List ℕ → Output → Type 0
-IsOutputOf Rewrite s input output = IsRewritten s input output
+IsOutputOf Rewrite s input output = IsRewritten s input output × MeetsConditions (conditions_of s) input
 IsOutputOf Drill s input output = IsDrilled s input output
 IsOutputOf Schedule s input output = IsScheduled s.seats input output
 IsOutputOf Terms s input output = IsTold s.rows input output
@@ -81,7 +81,7 @@ pub record IsOutput (s : Settings) (input : List ℕ) (output : Output) : Type 0
   pub output_is : IsOutputOf s.command s input output
 
 abbrev pub IsFaultOf : Command → Settings → List ℕ → Refusal → Type 0
-IsFaultOf Rewrite s input fault = IsSpecificationFault input fault
+IsFaultOf Rewrite s input fault = IsInputFault (conditions_of s) input fault
 IsFaultOf Drill s input fault = ⊥
 IsFaultOf Schedule s input fault = IsScheduleFault s.seats input fault
 IsFaultOf Terms s input fault = IsTextFault input fault

@@ -1,6 +1,6 @@
 -- Rewriting the terms of a specification: what is written, how many rows and numbers it needs, and what is wrong with an
 -- input.
-use Rattle.std.specs.Prelude.{◌≡◌, ◌⊎◌, ℕ, ◌+◌, ◌*◌, ◌^◌, ◌≤◌, ◌<◌, List, length, false, Some, None, Ok, Err, All}
+use Rattle.std.specs.Prelude.{◌≡◌, ◌⊎◌, ℕ, ◌+◌, ◌*◌, ◌^◌, ◌≤◌, ◌<◌, ◌++◌, if◌then◌else◌, List, length, false, Some, None, Ok, Err, All}
 use Rattle.rec_reader.specs.declared.token.Token.{Token}
 use Rattle.rec_reader.specs.Parsed.{Parsed}
 use Rattle.rec_reader.specs.declared.fail.ReadFail.TheVariants.{Refused}
@@ -16,6 +16,7 @@ use Rattle.rewrite_model.specs.Built.{need_of_all}
 use Rattle.term_model.specs.Tree.{distinct}
 use Rattle.settings.specs.declared.parts.Settings.{Settings}
 use Rattle.rewrite_workers.specs.Works.{built_of, IsInnermost}
+use Rattle.rec_top.specs.Traced.{traces_of}
 use Rattle.rec_top.specs.Sequence.{WriteNames, lines_of, all_values}
 use Rattle.term_text.specs.Text.{HasNames}
 use Rattle.rec_top.specs.Written.{Output}
@@ -41,10 +42,15 @@ pub record IsNamed (spec : Specified) : Type 0 where
   pub rules : WriteNames spec.symbols spec.rules
   pub terms : All (HasNames spec.symbols) spec.terms
 
--- the lines of the terms in order
+-- the lines of the terms in order, and behind them the traces, where these are asked
+abbrev pub bytes_of : Settings → Specified → List ℕ
+bytes_of s spec =
+    if s.trace then lines_of s spec.symbols spec.rules spec.terms ++ traces_of s spec
+    else lines_of s spec.symbols spec.rules spec.terms
+
 abbrev pub output_of : Settings → Specified → Output
 output_of s spec = record {
-  bytes = lines_of s spec.symbols spec.rules spec.terms;
+  bytes = bytes_of s spec;
   values = all_values s spec.rules spec.terms;
   refuted = false;
   terms = length spec.terms;
@@ -80,6 +86,10 @@ IsSpecificationFault input fault = IsByteFault input fault ⊎ IsTokenFault inpu
 -- the rules that are run have no conditions
 abbrev pub HasNoConditions : List ℕ → Type 0
 HasNoConditions input = (syntax : Parsed) → IsRead input syntax → first_if syntax ≡ None
+
+-- whether the settings ask for traces, which are told of rules without conditions alone
+abbrev pub conditions_of : Settings → Conditions
+conditions_of s = if s.trace then conditions.Refused else conditions.Accepted
 
 abbrev pub MeetsConditions : Conditions → List ℕ → Type 0
 MeetsConditions conditions.Accepted input = Unit {0}

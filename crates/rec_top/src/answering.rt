@@ -5,6 +5,7 @@ ghost use Rattle.settings.specs.Words.{AreInRange};
 ghost use Rattle.rec_top.specs.Written.{Output};
 ghost use Rattle.rec_top.specs.Input.{ReadsSource, HasInput};
 ghost use Rattle.rec_top.specs.Output.{IsOutput, IsFault, IsFaultWithin, IsTooLongAt, HasRows, HasNumbers, limit_of, too_long};
+ghost use Rattle.rec_top.specs.Rewritten.{conditions_of};
 ghost use Rattle.rec_top.specs.Run.{GaveOutput, HasNoFault};
 ghost use Rattle.rec_top.specs.Histories.{SpellsSuch, GaveSuch, TellsHistory};
 ghost use Rattle.rec_top.specs.Answered.{IsAnswer, StopsReading, StopsMaking, StopsAnswering, Answers, StopsWith};
@@ -69,6 +70,17 @@ fn input_of<S: Source>(alloc: Global, source: &mut S, limit: u64) -> Result<Vec<
     }
 }
 
+// Whether the rules of terms that are rewritten innermost may have conditions: not where traces are asked.
+fn conditions_of(settings: &Settings) -> Conditions
+    ensures { result ≡ conditions_of settings.now }
+{
+    if settings.trace {
+        Conditions::Refused
+    } else {
+        Conditions::Accepted
+    }
+}
+
 // The output of the command for an input.
 fn output_for<R: Threads + Wait + Sync, G: Gate>(
     rt: &R,
@@ -91,7 +103,7 @@ fn output_for<R: Threads + Wait + Sync, G: Gate>(
     ensures history { TellsHistory settings.now (SpellsSuch input.now) result.answer result.chronicle }
 {
     match settings.command {
-        Command::Rewrite => rewritten(rt, alloc, settings, Conditions::Accepted, input, gate),
+        Command::Rewrite => rewritten(rt, alloc, settings, conditions_of(settings), input, gate),
         Command::Outermost => rewritten(rt, alloc, settings, Conditions::Refused, input, gate),
         Command::Drill => unreachable!(),
         Command::Schedule => Finished::alone(scheduled(alloc, settings, input)),

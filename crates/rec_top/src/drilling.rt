@@ -21,29 +21,29 @@ use crate::stops::Stop;
 use ends::Gate;
 use faults::Memory;
 use rec_drill::drill_text;
-use rewrite_workers::Line;
+use rewrite_workers::Lines;
 use settings::Settings;
 use std::alloc::Global;
 use std::sync::Wait;
 use std::thread::Threads;
 
 // What is told of the lines of a drill.
-fn told(alloc: Global, settings: &Settings, lines: &[Line]) -> Result<Answer, Stop>
+fn told(alloc: Global, settings: &Settings, lines: &Lines) -> Result<Answer, Stop>
     ensures made { (spec : Specified) → AreLinesOf settings.now spec lines.now
         → IfOk result (λ answer. IsAnswer settings.now.workers answer (drill_output settings.now spec)) }
-    ensures workers { IfOk result (λ answer. answer.workers ≡ map worker_of lines.now) }
+    ensures workers { IfOk result (λ answer. answer.workers ≡ map worker_of lines.now.list.items) }
     ensures stopped { IfErr result (λ why. why ≡ stop.Memory) }
 {
     let output = counts(
         alloc,
         settings.count,
-        count_values(lines),
-        total_spent(lines),
+        count_values(&lines.list),
+        total_spent(&lines.list),
     )?;
-    let workers = workers_of(alloc, lines)?;
+    let workers = workers_of(alloc, &lines.list)?;
     Ok(Answer {
         output,
-        values: are_values(lines),
+        values: are_values(&lines.list),
         refuted: false,
         workers,
     })
@@ -98,7 +98,7 @@ pub fn drilled<R: Threads + Wait + Sync, G: Gate>(
     );
     match lines {
         Ok(lines) => Finished {
-            answer: told(alloc, settings, &lines.list),
+            answer: told(alloc, settings, &lines),
             chronicle,
         },
         Err(stop) => Finished {

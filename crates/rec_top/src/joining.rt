@@ -12,8 +12,8 @@ use rewrite_workers::Line;
 use std::alloc::Global;
 use term_lines::LineKind;
 
-// Whether a line is a value.
-fn is_value(line: &Line) -> bool
+/// Whether a line is a value.
+pub fn is_value(line: &Line) -> bool
     ensures { result ≡ is_value_kind line.now.kind }
 {
     match line.kind {

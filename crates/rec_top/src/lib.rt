@@ -5,7 +5,9 @@ mod answering;
 mod answers;
 mod checking;
 mod drilling;
+mod events;
 mod joining;
+mod laws;
 mod listing;
 mod packing;
 mod results;
@@ -16,6 +18,7 @@ mod stops;
 mod top;
 mod unpacking;
 
+pub use laws::trace_laws;
 pub use node_rows::Chronicle;
 pub use results::{Outcome, Workers};
 pub use stops::out_of_memory;

@@ -1,4 +1,4 @@
-// The command `rewrite`: from a specification to the lines of its terms.
+// The command `rewrite`: from a specification to the lines of its terms, and their traces.
 ghost use Rattle.std.specs.Prelude.{◌≡◌, ◌≤◌, [], Err, IfOk, IfErr, OnOk, length, map};
 ghost use Rattle.settings.specs.Words.{AreInRange};
 ghost use Rattle.settings.specs.declared.parts.Settings.{Settings};
@@ -7,7 +7,7 @@ ghost use Rattle.rewrite_workers.specs.Lined.{worker_of};
 ghost use Rattle.shared_work.specs.Sharing.{CollectsFew, EachRises};
 ghost use Rattle.rec_top.specs.Written.{Output};
 ghost use Rattle.rec_top.specs.Rewritten.{IsRewritten, IsInputFault, MeetsConditions, RowsSuffice, NumbersSuffice, IsNamed, Spells, output_of};
-ghost use Rattle.rec_top.specs.Sequence.{AreLinesOf, StopsTerms};
+ghost use Rattle.rec_top.specs.Sequence.{AreLinesOf, StopsTerms, text_told};
 ghost use Rattle.rec_top.specs.Histories.{CountsWorkers, NamesAll, SpellsSuch, TellsStop, TellsTerms};
 ghost use Rattle.rec_check.specs.Spec.{specified};
 ghost use Rattle.rec_check.specs.Spelled.{Specified};
@@ -18,6 +18,7 @@ ghost use Rattle.rec_top.specs.declared.stops.Stop.TheVariants as stop;
 ghost use Rattle.faults.specs.declared.refusal.Refusal.{Refusal};
 
 use crate::answers::{Answer, Finished};
+use crate::events::push_traces;
 use crate::joining::{are_values, joined, workers_of};
 use crate::specification::{Conditions, specification_of};
 use crate::stops::Stop;
@@ -25,7 +26,6 @@ use ends::Gate;
 use faults::Memory;
 use node_rows::Chronicle;
 use rec_check::Spec;
-use rewrite_workers::Line;
 use rule_match::Plan;
 use settings::Settings;
 use shared_work::{Lines, Rewritten, Work, rewrite_shared};
@@ -67,7 +67,7 @@ fn rewrite<R: Threads + Wait + Sync, G: Gate>(
     requires widest { spec.widest ≡ widest_of spec.symbols }
     requires narrow { spec.widest ≤ 16 }
     requires few { length spec.terms.items ≤ 65535 }
-    ensures made { IfOk result.lines (λ lines. AreLinesOf settings.now (specified spec) lines.list.items) }
+    ensures made { IfOk result.lines (λ lines. AreLinesOf settings.now (specified spec) lines) }
     ensures stopped { IfErr result.lines (StopsTerms settings.now spec.rules.items spec.terms.items) }
     ensures legal { IsLegal settings.now.rows (chronicle result.chronicle) }
     ensures rises { EachRises result.chronicle }
@@ -111,12 +111,12 @@ pub fn lines_for<R: Threads + Wait + Sync, G: Gate>(
 ) -> Worked
     requires in_range { AreInRange settings.now }
     ensures made { IfOk result.lines (λ lines. (spec : Specified)
-        × Spells input.now spec × AreLinesOf settings.now spec lines.list.items) }
+        × Spells input.now spec × AreLinesOf settings.now spec lines) }
     ensures meets { OnOk result.lines (MeetsConditions conditions input.now) }
     ensures stopped { IfErr result.lines (StopsRewriting conditions settings.now input.now) }
     ensures accepted { (spec : Specified) → Spells input.now spec → MeetsConditions conditions input.now
         → RowsSuffice settings.now input.now → NumbersSuffice settings.now input.now
-        → Answers result.lines (λ lines. AreLinesOf settings.now spec lines.list.items) }
+        → Answers result.lines (λ lines. AreLinesOf settings.now spec lines) }
     ensures refused { (fault : Refusal) → IsInputFault conditions input.now fault → StopsWith result.lines fault }
     ensures legal { IsLegal settings.now.rows (chronicle result.chronicle) }
     ensures rises { EachRises result.chronicle }
@@ -132,18 +132,32 @@ pub fn lines_for<R: Threads + Wait + Sync, G: Gate>(
     }
 }
 
+// The lines, each with its end, and the traces behind them, where they are asked.
+fn text_of(alloc: Global, lines: &Lines, traced: bool) -> Result<Vec<u8>, Memory>
+    requires one_each { length lines.now.traces.items ≡ length lines.now.list.items }
+    ensures { IfOk result (λ text. text.items ≡ text_told lines.now traced) }
+{
+    let mut text = joined(alloc, &lines.list)?;
+    if traced {
+        push_traces(&mut text, &lines.list, &lines.traces)?;
+        text.extend_from_slice(b"# end\n")?;
+    }
+    Ok(text)
+}
+
 // What is written of lines.
-fn told(alloc: Global, lines: &[Line]) -> Result<Answer, Stop>
-    ensures made { (s : Settings) (spec : Specified) → AreLinesOf s spec lines.now
-        → IfOk result (λ answer. IsAnswer s.workers answer (output_of s spec)) }
-    ensures workers { IfOk result (λ answer. answer.workers ≡ map worker_of lines.now) }
+fn told(alloc: Global, settings: &Settings, lines: &Lines) -> Result<Answer, Stop>
+    requires one_each { length lines.now.traces.items ≡ length lines.now.list.items }
+    ensures made { (spec : Specified) → AreLinesOf settings.now spec lines.now
+        → IfOk result (λ answer. IsAnswer settings.now.workers answer (output_of settings.now spec)) }
+    ensures workers { IfOk result (λ answer. answer.workers ≡ map worker_of lines.now.list.items) }
     ensures stopped { IfErr result (λ why. why ≡ stop.Memory) }
 {
-    let output = joined(alloc, lines)?;
-    let workers = workers_of(alloc, lines)?;
+    let output = text_of(alloc, lines, settings.trace)?;
+    let workers = workers_of(alloc, &lines.list)?;
     Ok(Answer {
         output,
-        values: are_values(lines),
+        values: are_values(&lines.list),
         refuted: false,
         workers,
     })
@@ -172,7 +186,7 @@ pub fn rewritten<R: Threads + Wait + Sync, G: Gate>(
     let Worked { lines, chronicle } = lines_for(rt, alloc, settings, conditions, input, gate);
     match lines {
         Ok(lines) => Finished {
-            answer: told(alloc, &lines.list),
+            answer: told(alloc, settings, &lines),
             chronicle,
         },
         Err(stop) => Finished {

@@ -14,7 +14,7 @@ use Rattle.innermost.specs.declared.normal.RunFault.{RunFault}
 use Rattle.term_lines.specs.declared.stop.LineStop.{LineStop}
 use Rattle.term_lines.specs.declared.stop.LineStop.TheVariants as stop
 use Rattle.rewrite_workers.specs.Desks.{KeepsDesk}
-use Rattle.rewrite_workers.specs.Ends.{BuiltAll, RefusedLast, Ended, numbered}
+use Rattle.rewrite_workers.specs.Ends.{BuiltAll, BuiltFront, RefusedLast, Ended, numbered}
 use Rattle.rewrite_workers.specs.Works.{term_at, strategy_of, built_of, need_at, need_of}
 use Rattle.rewrite_workers.specs.Working.{WorksOn, more_sweeps}
 
@@ -32,6 +32,19 @@ module _ (s : Settings) (rules : List Rule) where
   pub built_after : (ts us : List Tree) (a b c : Store) → BuiltAll s rules ts a b → BuiltAll s rules us b c → BuiltAll s rules (ts ++ us) a c
   built_after ts us a b c one two =
       two ∙ ap (λ (xs : List Tree). xs ++ built us) one ∙ append_assoc a.built (built ts) (built us) ∙ ap (λ (xs : List Tree). a.built ++ xs) (sym (built-append ts us))
+
+  -- all is the first of it
+  pub all_front : (ts : List Tree) (a b : Store) → BuiltAll s rules ts a b → BuiltFront s rules ts a b
+  all_front ts a b h = record { front = built ts; rest = []; split = sym (append-nil (built ts)); built = h; whole = λ e. h }
+
+  front_after : (ts us : List Tree) (a b c : Store) → BuiltAll s rules ts a b → BuiltFront s rules us b c → BuiltFront s rules (ts ++ us) a c
+  front_after ts us a b c one two = record {
+    front = built ts ++ two.front;
+    rest = two.rest;
+    split = built-append ts us ∙ (ap (λ (xs : List Tree). built ts ++ xs) two.split ∙ sym (append_assoc (built ts) two.front two.rest));
+    built = two.built ∙ (ap (λ (xs : List Tree). xs ++ two.front) one ∙ append_assoc a.built (built ts) two.front);
+    whole = λ e. built_after ts us a b c one (two.whole e);
+  }
 
   refused_after : (ts : List Tree) (t : Tree) (a b c : Store) (fault : RunFault) → BuiltAll s rules ts a b → b.refusals ≡ a.refusals →
       RefusedLast s rules (t ∷ []) b c fault → RefusedLast s rules (ts ++ t ∷ []) a c fault
@@ -52,7 +65,7 @@ module _ (s : Settings) (rules : List Rule) where
   ended_after ts t a b c (Ok x) one same e = (built_after ts (t ∷ []) a b c one e.0, e.1 ∙ same)
   ended_after ts t a b c (Err stop.StoreFull) one same e = refused_after ts t a b c _ one same e
   ended_after ts t a b c (Err stop.Worn) one same e = refused_after ts t a b c _ one same e
-  ended_after ts t a b c (Err stop.Memory) one same e = (built_after ts (t ∷ []) a b c one e.0, e.1 ∙ same)
+  ended_after ts t a b c (Err stop.Memory) one same e = (front_after ts (t ∷ []) a b c one e.0, e.1 ∙ same)
 
   -- a stop is the same, whatever the other answer would be
   pub ended_stop : (A B : Type 0) (ts : List Tree) (a b : Store) (e : LineStop) → Ended {A = A} s rules ts a b (Err e) → Ended {A = B} s rules ts a b (Err e)

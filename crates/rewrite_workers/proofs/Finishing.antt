@@ -16,12 +16,13 @@ use Rattle.settings.specs.declared.parts.Settings.{Settings}
 use Rattle.atomic_table.specs.Seated.{TableId}
 use Rattle.term_lines.specs.declared.stop.LineStop.{LineStop}
 use Rattle.rewrite_workers.specs.declared.fault.AllFault.{AllFault}
-use Rattle.rewrite_workers.specs.declared.lines.Line.{Line}
+use Rattle.rewrite_workers.specs.declared.fault.AllFault.TheVariants.{Memory}
+use Rattle.rewrite_workers.specs.declared.lines.Traced.{Traced}
 use Rattle.rewrite_workers.specs.declared.worker.Numbered.{Numbered}
 use Rattle.rewrite_workers.specs.declared.worker.Share.{Share}
 use Rattle.rewrite_workers.specs.Dealt.{times, once_below}
 use Rattle.rewrite_workers.specs.Works.{term_at, need_of}
-use Rattle.rewrite_workers.specs.Lined.{Said, said, worker_of, line_of, drawn_by}
+use Rattle.rewrite_workers.specs.Lined.{Told, told, maker_of, told_of, drawn_by}
 use Rattle.rewrite_workers.specs.Desks.{IsReady, EachDesk, KeepsDesk}
 use Rattle.rewrite_workers.specs.Ends.{AreApart, BuiltAll, Ended, IsWorst, Rises, Stopped, numbered}
 use Rattle.rewrite_workers.specs.Worked.{IsFresh, drawn_of, number_of, of_terms, IsLineAt, HasLines, HasLinesWhere}
@@ -111,7 +112,7 @@ module _ {D : Type 0} (store : D → Store) (same : D → D → Type 0) (s : Set
   }
 
   -- a fault, and which desks show it
-  pub stopped : (fault : AllFault) → IsWorst (map end_of_share shares) (Some fault) → Stopped store s plan.rules terms olds news fault
+  pub stopped : (fault : AllFault) → IsWorst (map end_of_share shares) (Some fault) ⊎ (fault ≡ Memory) → Stopped store s plan.rules terms olds news fault
   stopped fault worst = record {
     hands = map hand shares;
     ends = map end_of_share shares;
@@ -126,11 +127,11 @@ module _ {D : Type 0} (store : D → Store) (same : D → D → Type 0) (s : Set
           slice_get-map end_of_share shares k ∙ ap (option_map end_of_share) p.at_y,
           p.holds.1.worked.ended,
         ));
-    worst = inl worst;
+    worst = worst;
   }
 
   -- each worker went on until no term was left
-  module _ (blank lines : List Line) (some_desk : 0 < length olds) (well : All (λ (end : Result (Unit {0}) LineStop). end ≡ Ok tt) (map end_of_share shares))
+  module _ (blank lines : List Traced) (some_desk : 0 < length olds) (well : All (λ (end : Result (Unit {0}) LineStop). end ≡ Ok tt) (map end_of_share shares))
       (long : length blank ≡ length terms) (lines_long : length lines ≡ length blank) (placed : PlacesAll shares blank lines) where
     abbrev lined : Share → Type 0
     lined y = y.end ≡ Ok tt → HasLines s symbols plan.rules terms y
@@ -161,7 +162,7 @@ module _ {D : Type 0} (store : D → Store) (same : D → D → Type 0) (s : Set
 
     -- the line of a term, and the share that it is of
     record LineOf (i : ℕ) : Type 0 where
-      line : Line
+      line : Traced
       at : slice_get lines i ≡ Some line
       place : ℕ
       share : Share
@@ -200,25 +201,25 @@ module _ {D : Type 0} (store : D → Store) (same : D → D → Type 0) (s : Set
     lines_length : length lines ≡ length terms
     lines_length = lines_long ∙ long
 
-    pub told : map said lines ≡ map (line_of s symbols plan.rules) terms
-    told = ext_get_or (line_of s symbols plan.rules (Leaf 0)) (map said lines) (map (line_of s symbols plan.rules) terms)
-        (length-map lines said ∙ (lines_length ∙ sym (length-map terms (line_of s symbols plan.rules))))
+    pub all_told : map told lines ≡ map (told_of s symbols plan.rules) terms
+    all_told = ext_get_or (told_of s symbols plan.rules (Leaf 0)) (map told lines) (map (told_of s symbols plan.rules) terms)
+        (length-map lines told ∙ (lines_length ∙ sym (length-map terms (told_of s symbols plan.rules))))
         (λ i h.
-        let inside : i < length terms = let a = length-map lines said in let b = lines_length in omega arith in
+        let inside : i < length terms = let a = length-map lines told in let b = lines_length in omega arith in
         let l = line_at i inside in
-        get_or_from_slice_get (map said lines) i (said l.line) (line_of s symbols plan.rules (Leaf 0)) (slice_get-map said lines i ∙ ap (option_map said) l.at)
-        ∙ ((is_line i inside).said_is ∙ sym (get_or_from_slice_get (map (line_of s symbols plan.rules) terms) i (line_of s symbols plan.rules (term_at terms i)) (line_of s symbols plan.rules (Leaf 0))
-        (slice_get-map (line_of s symbols plan.rules) terms i ∙ ap (option_map (line_of s symbols plan.rules)) (slice_get-get_or terms i (Leaf 0) inside)))))
+        get_or_from_slice_get (map told lines) i (told l.line) (told_of s symbols plan.rules (Leaf 0)) (slice_get-map told lines i ∙ ap (option_map told) l.at)
+        ∙ ((is_line i inside).told_is ∙ sym (get_or_from_slice_get (map (told_of s symbols plan.rules) terms) i (told_of s symbols plan.rules (term_at terms i)) (told_of s symbols plan.rules (Leaf 0))
+        (slice_get-map (told_of s symbols plan.rules) terms i ∙ ap (option_map (told_of s symbols plan.rules)) (slice_get-get_or terms i (Leaf 0) inside)))))
 
     -- the worker of a term is the place of the share
-    worker_is : (i : ℕ) (h : i < length terms) → get_or (map worker_of lines) i 0 ≡ (line_at i h).place
+    worker_is : (i : ℕ) (h : i < length terms) → get_or (map maker_of lines) i 0 ≡ (line_at i h).place
     worker_is i h = let l = line_at i h in
-        get_or_from_slice_get (map worker_of lines) i l.line.worker 0 (slice_get-map worker_of lines i ∙ ap (option_map worker_of) l.at)
+        get_or_from_slice_get (map maker_of lines) i l.line.line.worker 0 (slice_get-map maker_of lines i ∙ ap (option_map maker_of) l.at)
         ∙ ((is_line i h).drawn_by ∙ worker_at l.place l.share l.share_at)
 
-    pub workers_below : All (λ w. w < length olds) (map worker_of lines)
-    workers_below = All-from_get_or (λ w. w < length olds) (map worker_of lines) 0 (λ i h.
-        let inside : i < length terms = let a = length-map lines worker_of in let b = lines_length in omega arith in
+    pub workers_below : All (λ w. w < length olds) (map maker_of lines)
+    workers_below = All-from_get_or (λ w. w < length olds) (map maker_of lines) 0 (λ i h.
+        let inside : i < length terms = let a = length-map lines maker_of in let b = lines_length in omega arith in
         let l = line_at i inside in
         let a = worker_is i inside in let b = slice_get_within shares l.place l.share l.share_at in let c = shares_long in omega arith)
 
@@ -242,27 +243,27 @@ module _ {D : Type 0} (store : D → Store) (same : D → D → Type 0) (s : Set
         let d = times_of_terms (length terms) i (drawn_of l.share) h in
         let e = times_of_terms (length terms) i (drawn_of y) h in absurd (omega arith))
 
-    hand_is : (k : ℕ) (y : Share) → slice_get shares k ≡ Some y → drawn_by k (map worker_of lines) terms ≡ numbered terms (hand y)
-    hand_is k y at = drawn_hand terms k 0 (map worker_of lines) terms (hand y) (record {
-      long = length-map lines worker_of ∙ lines_length;
+    hand_is : (k : ℕ) (y : Share) → slice_get shares k ≡ Some y → drawn_by k (map maker_of lines) terms ≡ numbered terms (hand y)
+    hand_is k y at = drawn_hand terms k 0 (map maker_of lines) terms (hand y) (record {
+      long = length-map lines maker_of ∙ lines_length;
       rises = All-contains (λ (z : Share). Rises (hand z)) shares y
           (all_after Each (λ z. Rises (hand z)) (λ d e x z p. terms_rise (length terms) (drawn_of z) p.1.seat.rises) olds news f.begun shares f.each) (contained shares k y at);
       least = All-weaker (λ i. i < length terms) (λ i. 0 ≤ i) (λ i h. omega arith) (hand y) (terms_below (length terms) (drawn_of y));
       most = All-weaker (λ i. i < length terms) (λ i. i < 0 + length terms) (λ i h. omega arith) (hand y) (terms_below (length terms) (drawn_of y));
       at = λ j h. ap (term_at terms) (sym (zero-add j));
       there = λ j h e.
-          let inside : j < length terms = let a = length-map lines worker_of in let b = lines_length in omega arith in
+          let inside : j < length terms = let a = length-map lines maker_of in let b = lines_length in omega arith in
           let l = line_at j inside in
           let place : l.place ≡ k = sym (worker_is j inside) ∙ e in
           let share : l.share ≡ y = same_some l.share y (sym l.share_at ∙ (ap (slice_get shares) place ∙ at)) in
           subst (λ n. 0 < times n (hand y)) (sym (zero-add j)) (subst (λ (z : Share). 0 < times j (hand z)) share (in_hand j inside));
       here = λ j h there.
-          let inside : j < length terms = let a = length-map lines worker_of in let b = lines_length in omega arith in
+          let inside : j < length terms = let a = length-map lines maker_of in let b = lines_length in omega arith in
           worker_is j inside ∙ one_worker j inside k y at (subst (λ n. 0 < times n (hand y)) (zero-add j) there);
     })
 
-    pub built : EachDesk (λ k old new. BuiltAll s plan.rules (drawn_by k (map worker_of lines) terms) (store old) (store new)) olds news
-    built = each_desk Each (λ k old new. BuiltAll s plan.rules (drawn_by k (map worker_of lines) terms) (store old) (store new)) olds news f.begun shares f.each
+    pub built : EachDesk (λ k old new. BuiltAll s plan.rules (drawn_by k (map maker_of lines) terms) (store old) (store new)) olds news
+    built = each_desk Each (λ k old new. BuiltAll s plan.rules (drawn_by k (map maker_of lines) terms) (store old) (store new)) olds news f.begun shares f.each
         (λ k p. subst (λ (ts : List Tree). BuiltAll s plan.rules ts (store p.d) (store p.e)) (sym (hand_is k p.y p.at_y)) (finished k p).0)
       where
         finished : (k : ℕ) (p : Spot k) → Ended {A = Unit {0}} s plan.rules (numbered terms (hand p.y)) (store p.d) (store p.e) (Ok tt)

@@ -9,7 +9,7 @@ use Rattle.std.proofs.lemmas.Option.{slice_get_within}
 use Rattle.atomic_table.specs.Table.{Me}
 use Rattle.atomic_table.specs.Seated.{TableId}
 use Rattle.rewrite_workers.specs.declared.draws.Drawn.{Drawn}
-use Rattle.rewrite_workers.specs.declared.lines.Line.{Line}
+use Rattle.rewrite_workers.specs.declared.lines.Traced.{Traced}
 use Rattle.rewrite_workers.specs.declared.worker.Numbered.{Numbered}
 use Rattle.rewrite_workers.specs.declared.worker.Share.{Share}
 use Rattle.rewrite_workers.specs.Dealt.{IsIn, times, once_below}
@@ -45,14 +45,14 @@ none_left None [] n none_taken some e = refl
 none_left None (x ∷ xs) n none_taken some e = absurd (falsity (some (omega arith)))
 
 -- some lines are placed, and these are left
-pub record Placing (made rest : List Numbered) (old new : List Line) : Type 0 where
+pub record Placing (made rest : List Numbered) (old new : List Traced) : Type 0 where
   pub done : List Numbered
   pub split : made ≡ rest ++ done
   pub long : length new ≡ length old
   pub left : HasPlaces (length old) rest
   pub placed : Places done old new
 
-pub placing_begins : (made : List Numbered) (old : List Line) → HasPlaces (length old) made → Placing made made old old
+pub placing_begins : (made : List Numbered) (old : List Traced) → HasPlaces (length old) made → Placing made made old old
 placing_begins made old places = record {
   done = [];
   split = sym (append-nil made);
@@ -61,7 +61,7 @@ placing_begins made old places = record {
   placed = λ i h. inr (refl, refl);
 }
 
-place_one : (done : List Numbered) (old new : List Line) (x : Numbered) → x.number < length new → length new ≡ length old → Places done old new →
+place_one : (done : List Numbered) (old new : List Traced) (x : Numbered) → x.number < length new → length new ≡ length old → Places done old new →
     Places (x ∷ done) old (set new x.number x.line)
 place_one done old new x inside long placed i h = dite (ℕ_discrete i x.number)
     (λ (e : i ≡ x.number). inl (
@@ -80,7 +80,7 @@ place_one done old new x inside long placed i h = dite (ℕ_discrete i x.number)
     ))
     (placed i h))
 
-pub placing_goes : (made rest left : List Numbered) (old new : List Line) (x : Numbered) → rest ≡ left ++ x ∷ [] → Placing made rest old new →
+pub placing_goes : (made rest left : List Numbered) (old new : List Traced) (x : Numbered) → rest ≡ left ++ x ∷ [] → Placing made rest old new →
     (x.number < length new) × Placing made left old (set new x.number x.line)
 placing_goes made rest left old new x cut p =
     let all_left : HasPlaces (length old) (left ++ x ∷ []) = subst (HasPlaces (length old)) cut p.left in
@@ -102,11 +102,11 @@ placing_goes made rest left old new x cut p =
     front_of [] y P all = All-nil P
     front_of (z ∷ zs) y P all = All-cons P z zs (All-head P z (zs ++ y ∷ []) all) (front_of zs y P (All-tail P z (zs ++ y ∷ []) all))
 
-pub placing_ends : (made : List Numbered) (old new : List Line) → Placing made [] old new → Places made old new
+pub placing_ends : (made : List Numbered) (old new : List Traced) → Placing made [] old new → Places made old new
 placing_ends made old new p = subst (λ (xs : List Numbered). Places xs old new) (sym p.split) p.placed
 
 -- some shares are taken in, and these are left
-pub record Gathering (table : TableId) (shares rest : List Share) (begun : Drawn) (of : TableId) (me : Me (Unit {0}) Drawn) (old new : List Line) : Type 0 where
+pub record Gathering (table : TableId) (shares rest : List Share) (begun : Drawn) (of : TableId) (me : Me (Unit {0}) Drawn) (old new : List Traced) : Type 0 where
   pub done : List Share
   pub split : shares ≡ rest ++ done
   pub seat : IsIn table of me me.0
@@ -117,7 +117,7 @@ pub record Gathering (table : TableId) (shares rest : List Share) (begun : Drawn
   pub places : All (λ (s : Share). HasPlaces (length old) s.lines.items) rest
   pub placed : PlacesAll done old new
 
-module _ (table : TableId) (shares : List Share) (begun : Drawn) (old : List Line) where
+module _ (table : TableId) (shares : List Share) (begun : Drawn) (old : List Traced) where
   pub gathering_begins : (of : TableId) (me : Me (Unit {0}) Drawn) → me.0 ≡ begun → IsIn table of me me.0 → All (HasOneShare table) shares →
       All (λ (s : Share). HasPlaces (length old) s.lines.items) shares → Gathering table shares shares begun of me old old
   gathering_begins of me same seat ones places = record {
@@ -133,7 +133,7 @@ module _ (table : TableId) (shares : List Share) (begun : Drawn) (old : List Lin
   }
 
   -- the share that is taken in next
-  pub next_is : (rest left : List Share) (share : Share) (of : TableId) (me : Me (Unit {0}) Drawn) (new : List Line) → rest ≡ left ++ share ∷ [] →
+  pub next_is : (rest left : List Share) (share : Share) (of : TableId) (me : Me (Unit {0}) Drawn) (new : List Traced) → rest ≡ left ++ share ∷ [] →
       Gathering table shares rest begun of me old new → HasOneShare table share × HasPlaces (length new) share.lines.items
   next_is rest left share of me new cut g = (
     last_one left share (HasOneShare table) (subst (All (HasOneShare table)) cut g.left),
@@ -144,7 +144,7 @@ module _ (table : TableId) (shares : List Share) (begun : Drawn) (old : List Lin
       last_one : (xs : List Share) (y : Share) (P : Share → Type 0) → All P (xs ++ y ∷ []) → P y
       last_one xs y P all = All-contains P (xs ++ y ∷ []) y all (Contains-push xs y)
 
-  place_more : (done : List Share) (share : Share) (new newer : List Line) → length new ≡ length old → PlacesAll done old new → Places share.lines.items new newer →
+  place_more : (done : List Share) (share : Share) (new newer : List Traced) → length new ≡ length old → PlacesAll done old new → Places share.lines.items new newer →
       PlacesAll (share ∷ done) old newer
   place_more done share new newer long all more i h = ⊎_elim
       (λ (p : IsPlaced share.lines.items newer i). inl (share, contains_first share done, p))
@@ -155,7 +155,7 @@ module _ (table : TableId) (shares : List Share) (begun : Drawn) (old : List Lin
       (more i (subst (λ n. i < n) (sym long) h))
 
   -- one share more is taken in
-  pub gathering_goes : (rest left : List Share) (share : Share) (of of' : TableId) (me me' : Me (Unit {0}) Drawn) (new newer : List Line) → rest ≡ left ++ share ∷ [] →
+  pub gathering_goes : (rest left : List Share) (share : Share) (of of' : TableId) (me me' : Me (Unit {0}) Drawn) (new newer : List Traced) → rest ≡ left ++ share ∷ [] →
       Gathering table shares rest begun of me old new → IsIn table of' me' me'.0 → me'.0.shares ≡ me.0.shares + 1 →
       ((x : ℕ) → times x me'.0.numbers ≡ times x me.0.numbers + times x (drawn_of share)) → length newer ≡ length new → Places share.lines.items new newer →
       Gathering table shares left begun of' me' old newer
@@ -176,7 +176,7 @@ module _ (table : TableId) (shares : List Share) (begun : Drawn) (old : List Lin
       front_of (z ∷ zs) y P all = All-cons P z zs (All-head P z (zs ++ y ∷ []) all) (front_of zs y P (All-tail P z (zs ++ y ∷ []) all))
 
 -- nothing is left
-pub gathering_ends : (table : TableId) (shares : List Share) (begun : Drawn) (of : TableId) (me : Me (Unit {0}) Drawn) (old new : List Line) →
+pub gathering_ends : (table : TableId) (shares : List Share) (begun : Drawn) (of : TableId) (me : Me (Unit {0}) Drawn) (old new : List Traced) →
     Gathering table shares [] begun of me old new → PlacesAll shares old new
 gathering_ends table shares begun of me old new g = subst (λ (xs : List Share). PlacesAll xs old new) (sym g.split) g.placed
 

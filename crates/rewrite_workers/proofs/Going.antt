@@ -17,12 +17,12 @@ use Rattle.rewrite_workers.specs.declared.worker.Numbered.{Numbered}
 use Rattle.rewrite_workers.specs.declared.worker.Share.{Share}
 use Rattle.rewrite_workers.specs.Dealt.{IsIn, drew, times}
 use Rattle.rewrite_workers.specs.Works.{term_at, built_of, need_at, need_of}
-use Rattle.rewrite_workers.specs.Lined.{line_of}
+use Rattle.rewrite_workers.specs.Lined.{told_of}
 use Rattle.rewrite_workers.specs.Ends.{BuiltAll, Ended, Rises, numbered}
 use Rattle.rewrite_workers.specs.Working.{WorksOn}
 use Rattle.rewrite_workers.specs.Worked.{drawn_of, number_of, of_terms, IsFresh, KeepsSeat, AddsLine, Drew, IsLineAt, HasLines, HasLinesWhere, Worked}
 use Rattle.rewrite_workers.proofs.Dealing.{times_snoc, hit_same}
-use Rattle.rewrite_workers.proofs.Ending.{numbered-append, ended_after, works_after, works_begin, works_unbegun, need_most}
+use Rattle.rewrite_workers.proofs.Ending.{numbered-append, all_front, ended_after, works_after, works_begin, works_unbegun, need_most}
 
 pub rises_snoc : (xs : List ℕ) (n : ℕ) → Rises xs → All (λ x. x < n) xs → Rises (xs ++ n ∷ [])
 rises_snoc [] n r h = (All-nil (λ j. n < j), tt)
@@ -180,7 +180,7 @@ module _ (table : TableId) (s : Settings) (symbols : List Named) (rules : List R
 
   -- the line of the term was made
   pub go_on : (a b c : Store) (begun share next last : Share) (n : ℕ) → Going table s symbols rules terms a b begun share → Draws table share next n → n < length terms →
-      KeepsSeat next last → AddsLine next last n (line_of s symbols rules (term_at terms n)) →
+      KeepsSeat next last → AddsLine next last n (told_of s symbols rules (term_at terms n)) →
       Ended {A = Unit {0}} s rules (term_at terms n ∷ []) b c (Ok tt) → WorksOn {A = Unit {0}} s (need_at s rules terms n) b c (Ok tt) →
       Going table s symbols rules terms a c begun last
   go_on a b c begun share next last n g d inside keeps adds ended works =
@@ -202,7 +202,7 @@ module _ (table : TableId) (s : Settings) (symbols : List Named) (rules : List R
             (All-push (IsLineAt s symbols rules terms last.worker) next.lines.items (record { number = n; line = adds.line })
             (subst (λ l. All (IsLineAt s symbols rules terms last.worker) l.items) (sym d.lines)
             (subst (λ w. All (IsLineAt s symbols rules terms w) share.lines.items) (sym (keeps.worker ∙ d.worker)) g.lines))
-            (record { said_is = adds.said_is; drawn_by = adds.worker ∙ sym keeps.worker }));
+            (record { told_is = adds.told_is; drawn_by = adds.worker ∙ sym keeps.worker }));
         places = subst (All (λ (x : Numbered). x.number < length terms)) (sym adds.lines)
             (All-push (λ (x : Numbered). x.number < length terms) next.lines.items (record { number = n; line = adds.line })
             (subst (λ l. All (λ (x : Numbered). x.number < length terms) l.items) (sym d.lines) g.places) inside);
@@ -226,7 +226,7 @@ module _ (table : TableId) (s : Settings) (symbols : List Named) (rules : List R
       let g = begin a share fresh in (
         record { seat = fresh.seat; shares = fresh.shares; rises = g.rises; worker = refl },
         record {
-          ended = (subst (λ (xs : List ℕ). BuiltAll s rules (numbered terms xs) a a) (sym (all_of_terms (length terms) (drawn_of share) g.below)) g.built, refl);
+          ended = (all_front s rules (numbered terms (of_terms (length terms) (drawn_of share))) a a (subst (λ (xs : List ℕ). BuiltAll s rules (numbered terms xs) a a) (sym (all_of_terms (length terms) (drawn_of share) g.below)) g.built), refl);
           works = works_unbegun (Unit {0}) s (need_of s rules terms) a;
           places = g.places;
           lines = tt;

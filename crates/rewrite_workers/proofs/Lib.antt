@@ -10,3 +10,4 @@ pub mod Stopping
 pub mod Crewing
 pub mod Unbegun
 pub mod Trying
+pub mod Beside

@@ -17,16 +17,16 @@ use Rattle.innermost.specs.BuiltTrees.{StoppedBefore}
 use Rattle.innermost.specs.declared.normal.RunFault.{RunFault}
 use Rattle.innermost.specs.declared.normal.RunFault.TheVariants as fault
 use Rattle.term_lines.specs.Strategies.{built_by, points_of, RefusedBy}
-use Rattle.term_lines.specs.Written.{BuildsForLine, CountsRefusals, SweepsForLine}
+use Rattle.term_lines.specs.Written.{BuildsForLine, BuildsFront, CountsRefusals, SweepsForLine}
 use Rattle.term_lines.specs.declared.strategy.Strategy.{Strategy}
 use Rattle.term_lines.specs.declared.strategy.Strategy.TheVariants.{Innermost, Outermost}
 use Rattle.term_lines.specs.declared.ending.Ending.{Ending}
 use Rattle.term_lines.specs.declared.stop.LineStop.{LineStop}
 use Rattle.term_lines.specs.declared.stop.LineStop.TheVariants as stop
 use Rattle.rewrite_workers.specs.Desks.{IsReady}
-use Rattle.rewrite_workers.specs.Ends.{BuiltAll, RefusedLast, Ended}
+use Rattle.rewrite_workers.specs.Ends.{BuiltAll, BuiltFront, RefusedLast, Ended}
 use Rattle.rewrite_workers.specs.Working.{WorksOn, more_sweeps}
-use Rattle.rewrite_workers.specs.Works.{strategy_of, built_of, IsInnermost}
+use Rattle.rewrite_workers.specs.Works.{strategy_of, tells_events, built_of, IsInnermost}
 
 module _ (s : Settings) (plan : Planned) (term : Tree) (a b c d : Store) (ready : IsReady s plan a) (entered : Entered a b) (numbers : KeepsNumbers b c) (empty : c.stack ≡ []) (left : Left c d) where
   abbrev strategy : Strategy
@@ -46,6 +46,15 @@ module _ (s : Settings) (plan : Planned) (term : Tree) (a b c d : Store) (ready 
 
   all_built : c.built ≡ b.built ++ builds → BuiltAll s plan.rules (term ∷ []) a d
   all_built h = built_same ∙ (h ∙ (ap (λ (xs : List Tree). xs ++ builds) built_before ∙ ap (λ (xs : List Tree). a.built ++ xs) (sym built_one)))
+
+  front_built : BuildsFront strategy (tells_events s plan.rules) plan.rules term s.fuel s.depth b c → BuiltFront s plan.rules (term ∷ []) a d
+  front_built h = record {
+    front = h.front;
+    rest = h.rest;
+    split = built_one ∙ h.split;
+    built = built_same ∙ (h.built ∙ ap (λ (xs : List Tree). xs ++ h.front) built_before);
+    whole = λ e. all_built (h.whole e);
+  }
 
   refusals_before : b.refusals ≡ a.refusals
   refusals_before = ap (λ (x : Store). x.refusals) entered.rest
@@ -97,11 +106,11 @@ module _ (s : Settings) (plan : Planned) (term : Tree) (a b c d : Store) (ready 
     refusals = let p = refusals_before in let q = refusals_same in omega arith;
   }
 
-  pub line_ended : (r : Result Ending LineStop) → BuildsForLine strategy plan.rules term s.fuel s.depth b c r → CountsRefusals b c r → Ended s plan.rules (term ∷ []) a d r
+  pub line_ended : (r : Result Ending LineStop) → BuildsForLine strategy (tells_events s plan.rules) plan.rules term s.fuel s.depth b c r → CountsRefusals b c r → Ended s plan.rules (term ∷ []) a d r
   line_ended (Ok ending) built counts = (all_built built, same_refusals counts)
   line_ended (Err stop.StoreFull) built counts = refused_last fault.StoreFull built counts
   line_ended (Err stop.Worn) built counts = refused_last fault.Worn built counts
-  line_ended (Err stop.Memory) built counts = (all_built built, same_refusals counts)
+  line_ended (Err stop.Memory) built counts = (front_built built, same_refusals counts)
 
   -- nothing is protected where the stack is empty
   load_same : d.load ≤ c.load

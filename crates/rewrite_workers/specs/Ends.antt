@@ -1,5 +1,5 @@
 -- How workers end, and which terms each drew.
-use Rattle.std.specs.Prelude.{◌≡◌, ℕ, ◌<◌, ◌≤◌, ◌⊎◌, List, [], ◌∷◌, ◌++◌, Option, Some, None, Result, Ok, Err, All, Contains, length, slice_get}
+use Rattle.std.specs.Prelude.{◌≡◌, ℕ, ◌<◌, ◌≤◌, ◌⊎◌, List, [], ◌∷◌, ◌++◌, Option, Some, None, Result, Ok, Err, All, Contains, Bool, false, length, slice_get}
 use Rattle.std.specs.List.{flat_map}
 use Rattle.term_model.specs.Tree.{Tree}
 use Rattle.terms_api.specs.Terms.{Store}
@@ -14,7 +14,7 @@ use Rattle.rewrite_workers.specs.declared.fault.AllFault.{AllFault}
 use Rattle.rewrite_workers.specs.declared.fault.AllFault.TheVariants.{StoreFull, Worn, Memory}
 use Rattle.rewrite_workers.specs.Dealt.{times}
 use Rattle.rewrite_workers.specs.Desks.{EachDesk}
-use Rattle.rewrite_workers.specs.Works.{term_at, strategy_of, built_of}
+use Rattle.rewrite_workers.specs.Works.{term_at, strategy_of, tells_events, built_of}
 
 -- the terms with these numbers, in their order
 abbrev pub numbered : List Tree → List ℕ → List Tree
@@ -48,12 +48,21 @@ pub record RefusedLast (s : Settings) (rules : List Rule) (drawn : List Tree) (o
   pub refused : RefusedBy (strategy_of s.command) rules term s.fuel s.depth begun new fault
   pub refusals : old.refusals < new.refusals
 
+-- The desk built the first of what these terms build, in order; all of it where no events are told, since only they want memory
+-- before a term's line.
+pub record BuiltFront (s : Settings) (rules : List Rule) (drawn : List Tree) (old new : Store) : Type 0 where
+  pub front : List Tree
+  pub rest : List Tree
+  pub split : built_of s rules drawn ≡ front ++ rest
+  pub built : new.built ≡ old.built ++ front
+  pub whole : tells_events s rules ≡ false → BuiltAll s rules drawn old new
+
 -- How a worker ended that drew these terms: none was left to draw, or it stopped at the last one, or before it drew any.
 abbrev pub Ended : {A : Type 0} → Settings → List Rule → List Tree → Store → Store → Result A LineStop → Type 0
 Ended s rules drawn old new (Ok _) = BuiltAll s rules drawn old new × (new.refusals ≡ old.refusals)
 Ended s rules drawn old new (Err stop.StoreFull) = RefusedLast s rules drawn old new fault.StoreFull
 Ended s rules drawn old new (Err stop.Worn) = RefusedLast s rules drawn old new fault.Worn
-Ended s rules drawn old new (Err stop.Memory) = BuiltAll s rules drawn old new × (new.refusals ≡ old.refusals)
+Ended s rules drawn old new (Err stop.Memory) = BuiltFront s rules drawn old new × (new.refusals ≡ old.refusals)
 
 -- The fault of several ends: want of memory goes before want of numbers, and that before want of rows.
 abbrev pub IsWorst : List (Result (Unit {0}) LineStop) → Option AllFault → Type 0

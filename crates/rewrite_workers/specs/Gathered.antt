@@ -2,7 +2,7 @@
 use Rattle.std.specs.Prelude.{◌≡◌, ◌⊎◌, ℕ, ◌<◌, List, Result, Some, None, Contains, All, length, map, slice_get, sum_by}
 use Rattle.atomic_table.specs.Seated.{TableId}
 use Rattle.term_lines.specs.declared.stop.LineStop.{LineStop}
-use Rattle.rewrite_workers.specs.declared.lines.Line.{Line}
+use Rattle.rewrite_workers.specs.declared.lines.Traced.{Traced}
 use Rattle.rewrite_workers.specs.declared.worker.Numbered.{Numbered}
 use Rattle.rewrite_workers.specs.declared.worker.Share.{Share}
 use Rattle.rewrite_workers.specs.Dealt.{IsIn, times, once_below}
@@ -22,16 +22,16 @@ abbrev pub HasPlaces : ℕ → List Numbered → Type 0
 HasPlaces count made = All (λ x. x.number < count) made
 
 -- one of these lines is at the place of its number
-abbrev pub IsPlaced : List Numbered → List Line → ℕ → Type 0
-IsPlaced made lines i = (line : Line) × (slice_get lines i ≡ Some line) × Contains made (record { number = i; line = line })
+abbrev pub IsPlaced : List Numbered → List Traced → ℕ → Type 0
+IsPlaced made lines i = (line : Traced) × (slice_get lines i ≡ Some line) × Contains made (record { number = i; line = line })
 
 -- Each place has one of the lines with its number; where there is none it has what it had.
-abbrev pub Places : List Numbered → List Line → List Line → Type 0
+abbrev pub Places : List Numbered → List Traced → List Traced → Type 0
 Places made old new = (i : ℕ) → i < length old → IsPlaced made new i
     ⊎ ((slice_get new i ≡ slice_get old i) × (times i (map number_of made) ≡ 0))
 
 -- the same of the lines of all shares
-abbrev pub PlacesAll : List Share → List Line → List Line → Type 0
+abbrev pub PlacesAll : List Share → List Traced → List Traced → Type 0
 PlacesAll shares old new = (i : ℕ) → i < length old →
     ((share : Share) × Contains shares share × IsPlaced share.lines.items new i)
     ⊎ ((slice_get new i ≡ slice_get old i) × All (λ (share : Share). times i (map number_of share.lines.items) ≡ 0) shares)
@@ -42,7 +42,7 @@ pub record DrawnOnce (shares : List Share) : Type 0 where
   pub once : (x : ℕ) → sum_by (λ (y : Share). times x (drawn_of y)) shares ≡ once_below count x
 
 -- no worker stopped, and the lines of all shares are at their places
-pub record IsCollected (shares : List Share) (blank lines : List Line) : Type 0 where
+pub record IsCollected (shares : List Share) (blank lines : List Traced) : Type 0 where
   pub well : IsWorst (map end_of_share shares) None
   pub long : length lines ≡ length blank
   pub placed : PlacesAll shares blank lines

@@ -7,12 +7,12 @@ use Rattle.rewrite_model.specs.Rule.{Rule}
 use Rattle.settings.specs.declared.parts.Settings.{Settings}
 use Rattle.atomic_table.specs.Seated.{TableId}
 use Rattle.term_lines.specs.declared.stop.LineStop.{LineStop}
-use Rattle.rewrite_workers.specs.declared.lines.Line.{Line}
+use Rattle.rewrite_workers.specs.declared.lines.Traced.{Traced}
 use Rattle.rewrite_workers.specs.declared.worker.Numbered.{Numbered}
 use Rattle.rewrite_workers.specs.declared.worker.Share.{Share}
 use Rattle.rewrite_workers.specs.Dealt.{IsIn, times}
 use Rattle.rewrite_workers.specs.Works.{term_at, need_of}
-use Rattle.rewrite_workers.specs.Lined.{Said, said, line_of}
+use Rattle.rewrite_workers.specs.Lined.{Told, told, told_of}
 use Rattle.rewrite_workers.specs.Ends.{Ended, Rises, numbered}
 use Rattle.rewrite_workers.specs.Working.{WorksOn}
 
@@ -42,11 +42,11 @@ pub record KeepsSeat (old new : Share) : Type 0 where
   pub worker : new.worker ≡ old.worker
 
 -- one line more, of the term with this number
-pub record AddsLine (old new : Share) (number : ℕ) (wanted : Said) : Type 0 where
-  pub line : Line
+pub record AddsLine (old new : Share) (number : ℕ) (wanted : Told) : Type 0 where
+  pub line : Traced
   pub lines : new.lines.items ≡ old.lines.items ++ record { number = number; line = line } ∷ []
-  pub said_is : said line ≡ wanted
-  pub worker : line.worker ≡ old.worker
+  pub told_is : told line ≡ wanted
+  pub worker : line.line.worker ≡ old.worker
 
 -- the same seat with what it has drawn, upwards, and the same worker
 pub record Drew (table : TableId) (old new : Share) : Type 0 where
@@ -57,8 +57,8 @@ pub record Drew (table : TableId) (old new : Share) : Type 0 where
 
 -- the line is that of the term with its number, by this worker
 pub record IsLineAt (s : Settings) (symbols : List Named) (rules : List Rule) (terms : List Tree) (worker : ℕ) (x : Numbered) : Type 0 where
-  pub said_is : said x.line ≡ line_of s symbols rules (term_at terms x.number)
-  pub drawn_by : x.line.worker ≡ worker
+  pub told_is : told x.line ≡ told_of s symbols rules (term_at terms x.number)
+  pub drawn_by : x.line.line.worker ≡ worker
 
 -- the lines of all terms that were drawn, and that no term was left to draw
 pub record HasLines (s : Settings) (symbols : List Named) (rules : List Rule) (terms : List Tree) (share : Share) : Type 0 where

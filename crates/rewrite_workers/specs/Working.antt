@@ -10,10 +10,10 @@ use Rattle.settings.specs.declared.parts.Settings.{Settings}
 use Rattle.term_lines.specs.Written.{SweepsMore}
 use Rattle.term_lines.specs.declared.rewriter.Rewriter.{Rewriter}
 use Rattle.term_lines.specs.declared.stop.LineStop.{LineStop}
-use Rattle.rewrite_workers.specs.Works.{strategy_of, IsInnermost}
+use Rattle.rewrite_workers.specs.Works.{strategy_of, is_traced, IsInnermost}
 use Rattle.term_lines.specs.declared.stop.LineStop.TheVariants as stop
 
--- a rewriter of a plan, with the strategy of the settings' command, and their fuel, depth and rows
+-- a rewriter of a plan, with the strategy of the settings' command, their fuel, depth and rows, and what they ask to be told
 pub record IsRewriterOf (s : Settings) (plan : Planned) (rewriter : Rewriter) : Type 0 where
   pub machine : IsFor plan rewriter.machine
   pub strategy : rewriter.strategy ≡ strategy_of s.command
@@ -21,6 +21,7 @@ pub record IsRewriterOf (s : Settings) (plan : Planned) (rewriter : Rewriter) : 
   pub rows : rewriter.marks ≡ s.rows
   pub fuel : rewriter.fuel ≡ s.fuel
   pub sizes : rewriter.sizes ≡ s.sizes
+  pub traced : rewriter.traced ≡ is_traced s plan.rules
 
 -- how much more often than it built trees a desk may have collected: once, where it refused one
 abbrev pub more_sweeps : {A : Type 0} → Result A LineStop → ℕ

@@ -1,5 +1,6 @@
 -- How the settings ask terms to be rewritten, and what workers ask of the terms and the rules.
-use Rattle.std.specs.Prelude.{◌≡◌, ℕ, ◌<◌, ◌^◌, List, All, length, slice_index_or}
+use Rattle.std.specs.Prelude.{◌≡◌, ℕ, ◌<◌, ◌^◌, ◌==◌, ◌&&◌, Bool, List, All, length, slice_index_or}
+use Rattle.std.specs.List.{list_all}
 use Rattle.term_model.specs.Tree.{Tree, Leaf, IsGround}
 use Rattle.symbol_pool.specs.Pool.{Named}
 use Rattle.rewrite_model.specs.Rule.{Rule}
@@ -11,6 +12,7 @@ use Rattle.rule_match.specs.Planned.{Planned, IsPlain}
 use Rattle.term_text.specs.Text.{HasNames}
 use Rattle.term_lines.specs.Laws.{WritesNames}
 use Rattle.term_lines.specs.Strategies.{built_by_all}
+use Rattle.term_lines.specs.Tracing.{tells}
 use Rattle.term_lines.specs.declared.strategy.Strategy.{Strategy}
 use Rattle.term_lines.specs.declared.strategy.Strategy.TheVariants.{Innermost, Outermost}
 
@@ -35,6 +37,18 @@ strategy_of _ = Innermost
 
 abbrev pub IsInnermost : Settings → Type 0
 IsInnermost s = strategy_of s.command ≡ Innermost
+
+-- whether no rule has a condition
+abbrev pub are_unconditional : List Rule → Bool
+are_unconditional rules = list_all (λ r. length r.conditions == 0) rules
+
+-- whether events are asked, of rules of which they say something
+abbrev pub is_traced : Settings → List Rule → Bool
+is_traced s rules = s.trace && are_unconditional rules
+
+-- whether events are told
+abbrev pub tells_events : Settings → List Rule → Bool
+tells_events s rules = tells (strategy_of s.command) (is_traced s rules)
 
 -- what terms build, in order
 abbrev pub built_of : Settings → List Rule → List Tree → List Tree

@@ -3,9 +3,9 @@ ghost use Rattle.std.specs.Prelude.{◌≡◌, ℕ, ◌+◌, ◌-◌, ◌<◌, �
 ghost use Rattle.rewrite_workers.specs.Dealt.{IsIn, undrawn};
 ghost use Rattle.rewrite_workers.specs.Crews.{IsAt, IsUncut, IsCrew};
 
-use crate::Line;
 use crate::draws::{Draws, Extent, Seat, cut, draws_of};
 use crate::gather::blank_lines;
+use crate::lines::Traced;
 use crate::worker::Share;
 use faults::Memory;
 use std::alloc::Global;
@@ -17,7 +17,7 @@ pub(crate) struct Crew {
     pub draws: Draws,
     pub all: Seat,
     pub shares: Vec<Share>,
-    pub lines: Vec<Line>,
+    pub lines: Vec<Traced>,
 }
 
 // A share for each worker, cut off a seat that has drawn nothing.

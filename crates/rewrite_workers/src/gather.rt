@@ -8,6 +8,7 @@ ghost use Rattle.rewrite_workers.specs.Crews.{IsUncut};
 ghost use Rattle.rewrite_workers.specs.declared.fault.AllFault.TheVariants as all;
 
 use crate::draws::{Draws, Seat, count_drawn, join};
+use crate::lines::Traced;
 use crate::worker::{Numbered, Share};
 use crate::{AllFault, Line, Lines};
 use faults::Memory;
@@ -54,23 +55,27 @@ fn worst_of(shares: &[Share]) -> Option<AllFault>
 }
 
 /// So many lines that aren't made yet.
-pub(crate) fn blank_lines(alloc: Global, count: usize) -> Result<Vec<Line>, Memory>
+pub(crate) fn blank_lines(alloc: Global, count: usize) -> Result<Vec<Traced>, Memory>
     ensures { IfOk result (λ lines. length lines.items ≡ count) }
 {
     let mut lines = Vec::with_capacity(alloc, count)?;
     'blank: while lines.len() < count {
-        lines.push(Line {
+        let line = Line {
             kind: LineKind::TooDeep,
             text: Vec::new(alloc),
             spent: 0,
             worker: 0,
+        };
+        lines.push(Traced {
+            line,
+            events: Vec::new(alloc),
         })?;
     }
     Ok(lines)
 }
 
 // Puts lines at the places of their terms.
-fn place(mut made: Vec<Numbered>, lines: &mut Vec<Line>)
+fn place(mut made: Vec<Numbered>, lines: &mut Vec<Traced>)
     requires { HasPlaces (length lines.old.items) made.items }
     ensures length { length lines.new.items ≡ length lines.old.items }
     ensures placed { Places made.items lines.old.items lines.new.items }
@@ -81,7 +86,7 @@ fn place(mut made: Vec<Numbered>, lines: &mut Vec<Line>)
 }
 
 // Takes in what a worker leaves: what its seat drew, and its lines.
-fn take_in(draws: &Draws, all: &mut Seat, share: Share, lines: &mut Vec<Line>)
+fn take_in(draws: &Draws, all: &mut Seat, share: Share, lines: &mut Vec<Traced>)
     requires all { IsIn draws.now.shared.table_id all.old.table_id all.old.me all.old.me.0 }
     requires share { HasOneShare draws.now.shared.table_id share }
     requires places { HasPlaces (length lines.old.items) share.lines.items }
@@ -103,7 +108,7 @@ fn take_in(draws: &Draws, all: &mut Seat, share: Share, lines: &mut Vec<Line>)
 }
 
 // Takes in what all workers leave.
-fn gather(draws: &Draws, all: &mut Seat, mut shares: Vec<Share>, lines: &mut Vec<Line>)
+fn gather(draws: &Draws, all: &mut Seat, mut shares: Vec<Share>, lines: &mut Vec<Traced>)
     requires all { IsIn draws.now.shared.table_id all.old.table_id all.old.me all.old.me.0 }
     requires shares { All (HasOneShare draws.now.shared.table_id) shares.items }
     requires places { All (λ s. HasPlaces (length lines.old.items) s.lines.items) shares.items }
@@ -119,26 +124,41 @@ fn gather(draws: &Draws, all: &mut Seat, mut shares: Vec<Share>, lines: &mut Vec
     }
 }
 
-/// The lines of all terms, or the worst of the ends of all workers.
+/// The lines of all terms with their events, or the worst of the ends of all workers.
 pub(crate) fn collect(
     draws: &Draws,
     mut all: Seat,
     shares: Vec<Share>,
-    mut lines: Vec<Line>,
-) -> Result<Lines, AllFault>
+    mut lines: Vec<Traced>,
+) -> Result<Vec<Traced>, AllFault>
     requires all { IsUncut draws.now.shared.table_id all.table_id all.me all.me.0 × (all.me.0.shares ≡ 0) }
     requires count { length shares.items ≡ draws.now.shared.key.shares }
     requires shares { All (HasOneShare draws.now.shared.table_id) shares.items }
     requires places { All (λ s. HasPlaces (length lines.items) s.lines.items) shares.items }
     ensures once { DrawnOnce shares.items }
-    ensures ok { IfOk result (λ l. IsCollected shares.items lines.items l.list.items) }
+    ensures ok { IfOk result (λ l. IsCollected shares.items lines.items l.items) }
     ensures err { IfErr result (λ fault. IsWorst (map end_of_share shares.items) (Some fault)) }
 {
     let worst = worst_of(&shares);
     gather(draws, &mut all, shares, &mut lines);
     count_drawn(draws, &mut all);
     match worst {
-        None => Ok(Lines { list: lines }),
+        None => Ok(lines),
         Some(fault) => Err(fault),
     }
+}
+
+/// The lines, and the events beside them.
+pub(crate) fn beside(alloc: Global, traced: Vec<Traced>) -> Result<Lines, Memory>
+    ensures list { IfOk result (λ l. l.list.items ≡ map (λ t. t.line) traced.items) }
+    ensures traces { IfOk result (λ l. l.traces.items ≡ map (λ t. t.events) traced.items) }
+{
+    let mut list = Vec::with_capacity(alloc, traced.len())?;
+    let mut traces = Vec::with_capacity(alloc, traced.len())?;
+    for made in traced {
+        let Traced { line, events } = made;
+        list.push(line)?;
+        traces.push(events)?;
+    }
+    Ok(Lines { list, traces })
 }

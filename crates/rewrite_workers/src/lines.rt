@@ -1,4 +1,5 @@
-// The lines of the terms.
+// The lines of the terms, and the events that lead to their values.
+use innermost::Event;
 use term_lines::LineKind;
 
 /// The line of a term.
@@ -18,4 +19,13 @@ pub struct Line {
 #[derive(Debug, Drop)]
 pub struct Lines {
     pub list: Vec<Line>,
+    /// Beside each line the events that lead to its value, where they are asked; else none.
+    pub traces: Vec<Vec<Event>>,
+}
+
+/// The line of a term, and the events that lead to its value.
+#[derive(Drop)]
+pub(crate) struct Traced {
+    pub line: Line,
+    pub events: Vec<Event>,
 }

@@ -1,13 +1,14 @@
 // What one worker does: it draws terms until none is left, and makes the line of each.
 ghost use Rattle.std.specs.Prelude.{◌≡◌, ◌<◌, [], ◌∷◌, IfOk, OnErr, OnOk, length};
 ghost use Rattle.rewrite_workers.specs.Works.{MayWork, term_at, need_at};
-ghost use Rattle.rewrite_workers.specs.Lined.{said, line_of};
+ghost use Rattle.rewrite_workers.specs.Lined.{told, told_of};
 ghost use Rattle.rewrite_workers.specs.Desks.{IsReady};
 ghost use Rattle.rewrite_workers.specs.Ends.{Ended};
 ghost use Rattle.rewrite_workers.specs.Working.{IsRewriterOf, WorksOn};
 ghost use Rattle.rewrite_workers.specs.Worked.{IsFresh, AddsLine, KeepsSeat, Drew, Worked};
 
 use crate::draws::{Draws, Seat, draw};
+use crate::lines::Traced;
 use crate::{Line, Work};
 use ends::Gate;
 use faults::Memory;
@@ -17,11 +18,11 @@ use term_lines::{LineStop, Rewriter};
 use term_text::SizeMarks;
 use terms_api::Terms;
 
-/// The line of a term, with the term's number.
+/// The line of a term with its events, and with the term's number.
 #[derive(Drop)]
 pub(crate) struct Numbered {
     pub number: u32,
-    pub line: Line,
+    pub line: Traced,
 }
 
 /// What a worker has of its own: its number, its seat in the draws, the lines that it made, in order,
@@ -63,24 +64,25 @@ fn rewriter_of<G>(job: &Job<G>) -> Result<Rewriter, Memory>
         marks: SizeMarks::new(job.alloc, job.work.settings.rows)?,
         fuel: job.work.settings.fuel,
         sizes: job.work.settings.sizes,
+        traced: job.work.traced(),
     })
 }
 
-// Makes the line of a term on a desk. The gate is told before and after, while nobody is inside.
+// Makes the line of a term on a desk, with its events. The gate is told before and after, while nobody is inside.
 fn make_line<T: Terms, G: Gate>(
     job: &Job<G>,
     rewriter: &mut Rewriter,
     desk: &mut T,
     number: u32,
     worker: u32,
-) -> Result<Line, LineStop>
+) -> Result<Traced, LineStop>
     requires number { number < length job.now.work.terms.now }
     requires may { MayWork job.now.work.plan.now job.now.work.symbols.now job.now.work.terms.now }
     requires rewriter { IsRewriterOf job.now.work.settings job.now.work.plan.now rewriter.old }
     requires ready { IsReady job.now.work.settings job.now.work.plan.now (T.store desk.old) }
-    ensures line { IfOk result (λ l. said l ≡ line_of job.now.work.settings job.now.work.symbols.now
+    ensures line { IfOk result (λ l. told l ≡ told_of job.now.work.settings job.now.work.symbols.now
         job.now.work.plan.now.rules (term_at job.now.work.terms.now number)) }
-    ensures worker { IfOk result (λ l. l.worker ≡ worker) }
+    ensures worker { IfOk result (λ l. l.line.worker ≡ worker) }
     ensures ended { Ended job.now.work.settings job.now.work.plan.now.rules
         (term_at job.now.work.terms.now number ∷ []) (T.store desk.old) (T.store desk.new) result }
     ensures works { WorksOn job.now.work.settings (need_at job.now.work.settings job.now.work.plan.now.rules job.now.work.terms.now number)
@@ -90,19 +92,30 @@ fn make_line<T: Terms, G: Gate>(
     ensures same { T.same desk.old desk.new }
 {
     let mut text = Vec::new(job.alloc);
+    let mut events = Vec::new(job.alloc);
     let term = &job.work.terms[number as usize];
     job.gate.before(number);
     desk.enter();
-    let made = rewriter.write_line(job.work.plan, job.work.symbols, term, desk, &mut text);
+    let made = rewriter.write_line(
+        job.work.plan,
+        job.work.symbols,
+        term,
+        desk,
+        &mut text,
+        &mut events,
+    );
     desk.leave();
     job.gate.after(number);
     match made {
-        Ok(ending) => Ok(Line {
-            kind: ending.kind,
-            text,
-            spent: ending.spent,
-            worker,
-        }),
+        Ok(ending) => {
+            let line = Line {
+                kind: ending.kind,
+                text,
+                spent: ending.spent,
+                worker,
+            };
+            Ok(Traced { line, events })
+        }
         Err(stop) => Err(stop),
     }
 }
@@ -119,7 +132,7 @@ fn add_line<T: Terms, G: Gate>(
     requires may { MayWork job.now.work.plan.now job.now.work.symbols.now job.now.work.terms.now }
     requires rewriter { IsRewriterOf job.now.work.settings job.now.work.plan.now rewriter.old }
     requires ready { IsReady job.now.work.settings job.now.work.plan.now (T.store desk.old) }
-    ensures line { OnOk result (AddsLine share.old share.new number (line_of job.now.work.settings
+    ensures line { OnOk result (AddsLine share.old share.new number (told_of job.now.work.settings
         job.now.work.symbols.now job.now.work.plan.now.rules (term_at job.now.work.terms.now number))) }
     ensures unmade { OnErr result (share.new.lines.items ≡ share.old.lines.items) }
     ensures seat { KeepsSeat share.old share.new }

@@ -14,6 +14,8 @@ mod rows;
 #[cfg(test)]
 mod terms;
 #[cfg(test)]
+mod traces;
+#[cfg(test)]
 mod trial;
 #[cfg(test)]
 mod words;

@@ -10,6 +10,7 @@ const REWRITE: Settings = Settings {
     rows: 65_536,
     depth: 4_096,
     sizes: false,
+    trace: false,
     count: 0,
     seats: 2,
 };
@@ -66,7 +67,7 @@ fn words_of(alloc: Global, line: &str) -> Result<Vec<String>, AllocError> {
     Ok(words)
 }
 
-static ACCEPTED: [(&str, Settings); 31] = [
+static ACCEPTED: [(&str, Settings); 33] = [
     ("rec rewrite", REWRITE),
     ("rec rewrite --fuel 2", Settings { fuel: 2, ..REWRITE }),
     ("rec rewrite --fuel=+0", Settings { fuel: 0, ..REWRITE }),
@@ -132,6 +133,22 @@ static ACCEPTED: [(&str, Settings); 31] = [
         Settings {
             workers: 16,
             sizes: true,
+            ..REWRITE
+        },
+    ),
+    (
+        "rec rewrite --trace",
+        Settings {
+            trace: true,
+            ..REWRITE
+        },
+    ),
+    (
+        "rec rewrite --workers 4 --trace --fuel 2",
+        Settings {
+            workers: 4,
+            trace: true,
+            fuel: 2,
             ..REWRITE
         },
     ),
@@ -214,7 +231,7 @@ fn accepted_words_give_their_settings(rt: HostRuntime) -> Result<(), Fail> {
     Ok(())
 }
 
-static REFUSED: [&str; 99] = [
+static REFUSED: [&str; 109] = [
     "",
     "rec",
     "rec --help",
@@ -275,10 +292,20 @@ static REFUSED: [&str; 99] = [
     "rec unpack --help",
     "rec check",
     "rec outermost x",
+    "rec outermost --trace",
     "rec outermost --seats 2",
+    "rec rewrite --trace --sizes",
+    "rec rewrite --sizes --fuel 2 --trace",
+    "rec rewrite --trace=",
+    "rec rewrite --trace=true",
+    "rec rewrite --trace --trace",
+    "rec rewrite --trac",
+    "rec drill 5 --trace",
     "rec check logs",
     "rec check traces",
     "rec check trace log",
+    "rec check log trace",
+    "rec check trace --trace",
     "rec trace",
     "rec check log x",
     "rec check log log",

@@ -6,8 +6,8 @@ use Rattle.std.proofs.lemmas.Slice.Eq.{bytes_eq-Decides}
 use Rattle.settings.specs.declared.parts.Command.{Command}
 use Rattle.settings.specs.declared.parts.Settings.{Settings}
 use Rattle.settings.specs.declared.options.OptionName.{OptionName}
-use Rattle.settings.specs.declared.options.OptionName.TheVariants.{Workers, Fuel, Rows, Depth, Sizes, Count, Seats}
-use Rattle.settings.specs.Words.{Text, Uses, name_of, names, stands_alone, takes_value, options_of, option_named, before_equals_sign, after_equals_sign, is_value, are_values, is_whole, stand_once, in_front, begun, read_word, uses_of, settings_with, settings_using, settings_after}
+use Rattle.settings.specs.declared.options.OptionName.TheVariants.{Workers, Fuel, Rows, Depth, Sizes, Trace, Count, Seats}
+use Rattle.settings.specs.Words.{Text, Uses, name_of, names, stands_alone, takes_value, options_of, option_named, before_equals_sign, after_equals_sign, is_value, are_values, is_whole, stand_once, in_front, begun, read_word, uses_of, settings_with, settings_using, settings_told}
 use Rattle.settings.specs.Line.{is_end_of_options}
 use Rattle.settings.proofs.Basics.{and_none, none_passes}
 
@@ -20,6 +20,7 @@ name_is_some Fuel = refl
 name_is_some Rows = refl
 name_is_some Depth = refl
 name_is_some Sizes = refl
+name_is_some Trace = refl
 name_is_some Count = refl
 name_is_some Seats = refl
 
@@ -85,7 +86,7 @@ bad_words options None (word ∷ rest) t e =
     (λ r. bad_words options None rest tt r) (λ r s. bad_words options named rest s r) e
 bad_words options (Some o) (word ∷ rest) t e = bad_front o word rest (uses_of options None rest) t (λ r. bad_words options None rest tt r) e
 
-pub ends_refused : (c : Command) (words : List Text) → list_any is_end_of_options words ≡ true → settings_after c words ≡ None
+pub ends_refused : (c : Command) (words : List Text) → list_any is_end_of_options words ≡ true → settings_told c words ≡ None
 ends_refused c words e = go (uses_of (options_of c) None words) (bad_words (options_of c) None words tt e)
   where
     go : (given : Option Uses) → Bad given → option_and_then (settings_using c) given ≡ None

@@ -8,7 +8,7 @@ use Rattle.settings.specs.declared.parts.Command.TheVariants.{Rewrite, Drill, Sc
 use Rattle.settings.specs.declared.parts.Settings.{Settings}
 use Rattle.settings.specs.declared.options.OptionName.{OptionName}
 use Rattle.settings.specs.declared.options.OptionName.TheVariants.{Workers, Fuel, Rows, Depth, Count, Seats}
-use Rattle.settings.specs.Words.{Text, Uses, command_named, options_of, takes_value, number_of, is_in_range, is_same, is_given, are_values, is_whole, are_accepted, stand_once, text_given, number_or, uses_of, settings_with, settings_using, settings_after, check_named, settings_of_check, settings_of, AreInRange}
+use Rattle.settings.specs.Words.{Text, Uses, command_named, options_of, takes_value, number_of, is_in_range, is_same, is_given, are_values, is_whole, are_accepted, stand_once, text_given, number_or, uses_of, settings_with, settings_using, settings_told, agree, agreed, settings_after, check_named, settings_of_check, settings_of, AreInRange}
 use Rattle.settings.proofs.Basics.{both}
 use Rattle.settings.proofs.Values.{given_number}
 
@@ -64,10 +64,21 @@ accepted_range c uses true s a e =
       seats = number_range 2 Seats uses refl v refl;
     })
 
-after_range : (c : Command) (rest : List Text) (s : Settings) → settings_after c rest ≡ Some s → AreInRange s
-after_range c rest s e =
+told_range : (c : Command) (rest : List Text) (s : Settings) → settings_told c rest ≡ Some s → AreInRange s
+told_range c rest s e =
     option_and_then_some (settings_using c) (uses_of (options_of c) None rest) s e (λ uses _ g.
     accepted_range c uses (are_accepted (options_of c) uses) s refl g)
+
+agreed_same : (t s : Settings) → agreed t ≡ Some s → t ≡ s
+agreed_same t s e = go (agree t) e
+  where
+    go : (b : Bool) → (if b then Some t else None) ≡ Some s → t ≡ s
+    go true f = same_Some t s f
+    go false f = cc
+
+after_range : (c : Command) (rest : List Text) (s : Settings) → settings_after c rest ≡ Some s → AreInRange s
+after_range c rest s e =
+    option_and_then_some agreed (settings_told c rest) s e (λ t told f. subst (λ u. AreInRange u) (agreed_same t s f) (told_range c rest t told))
 
 check_range : (rest : List Text) (s : Settings) → settings_of_check rest ≡ Some s → AreInRange s
 check_range [] s e = cc

@@ -18,7 +18,7 @@ use Rattle.settings.specs.declared.parts.Settings.{Settings}
 use Rattle.settings.specs.declared.parts.WordsFault.{WordsFault}
 use Rattle.settings.specs.declared.parts.WordsFault.TheVariants.{Usage, Memory}
 use Rattle.settings.specs.declared.options.OptionName.{OptionName}
-use Rattle.settings.specs.Words.{options_of, texts, settings_with, settings_after, settings_of, AreInRange}
+use Rattle.settings.specs.Words.{options_of, texts, settings_with, settings_told, settings_of, AreInRange}
 use Rattle.settings.specs.Line.{argument_of, app_with, is_end_of_options, ShowsWords}
 use Rattle.settings.proofs.Basics.{both}
 use Rattle.settings.proofs.Arguments.{simple_is}
@@ -28,7 +28,7 @@ use Rattle.settings.proofs.Showing.{ok_shows, err_refuses}
 
 pub parsed : (command : Command) (words : List Text) (line : App) (r : Result ArgMatches Error) → line ≡ app_with (map argument_of (options_of command)) → list_any is_end_of_options words ≡ false
     → (is_simple_and_free line ≡ true → FailsBy (fault_of line words) r) → IfOk r (HasMatchesOf line words)
-    → MatchResult r (λ m. ShowsWords (options_of command) words (found_of m)) (λ e. (kind_of e ≡ OutOfMemory → ⊥) → settings_after command words ≡ None)
+    → MatchResult r (λ m. ShowsWords (options_of command) words (found_of m)) (λ e. (kind_of e ≡ OutOfMemory → ⊥) → settings_told command words ≡ None)
 parsed command words line (Ok m) same lacks kinds has =
     let options = options_of command in
     let free : is_simple_and_free line ≡ true = ap is_simple_and_free same ∙ simple_is options in
@@ -54,12 +54,12 @@ Parse command words line r = (line ≡ app_with (map argument_of (options_of com
 
 pub parsed_ok : (command : Command) (words : List Text) (line : App) (r : Result ArgMatches Error) (m : ArgMatches) → Parse command words line r → r ≡ Ok m → ShowsWords (options_of command) words (found_of m)
 parsed_ok command words line r m p e =
-    when_ok r m (λ x. ShowsWords (options_of command) words (found_of x)) (λ x. (kind_of x ≡ OutOfMemory → ⊥) → settings_after command words ≡ None) (parsed command words line r p.0 p.1 p.2 p.3) e
+    when_ok r m (λ x. ShowsWords (options_of command) words (found_of x)) (λ x. (kind_of x ≡ OutOfMemory → ⊥) → settings_told command words ≡ None) (parsed command words line r p.0 p.1 p.2 p.3) e
 
 pub parsed_err : (command : Command) (words : List Text) (line : App) (r : Result ArgMatches Error) (x : Error) (k : ErrorKind) (f : WordsFault) → Parse command words line r → r ≡ Err x
-    → k ≡ kind_of x → (f ≡ Memory) ↔ (k ≡ OutOfMemory) → f ≡ Usage → settings_after command words ≡ None
+    → k ≡ kind_of x → (f ≡ Memory) ↔ (k ≡ OutOfMemory) → f ≡ Usage → settings_told command words ≡ None
 parsed_err command words line r x k f p e same memory usage =
-    when_err r x (λ y. ShowsWords (options_of command) words (found_of y)) (λ y. (kind_of y ≡ OutOfMemory → ⊥) → settings_after command words ≡ None) (parsed command words line r p.0 p.1 p.2 p.3) e
+    when_err r x (λ y. ShowsWords (options_of command) words (found_of y)) (λ y. (kind_of y ≡ OutOfMemory → ⊥) → settings_told command words ≡ None) (parsed command words line r p.0 p.1 p.2 p.3) e
     (λ m. let full : f ≡ Memory = memory.1 (same ∙ m) in let bad : Usage ≡ Memory = sym usage ∙ full in cc)
 
 -- the line that is left at the loop's end

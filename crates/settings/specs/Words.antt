@@ -2,8 +2,8 @@
 --
 -- The words are the program's name, a command, and options of that command in any order, with a drill's number among
 -- them. `check` is a command with the word after it, and has no options. An option is `--name value` or `--name=value`,
--- and stands at most once; `--sizes` has no value. A number is an optional `+` and one or more digits, within the
--- option's range. Nothing else is accepted.
+-- and stands at most once; `--sizes` and `--trace` have no value, and aren't given together. A number is an optional `+`
+-- and one or more digits, within the option's range. Nothing else is accepted.
 use Rattle.std.specs.Prelude.{◌≡◌, ℕ, ◌==◌, ◌&&◌, ◌||◌, Bool, true, false, not, List, [], ◌∷◌, length, map, codes, find, Option, Some, None, option_and_then, option_map, if◌then◌else◌, nat_lt, nat_le, String}
 use Rattle.std.specs.Global.{Global}
 use Rattle.std.specs.String.{string_bytes}
@@ -15,7 +15,7 @@ use Rattle.settings.specs.declared.parts.Command.{Command}
 use Rattle.settings.specs.declared.parts.Command.TheVariants.{Rewrite, Drill, Schedule, Terms, Pack, Unpack, Outermost, CheckLog, CheckTrace}
 use Rattle.settings.specs.declared.parts.Settings.{Settings}
 use Rattle.settings.specs.declared.options.OptionName.{OptionName}
-use Rattle.settings.specs.declared.options.OptionName.TheVariants.{Workers, Fuel, Rows, Depth, Sizes, Count, Seats}
+use Rattle.settings.specs.declared.options.OptionName.TheVariants.{Workers, Fuel, Rows, Depth, Sizes, Trace, Count, Seats}
 
 abbrev pub Text : Type 0
 Text = List ℕ
@@ -54,7 +54,7 @@ check_named word = find (λ c. bytes_eq (command_text c) word) checks
 
 -- the options of a command, with its further word
 abbrev pub options_of : Command → List OptionName
-options_of Rewrite = Workers ∷ Fuel ∷ Rows ∷ Depth ∷ Sizes ∷ []
+options_of Rewrite = Workers ∷ Fuel ∷ Rows ∷ Depth ∷ Sizes ∷ Trace ∷ []
 options_of Drill = Workers ∷ Fuel ∷ Rows ∷ Depth ∷ Count ∷ []
 options_of Schedule = Seats ∷ []
 options_of Terms = Rows ∷ []
@@ -71,6 +71,7 @@ stands_alone _ = false
 
 abbrev pub takes_value : OptionName → Bool
 takes_value Sizes = false
+takes_value Trace = false
 takes_value _ = true
 
 abbrev pub name_of : OptionName → Text
@@ -79,6 +80,7 @@ name_of Fuel = codes "fuel"
 name_of Rows = codes "rows"
 name_of Depth = codes "depth"
 name_of Sizes = codes "sizes"
+name_of Trace = codes "trace"
 name_of Count = codes "count"
 name_of Seats = codes "seats"
 
@@ -89,6 +91,7 @@ least_of Fuel = 0
 least_of Rows = 1
 least_of Depth = 1
 least_of Sizes = 0
+least_of Trace = 0
 least_of Count = 1
 least_of Seats = 1
 
@@ -98,6 +101,7 @@ most_of Fuel = 1000000000
 most_of Rows = 262144
 most_of Depth = 65536
 most_of Sizes = 0
+most_of Trace = 0
 most_of Count = 65535
 most_of Seats = 16
 
@@ -210,6 +214,7 @@ settings_with c uses = record {
   rows = number_or 65536 Rows uses;
   depth = number_or 4096 Depth uses;
   sizes = is_given Sizes uses;
+  trace = is_given Trace uses;
   count = number_or 0 Count uses;
   seats = number_or 2 Seats uses;
 }
@@ -218,8 +223,20 @@ settings_with c uses = record {
 abbrev pub settings_using : Command → Uses → Option Settings
 settings_using c uses = if are_accepted (options_of c) uses then Some (settings_with c uses) else None
 
+-- the settings that the words after a command give, each option by itself
+abbrev pub settings_told : Command → List Text → Option Settings
+settings_told c words = option_and_then (settings_using c) (uses_of (options_of c) None words)
+
+-- sizes stand in the place of the texts that traces lead to
+abbrev pub agree : Settings → Bool
+agree s = not (s.sizes && s.trace)
+
+abbrev pub agreed : Settings → Option Settings
+agreed s = if agree s then Some s else None
+
+-- the settings that the words after a command give
 abbrev pub settings_after : Command → List Text → Option Settings
-settings_after c words = option_and_then (settings_using c) (uses_of (options_of c) None words)
+settings_after c words = option_and_then agreed (settings_told c words)
 
 -- the settings that the words after `check` give
 abbrev pub settings_of_check : List Text → Option Settings

@@ -12,6 +12,7 @@ pub enum OptionName {
     Rows,
     Depth,
     Sizes,
+    Trace,
     /// The number of a drill, which stands without a name.
     Count,
     Seats,
@@ -75,6 +76,7 @@ pub fn options(command: Command) -> &'static [OptionName]
             OptionName::Rows,
             OptionName::Depth,
             OptionName::Sizes,
+            OptionName::Trace,
         ],
         Command::Drill => &[
             OptionName::Workers,
@@ -107,7 +109,7 @@ pub fn stands_alone(option: OptionName) -> bool
 pub fn has_value(option: OptionName) -> bool
     ensures { result ≡ takes_value option }
 {
-    !matches!(option, OptionName::Sizes)
+    !matches!(option, OptionName::Sizes | OptionName::Trace)
 }
 
 /// The name of an option, behind two hyphens in its word. It is lent for as long as the words are, since a command
@@ -121,6 +123,7 @@ pub fn name<'a>(option: OptionName, _words: &'a [String]) -> &'a str
         OptionName::Rows => "rows",
         OptionName::Depth => "depth",
         OptionName::Sizes => "sizes",
+        OptionName::Trace => "trace",
         OptionName::Count => "count",
         OptionName::Seats => "seats",
     }
@@ -131,7 +134,7 @@ pub fn least(option: OptionName) -> u64
     ensures { result ≡ least_of option }
 {
     match option {
-        OptionName::Fuel | OptionName::Sizes => 0,
+        OptionName::Fuel | OptionName::Sizes | OptionName::Trace => 0,
         OptionName::Workers
         | OptionName::Rows
         | OptionName::Depth
@@ -149,7 +152,7 @@ pub fn most(option: OptionName) -> u64
         OptionName::Fuel => 1_000_000_000,
         OptionName::Rows => 262_144,
         OptionName::Depth => 65_536,
-        OptionName::Sizes => 0,
+        OptionName::Sizes | OptionName::Trace => 0,
         OptionName::Count => 65_535,
         OptionName::Seats => 16,
     }

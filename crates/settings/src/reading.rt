@@ -3,7 +3,7 @@ ghost use Rattle.std.specs.Prelude.{◌≡◌, ◌<◌, ◌^◌, ◌↔◌, Some
 ghost use Rattle.std.specs.List.{list_any};
 ghost use Rattle.std.specs.String.{string_bytes};
 ghost use Rattle.clap.specs.Words.{found_of};
-ghost use Rattle.settings.specs.Words.{Uses, texts, takes_value, most_of, number_or, is_given, options_of, settings_with, settings_after, settings_of_check, settings_of, AreInRange};
+ghost use Rattle.settings.specs.Words.{Uses, texts, takes_value, most_of, number_or, is_given, options_of, settings_with, settings_told, settings_after, settings_of_check, settings_of, AreInRange};
 ghost use Rattle.settings.specs.Line.{Shows, ShowsWords, is_end_of_options};
 
 use crate::line::argument;
@@ -51,6 +51,7 @@ fn settings_in(command: Command, matches: &ArgMatches, words: &[String]) -> Sett
         rows: short_number(matches, words, OptionName::Rows, 65_536),
         depth: short_number(matches, words, OptionName::Depth, 4_096),
         sizes: has_flag(matches, words, OptionName::Sizes),
+        trace: has_flag(matches, words, OptionName::Trace),
         count: short_number(matches, words, OptionName::Count, 0),
         seats: short_number(matches, words, OptionName::Seats, 2),
     }
@@ -72,7 +73,7 @@ fn read_matches<'a>(
     requires { list_any is_end_of_options (texts words.now) ≡ false }
     ensures { MatchResult result
         (λ matches. ShowsWords (options_of command) (texts words.now) (found_of matches))
-        (λ fault. fault ≡ WordsFault.Usage → settings_after command (texts words.now) ≡ None) }
+        (λ fault. fault ≡ WordsFault.Usage → settings_told command (texts words.now) ≡ None) }
 {
     let all = options(command);
     let mut line = clap::Command::new(alloc, "rec")
@@ -97,16 +98,28 @@ fn fault_of(kind: ErrorKind) -> WordsFault
     }
 }
 
-// The settings of a command with these words after it.
-fn read_options(alloc: Global, command: Command, words: &[String]) -> Result<Settings, WordsFault>
-    ensures { MatchResult result (λ given. settings_after command (texts words.now) ≡ Some given)
-        (λ fault. fault ≡ WordsFault.Usage → settings_after command (texts words.now) ≡ None) }
+// The settings of a command with these words after it, each option by itself.
+fn read_each(alloc: Global, command: Command, words: &[String]) -> Result<Settings, WordsFault>
+    ensures { MatchResult result (λ given. settings_told command (texts words.now) ≡ Some given)
+        (λ fault. fault ≡ WordsFault.Usage → settings_told command (texts words.now) ≡ None) }
 {
     if ends_options(words) {
         return Err(WordsFault::Usage);
     }
     let matches = read_matches(alloc, command, words)?;
     Ok(settings_in(command, &matches, words))
+}
+
+// The settings of a command with these words after it. Sizes stand in the place of the texts that traces lead to.
+fn read_options(alloc: Global, command: Command, words: &[String]) -> Result<Settings, WordsFault>
+    ensures { MatchResult result (λ given. settings_after command (texts words.now) ≡ Some given)
+        (λ fault. fault ≡ WordsFault.Usage → settings_after command (texts words.now) ≡ None) }
+{
+    let settings = read_each(alloc, command, words)?;
+    if settings.sizes && settings.trace {
+        return Err(WordsFault::Usage);
+    }
+    Ok(settings)
 }
 
 // The check that the words after `check` name, and the words after it.
@@ -135,9 +148,9 @@ fn split_command<'a>(words: &'a [String]) -> Option<(Command, &'a [String])>
 /// Reads the words that the program is started with: its name, a command, and options of that command in any order,
 /// with the number of a drill among them. `check` is a command with the word after it, and has no options.
 ///
-/// An option is `--name value` or `--name=value`, and stands at most once; `--sizes` has no value. A number is an
-/// optional `+` and one or more digits, within the option's range. All other words are `Usage`, among them `--`,
-/// `--help` and the beginning of a name. `Memory` may come wherever there is none.
+/// An option is `--name value` or `--name=value`, and stands at most once; `--sizes` and `--trace` have no value, and
+/// aren't given together. A number is an optional `+` and one or more digits, within the option's range. All other words
+/// are `Usage`, among them `--`, `--help` and the beginning of a name. `Memory` may come wherever there is none.
 pub fn settings(alloc: Global, words: &[String]) -> Result<Settings, WordsFault>
     ensures settings { MatchResult result (λ given. settings_of (texts words.now) ≡ Some given)
         (λ fault. fault ≡ WordsFault.Usage → settings_of (texts words.now) ≡ None) }

@@ -22,7 +22,7 @@ use Rattle.term_lines.specs.declared.stop.LineStop.TheVariants as stop
 use Rattle.rewrite_workers.specs.declared.fault.AllFault.{AllFault}
 use Rattle.rewrite_workers.specs.declared.lines.Lines.{Lines}
 use Rattle.rewrite_workers.specs.Dealt.{times}
-use Rattle.rewrite_workers.specs.Ends.{numbered, Rises, AreApart, BuiltAll, RefusedLast, Ended}
+use Rattle.rewrite_workers.specs.Ends.{numbered, Rises, AreApart, BuiltAll, BuiltFront, RefusedLast, Ended}
 use Rattle.rewrite_workers.specs.Lined.{worker_of, drawn_by}
 use Rattle.rewrite_workers.specs.Works.{strategy_of, built_of}
 use Rattle.shared_desk.specs.Desk.{store_of}
@@ -58,6 +58,9 @@ module _ (s : Settings) (rules : List Rule) (terms : List Tree) (store : Store) 
   whole : (k : ℕ) (w : At k) (drawn : List ℕ) → BuiltAll s rules (numbered terms drawn) (store_of w.old) (store_of w.new) → NamesFront s rules terms lists k drawn
   whole k w drawn e = record { rest = []; built = sym (names k w (built_of s rules (numbered terms drawn)) e) ∙ sym (append-nil (named_by lists k)) }
 
+  first : (k : ℕ) (w : At k) (drawn : List ℕ) → BuiltFront s rules (numbered terms drawn) (store_of w.old) (store_of w.new) → NamesFront s rules terms lists k drawn
+  first k w drawn e = record { rest = e.rest; built = e.split ∙ ap (λ zs. zs ++ e.rest) (sym (names k w e.front e.built)) }
+
   front_at : (k : ℕ) (w : At k) (drawn : List ℕ) (end : Result (Unit {0}) LineStop) → Ended s rules (numbered terms drawn) (store_of w.old) (store_of w.new) end → NamesFront s rules terms lists k drawn
   front_at k w drawn (Ok x) e = whole k w drawn e.0
   front_at k w drawn (Err stop.StoreFull) e =
@@ -66,7 +69,7 @@ module _ (s : Settings) (rules : List Rule) (terms : List Tree) (store : Store) 
   front_at k w drawn (Err stop.Worn) e =
       let r = last_refused s rules (numbered terms drawn) (store_of w.old) (store_of w.new) refusal.Worn e in
       record { rest = r.0 ∷ r.1.back; built = next_built k w drawn refusal.Worn e r.0 r.1 }
-  front_at k w drawn (Err stop.Memory) e = whole k w drawn e.0
+  front_at k w drawn (Err stop.Memory) e = first k w drawn e.0
 
   pub fronts : store.sizes.seats ≡ s.workers → NamesFronts s rules terms lists
   fronts seats =

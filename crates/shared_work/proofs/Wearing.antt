@@ -31,7 +31,7 @@ use Rattle.rewrite_workers.specs.declared.fault.AllFault.{AllFault}
 use Rattle.rewrite_workers.specs.declared.fault.AllFault.TheVariants.{Worn, Memory}
 use Rattle.rewrite_workers.specs.declared.lines.Lines.{Lines}
 use Rattle.rewrite_workers.specs.Dealt.{times}
-use Rattle.rewrite_workers.specs.Ends.{numbered, BuiltAll, Ended, RefusedLast, IsWorst}
+use Rattle.rewrite_workers.specs.Ends.{numbered, BuiltAll, BuiltFront, Ended, RefusedLast, IsWorst}
 use Rattle.rewrite_workers.specs.Works.{term_at, strategy_of, built_of}
 use Rattle.rewrite_workers.proofs.Dealing.{hit, times_cons, times_append}
 use Rattle.shared_desk.specs.Desk.{store_of}
@@ -73,6 +73,14 @@ module _ (s : Settings) (rules : List Rule) where
       let g = length-append old.built (built_of s rules drawn) in
       omega (arith, f, g)
 
+  front_long : (drawn : List Tree) (old new : terms.Store) → BuiltFront s rules drawn old new → length new.built ≤ length old.built + length (built_of s rules drawn)
+  front_long drawn old new first =
+      let f : length new.built ≡ length (old.built ++ first.front) = ap length first.built in
+      let g = length-append old.built first.front in
+      let h : length (built_of s rules drawn) ≡ length (first.front ++ first.rest) = ap length first.split in
+      let i = length-append first.front first.rest in
+      omega (arith, f, g, h, i)
+
   -- however the worker ended
   ended_long : (drawn : List Tree) (old new : terms.Store) (end : Result (Unit {0}) LineStop) → Ended s rules drawn old new end
       → length new.built ≤ length old.built + length (built_of s rules drawn)
@@ -83,7 +91,7 @@ module _ (s : Settings) (rules : List Rule) where
   ended_long drawn old new (Err stop.Worn) last =
       let r = last_refused s rules drawn old new fault.Worn last in
       stopped_long drawn last.before last.term old last.begun new r.0 last.drawn_is last.built r.1
-  ended_long drawn old new (Err stop.Memory) (all, same) = all_long drawn old new all
+  ended_long drawn old new (Err stop.Memory) (first, same) = front_long drawn old new first
 
   -- how many trees the term with a number builds
   abbrev long_at : List Tree → ℕ → ℕ

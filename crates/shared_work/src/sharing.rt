@@ -4,7 +4,7 @@ ghost use Rattle.settings.specs.Words.{AreInRange};
 ghost use Rattle.busy_forbidden.specs.Dealt.{EachPlace};
 ghost use Rattle.history_core.specs.Chronicle.{chronicle, IsLegal};
 ghost use Rattle.node_rows.specs.Passes.{IsStore};
-ghost use Rattle.rewrite_workers.specs.Lined.{said, worker_of, line_of};
+ghost use Rattle.rewrite_workers.specs.Lined.{said, worker_of, line_of, trace_of};
 ghost use Rattle.rewrite_workers.specs.Works.{MayWork};
 ghost use Rattle.shared_desk.specs.Telling.{MayHaveDesk};
 ghost use Rattle.shared_work.specs.NewDesks.{sizes_for, IsNewPass};
@@ -71,6 +71,8 @@ fn rewrite_on<R: Threads + Wait + Sync, G: Gate>(
     ensures lines { IfOk result (λ left. IfOk left.lines (λ l. map said l.list.items
         ≡ map (line_of work.now.settings work.now.symbols.now work.now.plan.now.rules)
         work.now.terms.now)) }
+    ensures traces { IfOk result (λ left. IfOk left.lines (λ l. map (λ t. t.items) l.traces.items
+        ≡ map (trace_of work.now.settings work.now.plan.now.rules) work.now.terms.now)) }
     ensures workers { IfOk result (λ left. IfOk left.lines (λ l. All
         (λ w. w < work.now.settings.workers) (map worker_of l.list.items))) }
     ensures run { IfOk result (λ left. HasRun work.now.settings work.now.plan.now.rules
@@ -101,6 +103,8 @@ fn rewrite_at<R: Threads + Wait + Sync, G: Gate>(
     ensures lines { IfOk result.lines (λ l. map said l.list.items
         ≡ map (line_of work.now.settings work.now.symbols.now work.now.plan.now.rules)
         work.now.terms.now) }
+    ensures traces { IfOk result.lines (λ l. map (λ t. t.items) l.traces.items
+        ≡ map (trace_of work.now.settings work.now.plan.now.rules) work.now.terms.now) }
     ensures workers { IfOk result.lines (λ l. All (λ w. w < work.now.settings.workers)
         (map worker_of l.list.items)) }
     ensures legal { IsLegal work.now.settings.rows (chronicle result.chronicle) }
@@ -143,10 +147,13 @@ pub fn rewrite_shared<R: Threads + Wait + Sync, G: Gate>(
     requires width { work.now.plan.now.widest ≤ 16 }
     requires may { MayWork work.now.plan.now work.now.symbols.now work.now.terms.now }
 
-    // The lines are those of the terms, in their order, whoever drew them.
+    // The lines are those of the terms, in their order, whoever drew them, and the events beside them lead to
+    // their values, where the settings ask for them and no rule has a condition.
     ensures lines { IfOk result.lines (λ l. map said l.list.items
         ≡ map (line_of work.now.settings work.now.symbols.now work.now.plan.now.rules)
         work.now.terms.now) }
+    ensures traces { IfOk result.lines (λ l. map (λ t. t.items) l.traces.items
+        ≡ map (trace_of work.now.settings work.now.plan.now.rules) work.now.terms.now) }
     ensures workers { IfOk result.lines (λ l. All (λ w. w < work.now.settings.workers)
         (map worker_of l.list.items)) }
 

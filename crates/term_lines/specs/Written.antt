@@ -1,12 +1,14 @@
 -- What making the line of a term leaves.
-use Rattle.std.specs.Prelude.{◌≡◌, ℕ, ◌+◌, ◌<◌, ◌≤◌, List, ◌++◌, length, slice_index_or, Result, Ok, Err}
+use Rattle.std.specs.Prelude.{◌≡◌, ℕ, ◌+◌, ◌<◌, ◌≤◌, List, ◌++◌, Bool, false, length, slice_index_or, Result, Ok, Err}
 use Rattle.term_model.specs.Tree.{Tree, Leaf}
 use Rattle.terms_api.specs.Terms.{Store, trees}
 use Rattle.symbol_pool.specs.Pool.{Named}
 use Rattle.term_text.specs.Text.{HasNames}
 use Rattle.rewrite_model.specs.Rule.{Rule}
+use Rattle.rewrite_model.specs.Run.{Ended}
+use Rattle.innermost.specs.Normalized.{Answers, StackIsBack}
+use Rattle.innermost.specs.declared.normal.Normal.{Normal}
 use Rattle.innermost.specs.declared.normal.RunFault.TheVariants as fault
-use Rattle.term_lines.specs.declared.ending.Ending.{Ending}
 use Rattle.term_lines.specs.declared.strategy.Strategy.{Strategy}
 use Rattle.term_lines.specs.declared.stop.LineStop.{LineStop}
 use Rattle.term_lines.specs.declared.stop.LineStop.TheVariants.{StoreFull, Worn, Memory}
@@ -21,17 +23,34 @@ pub record HasValueAlone (s : Store) (names : List Named) : Type 0 where
   pub alone : length s.stack ≡ 1
   pub named : HasNames names (top_tree s)
 
--- What was built: all that the definition builds, also where there was no memory for the line; where
--- a build was refused, what it builds before that tree.
-abbrev pub BuildsForLine : Strategy → List Rule → Tree → (fuel room : ℕ) → Store → Store → Result Ending LineStop → Type 0
-BuildsForLine strategy rules term fuel room old new (Ok ending) = new.built ≡ old.built ++ built_by strategy rules term fuel room
-BuildsForLine strategy rules term fuel room old new (Err StoreFull) = RefusedBy strategy rules term fuel room old new fault.StoreFull
-BuildsForLine strategy rules term fuel room old new (Err Worn) = RefusedBy strategy rules term fuel room old new fault.Worn
-BuildsForLine strategy rules term fuel room old new (Err Memory) = new.built ≡ old.built ++ built_by strategy rules term fuel room
+-- A term ends as the definition says; where it stops the stack is as it was.
+abbrev pub Finishes : Ended Tree → Store → Store → Result Normal LineStop → Type 0
+Finishes end old new (Ok normal) = Answers end old new (Ok normal)
+Finishes end old new (Err stop) = StackIsBack old new
+
+-- all that a term builds was built
+abbrev pub BuildsWhole : Strategy → List Rule → Tree → (fuel room : ℕ) → Store → Store → Type 0
+BuildsWhole strategy rules term fuel room old new = new.built ≡ old.built ++ built_by strategy rules term fuel room
+
+-- The first of what a term builds was built; all of it where no events are told, since only they want memory before the line.
+pub record BuildsFront (strategy : Strategy) (told : Bool) (rules : List Rule) (term : Tree) (fuel room : ℕ) (old new : Store) : Type 0 where
+  pub front : List Tree
+  pub rest : List Tree
+  pub split : built_by strategy rules term fuel room ≡ front ++ rest
+  pub built : new.built ≡ old.built ++ front
+  pub whole : told ≡ false → BuildsWhole strategy rules term fuel room old new
+
+-- What was built: all that the definition builds; where a build was refused, what it builds before that tree; and where there was no
+-- memory, the first of it.
+abbrev pub BuildsForLine : {A : Type 0} → Strategy → Bool → List Rule → Tree → (fuel room : ℕ) → Store → Store → Result A LineStop → Type 0
+BuildsForLine strategy told rules term fuel room old new (Ok _) = BuildsWhole strategy rules term fuel room old new
+BuildsForLine strategy told rules term fuel room old new (Err StoreFull) = RefusedBy strategy rules term fuel room old new fault.StoreFull
+BuildsForLine strategy told rules term fuel room old new (Err Worn) = RefusedBy strategy rules term fuel room old new fault.Worn
+BuildsForLine strategy told rules term fuel room old new (Err Memory) = BuildsFront strategy told rules term fuel room old new
 
 -- A build was refused where rows or numbers are wanted, and nowhere else.
-abbrev pub CountsRefusals : Store → Store → Result Ending LineStop → Type 0
-CountsRefusals old new (Ok ending) = new.refusals ≡ old.refusals
+abbrev pub CountsRefusals : {A : Type 0} → Store → Store → Result A LineStop → Type 0
+CountsRefusals old new (Ok _) = new.refusals ≡ old.refusals
 CountsRefusals old new (Err StoreFull) = old.refusals < new.refusals
 CountsRefusals old new (Err Worn) = old.refusals < new.refusals
 CountsRefusals old new (Err Memory) = new.refusals ≡ old.refusals
@@ -41,8 +60,8 @@ abbrev pub SweepsMore : Store → Store → ℕ → Type 0
 SweepsMore old new more = new.sweeps + length old.built ≤ old.sweeps + length new.built + more
 
 -- no more sweeps than trees built, and one more where a build was refused
-abbrev pub SweepsForLine : Store → Store → Result Ending LineStop → Type 0
-SweepsForLine old new (Ok ending) = SweepsMore old new 0
+abbrev pub SweepsForLine : {A : Type 0} → Store → Store → Result A LineStop → Type 0
+SweepsForLine old new (Ok _) = SweepsMore old new 0
 SweepsForLine old new (Err StoreFull) = SweepsMore old new 1
 SweepsForLine old new (Err Worn) = SweepsMore old new 1
 SweepsForLine old new (Err Memory) = SweepsMore old new 0

@@ -1,5 +1,5 @@
 // From a term to its line.
-ghost use Rattle.std.specs.Prelude.{◌≡◌, ◌+◌, ◌++◌, ◌≤◌, [], length, max, All, IfOk, OnErr, OnOk, true};
+ghost use Rattle.std.specs.Prelude.{◌≡◌, ◌+◌, ◌++◌, ◌≤◌, [], length, max, All, IfOk, OnErr, OnOk, true, false, if◌then◌else◌};
 ghost use Rattle.term_model.specs.Tree.{IsGround};
 ghost use Rattle.rewrite_model.specs.Built.{need};
 ghost use Rattle.rule_match.specs.Planned.{IsPlain};
@@ -8,9 +8,10 @@ ghost use Rattle.innermost.specs.Normalized.{Answers, FaultOnlyWhereRefused, Swe
 ghost use Rattle.term_text.specs.Text.{HasNames};
 ghost use Rattle.term_lines.specs.Laws.{WritesNames};
 ghost use Rattle.terms_api.specs.Terms.{kept, IsSound};
-ghost use Rattle.term_lines.specs.Line.{line_text, value_text, is_written, kind_of, spent_of};
+ghost use Rattle.term_lines.specs.Line.{line_text, value_text, is_written, kind_of, spent_of, is_value};
 ghost use Rattle.term_lines.specs.Strategies.{ended, BuildsBy};
-ghost use Rattle.term_lines.specs.Written.{top_tree, HasValueAlone};
+ghost use Rattle.term_lines.specs.Tracing.{tells, MayTell, Told, events_of};
+ghost use Rattle.term_lines.specs.Written.{top_tree, HasValueAlone, Finishes};
 ghost use Rattle.term_lines.specs.Written.{BuildsForLine, CountsRefusals, SweepsForLine};
 ghost use Rattle.term_lines.specs.declared.strategy.Strategy.TheVariants.{Innermost};
 
@@ -18,7 +19,7 @@ use crate::ending::value_ending;
 use crate::value::write_value;
 use crate::{Ending, LineKind, LineStop, Strategy};
 use faults::Memory;
-use innermost::{Machine, Normal, RunFault};
+use innermost::{Event, Machine, Normal, RunFault, TraceFault};
 use rule_match::Plan;
 use symbol_pool::Symbols;
 use term_model::Flat;
@@ -36,11 +37,22 @@ pub struct Rewriter {
     pub fuel: u64,
     /// Whether a value's sizes are written in place of its text.
     pub sizes: bool,
+    /// Whether the events of innermost rewriting are told too.
+    pub traced: bool,
+}
+
+// The events of a term whose value isn't written are dropped.
+fn keep_written(written: bool, events: &mut Vec<Event>)
+    ensures { events.new.items ≡ (if written then events.old.items else []) }
+{
+    if !written {
+        events.clear();
+    }
 }
 
 impl Rewriter {
-    // Rewrites a term by the strategy that is asked.
-    fn rewrite<T: Terms>(
+    // Rewrites a term by the strategy that is asked, and tells no events.
+    fn rewrite_untold<T: Terms>(
         &mut self,
         plan: &Plan,
         term: &Flat,
@@ -75,6 +87,131 @@ impl Rewriter {
         }
     }
 
+    // The same, with the stop of a line for a fault.
+    fn rewrite_plain<T: Terms>(
+        &mut self,
+        plan: &Plan,
+        term: &Flat,
+        terms: &mut T,
+    ) -> Result<Normal, LineStop>
+        requires inside { (T.store terms.old).inside ≡ true }
+        requires machine { IsFor plan.now self.old.machine }
+        requires no_variables { IsGround term.now }
+        requires plain { IsPlain plan.now.widest term.now }
+        requires width { plan.now.widest ≤ (T.store terms.old).widest }
+        requires free { length (T.store terms.old).stack + self.old.machine.depth
+            ≤ (T.store terms.old).room }
+        ensures answer { Finishes
+            (ended self.old.strategy plan.now.rules term.now self.old.fuel self.old.machine.depth)
+            (T.store terms.old) (T.store terms.new) result }
+        ensures built { BuildsForLine self.old.strategy false
+            plan.now.rules term.now self.old.fuel self.old.machine.depth
+            (T.store terms.old) (T.store terms.new) result }
+        ensures refusals { CountsRefusals (T.store terms.old) (T.store terms.new) result }
+        ensures sweeps { SweepsForLine (T.store terms.old) (T.store terms.new) result }
+        ensures load { self.old.strategy ≡ Innermost → LoadsNeedAtMost
+            (need plan.now.rules term.now self.old.fuel self.old.machine.depth)
+            (T.store terms.old) (T.store terms.new) }
+        ensures numbers { KeepsNumbers (T.store terms.old) (T.store terms.new) }
+        ensures sound { IsSound (T.store terms.new) }
+        ensures rewriter { self.new ≡ self.old }
+        ensures same { T.same terms.old terms.new }
+    {
+        match self.rewrite_untold(plan, term, terms) {
+            Ok(normal) => Ok(normal),
+            Err(RunFault::StoreFull) => Err(LineStop::StoreFull),
+            Err(RunFault::Worn) => Err(LineStop::Worn),
+        }
+    }
+
+    // Rewrites a term innermost, and tells its events.
+    fn rewrite_told<T: Terms>(
+        &mut self,
+        plan: &Plan,
+        term: &Flat,
+        terms: &mut T,
+        events: &mut Vec<Event>,
+    ) -> Result<Normal, LineStop>
+        requires inside { (T.store terms.old).inside ≡ true }
+        requires machine { IsFor plan.now self.old.machine }
+        requires no_variables { IsGround term.now }
+        requires plain { IsPlain plan.now.widest term.now }
+        requires width { plan.now.widest ≤ (T.store terms.old).widest }
+        requires free { length (T.store terms.old).stack + self.old.machine.depth
+            ≤ (T.store terms.old).room }
+        requires none { events.old.items ≡ [] }
+        ensures answer { Finishes
+            (ended Innermost plan.now.rules term.now self.old.fuel self.old.machine.depth)
+            (T.store terms.old) (T.store terms.new) result }
+        ensures built { BuildsForLine Innermost true
+            plan.now.rules term.now self.old.fuel self.old.machine.depth
+            (T.store terms.old) (T.store terms.new) result }
+        ensures refusals { CountsRefusals (T.store terms.old) (T.store terms.new) result }
+        ensures sweeps { SweepsForLine (T.store terms.old) (T.store terms.new) result }
+        ensures load { LoadsNeedAtMost
+            (need plan.now.rules term.now self.old.fuel self.old.machine.depth)
+            (T.store terms.old) (T.store terms.new) }
+        ensures numbers { KeepsNumbers (T.store terms.old) (T.store terms.new) }
+        ensures sound { IsSound (T.store terms.new) }
+        ensures rewriter { self.new ≡ self.old }
+        ensures same { T.same terms.old terms.new }
+        ensures events { MayTell true plan.now.rules
+            → IfOk result (Told true plan.now.rules term.now self.old.fuel events.new.items) }
+    {
+        match self
+            .machine
+            .normalize_traced(plan, term, self.fuel, terms, events)
+        {
+            Ok(normal) => Ok(normal),
+            Err(TraceFault::StoreFull) => Err(LineStop::StoreFull),
+            Err(TraceFault::Worn) => Err(LineStop::Worn),
+            Err(TraceFault::Memory) => Err(LineStop::Memory),
+        }
+    }
+
+    // Rewrites a term by the strategy that is asked. Its events stand in the place of what was there, where
+    // they are asked.
+    fn rewrite<T: Terms>(
+        &mut self,
+        plan: &Plan,
+        term: &Flat,
+        terms: &mut T,
+        events: &mut Vec<Event>,
+    ) -> Result<Normal, LineStop>
+        requires inside { (T.store terms.old).inside ≡ true }
+        requires machine { IsFor plan.now self.old.machine }
+        requires no_variables { IsGround term.now }
+        requires plain { IsPlain plan.now.widest term.now }
+        requires width { plan.now.widest ≤ (T.store terms.old).widest }
+        requires free { length (T.store terms.old).stack + self.old.machine.depth
+            ≤ (T.store terms.old).room }
+        ensures answer { Finishes
+            (ended self.old.strategy plan.now.rules term.now self.old.fuel self.old.machine.depth)
+            (T.store terms.old) (T.store terms.new) result }
+        ensures built { BuildsForLine self.old.strategy (tells self.old.strategy self.old.traced)
+            plan.now.rules term.now self.old.fuel self.old.machine.depth
+            (T.store terms.old) (T.store terms.new) result }
+        ensures refusals { CountsRefusals (T.store terms.old) (T.store terms.new) result }
+        ensures sweeps { SweepsForLine (T.store terms.old) (T.store terms.new) result }
+        ensures load { self.old.strategy ≡ Innermost → LoadsNeedAtMost
+            (need plan.now.rules term.now self.old.fuel self.old.machine.depth)
+            (T.store terms.old) (T.store terms.new) }
+        ensures numbers { KeepsNumbers (T.store terms.old) (T.store terms.new) }
+        ensures sound { IsSound (T.store terms.new) }
+        ensures rewriter { self.new ≡ self.old }
+        ensures same { T.same terms.old terms.new }
+        ensures events { MayTell (tells self.old.strategy self.old.traced) plan.now.rules
+            → IfOk result (Told (tells self.old.strategy self.old.traced)
+            plan.now.rules term.now self.old.fuel events.new.items) }
+    {
+        events.clear();
+        match self.strategy {
+            Strategy::Innermost if self.traced => self.rewrite_told(plan, term, terms, events),
+            Strategy::Innermost => self.rewrite_plain(plan, term, terms),
+            Strategy::Outermost => self.rewrite_plain(plan, term, terms),
+        }
+    }
+
     // Appends the line of the value on top of an otherwise empty stack.
     fn write_top<T: Terms>(
         &mut self,
@@ -103,7 +240,8 @@ impl Rewriter {
     /// Rewrites a term on a store, by the strategy, and appends the line of its end to `out`, without the end of the line:
     /// the text of the value or its sizes, `too large`, `out of fuel` or `too deep`. Tells which of these
     /// it is, and how much fuel a value took. The stack, which must be empty, is empty again. Where it
-    /// stops without a line, `out` is as before.
+    /// stops without a line, `out` is as before. In `events`, in the place of what was there, stand the
+    /// events that lead to a value that is written, where they are asked, and no others.
     pub fn write_line<T: Terms>(
         &mut self,
         plan: &Plan,
@@ -111,6 +249,7 @@ impl Rewriter {
         term: &Flat,
         terms: &mut T,
         out: &mut Vec<u8>,
+        events: &mut Vec<Event>,
     ) -> Result<Ending, LineStop>
         requires inside { (T.store terms.old).inside ≡ true }
         requires empty { (T.store terms.old).stack ≡ [] }
@@ -132,9 +271,13 @@ impl Rewriter {
         ensures spent { IfOk result (λ ending. ending.spent ≡ spent_of self.old.sizes self.old.fuel
             (ended self.old.strategy plan.now.rules term.now self.old.fuel self.old.machine.depth)) }
         ensures unwritten { OnErr result (out.new.items ≡ out.old.items) }
+        ensures events { MayTell (tells self.old.strategy self.old.traced) plan.now.rules
+            → OnOk result (events.new.items ≡ events_of (tells self.old.strategy self.old.traced)
+            plan.now.rules term.now self.old.fuel (is_value self.old.sizes
+            (ended self.old.strategy plan.now.rules term.now self.old.fuel self.old.machine.depth))) }
 
         // What was built, and what that cost the store.
-        ensures built { BuildsForLine self.old.strategy
+        ensures built { BuildsForLine self.old.strategy (tells self.old.strategy self.old.traced)
             plan.now.rules term.now self.old.fuel self.old.machine.depth
             (T.store terms.old) (T.store terms.new) result }
         ensures refusals { CountsRefusals (T.store terms.old) (T.store terms.new) result }
@@ -150,22 +293,24 @@ impl Rewriter {
         ensures rewriter { self.new ≡ self.old }
         ensures same { T.same terms.old terms.new }
     {
-        match self.rewrite(plan, term, terms) {
+        match self.rewrite(plan, term, terms, events) {
             Ok(Normal::Value { left }) => {
                 let spent = self.fuel - left;
                 let written = self.write_top(symbols, terms, out)?;
+                keep_written(written, events);
                 Ok(value_ending(written, spent))
             }
             Ok(Normal::OutOfFuel) => {
+                events.clear();
                 out.extend_from_slice(b"out of fuel")?;
                 Ok(Ending::without_value(LineKind::OutOfFuel))
             }
             Ok(Normal::TooDeep) => {
+                events.clear();
                 out.extend_from_slice(b"too deep")?;
                 Ok(Ending::without_value(LineKind::TooDeep))
             }
-            Err(RunFault::StoreFull) => Err(LineStop::StoreFull),
-            Err(RunFault::Worn) => Err(LineStop::Worn),
+            Err(stop) => Err(stop),
         }
     }
 }

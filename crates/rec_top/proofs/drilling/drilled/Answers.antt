@@ -18,20 +18,18 @@ returns-in-Ok-lines-clause-accepted g c = λ output d rows numbers.
     let spells = subst (λ t. Spells t d.spec) (sym text) d.spelled in
     let suffice = subst (RowsSuffice s) (sym text) rows in
     let enough = subst (NumbersSuffice s) (sym text) numbers in
-    let lines = answers_ok (λ (l : Lines). AreLinesOf s d.spec l.list.items) c.lines_for-lines.result.lines c.in-Ok-lines.lines c.in-Ok-lines.is (c.lines_for-lines.ensures.accepted d.spec spells tt suffice enough) in
-    let told = subst (AreLinesOf s d.spec) (sym c.deref-in-Ok-lines.ensures.value) lines in
+    let lines = answers_ok (λ (l : Lines). AreLinesOf s d.spec l) c.lines_for-lines.result.lines c.in-Ok-lines.lines c.in-Ok-lines.is (c.lines_for-lines.ensures.accepted d.spec spells tt suffice enough) in
     subst (λ out. Answers c.told.result (λ (a : Answer). IsAnswer s.workers a out)) (sym d.output_is)
-    (but_memory (λ (a : Answer). IsAnswer s.workers a (drill_output s d.spec)) c.told.result (c.told.ensures.made d.spec told) c.told.ensures.stopped)
+    (but_memory (λ (a : Answer). IsAnswer s.workers a (drill_output s d.spec)) c.told.result (c.told.ensures.made d.spec lines) c.told.ensures.stopped)
 
 pub returns-in-Ok-lines-clause-history : goal.returns-in-Ok-lines-clause-history
 returns-in-Ok-lines-clause-history g c =
     let s = c.args.settings.now in
     let text = c.deref.ensures.value ∙ c.in-Ok.ensures in
-    let workers = subst (λ xs. IfOk c.told.result (λ (a : Answer). a.workers ≡ map worker_of xs)) c.deref-in-Ok-lines.ensures.value c.told.ensures.workers in
     let lines = c.lines_for-lines.ensures in
     subst (λ t. TellsTerms s (SpellsSuch t) c.told.result c.lines_for-lines.result.chronicle) text
     (tells_lines s c.deref.result.now c.lines_for-lines.result.lines c.in-Ok-lines.lines c.told.result c.lines_for-lines.result.chronicle c.in-Ok-lines.is
-    lines.legal lines.rises lines.collects lines.each lines.made lines.built workers c.told.ensures.stopped)
+    lines.legal lines.rises lines.collects lines.each lines.made lines.built c.told.ensures.workers c.told.ensures.stopped)
 
 pub returns-clause-history : goal.returns-clause-history
 returns-clause-history g c =

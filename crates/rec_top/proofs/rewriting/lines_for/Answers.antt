@@ -10,7 +10,7 @@ use Rattle.rec_top.proofs.rewriting.lines_for.Goals as goal
 
 pub returns-in-Ok-clause-accepted : goal.returns-in-Ok-clause-accepted
 returns-in-Ok-clause-accepted g c = λ spec s m rows numbers.
-    suffices (λ w (l : Lines). AreLinesOf c.args.settings.now w l.list.items) c.args.settings.now c.args.input.now (specified c.in-Ok.spec) spec c.rewrite.result.lines
+    suffices (λ w (l : Lines). AreLinesOf c.args.settings.now w l) c.args.settings.now c.args.input.now (specified c.in-Ok.spec) spec c.rewrite.result.lines
     c.in-Ok.ensures.made s rows numbers c.rewrite.ensures.made c.rewrite.ensures.stopped
 
 pub returns-in-Ok-clause-stopped : goal.returns-in-Ok-clause-stopped
@@ -27,7 +27,7 @@ returns-in-Ok-clause-ended g c =
 
 pub returns-in-Err-clause-accepted : goal.returns-in-Err-clause-accepted
 returns-in-Err-clause-accepted g c = λ spec s m rows numbers.
-    subst (λ r. Answers r (λ (l : Lines). AreLinesOf c.args.settings.now spec l.list.items)) (sym c.stopped.ensures.lines) (c.in-Err.ensures.accepted spec s m)
+    subst (λ r. Answers r (λ (l : Lines). AreLinesOf c.args.settings.now spec l)) (sym c.stopped.ensures.lines) (c.in-Err.ensures.accepted spec s m)
 
 pub returns-in-Err-clause-each : goal.returns-in-Err-clause-each
 returns-in-Err-clause-each g c =

@@ -1,7 +1,7 @@
 use Rattle.std.proofs.Common.{◌≡◌, ◌∷◌, ◌++◌, [], ap, sym, subst}
 use Rattle.std.specs.Prelude.{OnOk, is_ok}
 use Rattle.rewrite_workers.specs.Works.{term_at}
-use Rattle.rewrite_workers.specs.Lined.{line_of}
+use Rattle.rewrite_workers.specs.Lined.{told_of}
 use Rattle.rewrite_workers.specs.Worked.{AddsLine}
 use Rattle.rewrite_workers.specs.declared.worker.Numbered.{Numbered}
 use Rattle.rewrite_workers.specs.declared.worker.Share.{Share}
@@ -15,12 +15,12 @@ returns-clause-line g c =
     let old = c.args.share.now in
     let next : Share = record { worker = old.worker; seat = old.seat; lines = c.push.new.self; end = old.end } in
     let added : Numbered = record { number = c.args.number; line = c.in_ok-line.line } in
-    let X : Type 0 = AddsLine old next c.args.number (line_of work.settings work.symbols.now work.plan.now.rules (term_at work.terms.now c.args.number)) in
+    let X : Type 0 = AddsLine old next c.args.number (told_of work.settings work.symbols.now work.plan.now.rules (term_at work.terms.now c.args.number)) in
     elim c.match-push.branch [
       | in-Ok w ↦ subst (λ r. OnOk r X) (sym w.result-is) (record {
         line = c.in_ok-line.line;
         lines = pushed_ok c.push.result old.lines.items (old.lines.items ++ added ∷ []) c.push.new.self.items c.push.ensures.items (ap is_ok w.in-Ok.is);
-        said_is = c.in_ok-line.ensures.line;
+        told_is = c.in_ok-line.ensures.line;
         worker = c.in_ok-line.ensures.worker;
       })
       | in-Err w ↦ subst (λ r. OnOk r X) (sym w.result-is) tt

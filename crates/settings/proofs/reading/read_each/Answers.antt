@@ -5,7 +5,7 @@ use Rattle.settings.specs.Words.{texts}
 use Rattle.settings.specs.Line.{is_end_of_options}
 use Rattle.settings.proofs.Basics.{any_among}
 use Rattle.settings.proofs.Ends.{ends_refused}
-use Rattle.settings.proofs.reading.read_options.Goals as goal
+use Rattle.settings.proofs.reading.read_each.Goals as goal
 
 pub returns-then-ends_options : goal.returns-then-ends_options
 returns-then-ends_options c = λ usage.
