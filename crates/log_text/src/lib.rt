@@ -1,0 +1,10 @@
+//! The lines of a log, written: what a caller notes of its steps, each step in a line of its own.
+#![tactic(auto)]
+
+mod log;
+#[cfg(test)]
+mod tests;
+mod writing;
+
+pub use faults::Memory;
+pub use log::Log;
