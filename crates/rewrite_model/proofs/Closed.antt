@@ -200,7 +200,7 @@ module _ (red : Reducer) (good : Good red) where
 
 begin_good : (red : Reducer) (rules : List Rule) → All IsRule rules → Good red → Good (begin red rules)
 begin_good red rules w good given kept t fuel room b hg hk ha =
-    let p : Point = record { tree = t; hand = arguments t ++ given ++ kept } in
+    let p : Point = record { tree = t; hand = arguments t ++ given ++ kept; room = room } in
     let front : PointsHeld b (p ∷ []) = (all_both b (arguments t ++ given) kept (all_both b (arguments t) given ha hg) hk, ha, tt) in
     let x = reduce_by red rules kept t fuel room in
     behind Holds b (p ∷ []) x.notes x.end front (reduce_by_runs red good rules kept t fuel room (b ++ t ∷ []) w (built_held b t ha) (all_more b (t ∷ []) kept hk))

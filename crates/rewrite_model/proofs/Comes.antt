@@ -125,11 +125,11 @@ module _ (red : Reducer) (bound : List Tree) where
         (then_tail same_point (λ (b : Bool). b) (evaluate red bound c.second (t ∷ kept) left (room - 3)) _ u last mid new end left r s' l' k'))
 
 -- a reduction begins with a point
-pub reduced : (rules : List Rule) (given kept : List Tree) (t : Tree) (fuel room : ℕ) (old mid new : List Point) (r : Result (Term × ℕ) Stop) → mid ≡ old ++ record { tree = t; hand = arguments t ++ given ++ kept } ∷ [] → ComesTo same_point tree_of mid new fuel r (reduce_by (reduction rules) rules kept t fuel room) → ComesTo same_point tree_of old new fuel r (reduction rules given kept t fuel room)
+pub reduced : (rules : List Rule) (given kept : List Tree) (t : Tree) (fuel room : ℕ) (old mid new : List Point) (r : Result (Term × ℕ) Stop) → mid ≡ old ++ record { tree = t; hand = arguments t ++ given ++ kept; room = room } ∷ [] → ComesTo same_point tree_of mid new fuel r (reduce_by (reduction rules) rules kept t fuel room) → ComesTo same_point tree_of old new fuel r (reduction rules given kept t fuel room)
 reduced rules given kept t fuel room old mid new r m c =
-    let c' : ComesTo same_point tree_of (old ++ record { tree = t; hand = arguments t ++ given ++ kept } ∷ []) new fuel r (reduce_by (reduction rules) rules kept t fuel room) = subst (λ ts. ComesTo same_point tree_of ts new fuel r (reduce_by (reduction rules) rules kept t fuel room)) m c in
+    let c' : ComesTo same_point tree_of (old ++ record { tree = t; hand = arguments t ++ given ++ kept; room = room } ∷ []) new fuel r (reduce_by (reduction rules) rules kept t fuel room) = subst (λ ts. ComesTo same_point tree_of ts new fuel r (reduce_by (reduction rules) rules kept t fuel room)) m c in
     subst (λ x. ComesTo same_point tree_of old new fuel r x) (sym (begins_with_itself rules given kept t fuel room))
-    (noted same_point tree_of (record { tree = t; hand = arguments t ++ given ++ kept }) old new fuel r (reduce_by (reduction rules) rules kept t fuel room) c')
+    (noted same_point tree_of (record { tree = t; hand = arguments t ++ given ++ kept; room = room }) old new fuel r (reduce_by (reduction rules) rules kept t fuel room) c')
 
 -- by the rules of a list
 module _ (red : Reducer) (r : Rule) (rs : List Rule) (kept : List Tree) (t : Tree) (fuel room : ℕ) where

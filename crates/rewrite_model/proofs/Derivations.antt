@@ -38,6 +38,16 @@ use_of (r ∷ rs) (suc k) t u e =
     let i = use_of rs k t u e in
     record { rule = i.rule; stands = later_stands r i.rule rs i.stands; bound = i.bound; matches = i.matches; is = i.is }
 
+-- the position above, and one more move up
+pub above_last : (is : List ℕ) (j : ℕ) → above (is ++ j ∷ []) ≡ Some is
+above_last [] j = refl
+above_last (i ∷ []) j = refl
+above_last (i ∷ k ∷ ks) j = ap (option_and_then (λ ls. Some (i ∷ ls))) (above_last (k ∷ ks) j)
+
+pub ups_last : (n : ℕ) (es : List Event) → ups (suc n) ++ es ≡ ups n ++ event.Up ∷ es
+ups_last zero es = refl
+ups_last (suc n) es = ap (λ fs. event.Up ∷ fs) (ups_last n es)
+
 module _ (rules : List Rule) where
   use_steps : (t u : Tree) → IsUse rules t u → Step rules t u
   use_steps t u i = subst (Step rules t) i.is (at_root i.rule i.stands i.matches)
@@ -105,15 +115,6 @@ module _ (rules : List Rule) where
     has_front_in zero is js (More t ts) e = cc
     has_front_in (suc zero) is js (More t ts) e = has_front is js t e
     has_front_in (suc (suc i)) is js (More t ts) e = has_front_in (suc i) is js ts e
-
-  above_last : (is : List ℕ) (j : ℕ) → above (is ++ j ∷ []) ≡ Some is
-  above_last [] j = refl
-  above_last (i ∷ []) j = refl
-  above_last (i ∷ k ∷ ks) j = ap (option_and_then (λ ls. Some (i ∷ ls))) (above_last (k ∷ ks) j)
-
-  ups_last : (n : ℕ) (es : List Event) → ups (suc n) ++ es ≡ ups n ++ event.Up ∷ es
-  ups_last zero es = refl
-  ups_last (suc n) es = ap (λ fs. event.Up ∷ fs) (ups_last n es)
 
   goes_up : (is at : List ℕ) (es : List Event) (t : Tree) → replayed rules (ups (length is) ++ es) (at ++ is) t ≡ replayed rules es at t
   goes_up [] at es t = ap (λ p. replayed rules es p t) (append-nil at)

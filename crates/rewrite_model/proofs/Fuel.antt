@@ -121,13 +121,13 @@ module _ (more : ℕ) where
 
   within_follows : (n m : ℕ) (rules : List Rule) (given kept : List Tree) (t : Tree) (fuel room : ℕ) → fuel ≤ n → fuel + more ≤ m → Follows more (reduce_within n rules given kept t fuel room) (reduce_within m rules given kept t (fuel + more) room) fuel
   within_follows n m rules given kept t zero room a b =
-      let f = follows_noting (record { tree = t; hand = arguments t ++ given ++ kept }) _ _ 0 (without_fuel (inner n rules) (inner m rules) rules kept t room) in
+      let f = follows_noting (record { tree = t; hand = arguments t ++ given ++ kept; room = room }) _ _ 0 (without_fuel (inner n rules) (inner m rules) rules kept t room) in
       subst (λ (x : Evaluated Tree). Follows more x (reduce_within m rules given kept t (0 + more) room) 0) (begins n rules given kept t 0 room)
       (subst (λ (y : Evaluated Tree). Follows more (begin (inner n rules) rules given kept t 0 room) y 0) (begins m rules given kept t (0 + more) room) f)
   within_follows zero m rules given kept t (suc fuel) room a b = absurd (omega arith)
   within_follows (suc n) zero rules given kept t (suc fuel) room a b = absurd (omega arith)
   within_follows (suc n) (suc m) rules given kept t (suc fuel) room a b =
-      follows_noting (record { tree = t; hand = arguments t ++ given ++ kept }) _ _ (suc fuel)
+      follows_noting (record { tree = t; hand = arguments t ++ given ++ kept; room = room }) _ _ (suc fuel)
       (reduce_by_follows (reduce_within n rules) (reduce_within m rules) fuel (λ g k u left space l. within_follows n m rules g k u left space (omega arith) (omega arith)) rules kept t (suc fuel) room (omega arith))
 
   pub reduction_follows : (rules : List Rule) (n : ℕ) → Agree n (reduction rules) (reduction rules)
@@ -144,13 +144,13 @@ followed notes TooDeep y fuel f = f
 
 pub begins_with_itself : (rules : List Rule) (given kept : List Tree) (t : Tree) (fuel room : ℕ) → reduction rules given kept t fuel room ≡ begin (reduction rules) rules given kept t fuel room
 begins_with_itself rules given kept t zero room =
-    let f = follows_noting 0 (record { tree = t; hand = arguments t ++ given ++ kept }) _ _ 0 (without_fuel 0 (λ g k u left space. ends OutOfFuel) (reduction rules) rules kept t room) in
+    let f = follows_noting 0 (record { tree = t; hand = arguments t ++ given ++ kept; room = room }) _ _ 0 (without_fuel 0 (λ g k u left space. ends OutOfFuel) (reduction rules) rules kept t room) in
     let x = begin (λ g k u left space. ends OutOfFuel) rules given kept t 0 room in
     sym (followed x.notes x.end (begin (reduction rules) rules given kept t (0 + 0) room) 0 f)
 begins_with_itself rules given kept t (suc fuel) room =
     let e : suc fuel + 0 ≡ suc fuel = omega arith in
     let x = begin (reduce_within fuel rules) rules given kept t (suc fuel) room in
-    let f = follows_noting 0 (record { tree = t; hand = arguments t ++ given ++ kept }) _ _ (suc fuel) (reduce_by_follows 0 (reduce_within fuel rules) (reduction rules) fuel (λ g k u left space l. within_follows 0 fuel (left + 0) rules g k u left space l (omega arith)) rules kept t (suc fuel) room (omega arith)) in
+    let f = follows_noting 0 (record { tree = t; hand = arguments t ++ given ++ kept; room = room }) _ _ (suc fuel) (reduce_by_follows 0 (reduce_within fuel rules) (reduction rules) fuel (λ g k u left space l. within_follows 0 fuel (left + 0) rules g k u left space l (omega arith)) rules kept t (suc fuel) room (omega arith)) in
     sym (ap (λ k. begin (reduction rules) rules given kept t k room) (sym e) ∙ followed x.notes x.end (begin (reduction rules) rules given kept t (suc fuel + 0) room) (suc fuel) f)
 
 -- what a run that ended with a value follows

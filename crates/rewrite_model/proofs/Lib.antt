@@ -1,5 +1,6 @@
 pub mod Matches
 pub mod Fuel
+pub mod Spending
 pub mod Closed
 pub mod NormalForms
 pub mod SingleSteps
@@ -13,5 +14,6 @@ pub mod Measures
 pub mod Counts
 pub mod Steppings
 pub mod Derivations
+pub mod Fewest
 pub mod InnermostDerives
 pub mod OutermostClosed

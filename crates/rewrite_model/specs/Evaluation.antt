@@ -7,12 +7,13 @@ use Rattle.rewrite_model.specs.Rule.{Rule, Condition}
 use Rattle.rewrite_model.specs.Matching.{match_of, if_matched, tree_at}
 use Rattle.rewrite_model.specs.Run.{Run, OutOfFuel, TooDeep, done, ends, noting, ◌>>=◌, in_room}
 
--- A point is where reducing a tree by all rules begins. Its hand is the trees that are kept there:
--- the arguments of the tree, the trees bound by the rule whose right side gave it, and what is kept
--- for the evaluations round it.
+-- A point is where reducing a tree by all rules begins, and in which room. Its hand is the trees that
+-- are kept there: the arguments of the tree, the trees bound by the rule whose right side gave it, and
+-- what is kept for the evaluations round it.
 pub record Point : Type 0 where
   pub tree : Tree
   pub hand : List Tree
+  pub room : ℕ
 
 abbrev pub Evaluated : Type 0 → Type 0
 Evaluated A = Run Point A
@@ -78,7 +79,7 @@ reduce_by reduce (r ∷ rs) kept t fuel room =
 -- Reducing by all rules begins with a point.
 abbrev pub begin : Reducer → List Rule → Reducer
 begin reduce rules given kept t fuel room =
-    noting (record { tree = t; hand = arguments t ++ given ++ kept }) (reduce_by reduce rules kept t fuel room)
+    noting (record { tree = t; hand = arguments t ++ given ++ kept; room = room }) (reduce_by reduce rules kept t fuel room)
 
 -- The reductions inside a reduction have less fuel, so that a bound on the fuel carries the recursion.
 abbrev pub reduce_within : ℕ → List Rule → Reducer

@@ -8,6 +8,7 @@ pub mod Steps
 pub mod Outermost
 pub mod Derivation
 pub mod Trace
+pub mod Uses
 pub mod Replay
 pub mod Samples
 pub mod Rows

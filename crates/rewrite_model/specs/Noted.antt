@@ -5,7 +5,7 @@ use Rattle.rewrite_model.specs.Boxed.{tree_of, trees}
 use Rattle.rewrite_model.specs.declared.points.Point.{Point}
 
 abbrev pub point_of : Point → Noted
-point_of p = record { tree = tree_of p.tree; hand = trees p.hand.items }
+point_of p = record { tree = tree_of p.tree; hand = trees p.hand.items; room = p.room }
 
 abbrev pub points_of : List Point → List Noted
 points_of ps = map point_of ps

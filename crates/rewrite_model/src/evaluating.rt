@@ -279,7 +279,7 @@ fn reduce(
 ) -> Result<(Term, u64), Stop>
     ensures { Reduces rules.now given.now kept.now term fuel room points.old points.new result }
 {
-    points.push(point_at(alloc, &term, given, kept)?)?;
+    points.push(point_at(alloc, &term, given, kept, room)?)?;
     reduce_by(alloc, rules, 0, kept, term, fuel, room, points)
 }
 

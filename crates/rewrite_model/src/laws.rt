@@ -1,7 +1,7 @@
 //! What is true of all matches and evaluations, each law the contract of a function that does nothing.
 
 ghost use Rattle.rewrite_model.specs.Laws.{MatchGivesInstance, MatchBindsVariables, InstancesMatch, BeginsWithItself, FuelFalls, MoreFuelIsLeft, SubtreesAreBuilt, OutermostSubtreesAreBuilt, NeedIsBounded, NeedOfAllIsBounded, ValueIsReached, OutermostValueIsReached, ChangeTakesOne, SameTakesNone, OutermostFuelIsSteps, StepsAreAll, NormalHasNone};
-ghost use Rattle.rewrite_model.specs.TraceLaws.{DerivationReaches, EventsLead, EventsReach, EvaluationDerives, TraceLeads};
+ghost use Rattle.rewrite_model.specs.TraceLaws.{DerivationReaches, EventsLead, EventsMake, EventsAreFewest, EventsReach, EvaluationDerives, TraceLeads, ReplacementsTakeFuel};
 
 /// A pattern matches exactly its instances.
 pub fn matching_laws()
@@ -49,7 +49,10 @@ pub fn one_step_laws()
 pub fn derivation_laws()
     ensures steps { DerivationReaches }
     ensures events { EventsLead }
+    ensures made { EventsMake }
+    ensures fewest { EventsAreFewest }
     ensures reached { EventsReach }
     ensures value { EvaluationDerives }
     ensures trace { TraceLeads }
+    ensures fuel { ReplacementsTakeFuel }
 {}

@@ -12,11 +12,12 @@ use crate::counting::distinct;
 use faults::Memory;
 use std::alloc::Global;
 
-/// A tree that is to be reduced by all rules, and the trees that are kept there.
+/// A tree that is to be reduced by all rules, the trees that are kept there, and the room.
 #[derive(Debug, Drop)]
 pub struct Point {
     pub tree: Term,
     pub hand: Vec<Term>,
+    pub room: u32,
 }
 
 /// The point of a term: in hand are its arguments, the terms given with it, and those kept round it.
@@ -25,16 +26,18 @@ pub(crate) fn point_at(
     term: &Term,
     given: &[Term],
     kept: &[Term],
+    room: u32,
 ) -> Result<Point, Memory>
     ensures tree { IfOk result (λ p. tree_of p.tree ≡ tree_of term.now) }
     ensures hand { IfOk result (λ p. trees p.hand.items ≡ arguments (tree_of term.now) ++ trees given.now ++ trees kept.now) }
+    ensures room { IfOk result (λ p. p.room ≡ room) }
 {
     let mut hand = Vec::new(alloc);
     append_arguments_of(alloc, term, &mut hand)?;
     append(alloc, given, 0, &mut hand)?;
     append(alloc, kept, 0, &mut hand)?;
     let tree = term.copy(alloc)?;
-    Ok(Point { tree, hand })
+    Ok(Point { tree, hand, room })
 }
 
 /// A term and the others behind it, copied.

@@ -5,7 +5,7 @@ ghost use Rattle.rewrite_model.specs.OrderRows.{ArgumentsFromLeft, RightSideFrom
 ghost use Rattle.rewrite_model.specs.RoomRows.{LeastRoom, VariableOnTheRight, VariableInNoRoom, RightSideOfTwo, TailInWholeRoom, RoomForVariables, FuelBeforeRoom, RoomOfFirstSide, RoomOfSecondSide, RoomOfSidesOfTwo};
 ghost use Rattle.rewrite_model.specs.HandRows.{EarlierArguments, BoundAtTheRightSide, BoundTreesAreLetGo, BoundRoundArguments, KeptInCondition};
 ghost use Rattle.rewrite_model.specs.OutermostRows.{LeftmostFirst, RightSideInOneLess, RoomToBuildAgain, LeastRoom as LeastOutermostRoom, SecondArgumentInTwoLess, FuelBeforeRoom as OutermostFuelBeforeRoom, CellsAreRewritten as CellsAreRewrittenOutermost};
-ghost use Rattle.rewrite_model.specs.TraceRows.{OneAndOneIsTraced, FewestMoves, ArgumentsFirst, OnlyWhereItMatches, StaysOnTheTerm};
+ghost use Rattle.rewrite_model.specs.TraceRows.{OneAndOneIsTraced, FewestMoves, ArgumentsFirst, OnlyWhereItMatches, StaysOnTheTerm, NoRoomForTheRule, NoRoomOnTheRight};
 
 /// Small specifications, their terms, and what comes of them.
 pub fn worked_rows()
@@ -79,4 +79,6 @@ pub fn trace_rows()
     ensures arguments_first { ArgumentsFirst }
     ensures matches { OnlyWhereItMatches }
     ensures stays_on_the_term { StaysOnTheTerm }
+    ensures no_room_for_the_rule { NoRoomForTheRule }
+    ensures no_room_on_the_right { NoRoomOnTheRight }
 {}

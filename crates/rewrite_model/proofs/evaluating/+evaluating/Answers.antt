@@ -1,4 +1,4 @@
-use Rattle.std.proofs.Common.{◌≡◌, ◌-◌, suc, ◌+◌, ◌<◌, ◌≤◌, length, drop, Bool, true, false, List, [], ◌∷◌, ◌++◌, refl, sym, ap, subst, ◌∙◌, arith, Some}
+use Rattle.std.proofs.Common.{ℕ, ◌≡◌, ◌-◌, suc, ◌+◌, ◌<◌, ◌≤◌, length, drop, Bool, true, false, List, [], ◌∷◌, ◌++◌, refl, sym, ap, subst, ◌∙◌, arith, Some}
 use Rattle.term_model.specs.Tree.{Tree, More, nodes, nodes_all, arguments}
 use Rattle.term_model.proofs.Subtrees.{some_nodes}
 use Rattle.rewrite_model.specs.Boxed.{tree_of, trees_in, trees, found}
@@ -17,8 +17,8 @@ use Rattle.rewrite_model.proofs.Comes.{comes_done, no_room, rest_err, all_ok, se
 use Rattle.rewrite_model.proofs.Measures.{cost_mono, cost_step, sides, sides_at, weight_at, dropped}
 use Rattle.rewrite_model.proofs.evaluating.+evaluating.Goals as goal
 
-same_parts : {t u : Tree} {ks ls : List Tree} → t ≡ u → ks ≡ ls → let p : Point = record { tree = t; hand = ks } in p ≡ record { tree = u; hand = ls }
-same_parts {t} {u} {ks} {ls} e f = ap (λ v. record { tree = v; hand = ks }) e ∙ ap (λ vs. record { tree = u; hand = vs }) f
+same_parts : {t u : Tree} {ks ls : List Tree} {m n : ℕ} → t ≡ u → ks ≡ ls → m ≡ n → let p : Point = record { tree = t; hand = ks; room = m } in p ≡ record { tree = u; hand = ls; room = n }
+same_parts {t} {u} {ks} {ls} {m} {n} e f g = ap (λ v. record { tree = v; hand = ks; room = m }) e ∙ ap (λ vs. record { tree = u; hand = vs; room = m }) f ∙ ap (λ k. record { tree = u; hand = ls; room = k }) g
 
 points_push : (ps : List Pointed) (p : Pointed) → points_of (ps ++ p ∷ []) ≡ points_of ps ++ point_of p ∷ []
 points_push [] p = refl
@@ -129,9 +129,9 @@ reduce-reduce_by-requires t c = (omega arith, tt)
 pub reduce-returns : goal.reduce-returns
 reduce-returns t c = λ given kept g_is k_is.
     let old = points_of c.args.points.now.items in
-    let made : point_of c.in_ok-point_at.field-0 ≡ record { tree = tree_of c.args.term; hand = arguments (tree_of c.args.term) ++ given ++ kept } =
-    same_parts (c.in_ok-point_at.ensures.tree) (c.in_ok-point_at.ensures.hand ∙ ap (λ gs. arguments (tree_of c.args.term) ++ gs ++ trees c.args.kept.now) (sym g_is) ∙ ap (λ ks. arguments (tree_of c.args.term) ++ given ++ ks) (sym k_is)) in
-    let mid : points_of c.push.new.self.items ≡ old ++ record { tree = tree_of c.args.term; hand = arguments (tree_of c.args.term) ++ given ++ kept } ∷ [] =
+    let made : point_of c.in_ok-point_at.field-0 ≡ record { tree = tree_of c.args.term; hand = arguments (tree_of c.args.term) ++ given ++ kept; room = c.args.room } =
+    same_parts (c.in_ok-point_at.ensures.tree) (c.in_ok-point_at.ensures.hand ∙ ap (λ gs. arguments (tree_of c.args.term) ++ gs ++ trees c.args.kept.now) (sym g_is) ∙ ap (λ ks. arguments (tree_of c.args.term) ++ given ++ ks) (sym k_is)) (c.in_ok-point_at.ensures.room) in
+    let mid : points_of c.push.new.self.items ≡ old ++ record { tree = tree_of c.args.term; hand = arguments (tree_of c.args.term) ++ given ++ kept; room = c.args.room } ∷ [] =
     ap points_of c.in_ok-push.ensures.items ∙ points_push c.args.points.now.items c.in_ok-point_at.field-0 ∙ ap (λ q. old ++ q ∷ []) made in
     reduced c.args.rules.now given kept (tree_of c.args.term) c.args.fuel c.args.room old (points_of c.push.new.self.items) (points_of c.reduce_by.new.points.items) c.reduce_by.result mid (c.reduce_by.ensures kept k_is)
 
