@@ -8,7 +8,7 @@ use Rattle.std.proofs.lemmas.List.Elements.{All-contains, All-take, All-drop}
 use Rattle.rule_automaton.specs.Places.{Tabled}
 use Rattle.rule_automaton.specs.Shapes.{HaveShapes, tests_at, pairs_at}
 use Rattle.rewrite_model.specs.Rule.{Rule}
-use Rattle.rule_automaton.specs.Automata.{Made, rules_of, IsTested, GoesOn, IsRight, IsState, AreStates, IsAutomaton}
+use Rattle.rule_automaton.specs.Automata.{first_match, Made, rules_of, IsTested, GoesOn, IsRight, IsState, AreStates, IsAutomaton}
 use Rattle.rule_automaton.specs.Building.{with_state, AreBased, Continues, ReadsOn, IsBuilt, Serves, Decides, IsGrown, IsAsked}
 use Rattle.rule_automaton.specs.Asking.{is_from}
 use Rattle.std.proofs.lemmas.List.Elements.{Contains-get_or}
@@ -103,15 +103,15 @@ module _ (table : Tabled) (a b : Made) (at : ℕ) (op : Op) (d : Decides table a
   are_now : AreStates table now
   are_now = growing.done table b.shapes b.rules b.states b.ways b.places d.continues.are at st op within there_too (d.right st there)
 
-  first_same : 0 < length a.states → (e : State) → (rules_of now (get_or now.states 0 e) ≡ rules_of a (get_or a.states 0 e)) × ((get_or now.states 0 e).bound ≡ (get_or a.states 0 e).bound)
-  first_same some e =
-      let zero_is = is.are.states 0 e some in
-      let old = d.continues.states 0 e some in
-      let same = d.continues.same (get_or a.states 0 e) zero_is.order zero_is.within in
-      elim (cases_eq 0 at) [
-        | inr n ↦ (let k = get_or-set_other b.states at 0 (record st { op = op }) e n ∙ old in (ap (λ (v : State). rules_of b v) k ∙ same, ap (λ (v : State). v.bound) k))
-        | inl z ↦ (let k : get_or now.states 0 e ≡ record st { op = op } = ap (λ i. get_or now.states i e) z ∙ get_or-set_same b.states at (record st { op = op }) e within in
-            let first : get_or a.states 0 e ≡ st = ap (λ i. get_or a.states i e) z ∙ there e in
+  all_same : (k : ℕ) (e : State) → k < length a.states → (rules_of now (get_or now.states k e) ≡ rules_of a (get_or a.states k e)) × ((get_or now.states k e).bound ≡ (get_or a.states k e).bound)
+  all_same i e some =
+      let its = is.are.states i e some in
+      let old = d.continues.states i e some in
+      let same = d.continues.same (get_or a.states i e) its.order its.within in
+      elim (cases_eq i at) [
+        | inr n ↦ (let k = get_or-set_other b.states at i (record st { op = op }) e n ∙ old in (ap (λ (v : State). rules_of b v) k ∙ same, ap (λ (v : State). v.bound) k))
+        | inl z ↦ (let k : get_or now.states i e ≡ record st { op = op } = ap (λ j. get_or now.states j e) z ∙ get_or-set_same b.states at (record st { op = op }) e within in
+            let first : get_or a.states i e ≡ st = ap (λ j. get_or a.states j e) z ∙ there e in
             (ap (λ (v : State). rules_of b v) k ∙ ap (λ (v : State). rules_of b v) (sym first) ∙ same, ap (λ (v : State). v.bound) k ∙ ap (λ (v : State). v.bound) (sym first)))
       ]
 
@@ -121,12 +121,12 @@ module _ (table : Tabled) (a b : Made) (at : ℕ) (op : Op) (d : Decides table a
         built = record { is = is.is; are = are_now; based = subst (AreBased table) (sym d.continues.shapes) is.based };
         shapes = d.continues.shapes;
         places = d.continues.places;
-        some = (let n = d.continues.count in omega (arith, n, length-set b.states at (record st { op = op })));
-        first = first_same;
+        count = (let n = d.continues.count in omega (arith, n, length-set b.states at (record st { op = op })));
+        same = all_same;
       }
 
 pub grown_not : (table : Tabled) (a : Made) → IsBuilt table a → IsGrown table a a
-grown_not table a is = record { built = is; shapes = refl; places = refl; some = omega arith; first = λ s d. (refl, refl) }
+grown_not table a is = record { built = is; shapes = refl; places = refl; count = omega arith; same = λ k d l. (refl, refl) }
 
 pub grown_on : (table : Tabled) (a b c : Made) → IsGrown table a b → IsGrown table b c → IsGrown table a c
 grown_on table a b c g h =
@@ -134,8 +134,8 @@ grown_on table a b c g h =
       built = h.built;
       shapes = h.shapes ∙ g.shapes;
       places = h.places ∙ g.places;
-      some = (let m = g.some in let n = h.some in omega (arith, m, n));
-      first = λ s d. (let m = g.some in let k = h.first (omega (arith, m, s)) d in let j = g.first s d in (k.0 ∙ j.0, k.1 ∙ j.1));
+      count = (let m = g.count in let n = h.count in omega (arith, m, n));
+      same = λ i d s. (let m = g.count in let k = h.same i d (omega (arith, m, s)) in let j = g.same i d s in (k.0 ∙ j.0, k.1 ∙ j.1));
     }
 
 -- no rules: they are tried in turn
@@ -164,8 +164,8 @@ automaton_grown rules a b au grows =
       readable = au.readable;
       places = subst (λ n. au.table.places ≤ n) (sym g.places) au.places;
       shapes = subst (HaveShapes au.table rules) (sym g.shapes) au.shapes;
-      some = (let n = au.some in let m = g.some in omega (arith, n, m));
-      first = λ d. (let f = g.first au.some d in let o = au.first d in (f.0 ∙ o.0, f.1 ∙ o.1));
+      count = (let n = au.count in let m = g.count in omega (arith, n, m));
+      starts = λ k d l. (let n = au.count in let f = g.same k d (omega (arith, n, l)) in let o = au.starts k d l in record { bound = f.1 ∙ o.bound; same = λ t e. ap (first_match rules t) f.0 ∙ o.same t e });
       states = g.built.are;
     }
 

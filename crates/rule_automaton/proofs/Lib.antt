@@ -11,3 +11,4 @@ pub mod Asked
 pub mod Growing
 pub mod Built
 pub mod Decided
+pub mod Starts

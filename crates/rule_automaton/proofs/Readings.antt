@@ -12,12 +12,13 @@ use Rattle.terms_api.specs.Terms.{Store, IsHeld, tree_at}
 use Rattle.rewrite_model.specs.Rule.{Rule}
 use Rattle.rule_match.specs.Preorder.{left_at}
 use Rattle.rule_match.specs.Stands.{stands}
+use Rattle.rule_match.specs.Groups.{head_at}
 use Rattle.rule_match.proofs.Pushing.{stands_by}
 use Rattle.rule_automaton.specs.Places.{Tabled, IsTable}
 use Rattle.rule_automaton.specs.declared.shapes.Shape.{Shape}
 use Rattle.rule_automaton.proofs.Laying.{All-numbers}
 use Rattle.rule_automaton.specs.Shapes.{HaveShapes, IsShape, tests_at, pairs_at, variables_at, numbers}
-use Rattle.rule_automaton.specs.Automata.{first_match, Made, part, rules_of, AreInOrder, IsWay, IsReading, IsRight, IsState, IsAutomaton}
+use Rattle.rule_automaton.specs.Automata.{first_match, Made, part, rules_of, AreInOrder, IsWay, IsReading, IsRight, IsState, IsStart, IsAutomaton}
 use Rattle.rule_automaton.specs.Rows.{row_at, IsFull, Fills}
 use Rattle.rule_automaton.specs.Running.{Known, AreKnown, Asked, asked, IsBegun, IsRun, is_way_of}
 use Rattle.rule_automaton.proofs.Standing as standing
@@ -105,21 +106,22 @@ module _ (a : Made) (s : Store) (rows : List Row) (m : Asked) (k : ℕ) (run : I
             },
           )
 
--- the first of some
-record First {A : Type 0} (xs : List A) : Type 0 where
+-- one of some
+record At {A : Type 0} (xs : List A) (i : ℕ) : Type 0 where
   one : A
-  there : (d : A) → get_or xs 0 d ≡ one
+  there : (d : A) → get_or xs i d ≡ one
 
-first_of : {A : Type 0} (xs : List A) → 0 < length xs → First xs
-first_of [] l = absurd (omega arith)
-first_of (x ∷ xs) l = record { one = x; there = λ d. refl }
+at_of : {A : Type 0} (xs : List A) (i : ℕ) → i < length xs → At xs i
+at_of [] i l = absurd (omega arith)
+at_of (x ∷ xs) zero l = record { one = x; there = λ d. refl }
+at_of (x ∷ xs) (suc i) l = let r = at_of xs i (omega arith) in record { one = r.one; there = r.there }
 
--- with the root's row at place 0 it begins, and stands at the first state
-module _ (a : Made) (s : Store) (rows : List Row) (rules : List Rule) (row : Row) (au : IsAutomaton rules a) (held : IsHeld s row) (size : a.places ≤ length rows) where
+-- with the root's row at place 0 it begins, and stands at the state of the rule from which on it searches
+module _ (a : Made) (s : Store) (rows : List Row) (rules : List Rule) (row : Row) (from : ℕ) (au : IsAutomaton rules a) (held : IsHeld s row) (size : a.places ≤ length rows) where
   pub root_fits : 0 < length rows
   root_fits = let p = au.places in let q = au.readable.some in omega (arith, p, q, size)
 
-  pub begins : IsBegun a s (set rows 0 row) (asked rules (tree_at s row))
+  pub begins : IsBegun a s (set rows 0 row) (asked rules (tree_at s row) from)
   begins =
       let r = au.readable.read (tree_at s row) in
       let e : row_at (set rows 0 row) 0 ≡ row = get_or-set_same rows 0 row (record { 0 = 0 }) root_fits in
@@ -131,43 +133,18 @@ module _ (a : Made) (s : Store) (rows : List Row) (rules : List Rule) (row : Row
         size = omega (arith, size, n);
       }
 
-  pub starts : IsRun a s (set rows 0 row) (asked rules (tree_at s row)) 0
-  starts =
-      let f = first_of a.states au.some in
+  pub starts : from < length rules → root (tree_at s row) ≡ head_at rules from → IsRun a s (set rows 0 row) (asked rules (tree_at s row) from) from
+  starts l head =
+      let w : from < length a.states = (let n = au.count in omega (arith, l, n)) in
+      let f = at_of a.states from w in
       let st = f.one in
-      let has = subst (λ (v : State). rules_of a v ≡ numbers 0 (length rules)) (f.there st) (au.first st).0 in
-      let zero : st.bound ≡ 0 = subst (λ (v : State). v.bound ≡ 0) (f.there st) (au.first st).1 in
+      let it = subst (IsStart rules a.rules from) (f.there st) (au.starts from st l) in
+      let zero = it.bound in
       record {
         begun = begins;
-        within = au.some;
+        within = w;
         state = st;
         there = f.there;
-        same = ap (first_match rules (tree_at s row)) has;
+        same = it.same (tree_at s row) head;
         known = λ i d l j e n. record { stand = λ k. absurd (omega (arith, k, zero)); kids = λ k. absurd (omega (arith, k, zero)) };
       }
-
-length-numbers : (n count : ℕ) → length (numbers n count) ≡ count
-length-numbers n zero = refl
-length-numbers n (suc count) = let r = length-numbers (n + 1) count in omega (arith, r)
-
--- one state, which has all rules
-pub first_automaton : (table : Tabled) → IsTable table → (rules : List Rule) (shapes : List Shape) → HaveShapes table rules shapes → (all : List ℕ) → all ≡ numbers 0 (length shapes) → (n : ℕ) → n ≡ length all → (places : ℕ) → table.places ≤ places → (states : List State) → states ≡ record { from = 0; to = n; bound = 0; op = op.Turn } ∷ [] → (ways : List Way) → IsAutomaton rules (record { shapes = shapes; rules = all; states = states; ways = ways; places = places })
-first_automaton table is rules shapes have all e n f places low states one ways =
-    let size : length all ≡ length shapes = ap length e ∙ length-numbers 0 (length shapes) in
-    let whole : part all 0 n ≡ numbers 0 (length rules) = take_all (n - 0) all (omega (arith, f)) ∙ e ∙ ap (numbers 0) have.count in
-    let st : State = record { from = 0; to = n; bound = 0; op = op.Turn } in
-    let a : Made = record { shapes = shapes; rules = all; states = st ∷ []; ways = ways; places = places } in
-    let here : IsState table a 0 st = record { order = omega arith; within = omega (arith, f); right = tt } in
-    let only_state : (at : ℕ) (d : State) → at < length (st ∷ []) → IsState table a at (get_or (st ∷ []) at d) = λ at d l. (let z : 0 ≡ at = omega (arith, l) in subst (λ i. IsState table a i (get_or (st ∷ []) i d)) z here) in
-    rw one (record {
-      table = table;
-      readable = is;
-      places = low;
-      shapes = have;
-      some = omega arith;
-      first = λ d. (whole, refl);
-      states = record {
-        rules = subst (All (λ r. r < length shapes)) (sym e) (All-numbers (λ r. r < length shapes) (length shapes) 0 (λ x l k. omega (arith, k)));
-        states = only_state;
-      };
-    })

@@ -2,10 +2,11 @@
 use Rattle.std.specs.Prelude.{◌≡◌, ℕ, ◌+◌, ◌-◌, ◌*◌, ◌<◌, ◌≤◌, ◌&&◌, ◌||◌, ◌==◌, nat_lt, nat_le, not, Bool, true, List, [], ◌∷◌, Option, Some, None, if◌then◌else◌, length, take, drop, All, Contains, is_some, slice_index_or}
 use Rattle.std.specs.List.{list_all, filter}
 use Rattle.std.specs.List.Sorted.{IsNonDecreasingBy}
-use Rattle.term_model.specs.Tree.{Tree}
+use Rattle.term_model.specs.Tree.{Tree, root}
 use Rattle.term_model.specs.declared.Symbol.{Symbol}
 use Rattle.rewrite_model.specs.Rule.{Rule}
 use Rattle.rule_match.specs.Planned.{match_at}
+use Rattle.rule_match.specs.Groups.{head_at}
 use Rattle.rule_automaton.specs.Places.{Tabled, IsTable}
 use Rattle.rule_automaton.specs.Shapes.{HaveShapes, tests_at, pairs_at, numbers}
 use Rattle.rule_automaton.specs.declared.shapes.Test.{Test}
@@ -116,12 +117,18 @@ pub record AreStates (table : Tabled) (a : Made) : Type 0 where
   pub rules : All (λ r. r < length a.shapes) a.rules
   pub states : (at : ℕ) (d : State) → at < length a.states → IsState table a at (slice_index_or a.states at d)
 
--- The shapes are those of the rules, and the first state has all rules.
+-- At this state nothing is known of a tree, and its rules have the first match of all from one on, in
+-- each tree that has the head of that one.
+pub record IsStart (rules : List Rule) (list : List ℕ) (from : ℕ) (s : State) : Type 0 where
+  pub bound : s.bound ≡ 0
+  pub same : (t : Tree) → root t ≡ head_at rules from → first_match rules t (part list s.from s.to) ≡ first_match rules t (numbers from (length rules - from))
+
+-- The shapes are those of the rules, and each rule has a state at which the search from it on begins.
 pub record IsAutomaton (rules : List Rule) (a : Made) : Type 0 where
   pub table : Tabled
   pub readable : IsTable table
   pub places : table.places ≤ a.places
   pub shapes : HaveShapes table rules a.shapes
-  pub some : 0 < length a.states
-  pub first : (d : State) → (rules_of a (slice_index_or a.states 0 d) ≡ numbers 0 (length rules)) × ((slice_index_or a.states 0 d).bound ≡ 0)
+  pub count : length rules ≤ length a.states
+  pub starts : (k : ℕ) (d : State) → k < length rules → IsStart rules a.rules k (slice_index_or a.states k d)
   pub states : AreStates table a

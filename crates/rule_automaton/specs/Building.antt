@@ -78,13 +78,13 @@ pub record Decides (table : Tabled) (a b : Made) (at : ℕ) (op : Op) : Type 0 w
   pub continues : Continues table a b
   pub right : (st : State) → ((d : State) → slice_index_or a.states at d ≡ st) → IsRight table b at st op
 
--- It is under construction as before, and its first state has the same rules and the same bound.
+-- It is under construction as before, and its states have the same rules and the same bounds.
 pub record IsGrown (table : Tabled) (a b : Made) : Type 0 where
   pub built : IsBuilt table b
   pub shapes : b.shapes ≡ a.shapes
   pub places : b.places ≡ a.places
-  pub some : length a.states ≤ length b.states
-  pub first : 0 < length a.states → (d : State) → (rules_of b (slice_index_or b.states 0 d) ≡ rules_of a (slice_index_or a.states 0 d)) × ((slice_index_or b.states 0 d).bound ≡ (slice_index_or a.states 0 d).bound)
+  pub count : length a.states ≤ length b.states
+  pub same : (k : ℕ) (d : State) → k < length a.states → (rules_of b (slice_index_or b.states k d) ≡ rules_of a (slice_index_or a.states k d)) × ((slice_index_or b.states k d).bound ≡ (slice_index_or a.states k d).bound)
 
 -- The states that were added were taken from those that were left.
 abbrev pub ArePaid : Made → ℕ → Made → ℕ → Type 0

@@ -4,5 +4,6 @@ pub mod Tables
 pub mod Automata
 pub mod Rows
 pub mod Running
+pub mod Starting
 pub mod Asking
 pub mod Building

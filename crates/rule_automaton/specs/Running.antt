@@ -1,5 +1,5 @@
 -- An automaton under way: what holds at a state.
-use Rattle.std.specs.Prelude.{◌≡◌, ℕ, ◌<◌, ◌≤◌, true, List, Option, Some, None, Bool, length, map, take, All, slice_index_or, ◌==◌, ◌&&◌, ◌+◌, false}
+use Rattle.std.specs.Prelude.{◌≡◌, ℕ, ◌<◌, ◌≤◌, true, List, Option, Some, None, Bool, length, map, take, All, slice_index_or, ◌==◌, ◌&&◌, ◌+◌, ◌-◌, false}
 use Rattle.term_model.specs.Tree.{Tree, head_eq}
 use Rattle.term_model.specs.declared.Head.{Head}
 use Rattle.term_model.specs.declared.Head.TheVariants.{App}
@@ -32,10 +32,11 @@ pub record Known (at : ℕ → Tree) (full : ℕ → Type 0) (bound : ℕ) (t : 
 abbrev pub AreKnown : List Shape → (ℕ → Tree) → (ℕ → Type 0) → ℕ → List ℕ → Type 0
 AreKnown shapes at full bound rules = All (λ r. All (Known at full bound) (tests_at shapes r)) rules
 
--- the rules, and the tree that they are to match
+-- the rules, the tree that they are to match, and the rule from which on they are asked
 pub record Asked : Type 0 where
   pub rules : List Rule
   pub tree : Tree
+  pub from : ℕ
 
 -- The rules' automaton reads the tree, whose row has place 0.
 pub record IsBegun (a : Made) (s : Store) (rows : List Row) (m : Asked) : Type 0 where
@@ -44,17 +45,17 @@ pub record IsBegun (a : Made) (s : Store) (rows : List Row) (m : Asked) : Type 0
   pub root : IsFull s reading.at rows 0
   pub size : a.places ≤ length rows
 
--- the first rule that matches, among all
-abbrev pub first_of_all : Asked → Option ℕ
-first_of_all m = first_match m.rules m.tree (numbers 0 (length m.rules))
+-- the first rule that matches, from the asked one on
+abbrev pub first_asked : Asked → Option ℕ
+first_asked m = first_match m.rules m.tree (numbers m.from (length m.rules - m.from))
 
--- It stands at a state, whose rules have the first match of all.
+-- It stands at a state, whose rules have the first match of all that are asked.
 pub record IsRun (a : Made) (s : Store) (rows : List Row) (m : Asked) (k : ℕ) : Type 0 where
   pub begun : IsBegun a s rows m
   pub within : k < length a.states
   pub state : State
   pub there : (d : State) → slice_index_or a.states k d ≡ state
-  pub same : first_match m.rules m.tree (rules_of a state) ≡ first_of_all m
+  pub same : first_match m.rules m.tree (rules_of a state) ≡ first_asked m
   pub known : AreKnown a.shapes begun.reading.at (IsFull s begun.reading.at rows) state.bound (rules_of a state)
 
 -- the rule matches, and the rows at the places of its variables have the bound trees
@@ -65,8 +66,8 @@ pub record IsMatch (a : Made) (s : Store) (rows : List Row) (m : Asked) (r : ℕ
 
 -- the first rule that matches is this one, with its rows; none where no rule does
 abbrev pub IsAnswer : Made → Store → List Row → Asked → Option ℕ → Type 0
-IsAnswer a s rows m None = first_of_all m ≡ None
-IsAnswer a s rows m (Some r) = (first_of_all m ≡ Some r) × IsMatch a s rows m r
+IsAnswer a s rows m None = first_asked m ≡ None
+IsAnswer a s rows m (Some r) = (first_asked m ≡ Some r) × IsMatch a s rows m r
 
 -- it has ended with an answer, or goes on at a later state
 abbrev pub IsNext : Made → Store → List Row → Asked → ℕ → Next → Type 0
@@ -78,8 +79,8 @@ abbrev pub IsAnswerOf : List ℕ → Made → Store → List Row → Asked → O
 IsAnswerOf rs a s rows m None = first_match m.rules m.tree rs ≡ None
 IsAnswerOf rs a s rows m (Some r) = (first_match m.rules m.tree rs ≡ Some r) × IsMatch a s rows m r
 
-abbrev pub asked : List Rule → Tree → Asked
-asked rules t = record { rules = rules; tree = t }
+abbrev pub asked : List Rule → Tree → ℕ → Asked
+asked rules t from = record { rules = rules; tree = t; from = from }
 
 -- Tests may be made one after another, from the root's row on.
 pub record IsReady (s : Store) (at : ℕ → Tree) (rows : List Row) (tests : List Test) : Type 0 where

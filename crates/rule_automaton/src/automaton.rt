@@ -2,7 +2,9 @@
 
 ghost use Rattle.std.specs.Prelude.{◌≡◌, ◌<◌, ◌≤◌, length, true, IfOk};
 ghost use Rattle.terms_api.specs.Terms.{IsHeld, IsSound, tree_at};
-ghost use Rattle.rule_automaton.specs.Shapes.{numbers, variables_at};
+ghost use Rattle.term_model.specs.Tree.{root};
+ghost use Rattle.rule_match.specs.Groups.{head_at};
+ghost use Rattle.rule_automaton.specs.Shapes.{variables_at};
 ghost use Rattle.rule_automaton.specs.Automata.{IsAutomaton};
 ghost use Rattle.rule_automaton.specs.Building.{HasFewStates};
 ghost use Rattle.rule_automaton.specs.Running.{made, asked, IsAnswer};
@@ -11,7 +13,8 @@ use crate::asking::size_of;
 use crate::building::{Budget, build};
 use crate::finding::run;
 use crate::shapes::{Shape, numbers_below, shapes_of};
-use crate::states::{Op, State, Way};
+use crate::starting::{firsts_of, group_all, others_of, states_below};
+use crate::states::{State, Way};
 use crate::table::Table;
 use faults::Memory;
 use rule_match::Plan;
@@ -19,8 +22,9 @@ use std::alloc::Global;
 use term_model::Row;
 use terms_api::Terms;
 
-/// How often a test may be looked at while an automaton is made: about as many as take a second.
-const STEPS: usize = 1 << 28;
+/// How often a test may be looked at while an automaton is made: about as many as take a third of a
+/// second.
+const STEPS: usize = 1 << 27;
 
 /// The matching automaton of a plan: the shapes of its rules, the lists of rules of its states, one
 /// after another, its states and their ways, and how many places there are.
@@ -65,40 +69,43 @@ impl Automaton {
             IsAutomaton plan.now.rules (made automaton)) }
         ensures small { IfOk result (λ automaton. HasFewStates (made automaton)) }
     {
-        let mut automaton = Self::in_turn(alloc, plan)?;
-        let size = size_of(&automaton.shapes, &automaton.rules);
+        let _ = plan.rules();
+        let firsts = firsts_of(alloc, plan)?;
+        let others = others_of(alloc, plan)?;
+        let mut automaton = Self::in_turn(alloc, plan, &firsts)?;
+        let all = numbers_below(alloc, automaton.shapes.len())?;
+        let size = size_of(&automaton.shapes, &all);
         let most = size.saturating_mul(4);
+        let states = size.saturating_mul(3);
         let mut budget = Budget {
-            states: most,
+            states,
             rules: most.saturating_mul(4),
             steps: STEPS,
         };
-        build(alloc, &mut automaton, most, &mut budget)?;
+        build(alloc, &mut automaton, &firsts, most, &mut budget)?;
+        build(alloc, &mut automaton, &others, most, &mut budget)?;
         Ok(automaton)
     }
 
-    /// One state, which tries all rules in turn.
-    fn in_turn(alloc: Global, plan: &Plan) -> Result<Self, Memory>
+    /// A state for each rule, which tries it and those after it that have its symbol in turn.
+    fn in_turn(alloc: Global, plan: &Plan, firsts: &[bool]) -> Result<Self, Memory>
+        requires { length firsts.now ≡ length plan.now.rules }
         ensures automaton { IfOk result (λ automaton.
             IsAutomaton plan.now.rules (made automaton)) }
-        ensures one { IfOk result (λ automaton. length automaton.states.items ≡ 1) }
-        ensures rules { IfOk result (λ automaton. automaton.rules.items
-            ≡ numbers 0 (length automaton.shapes.items)) }
+        ensures count { IfOk result (λ automaton.
+            length automaton.states.items ≡ length automaton.shapes.items) }
     {
         let _ = plan.rules();
         let mut table = Table::new(alloc);
         let shapes = shapes_of(alloc, plan, &mut table)?;
-        let rules = numbers_below(alloc, shapes.len())?;
-        let first = State {
-            from: 0,
-            to: rules.len(),
-            bound: 0,
-            op: Op::Turn,
-        };
+        let count = shapes.len();
+        let mut rules = numbers_below(alloc, count)?;
+        let mut states = states_below(alloc, count)?;
+        group_all(plan, firsts, &mut rules, &mut states)?;
         Ok(Automaton {
             shapes,
             rules,
-            states: vec![in alloc; first]?,
+            states,
             ways: Vec::new(alloc),
             places: table.places(),
         })
@@ -113,11 +120,13 @@ impl Automaton {
         &shape.variables
     }
 
-    /// The first rule of a plan whose left side matches the tree of a held row, read by the plan's
-    /// automaton. The places of the rule's variables then have the bound rows. It takes no memory.
+    /// The first of a rule and those after it whose left side matches the tree of a held row, which
+    /// has the rule's head, read by the plan's automaton. The places of the found rule's variables
+    /// then have the bound rows. It takes no memory.
     pub fn find_rule<T: Terms>(
         &self,
         plan: &Plan,
+        first: u32,
         row: Row,
         terms: &mut T,
         places: &mut Places,
@@ -125,9 +134,11 @@ impl Automaton {
         requires inside { (T.store terms.old).inside ≡ true }
         requires automaton { IsAutomaton plan.now.rules (made self.now) }
         requires held { IsHeld (T.store terms.old) row }
+        requires first { first < length plan.now.rules }
+        requires head { root (tree_at (T.store terms.old) row) ≡ head_at plan.now.rules first }
         requires places { (made self.now).places ≤ length places.old.rows.items }
         ensures answer { IsAnswer (made self.now) (T.store terms.old) places.new.rows.items
-            (asked plan.now.rules (tree_at (T.store terms.old) row)) result }
+            (asked plan.now.rules (tree_at (T.store terms.old) row) first) result }
         ensures places { length places.new.rows.items ≡ length places.old.rows.items }
         ensures unchanged { T.store terms.new ≡ T.store terms.old }
         ensures sound { IsSound (T.store terms.new) }
@@ -136,6 +147,6 @@ impl Automaton {
         let _ = terms.depth();
         let rows = places.rows.as_mut_slice();
         rows[0] = row;
-        run(self, 0, terms, rows)
+        run(self, first as usize, terms, rows)
     }
 }

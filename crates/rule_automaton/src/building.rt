@@ -220,11 +220,73 @@ fn op_of(
     Ok(op)
 }
 
-/// Decides what is done at the states from the first on, at most so many. Rules are tried in turn
-/// at the states that are left.
-pub(crate) fn build(
+/// Decides what is done at a state.
+fn build_at(
     alloc: Global,
     automaton: &mut Automaton,
+    at: usize,
+    budget: &mut Budget,
+) -> Result<(), Memory>
+    requires at { at < length automaton.old.states.items }
+    requires built { (table : Tabled) × IsBuilt table (made automaton.old) }
+    ensures grown { OnOk result ((table : Tabled) → IsBuilt table (made automaton.old)
+        → IsGrown table (made automaton.old) (made automaton.new)) }
+    ensures paid { OnOk result (ArePaid (made automaton.old) budget.old.states
+        (made automaton.new) budget.new.states) }
+{
+    let op = op_of(alloc, automaton, at, budget)?;
+    automaton.states[at].op = op;
+    Ok(())
+}
+
+/// Decides what is done at a state where it is marked.
+fn build_one(
+    alloc: Global,
+    automaton: &mut Automaton,
+    at: usize,
+    marked: bool,
+    budget: &mut Budget,
+) -> Result<(), Memory>
+    requires { (table : Tabled) × IsBuilt table (made automaton.old) }
+    ensures grown { OnOk result ((table : Tabled) → IsBuilt table (made automaton.old)
+        → IsGrown table (made automaton.old) (made automaton.new)) }
+    ensures paid { OnOk result (ArePaid (made automaton.old) budget.old.states
+        (made automaton.new) budget.new.states) }
+{
+    if at >= automaton.states.len() {
+        return Ok(());
+    }
+    if marked {
+        return build_at(alloc, automaton, at, budget);
+    }
+    Ok(())
+}
+
+/// Decides what is done at the marked states.
+pub(crate) fn build_marked(
+    alloc: Global,
+    automaton: &mut Automaton,
+    marks: &[bool],
+    budget: &mut Budget,
+) -> Result<(), Memory>
+    requires { (table : Tabled) × IsBuilt table (made automaton.old) }
+    ensures grown { OnOk result ((table : Tabled) → IsBuilt table (made automaton.old)
+        → IsGrown table (made automaton.old) (made automaton.new)) }
+    ensures paid { OnOk result (ArePaid (made automaton.old) budget.old.states
+        (made automaton.new) budget.new.states) }
+{
+    for at in 0..marks.len() {
+        build_one(alloc, automaton, at, marks[at], budget)?;
+    }
+    Ok(())
+}
+
+/// Decides what is done at the states from one on, below another at most. Rules are tried in turn
+/// at the states that are left.
+pub(crate) fn build_rest(
+    alloc: Global,
+    automaton: &mut Automaton,
+    first: usize,
     most: usize,
     budget: &mut Budget,
 ) -> Result<(), Memory>
@@ -234,12 +296,31 @@ pub(crate) fn build(
     ensures paid { OnOk result (ArePaid (made automaton.old) budget.old.states
         (made automaton.new) budget.new.states) }
 {
-    for at in 0..most {
+    for at in first..most {
         if at >= automaton.states.len() {
             return Ok(());
         }
-        let op = op_of(alloc, automaton, at, budget)?;
-        automaton.states[at].op = op;
+        build_at(alloc, automaton, at, budget)?;
     }
+    Ok(())
+}
+
+/// Decides what is done at the marked states, and then at those that were added.
+pub(crate) fn build(
+    alloc: Global,
+    automaton: &mut Automaton,
+    marks: &[bool],
+    most: usize,
+    budget: &mut Budget,
+) -> Result<(), Memory>
+    requires { (table : Tabled) × IsBuilt table (made automaton.old) }
+    ensures grown { OnOk result ((table : Tabled) → IsBuilt table (made automaton.old)
+        → IsGrown table (made automaton.old) (made automaton.new)) }
+    ensures paid { OnOk result (ArePaid (made automaton.old) budget.old.states
+        (made automaton.new) budget.new.states) }
+{
+    let first = automaton.states.len();
+    build_marked(alloc, automaton, marks, budget)?;
+    build_rest(alloc, automaton, first, most, budget)?;
     Ok(())
 }

@@ -8,6 +8,7 @@ mod building;
 mod finding;
 mod rows;
 mod shapes;
+mod starting;
 mod states;
 mod table;
 

@@ -1,19 +1,27 @@
-use Rattle.std.proofs.Common.{◌≡◌, ◌≤◌, length, ◌∙◌, ap, arith}
-use Rattle.rule_automaton.specs.Shapes.{numbers}
+use Rattle.std.proofs.Common.{◌≡◌, ◌≤◌, length, arith}
 use Rattle.rule_automaton.specs.Tables.{tabled}
-use Rattle.rule_automaton.proofs.Readings.{first_automaton}
+use Rattle.rule_automaton.proofs.Starts.{first_starts, starts_automaton}
 use Rattle.rule_automaton.proofs.automaton.Automaton.in_turn.Goals as goal
 
 pub numbers_below-requires : goal.numbers_below-requires
 numbers_below-requires c =
     let n = c.in_ok-shapes.ensures.shapes.count in
     let p = c.rules.ensures.plan.count in
-    omega (arith, n, p, c.len.ensures)
+    omega (arith, n, p, c.len-count.ensures)
+
+pub group_all-requires-clause-starts : goal.group_all-requires-clause-starts
+group_all-requires-clause-starts c =
+    let n = c.in_ok-shapes.ensures.shapes.count in
+    let e : c.len-count.result ≡ length c.args.plan.now.rules = omega (arith, n, c.len-count.ensures) in
+    first_starts c.args.plan.now.rules c.in_ok-rules.rules.items c.in_ok-states.states.items c.len-count.result e c.in_ok-rules.ensures c.in_ok-states.ensures
 
 pub returns-clause-automaton : goal.returns-clause-automaton
 returns-clause-automaton c =
     let low : (tabled c.shapes_of.new.table).places ≤ c.places.result = omega (arith, c.places.ensures) in
-    first_automaton (tabled c.shapes_of.new.table) c.in_ok-shapes.ensures.table c.args.plan.now.rules c.in_ok-shapes.shapes.items c.in_ok-shapes.ensures.shapes c.in_ok-rules.rules.items (c.in_ok-rules.ensures ∙ ap (numbers 0) (let e : c.len.result ≡ length c.in_ok-shapes.shapes.items = omega (arith, c.len.ensures) in e)) c.len-2.result (omega (arith, c.len-2.ensures)) c.places.result low _ c.in_ok-vec.ensures.items _
+    starts_automaton (tabled c.shapes_of.new.table) c.in_ok-shapes.ensures.table c.args.plan.now.rules c.in_ok-shapes.shapes.items c.in_ok-shapes.ensures.shapes c.group_all.new.rules.items c.group_all.new.states.items c.in_ok-group_all.ensures c.places.result low _
 
-pub returns-clause-rules : goal.returns-clause-rules
-returns-clause-rules c = c.in_ok-rules.ensures ∙ ap (numbers 0) (let e : c.len.result ≡ length c.in_ok-shapes.shapes.items = omega (arith, c.len.ensures) in e)
+pub returns-clause-count : goal.returns-clause-count
+returns-clause-count c =
+    let n = c.in_ok-shapes.ensures.shapes.count in
+    let m = c.in_ok-group_all.ensures.count in
+    omega (arith, n, m)

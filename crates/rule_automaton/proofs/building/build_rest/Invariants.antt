@@ -1,7 +1,7 @@
 use Rattle.rule_automaton.specs.Places.{Tabled}
 use Rattle.rule_automaton.specs.Running.{made}
 use Rattle.rule_automaton.specs.Building.{IsBuilt, IsGrown, ArePaid}
-use Rattle.rule_automaton.proofs.building.build.Given as goal
+use Rattle.rule_automaton.proofs.building.build_rest.Given as goal
 
 -- the states are right
 abbrev pub invariant-loop-at : goal.invariant-loop-at
