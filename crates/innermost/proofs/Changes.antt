@@ -192,7 +192,7 @@ module _ (change : Change) (c : Crumb) (way : List Crumb) (u : Tree) (now : Stor
         ∙ ap (after_trees (trees_at points)) (noting_then rebuilt (onward change.rules way (Changed rebuilt) change.left) change.go)
 
     abbrev pub again_point : Point
-    again_point = record { tree = rebuilt; hand = (change.root ∷ []) ++ args }
+    again_point = record { tree = rebuilt; hand = (change.root ∷ []) ++ args; room = 0 }
 
     pub again_over : (n : ℕ) → n ≡ length (arguments (tree_at now f.row)) → IsPointOver change.start (change.root ∷ []) args c.head n again_point
     again_over n is =

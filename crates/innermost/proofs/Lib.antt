@@ -39,3 +39,4 @@ pub mod Tracings
 pub mod TracedEnds
 pub mod Halting
 pub mod NodeHalts
+pub mod Matchings

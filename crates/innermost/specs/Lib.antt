@@ -7,6 +7,7 @@ pub mod Fits
 pub mod Follow
 pub mod Laws
 pub mod Reducing
+pub mod Matchers
 pub mod Machines
 pub mod Normalized
 pub mod Shown

@@ -11,6 +11,7 @@ mod frames;
 mod instantiating;
 mod laws;
 mod machine;
+mod matcher;
 mod nodes;
 mod normal;
 mod normalizing;

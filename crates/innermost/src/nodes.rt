@@ -12,6 +12,14 @@ use crate::trail::{Trail, lesser};
 use faults::Memory;
 use term_model::Flat;
 
+/// A node of a term that is visited, how far down the node before it stands, and how far down it does.
+#[derive(Clone, Copy)]
+pub(crate) struct Visit {
+    pub at: usize,
+    pub before: u32,
+    pub down: u32,
+}
+
 /// Appends so many first arguments.
 fn push_firsts(count: u32, way: &mut Vec<u32>) -> Result<(), Memory>
     ensures { OnOk result (way.new.items ≡ way.old.items ++ replicate count 1) }

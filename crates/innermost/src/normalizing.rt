@@ -15,14 +15,15 @@ ghost use Rattle.innermost.specs.Machines.{IsFor, settled};
 use crate::coding::code_plan;
 use crate::compile::Code;
 use crate::evaluating::evaluate;
-use crate::frames::Frame;
+use crate::frames::Parts;
+use crate::matcher::Matcher;
 use crate::outward::rewrite;
 use crate::spots::Spot;
-use crate::trail::Trail;
+use crate::trail::{Telling, Trail};
 use crate::windows::Window;
 use crate::{Event, Normal, RunFault, TraceFault, tracing};
 use faults::Memory;
-use rule_match::{Binds, Plan};
+use rule_match::Plan;
 use std::alloc::Global;
 use std::marker::Model;
 use term_model::Flat;
@@ -35,12 +36,10 @@ const SHOWN: usize = 4096;
 #[derive(Drop)]
 pub struct Machine {
     code: Code,
-    binds: Binds,
-    frames: Vec<Frame>,
+    parts: Parts,
     window: Window,
     spots: Vec<Spot>,
-    trail: Trail,
-    builds: u32,
+    telling: Telling,
 }
 
 impl Model for Machine {
@@ -50,9 +49,9 @@ impl Model for Machine {
 
     ghost Value = { Made };
 
-    ghost view = { λ m. record { steps = m.code.steps.items; starts = m.code.starts.items; depth = m.code.depth; bindings = m.binds.room } };
+    ghost view = { λ m. record { steps = m.code.steps.items; starts = m.code.starts.items; depth = m.code.depth; automaton = m.parts.matcher.automaton } };
 
-    ghost invariant = { λ m. (m.code.depth ≤ vec_capacity m.frames) × (m.code.depth ≤ vec_capacity m.window.path) × (0 < length m.window.depths.items) × (m.code.depth ≤ vec_capacity m.spots) };
+    ghost invariant = { λ m. (m.code.depth ≤ vec_capacity m.parts.frames) × (m.code.depth ≤ vec_capacity m.window.path) × (0 < length m.window.depths.items) × (m.code.depth ≤ vec_capacity m.spots) };
 }
 
 impl Machine {
@@ -66,16 +65,22 @@ impl Machine {
         let room = depth as usize;
         Ok(Machine {
             code: code_plan(alloc, plan, depth)?,
-            binds: Binds::of(alloc, plan)?,
-            frames: Vec::with_capacity(alloc, room)?,
+            parts: Parts {
+                matcher: Matcher::of(alloc, plan)?,
+                frames: Vec::with_capacity(alloc, room)?,
+                left: 0,
+                builds: 0,
+            },
             window: Window {
                 depths: vec![in alloc; 0u32; SHOWN]?,
                 from: 0,
                 path: Vec::with_capacity(alloc, room)?,
             },
             spots: Vec::with_capacity(alloc, room)?,
-            trail: Trail::new(alloc),
-            builds: 0,
+            telling: Telling {
+                trail: Trail::new(alloc),
+                events: Vec::new(alloc),
+            },
         })
     }
 
@@ -111,15 +116,13 @@ impl Machine {
         let base = terms.depth();
         let _ = plan.rules();
         let _ = self.code.steps.len();
+        self.parts.left = fuel;
         let end = evaluate(
             plan,
             &self.code,
-            &mut self.binds,
-            &mut self.frames,
+            &mut self.parts,
             &mut self.window,
             term,
-            fuel,
-            &mut self.builds,
             terms,
         );
         settle(end, base, terms)
@@ -157,25 +160,24 @@ impl Machine {
         ensures sound { IsSound (T.store terms.new) }
         ensures machine { self.new ≡ self.old }
         ensures same { T.same terms.old terms.new }
-        ensures events { TellsReplacements plan.now.rules term.now fuel (T.store terms.old)
-            (T.store terms.new) trace.old.items trace.new.items result }
+        ensures events { TellsReplacements plan.now.rules term.now fuel self.old.depth
+            (T.store terms.old) (T.store terms.new) trace.old.items trace.new.items result }
     {
         let base = terms.depth();
         let _ = plan.rules();
         let _ = self.code.steps.len();
+        self.parts.left = fuel;
+        std::mem::swap(&mut self.telling.events, trace);
         let end = tracing::trace(
             plan,
             &self.code,
-            &mut self.binds,
-            &mut self.frames,
+            &mut self.parts,
             &mut self.window,
             term,
-            fuel,
-            &mut self.builds,
             terms,
-            &mut self.trail,
-            trace,
+            &mut self.telling,
         );
+        std::mem::swap(&mut self.telling.events, trace);
         settle(end, base, terms)
     }
 
@@ -212,12 +214,12 @@ impl Machine {
         let end = rewrite(
             plan,
             self.code.depth,
-            &mut self.binds,
+            &mut self.parts.matcher,
             &mut self.spots,
             &mut self.window,
             term,
             fuel,
-            &mut self.builds,
+            &mut self.parts.builds,
             terms,
         );
         settle(end, base, terms)

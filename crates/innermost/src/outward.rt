@@ -5,17 +5,19 @@ ghost use Rattle.term_model.specs.Tree.{IsGround};
 ghost use Rattle.terms_api.specs.Terms.{Store, IsSound};
 ghost use Rattle.rewrite_model.specs.Rule.{Rule};
 ghost use Rattle.rewrite_model.specs.Outermost.{outermost};
-ghost use Rattle.rule_match.specs.Planned.{HasRoom, IsPlain};
+ghost use Rattle.rule_match.specs.Planned.{IsPlain};
+ghost use Rattle.rule_automaton.specs.Automata.{IsAutomaton};
 ghost use Rattle.innermost.specs.Outward.{EndsAs, WasGivenUp};
 ghost use Rattle.innermost.specs.Rewriting.{Run, IsOn, IsReplacing, GoesOn};
 
 use crate::instantiating::instantiate;
+use crate::matcher::Matcher;
 use crate::rebuilding::rebuild;
 use crate::spots::{Spot, Walk};
 use crate::walking::walk;
 use crate::windows::Window;
 use crate::{Normal, RunFault};
-use rule_match::{Binds, Plan};
+use rule_match::Plan;
 use term_model::{Flat, Row};
 use terms_api::Terms;
 
@@ -79,7 +81,7 @@ fn replace<T: Terms>(
 fn step<T: Terms>(
     plan: &Plan,
     depth: u32,
-    binds: &mut Binds,
+    matcher: &mut Matcher,
     spots: &mut Vec<Spot>,
     window: &mut Window,
     left: &mut u64,
@@ -87,7 +89,7 @@ fn step<T: Terms>(
     terms: &mut T,
 ) -> Result<Option<Normal>, RunFault>
     requires inside { (T.store terms.old).inside ≡ true }
-    requires binds_room { HasRoom binds.old.room plan.now.rules }
+    requires matcher { IsAutomaton plan.now.rules matcher.old.automaton }
     requires spots_room { depth ≤ vec_capacity spots.old }
     requires path_room { depth ≤ vec_capacity window.old.path }
     requires window { 0 < length window.old.depths.items }
@@ -100,19 +102,19 @@ fn step<T: Terms>(
         → WasGivenUp run.start (T.store terms.new) run.whole fault) }
     ensures smaller { IfOk result (λ end. left.new + 1 ≡ left.old ⊎ IsSome end) }
     ensures spots_room { vec_capacity spots.new ≡ vec_capacity spots.old }
-    ensures binds_room { binds.new.room ≡ binds.old.room }
+    ensures matcher { matcher.new.automaton ≡ matcher.old.automaton }
     ensures path_room { depth ≤ vec_capacity window.new.path }
     ensures window { 0 < length window.new.depths.items }
     ensures same { T.same terms.old terms.new }
 {
     let place = terms.depth() - 1;
     let row = terms.at(place);
-    match walk(plan, row, depth, spots, binds, terms) {
+    match walk(plan, row, depth, spots, matcher, terms) {
         Walk::Found(rule, room) => replace(
             plan,
             rule,
             room,
-            binds.rows(),
+            matcher.rows(),
             depth,
             spots,
             window,
@@ -130,7 +132,7 @@ fn step<T: Terms>(
 pub(crate) fn rewrite<T: Terms>(
     plan: &Plan,
     depth: u32,
-    binds: &mut Binds,
+    matcher: &mut Matcher,
     spots: &mut Vec<Spot>,
     window: &mut Window,
     term: &Flat,
@@ -139,7 +141,7 @@ pub(crate) fn rewrite<T: Terms>(
     terms: &mut T,
 ) -> Result<Normal, RunFault>
     requires inside { (T.store terms.old).inside ≡ true }
-    requires binds_room { HasRoom binds.old.room plan.now.rules }
+    requires matcher { IsAutomaton plan.now.rules matcher.old.automaton }
     requires spots_room { depth ≤ vec_capacity spots.old }
     requires path_room { depth ≤ vec_capacity window.old.path }
     requires window { 0 < length window.old.depths.items }
@@ -153,7 +155,7 @@ pub(crate) fn rewrite<T: Terms>(
     ensures fault { IfErr result (λ fault. WasGivenUp (T.store terms.old) (T.store terms.new)
         (outermost plan.now.rules term.now fuel depth) fault) }
     ensures spots_room { vec_capacity spots.new ≡ vec_capacity spots.old }
-    ensures binds_room { binds.new.room ≡ binds.old.room }
+    ensures matcher { matcher.new.automaton ≡ matcher.old.automaton }
     ensures path_room { depth ≤ vec_capacity window.new.path }
     ensures window { 0 < length window.new.depths.items }
     ensures same { T.same terms.old terms.new }
@@ -164,7 +166,9 @@ pub(crate) fn rewrite<T: Terms>(
     }
     let mut left = fuel;
     'steps: loop {
-        match step(plan, depth, binds, spots, window, &mut left, builds, terms)? {
+        match step(
+            plan, depth, matcher, spots, window, &mut left, builds, terms,
+        )? {
             Some(end) => return Ok(end),
             None => {}
         }

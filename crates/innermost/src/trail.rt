@@ -30,6 +30,13 @@ pub(crate) struct Trail {
     pub moves: Vec<Event>,
 }
 
+/// The events that are told, and the trail that says them.
+#[derive(Drop)]
+pub(crate) struct Telling {
+    pub trail: Trail,
+    pub events: Vec<Event>,
+}
+
 impl Trail {
     /// A trail at the root.
     pub(crate) fn new(alloc: Global) -> Self {

@@ -3,13 +3,13 @@
 ghost use Rattle.std.specs.Prelude.{◌≡◌, ℕ, ◌+◌, ◌*◌, ◌<◌, ◌≤◌, [], length, true, vec_capacity};
 ghost use Rattle.term_model.specs.Tree.{Tree, nodes};
 ghost use Rattle.terms_api.specs.Terms.{IsHeld, tree_at};
-ghost use Rattle.rule_match.specs.Planned.{HasRoom};
+ghost use Rattle.rule_automaton.specs.Automata.{IsAutomaton};
 ghost use Rattle.innermost.specs.declared.spots.Walk.TheVariants as walk_is;
 ghost use Rattle.innermost.specs.Walking.{IsTrying, IsWalk, IsWalking, left_of, walk_left};
 
-use crate::reducing::find_rule;
+use crate::matcher::Matcher;
 use crate::spots::{Spot, Walk};
-use rule_match::{Binds, Plan};
+use rule_match::Plan;
 use term_model::Row;
 use terms_api::Terms;
 
@@ -19,20 +19,20 @@ fn try_at<T: Terms>(
     row: Row,
     room: u32,
     spots: &mut Vec<Spot>,
-    binds: &mut Binds,
+    matcher: &mut Matcher,
     terms: &mut T,
 ) -> Walk
     requires inside { (T.store terms.old).inside ≡ true }
-    requires binds_room { HasRoom binds.old.room plan.now.rules }
+    requires matcher { IsAutomaton plan.now.rules matcher.old.automaton }
     requires state { (depth : ℕ) × (root : Tree) × (depth ≤ vec_capacity spots.old)
         × IsTrying plan.now depth root (T.store terms.old) spots.old.items row room }
     ensures state { (depth : ℕ) (root : Tree)
         → IsTrying plan.now depth root (T.store terms.old) spots.old.items row room
-        → IsWalk plan.now depth root (T.store terms.new) spots.new.items binds.new.rows result }
+        → IsWalk plan.now depth root (T.store terms.new) spots.new.items matcher.new.rows result }
     ensures smaller { walk_left (T.store terms.new) spots.new.items result
         ≤ left_of (T.store terms.old) spots.old.items + 2 * nodes (tree_at (T.store terms.old) row) }
     ensures spots_room { vec_capacity spots.new ≡ vec_capacity spots.old }
-    ensures binds_room { binds.new.room ≡ binds.old.room }
+    ensures matcher { matcher.new.automaton ≡ matcher.old.automaton }
     ensures unchanged { T.store terms.new ≡ T.store terms.old }
     ensures same { T.same terms.old terms.new }
 {
@@ -41,7 +41,7 @@ fn try_at<T: Terms>(
         return Walk::TooDeep;
     }
     let head = terms.head(row);
-    match find_rule(plan, plan.first(head), row, binds, terms) {
+    match matcher.find_rule(plan, plan.first(head), row, terms) {
         Some(rule) => Walk::Found(rule, room),
         None => {
             spots.push_reserved(Spot {
@@ -55,18 +55,23 @@ fn try_at<T: Terms>(
 }
 
 /// Goes on with the next argument of the last spot, or leaves the spot where there is none.
-fn walk_on<T: Terms>(plan: &Plan, spots: &mut Vec<Spot>, binds: &mut Binds, terms: &mut T) -> Walk
+fn walk_on<T: Terms>(
+    plan: &Plan,
+    spots: &mut Vec<Spot>,
+    matcher: &mut Matcher,
+    terms: &mut T,
+) -> Walk
     requires inside { (T.store terms.old).inside ≡ true }
-    requires binds_room { HasRoom binds.old.room plan.now.rules }
+    requires matcher { IsAutomaton plan.now.rules matcher.old.automaton }
     requires state { (depth : ℕ) × (root : Tree) × (depth ≤ vec_capacity spots.old)
         × IsWalking plan.now depth root (T.store terms.old) spots.old.items }
     ensures state { (depth : ℕ) (root : Tree)
         → IsWalking plan.now depth root (T.store terms.old) spots.old.items
-        → IsWalk plan.now depth root (T.store terms.new) spots.new.items binds.new.rows result }
+        → IsWalk plan.now depth root (T.store terms.new) spots.new.items matcher.new.rows result }
     ensures smaller { walk_left (T.store terms.new) spots.new.items result
         < walk_left (T.store terms.old) spots.old.items walk_is.On }
     ensures spots_room { vec_capacity spots.new ≡ vec_capacity spots.old }
-    ensures binds_room { binds.new.room ≡ binds.old.room }
+    ensures matcher { matcher.new.automaton ≡ matcher.old.automaton }
     ensures unchanged { T.store terms.new ≡ T.store terms.old }
     ensures same { T.same terms.old terms.new }
 {
@@ -87,7 +92,7 @@ fn walk_on<T: Terms>(plan: &Plan, spots: &mut Vec<Spot>, binds: &mut Binds, term
         argument,
         spot.room.saturating_sub(begun),
         spots,
-        binds,
+        matcher,
         terms,
     )
 }
@@ -98,25 +103,25 @@ pub(crate) fn walk<T: Terms>(
     row: Row,
     depth: u32,
     spots: &mut Vec<Spot>,
-    binds: &mut Binds,
+    matcher: &mut Matcher,
     terms: &mut T,
 ) -> Walk
     requires inside { (T.store terms.old).inside ≡ true }
-    requires binds_room { HasRoom binds.old.room plan.now.rules }
+    requires matcher { IsAutomaton plan.now.rules matcher.old.automaton }
     requires spots_room { depth ≤ vec_capacity spots.old }
     requires held { IsHeld (T.store terms.old) row }
     ensures on { result ≡ walk_is.On → ⊥ }
     ensures state { IsWalk plan.now depth (tree_at (T.store terms.old) row)
-        (T.store terms.new) spots.new.items binds.new.rows result }
+        (T.store terms.new) spots.new.items matcher.new.rows result }
     ensures spots_room { vec_capacity spots.new ≡ vec_capacity spots.old }
-    ensures binds_room { binds.new.room ≡ binds.old.room }
+    ensures matcher { matcher.new.automaton ≡ matcher.old.automaton }
     ensures unchanged { T.store terms.new ≡ T.store terms.old }
     ensures same { T.same terms.old terms.new }
 {
     spots.clear();
-    let mut found = try_at(plan, row, depth, spots, binds, terms);
+    let mut found = try_at(plan, row, depth, spots, matcher, terms);
     'walk: while let Walk::On = found {
-        found = walk_on(plan, spots, binds, terms);
+        found = walk_on(plan, spots, matcher, terms);
     }
     found
 }

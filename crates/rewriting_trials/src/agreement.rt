@@ -3,7 +3,7 @@
 
 ghost use Rattle.std.specs.Prelude.{◌≡◌, ◌≤◌};
 
-use crate::chance::{Dice, rules, term};
+use crate::chance::{Dice, rules, rules_of_one, term};
 use crate::sight::{Limits, Sight, look, stopped, value};
 use crate::writing::planned;
 use innermost::{Normal, RunFault};
@@ -203,31 +203,60 @@ fn try_rows(alloc: Global, plan: &Plan, term: &Flat, tally: &mut Tally) -> Resul
     Ok(())
 }
 
-#[test]
-fn chance_rules_come_to_what_the_plain_program_says(rt: HostRuntime) -> Result<(), Fail> {
-    let alloc = rt.alloc();
-    let mut dice = Dice::of(1);
+/// What comes of so many sets of rules and a term of each, made by chance: rules of several symbols,
+/// or of one.
+fn tried(alloc: Global, seed: u64, sets: u16, of_one: bool) -> Result<Tally, Fail> {
+    let mut dice = Dice::of(seed);
     let mut tally = Tally::new();
-    for number in 0..400 {
-        let plan = planned(alloc, rules(alloc, &mut dice)?)?;
+    for _ in 0..sets {
+        let rules = if of_one {
+            rules_of_one(alloc, &mut dice)?
+        } else {
+            rules(alloc, &mut dice)?
+        };
+        let plan = planned(alloc, rules)?;
         let term = term(alloc, &mut dice)?;
         tally.count_rules(plan.rules());
         let least = least_depth(alloc, &plan, &term)?;
         try_fuels(alloc, &plan, &term, least, &mut tally)?;
         try_depths(alloc, &plan, &term, least, &mut tally)?;
         try_rows(alloc, &plan, &term, &mut tally)?;
-        assert_eq!(rt; tally.apart, 0, "{number}");
     }
+    Ok(tally)
+}
+
+/// Whether all agreed, and each answer came so often, and rules with conditions and rules that
+/// repeat a variable.
+fn is_wide(tally: &Tally, answers: u32, rules: u32) -> bool {
     let common = [
         tally.values,
         tally.out_of_fuel,
         tally.too_deep,
         tally.store_full,
     ];
-    assert!(rt; common.iter().all(|count| *count > 1000), "{tally:?}");
-    assert!(rt;
-        tally.conditional > 100 && tally.repeating > 100,
-        "{tally:?}"
-    );
+    tally.apart == 0
+        && common.iter().all(|count| *count > answers)
+        && tally.conditional > rules
+        && tally.repeating > rules
+}
+
+#[test]
+fn chance_rules_come_to_what_the_plain_program_says(rt: HostRuntime) -> Result<(), Fail> {
+    let tally = tried(rt.alloc(), 1, 200, false)?;
+    assert!(rt; is_wide(&tally, 300, 30), "{tally:?}");
+    Ok(())
+}
+
+#[test]
+fn more_chance_rules_come_to_what_the_plain_program_says(rt: HostRuntime) -> Result<(), Fail> {
+    let tally = tried(rt.alloc(), 2, 200, false)?;
+    assert!(rt; is_wide(&tally, 300, 30), "{tally:?}");
+    Ok(())
+}
+
+#[test]
+fn rules_of_one_symbol_come_to_what_the_plain_program_says(rt: HostRuntime) -> Result<(), Fail> {
+    let tally = tried(rt.alloc(), 3, 30, true)?;
+    assert!(rt; is_wide(&tally, 80, 15), "{tally:?}");
     Ok(())
 }

@@ -106,11 +106,10 @@ fn push_argument(dice: &mut Dice, vars: &mut u32, items: &mut Vec<Item>) -> Resu
     Ok(())
 }
 
-/// A left side, and how many variables it has, which are numbered in order of first occurrence.
-fn left_side(alloc: Global, dice: &mut Dice) -> Result<(Flat, u32), Fail> {
+/// A left side of a symbol, and how many variables it has, which are numbered in order of first occurrence.
+fn left_side(alloc: Global, dice: &mut Dice, root: Item) -> Result<(Flat, u32), Fail> {
     let mut vars = 0;
     let mut items = Vec::new(alloc);
-    let root = symbol(dice);
     push_argument(dice, &mut vars, &mut items)?;
     if root.arity() > 1 {
         push_argument(dice, &mut vars, &mut items)?;
@@ -120,9 +119,9 @@ fn left_side(alloc: Global, dice: &mut Dice) -> Result<(Flat, u32), Fail> {
     Ok((left, vars))
 }
 
-/// A rule with up to two conditions.
-fn rule(alloc: Global, dice: &mut Dice) -> Result<Rule, Fail> {
-    let (left, vars) = left_side(alloc, dice)?;
+/// A rule for a symbol, with up to two conditions.
+fn rule(alloc: Global, dice: &mut Dice, root: Item) -> Result<Rule, Fail> {
+    let (left, vars) = left_side(alloc, dice, root)?;
     let mut conditions = Vec::new(alloc);
     for _ in 0..dice.roll(5).saturating_sub(2) {
         let first = pattern(alloc, dice, 1, vars)?;
@@ -137,7 +136,18 @@ fn rule(alloc: Global, dice: &mut Dice) -> Result<Rule, Fail> {
 pub(crate) fn rules(alloc: Global, dice: &mut Dice) -> Result<Vec<Rule>, Fail> {
     let mut rules = Vec::new(alloc);
     for _ in 0..=dice.roll(5) {
-        rules.push(rule(alloc, dice)?)?;
+        let root = symbol(dice);
+        rules.push(rule(alloc, dice, root)?)?;
+    }
+    Ok(rules)
+}
+
+/// One to eight rules for one symbol.
+pub(crate) fn rules_of_one(alloc: Global, dice: &mut Dice) -> Result<Vec<Rule>, Fail> {
+    let mut rules = Vec::new(alloc);
+    let root = symbol(dice);
+    for _ in 0..=dice.roll(8) {
+        rules.push(rule(alloc, dice, root)?)?;
     }
     Ok(rules)
 }

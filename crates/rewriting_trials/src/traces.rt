@@ -190,6 +190,26 @@ fn a_rule_without_room_is_not_told(rt: HostRuntime) -> Result<(), Fail> {
     Ok(())
 }
 
+// By f(X) -> g(X), f(b): in room 3 the argument of g(X) has room 1. In room 2 it has none, behind the
+// rule. In room 1 b has none, before it.
+#[test]
+fn a_rule_is_told_whose_right_side_has_no_room(rt: HostRuntime) -> Result<(), Fail> {
+    let alloc = rt.alloc();
+    let plan = one_rule(alloc, &[X, F], &[X, G])?;
+    let rows = [
+        (3, Ok(Normal::Value { left: 999 }), 1usize),
+        (2, Ok(Normal::TooDeep), 1),
+        (1, Ok(Normal::TooDeep), 0),
+    ];
+    for (depth, want, count) in rows {
+        let mut events = Vec::new(alloc);
+        let got = trace(alloc, &plan, &[B, F], (1000, depth, 99), &mut events)?;
+        assert_eq!(rt; got, want, "{depth}");
+        assert_eq!(rt; events.as_slice(), &[Event::Rule(0)][..count], "{depth}");
+    }
+    Ok(())
+}
+
 #[test]
 fn what_was_replaced_is_told_where_a_build_is_refused(rt: HostRuntime) -> Result<(), Fail> {
     let alloc = rt.alloc();

@@ -13,11 +13,11 @@ nodes-init g c =
       within = omega arith;
       inside = c.requires.inside;
       frames_room = refl;
-      binds_room = refl;
+      matcher = refl;
       path_room = c.requires.path_room;
       window = c.requires.window;
       shows = λ i low high l. absurd (omega (arith, n, fits, low, high));
-      state = evaluation_begins c.args.plan.now c.args.code.now c.args.term.now c.args.fuel (g.T.Terms.store c.args.terms.now) c.requires.ready c.depth.ensures.sound c.requires.inside c.requires.no_variables c.requires.plain;
+      state = evaluation_begins c.args.plan.now c.args.code.now c.args.term.now c.args.parts.now.left (g.T.Terms.store c.args.terms.now) c.requires.ready c.depth.ensures.sound c.requires.inside c.requires.no_variables c.requires.plain;
       same = g.met.T.Terms.same_as_itself _;
     }
 
@@ -31,12 +31,12 @@ returns-in_default g c =
     let i = c.nodes.invariant in
     let e = c.in_ok-end.ensures in
     let now = g.T.Terms.store c.evaluate_node.new.terms in
-    let job = evaluation_of c.args.plan.now.rules c.args.term.now c.args.fuel c.args.code.now.depth (g.T.Terms.store c.args.terms.now) in
+    let job = evaluation_of c.args.plan.now.rules c.args.term.now c.args.parts.now.left c.args.code.now.depth (g.T.Terms.store c.args.terms.now) in
     record {
       state = evaluated_end c.args.plan.now c.args.code.now job c.args.term.now c.nodes.at now c.in_ok-end.end (e.state job i.state) c.in_default.not-Value;
       fault = tt;
       frames_room = e.frames_room ∙ i.frames_room;
-      binds_room = e.binds_room ∙ i.binds_room;
+      matcher = e.matcher ∙ i.matcher;
       path_room = c.depth_at-down.ensures.room;
       window = c.depth_at-down.ensures.some;
       same = g.met.T.Terms.same_in_turn _ _ _ i.same e.same;
@@ -47,13 +47,13 @@ nodes-preserved g c =
     let i = c.nodes.invariant in
     let e = c.in_ok-end.ensures in
     let now = g.T.Terms.store c.evaluate_node.new.terms in
-    let job = evaluation_of c.args.plan.now.rules c.args.term.now c.args.fuel c.args.code.now.depth (g.T.Terms.store c.args.terms.now) in
+    let job = evaluation_of c.args.plan.now.rules c.args.term.now c.args.parts.now.left c.args.code.now.depth (g.T.Terms.store c.args.terms.now) in
     let s = e.state job i.state in
     record {
       within = omega (arith, c.node_count-count.ensures.nodes, c.nodes-test.true);
       inside = evaluated_inside c.args.plan.now c.args.code.now job c.args.term.now c.nodes.at now c.in_ok-end.end s;
       frames_room = e.frames_room ∙ i.frames_room;
-      binds_room = e.binds_room ∙ i.binds_room;
+      matcher = e.matcher ∙ i.matcher;
       path_room = c.depth_at-down.ensures.room;
       window = c.depth_at-down.ensures.some;
       shows = c.depth_at-down.ensures.shows;
@@ -63,4 +63,4 @@ nodes-preserved g c =
 
 pub returns-clause-state : goal.returns-clause-state
 returns-clause-state g c =
-    evaluation_ends c.args.plan.now c.args.code.now c.args.term.now c.args.fuel c.nodes.at c.nodes.left (g.T.Terms.store c.args.terms.now) (g.T.Terms.store c.nodes.terms) c.requires.plain (omega (arith, c.node_count-count.ensures.nodes, c.nodes-test.false)) c.nodes.invariant.within c.nodes.invariant.state
+    evaluation_ends c.args.plan.now c.args.code.now c.args.term.now c.args.parts.now.left c.nodes.at c.nodes.parts.left (g.T.Terms.store c.args.terms.now) (g.T.Terms.store c.nodes.terms) c.requires.plain (omega (arith, c.node_count-count.ensures.nodes, c.nodes-test.false)) c.nodes.invariant.within c.nodes.invariant.state

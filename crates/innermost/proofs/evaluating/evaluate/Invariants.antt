@@ -10,12 +10,12 @@ invariant-nodes g l =
     record {
       within : l.at ≤ nodes l.term;
       inside : (g.T.Terms.store l.terms).inside ≡ true;
-      frames_room : vec_capacity l.frames ≡ vec_capacity l.fn.frames;
-      binds_room : l.binds.room ≡ l.fn.binds.room;
+      frames_room : vec_capacity l.parts.frames ≡ vec_capacity l.fn.parts.frames;
+      matcher : l.parts.matcher.automaton ≡ l.fn.parts.matcher.automaton;
       path_room : l.code.depth ≤ vec_capacity l.window.path;
       window : 0 < length l.window.depths.items;
       shows : Shows l.code.depth l.term l.window.from l.window.depths.items;
-      state : IsEvaluating l.plan l.code (evaluation_of l.plan.rules l.term l.fn.fuel l.code.depth (g.T.Terms.store l.fn.terms)) l.term l.at l.left (g.T.Terms.store l.terms);
+      state : IsEvaluating l.plan l.code (evaluation_of l.plan.rules l.term l.fn.parts.left l.code.depth (g.T.Terms.store l.fn.terms)) l.term l.at l.parts.left (g.T.Terms.store l.terms);
       same : g.T.Terms.same l.fn.terms l.terms;
     }
 

@@ -25,7 +25,7 @@ steps-init g c =
     record {
       inside = made.goes.stands.numbers.inside;
       spots_room = refl;
-      binds_room = refl;
+      matcher = refl;
       path_room = c.in_ok-instantiate.ensures.path_room;
       window = c.in_ok-instantiate.ensures.window;
       state = term_stands c.args.plan.now c.args.term.now c.args.fuel c.args.depth (g.T.Terms.store c.args.terms.now) mid c.rules.ensures.plan c.requires.wide c.requires.free (omega (arith, c.ranges.depth.fits)) made;
@@ -49,7 +49,7 @@ steps-preserved g c =
     record {
       inside = on.goes.stands.numbers.inside;
       spots_room = e.spots_room ∙ i.spots_room;
-      binds_room = e.binds_room ∙ i.binds_room;
+      matcher = e.matcher ∙ i.matcher;
       path_room = e.path_room;
       window = e.window;
       state = on;

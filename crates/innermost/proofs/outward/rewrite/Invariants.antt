@@ -10,7 +10,7 @@ invariant-steps g l =
     record {
       inside : (g.T.Terms.store l.terms).inside ≡ true;
       spots_room : vec_capacity l.spots ≡ vec_capacity l.fn.spots;
-      binds_room : l.binds.room ≡ l.fn.binds.room;
+      matcher : l.matcher.automaton ≡ l.fn.matcher.automaton;
       path_room : l.depth ≤ vec_capacity l.window.path;
       window : 0 < length l.window.depths.items;
       state : IsOn (whole_run l.plan l.fn.term l.fn.fuel l.depth (g.T.Terms.store l.fn.terms)) l.plan l.depth l.left (g.T.Terms.store l.terms);

@@ -18,8 +18,8 @@ replace-requires-clause-state g c =
     let now = g.T.Terms.store c.args.terms.now in
     let at : slice_get now.stack (length now.stack - 1) ≡ Some c.at-row.result = subst (λ k. slice_get now.stack (k - 1) ≡ Some c.at-row.result) c.depth-place.ensures.depth c.at-row.ensures.row in
     let tree : tree_at (g.T.Terms.store c.at-row.new.self) c.at-row.result ≡ (s.1).tree = ap (λ (q : Store). tree_at q c.at-row.result) c.at-row.ensures.unchanged ∙ on_tree s.0 c.args.plan.now c.args.depth c.args.left.now now s.1 c.at-row.result at in
-    let found = subst (λ (t : Tree). IsFound c.args.plan.now c.args.depth t (g.T.Terms.store c.walk.new.terms) c.walk.new.spots.items c.walk.new.binds.rows c.in-Found.rule c.in-Found.room) tree c.in-Found.ensures.state in
-    let found' = subst (λ (q : Store). IsFound c.args.plan.now c.args.depth (s.1).tree q c.walk.new.spots.items c.walk.new.binds.rows c.in-Found.rule c.in-Found.room) (c.walk.ensures.unchanged ∙ c.at-row.ensures.unchanged) found in
+    let found = subst (λ (t : Tree). IsFound c.args.plan.now c.args.depth t (g.T.Terms.store c.walk.new.terms) c.walk.new.spots.items c.walk.new.matcher.rows c.in-Found.rule c.in-Found.room) tree c.in-Found.ensures.state in
+    let found' = subst (λ (q : Store). IsFound c.args.plan.now c.args.depth (s.1).tree q c.walk.new.spots.items c.walk.new.matcher.rows c.in-Found.rule c.in-Found.room) (c.walk.ensures.unchanged ∙ c.at-row.ensures.unchanged) found in
     let rows = subst (λ (rs : List Row). IsFound c.args.plan.now c.args.depth (s.1).tree now c.walk.new.spots.items rs c.in-Found.rule c.in-Found.room) (sym c.rows.ensures) found' in
     let all : IsReplacing (s.0) c.args.plan.now c.args.depth c.args.left.now now c.walk.new.spots.items c.rows.result.now c.in-Found.rule c.in-Found.room = record { on = s.1; found = rows } in
     let replacing = subst (λ (q : Store). IsReplacing (s.0) c.args.plan.now c.args.depth c.args.left.now q c.walk.new.spots.items c.rows.result.now c.in-Found.rule c.in-Found.room) (sym (c.walk.ensures.unchanged ∙ c.at-row.ensures.unchanged)) all in
@@ -31,8 +31,8 @@ returns-in-Found-clause-state g c =
     let now = g.T.Terms.store c.args.terms.now in
     let at : slice_get now.stack (length now.stack - 1) ≡ Some c.at-row.result = subst (λ k. slice_get now.stack (k - 1) ≡ Some c.at-row.result) c.depth-place.ensures.depth c.at-row.ensures.row in
     let tree : tree_at (g.T.Terms.store c.at-row.new.self) c.at-row.result ≡ (e).tree = ap (λ (q : Store). tree_at q c.at-row.result) c.at-row.ensures.unchanged ∙ on_tree run c.args.plan.now c.args.depth c.args.left.now now e c.at-row.result at in
-    let found = subst (λ (t : Tree). IsFound c.args.plan.now c.args.depth t (g.T.Terms.store c.walk.new.terms) c.walk.new.spots.items c.walk.new.binds.rows c.in-Found.rule c.in-Found.room) tree c.in-Found.ensures.state in
-    let found' = subst (λ (q : Store). IsFound c.args.plan.now c.args.depth (e).tree q c.walk.new.spots.items c.walk.new.binds.rows c.in-Found.rule c.in-Found.room) (c.walk.ensures.unchanged ∙ c.at-row.ensures.unchanged) found in
+    let found = subst (λ (t : Tree). IsFound c.args.plan.now c.args.depth t (g.T.Terms.store c.walk.new.terms) c.walk.new.spots.items c.walk.new.matcher.rows c.in-Found.rule c.in-Found.room) tree c.in-Found.ensures.state in
+    let found' = subst (λ (q : Store). IsFound c.args.plan.now c.args.depth (e).tree q c.walk.new.spots.items c.walk.new.matcher.rows c.in-Found.rule c.in-Found.room) (c.walk.ensures.unchanged ∙ c.at-row.ensures.unchanged) found in
     let rows = subst (λ (rs : List Row). IsFound c.args.plan.now c.args.depth (e).tree now c.walk.new.spots.items rs c.in-Found.rule c.in-Found.room) (sym c.rows.ensures) found' in
     let all : IsReplacing (run) c.args.plan.now c.args.depth c.args.left.now now c.walk.new.spots.items c.rows.result.now c.in-Found.rule c.in-Found.room = record { on = e; found = rows } in
     let replacing = subst (λ (q : Store). IsReplacing (run) c.args.plan.now c.args.depth c.args.left.now q c.walk.new.spots.items c.rows.result.now c.in-Found.rule c.in-Found.room) (sym (c.walk.ensures.unchanged ∙ c.at-row.ensures.unchanged)) all in
@@ -44,8 +44,8 @@ returns-in-Found-clause-fault g c =
     let now = g.T.Terms.store c.args.terms.now in
     let at : slice_get now.stack (length now.stack - 1) ≡ Some c.at-row.result = subst (λ k. slice_get now.stack (k - 1) ≡ Some c.at-row.result) c.depth-place.ensures.depth c.at-row.ensures.row in
     let tree : tree_at (g.T.Terms.store c.at-row.new.self) c.at-row.result ≡ (e).tree = ap (λ (q : Store). tree_at q c.at-row.result) c.at-row.ensures.unchanged ∙ on_tree run c.args.plan.now c.args.depth c.args.left.now now e c.at-row.result at in
-    let found = subst (λ (t : Tree). IsFound c.args.plan.now c.args.depth t (g.T.Terms.store c.walk.new.terms) c.walk.new.spots.items c.walk.new.binds.rows c.in-Found.rule c.in-Found.room) tree c.in-Found.ensures.state in
-    let found' = subst (λ (q : Store). IsFound c.args.plan.now c.args.depth (e).tree q c.walk.new.spots.items c.walk.new.binds.rows c.in-Found.rule c.in-Found.room) (c.walk.ensures.unchanged ∙ c.at-row.ensures.unchanged) found in
+    let found = subst (λ (t : Tree). IsFound c.args.plan.now c.args.depth t (g.T.Terms.store c.walk.new.terms) c.walk.new.spots.items c.walk.new.matcher.rows c.in-Found.rule c.in-Found.room) tree c.in-Found.ensures.state in
+    let found' = subst (λ (q : Store). IsFound c.args.plan.now c.args.depth (e).tree q c.walk.new.spots.items c.walk.new.matcher.rows c.in-Found.rule c.in-Found.room) (c.walk.ensures.unchanged ∙ c.at-row.ensures.unchanged) found in
     let rows = subst (λ (rs : List Row). IsFound c.args.plan.now c.args.depth (e).tree now c.walk.new.spots.items rs c.in-Found.rule c.in-Found.room) (sym c.rows.ensures) found' in
     let all : IsReplacing (run) c.args.plan.now c.args.depth c.args.left.now now c.walk.new.spots.items c.rows.result.now c.in-Found.rule c.in-Found.room = record { on = e; found = rows } in
     let replacing = subst (λ (q : Store). IsReplacing (run) c.args.plan.now c.args.depth c.args.left.now q c.walk.new.spots.items c.rows.result.now c.in-Found.rule c.in-Found.room) (sym (c.walk.ensures.unchanged ∙ c.at-row.ensures.unchanged)) all in

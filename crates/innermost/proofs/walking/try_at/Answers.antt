@@ -23,7 +23,7 @@ pub returns-in-Some-clause-state : goal.returns-in-Some-clause-state
 returns-in-Some-clause-state g c = λ depth root' e.
     let plan = c.args.plan.now in
     let row = c.args.row in
-    let rows = c.find_rule.new.binds.rows in
+    let rows = c.find_rule.new.self.rows in
     let u = c.head-head.ensures.unchanged in
     subst (λ (s : Store). IsFound plan depth root' s c.args.spots.now.items rows c.in-Some.rule c.args.room) (sym (c.find_rule.ensures.unchanged ∙ u))
     (tries_found plan depth root' (g.T.Terms.store c.args.terms.now) c.args.spots.now.items row c.args.room e (omega (arith, c.if-room-eq0.false)) c.head-head.result c.head-head.ensures.head c.first.result c.find_rule.result c.first.ensures.none

@@ -23,7 +23,7 @@ walk-init g c =
     record {
       inside = ap (λ (q : Store). q.inside) e.unchanged ∙ c.requires.inside;
       spots_room = e.spots_room ∙ c.clear.ensures.capacity;
-      binds_room = e.binds_room;
+      matcher = e.matcher;
       unchanged = e.unchanged;
       state = e.state c.args.depth t (subst (λ (fs : List Spot). IsTrying c.args.plan.now c.args.depth t now fs c.args.row c.args.depth) (sym c.clear.ensures.items) (walk_begins c.args.plan.now c.args.depth t now c.args.row c.requires.held refl));
       same = e.same;

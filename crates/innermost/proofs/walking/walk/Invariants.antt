@@ -9,9 +9,9 @@ invariant-walk g l =
     record {
       inside : (g.T.Terms.store l.terms).inside ≡ true;
       spots_room : vec_capacity l.spots ≡ vec_capacity l.fn.spots;
-      binds_room : l.binds.room ≡ l.fn.binds.room;
+      matcher : l.matcher.automaton ≡ l.fn.matcher.automaton;
       unchanged : g.T.Terms.store l.terms ≡ g.T.Terms.store l.fn.terms;
-      state : IsWalk l.plan l.depth (tree_at (g.T.Terms.store l.fn.terms) l.fn.row) (g.T.Terms.store l.terms) l.spots.items l.binds.rows l.found;
+      state : IsWalk l.plan l.depth (tree_at (g.T.Terms.store l.fn.terms) l.fn.row) (g.T.Terms.store l.terms) l.spots.items l.matcher.rows l.found;
       same : g.T.Terms.same l.fn.terms l.terms;
     }
 

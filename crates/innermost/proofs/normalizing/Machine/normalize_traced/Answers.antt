@@ -1,6 +1,10 @@
 use Rattle.std.proofs.Common.{◌≡◌, ℕ, Result, length, drop, sym, ap, subst, arith}
+use Rattle.std.specs.Prelude.{Vec}
+use Rattle.std.specs.Global.{Global}
+use Rattle.rewrite_model.specs.declared.event.Event.{Event}
 use Rattle.rewrite_model.specs.Evaluation.{evaluation}
 use Rattle.rewrite_model.specs.Built.{need}
+use Rattle.rewrite_model.specs.Uses.{replaced_in_room}
 use Rattle.innermost.specs.Normalized.{LoadsNeedAtMost}
 use Rattle.innermost.specs.Traced.{TracedAnswers, TracedBuilds, RefusedOnlyWhereTold, TracedSweeps, Tells}
 use Rattle.innermost.specs.Tasks.{HasCode}
@@ -80,6 +84,13 @@ returns-clause-numbers g c =
 
 pub returns-clause-events : goal.returns-clause-events
 returns-clause-events g c = λ u.
-    let trees = ap (λ b. drop (length (g.T.Terms.store c.args.terms.now).built) b) (settled_built (g.T.Terms.store c.trace-end.new.terms) (g.T.Terms.store c.settle.new.terms) c.depth-base.result c.trace-end.result c.settle.ensures.settled) in
-    subst (λ ts. Tells c.args.plan.now.rules c.args.term.now c.args.fuel ts c.args.trace.now.items c.trace-end.new.events.items c.settle.result) (sym trees)
-    (subst (λ r. Tells c.args.plan.now.rules c.args.term.now c.args.fuel (trees_between (g.T.Terms.store c.args.terms.now) (g.T.Terms.store c.trace-end.new.terms)) c.args.trace.now.items c.trace-end.new.events.items r) (sym c.settle.ensures.end) (c.trace-end.ensures.events u))
+    let rules = c.args.plan.now.rules in
+    let start = g.T.Terms.store c.args.terms.now in
+    let replaced : ℕ → ℕ = λ d. replaced_in_room rules c.args.term.now c.args.fuel d in
+    let trees = ap (λ b. drop (length start.built) b) (settled_built (g.T.Terms.store c.trace-end.new.terms) (g.T.Terms.store c.settle.new.terms) c.depth-base.result c.trace-end.result c.settle.ensures.settled) in
+    let traced =
+    subst (λ (vs : Vec Event Global). Tells rules c.args.term.now c.args.fuel (replaced c.self.inside.code.depth) (trees_between start (g.T.Terms.store c.trace-end.new.terms)) c.args.trace.now.items vs.items c.trace-end.result) (sym c.swap-2.ensures.y_after)
+    (subst (λ (vs : Vec Event Global). Tells rules c.args.term.now c.args.fuel (replaced c.self.inside.code.depth) (trees_between start (g.T.Terms.store c.trace-end.new.terms)) vs.items c.trace-end.new.telling.events.items c.trace-end.result) c.swap.ensures.x_after (c.trace-end.ensures.events u)) in
+    subst (λ d. Tells rules c.args.term.now c.args.fuel (replaced d) (trees_between start (g.T.Terms.store c.settle.new.terms)) c.args.trace.now.items c.swap-2.new.y.items c.settle.result) (ap (λ (m : Made). m.depth) c.self.view_is)
+    (subst (λ ts. Tells rules c.args.term.now c.args.fuel (replaced c.self.inside.code.depth) ts c.args.trace.now.items c.swap-2.new.y.items c.settle.result) (sym trees)
+    (subst (λ r. Tells rules c.args.term.now c.args.fuel (replaced c.self.inside.code.depth) (trees_between start (g.T.Terms.store c.trace-end.new.terms)) c.args.trace.now.items c.swap-2.new.y.items r) (sym c.settle.ensures.end) traced))
