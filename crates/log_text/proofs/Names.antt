@@ -1,6 +1,6 @@
 -- The texts of names in turn.
 use Rattle.std.proofs.Common.{◌≡◌, ◌∙◌, ℕ, List, [], ◌∷◌, ◌++◌, append_assoc, append-nil, ◌+◌, ◌<◌, take, length, get_or, ap, sym}
-use Rattle.std.specs.Prelude.{codes, decimal}
+use Rattle.std.specs.Prelude.{decimal}
 use Rattle.std.proofs.lemmas.List.{map_more}
 use Rattle.term_model.specs.declared.Row.{Row}
 use Rattle.log_text.specs.Lines.{names, names_text}

@@ -1,5 +1,5 @@
 -- The lines of a log: each step that a caller notes has one.
-use Rattle.std.specs.Prelude.{◌≡◌, ℕ, List, [], ◌∷◌, ◌++◌, map, codes, decimal, Option, Some, IfSome}
+use Rattle.std.specs.Prelude.{◌≡◌, ℕ, suc, List, [], ◌∷◌, ◌++◌, length, map, codes, decimal, Option, IfSome}
 use Rattle.std.specs.Option.{option_map}
 use Rattle.term_model.specs.declared.Head.{Head}
 use Rattle.term_model.specs.declared.Head.TheVariants.{App, Int, Nil, Cons}
@@ -50,3 +50,24 @@ lines_of (e ∷ es) = line_of e ++ lines_of es
 -- Where the log after a step isn't lost, it wasn't before, and has the step's line more.
 abbrev pub Adds : Option (List ℕ) → Option (List ℕ) → Entry → Type 0
 Adds old new e = IfSome new (λ lines. new ≡ option_map (λ before. before ++ line_of e) old)
+
+-- the first line of a log: how many rows the store has, and how many callers
+abbrev pub header_text : (rows callers : ℕ) → List ℕ
+header_text rows callers = codes "# log " ++ decimal rows ++ codes " " ++ decimal callers ++ codes "\n"
+
+-- the line before a caller's steps
+abbrev pub caller_text : ℕ → List ℕ
+caller_text caller = codes "# caller " ++ decimal caller ++ codes "\n"
+
+-- the steps of callers, numbered from this one on, each caller's behind its line
+abbrev pub callers_from : ℕ → List (List Entry) → List ℕ
+callers_from caller [] = []
+callers_from caller (entries ∷ rest) = (caller_text caller ++ lines_of entries) ++ callers_from (suc caller) rest
+
+-- the last line
+abbrev pub end_text : List ℕ
+end_text = codes "# end\n"
+
+-- the log of callers' steps on a store with so many rows
+abbrev pub log_of : (rows : ℕ) → List (List Entry) → List ℕ
+log_of rows lists = (header_text rows (length lists) ++ callers_from 0 lists) ++ end_text

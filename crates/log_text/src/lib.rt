@@ -8,3 +8,4 @@ mod writing;
 
 pub use faults::Memory;
 pub use log::Log;
+pub use writing::{write_caller, write_end, write_header};

@@ -1,5 +1,5 @@
 // Lines written out by hand.
-use crate::Log;
+use crate::{Log, write_caller, write_end, write_header};
 use std::test::Fail;
 use term_model::{Head, Row, Symbol};
 
@@ -30,5 +30,17 @@ fn a_lost_log_stays_so(rt: HostRuntime) -> Result<(), Fail> {
     assert!(rt; log.lost());
     assert!(rt; log.lines().is_empty());
     assert!(rt; log.into_lines().is_none());
+    Ok(())
+}
+
+#[test]
+fn a_log_has_a_header_callers_and_an_end(rt: HostRuntime) -> Result<(), Fail> {
+    let mut text = Vec::new(rt.alloc());
+    write_header(40, 2, &mut text)?;
+    write_caller(0, b"# roots 0\n", &mut text)?;
+    write_caller(1, b"", &mut text)?;
+    write_end(&mut text)?;
+    let want: &[u8] = b"# log 40 2\n# caller 0\n# roots 0\n# caller 1\n# end\n";
+    assert_eq!(rt; text.as_slice(), want);
     Ok(())
 }

@@ -1,6 +1,6 @@
 // The parts of a line.
 ghost use Rattle.std.specs.Prelude.{◌≡◌, ◌++◌, OnOk, decimal};
-ghost use Rattle.log_text.specs.Lines.{names, head_text, names_text, term_text, creation_text, listing_text};
+ghost use Rattle.log_text.specs.Lines.{names, head_text, names_text, term_text, creation_text, listing_text, header_text, caller_text, end_text};
 
 use faults::Memory;
 use itoa::Buffer;
@@ -86,5 +86,36 @@ pub(crate) fn write_listing(key: u64, rows: &[Row], out: &mut Vec<u8>) -> Result
     write_number(key, out)?;
     write_names(rows, out)?;
     out.push(b'\n')?;
+    Ok(())
+}
+
+/// Appends the first line of a log: how many rows the store has, and how many callers.
+pub fn write_header(rows: u32, callers: u32, out: &mut Vec<u8>) -> Result<(), Memory>
+    ensures { OnOk result (out.new.items ≡ out.old.items ++ header_text rows callers) }
+{
+    out.extend_from_slice(b"# log ")?;
+    write_number(rows as u64, out)?;
+    out.push(b' ')?;
+    write_number(callers as u64, out)?;
+    out.push(b'\n')?;
+    Ok(())
+}
+
+/// Appends the line of a caller, and the lines of its steps.
+pub fn write_caller(caller: u32, steps: &[u8], out: &mut Vec<u8>) -> Result<(), Memory>
+    ensures { OnOk result (out.new.items ≡ out.old.items ++ (caller_text caller ++ steps.now)) }
+{
+    out.extend_from_slice(b"# caller ")?;
+    write_number(caller as u64, out)?;
+    out.push(b'\n')?;
+    out.extend_from_slice(steps)?;
+    Ok(())
+}
+
+/// Appends the last line of a log.
+pub fn write_end(out: &mut Vec<u8>) -> Result<(), Memory>
+    ensures { OnOk result (out.new.items ≡ out.old.items ++ end_text) }
+{
+    out.extend_from_slice(b"# end\n")?;
     Ok(())
 }

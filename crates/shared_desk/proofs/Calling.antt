@@ -38,14 +38,14 @@ use Rattle.root_sets.specs.Protected.{Keeps}
 use Rattle.store_core.specs.Told.{Told, told, told_from, nothing, after, created}
 use Rattle.shared_desk.specs.Held.{names, tree_in, Has, IsOnce, HasOneRow, IsWhole, Forgets}
 use Rattle.shared_desk.specs.Pass as desk
-use Rattle.shared_desk.specs.Pass.{PassView, WhichPass, own, Got}
+use Rattle.shared_desk.specs.Pass.{PassView, WhichPass, own, Got, NotesCreation}
 use Rattle.shared_desk.specs.Seen.{row_of, rows_of, seen, is_swept}
 use Rattle.shared_desk.specs.Passes.{IsSymbolNumber, is_shared, is_ready, in_shared, in_exclusive, store_of, pass_of, seen_of, IsPlaced, IsStanding}
 use Rattle.shared_desk.proofs.Trees.{Within, known_before, trees_known}
 use Rattle.shared_desk.proofs.Wholes.{Gives, IsMade, whole_grows, whole_given}
 use Rattle.shared_desk.proofs.Losing.{Comes, whole_comes, swept_seen, collect_tree}
 use Rattle.shared_desk.proofs.Remembering.{collected_forgets}
-use Rattle.shared_desk.proofs.Gaining.{over_is, noted_told, second_known, over_trees, formed_over, held_each, made_of, got_seen, same_seen, read_named}
+use Rattle.shared_desk.proofs.Gaining.{over_is, noted_told, second_known, over_trees, formed_over, held_each, made_of, got_seen, same_seen, read_named, numbers}
 use Rattle.shared_desk.proofs.Standing.{is_in_shared, is_in_exclusive, pass_same}
 
 -- in an access p has come to q, which is in the same access with nothing under way
@@ -154,6 +154,7 @@ module _ (s : Store) (p q : Pass) (h : IsStanding s p) (g : Goes s p q) where
     pub base : w.base ≡ v.base
     pub roots : protected_in w ≡ protected_in v
     pub entries : w.entries ≡ v.entries
+    pub greatest : w.seen ≡ v.seen
 
   pub reads_read : (r : ℕ) (xs : List KnownWord) → Each (λ (x : KnownWord). x.row ≡ r) xs → Reads (view_of p) (view_of q) xs → Read r xs
   reads_read r xs all e =
@@ -166,6 +167,7 @@ module _ (s : Store) (p q : Pass) (h : IsStanding s p) (g : Goes s p q) where
         base = ap (λ (u : NodeView). u.store.base) e;
         roots = ap (λ (u : NodeView). protected_in u.store) e;
         entries = ap (λ (u : NodeView). u.store.entries) e;
+        greatest = ap (λ (u : NodeView). u.store.seen) e;
       }
 
   pub head_read : (r : ℕ) (f : Head) → Reads (view_of p) (view_of q) (head_words r f) → Read r (head_words r f)
@@ -185,6 +187,7 @@ module _ (s : Store) (p q : Pass) (h : IsStanding s p) (g : Goes s p q) where
         base = ap (λ (u : NodeView). u.store.base) e;
         roots = ap (λ (u : NodeView). protected_in u.store) e;
         entries = ap (λ (u : NodeView). u.store.entries) e;
+        greatest = ap (λ (u : NodeView). u.store.seen) e;
       }
 
   module _ (r : ℕ) (xs : List KnownWord) (x : Read r xs) (has : Has v r) where
@@ -208,7 +211,7 @@ module _ (s : Store) (p q : Pass) (h : IsStanding s p) (g : Goes s p q) where
     pub read_is : seen_of s q ≡ seen_of s p
     read_is =
         goes_kept x.crowd_is
-        ∙ same_seen (store_of s) (pass_of p) (in_shared (view_of p)) (in_exclusive (view_of p)) crowd v w h.whole x.fresh x.base x.roots x.entries read_same
+        ∙ same_seen (store_of s) (pass_of p) (in_shared (view_of p)) (in_exclusive (view_of p)) crowd v w h.whole x.fresh x.base x.roots x.entries x.greatest read_same
 
   -- a creation ended
   module _ (f : Head) (rs : List ℕ) (may : desk.MayCreate (seen_of s p) f (rows_of rs)) (range : IsSymbolNumber f) (kept : (view_of q).crowd ≡ crowd) (rest : KeepsRest v w) where
@@ -229,9 +232,18 @@ module _ (s : Store) (p q : Pass) (h : IsStanding s p) (g : Goes s p q) where
       pub whole_created : IsWhole s.sizes w
       whole_created = whole_given s.sizes v w f rs r h.whole made gives once_now one_row_now
 
+      -- the one entry that was noted
+      entry : NotesCreation v.entries w.entries f (rows_of rs) (row_of r)
+      entry = (
+        w.seen,
+        ⊎_elim
+            (λ x. inl (x.1 ∙ ap (λ (ns : List ℕ). v.entries ++ Make w.seen f ns r ∷ []) (sym (numbers rs))))
+            (λ x. inr (x.1 ∙ ap (λ (ns : List ℕ). v.entries ++ Find w.seen f ns r ∷ []) (sym (numbers rs)))) notes,
+      )
+
       pub created_is : Got (seen_of s p) (seen_of s q) f (rows_of rs) (row_of r)
       created_is = subst (λ (x : PassView). Got (seen_of s p) x f (rows_of rs) (row_of r)) (sym (goes_kept kept))
-          (got_seen (store_of s) (pass_of p) (in_shared (view_of p)) (in_exclusive (view_of p)) crowd v w h.whole f rs r made gives once_now one_row_now noted rest.base)
+          (got_seen (store_of s) (pass_of p) (in_shared (view_of p)) (in_exclusive (view_of p)) crowd v w h.whole f rs r made gives once_now one_row_now noted rest.base entry)
 
     module _ (none : GetsNone v w) where
       same_names : (q : ℕ) → names q w.knows ≡ names q v.knows
@@ -251,7 +263,7 @@ module _ (s : Store) (p q : Pass) (h : IsStanding s p) (g : Goes s p q) where
       pub refused_is : seen_of s q ≡ seen_of s p
       refused_is =
           goes_kept kept
-          ∙ same_seen (store_of s) (pass_of p) (in_shared (view_of p)) (in_exclusive (view_of p)) crowd v w h.whole rest.fresh rest.base roots_same none.entries same_names
+          ∙ same_seen (store_of s) (pass_of p) (in_shared (view_of p)) (in_exclusive (view_of p)) crowd v w h.whole rest.fresh rest.base roots_same none.entries none.seen same_names
 
 -- the access of the last collection, with nothing noted since
 pub swept_of : (v : View) → is_swept v ≡ true → IsSwept v
@@ -343,7 +355,7 @@ module _ (s : Store) (p q : Pass) (h : IsStanding s p) (g : Goes s p q) where
       → OnOk r (desk.Swept (seen_of s p) (seen_of s q))
   swept_is (Ok u) k = subst (λ (x : PassView). desk.Swept (seen_of s p) x) (sym (goes_seen s p q h g))
       (swept_seen (store_of s) (pass_of p) (in_shared (view_of p)) (in_exclusive (view_of p)) (view_of p).crowd (view_of q).crowd (view_of p).store (view_of q).store ((view_of p).store.base + k.claim) k.kept h.whole
-      (collect_comes u.live u.buckets k) (ap (λ (x : View). x.entries) k.view) (ap (λ (x : View). x.fresh) k.view))
+      (collect_comes u.live u.buckets k) (ap (λ (x : View). x.entries) k.view) (ap (λ (x : View). x.fresh) k.view) k.ascends k.below)
   swept_is (Err x) k = tt
 
   pub worn_is : {A E : Type 0} (r : Result A E) → IfErr r (λ _. view_of q ≡ view_of p) → OnErr r (seen_of s q ≡ seen_of s p)
@@ -362,10 +374,6 @@ roots_told t (Make n f rs r ∷ es) = roots_told (after t (Make n f rs r)) es
 roots_told t (Find n f rs r ∷ es) = roots_told (after t (Find n f rs r)) es
 roots_told t (Roots n rs ∷ es) = roots_told (after t (Roots n rs)) es
 roots_told t (Collect n ks ∷ es) = roots_told (after t (Collect n ks)) es
-
-numbers : (rs : List ℕ) → map (λ (r : Row). r.0) (rows_of rs) ≡ rs
-numbers [] = refl
-numbers (r ∷ rs) = ap (λ (ns : List ℕ). r ∷ ns) (numbers rs)
 
 pub last_noted : (s : Store) (p : Pass) → (seen_of s p).roots ≡ (seen_of s p).noted → AreLastRoots (view_of p).store
 last_noted s p e =

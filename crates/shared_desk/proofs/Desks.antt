@@ -1,6 +1,6 @@
 -- What a desk's steps are to its callers.
 use Rattle.std.proofs.Math.Nat.{le_refl, le-max_left}
-use Rattle.std.proofs.Common.{◌≡◌, ℕ, ◌≤◌, inl, inr, Bool, true, List, [], ◌∷◌, ◌++◌, Some, refl, ap, sym, ◌∙◌, subst, arith}
+use Rattle.std.proofs.Common.{◌≡◌, ℕ, ◌≤◌, inl, inr, Bool, true, List, [], ◌∷◌, ◌++◌, Option, Some, refl, ap, sym, ◌∙◌, subst, arith}
 use Rattle.std.specs.Prelude.{max}
 use Rattle.std.specs.List.{flat_map}
 use Rattle.term_model.specs.declared.Row.{Row}
@@ -17,8 +17,8 @@ use Rattle.shared_desk.specs.Places.{Places}
 use Rattle.shared_desk.proofs.Passing.{rooted, crossed, ended, trees_same}
 use Rattle.shared_desk.proofs.Following.{wider}
 
-abbrev pub desk_of : PassView → List Row → ℕ → Bool → Contents
-desk_of v xs k s = record { pass = v; stack = xs; refusals = k; spent = s }
+abbrev pub desk_of : PassView → List Row → ℕ → Bool → Option (List ℕ) → Contents
+desk_of v xs k s log = record { pass = v; stack = xs; refusals = k; spent = s; log = log }
 
 -- what a refusal counts changes no rows
 pub sound_shown : (v : PassView) (xs : List Row) (k : ℕ) (s : Bool) → IsSound (store v xs) → IsSound (shown v xs k s)
@@ -110,9 +110,9 @@ pub right_left : (v : PassView) (p : Places) → IsRight v p → IsRight (left (
 right_left v p i = record { sound = (ended v p.items i.sound).sound; roots = λ e. refl; alone = refl; room = i.room }
 
 -- what a refusal for want of rows, or none, leaves of the desk
-pub same_told : (v w : PassView) (xs ys : List Row) (k m : ℕ) (s : Bool) → pass.IsSame v w → IsSame (desk_of v xs k s) (desk_of w ys m s)
-same_told v w xs ys k m s same = record { pass = same; worn = λ e. inl e }
+pub same_told : (v w : PassView) (xs ys : List Row) (k m : ℕ) (s : Bool) (l n : Option (List ℕ)) → pass.IsSame v w → IsSame (desk_of v xs k s l) (desk_of w ys m s n)
+same_told v w xs ys k m s l n same = record { pass = same; worn = λ e. inl e }
 
 -- and one for want of numbers
-pub same_worn : (v w : PassView) (xs ys : List Row) (k m : ℕ) (s : Bool) → pass.IsSame v w → IsWorn w → IsSame (desk_of v xs k s) (desk_of w ys m true)
-same_worn v w xs ys k m s same worn = record { pass = same; worn = λ e. inr worn }
+pub same_worn : (v w : PassView) (xs ys : List Row) (k m : ℕ) (s : Bool) (l n : Option (List ℕ)) → pass.IsSame v w → IsWorn w → IsSame (desk_of v xs k s l) (desk_of w ys m true n)
+same_worn v w xs ys k m s l n same worn = record { pass = same; worn = λ e. inr worn }

@@ -22,12 +22,18 @@ use Rattle.store_core.specs.Invariant.{listed}
 use Rattle.store_core.specs.Told.{Told, told, nothing, after, created, tree_over, subtrees_in}
 use Rattle.shared_desk.specs.Held.{names, held_in, tree_in, Has, IsOnce, HasOneRow, IsWhole}
 use Rattle.node_rows.specs.Crowding.{ends_in_collect}
-use Rattle.shared_desk.specs.Pass.{PassView, WhichStore, WhichPass, own, over, MayCreate, Got, left}
-use Rattle.shared_desk.specs.Seen.{row_of, rows_of, telling, seen, is_swept}
+use Rattle.node_rows.specs.Rows as node
+use Rattle.shared_desk.specs.Pass.{PassView, WhichStore, WhichPass, own, over, MayCreate, Got, NotesCreation, left}
+use Rattle.shared_desk.specs.Seen.{row_of, rows_of, telling, noting, seen, is_swept}
 use Rattle.shared_desk.specs.Passes.{IsSymbolNumber}
 use Rattle.shared_desk.proofs.Trees.{Within, tree_within, names_within, known_before, named_of, argument_known}
 use Rattle.shared_desk.proofs.Wholes.{told_more, Gives, IsMade, given_is, given_has, given_only, given_more, given_keeps, whole_given}
 use Rattle.shared_desk.proofs.Views.{has_tree, tree_has, known_has, has_known, rows_trees, each_held}
+
+-- the numbers of rows by their numbers
+pub numbers : (rs : List ℕ) → node.names (rows_of rs) ≡ rs
+numbers [] = refl
+numbers (r ∷ rs) = ap (λ (ns : List ℕ). r ∷ ns) (numbers rs)
 
 -- what a Make and a Find of row r tell
 pub noted_told : (v w : View) (n : ℕ) (f : Head) (rs : List ℕ) (r : ℕ) → (w.entries ≡ v.entries ++ Make n f rs r ∷ []) ⊎ (w.entries ≡ v.entries ++ Find n f rs r ∷ []) → told w.entries ≡ created (told v.entries) f rs r
@@ -74,6 +80,10 @@ module _ (st : WhichStore) (seat : WhichPass) (a b : Bool) (crowd : List Tree) (
   abbrev now : PassView
   now = seen st seat a b crowd w
 
+  -- the same without the entries
+  abbrev bare : PassView
+  bare = telling st seat a b (is_swept v) v.base (held_in v) (protected_in v) (told v.entries) crowd
+
   -- what may be created, and what is asked
   pub over_is : (f : Head) (rs : List ℕ) → Each (Has v) rs → over before f (rows_of rs) ≡ tree_over (tree_in v) f rs
   over_is f rs each = ap (λ (ts : List Tree). Node f (trees_of ts)) (rows_trees st seat a b crowd v h rs each)
@@ -96,14 +106,15 @@ module _ (st : WhichStore) (seat : WhichPass) (a b : Bool) (crowd : List Tree) (
 
   -- a creation gave row r
   pub got_seen : (f : Head) (rs : List ℕ) (r : ℕ) → IsMade st.sizes v f rs r → Gives v w f rs r → IsOnce w.knows → HasOneRow w.knows
-      → told w.entries ≡ created (told v.entries) f rs r → w.base ≡ v.base → Got before now f (rows_of rs) (row_of r)
-  got_seen f rs r m g once one_row notes base =
+      → told w.entries ≡ created (told v.entries) f rs r → w.base ≡ v.base → NotesCreation v.entries w.entries f (rows_of rs) (row_of r) → Got before now f (rows_of rs) (row_of r)
+  got_seen f rs r m g once one_row notes base entry =
       let whole = whole_given st.sizes v w f rs r h m g once one_row in
       let is = over_is f rs m.held in
       record {
-        rest = ap (λ (n : ℕ). telling st seat a b (is_swept w) n (held_in w) (protected_in w) (told w.entries) crowd) base
+        rest = ap (λ (x : PassView). noting x w) (ap (λ (n : ℕ). telling st seat a b (is_swept w) n (held_in w) (protected_in w) (told w.entries) crowd) base
             ∙ ap₂ (λ (qs : List ℕ) (t : Told). telling st seat a b (is_swept w) v.base (held_in w) qs t crowd) g.roots notes
-            ∙ ap (λ (t : Tree). record before { fresh = is_swept w; held = listed st.sizes.rows (held_in w); built = (told v.entries).built ++ t ∷ [] }) (sym is);
+            ∙ ap (λ (t : Tree). record bare { fresh = is_swept w; held = listed st.sizes.rows (held_in w); built = (told v.entries).built ++ t ∷ [] }) (sym is));
+        notes = entry;
         tree = has_tree st seat a b crowd w whole (row_of r) (given_has st.sizes v w f rs r h m g) ∙ ap Some (given_is st.sizes v w f rs r h m g ∙ sym is);
         all = λ q t e.
             (let x = tree_has st seat a b crowd v h q t e in
@@ -116,13 +127,14 @@ module _ (st : WhichStore) (seat : WhichPass) (a b : Bool) (crowd : List Tree) (
       }
 
   -- nothing that a desk sees has changed
-  pub same_seen : w.fresh ≡ v.fresh → w.base ≡ v.base → protected_in w ≡ protected_in v → w.entries ≡ v.entries → ((r : ℕ) → names r w.knows ≡ names r v.knows) → now ≡ before
-  same_seen fresh base roots entries named =
+  pub same_seen : w.fresh ≡ v.fresh → w.base ≡ v.base → protected_in w ≡ protected_in v → w.entries ≡ v.entries → w.seen ≡ v.seen → ((r : ℕ) → names r w.knows ≡ names r v.knows) → now ≡ before
+  same_seen fresh base roots entries greatest named =
       let swept : is_swept w ≡ is_swept v = ap₂ (λ (f : Bool) (es : List Entry). f && ends_in_collect es) fresh entries in
       let held : held_in w ≡ held_in v = fun_ext (λ r. ap₂ (λ (k : Bool) (es : List Entry). cond k (Some ((told es).tree r)) None) (named r) entries) in
-      ap₂ (λ (f : Bool) (n : ℕ). telling st seat a b f n (held_in w) (protected_in w) (told w.entries) crowd) swept base
+      ap (λ (x : PassView). noting x w) (ap₂ (λ (f : Bool) (n : ℕ). telling st seat a b f n (held_in w) (protected_in w) (told w.entries) crowd) swept base
       ∙ ap (λ (x : ℕ → Option Tree). telling st seat a b (is_swept v) v.base x (protected_in w) (told w.entries) crowd) held
-      ∙ ap₂ (λ (qs : List ℕ) (es : List Entry). telling st seat a b (is_swept v) v.base (held_in v) qs (told es) crowd) roots entries
+      ∙ ap₂ (λ (qs : List ℕ) (es : List Entry). telling st seat a b (is_swept v) v.base (held_in v) qs (told es) crowd) roots entries)
+      ∙ ap₂ (λ (es : List Entry) (n : ℕ). record bare { entries = es; greatest = n }) entries greatest
 
   -- words were read of a row of the own list
   pub read_named : (xs : List KnownWord) (r : ℕ) → Has v r → Each (λ (x : KnownWord). x.row ≡ r) xs → w.knows ≡ xs ++ v.knows → (q : ℕ) → names q w.knows ≡ names q v.knows
@@ -132,17 +144,18 @@ module _ (st : WhichStore) (seat : WhichPass) (a b : Bool) (crowd : List Tree) (
       (λ k. names_within v.knows (xs ++ v.knows) (known_before xs v.knows) q k)
 
   -- a leave noted the protected rows
-  pub left_seen : (n : ℕ) → w.fresh ≡ false → w.base ≡ v.base → protected_in w ≡ protected_in v → w.knows ≡ v.knows → w.entries ≡ v.entries ++ Roots n (protected_in v) ∷ []
+  pub left_seen : w.fresh ≡ false → w.base ≡ v.base → protected_in w ≡ protected_in v → w.knows ≡ v.knows → w.entries ≡ v.entries ++ Roots v.seen (protected_in v) ∷ [] → w.seen ≡ v.seen
       → seen st seat false false crowd w ≡ left before
-  left_seen n fresh base roots knows entries =
+  left_seen fresh base roots knows entries greatest =
       let t = told v.entries in
       let rs = protected_in v in
       let swept : is_swept w ≡ false = ap (λ (f : Bool). f && ends_in_collect w.entries) fresh in
-      let notes : told w.entries ≡ after t (Roots n rs) = ap told entries ∙ told_more nothing v.entries (Roots n rs) in
-      ap₂ (λ (f : Bool) (m : ℕ). telling st seat false false f m (held_in w) (protected_in w) (told w.entries) crowd) swept base
+      let notes : told w.entries ≡ after t (Roots v.seen rs) = ap told entries ∙ told_more nothing v.entries (Roots v.seen rs) in
+      ap (λ (x : PassView). noting x w) (ap₂ (λ (f : Bool) (m : ℕ). telling st seat false false f m (held_in w) (protected_in w) (told w.entries) crowd) swept base
       ∙ ap (λ (ks : List KnownWord). telling st seat false false false v.base (λ r. cond (names r ks) (Some (tree_in w r)) None) (protected_in w) (told w.entries) crowd) knows
       ∙ ap₂ (λ (qs : List ℕ) (u : Told). telling st seat false false false v.base (λ r. cond (names r v.knows) (Some (u.tree r)) None) qs u crowd) roots notes
-      ∙ ap (λ (ts : List Tree). record before { shared = false; alone = false; fresh = false; noted = rows_of rs; rooted = ts; load = max t.load (subtrees_in ts) }) (sym (rows_trees st seat a b crowd v h rs h.protects))
+      ∙ ap (λ (ts : List Tree). record bare { shared = false; alone = false; fresh = false; noted = rows_of rs; rooted = ts; load = max t.load (subtrees_in ts) }) (sym (rows_trees st seat a b crowd v h rs h.protects)))
+      ∙ ap₂ (λ (es : List Entry) (m : ℕ). record (left before) { entries = es; greatest = m }) (entries ∙ ap (λ (qs : List ℕ). v.entries ++ Roots v.seen qs ∷ []) (sym (numbers rs))) greatest
 
   -- the row of argument j of a row of the own list
   pub child_seen : (r j child : ℕ) → Within v.knows w.knows → HasOneRow w.knows → IsHeld (own before) (row_of r) → j < length (arguments (tree_at (own before) (row_of r)))

@@ -16,3 +16,4 @@ pub mod Walks
 pub mod Desks
 pub mod Protecting
 pub mod Telling
+pub mod Logging

@@ -5,6 +5,7 @@ use Rattle.term_model.specs.declared.Row.{Row}
 use Rattle.term_model.specs.Tree.{Tree}
 use Rattle.history_core.specs.declared.entry.Entry.{Entry}
 use Rattle.history_core.specs.declared.entry.Entry.TheVariants.{Collect}
+use Rattle.history_core.specs.Entry.{IsAscending}
 use Rattle.terms_api.specs.Terms.{HasTree, reachable, GainsNone, Loses}
 use Rattle.terms_api.proofs.Staying.{reached_from}
 use Rattle.store_core.specs.declared.view.View.{View}
@@ -16,7 +17,7 @@ use Rattle.shared_desk.specs.Held.{names, held_in, tree_in, Has, IsWhole, Forget
 use Rattle.node_rows.specs.Crowding.{ends_in_collect}
 use Rattle.node_rows.specs.CrowdsKept.{ends_snoc}
 use Rattle.shared_desk.specs.Pass.{PassView, WhichStore, WhichPass, own, Arrived, Swept}
-use Rattle.shared_desk.specs.Seen.{telling, seen, is_swept}
+use Rattle.shared_desk.specs.Seen.{telling, noting, seen, is_swept}
 use Rattle.shared_desk.proofs.Trees.{tree_within, names_within, tree_names, subtree_known}
 use Rattle.shared_desk.proofs.Wholes.{told_more, whole_forgets}
 use Rattle.shared_desk.proofs.Views.{has_tree, tree_has, has_known, rows_trees}
@@ -86,19 +87,21 @@ pub arrived_seen : (st : WhichStore) (seat : WhichPass) (a b c d : Bool) (crowd 
     → Arrived (seen st seat a b crowd v) (seen st seat c d crowd w)
 arrived_seen st seat a b c d crowd v w h m e =
     record {
-      rest = ap₂ (λ (rs : List ℕ) (t : Told). telling st seat c d (is_swept w) w.base (held_in w) rs t crowd) m.roots (ap told e);
+      rest = ap (λ (x : PassView). noting x w) (ap₂ (λ (rs : List ℕ) (t : Told). telling st seat c d (is_swept w) w.base (held_in w) rs t crowd) m.roots (ap told e))
+          ∙ ap (λ (es : List Entry). record (telling st seat c d (is_swept w) w.base (held_in w) (protected_in v) (told v.entries) crowd) { entries = es; greatest = w.seen }) e;
       none = gains_none st seat a b c d crowd crowd v w h m;
       rows = loses st seat a b c d crowd crowd v w h m;
     }
 
 -- a collection was noted
 pub swept_seen : (st : WhichStore) (seat : WhichPass) (a b : Bool) (old new : List Tree) (v w : View) (number : ℕ) (kept : List ℕ) → IsWhole st.sizes v → Comes v w
-    → w.entries ≡ v.entries ++ Collect number kept ∷ [] → w.fresh ≡ true → Swept (seen st seat a b old v) (seen st seat a b new w)
-swept_seen st seat a b old new v w number kept h m e fresh =
+    → w.entries ≡ v.entries ++ Collect number kept ∷ [] → w.fresh ≡ true → IsAscending kept → ((r : ℕ) → Contains kept r → r < st.sizes.rows) → Swept (seen st seat a b old v) (seen st seat a b new w)
+swept_seen st seat a b old new v w number kept h m e fresh ascends below =
     let swept : is_swept w ≡ true = ap₂ (λ (f : Bool) (es : List Entry). f && ends_in_collect es) fresh e ∙ ends_snoc false v.entries (Collect number kept) in
     record {
-      rest = ap₂ (λ (rs : List ℕ) (t : Told). telling st seat a b (is_swept w) w.base (held_in w) rs t new) m.roots (ap told e ∙ told_more nothing v.entries (Collect number kept))
-          ∙ ap (λ (f : Bool). telling st seat a b f w.base (held_in w) (protected_in v) (after (told v.entries) (Collect number kept)) new) swept;
+      rest = ap (λ (x : PassView). noting x w) (ap₂ (λ (rs : List ℕ) (t : Told). telling st seat a b (is_swept w) w.base (held_in w) rs t new) m.roots (ap told e ∙ told_more nothing v.entries (Collect number kept))
+          ∙ ap (λ (f : Bool). telling st seat a b f w.base (held_in w) (protected_in v) (after (told v.entries) (Collect number kept)) new) swept);
+      notes = (number, kept, e, ascends, below);
       none = gains_none st seat a b a b old new v w h m;
       rows = loses st seat a b a b old new v w h m;
     }

@@ -155,7 +155,7 @@ module _ (s : Store) (p q : Pass) (h : IsStanding s p) (pass : IsPass s.table.sh
         ap₂ (λ (ts : List Tree) (i : WhichPass). seen (store_of s) i (in_shared w) (in_exclusive w) ts w.store) kept (pass_same p q same.0 same.1)
         ∙ ap₂ (λ (a b : Bool). seen (store_of s) (pass_of p) a b crowd w.store) o.0 o.1
         ∙ ap (seen (store_of s) (pass_of p) false false crowd) e
-        ∙ left_seen (store_of s) (pass_of p) (in_shared v) (in_exclusive v) crowd v.store (left v.store (protected_in v.store)) h.whole v.store.seen refl refl refl refl refl
+        ∙ left_seen (store_of s) (pass_of p) (in_shared v) (in_exclusive v) crowd v.store (left v.store (protected_in v.store)) h.whole refl refl refl refl refl refl
 
 pub sound_standing : (s : Store) (p : Pass) → IsStanding s p → IsSound (own (seen_of s p))
 sound_standing s p h = sound_own (store_of s) (pass_of p) (in_shared (view_of p)) (in_exclusive (view_of p)) (view_of p).crowd (view_of p).store h.whole h.small

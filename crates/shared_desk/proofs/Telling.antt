@@ -212,6 +212,13 @@ made_may items z (Ok t) store new ready told =
     ready told
 made_may items z (Err e) store new ready told = tt
 
+-- its passes have no entries
+pub made_new : {V E : Type 0} (items : V → List Pass) (z : Sizes) (r : Result (Store × V) E)
+    → IfOk r (λ t. EachPlace (λ j p. IsNew t.0.table.shared.table_id z j p.seat.seat p.seat.number p.seat.seats) z.seats (items t.1))
+    → IfOk r (λ t. All (λ p. (view_of p).store.entries ≡ []) (items t.1))
+made_new items z (Ok t) new = λ k d lt. ap (λ (v : NodeView). v.store.entries) (new.each k (get_or (items t.1) k d) (slice_get-get_or (items t.1) k d lt)).view
+made_new items z (Err e) new = tt
+
 -- a desk has room for an argument
 pub wide_enough : {A E : Type 0} (view : A → PassView) (v : PassView) (z : Sizes) (r : Result A E) → v.arity ≡ widest z → IfOk r (λ a. view a ≡ v) → IfOk r (λ a. 1 ≤ (view a).arity)
 wide_enough view v z (Ok a) w e = let x = ap (λ (u : PassView). u.arity) e in let two : 2 ≤ widest z = le-max_right z.arity 2 in omega (arith, x, w, two)

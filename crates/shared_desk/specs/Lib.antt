@@ -6,3 +6,4 @@ pub mod Passes
 pub mod Code
 pub mod Desk
 pub mod Telling
+pub mod Logged

@@ -3,6 +3,10 @@ use Rattle.std.specs.Prelude.{◌≡◌, ℕ, ◌+◌, ◌*◌, ◌^◌, ◌<◌
 use Rattle.std.specs.List.{flat_map}
 use Rattle.term_model.specs.declared.Row.{Row}
 use Rattle.term_model.specs.declared.Head.{Head}
+use Rattle.history_core.specs.declared.entry.Entry.{Entry}
+use Rattle.history_core.specs.declared.entry.Entry.TheVariants.{Make, Find, Roots, Collect}
+use Rattle.history_core.specs.Entry.{IsAscending}
+use Rattle.node_rows.specs.Rows.{names}
 use Rattle.term_model.specs.Tree.{Tree, Node, trees_of, subtrees, distinct, may_stand_over}
 use Rattle.atomic_table.specs.Seated.{TableId}
 use Rattle.store_core.specs.declared.view.Sizes.{Sizes}
@@ -30,6 +34,9 @@ pub record PassView : Type 0 where
   -- the rows that it protects, and those of its last Roots
   pub roots : List Row
   pub noted : List Row
+  -- its entries, and the greatest number that it has seen
+  pub entries : List Entry
+  pub greatest : ℕ
   -- what its entries told: the trees of its Make and Find entries, the trees of its last Roots, the
   -- trees that its last Collect kept, the trees of the last Roots before that, the greatest count of
   -- different subtrees in one Roots, and how many Collects
@@ -93,14 +100,14 @@ IsWorn v = 2 ^ 62 < v.base + 2 * span v.store.sizes
 -- An access was granted, and the base was loaded: rows may be lost that the protected ones don't reach,
 -- but only where the base is a later one.
 pub record Arrived (v w : PassView) : Type 0 where
-  pub rest : w ≡ record v { shared = w.shared; alone = w.alone; fresh = w.fresh; held = w.held; base = w.base }
+  pub rest : w ≡ record v { shared = w.shared; alone = w.alone; fresh = w.fresh; held = w.held; base = w.base; greatest = w.greatest }
   pub none : GainsNone (own v) (own w)
   pub rows : Loses (own v) (own w)
 
 -- an access has ended, and Roots were noted
 abbrev pub left : PassView → PassView
 left v =
-    record v { shared = false; alone = false; fresh = false; noted = v.roots; rooted = trees (own v); load = max v.load (distinct (flat_map subtrees (trees (own v)))) }
+    record v { shared = false; alone = false; fresh = false; entries = v.entries ++ Roots v.greatest (names v.roots) ∷ []; noted = v.roots; rooted = trees (own v); load = max v.load (distinct (flat_map subtrees (trees (own v)))) }
 
 -- the tree of a head over rows
 abbrev pub over : PassView → Head → List Row → Tree
@@ -111,16 +118,28 @@ pub record MayCreate (v : PassView) (h : Head) (rows : List Row) : Type 0 where
   pub width : length rows ≤ v.arity
   pub head : may_stand_over h (trees_of (map (tree_at (own v)) rows)) ≡ true
 
+-- one entry more: a Make of this row by a head over rows, or a Find
+abbrev pub NotesCreation : List Entry → List Entry → Head → List Row → Row → Type 0
+NotesCreation old new h rows row =
+    (n : ℕ) × ((new ≡ old ++ Make n h (names rows) row.0 ∷ []) ⊎ (new ≡ old ++ Find n h (names rows) row.0 ∷ []))
+
+-- one entry more: a Collect, whose names ascend and are below the rows
+abbrev pub NotesCollect : ℕ → List Entry → List Entry → Type 0
+NotesCollect rows old new =
+    (n : ℕ) × (kept : List ℕ) × (new ≡ old ++ Collect n kept ∷ []) × IsAscending kept × ((r : ℕ) → Contains kept r → r < rows)
+
 -- one Make or one Find was noted, and its row is on the own list with the tree asked
 pub record Got (v w : PassView) (h : Head) (rows : List Row) (row : Row) : Type 0 where
-  pub rest : w ≡ record v { fresh = w.fresh; held = w.held; built = v.built ++ over v h rows ∷ [] }
+  pub rest : w ≡ record v { fresh = w.fresh; held = w.held; entries = w.entries; greatest = w.greatest; built = v.built ++ over v h rows ∷ [] }
+  pub notes : NotesCreation v.entries w.entries h rows row
   pub tree : HasTree (own w) row (over v h rows)
   pub all : KeepsAll (own v) (own w)
   pub only : (r : Row) (t : Tree) → HasTree (own w) r t → HasTree (own v) r t ⊎ (t ≡ over v h rows)
 
 -- one Collect was noted
 pub record Swept (v w : PassView) : Type 0 where
-  pub rest : w ≡ record v { fresh = true; held = w.held; base = w.base; crowd = w.crowd; hand = v.rooted; sweeps = v.sweeps + 1 }
+  pub rest : w ≡ record v { fresh = true; held = w.held; base = w.base; entries = w.entries; greatest = w.greatest; crowd = w.crowd; hand = v.rooted; sweeps = v.sweeps + 1 }
+  pub notes : NotesCollect v.rows v.entries w.entries
   pub none : GainsNone (own v) (own w)
   pub rows : Loses (own v) (own w)
 

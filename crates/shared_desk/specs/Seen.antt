@@ -1,5 +1,5 @@
 -- What a desk sees of a pass: its own list, the rows that it protects, and what its entries told.
-use Rattle.std.specs.Prelude.{ℕ, Bool, ◌&&◌, Option, List, map}
+use Rattle.std.specs.Prelude.{ℕ, Bool, ◌&&◌, Option, List, [], map}
 use Rattle.term_model.specs.declared.Row.{Row}
 use Rattle.term_model.specs.Tree.{Tree}
 use Rattle.store_core.specs.declared.view.View.{View}
@@ -18,7 +18,7 @@ abbrev pub rows_of : List ℕ → List Row
 rows_of rs = map row_of rs
 
 -- a pass in shared access, alone, or out; with this base, own list, and protected rows, whose entries told so much, and with these
--- trees kept by its last Collect
+-- trees kept by its last Collect; its entries themselves are left out
 abbrev pub telling : WhichStore → WhichPass → (shared alone fresh : Bool) → ℕ → (ℕ → Option Tree) → List ℕ → Told → List Tree → PassView
 telling store seat shared alone fresh base held roots told crowd =
     record {
@@ -26,6 +26,8 @@ telling store seat shared alone fresh base held roots told crowd =
       alone = alone;
       fresh = fresh;
       base = base;
+      entries = [];
+      greatest = 0;
       held = listed store.sizes.rows held;
       roots = rows_of roots;
       noted = rows_of told.noted;
@@ -46,6 +48,10 @@ telling store seat shared alone fresh base held roots told crowd =
 abbrev pub is_swept : View → Bool
 is_swept v = v.fresh && ends_in_collect v.entries
 
+-- and with the entries of this view, and the greatest number that it has seen
+abbrev pub noting : PassView → View → PassView
+noting x v = record x { entries = v.entries; greatest = v.seen }
+
 -- the pass with this view, whose last Collect kept these trees
 abbrev pub seen : WhichStore → WhichPass → (shared alone : Bool) → List Tree → View → PassView
-seen store seat shared alone crowd v = telling store seat shared alone (is_swept v) v.base (held_in v) (protected_in v) (told v.entries) crowd
+seen store seat shared alone crowd v = noting (telling store seat shared alone (is_swept v) v.base (held_in v) (protected_in v) (told v.entries) crowd) v

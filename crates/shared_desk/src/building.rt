@@ -41,8 +41,9 @@ fn go_alone<S: SharedPass>(pass: &mut S, places: &Stack)
     ensures ready { IsReady (S.view pass.new) places.now }
     ensures passed { Passed 0 (S.view pass.old) (S.view pass.new) places.now.items }
 {
-    pass.store_roots(places.rows());
-    pass.leave_shared();
+    let rows = places.rows();
+    pass.store_roots(rows);
+    pass.leave_shared(rows);
     pass.enter_exclusive();
 }
 
@@ -54,7 +55,7 @@ fn come_back<S: SharedPass>(pass: &mut S, places: &Stack)
     ensures crowd { (S.view pass.new).crowd ≡ (S.view pass.old).crowd }
     ensures hand { (S.view pass.new).hand ≡ (S.view pass.old).hand }
 {
-    pass.leave_exclusive();
+    pass.leave_exclusive(places.rows());
     pass.enter_shared();
 }
 

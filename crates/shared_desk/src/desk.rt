@@ -34,7 +34,7 @@ impl<S: SharedPass> Model for Desk<S> {
 
     ghost use Rattle.shared_desk.specs.Desk.{IsRight};
 
-    ghost view = { λ d. record { pass = S.view d.pass; stack = d.places.items; refusals = length d.refused.items; spent = d.spent } };
+    ghost view = { λ d. record { pass = S.view d.pass; stack = d.places.items; refusals = length d.refused.items; spent = d.spent; log = S.log d.pass } };
 
     ghost invariant = { λ d. IsRight (S.view d.pass) d.places };
 }
@@ -49,6 +49,7 @@ impl<S: SharedPass + Drop> Desk<S> {
         ensures pass { IfOk result (λ desk. desk.pass ≡ S.view pass) }
         ensures stack { IfOk result (λ desk. desk.stack ≡ []) }
         ensures unspent { IfOk result (λ desk. desk.spent ≡ false) }
+        ensures log { IfOk result (λ desk. desk.log ≡ S.log pass) }
     {
         let places = Stack::new(alloc, pass.depth())?;
         Ok(Desk {

@@ -1,5 +1,5 @@
 //! A pass of the running store, with all that its desk needs of it.
-ghost use Rattle.std.specs.Prelude.{◌≡◌, false};
+ghost use Rattle.std.specs.Prelude.{◌≡◌, None, false};
 ghost use Rattle.terms_api.specs.Terms.{IsSound};
 ghost use Rattle.shared_desk.specs.Pass.{own};
 ghost use Rattle.shared_desk.specs.Passes.{IsSymbolNumber};
@@ -7,7 +7,7 @@ ghost use Rattle.node_rows.specs.Passes.{IsOut};
 ghost use Rattle.node_rows.specs.Told.{view_of};
 
 use crate::pass::SharedPass;
-use node_rows::{Pass, Store};
+use node_rows::{Last, Pass, Store};
 use std::marker::Model;
 use std::sync::Wait;
 use sweep_phase::{Kept, Worn, collect, create_exclusive};
@@ -87,11 +87,13 @@ impl<'a, R: Wait> OwnPass<'a, R> {
 impl<'a, R: Wait> SharedPass for OwnPass<'a, R> {
     ghost view = { λ v. v };
 
+    ghost log = { λ _. None };
+
     fn enter_shared(&mut self) {
         self.store.enter_shared(self.rt, &mut self.pass);
     }
 
-    fn leave_shared(&mut self) {
+    fn leave_shared(&mut self, _rows: &[Row]) {
         self.store.leave_shared(&mut self.pass);
     }
 
@@ -99,7 +101,7 @@ impl<'a, R: Wait> SharedPass for OwnPass<'a, R> {
         self.store.enter_exclusive(self.rt, &mut self.pass);
     }
 
-    fn leave_exclusive(&mut self) {
+    fn leave_exclusive(&mut self, _rows: &[Row]) {
         self.store.leave_exclusive(&mut self.pass);
     }
 
@@ -143,6 +145,18 @@ impl<'a, R: Wait> SharedPass for OwnPass<'a, R> {
 
     fn base(&self) -> u64 {
         self.pass.base
+    }
+
+    fn last(&self) -> Last {
+        node_rows::last(&self.pass)
+    }
+
+    fn kept(&self, row: Row) -> bool {
+        node_rows::kept(&self.pass, row)
+    }
+
+    fn rows(&self) -> u32 {
+        self.store.sizes.rows
     }
 
     fn depth(&self) -> u32 {

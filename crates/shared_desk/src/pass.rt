@@ -2,8 +2,12 @@
 ghost use Rattle.std.specs.Prelude.{◌≡◌, ◌⊎◌, ◌<◌, ◌≤◌, Some, OnOk, OnErr, IfOk, All, true, false, length, slice_get};
 ghost use Rattle.term_model.specs.Tree.{arguments, root};
 ghost use Rattle.terms_api.specs.Terms.{IsHeld, IsSound, tree_at};
+ghost use Rattle.std.specs.Prelude.{◌↔◌, ℕ, List, Option, IsTrue, Contains};
+ghost use Rattle.node_rows.specs.Told.{last_in};
+ghost use Rattle.node_rows.specs.Crowding.{kept_in};
 ghost use Rattle.shared_desk.specs.Pass.{PassView, own, IsSame, IsWorn, Arrived, left, MayCreate, Got, Swept, IsFilled};
 
+use node_rows::Last;
 use sweep_phase::{Kept, Worn};
 use term_create::Full;
 use term_model::{Head, Row};
@@ -12,6 +16,9 @@ use term_model::{Head, Row};
 pub trait SharedPass {
     /// What it knows.
     ghost view: { Self → PassView };
+
+    /// The log that it writes; None where it is lost, or where it writes none.
+    ghost log: { Self → Option (List ℕ) };
 
     /// Enters shared access. Rows that the protected ones don't reach may be lost where the base is a later one.
     fn enter_shared(&mut self)
@@ -22,9 +29,10 @@ pub trait SharedPass {
         ensures alone { (view self.new).alone ≡ false }
         ensures sound { IsSound (own (view self.new)) };
 
-    /// Ends shared access, and notes the protected rows.
-    fn leave_shared(&mut self)
-        requires { (view self.old).shared ≡ true }
+    /// Ends shared access, and notes the protected rows, which the caller names.
+    fn leave_shared(&mut self, rows: &[Row])
+        requires shared { (view self.old).shared ≡ true }
+        requires roots { (view self.old).roots ≡ rows.now }
         ensures { view self.new ≡ left (view self.old) };
 
     /// Enters exclusive access; rows may be lost as in `enter_shared`.
@@ -36,9 +44,10 @@ pub trait SharedPass {
         ensures alone { (view self.new).alone ≡ true }
         ensures sound { IsSound (own (view self.new)) };
 
-    /// Ends exclusive access, and notes the protected rows.
-    fn leave_exclusive(&mut self)
-        requires { (view self.old).alone ≡ true }
+    /// Ends exclusive access, and notes the protected rows, which the caller names.
+    fn leave_exclusive(&mut self, rows: &[Row])
+        requires alone { (view self.old).alone ≡ true }
+        requires roots { (view self.old).roots ≡ rows.now }
         ensures { view self.new ≡ left (view self.old) };
 
     /// Makes the protected rows these, each of the own list.
@@ -108,6 +117,18 @@ pub trait SharedPass {
     fn base(&self) -> u64
         requires { ((view self.now).shared ≡ true) ⊎ ((view self.now).alone ≡ true) }
         ensures { result ≡ (view self.now).base };
+
+    /// Its last entry.
+    fn last(&self) -> Last
+        ensures { result ≡ last_in (view self.now).entries };
+
+    /// Whether its last collection kept the row.
+    fn kept(&self, row: Row) -> bool
+        ensures { IsTrue result ↔ Contains (kept_in (view self.now).entries) row.0 };
+
+    /// How many rows the store has.
+    fn rows(&self) -> u32
+        ensures { result ≡ (view self.now).rows };
 
     /// How many rows may be protected.
     fn depth(&self) -> u32

@@ -57,7 +57,7 @@ fn desk_at<'a, R: Wait>(
     requires may { MayHaveDesk store.now pass }
     ensures { IfOk result (λ desk. (k : ℕ) → IsNewPass store.now k pass → IsNewDesk store.now k desk) }
 {
-    Desk::new(rt, alloc, store, pass)
+    Desk::<OwnPass<'a, R>>::new(rt, alloc, store, pass)
 }
 
 /// A desk at each pass of a new store, in their order.

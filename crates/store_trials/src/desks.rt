@@ -1,11 +1,12 @@
 //! Desks over a real store, on one thread, with values worked out by hand.
-ghost use Rattle.std.specs.Prelude.{◌≡◌, ◌≤◌, All, IfOk, true, false};
+ghost use Rattle.std.specs.Prelude.{◌≡◌, ◌≤◌, [], All, IfOk, true, false};
 ghost use Rattle.store_core.specs.StoreValue.{MaySize};
+ghost use Rattle.node_rows.specs.Told.{view_of};
 ghost use Rattle.shared_desk.specs.Desk.{store_of};
 ghost use Rattle.shared_desk.specs.Telling.{MayHaveDesk};
 
 use node_rows::{Last, Pass, Store, last};
-use shared_desk::{Desk, Memory, OwnPass};
+use shared_desk::{Desk, LogDesk, Memory, OwnPass};
 use std::alloc::Global;
 use std::process::Abort;
 use std::sync::Wait;
@@ -60,7 +61,44 @@ fn desk_at<'a, R: Wait>(
     ensures outside { IfOk result (λ desk. (store_of desk).inside ≡ false) }
     ensures width { IfOk result (λ desk. 1 ≤ (store_of desk).widest) }
 {
-    Desk::new(rt, alloc, store, pass)
+    Desk::<OwnPass<'a, R>>::new(rt, alloc, store, pass)
+}
+
+// A store, and its passes, which have no entries.
+fn unnoted_store(alloc: Global, sizes: Sizes) -> Result<(Store, Vec<Pass>), Memory>
+    requires { MaySize sizes }
+    ensures may { IfOk result (λ t. All (MayHaveDesk t.0) t.1.items) }
+    ensures none { IfOk result (λ t. All (λ p. (view_of p).store.entries ≡ []) t.1.items) }
+{
+    Store::make(alloc, sizes)
+}
+
+// The last of the passes that are left, without entries.
+fn unnoted_pass(rt: &impl Abort, store: &Store, passes: &mut Vec<Pass>) -> Pass
+    requires passes { All (MayHaveDesk store.now) passes.old.items }
+    requires unnoted { All (λ p. (view_of p).store.entries ≡ []) passes.old.items }
+    ensures pass { MayHaveDesk store.now result }
+    ensures none { (view_of result).store.entries ≡ [] }
+{
+    match passes.pop() {
+        Some(pass) => pass,
+        None => panic!(rt; "a pass is left"),
+    }
+}
+
+// A desk that writes a log at a new pass, inside.
+fn log_desk_at<'a, R: Wait>(
+    rt: &'a R,
+    alloc: Global,
+    store: &'a Store,
+    pass: Pass,
+) -> Result<LogDesk<'a, R>, Memory>
+    requires may { MayHaveDesk store.now pass }
+    requires unnoted { (view_of pass).store.entries ≡ [] }
+    ensures outside { IfOk result (λ desk. (store_of desk).inside ≡ false) }
+    ensures width { IfOk result (λ desk. 1 ≤ (store_of desk).widest) }
+{
+    LogDesk::new(rt, alloc, store, pass)
 }
 
 // Builds a symbol over the last `n` places, if there are so many, and tells the fault.
@@ -228,5 +266,29 @@ fn a_worn_store_says_so(rt: HostRuntime) -> Result<(), Fail> {
     desk.leave();
     let pass = desk.into_pass();
     assert_eq!(rt; last(&pass), Last::Roots((1 << 62) - 4));
+    Ok(())
+}
+
+// Two rows. Symbol 0 is made as row 0 with the number 1 and found after it, and symbol 1 over it is made as row 1 with the number 2.
+// The stack is then let go but for symbol 0, so that symbol 2 fits only after a collection, which has the number 3 and keeps row 0;
+// symbol 2 is made as row 1 with the number 4.
+#[test]
+fn a_desk_writes_its_entries_as_lines(rt: HostRuntime) -> Result<(), Fail> {
+    let (store, mut passes) = unnoted_store(rt.alloc(), sizes(2, 1, 1))?;
+    let pass = unnoted_pass(&rt, &store, &mut passes);
+    let mut desk = log_desk_at(&rt, rt.alloc(), &store, pass)?;
+    desk.enter();
+    assert_eq!(rt; build_symbol(&mut desk, 0, 0), None);
+    assert_eq!(rt; build_symbol(&mut desk, 0, 0), None);
+    assert_eq!(rt; build_symbol(&mut desk, 1, 1), None);
+    keep_lowest(&rt, &mut desk, 1);
+    assert_eq!(rt; build_symbol(&mut desk, 2, 0), None);
+    desk.leave();
+    let want: &[u8] =
+        b"# make 1 0 s0\n# find 1 0 s0\n# make 2 1 s1 0\n# roots 2 0\n# collect 3 0\n# make 4 1 s2\n# roots 4 0 1\n# roots 4 0 1\n";
+    assert_eq!(rt; desk.lines(), want);
+    assert!(rt; !desk.lost());
+    let pass = desk.into_pass();
+    assert_eq!(rt; last(&pass), Last::Roots(4));
     Ok(())
 }

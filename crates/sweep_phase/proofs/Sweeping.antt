@@ -4,6 +4,7 @@ use Rattle.std.specs.Prelude.{Contains}
 use Rattle.std.proofs.lemmas.Bool.{le-ltb}
 use Rattle.atomic_table.specs.declared.shared.Seat.{Seat}
 use Rattle.busy_forbidden.specs.Calls.{IsSame}
+use Rattle.history_core.specs.Entry.{IsAscending}
 use Rattle.store_core.specs.declared.view.Sizes.{Sizes}
 use Rattle.store_core.specs.declared.view.View.{View}
 use Rattle.store_core.specs.declared.view.Call.{Call}
@@ -184,7 +185,8 @@ pred_more n = let e : n + 1 ≡ suc n = omega arith in ap pred e
 
 -- the last store notes the collection
 module _ (c : Sweep) (a : Seat (Unit {0}) NodeView) (i n : ℕ) (marks : List Bool) (live buckets : ℕ) (h : HasSwept c a i n marks live buckets)
-    (b : Seat (Unit {0}) NodeView) (j m : ℕ) (same : IsSame a b) (number : j ≡ i) (seats : m ≡ n) (view : b.me.0 ≡ swept a.me.0 (ended_by (sizes_of c) a.me.0.store) b.me.0.crowd) (known : Known (sizes_of c) b.me.0.store) (crowd : IsKept (kept_in b.me.0.store.entries) b.me.0.store.knows b.me.0.crowd) where
+    (b : Seat (Unit {0}) NodeView) (j m : ℕ) (same : IsSame a b) (number : j ≡ i) (seats : m ≡ n) (view : b.me.0 ≡ swept a.me.0 (ended_by (sizes_of c) a.me.0.store) b.me.0.crowd) (known : Known (sizes_of c) b.me.0.store) (crowd : IsKept (kept_in b.me.0.store.entries) b.me.0.store.knows b.me.0.crowd)
+    (ascends : IsAscending (kept_in b.me.0.store.entries)) where
   place : ℕ → ℕ
   place k = seen_of a (FreePlace k)
 
@@ -203,6 +205,7 @@ module _ (c : Sweep) (a : Seat (Unit {0}) NodeView) (i n : ℕ) (marks : List Bo
         ∙ (ap (λ (k : ℕ). swept a.me.0 (collected a.me.0.store (c.base + c.claim + 1) k (seen_of a InUse) (names_left (sizes_of c) (seen_of a))) b.me.0.crowd) (pred_more (c.base + c.claim))
         ∙ ap (λ (k : ℕ). swept a.me.0 (collected a.me.0.store (c.base + c.claim + 1) (c.base + c.claim) k (names_left (sizes_of c) (seen_of a))) b.me.0.crowd) h.in_use));
     crowd = crowd;
+    ascends = ascends;
     marked = λ r. left_marked (λ k. seen_of a (FreePlace k)) marks (sizes_of c).rows (seen_of a FreeCount) placed h.stored.reached.size (λ q y. let s = inside_marks marks q y in let t = h.stored.reached.size in omega arith) r;
     size = h.stored.reached.size;
     known = known;
@@ -219,6 +222,7 @@ ends_after c a i n b j m d k l marks live buckets e f = record {
   buckets_are = f.buckets_are ∙ ap (λ (v : NodeView). grown_use (sizes_of c) v.store.in_use live) e.only;
   view = f.view ∙ ap (λ (v : NodeView). swept v (collected v.store (c.base + c.claim + 1) (c.base + c.claim) buckets f.kept) d.me.0.crowd) e.only;
   crowd = f.crowd;
+  ascends = f.ascends;
   marked = f.marked;
   size = f.size;
   known = f.known;

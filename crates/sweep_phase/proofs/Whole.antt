@@ -6,6 +6,7 @@ use Rattle.atomic_table.specs.Seated.{TableId}
 use Rattle.busy_forbidden.specs.Exclusive.{IsGranted}
 use Rattle.history_core.specs.declared.entry.Entry.{Entry}
 use Rattle.history_core.specs.declared.entry.Entry.TheVariants.{Collect}
+use Rattle.history_core.specs.Entry.{IsAscending}
 use Rattle.store_core.specs.declared.view.Sizes.{Sizes}
 use Rattle.store_core.specs.declared.view.View.{View}
 use Rattle.store_core.specs.Collection.{collected}
@@ -21,6 +22,7 @@ use Rattle.node_rows.specs.Steps.{IsOf, Known}
 use Rattle.sweep_phase.specs.declared.sweep.Sweep.{Sweep}
 use Rattle.sweep_phase.specs.Gathered.{sizes_of, IsAlone, LoadsClaim}
 use Rattle.sweep_phase.specs.Collected.{Collects, HasKept, Ends}
+use Rattle.sweep_phase.proofs.Ending.{inside_marks}
 
 -- a pass in exclusive access
 pub pass_alone : (s : Store) (a : Seat (Unit {0}) NodeView) (i n : ℕ) → IsStore s.table.shared.table_id s.table.shared.key s.sizes → IsPass s.table.shared.table_id s.sizes a n → IsGranted a.me.0.lock i n → IsAtRest a.me.0.store → AreLastRoots a.me.0.store → IsAlone s a i n
@@ -42,9 +44,12 @@ module _ (c : Sweep) (a : Seat (Unit {0}) NodeView) (i n : ℕ) (b : Seat (Unit 
   pub whole_only : b.me.0 ≡ swept a.me.0 b.me.0.store b.me.0.crowd
   whole_only = e.view ∙ ap (λ (u : View). swept a.me.0 u b.me.0.crowd) (sym store_is)
 
+  names_kept : kept_in b.me.0.store.entries ≡ e.kept
+  names_kept = ap (λ (v : View). kept_in v.entries) store_is ∙ kept_snoc [] a.me.0.store.entries (Collect (c.base + c.claim) e.kept)
+
   pub whole_kept : HasKept b.me.0 live
   whole_kept =
-      let names : kept_in b.me.0.store.entries ≡ e.kept = ap (λ (v : View). kept_in v.entries) store_is ∙ kept_snoc [] a.me.0.store.entries (Collect (c.base + c.claim) e.kept) in
+      let names : kept_in b.me.0.store.entries ≡ e.kept = names_kept in
       record { crowd = e.crowd; live_is = e.crowd.many ∙ (ap (λ (ns : List ℕ). length ns) names ∙ sym e.live_is) }
 
   pub whole_collects : (z : Sizes) → sizes_of c ≡ z → c.base ≡ a.me.0.store.base → c.base + c.claim + 1 + span z ≤ 2 ^ 62 → LoadsClaim z i a.me.0.store c.claim → Collects z i a.me.0.store b.me.0.store live buckets
@@ -52,6 +57,8 @@ module _ (c : Sweep) (a : Seat (Unit {0}) NodeView) (i n : ℕ) (b : Seat (Unit 
     claim = c.claim;
     loads = loads;
     kept = e.kept;
+    ascends = subst IsAscending names_kept e.ascends;
+    below = λ r k. (let inside = inside_marks marks r ((e.marked r).1 k) in let size = e.size in let rows = ap (λ (y : Sizes). y.rows) same in omega arith);
     room = subst (λ (k : ℕ). k + c.claim + 1 + span z ≤ 2 ^ 62) base room;
     live_is = e.live_is;
     buckets_are = e.buckets_are ∙ ap (λ (y : Sizes). grown_use y a.me.0.store.in_use live) same;

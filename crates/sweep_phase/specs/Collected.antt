@@ -1,6 +1,7 @@
 -- What a collection leaves.
 use Rattle.std.specs.Prelude.{◌≡◌, ◌↔◌, ℕ, ◌+◌, ◌<◌, ◌≤◌, ◌^◌, Bool, true, false, Some, List, length, Contains}
 use Rattle.atomic_table.specs.declared.shared.Seat.{Seat}
+use Rattle.history_core.specs.Entry.{IsAscending}
 use Rattle.store_core.specs.declared.view.Sizes.{Sizes}
 use Rattle.store_core.specs.declared.view.View.{View}
 use Rattle.store_core.specs.declared.view.Place.{Place}
@@ -29,6 +30,9 @@ pub record Collects (z : Sizes) (i : ℕ) (v w : View) (live buckets : ℕ) : Ty
   pub loads : LoadsClaim z i v claim
   pub kept : List ℕ
   pub room : v.base + claim + 1 + span z ≤ 2 ^ 62
+  -- their names ascend, and each is below the rows
+  pub ascends : IsAscending kept
+  pub below : (r : ℕ) → Contains kept r → r < z.rows
   pub live_is : live ≡ length kept
   pub buckets_are : buckets ≡ grown_use z v.in_use live
   pub view : w ≡ collected v (v.base + claim + 1) (v.base + claim) buckets kept
@@ -95,6 +99,7 @@ pub record Ends (c : Sweep) (a : Seat (Unit {0}) NodeView) (i n : ℕ) (b : Seat
   pub buckets_are : buckets ≡ grown_use (sizes_of c) a.me.0.store.in_use live
   pub view : b.me.0 ≡ swept a.me.0 (collected a.me.0.store (c.base + c.claim + 1) (c.base + c.claim) buckets kept) b.me.0.crowd
   pub crowd : IsKept (kept_in b.me.0.store.entries) b.me.0.store.knows b.me.0.crowd
+  pub ascends : IsAscending (kept_in b.me.0.store.entries)
   pub marked : (r : ℕ) → IsMarked marks r ↔ Contains kept r
   pub size : length marks ≡ (sizes_of c).rows
   pub known : Known (sizes_of c) b.me.0.store

@@ -1,4 +1,3 @@
-use Rattle.std.proofs.Common.{rules, append_assoc}
 use Rattle.log_text.proofs.Names.{one_more}
 use Rattle.log_text.proofs.writing.write_names.Goals as goal
 

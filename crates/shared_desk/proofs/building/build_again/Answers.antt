@@ -1,5 +1,5 @@
-use Rattle.std.proofs.Common.{◌∙◌, sym, subst, arith}
-use Rattle.terms_api.specs.Terms.{MayBuild, asked}
+use Rattle.std.proofs.Common.{sym, subst, arith}
+use Rattle.terms_api.specs.Terms.{MayBuild}
 use Rattle.shared_desk.specs.Places.{Places}
 use Rattle.shared_desk.specs.Pass.{store}
 use Rattle.shared_desk.specs.Desk.{Outcome}

@@ -141,7 +141,7 @@ returns-in-Ok-clause-same g c =
     let h = c.args.head in
     let n = c.args.n in
     let o = c.in-Ok.ensures.outcome in
-    subst (λ (x : Contents). IsSame x (desk_of w ys k s)) c.self.view_is (same_told v w xs ys k k s o.2.same)
+    subst (λ (x : Contents). IsSame x (desk_of w ys k s (g.S.SharedPass.log c.build_row.new.pass))) c.self.view_is (same_told v w xs ys k k s (g.S.SharedPass.log c.self.inside.pass) (g.S.SharedPass.log c.build_row.new.pass) o.2.same)
 
 pub returns-in-Err-Worn-clause-same : goal.returns-in-Err-Worn-clause-same
 returns-in-Err-Worn-clause-same g c =
@@ -155,7 +155,7 @@ returns-in-Err-Worn-clause-same g c =
     let n = c.args.n in
     let o = subst (λ f. Outcome v w xs ys h n (Err f)) c.in-Err-Worn.field-0-is c.in-Err-Worn.ensures.outcome in
     let m = length c.and-self-inside.result.items in
-    subst (λ (x : Contents). IsSame x (desk_of w ys m true)) c.self.view_is (same_worn v w xs ys k m s o.1.same o.2)
+    subst (λ (x : Contents). IsSame x (desk_of w ys m true (g.S.SharedPass.log c.build_row.new.pass))) c.self.view_is (same_worn v w xs ys k m s (g.S.SharedPass.log c.self.inside.pass) (g.S.SharedPass.log c.build_row.new.pass) o.1.same o.2)
 
 pub returns-in-Err-StoreFull-clause-same : goal.returns-in-Err-StoreFull-clause-same
 returns-in-Err-StoreFull-clause-same g c =
@@ -169,4 +169,4 @@ returns-in-Err-StoreFull-clause-same g c =
     let n = c.args.n in
     let o = subst (λ f. Outcome v w xs ys h n (Err f)) c.in-Err-StoreFull.field-0-is c.in-Err-StoreFull.ensures.outcome in
     let m = length c.and-self-inside-in-Err-StoreFull.result.items in
-    subst (λ (x : Contents). IsSame x (desk_of w ys m s)) c.self.view_is (same_told v w xs ys k m s o.1.same)
+    subst (λ (x : Contents). IsSame x (desk_of w ys m s (g.S.SharedPass.log c.build_row.new.pass))) c.self.view_is (same_told v w xs ys k m s (g.S.SharedPass.log c.self.inside.pass) (g.S.SharedPass.log c.build_row.new.pass) o.1.same)

@@ -27,4 +27,4 @@ returns-clause-same g c =
     let s = c.self.inside.spent in
     let out = ap (λ (x : Contents). x.pass.shared) c.self.view_is ∙ c.requires in
     let p = arrived v w xs (c.self.invariant.roots out) c.enter_shared.ensures.arrived c.enter_shared.ensures.sound in
-    subst (λ (x : Contents). IsSame x (desk_of w xs k s)) c.self.view_is (same_told v w xs xs k k s p.same)
+    subst (λ (x : Contents). IsSame x (desk_of w xs k s (g.S.SharedPass.log c.enter_shared.new.self))) c.self.view_is (same_told v w xs xs k k s (g.S.SharedPass.log c.self.inside.pass) (g.S.SharedPass.log c.enter_shared.new.self) p.same)
