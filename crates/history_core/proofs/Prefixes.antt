@@ -45,6 +45,9 @@ stops_at rows history n table x less is at out = record {
 pub ends_at : (rows : ℕ) (history : History) (n : ℕ) (table : Table) → n ≡ length history → IsAt rows history n table → IsLegalUpTo rows history n
 ends_at rows history n table same at = record { within = omega arith; legal = at.legal; next = λ less. absurd (omega arith) }
 
+pub whole_at_end : (rows : ℕ) (history : History) (n : ℕ) (table : Table) → n ≡ length history → IsAt rows history n table → IsLegalUpTo rows history (length history)
+whole_at_end rows history n table same at = subst (IsLegalUpTo rows history) same (ends_at rows history n table same at)
+
 pub whole : (rows : ℕ) (history : History) (n : ℕ) → IsLegalUpTo rows history n → (n ≡ length history) ↔ IsLegal rows history
 whole rows history n up = (there, back)
   where

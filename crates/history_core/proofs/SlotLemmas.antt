@@ -1,10 +1,10 @@
 -- Slots, and the map that finds the name of each term.
-use Rattle.std.proofs.Common.{◌≡◌, ℕ, ◌<◌, ◌≤◌, Bool, true, false, Option, Some, None, List, [], ◌∷◌, ◌^◌, length, set, refl, sym, ap, ◌∙◌, subst, arith, ◌⊎◌, inl, inr, ◌↔◌, get_or-set_same, get_or-set_other, replicate}
+use Rattle.std.proofs.Common.{◌≡◌, ℕ, ◌+◌, ◌<◌, ◌≤◌, Bool, true, false, Option, Some, None, List, [], ◌∷◌, ◌++◌, ◌^◌, length, set, refl, sym, ap, ◌∙◌, subst, arith, ◌⊎◌, inl, inr, ◌↔◌, get_or-set_same, get_or-set_other, replicate}
 use Rattle.std.specs.Prelude.{◌==◌, is_some}
 use Rattle.std.specs.Cmp.Lexicographic.{pointwise}
 use Rattle.std.specs.HashMap.{get, Updates}
 use Rattle.std.proofs.lemmas.Bool.{eq-eqb, eqb-true, and_parts, and_from, cases_eq, cases_lt}
-use Rattle.std.proofs.lemmas.List.{get_or_past, get_or-replicate, length-replicate, length-set}
+use Rattle.std.proofs.lemmas.List.{get_or_past, get_or-replicate, length-replicate, length-set, replicate-append-replicate}
 use Rattle.history_core.specs.declared.slots.Root.{Root}
 use Rattle.history_core.specs.declared.slots.Root.TheVariants.{App, Int, Nil, Cons}
 use Rattle.history_core.specs.declared.slots.Term.{Term}
@@ -190,6 +190,14 @@ kept_free names m none few = record {
   short = λ n t h. absurd (none_some (slot_at (replicate names None) n) t (none_in_free names n) h);
   few = omega (arith, length-replicate {A = Option Term} names None);
 }
+
+-- all names are free, and the map is empty
+pub kept_first : (slots : Slots) (names : ℕ) (m : Names) → slots ≡ replicate names None → m.entries ≡ [] → names < 2 ^ 32 → IsKept slots m
+kept_first slots names m free none few =
+    subst (λ (s : Slots). IsKept s m) (sym free) (kept_free names m (λ t. let e : get term_eq m t ≡ None = rw none refl in e) few)
+
+pub one_free_more : (slots : Slots) (names : ℕ) → slots ≡ replicate names None → slots ++ None ∷ [] ≡ replicate (names + 1) None
+one_free_more slots names free = ap (λ (s : Slots). s ++ None ∷ []) free ∙ replicate-append-replicate names 1 None
 
 pub kept_put : (slots : Slots) (m m' : Names) (n : ℕ) (t : Term) → IsKept slots m → n < length slots → slot_at slots n ≡ None
     → ((k : ℕ) → slot_at slots k ≡ Some t → ⊥) → length t.args < 2 ^ 32 → Updates term_eq m m' t (Some n) → IsKept (set slots n (Some t)) m'

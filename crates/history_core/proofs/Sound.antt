@@ -158,7 +158,7 @@ history_sound : (rows : ℕ) (s : TermSet) (l : History) → IsSound rows s → 
 history_sound rows s [] k legal = k
 history_sound rows s (y ∷ l) k legal = history_sound rows (after s y.0 y.1) l (step_sound rows s y.0 y.1 k legal.0) legal.1
 
-empty_sound : (rows : ℕ) → IsSound rows empty
+pub empty_sound : (rows : ℕ) → IsSound rows empty
 empty_sound rows = record {
   below = λ n t e. cc;
   one_name = λ n m t e f. cc;

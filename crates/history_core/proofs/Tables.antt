@@ -1,6 +1,6 @@
 -- What holds of the fields of a table, and what it answers to each kind of entry.
 use Rattle.std.proofs.Common.{◌≡◌, ℕ, ◌<◌, zero, suc, Bool, true, false, Option, Some, None, Result, Ok, Err, List, [], ◌∷◌, length, get_or, set, replicate, refl, sym, ap, ◌∙◌, subst, arith, ◌⊎◌, inl, inr, get_or-set_same, get_or-set_other}
-use Rattle.std.specs.Prelude.{Contains, ◌↔◌, is_some, IfOk, OnErr, IsTrue}
+use Rattle.std.specs.Prelude.{Contains, ◌↔◌, slice_index_or, is_some, IfOk, OnErr, IsTrue}
 use Rattle.std.proofs.lemmas.Bool.{cases_eq, and_parts}
 use Rattle.std.proofs.lemmas.List.{length-set, length-replicate}
 use Rattle.faults.specs.declared.Memory.{Memory}
@@ -8,10 +8,12 @@ use Rattle.term_model.specs.declared.Head.{Head}
 use Rattle.history_core.specs.Entry.{Make, Find, Collect, after}
 use Rattle.history_core.specs.declared.slots.Term.{Term}
 use Rattle.history_core.specs.Slots.{Slots, slot_at, args_of, term_of, are_taken, is_marked, kept_if}
+use Rattle.history_core.specs.TermSet.{empty}
 use Rattle.history_core.specs.Table.{Table, Shows, Decides, MayCreateIn, Makes, Collects, IsTable}
 use Rattle.history_core.proofs.Members.{contains_none, contains_cases}
 use Rattle.history_core.proofs.Marked.{in_joined, of_joined}
 use Rattle.history_core.proofs.SlotLemmas.{taken_below, none_in_free}
+use Rattle.history_core.proofs.Sound.{empty_sound}
 use Rattle.history_core.proofs.Stepping.{make_shows, make_needs, find_shows, collect_is_step, collect_shows}
 
 abbrev no_names : List ℕ
@@ -28,6 +30,19 @@ table_start rows callers = record {
   args = λ n m c. absurd (contains_none m (subst (λ (o : Option Term). Contains (args_of o) m) (none_in_free rows n) c));
   within = λ n c. let at = of_joined (replicate callers []) n c in absurd (contains_none n (subst (λ (ns : List ℕ). Contains ns n) (no_lists callers at.0) at.2));
 }
+
+-- a table without terms and roots has the empty set
+pub shows_empty : (t : Table) (rows callers : ℕ) → t.slots ≡ replicate rows None → t.roots ≡ replicate callers [] → Shows t empty
+shows_empty t rows callers free none = record {
+  sound = empty_sound (length t.slots);
+  free = λ n e. refl;
+  taken = λ n term e. absurd (let no : slot_at t.slots n ≡ None = ap (λ (s : Slots). slot_at s n) free ∙ none_in_free rows n in let both : None ≡ Some term = sym no ∙ e in cc);
+  roots = λ caller. sym (ap (λ (r : List (List ℕ)). slice_index_or r caller []) none ∙ no_lists callers caller);
+}
+
+pub table_size : (t : Table) (rows callers : ℕ) → t.slots ≡ replicate rows None → t.roots ≡ replicate callers [] → (length t.slots ≡ rows) × (length t.roots ≡ callers)
+table_size t rows callers free none =
+    (ap length free ∙ length-replicate {A = Option Term} rows None, ap length none ∙ length-replicate {A = List ℕ} callers [])
 
 pub taken_within : (slots : Slots) (ns : List ℕ) → are_taken slots ns ≡ true → (m : ℕ) → Contains ns m → m < length slots
 taken_within slots [] h m c = absurd (contains_none m c)

@@ -1,5 +1,5 @@
 -- The order of a log's entries is its chronicle.
-use Rattle.std.proofs.Common.{◌≡◌, ℕ, zero, suc, ◌+◌, ◌<◌, ◌≤◌, List, [], ◌∷◌, length, get_or, refl, sym, ap, ◌∙◌, subst, arith, ◌⊎◌, inl, inr}
+use Rattle.std.proofs.Common.{◌≡◌, ℕ, zero, suc, ◌+◌, ◌<◌, ◌≤◌, List, [], ◌∷◌, Result, Ok, length, get_or, refl, sym, ap, ◌∙◌, subst, arith, ◌⊎◌, inl, inr}
 use Rattle.std.specs.Prelude.{map, All}
 use Rattle.std.specs.List.{AllByRecursion}
 use Rattle.std.specs.List.Sorted.{IsPermutation}
@@ -13,7 +13,9 @@ use Rattle.history_core.proofs.Only.{chronicle_is_the_one}
 use Rattle.log_check.specs.declared.log.Noted.{Noted}
 use Rattle.log_check.specs.Log.{Log}
 use Rattle.log_check.specs.Filed.{IsFiled}
-use Rattle.log_check.specs.Verdict.{history, line_of, lists_from, lists_of, Rises, IsMerged, IsFirstFall, IsFirstNoStep}
+use Rattle.log_check.specs.declared.verdict.LogVerdict.{LogVerdict}
+use Rattle.log_check.specs.declared.verdict.LogVerdict.TheVariants.{Illegal}
+use Rattle.log_check.specs.Verdict.{history, line_of, lists_from, lists_of, Rises, IsMerged, IsFirstFall, IsFirstNoStep, IsVerdict, IsFound}
 use Rattle.log_check.proofs.Rising.{no_part}
 use Rattle.log_check.proofs.Ordering.{part_is, entry_of, line_count, history_count}
 
@@ -77,6 +79,14 @@ callers_below callers begun noted order l f p e =
     let each : AllByRecursion (λ x. x.caller < callers) noted = raised begun callers noted f.few f.each in
     subst (All (λ (y : ℕ × Entry). y.0 < callers)) (sym e)
     (callers_at callers order (each_by callers order (All-permutation (λ x. x.caller < callers) noted order p (all_at callers noted each))))
+
+-- ---- the verdict
+
+pub found_is : (r : Result Log ℕ) (log : Log) (v : LogVerdict) → r ≡ Ok log → IsVerdict log v → IsFound r v
+found_is r log v e h = subst (λ x. IsFound x v) (sym e) h
+
+pub fall_is : (r : Result Log ℕ) (log : Log) (noted : List Noted) (n : ℕ) → r ≡ Ok log → noted ≡ log.noted → IsFirstFall noted n → IsFound r (Illegal n)
+fall_is r log noted n e same fall = found_is r log (Illegal n) e (inl (subst (λ xs. IsFirstFall xs n) same fall))
 
 pub legal_is : (log : Log) (order : List Noted) (l : History) (n : ℕ) → IsFiled log.callers log.begun log.noted → Rises log.noted → IsMerged log.noted order
     → l ≡ history order → length order ≡ length log.noted → n ≡ length l → (n ≡ length l → IsLegal log.rows l) → IsGood log.rows (lists_of log) × (n ≡ length log.noted)

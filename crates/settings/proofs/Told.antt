@@ -1,14 +1,17 @@
 -- The command line that `clap` is told, argument by argument, and what a parse of it comes to.
-use Rattle.std.proofs.Common.{◌≡◌, ◌↔◌, ℕ, ◌<◌, ◌≤◌, String, true, false, List, [], ◌∷◌, map, length, drop, Option, Some, None, Result, Ok, Err, MatchResult, IfOk, refl, sym, ap, subst, ◌∙◌, arith, inl, inr, fold, drop_of_length-le}
+use Rattle.std.proofs.Common.{◌≡◌, ◌↔◌, ℕ, ◌+◌, ◌<◌, ◌≤◌, String, true, false, List, [], ◌∷◌, ◌++◌, map, suc, length, get_or, drop, codes, Option, Some, None, Result, Ok, Err, MatchResult, IfOk, refl, sym, ap, ap₂, subst, ◌∙◌, arith, inl, inr, fold, append-nil, append_assoc, drop_of_length-le}
+use Rattle.std.proofs.Math.Seq.{drop-cons}
 use Rattle.std.specs.Global.{Global}
 use Rattle.std.specs.List.{list_any}
-use Rattle.clap.specs.Walk.{Text}
-use Rattle.clap.specs.Simple.{App, HasMatchesOf, is_simple, matches_of, with_rule}
+use Rattle.clap.specs.Walk.{Rule, Text}
+use Rattle.clap.specs.Simple.{App, HasMatchesOf, app_of, app_of_fields, is_simple, matches_of, new_app, on_top, with_rule}
 use Rattle.clap.specs.Faults.{fault_of, is_free_app, is_simple_and_free}
 use Rattle.clap.specs.Simple.{built}
 use Rattle.clap.specs.Kinds.{FailsBy, IsAmong}
 use Rattle.clap.specs.Matches.{found_of}
 use Rattle.clap.specs.Values.{kind_of}
+use Rattle.clap.specs.declared.builder.command.Command.{Command as ClapCommand}
+use Rattle.clap.specs.declared.builder.command.Command.TheViews.{out-Command}
 use Rattle.clap.specs.declared.error.Error.{Error}
 use Rattle.clap.specs.declared.error.kind.ErrorKind.{ErrorKind}
 use Rattle.clap.specs.declared.error.kind.ErrorKind.TheVariants.{OutOfMemory}
@@ -65,6 +68,29 @@ parsed_err command words line r x k f p e same memory usage =
 -- the line that is left at the loop's end
 pub line_told : (line : App) (all : List OptionName) (i : ℕ) → length all ≤ i → fold with_rule line (map argument_of (drop i all)) ≡ app_with (map argument_of all) → line ≡ app_with (map argument_of all)
 line_told line all i past e = ap (λ l. fold with_rule line (map argument_of l)) (sym (drop_of_length-le all past)) ∙ e
+
+-- the line before any argument
+pub line_begun : (made bare line : ClapCommand) → app_of made ≡ new_app (codes "rec") → out-Command bare ≡ record (out-Command made) { no_binary_name = true }
+    → out-Command line ≡ record (out-Command bare) { disable_help_flag = true } → app_of line ≡ app_with []
+line_begun made bare line new unnamed helpless =
+    ap app_of_fields helpless
+    ∙ ap (on_top (λ s. record s { disable_help_flag = true })) (ap app_of_fields unnamed ∙ ap (on_top (λ s. record s { no_binary_name = true })) new)
+
+line_of : (before rules : List Rule) → fold with_rule (app_with before) rules ≡ app_with (before ++ rules)
+line_of before [] = ap app_with (sym (append-nil before))
+line_of before (r ∷ rules) = line_of (before ++ r ∷ []) rules ∙ ap app_with (append_assoc before (r ∷ []) rules)
+
+pub line_first : (line : App) (rules : List Rule) → line ≡ app_with [] → fold with_rule line rules ≡ app_with rules
+line_first line rules begun = ap (λ l. fold with_rule l rules) begun ∙ line_of [] rules
+
+-- the next argument
+pub line_next : (line next : App) (r : Rule) (all : List OptionName) (i : ℕ) (d : OptionName) (whole : App) → i < length all → r ≡ argument_of (get_or all i d) → next ≡ with_rule line r
+    → fold with_rule line (map argument_of (drop i all)) ≡ whole → fold with_rule next (map argument_of (drop (i + 1) all)) ≡ whole
+line_next line next r all i d whole below rule step left =
+    let cut : drop i all ≡ get_or all i d ∷ drop (suc i) all = drop-cons all i d below in
+    let one : suc i ≡ i + 1 = omega arith in
+    ap₂ (λ l k. fold with_rule l (map argument_of (drop k all))) (step ∙ ap (with_rule line) rule) (sym one)
+    ∙ ap (λ options. fold with_rule line (map argument_of options)) (sym cut) ∙ left
 
 -- ---- the words
 

@@ -1,5 +1,5 @@
 -- A pool as it is kept shows different symbols, and a look-up goes by the name's number.
-use Rattle.std.proofs.Common.{◌≡◌, ℕ, ◌<◌, Bool, true, ◌&&◌, List, [], ◌∷◌, length, get_or, slice_get, nat_eq, position, Option, Some, None, refl, sym, ap, subst, ◌∙◌, true≢false, arith}
+use Rattle.std.proofs.Common.{◌≡◌, ℕ, ◌<◌, Bool, true, ◌&&◌, List, [], ◌∷◌, length, get_or, slice_get, nat_eq, position, Option, Some, None, Result, Err, ◌↔◌, refl, sym, ap, subst, ◌∙◌, true≢false, arith}
 use Rattle.std.specs.Option.{option_map, option_map_or}
 use Rattle.std.specs.List.{IsDistinct}
 use Rattle.std.specs.Global.{Vec}
@@ -9,7 +9,9 @@ use Rattle.std.specs.Cmp.{first_so, second_so}
 use Rattle.std.proofs.lemmas.Bool.{eqb-true, eq-eqb}
 use Rattle.std.proofs.lemmas.List.{length-map}
 use Rattle.term_model.specs.declared.Symbol.{Symbol}
-use Rattle.symbol_pool.specs.Pool.{Named, named, name_at, arity_at, Holds, Lacks, IsPool}
+use Rattle.symbol_pool.specs.Pool.{Named, named, most_symbols, name_at, arity_at, Holds, Lacks, IsFullFor, IsPool}
+use Rattle.symbol_pool.specs.declared.fault.PoolFault.{PoolFault}
+use Rattle.symbol_pool.specs.declared.fault.PoolFault.TheVariants.{Full}
 use Rattle.symbol_pool.specs.Names.{name_of, same_name}
 use Rattle.symbol_pool.specs.Kept.{symbol_of, symbols_of, same_pair, AreKept}
 use Rattle.symbol_pool.proofs.Places.{distinct_once, none_at, some_at, within_place}
@@ -133,3 +135,17 @@ holds_at pool symbol name arity = by (slice_get pool symbol.0)
 
 pub same_bytes : (a b name : List ℕ) → pointwise nat_eq a b ≡ true → b ≡ name → a ≡ name
 same_bytes a b name e f = (bytes_decides a b).0 e ∙ f
+
+-- ---- whether a pool is full for a symbol
+
+pub shown_length : (names : List (Vec ℕ)) (pairs : List (ℕ × ℕ)) (pool : List Named) → symbols_of names pairs ≡ pool → length pool ≡ length pairs
+shown_length names pairs pool shows = sym (ap length shows) ∙ length-map pairs (symbol_of names)
+
+pub full_now : (r : Result Symbol PoolFault) (pool : List Named) (s : Named) → r ≡ Err Full → Lacks pool s → length pool ≡ most_symbols → (r ≡ Err Full) ↔ IsFullFor pool s
+full_now r pool s e lacks size = ((λ _. (lacks, size)), (λ _. e))
+
+pub not_full_held : (r : Result Symbol PoolFault) (pool : List Named) (s : Named) (x : Symbol) → (r ≡ Err Full → ⊥) → Holds pool x s → (r ≡ Err Full) ↔ IsFullFor pool s
+not_full_held r pool s x other holds = ((λ e. absurd (other e)), (λ full. absurd (full.0 x.0 holds)))
+
+pub not_full_room : (r : Result Symbol PoolFault) (pool : List Named) (s : Named) → (r ≡ Err Full → ⊥) → (length pool ≡ most_symbols → ⊥) → (r ≡ Err Full) ↔ IsFullFor pool s
+not_full_room r pool s other room = ((λ e. absurd (other e)), (λ full. absurd (room full.1)))

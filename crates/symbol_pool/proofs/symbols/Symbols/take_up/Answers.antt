@@ -1,6 +1,7 @@
-use Rattle.std.proofs.Common.{◌∙◌, ◌++◌, ◌∷◌, [], ap, sym, subst}
+use Rattle.std.proofs.Common.{◌∙◌, ◌++◌, ◌∷◌, [], Ok, Err, ap, refl, sym, subst, rules}
+use Rattle.symbol_pool.specs.declared.fault.PoolFault.TheVariants.{Full}
 use Rattle.symbol_pool.proofs.Places.{on_err}
-use Rattle.symbol_pool.proofs.Pools.{pool_of_kept}
+use Rattle.symbol_pool.proofs.Pools.{pool_of_kept, shown_length, full_now, not_full_held, not_full_room}
 use Rattle.symbol_pool.proofs.Grown.{same_symbols, with_name, stands_there, Interned, interned}
 use Rattle.symbol_pool.specs.Pool.{named, Lacks}
 use Rattle.symbol_pool.specs.Kept.{symbols_of, AreKept}
@@ -52,3 +53,32 @@ returns-clause-added c = λ _. (grown c).shows ∙ ap (λ pool. pool ++ named c.
 
 pub returns-clause-pool : goal.returns-clause-pool
 returns-clause-pool c = pool_of_kept _ _ (grown c).kept
+
+pub returns-in-Some-clause-full : goal.returns-in-Some-clause-full
+returns-in-Some-clause-full c = not_full_held (Ok c.in-Some.symbol) c.args.self.now (named c.args.name.now c.args.arity) c.in-Some.symbol (λ e. cc) c.in-Some.ensures.found
+
+pub returns-in-Some-clause-found : goal.returns-in-Some-clause-found
+returns-in-Some-clause-found c = λ has. refl
+
+pub returns-then-len-eq-MOST_SYMBOLS-clause-full : goal.returns-then-len-eq-MOST_SYMBOLS-clause-full
+returns-then-len-eq-MOST_SYMBOLS-clause-full c =
+    full_now (Err Full) c.args.self.now (named c.args.name.now c.args.arity) refl c.in_default.ensures.absent
+    (shown_length c.self.inside.names.keys c.self.inside.pairs.keys c.args.self.now c.self.view_is ∙ sym c.len.ensures.len ∙ c.if-len-eq-MOST_SYMBOLS.true)
+
+pub returns-in_err-name-clause-full : goal.returns-in_err-name-clause-full
+returns-in_err-name-clause-full c =
+    not_full_room c.from_residual.result c.args.self.now (named c.args.name.now c.args.arity) (search rules)
+    (λ e. c.if-len-eq-MOST_SYMBOLS.false (c.len.ensures.len ∙ sym (shown_length c.self.inside.names.keys c.self.inside.pairs.keys c.args.self.now c.self.view_is) ∙ e))
+
+pub returns-in_err-symbol-clause-full : goal.returns-in_err-symbol-clause-full
+returns-in_err-symbol-clause-full c =
+    not_full_room c.from_residual-in_err-symbol.result c.args.self.now (named c.args.name.now c.args.arity) (search rules)
+    (λ e. c.if-len-eq-MOST_SYMBOLS.false (c.len.ensures.len ∙ sym (shown_length c.self.inside.names.keys c.self.inside.pairs.keys c.args.self.now c.self.view_is) ∙ e))
+
+pub returns-clause-full : goal.returns-clause-full
+returns-clause-full c =
+    not_full_room (Ok (record { 0 = c.in_ok-symbol.symbol })) c.args.self.now (named c.args.name.now c.args.arity) (λ e. cc)
+    (λ e. c.if-len-eq-MOST_SYMBOLS.false (c.len.ensures.len ∙ sym (shown_length c.self.inside.names.keys c.self.inside.pairs.keys c.args.self.now c.self.view_is) ∙ e))
+
+pub returns-clause-found : goal.returns-clause-found
+returns-clause-found c = λ has. absurd (c.in_default.ensures.absent has.0 has.1)
