@@ -1,5 +1,5 @@
 -- The rule that an automaton finds, as the first one of all that matches.
-use Rattle.std.proofs.Common.{◌≡◌, ℕ, zero, suc, ◌+◌, ◌-◌, ◌<◌, ◌≤◌, List, [], ◌∷◌, length, map, get_or, Option, Some, None, Bool, true, false, refl, sym, ◌∙◌, ap, arith, inl, inr, subst}
+use Rattle.std.proofs.Common.{◌≡◌, ℕ, zero, suc, ◌+◌, ◌-◌, ◌<◌, ◌≤◌, List, length, map, get_or, Option, Some, None, refl, sym, ◌∙◌, ap, arith, inl, inr, subst}
 use Rattle.std.specs.Prelude.{All, IfSome, OnSome, unwrap_or, is_some, if◌then◌else◌}
 use Rattle.std.proofs.lemmas.Bool.{cases_Bool, cases_eq, both_ways}
 use Rattle.std.proofs.lemmas.Option.{same_Some}
@@ -16,7 +16,7 @@ use Rattle.rule_match.proofs.Skipping.{none_at}
 use Rattle.rule_automaton.specs.Shapes.{numbers, tests_at, variables_at, IsUnder}
 use Rattle.rule_automaton.specs.Automata.{Made, first_match, IsAutomaton}
 use Rattle.rule_automaton.specs.Rows.{rows_at}
-use Rattle.rule_automaton.specs.Running.{asked, first_asked, IsMatch, IsAnswer}
+use Rattle.rule_automaton.specs.Running.{asked, IsAnswer}
 use Rattle.rule_automaton.specs.declared.shapes.Test.{Test}
 use Rattle.innermost.specs.Tasks.{IsCandidateFor}
 use Rattle.innermost.proofs.Passing.{has_head_at}
