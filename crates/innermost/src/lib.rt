@@ -8,6 +8,7 @@ mod depths;
 mod evaluating;
 mod fitness;
 mod frames;
+mod going;
 mod instantiating;
 mod laws;
 mod machine;
