@@ -12,7 +12,7 @@ use std::collections::LinkedList;
 use term_model::{Head, Symbol};
 
 /// What a creation notes: a key, the name of its term, and its head over the names of its arguments.
-#[derive(Debug, PartialEq, Eq, Clone, Drop)]
+#[derive(Drop)]
 pub(crate) struct Creation {
     pub(crate) key: u64,
     pub(crate) row: u32,
@@ -21,14 +21,14 @@ pub(crate) struct Creation {
 }
 
 /// What a leave or a collection notes: a key and names.
-#[derive(Debug, PartialEq, Eq, Clone, Drop)]
+#[derive(Drop)]
 pub(crate) struct Listing {
     pub(crate) key: u64,
     pub(crate) names: LinkedList<u32>,
 }
 
 /// A line of a log.
-#[derive(Debug, PartialEq, Eq, Clone, Drop)]
+#[derive(Drop)]
 pub(crate) enum LogLine {
     /// The rows of the store, and the callers.
     Header { rows: u32, callers: u32 },

@@ -16,7 +16,7 @@ use std::alloc::Global;
 use std::marker::Model;
 
 /// An entry with its line in the log, counted from 1, and its caller.
-#[derive(Debug, PartialEq, Eq, Clone, Drop)]
+#[derive(Drop)]
 pub(crate) struct Noted {
     pub(crate) line: u64,
     pub(crate) caller: u32,
