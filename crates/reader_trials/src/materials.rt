@@ -1,6 +1,6 @@
 //! The materials of specifications.
 
-use rec_offences::material_of;
+use rec_includes::material_of;
 use rec_reader::{syntax, tokens};
 use std::alloc::Global;
 use std::test::Fail;

@@ -1,6 +1,6 @@
 //! The order in which specifications are checked.
 
-use rec_offences::{header_names, order};
+use rec_includes::{header_names, order};
 use rec_reader::{syntax, tokens};
 use std::test::Fail;
 

@@ -13,10 +13,10 @@ use Rattle.symbol_pool.proofs.Places.{slice_get-append}
 use Rattle.rec_reader.specs.declared.syntax_tree.Specification.{Specification}
 use Rattle.rec_reader.specs.Parsed.{Parsed}
 use Rattle.rec_reader.specs.Whole.{HasWholeTerms}
-use Rattle.rec_offences.specs.Material.{Header, symbols_by, specifications_at, included, headers_of, header_after, material_of}
+use Rattle.rec_includes.specs.Material.{Header, symbols_by, specifications_at, included, headers_of, header_after, material_of}
 use Rattle.rec_offences.specs.Faults.{offences_after, offences_from, offences_of}
-use Rattle.rec_offences.proofs.Inputs.{headers_more, headers_counted}
-use Rattle.rec_offences.proofs.Brought.{material_is}
+use Rattle.rec_includes.proofs.Inputs.{headers_more, headers_counted}
+use Rattle.rec_includes.proofs.Brought.{material_is}
 use Rattle.rec_check.specs.Rule.{◌>>=◌}
 use Rattle.rec_check.specs.Symbols.{named_in, with_symbols}
 use Rattle.rec_check.specs.Spelled.{Specified, rules_of, terms_in, with_few_rules, most_rules}

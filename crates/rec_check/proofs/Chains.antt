@@ -7,7 +7,7 @@ use Rattle.symbol_pool.specs.Pool.{Named}
 use Rattle.rec_reader.specs.declared.syntax_tree.Node.{Node}
 use Rattle.rec_reader.specs.declared.syntax_tree.Rule as written
 use Rattle.rec_reader.specs.declared.syntax_tree.Specification.{Specification}
-use Rattle.rec_offences.specs.Material.{material_of}
+use Rattle.rec_includes.specs.Material.{material_of}
 use Rattle.rec_check.specs.declared.stop.Stop.{Stop}
 use Rattle.rec_check.specs.Gives.{Gives}
 use Rattle.rec_reader.specs.Parsed.{Parsed}

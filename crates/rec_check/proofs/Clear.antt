@@ -13,7 +13,7 @@ use Rattle.rec_reader.specs.declared.syntax_tree.Node.{Node}
 use Rattle.rec_reader.specs.Parsed.{Parsed}
 use Rattle.rec_reader.specs.Tokens.{tokens_of}
 use Rattle.rec_reader.specs.Grammar.{IsInput}
-use Rattle.rec_offences.specs.Material.{Declared, declared, symbols_of_declaration, symbols_by, symbols_of, specifications_at, material_of}
+use Rattle.rec_includes.specs.Material.{Declared, declared, symbols_of_declaration, symbols_by, symbols_of, specifications_at, material_of}
 use Rattle.rec_check.specs.Symbols.{named_in, may_be_added, with_symbol, with_symbols}
 use Rattle.rec_check.specs.Rule.{◌>>=◌}
 use Rattle.rec_check.specs.Spelled.{Specified, nothing, rules_of, terms_in, with_few_rules, spelled_by}

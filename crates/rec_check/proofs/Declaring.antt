@@ -13,8 +13,8 @@ use Rattle.rec_reader.specs.declared.token.Name.{Name}
 use Rattle.rec_reader.specs.declared.syntax_tree.Node.{Node}
 use Rattle.rec_reader.specs.declared.syntax_tree.Declaration.{Declaration}
 use Rattle.rec_reader.specs.declared.syntax_tree.Specification.{Specification}
-use Rattle.rec_offences.specs.Names.{text_of}
-use Rattle.rec_offences.specs.Material.{Declared, declared, symbols_of_declaration, symbols_by, specifications_at}
+use Rattle.rec_includes.specs.Names.{text_of}
+use Rattle.rec_includes.specs.Material.{Declared, declared, symbols_of_declaration, symbols_by, specifications_at}
 use Rattle.rec_check.specs.Named.{with_name, with_names}
 use Rattle.rec_check.specs.Term.{same_symbol, most_arguments}
 use Rattle.rec_check.specs.Symbols.{named_in, may_be_added, with_symbol, with_symbols, widest_of}

@@ -14,8 +14,8 @@ use Rattle.rec_reader.specs.declared.syntax_tree.Node.{Node}
 use Rattle.rec_reader.specs.declared.syntax_tree.Rule.{Rule}
 use Rattle.rec_reader.specs.declared.syntax_tree.Specification.{Specification}
 use Rattle.rec_reader.specs.Whole.{IsWhole, IsWholeRule, HasWholeTerms}
-use Rattle.rec_offences.specs.Names.{text_of, is_among}
-use Rattle.rec_offences.specs.Material.{Declared, symbols_by, variables_by, symbols_of, rules_of, specifications_at, headers_of}
+use Rattle.rec_includes.specs.Names.{text_of, is_among}
+use Rattle.rec_includes.specs.Material.{Declared, symbols_by, variables_by, symbols_of, rules_of, specifications_at, headers_of}
 use Rattle.rec_offences.specs.Scope.{symbol_entry, variable_entry, own_entries, names_of, look_up, is_variable, heads, root, visits}
 use Rattle.rec_offences.specs.Offences.{includes_from, is_clashing, is_passing, is_long, names_in as all_names_in, repeated, first_past, most, terms_of, nodes_but_left, all_visits, unknown_name, wrong_count, unknown_names, wrong_counts, bare_variables, free_variables, not_ground}
 use Rattle.rec_check.specs.Rule.{variables_in}

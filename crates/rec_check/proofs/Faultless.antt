@@ -4,7 +4,7 @@ use Rattle.std.specs.Prelude.{if◌then◌else◌}
 use Rattle.rec_reader.specs.declared.token.Name.{Name}
 use Rattle.rec_reader.specs.declared.syntax_tree.Specification.{Specification}
 use Rattle.faults.specs.declared.refusal.Refusal.{Refusal}
-use Rattle.rec_offences.specs.Material.{Header, headers_of, included, sorts_of}
+use Rattle.rec_includes.specs.Material.{Header, headers_of, included, sorts_of}
 use Rattle.rec_offences.specs.Scope.{Entry, own_entries, names_of}
 use Rattle.rec_offences.specs.Offences.{includes_from, unknown_names, repeated_names, wrong_counts, bare_variables, free_variables, not_ground, unknown_sorts, unknown_includes, past_limits, sort_clashes}
 use Rattle.rec_offences.specs.Faults.{of_kind, included_entries, offences_over, offences_after, goes_before, least_with}

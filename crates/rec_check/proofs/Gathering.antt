@@ -7,8 +7,8 @@ use Rattle.symbol_pool.specs.Pool.{Named}
 use Rattle.rec_reader.specs.declared.token.Name.{Name}
 use Rattle.rec_reader.specs.declared.syntax_tree.Variables.{Variables}
 use Rattle.rec_reader.specs.declared.syntax_tree.Specification.{Specification}
-use Rattle.rec_offences.specs.Names.{text_of}
-use Rattle.rec_offences.specs.Material.{variable}
+use Rattle.rec_includes.specs.Names.{text_of}
+use Rattle.rec_includes.specs.Material.{variable}
 use Rattle.rec_reader.specs.declared.syntax_tree.Rule as written_rule
 use Rattle.rec_check.specs.declared.stop.Stop.{Stop}
 use Rattle.rec_check.specs.Gives.{Gives, after}

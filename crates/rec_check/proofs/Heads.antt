@@ -11,7 +11,7 @@ use Rattle.term_model.specs.declared.Item.TheVariants.{Var, App}
 use Rattle.symbol_pool.specs.Pool.{Named, named}
 use Rattle.rec_reader.specs.declared.syntax_tree.Node.{Node}
 use Rattle.rule_match.specs.Planned.{is_plain, is_item_below}
-use Rattle.rec_offences.specs.Names.{text_of}
+use Rattle.rec_includes.specs.Names.{text_of}
 use Rattle.rec_check.specs.Symbols.{widest_of}
 use Rattle.rec_check.specs.Term.{Scope, all_of, item_in, item_by, symbol_item, variable_item, same_symbol, most_arguments}
 use Rattle.rec_check.proofs.Found.{same_from}

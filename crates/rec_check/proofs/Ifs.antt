@@ -7,7 +7,7 @@ use Rattle.std.proofs.lemmas.Grind.{flat_map-append}
 use Rattle.rec_reader.specs.Parsed.{Parsed}
 use Rattle.rec_reader.specs.declared.syntax_tree.Rule.{Rule}
 use Rattle.rec_reader.specs.declared.syntax_tree.Specification.{Specification}
-use Rattle.rec_offences.specs.Material.{rules_of, specifications_at, material_of}
+use Rattle.rec_includes.specs.Material.{rules_of, specifications_at, material_of}
 use Rattle.rec_check.specs.Conditional.{ifs_of, lesser, least_with, first_if}
 
 least_with-append : (found : Option ℕ) (xs ys : List ℕ) → least_with found (xs ++ ys) ≡ least_with (least_with found xs) ys

@@ -17,8 +17,8 @@ use Rattle.rec_reader.specs.declared.syntax_tree.Node.{Node}
 use Rattle.rec_reader.specs.declared.syntax_tree.Declaration.{Declaration}
 use Rattle.rec_reader.specs.declared.syntax_tree.Specification.{Specification}
 use Rattle.rec_reader.specs.Whole.{IsWhole}
-use Rattle.rec_offences.specs.Names.{text_of, same_text, is_among}
-use Rattle.rec_offences.specs.Material.{Declared, declared, symbols_of_declaration}
+use Rattle.rec_includes.specs.Names.{text_of, same_text, is_among}
+use Rattle.rec_includes.specs.Material.{Declared, declared, symbols_of_declaration}
 use Rattle.rec_offences.specs.Scope.{is_variable, heads}
 use Rattle.rec_offences.specs.Offences.{first_past, most}
 use Rattle.rec_check.specs.Term.{same_symbol, most_arguments, item_by, variable_item}

@@ -17,7 +17,7 @@ use Rattle.rec_reader.specs.Tokens.{is_plain, is_name_byte, begins, tokens_of}
 use Rattle.rec_reader.specs.Cut.{Part, IsPart, joined, tokens_in, AreParts, IsCut}
 use Rattle.rec_reader.specs.Grammar.{Any, none, next, Maybe, without, with, Section, absent, present, Listed, last, beside, with_comma, IsName, named as name_read, IsNames, IsDeclaration, declaration, IsVariables, variables, IsTerm, constant, call, IsArguments, only, more, IsTerms, IsCondition, condition, IsConditions, one, and, IsRule, plain, conditional, IsSpecification, specification, IsInput, input}
 use Rattle.rec_reader.proofs.Cutting.{tokens_are_cut}
-use Rattle.rec_offences.specs.Names.{text_of}
+use Rattle.rec_includes.specs.Names.{text_of}
 
 -- ---- bytes above the space
 

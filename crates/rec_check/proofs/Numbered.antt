@@ -12,7 +12,7 @@ use Rattle.term_model.specs.declared.Item.TheVariants.{Var}
 use Rattle.symbol_pool.specs.Pool.{Named}
 use Rattle.rec_reader.specs.declared.syntax_tree.Node.{Node}
 use Rattle.rule_match.proofs.Numbering.{count_in, count_with}
-use Rattle.rec_offences.specs.Names.{text_of}
+use Rattle.rec_includes.specs.Names.{text_of}
 use Rattle.rec_check.specs.Named.{with_name, with_names}
 use Rattle.rec_check.specs.Term.{Scope, all_of, item_in}
 use Rattle.rec_check.specs.Rule.{variables_in}

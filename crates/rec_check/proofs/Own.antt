@@ -11,8 +11,8 @@ use Rattle.symbol_pool.specs.Pool.{named}
 use Rattle.rec_reader.specs.declared.token.Name.{Name}
 use Rattle.rec_reader.specs.declared.syntax_tree.Node.{Node}
 use Rattle.rec_reader.specs.declared.syntax_tree.Specification.{Specification}
-use Rattle.rec_offences.specs.Names.{text_of, same_text, is_among}
-use Rattle.rec_offences.specs.Material.{Declared, Variable, variables_by}
+use Rattle.rec_includes.specs.Names.{text_of, same_text, is_among}
+use Rattle.rec_includes.specs.Material.{Declared, Variable, variables_by}
 use Rattle.rec_offences.specs.Scope.{Entry, symbol_entry, variable_entry, names_of, look_up, is_variable, visits}
 use Rattle.rec_offences.specs.Offences.{repeated}
 use Rattle.rec_check.specs.Term.{same_symbol}

@@ -20,8 +20,8 @@ use Rattle.rec_reader.specs.declared.syntax_tree.Condition as written_condition
 use Rattle.rec_reader.specs.declared.syntax_tree.Specification.{Specification}
 use Rattle.std.specs.Str.{bytes_eq}
 use Rattle.rec_reader.specs.Parsed.{Parsed}
-use Rattle.rec_offences.specs.Names.{text_of}
-use Rattle.rec_offences.specs.Material.{symbols_of, specifications_at, material_of}
+use Rattle.rec_includes.specs.Names.{text_of}
+use Rattle.rec_includes.specs.Material.{symbols_of, specifications_at, material_of}
 use Rattle.rec_check.specs.Symbols.{named_in, with_symbols, widest_of}
 use Rattle.rec_check.specs.Run.{MayBeRun, last_of, spelled_with, spelled_in}
 use Rattle.rec_check.specs.Term.{Scope, all_of, item_in, tree_in}

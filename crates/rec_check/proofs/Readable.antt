@@ -19,7 +19,7 @@ use Rattle.rec_reader.specs.declared.syntax_tree.Rule as written
 use Rattle.rec_reader.specs.declared.syntax_tree.Condition as condition
 use Rattle.rec_reader.specs.declared.syntax_tree.Specification.{Specification}
 use Rattle.rec_reader.specs.Whole.{IsWhole}
-use Rattle.rec_offences.specs.Names.{text_of}
+use Rattle.rec_includes.specs.Names.{text_of}
 use Rattle.rec_check.specs.Term.{Scope, all_of, item_in, item_by, symbol_item, variable_item, tree_in, same_symbol, most_arguments}
 use Rattle.rec_check.specs.Rule.{◌>>=◌, condition_in, rule_in, variables_in}
 use Rattle.rec_check.specs.Spelled.{variables_of, rules_in, rules_of, terms_in}

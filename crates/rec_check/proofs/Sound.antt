@@ -12,8 +12,8 @@ use Rattle.std.proofs.lemmas.Grind.{flat_map-append}
 use Rattle.symbol_pool.specs.Pool.{Named}
 use Rattle.rec_reader.specs.declared.token.Name.{Name}
 use Rattle.rec_reader.specs.declared.syntax_tree.Specification.{Specification}
-use Rattle.rec_offences.specs.Names.{is_among, same_text}
-use Rattle.rec_offences.specs.Material.{Header, brought, fresh, with_numbers, symbols_by, symbols_of, rules_of, specifications_at}
+use Rattle.rec_includes.specs.Names.{is_among, same_text}
+use Rattle.rec_includes.specs.Material.{Header, brought, fresh, with_numbers, symbols_by, symbols_of, rules_of, specifications_at}
 use Rattle.rec_offences.specs.Offences.{Include, includes_from, symbol_names, is_clashing, is_passing, passes, repeated, most}
 use Rattle.rec_check.specs.Term.{same_symbol}
 use Rattle.rec_check.specs.Symbols.{named_in}

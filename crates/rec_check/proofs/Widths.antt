@@ -7,7 +7,7 @@ use Rattle.symbol_pool.specs.Pool.{Named, most_symbols}
 use Rattle.rec_reader.specs.declared.syntax_tree.Node.{Node}
 use Rattle.rec_reader.specs.declared.syntax_tree.Specification.{Specification}
 use Rattle.rec_reader.specs.Parsed.{Parsed}
-use Rattle.rec_offences.specs.Material.{symbols_of, material_of, specifications_at}
+use Rattle.rec_includes.specs.Material.{symbols_of, material_of, specifications_at}
 use Rattle.rec_check.specs.Term.{same_symbol, most_arguments}
 use Rattle.rec_check.specs.Symbols.{named_in, with_symbol, with_symbols, widest_of}
 use Rattle.rec_check.specs.Rule.{◌>>=◌}

@@ -14,7 +14,7 @@ use Rattle.rec_reader.specs.declared.syntax_tree.Rule as written
 use Rattle.rec_reader.specs.declared.syntax_tree.Specification.{Specification}
 use Rattle.rec_reader.specs.Parsed.{Parsed}
 use Rattle.rec_reader.specs.Grammar.{Any, none, next, Section, absent, present, IsRule, plain, conditional, IsSpecification, specification, IsInput, input}
-use Rattle.rec_offences.specs.Material.{material_of, specifications_at, symbols_of, rules_of}
+use Rattle.rec_includes.specs.Material.{material_of, specifications_at, symbols_of, rules_of}
 use Rattle.rec_check.specs.Conditional.{ifs_of, least_with, first_if}
 use Rattle.rec_check.specs.Rule.{◌>>=◌, condition_in, rule_in}
 use Rattle.rec_check.specs.Term.{all_of}

@@ -6,7 +6,7 @@ use Rattle.rec_reader.specs.Parsed.{Parsed}
 use Rattle.rec_reader.specs.declared.syntax_tree.Rule.{Rule}
 use Rattle.rec_reader.specs.declared.fail.ReadFail.{ReadFail}
 use Rattle.rec_reader.specs.declared.fail.ReadFail.TheVariants.{Refused, Memory}
-use Rattle.rec_offences.specs.Material.{material_of, rules_of}
+use Rattle.rec_includes.specs.Material.{material_of, rules_of}
 
 -- the rules that are run: those of the material of the last specification, included ones first and its own last;
 -- none where there are no specifications

@@ -9,7 +9,7 @@ use Rattle.rec_reader.specs.declared.syntax_tree.Node.{Node}
 use Rattle.rec_reader.specs.declared.syntax_tree.Rule as written
 use Rattle.rec_reader.specs.declared.syntax_tree.Condition as written_condition
 use Rattle.rec_check.specs.Named.{with_names}
-use Rattle.rec_offences.specs.Names.{text_of}
+use Rattle.rec_includes.specs.Names.{text_of}
 use Rattle.rec_check.specs.Term.{Scope, all_of, tree_in}
 
 infixl 10 ◌>>=◌

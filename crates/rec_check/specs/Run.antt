@@ -4,7 +4,7 @@ use Rattle.term_model.specs.Tree.{IsGround}
 use Rattle.rule_match.specs.Planned.{IsPlan, IsPlain, planned}
 use Rattle.rec_reader.specs.Parsed.{Parsed}
 use Rattle.rec_reader.specs.declared.syntax_tree.Specification.{Specification}
-use Rattle.rec_offences.specs.Material.{material_of}
+use Rattle.rec_includes.specs.Material.{material_of}
 use Rattle.rec_check.specs.Symbols.{widest_of}
 use Rattle.rec_check.specs.Spelled.{Specified, nothing, spelled_by}
 

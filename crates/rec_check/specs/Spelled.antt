@@ -5,8 +5,8 @@ use Rattle.rewrite_model.specs.Rule.{Rule}
 use Rattle.symbol_pool.specs.Pool.{Named}
 use Rattle.rec_reader.specs.declared.syntax_tree.Node.{Node}
 use Rattle.rec_reader.specs.declared.syntax_tree.Specification.{Specification}
-use Rattle.rec_offences.specs.Names.{text_of}
-use Rattle.rec_offences.specs.Material.{variables_by, symbols_of, specifications_at}
+use Rattle.rec_includes.specs.Names.{text_of}
+use Rattle.rec_includes.specs.Material.{variables_by, symbols_of, specifications_at}
 use Rattle.rec_check.specs.Named.{with_names}
 use Rattle.rec_check.specs.Symbols.{named_in, with_symbols}
 use Rattle.rec_check.specs.Term.{all_of, tree_in}

@@ -2,8 +2,8 @@
 use Rattle.std.specs.Prelude.{ℕ, List, [], ◌∷◌, ◌++◌, length, map, max, Bool, not, ◌&&◌, nat_le, nat_lt, Option, Some, None, option_and_then, if◌then◌else◌}
 use Rattle.std.specs.List.{list_any}
 use Rattle.symbol_pool.specs.Pool.{Named, named, most_symbols}
-use Rattle.rec_offences.specs.Names.{text_of}
-use Rattle.rec_offences.specs.Material.{Declared}
+use Rattle.rec_includes.specs.Names.{text_of}
+use Rattle.rec_includes.specs.Material.{Declared}
 use Rattle.rec_check.specs.Term.{same_symbol, most_arguments}
 
 -- declared symbols, each by its name and its number of arguments

@@ -8,7 +8,7 @@ use Rattle.term_model.specs.declared.Item.{Item}
 use Rattle.term_model.specs.declared.Item.TheVariants.{Var, App}
 use Rattle.symbol_pool.specs.Pool.{Named, named}
 use Rattle.rec_reader.specs.declared.syntax_tree.Node.{Node}
-use Rattle.rec_offences.specs.Names.{text_of}
+use Rattle.rec_includes.specs.Names.{text_of}
 
 -- what each of a list spells, in order; nothing where one of them spells nothing
 abbrev pub all_of : {X Y : Type 0} → (X → Option Y) → List X → Option (List Y)

@@ -2,7 +2,7 @@
 
 ghost use Rattle.std.specs.Prelude.{◌≡◌, None, IfErr, OnOk};
 ghost use Rattle.std.specs.Option.{option_to_list};
-ghost use Rattle.rec_offences.specs.Material.{rules_of};
+ghost use Rattle.rec_includes.specs.Material.{rules_of};
 ghost use Rattle.rec_check.specs.Conditional.{IsConditional, first_if, ifs_of, least_with};
 
 use crate::last::last_material;

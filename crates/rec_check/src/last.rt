@@ -3,7 +3,7 @@
 ghost use Rattle.std.specs.Prelude.{◌≡◌, ◌-◌, All, IfOk, length};
 ghost use Rattle.std.specs.Option.{option_copied};
 ghost use Rattle.rec_reader.specs.Whole.{HasWholeTerms};
-ghost use Rattle.rec_offences.specs.Material.{material_of};
+ghost use Rattle.rec_includes.specs.Material.{material_of};
 ghost use Rattle.rec_check.specs.Gives.{Gives};
 ghost use Rattle.rec_check.specs.Run.{last_of, spelled_in};
 ghost use Rattle.rec_check.specs.Spec.{specified};
@@ -12,7 +12,7 @@ ghost use Rattle.rec_check.specs.Symbols.{widest_of};
 use crate::spec::{Spec, spell};
 use crate::stop::Stop;
 use faults::Memory;
-use rec_offences::material_of;
+use rec_includes::material_of;
 use rec_reader::{Specification, Syntax};
 use std::alloc::Global;
 

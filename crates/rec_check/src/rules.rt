@@ -8,10 +8,11 @@ ghost use Rattle.rec_check.specs.Term.{all_of};
 ghost use Rattle.rec_check.specs.Rule.{condition_in, rule_in, sides_in, variables_in};
 
 use crate::names::Names;
-use crate::scope::{Scope, text_of};
+use crate::scope::Scope;
 use crate::stop::Stop;
 use crate::terms::tree_of;
 use faults::Memory;
+use rec_includes::text_of;
 use rec_reader::{Condition as Written, Node, Rule as WrittenRule};
 use rewrite_model::{Condition, Rule};
 use std::alloc::Global;

@@ -1,25 +1,16 @@
 //! What the heads of a term stand for.
 
 ghost use Rattle.std.specs.Prelude.{◌≡◌, ◌<◌, ◌^◌, length};
-ghost use Rattle.rec_offences.specs.Names.{text_of};
 ghost use Rattle.rec_check.specs.Term.{variable_item, symbol_item};
 
 use crate::names::Names;
-use rec_reader::{Name, Node};
+use rec_includes::text_of;
+use rec_reader::Node;
 use symbol_pool::Symbols;
 use term_model::Item;
 
 /// The most arguments that a symbol has.
 pub(crate) const MOST_ARGUMENTS: usize = 16;
-
-/// The bytes of a name.
-pub(crate) fn text_of(text: &[u8], name: Name) -> &[u8]
-    ensures { result.now ≡ text_of text.now name }
-{
-    let end = name.end.min(text.len());
-    let start = name.start.min(end);
-    &text[start..end]
-}
 
 /// The names that a term is read with: those of the variables, which are fewer than 2^32, and the symbols.
 #[derive(Drop)]

@@ -3,8 +3,9 @@
 ghost use Rattle.std.specs.Prelude.{◌≡◌};
 ghost use Rattle.rec_check.specs.Symbols.{widest_of};
 
-use crate::scope::{MOST_ARGUMENTS, text_of};
+use crate::scope::MOST_ARGUMENTS;
 use crate::stop::Stop;
+use rec_includes::text_of;
 use rec_reader::{Declaration, Name};
 use std::alloc::Global;
 use symbol_pool::{PoolFault, Symbols};
@@ -20,8 +21,8 @@ pub(crate) struct Table {
 impl Table {
     ghost use Rattle.std.specs.Prelude.{[], map};
     ghost use Rattle.std.specs.List.{flat_map};
-    ghost use Rattle.rec_offences.specs.Names.{text_of};
-    ghost use Rattle.rec_offences.specs.Material.{symbols_of_declaration};
+    ghost use Rattle.rec_includes.specs.Names.{text_of};
+    ghost use Rattle.rec_includes.specs.Material.{symbols_of_declaration};
     ghost use Rattle.symbol_pool.specs.Pool.{named};
     ghost use Rattle.rec_check.specs.Gives.{Gives};
     ghost use Rattle.rec_check.specs.Symbols.{with_symbol, with_symbols, named_in};

@@ -6,19 +6,19 @@ use Rattle.std.specs.Option.{option_map, option_or, is_some}
 use Rattle.std.proofs.Math.Seq.{take-length}
 use Rattle.rec_reader.specs.declared.token.Name.{Name}
 use Rattle.rec_reader.specs.declared.syntax_tree.Specification.{Specification}
-use Rattle.rec_offences.specs.Names.{is_among}
-use Rattle.rec_offences.specs.Material.{brought, fresh, with_numbers, headers_of, included, material_of, symbols_of, rules_of}
-use Rattle.rec_offences.specs.Numbered.{header_names, target, first_target}
+use Rattle.rec_includes.specs.Names.{is_among}
+use Rattle.rec_includes.specs.Material.{brought, fresh, with_numbers, headers_of, included, material_of, symbols_of, rules_of}
+use Rattle.rec_includes.specs.Numbered.{header_names, target, first_target}
 use Rattle.rec_offences.specs.Offences.{most, passes, symbol_names, include, includes_from}
 use Rattle.rec_offences.specs.Inclusion.{IsInclusion, IsPastLevel, IsFront, AreLevels, last_material, last_number}
 use Rattle.rec_offences.specs.Grouped.{verdict_of}
 use Rattle.rec_offences.specs.declared.entries.Verdict.{Verdict}
 use Rattle.rec_offences.specs.declared.inclusion.Inclusion.{Inclusion}
 use Rattle.rec_offences.specs.declared.inclusion.Level.{Level}
-use Rattle.rec_offences.proofs.Brought.{brings_nothing, brings_material}
-use Rattle.rec_offences.proofs.Fresh.{no_numbers}
+use Rattle.rec_includes.proofs.Brought.{brings_nothing, brings_material}
+use Rattle.rec_includes.proofs.Fresh.{no_numbers}
 use Rattle.rec_offences.proofs.Levels.{front_cut, last_is, whole_of}
-use Rattle.rec_offences.proofs.Materials.{gathered, material_once}
+use Rattle.rec_includes.proofs.Materials.{gathered, material_once}
 
 -- ---- what is wrong at an entry that brings nothing
 pub none_among : (bytes : List ℕ) (ns : List Name) → list_any (is_among bytes []) ns ≡ false

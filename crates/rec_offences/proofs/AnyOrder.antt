@@ -8,7 +8,7 @@ use Rattle.rec_reader.specs.declared.syntax_tree.Specification.{Specification}
 use Rattle.rec_reader.specs.Parsed.{Parsed}
 use Rattle.faults.specs.declared.refusal.Refusal.{Refusal}
 use Rattle.rec_offences.specs.Faults.{least_with, offences_after, offences_from, fault_of}
-use Rattle.rec_offences.specs.Numbered.{offences_at}
+use Rattle.rec_offences.specs.Grouped.{offences_at}
 use Rattle.rec_offences.proofs.Leasts.{in_none, of_all, none_of_all}
 use Rattle.rec_offences.proofs.Orders.{only_same}
 

@@ -4,13 +4,13 @@ use Rattle.std.specs.List.{flat_map, list_any}
 use Rattle.std.specs.Option.{option_to_list}
 use Rattle.rec_reader.specs.declared.token.Name.{Name}
 use Rattle.rec_reader.specs.declared.syntax_tree.Specification.{Specification}
-use Rattle.rec_offences.specs.Names.{is_among}
-use Rattle.rec_offences.specs.Material.{brought, fresh, with_numbers, headers_of, specifications_at, symbols_by}
+use Rattle.rec_includes.specs.Names.{is_among}
+use Rattle.rec_includes.specs.Material.{brought, fresh, with_numbers, headers_of, specifications_at, symbols_by}
 use Rattle.rec_offences.specs.Offences.{Include, passes, include, includes_from}
 use Rattle.rec_offences.specs.Grouped.{verdict_of}
 use Rattle.rec_offences.specs.declared.entries.Verdict.{Verdict}
-use Rattle.rec_offences.proofs.Fresh.{has, has_append, has_first, or_true}
-use Rattle.rec_offences.proofs.Materials.{Below, below_append, below_with, brings_below}
+use Rattle.rec_includes.proofs.Fresh.{has, has_append, has_first, or_true}
+use Rattle.rec_includes.proofs.Materials.{Below, below_append, below_with, brings_below}
 
 get_early : {A : Type 0} (xs : List A) (n m : ℕ) → m < n → slice_get (take n xs) m ≡ slice_get xs m
 get_early [] zero m l = refl

@@ -4,20 +4,21 @@ use Rattle.std.proofs.lemmas.List.{length-map}
 use Rattle.indexmap.specs.IndexSet.{insert_key}
 use Rattle.std.specs.Prelude.{nat_eq}
 use Rattle.rec_reader.specs.declared.syntax_tree.Specification.{Specification}
-use Rattle.rec_offences.specs.Material.{included, headers_of, material_of, symbols_by, symbols_of, sorts_of, rules_of, variables_by}
+use Rattle.rec_includes.specs.Material.{included, headers_of, material_of, symbols_by, symbols_of, sorts_of, rules_of, variables_by}
 use Rattle.rec_offences.specs.Scope.{symbol_entry, variable_entry}
 use Rattle.rec_offences.specs.Faults.{included_entries}
-use Rattle.rec_offences.specs.Listing.{known, listing}
-use Rattle.rec_offences.specs.Numbered.{IsClosed}
+use Rattle.rec_includes.specs.Listing.{listing}
+use Rattle.rec_offences.specs.Known.{known}
+use Rattle.rec_includes.specs.Numbered.{IsClosed}
 use Rattle.rec_offences.specs.Inclusion.{counted, extent_of, IsFront, IsAtLevel, IsDeclared, AreLevels, last_material}
 use Rattle.rec_offences.specs.declared.inclusion.Inclusion.{Inclusion}
 use Rattle.rec_offences.specs.declared.inclusion.Level.{Level}
-use Rattle.rec_offences.proofs.Brought.{material_is}
-use Rattle.rec_offences.proofs.Closed.{closed_material}
-use Rattle.rec_offences.proofs.Gathered.{at_one}
+use Rattle.rec_includes.proofs.Brought.{material_is}
+use Rattle.rec_includes.proofs.Closed.{closed_material}
+use Rattle.rec_includes.proofs.Gathered.{at_one}
 use Rattle.rec_offences.proofs.Including.{at_append, entries_append, rules_more}
 use Rattle.rec_offences.proofs.Levels.{front_cut, last_pushed, levels_pushed, whole_of}
-use Rattle.rec_offences.proofs.Materials.{included_below, number_new}
+use Rattle.rec_includes.proofs.Materials.{included_below, number_new}
 
 module _ (bytes : List ℕ) (specifications : List Specification) (number count : ℕ) (s : Specification) (i j : Inclusion) (d : IsDeclared bytes specifications number s count i) where
   there : Some s ≡ slice_get specifications number

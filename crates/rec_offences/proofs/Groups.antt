@@ -5,8 +5,8 @@ use Rattle.std.specs.Option.{option_to_list, option_and_then}
 use Rattle.rec_reader.specs.declared.token.Name.{Name}
 use Rattle.rec_reader.specs.declared.syntax_tree.Specification.{Specification}
 use Rattle.rec_offences.specs.declared.entries.Verdict.{Verdict}
-use Rattle.rec_offences.specs.Names.{is_among}
-use Rattle.rec_offences.specs.Material.{Header, symbols_by, symbols_of, sorts_of, rules_of}
+use Rattle.rec_includes.specs.Names.{is_among}
+use Rattle.rec_includes.specs.Material.{Header, symbols_by, symbols_of, sorts_of, rules_of}
 use Rattle.rec_offences.specs.Scope.{Entry, symbol_entry, own_entries, names_of, root}
 use Rattle.rec_offences.specs.Offences.{includes_from, unknown_sorts, repeated, bare_variables, free_variables, not_ground, is_long, names_in, first_past, past_limits, unknown_names, wrong_counts, sort_clashes}
 use Rattle.rec_offences.specs.Faults.{of_kind, included_entries, offences_declared, offences_used}

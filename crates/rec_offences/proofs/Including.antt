@@ -7,12 +7,13 @@ use Rattle.std.proofs.lemmas.Bool.{le-leb, lt-leb}
 use Rattle.std.proofs.lemmas.Bool.Decides.{leb_tells}
 use Rattle.rec_reader.specs.declared.token.Name.{Name}
 use Rattle.rec_reader.specs.declared.syntax_tree.Specification.{Specification}
-use Rattle.rec_offences.specs.Names.{is_among}
-use Rattle.rec_offences.specs.Material.{Declared, specifications_at, symbols_by, symbols_of, sorts_of, rules_of}
+use Rattle.rec_includes.specs.Names.{is_among}
+use Rattle.rec_includes.specs.Material.{Declared, specifications_at, symbols_by, symbols_of, sorts_of, rules_of}
 use Rattle.rec_offences.specs.Scope.{Entry, symbol_entry, names_of}
 use Rattle.rec_offences.specs.Offences.{most, passes, symbol_names}
 use Rattle.rec_offences.specs.Faults.{included_entries}
-use Rattle.rec_offences.specs.Listing.{Listing, listing, Known, known}
+use Rattle.rec_includes.specs.Listing.{Listing, listing}
+use Rattle.rec_offences.specs.Known.{Known, known}
 use Rattle.rec_offences.specs.Inclusion.{counted}
 
 pub at_append : {A : Type 0} (f : Specification → List A) (earlier : List Specification) (ms ns : List ℕ) →

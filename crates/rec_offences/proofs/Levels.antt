@@ -4,16 +4,17 @@ use Rattle.std.specs.Option.{option_map, option_to_list}
 use Rattle.std.proofs.lemmas.List.{length-map, map-append, reverse-append, take-append-drop}
 use Rattle.std.proofs.Math.Seq.{take-append_seam, take-length}
 use Rattle.rec_reader.specs.declared.syntax_tree.Specification.{Specification}
-use Rattle.rec_offences.specs.Material.{material_of, symbols_of, sorts_of}
+use Rattle.rec_includes.specs.Material.{material_of, symbols_of, sorts_of}
 use Rattle.rec_offences.specs.Faults.{included_entries}
 use Rattle.rec_offences.specs.Scope.{symbol_entry}
-use Rattle.rec_offences.specs.Listing.{Known, known, Listing, listing}
+use Rattle.rec_includes.specs.Listing.{Listing, listing}
+use Rattle.rec_offences.specs.Known.{Known, known}
 use Rattle.rec_offences.specs.Inclusion.{extent_of, IsFront, IsOn, AreLevels, last_material, last_number, path_of}
 use Rattle.rec_offences.specs.declared.inclusion.Level.{Level}
-use Rattle.rec_offences.specs.Numbered.{IsClosed}
+use Rattle.rec_includes.specs.Numbered.{IsClosed}
 use Rattle.rec_offences.proofs.Including.{at_append, entries_append}
-use Rattle.rec_offences.proofs.Closed.{closed_material}
-use Rattle.rec_offences.specs.Forest.{cut}
+use Rattle.rec_includes.proofs.Closed.{closed_material}
+use Rattle.rec_includes.specs.Forest.{cut}
 
 -- ---- a front of a list
 -- what is cut back to as much as a front has is the front

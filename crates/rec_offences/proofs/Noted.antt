@@ -8,7 +8,7 @@ use Rattle.rec_offences.specs.declared.terms.Argument.{Argument}
 use Rattle.rec_offences.specs.Scope.{heads}
 use Rattle.rec_offences.specs.Faults.{lesser, least_with, of_kind, offence_at}
 use Rattle.rec_offences.specs.Walked.{clashing_sorts}
-use Rattle.rec_offences.proofs.Gathered.{drop_all}
+use Rattle.rec_includes.proofs.Gathered.{drop_all}
 
 pub least_append : (found : Option Refusal) (xs ys : List Refusal) → least_with found (xs ++ ys) ≡ least_with (least_with found xs) ys
 least_append found [] ys = refl

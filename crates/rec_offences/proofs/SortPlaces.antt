@@ -6,10 +6,10 @@ use Rattle.std.specs.Str.{bytes_eq}
 use Rattle.std.specs.Cmp.Lexicographic.{bytes_decides}
 use Rattle.std.proofs.lemmas.Bool.Decides.{Decides-eqb, same_from_decides}
 use Rattle.rec_reader.specs.declared.token.Name.{Name}
-use Rattle.rec_offences.specs.Names.{text_of, same_text, is_among}
-use Rattle.rec_offences.specs.Listing.{Listing, listing, place_in, place_of}
+use Rattle.rec_includes.specs.Names.{text_of, same_text, is_among}
+use Rattle.rec_includes.specs.Listing.{Listing, listing, place_in, place_of}
 use Rattle.rec_offences.specs.SortsKept.{name_at}
-use Rattle.rec_offences.proofs.Places.{or_else, place_more, no_place}
+use Rattle.rec_includes.proofs.Places.{or_else, place_more, no_place}
 
 -- one that passes two tests, where the first of each stands at one place
 both_pass : {A : Type 0} (f g : A → Bool) (xs : List A) (p : ℕ) → place_in f xs ≡ Some p → place_in g xs ≡ Some p → (x : A) × (f x ≡ true) × (g x ≡ true)

@@ -1,5 +1,5 @@
 -- A walk that keeps sorts notes what is wrong at the visits of a term.
-use Rattle.std.proofs.Common.{◌≡◌, ℕ, ◌+◌, ◌-◌, ◌<◌, List, [], ◌∷◌, ◌++◌, length, map, take, drop, get_or, Bool, true, false, not, cond, Option, Some, None, refl, sym, ap, ◌∙◌}
+use Rattle.std.proofs.Common.{◌≡◌, ℕ, ◌+◌, ◌-◌, ◌<◌, List, [], ◌∷◌, ◌++◌, length, take, drop, get_or, Bool, true, false, not, cond, Option, Some, None, refl, sym, ap, ◌∙◌}
 use Rattle.std.specs.List.{filter, flat_map}
 use Rattle.std.specs.Option.{option_map, option_map_or}
 use Rattle.std.proofs.lemmas.List.{drop_more, length-map, take-map, drop-map, map-append}
@@ -9,11 +9,11 @@ use Rattle.rec_reader.specs.declared.token.Name.{Name}
 use Rattle.rec_reader.specs.declared.syntax_tree.Node.{Node}
 use Rattle.faults.specs.declared.refusal.Refusal.{Refusal}
 use Rattle.rec_offences.specs.declared.terms.Argument.{Argument}
-use Rattle.rec_offences.specs.Names.{same_text}
+use Rattle.rec_includes.specs.Names.{same_text}
 use Rattle.rec_offences.specs.Scope.{Entry, Visit, visits, look_up, is_variable, heads}
 use Rattle.rec_offences.specs.Offences.{clashing, unknown_name, wrong_count}
 use Rattle.rec_offences.specs.Faults.{of_kind, least_with}
-use Rattle.rec_offences.specs.Walked.{sort_of, argument, arguments_of, heads_on, is_other, clashing_sorts, misplaced, at_side, at_node, visit_over, names_with}
+use Rattle.rec_offences.specs.Walked.{sort_of, argument, arguments_of, heads_on, clashing_sorts, misplaced, at_side, at_node, visit_over, names_with}
 use Rattle.rec_offences.proofs.Noted.{least_append}
 
 module _ (bytes : List ℕ) (entries : List Entry) where

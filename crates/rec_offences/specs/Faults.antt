@@ -4,7 +4,7 @@ use Rattle.rec_reader.specs.declared.token.Name.{Name}
 use Rattle.rec_reader.specs.declared.syntax_tree.Specification.{Specification}
 use Rattle.rec_reader.specs.Parsed.{Parsed}
 use Rattle.faults.specs.declared.refusal.Refusal.{Refusal}
-use Rattle.rec_offences.specs.Material.{Header, headers_of, included, symbols_of, sorts_of}
+use Rattle.rec_includes.specs.Material.{Header, headers_of, included, symbols_of, sorts_of}
 use Rattle.rec_offences.specs.Scope.{Entry, symbol_entry, own_entries, names_of}
 use Rattle.rec_offences.specs.Offences.{includes_from, unknown_sorts, unknown_names, repeated_names, wrong_counts, sort_clashes, bare_variables, free_variables, not_ground, unknown_includes, past_limits}
 

@@ -1,15 +1,15 @@
 -- The offences of a specification as they are noted, from what is at hand.
-use Rattle.std.specs.Prelude.{ℕ, List, [], ◌∷◌, ◌++◌, map, not, slice_get}
+use Rattle.std.specs.Prelude.{ℕ, List, [], ◌∷◌, ◌++◌, map, not, take, slice_get}
 use Rattle.std.specs.List.{filter, flat_map}
-use Rattle.std.specs.Option.{option_map, option_to_list, option_and_then}
+use Rattle.std.specs.Option.{option_map, option_map_or, option_to_list, option_and_then}
 use Rattle.rec_reader.specs.declared.token.Name.{Name}
 use Rattle.rec_reader.specs.declared.syntax_tree.Specification.{Specification}
 use Rattle.rec_offences.specs.declared.entries.Verdict.{Verdict}
 use Rattle.faults.specs.declared.refusal.Refusal.{Refusal}
-use Rattle.rec_offences.specs.Names.{is_among}
+use Rattle.rec_includes.specs.Names.{is_among}
 use Rattle.rec_offences.specs.Scope.{Entry, names_of, root}
 use Rattle.rec_offences.specs.Offences.{Include, is_clashing, is_passing, unknown_sorts, repeated, bare_variables, free_variables, not_ground, is_long, names_in, first_past, unknown_names, wrong_counts, sort_clashes}
-use Rattle.rec_offences.specs.Faults.{of_kind}
+use Rattle.rec_offences.specs.Faults.{of_kind, offences_after}
 
 -- what is wrong at an entry
 abbrev pub verdict_of : List ℕ → List Specification → Include → Verdict
@@ -53,3 +53,8 @@ used_group bytes headers symbols_before rules_before verdicts symbols entries s 
     ++ of_kind 5 (unknown_names bytes entries s)
     ++ of_kind 7 (wrong_counts bytes entries s)
     ++ of_kind 8 (sort_clashes bytes entries s)
+
+-- the offences of the specification with this number
+abbrev pub offences_at : List ℕ → List Specification → ℕ → List Refusal
+offences_at bytes specifications number =
+    option_map_or (λ s. offences_after bytes (take number specifications) s) (slice_get specifications number) []

@@ -2,10 +2,11 @@
 use Rattle.std.specs.Prelude.{◌≡◌, ℕ, ◌+◌, ◌-◌, ◌^◌, List, [], ◌∷◌, ◌++◌, Option, Some, length, map, min, reverse, take, slice_get}
 use Rattle.std.specs.Option.{option_map}
 use Rattle.rec_reader.specs.declared.syntax_tree.Specification.{Specification}
-use Rattle.rec_offences.specs.Material.{included, headers_of, material_of, symbols_by, symbols_of, sorts_of, rules_of}
+use Rattle.rec_includes.specs.Material.{included, headers_of, material_of, symbols_by, symbols_of, sorts_of, rules_of}
 use Rattle.rec_offences.specs.Scope.{own_entries}
-use Rattle.rec_offences.specs.Listing.{listing, known}
-use Rattle.rec_offences.specs.Numbered.{IsClosed}
+use Rattle.rec_includes.specs.Listing.{listing}
+use Rattle.rec_offences.specs.Known.{known}
+use Rattle.rec_includes.specs.Numbered.{IsClosed}
 use Rattle.rec_offences.specs.Faults.{included_entries}
 use Rattle.rec_offences.specs.declared.inclusion.Extent.{Extent}
 use Rattle.rec_offences.specs.declared.inclusion.Level.{Level}

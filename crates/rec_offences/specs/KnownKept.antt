@@ -1,7 +1,8 @@
 -- Declared names as they are kept.
 use Rattle.std.specs.Prelude.{◌≡◌, ℕ, List}
 use Rattle.rec_offences.specs.Scope.{Entry, names_of}
-use Rattle.rec_offences.specs.Listing.{Listing, Known, known, entries_of}
+use Rattle.rec_includes.specs.Listing.{Listing}
+use Rattle.rec_offences.specs.Known.{Known, known, entries_of}
 use Rattle.rec_offences.specs.declared.scope.Scope.TheInside.{Inside}
 
 -- declared names as they are kept: their names are indexed, and the sorts are of the same bytes

@@ -1,13 +1,7 @@
-pub mod Names
-pub mod Material
 pub mod Scope
 pub mod Offences
 pub mod Faults
-pub mod Listing
-pub mod Numbered
-pub mod Forest
-pub mod Walk
-pub mod Indexed
+pub mod Known
 pub mod KnownKept
 pub mod Numbering
 pub mod SortsKept

@@ -8,8 +8,8 @@ use Rattle.rec_reader.specs.declared.syntax_tree.Declaration.{Declaration}
 use Rattle.rec_reader.specs.declared.syntax_tree.Variables.{Variables}
 use Rattle.rec_reader.specs.declared.syntax_tree.Rule.{Rule}
 use Rattle.rec_reader.specs.declared.syntax_tree.Specification.{Specification}
-use Rattle.rec_offences.specs.Names.{text_of, same_text, is_among}
-use Rattle.rec_offences.specs.Material.{Header, brought, fresh, with_numbers, symbols_by, symbols_of, rules_of}
+use Rattle.rec_includes.specs.Names.{text_of, same_text, is_among}
+use Rattle.rec_includes.specs.Material.{Header, brought, fresh, with_numbers, symbols_by, symbols_of, rules_of}
 use Rattle.rec_offences.specs.Scope.{Entry, names_of, own_entries, look_up, is_variable, root, heads, Visit, visits}
 
 -- ---- Unknown sort: a sort of a declaration that isn't among the known ones

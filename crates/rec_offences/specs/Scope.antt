@@ -4,8 +4,8 @@ use Rattle.std.specs.Option.{option_map, option_map_or}
 use Rattle.rec_reader.specs.declared.token.Name.{Name}
 use Rattle.rec_reader.specs.declared.syntax_tree.Node.{Node}
 use Rattle.rec_reader.specs.declared.syntax_tree.Specification.{Specification}
-use Rattle.rec_offences.specs.Names.{same_text}
-use Rattle.rec_offences.specs.Material.{Declared, declared, Variable, symbols_by, variables_by}
+use Rattle.rec_includes.specs.Names.{same_text}
+use Rattle.rec_includes.specs.Material.{Declared, declared, Variable, symbols_by, variables_by}
 
 -- what a name is declared as: a symbol, or a variable, which has no arguments
 pub record Entry : Type 0 where

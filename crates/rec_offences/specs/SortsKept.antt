@@ -2,7 +2,7 @@
 use Rattle.std.specs.Prelude.{◌≡◌, ℕ, Some, IfSome, nat_eq, ◌&&◌}
 use Rattle.std.specs.Map.{lookup}
 use Rattle.rec_reader.specs.declared.token.Name.{Name}
-use Rattle.rec_offences.specs.Listing.{place_of}
+use Rattle.rec_includes.specs.Listing.{place_of}
 use Rattle.rec_offences.specs.Numbering.{Numbering}
 use Rattle.rec_offences.specs.declared.sorts.SortNumbers.TheInside.{Inside}
 

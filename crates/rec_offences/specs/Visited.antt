@@ -4,11 +4,12 @@ use Rattle.std.specs.List.{filter}
 use Rattle.rec_reader.specs.declared.token.Name.{Name}
 use Rattle.rec_reader.specs.declared.syntax_tree.Rule.{Rule}
 use Rattle.faults.specs.declared.refusal.Refusal.{Refusal}
-use Rattle.rec_offences.specs.Names.{is_among}
+use Rattle.rec_includes.specs.Names.{is_among}
 use Rattle.rec_offences.specs.Scope.{Entry, Visit, is_variable, heads}
 use Rattle.rec_offences.specs.Offences.{unknown_name, wrong_count, clashing_arguments, nodes_but_left}
 use Rattle.rec_offences.specs.Faults.{of_kind}
-use Rattle.rec_offences.specs.Listing.{Known, Listing}
+use Rattle.rec_includes.specs.Listing.{Listing}
+use Rattle.rec_offences.specs.Known.{Known}
 
 abbrev pub at_visit : List ℕ → List Entry → Visit → List Refusal
 at_visit bytes entries v =

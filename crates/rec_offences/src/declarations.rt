@@ -1,19 +1,20 @@
 //! Offences of headers and declarations.
 ghost use Rattle.std.specs.Prelude.{◌≡◌, ◌++◌, ◌∷◌, [], IfOk, OnOk, not, take};
 ghost use Rattle.std.specs.List.{filter};
-ghost use Rattle.rec_offences.specs.Names.{is_among};
+ghost use Rattle.rec_includes.specs.Names.{is_among};
 ghost use Rattle.rec_offences.specs.Scope.{names_of};
 ghost use Rattle.rec_offences.specs.Offences.{used_sorts, repeated, unknown_sorts, repeated_names};
 ghost use Rattle.rec_offences.specs.Faults.{of_kind, least_with};
-ghost use Rattle.rec_offences.specs.Listing.{listing, known, entries_of};
+ghost use Rattle.rec_includes.specs.Listing.{listing};
+ghost use Rattle.rec_offences.specs.Known.{known, entries_of};
 ghost use Rattle.rec_offences.specs.Grouped.{clashing_entries};
 
-use crate::directory::Directory;
 use crate::entries::Verdict;
 use crate::offence::note_if;
 use crate::scope::Scope;
 use crate::signatures::Signature;
 use faults::{Memory, Refusal, kinds};
+use rec_includes::Directory;
 use rec_reader::{Name, Specification};
 use std::alloc::Global;
 

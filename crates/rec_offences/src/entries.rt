@@ -2,25 +2,23 @@
 ghost use Rattle.std.specs.Prelude.{◌≡◌, ◌<◌, ℕ, List, [], ◌||◌, IfOk, OnOk, length, map, take};
 ghost use Rattle.std.specs.List.{list_any};
 ghost use Rattle.rec_reader.specs.declared.syntax_tree.Specification.{Specification};
-ghost use Rattle.rec_offences.specs.Names.{is_among};
-ghost use Rattle.rec_offences.specs.Material.{fresh, with_numbers, included, material_of, headers_of};
+ghost use Rattle.rec_includes.specs.Names.{is_among};
+ghost use Rattle.rec_includes.specs.Material.{fresh, with_numbers, included, material_of, headers_of};
 ghost use Rattle.rec_offences.specs.Scope.{names_of};
 ghost use Rattle.rec_offences.specs.Offences.{includes_from, passes, include};
-ghost use Rattle.rec_offences.specs.Listing.{entries_of};
-ghost use Rattle.rec_offences.specs.Numbered.{header_names, includes_at};
-ghost use Rattle.rec_offences.specs.Forest.{cut, parent_of};
+ghost use Rattle.rec_offences.specs.Known.{entries_of};
+ghost use Rattle.rec_includes.specs.Numbered.{header_names, includes_at};
+ghost use Rattle.rec_includes.specs.Forest.{cut, parent_of};
 ghost use Rattle.rec_offences.specs.Inclusion.{IsInclusion, IsAtLevel, IsPastLevel, path_of};
 ghost use Rattle.rec_offences.specs.Grouped.{verdict_of};
 
-use crate::directory::Directory;
-use crate::gathering::{gather, includes_at};
 use crate::inclusion::Inclusion;
 use crate::limits::MOST;
 use crate::numbered::{add_sorts, count_rules, symbols_at};
-use crate::ordering::first_target;
 use crate::scope::Scope;
 use crate::signatures::Signature;
 use faults::Memory;
+use rec_includes::{Directory, first_target, gather, includes_at};
 use rec_reader::{Name, Specification};
 use std::alloc::Global;
 

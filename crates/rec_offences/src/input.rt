@@ -1,26 +1,26 @@
 //! The fault of an input.
 ghost use Rattle.std.specs.Prelude.{◌≡◌, ◌<◌, ◌+◌, ◌++◌, ◌∷◌, [], IfOk, OnOk, length, map, take};
-ghost use Rattle.rec_offences.specs.Material.{symbols_by};
+ghost use Rattle.rec_includes.specs.Material.{symbols_by};
 ghost use Rattle.rec_offences.specs.Scope.{symbol_entry, own_entries};
-ghost use Rattle.rec_offences.specs.Listing.{listing, known, entries_of};
-ghost use Rattle.rec_offences.specs.Numbered.{header_names, offences_at};
-ghost use Rattle.rec_offences.specs.Forest.{cut, parent_of};
+ghost use Rattle.rec_includes.specs.Listing.{listing};
+ghost use Rattle.rec_offences.specs.Known.{known, entries_of};
+ghost use Rattle.rec_includes.specs.Numbered.{header_names};
+ghost use Rattle.rec_offences.specs.Grouped.{offences_at};
+ghost use Rattle.rec_includes.specs.Forest.{cut, parent_of};
 ghost use Rattle.rec_offences.specs.Inclusion.{IsAtLevel, path_of};
 ghost use Rattle.rec_offences.specs.Grouped.{declared_group, used_group};
 ghost use Rattle.rec_offences.specs.Faults.{least_with, fault_of};
 
 use crate::declarations::{note_repeated_names, note_unknown_includes, note_unknown_sorts};
-use crate::directory::Directory;
 use crate::entries::Verdict;
-use crate::gathering::header_names;
 use crate::inclusion::Inclusion;
 use crate::limits::note_past_limits;
-use crate::ordering::order;
 use crate::scope::Scope;
 use crate::signatures::{Signature, own_signatures, own_symbols};
 use crate::terms::note_heads;
 use crate::variables::note_misplaced_variables;
 use faults::{Memory, Refusal};
+use rec_includes::{Directory, header_names, order};
 use rec_reader::{Specification, Syntax};
 use std::alloc::Global;
 

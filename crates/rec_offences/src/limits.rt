@@ -5,14 +5,14 @@ ghost use Rattle.std.specs.Option.{option_map, option_to_list, option_and_then, 
 ghost use Rattle.rec_offences.specs.Scope.{root, heads};
 ghost use Rattle.rec_offences.specs.Offences.{is_long, names_in, names_in_declaration, names_in_variables, terms_of, first_past};
 ghost use Rattle.rec_offences.specs.Faults.{of_kind, least_with};
-ghost use Rattle.rec_offences.specs.Listing.{entries_of};
+ghost use Rattle.rec_offences.specs.Known.{entries_of};
 ghost use Rattle.rec_offences.specs.Grouped.{passing_entries};
 
 use crate::entries::Verdict;
-use crate::names::text_of;
 use crate::offence::{note_if, note_some};
 use crate::signatures::Signature;
 use faults::{Refusal, kinds};
+use rec_includes::text_of;
 use rec_reader::{Declaration, Name, Node, Rule, Sequence, Specification, Variables};
 
 /// How many symbols, rules or terms there may be.

@@ -1,14 +1,15 @@
 //! What the specifications with these numbers have.
 ghost use Rattle.std.specs.Prelude.{◌≡◌, ◌+◌, ◌++◌, ◌∷◌, [], IfOk, OnOk, length, slice_get};
 ghost use Rattle.std.specs.Option.{option_copied};
-ghost use Rattle.rec_offences.specs.Material.{sorts_of, rules_of};
+ghost use Rattle.rec_includes.specs.Material.{sorts_of, rules_of};
 ghost use Rattle.rec_offences.specs.Faults.{included_entries};
-ghost use Rattle.rec_offences.specs.Listing.{listing, entries_of};
+ghost use Rattle.rec_includes.specs.Listing.{listing};
+ghost use Rattle.rec_offences.specs.Known.{entries_of};
 ghost use Rattle.rec_offences.specs.Inclusion.{counted};
 
-use crate::directory::Directory;
 use crate::signatures::{Signature, add_symbols};
 use faults::Memory;
+use rec_includes::Directory;
 use rec_reader::{Name, Specification};
 use std::alloc::Global;
 

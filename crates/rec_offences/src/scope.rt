@@ -1,15 +1,15 @@
 //! Declared names, and what each is first declared as.
 ghost use Rattle.std.specs.Prelude.{◌≡◌, ◌<◌, ◌^◌, ◌++◌, ◌∷◌, [], OnOk, length, map, not, slice_get, take};
 ghost use Rattle.std.specs.Option.{option_map};
-ghost use Rattle.rec_offences.specs.Names.{is_among, same_text};
+ghost use Rattle.rec_includes.specs.Names.{is_among, same_text};
 ghost use Rattle.rec_offences.specs.Scope.{look_up, names_of, is_variable};
 ghost use Rattle.rec_offences.specs.Offences.{has_other_sort};
-ghost use Rattle.rec_offences.specs.Listing.{known, entry_of, entries_of};
+ghost use Rattle.rec_offences.specs.Known.{known, entry_of, entries_of};
 
-use crate::directory::Directory;
 use crate::signatures::Signature;
 use crate::sorts::SortNumbers;
 use faults::Memory;
+use rec_includes::Directory;
 use rec_reader::Name;
 use std::alloc::Global;
 use std::marker::Model;
@@ -23,7 +23,7 @@ pub(crate) struct Scope<'a> {
 }
 
 impl<'a> Model for Scope<'a> {
-    ghost use Rattle.rec_offences.specs.Listing.{Known};
+    ghost use Rattle.rec_offences.specs.Known.{Known};
 
     ghost Value = { Known };
 

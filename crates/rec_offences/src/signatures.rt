@@ -1,8 +1,8 @@
 //! What names are declared as.
 ghost use Rattle.std.specs.Prelude.{◌≡◌, ◌++◌, map, IfOk, OnOk};
-ghost use Rattle.rec_offences.specs.Material.{symbols_by, symbols_of_declaration, variables_by, variables_of};
+ghost use Rattle.rec_includes.specs.Material.{symbols_by, symbols_of_declaration, variables_by, variables_of};
 ghost use Rattle.rec_offences.specs.Scope.{symbol_entry, variable_entry, own_entries};
-ghost use Rattle.rec_offences.specs.Listing.{entries_of};
+ghost use Rattle.rec_offences.specs.Known.{entries_of};
 
 use faults::Memory;
 use rec_reader::{Declaration, Name, Specification, Variables};

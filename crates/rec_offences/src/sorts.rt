@@ -1,13 +1,12 @@
 //! Sorts by number, so that the texts of two need not be compared again.
 ghost use Rattle.std.specs.Prelude.{◌≡◌, ◌++◌, ◌∷◌, [], All, IfOk, None, OnErr, OnOk, Some, not, if◌then◌else◌};
-ghost use Rattle.rec_offences.specs.Names.{is_among, same_text};
-ghost use Rattle.rec_offences.specs.Listing.{listing, place_of};
+ghost use Rattle.rec_includes.specs.Names.{is_among, same_text};
+ghost use Rattle.rec_includes.specs.Listing.{listing, place_of};
 ghost use Rattle.rec_offences.specs.Numbering.{HasNumber, NumbersOnly, number_of};
 
-use crate::directory::Directory;
-use crate::names::text_of;
 use faults::Memory;
 use indexmap::IndexMap;
+use rec_includes::{Directory, text_of};
 use rec_reader::Name;
 use std::alloc::Global;
 use std::marker::Model;

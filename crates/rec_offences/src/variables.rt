@@ -2,16 +2,17 @@
 ghost use Rattle.std.specs.Prelude.{◌≡◌, ◌++◌, ◌∷◌, [], OnOk};
 ghost use Rattle.std.specs.List.{filter, flat_map};
 ghost use Rattle.std.specs.Option.{option_to_list};
+ghost use Rattle.rec_includes.specs.Listing.{listing};
 ghost use Rattle.rec_offences.specs.Scope.{is_variable, heads, root};
 ghost use Rattle.rec_offences.specs.Offences.{nodes_but_left, bare_variables, free_variables};
 ghost use Rattle.rec_offences.specs.Visited.{is_free, free_variables_of};
 ghost use Rattle.rec_offences.specs.Faults.{of_kind, least_with};
 
-use crate::directory::Directory;
 use crate::limits::root;
 use crate::offence::note_if;
 use crate::scope::Scope;
 use faults::{Memory, Refusal, kinds};
+use rec_includes::Directory;
 use rec_reader::{Condition, Node, Rule, Specification};
 use std::alloc::Global;
 
@@ -70,6 +71,16 @@ fn note_free_but(found: &mut Option<Refusal>, scope: &Scope, left: &Directory, r
     }
 }
 
+/// Puts the heads of nodes at the end.
+fn add_heads(names: &mut Directory, nodes: &[Node]) -> Result<(), Memory>
+    ensures { OnOk result (names.new ≡ listing names.old.bytes (names.old.names ++ heads nodes.now)) }
+{
+    for node in nodes {
+        names.add(node.head)?;
+    }
+    Ok(())
+}
+
 fn note_free_in_rule(
     alloc: Global,
     found: &mut Option<Refusal>,
@@ -81,7 +92,7 @@ fn note_free_in_rule(
         (free_variables_of text.now scope.now.bytes scope.now.entries rule.now))) }
 {
     let mut left = Directory::new(alloc, text);
-    left.add_heads(rule.left.as_slice())?;
+    add_heads(&mut left, rule.left.as_slice())?;
     note_free_but(found, scope, &left, rule);
     Ok(())
 }

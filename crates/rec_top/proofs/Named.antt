@@ -18,8 +18,8 @@ use Rattle.rec_reader.specs.declared.syntax_tree.Node as written_node
 use Rattle.rec_reader.specs.declared.syntax_tree.Rule as written
 use Rattle.rec_reader.specs.declared.syntax_tree.Specification.{Specification}
 use Rattle.rec_reader.specs.Parsed.{Parsed}
-use Rattle.rec_offences.specs.Names.{text_of}
-use Rattle.rec_offences.specs.Material.{symbols_of, specifications_at, material_of}
+use Rattle.rec_includes.specs.Names.{text_of}
+use Rattle.rec_includes.specs.Material.{symbols_of, specifications_at, material_of}
 use Rattle.rec_check.specs.Symbols.{named_in, with_symbols}
 use Rattle.rec_check.specs.Term.{Scope, item_in, tree_in, same_symbol}
 use Rattle.rec_check.specs.Rule.{◌>>=◌, rule_in}

@@ -9,7 +9,7 @@ use Rattle.rec_reader.specs.declared.syntax_tree.Node.{Node}
 use Rattle.rec_reader.specs.declared.syntax_tree.Specification.{Specification}
 use Rattle.rec_reader.specs.declared.token.Name.{Name}
 use Rattle.rec_reader.specs.Parsed.{Parsed}
-use Rattle.rec_offences.specs.Material.{symbols_of, rules_of, headers_of, included, symbols_by, material_of, specifications_at}
+use Rattle.rec_includes.specs.Material.{symbols_of, rules_of, headers_of, included, symbols_by, material_of, specifications_at}
 use Rattle.rec_offences.specs.Scope.{root}
 use Rattle.rec_offences.specs.Offences.{first_past, most, includes_from, names_in, is_long, is_passing}
 use Rattle.rec_offences.specs.Faults.{offences_of, offences_from, offences_after}

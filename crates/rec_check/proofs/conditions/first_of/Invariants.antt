@@ -1,5 +1,5 @@
 use Rattle.std.proofs.Common.{◌≡◌, drop, None}
-use Rattle.rec_offences.specs.Material.{rules_of}
+use Rattle.rec_includes.specs.Material.{rules_of}
 use Rattle.rec_check.specs.Conditional.{ifs_of, least_with}
 use Rattle.rec_check.proofs.conditions.first_of.Given as goal
 

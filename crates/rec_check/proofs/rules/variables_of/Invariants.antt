@@ -1,7 +1,7 @@
 use Rattle.std.proofs.Common.{◌≡◌, drop, map, filter}
 use Rattle.std.specs.List.{list_any}
 use Rattle.std.specs.Str.{bytes_eq}
-use Rattle.rec_offences.specs.Names.{text_of}
+use Rattle.rec_includes.specs.Names.{text_of}
 use Rattle.rec_check.specs.Named.{with_names}
 use Rattle.rec_check.specs.Rule.{variables_in}
 use Rattle.rec_check.proofs.rules.variables_of.Given as goal

@@ -1,6 +1,6 @@
 use Rattle.std.proofs.Common.{sym, ◌∙◌, []}
 use Rattle.std.proofs.lemmas.Result.{err_from_is_err_and}
-use Rattle.rec_offences.specs.Material.{symbols_of, symbols_of_declaration}
+use Rattle.rec_includes.specs.Material.{symbols_of, symbols_of_declaration}
 use Rattle.std.specs.List.{flat_map}
 use Rattle.rec_check.specs.Symbols.{named_in, with_symbols}
 use Rattle.rec_check.proofs.Declaring.{brings, brings_not, brings_nothing}

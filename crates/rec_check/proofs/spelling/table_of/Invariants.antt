@@ -1,5 +1,5 @@
 use Rattle.std.proofs.Common.{◌≡◌, drop, []}
-use Rattle.rec_offences.specs.Material.{symbols_of}
+use Rattle.rec_includes.specs.Material.{symbols_of}
 use Rattle.rec_check.specs.Symbols.{named_in, with_symbols}
 use Rattle.rec_check.proofs.spelling.table_of.Given as goal
 

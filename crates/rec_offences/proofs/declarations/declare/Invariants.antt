@@ -2,7 +2,7 @@ use Rattle.std.proofs.Common.{◌≡◌, ◌++◌, drop}
 use Rattle.rec_offences.specs.Scope.{names_of}
 use Rattle.rec_offences.specs.Offences.{repeated}
 use Rattle.rec_offences.specs.Faults.{least_with, of_kind}
-use Rattle.rec_offences.specs.Listing.{entries_of}
+use Rattle.rec_offences.specs.Known.{entries_of}
 use Rattle.rec_offences.proofs.declarations.declare.Given as goal
 
 abbrev pub invariant-loop-signature : goal.invariant-loop-signature

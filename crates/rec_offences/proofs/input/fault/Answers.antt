@@ -6,7 +6,7 @@ use Rattle.rec_reader.specs.Parsed.{Parsed}
 use Rattle.rec_reader.specs.declared.syntax_tree.Specification.{Specification}
 use Rattle.rec_offences.specs.Faults.{least_with, fault_of}
 use Rattle.rec_offences.specs.Inclusion.{IsAtLevel}
-use Rattle.rec_offences.specs.Numbered.{offences_at}
+use Rattle.rec_offences.specs.Grouped.{offences_at}
 use Rattle.rec_offences.proofs.AnyOrder.{in_any_order}
 use Rattle.rec_offences.proofs.Noted.{least_append}
 use Rattle.rec_offences.proofs.input.fault.Goals as goal

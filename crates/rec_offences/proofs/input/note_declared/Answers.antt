@@ -1,10 +1,11 @@
 use Rattle.std.proofs.Common.{◌∷◌, [], ◌++◌, map, take, ap, ◌∙◌}
 use Rattle.std.specs.List.{filter}
-use Rattle.rec_offences.specs.Names.{is_among}
+use Rattle.rec_includes.specs.Names.{is_among}
 use Rattle.rec_offences.specs.Scope.{names_of}
 use Rattle.rec_offences.specs.Offences.{unknown_sorts, repeated}
 use Rattle.rec_offences.specs.Faults.{of_kind, least_with}
-use Rattle.rec_offences.specs.Listing.{listing, entries_of}
+use Rattle.rec_includes.specs.Listing.{listing}
+use Rattle.rec_offences.specs.Known.{entries_of}
 use Rattle.rec_offences.specs.Grouped.{declared_group, repeated_group}
 use Rattle.rec_offences.proofs.Noted.{noted_after}
 use Rattle.rec_offences.proofs.input.note_declared.Goals as goal

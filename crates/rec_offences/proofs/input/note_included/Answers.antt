@@ -1,8 +1,8 @@
 use Rattle.std.proofs.Common.{◌++◌, length, map, take, ap, ◌∙◌, arith}
-use Rattle.rec_offences.specs.Material.{symbols_by}
+use Rattle.rec_includes.specs.Material.{symbols_by}
 use Rattle.rec_offences.specs.Scope.{symbol_entry, own_entries}
 use Rattle.rec_offences.specs.Faults.{least_with}
-use Rattle.rec_offences.specs.Listing.{known, entries_of}
+use Rattle.rec_offences.specs.Known.{known, entries_of}
 use Rattle.rec_offences.specs.Grouped.{declared_group, used_group}
 use Rattle.rec_offences.proofs.Noted.{noted_after}
 use Rattle.rec_offences.proofs.input.note_included.Goals as goal

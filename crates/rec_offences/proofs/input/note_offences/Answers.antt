@@ -7,20 +7,22 @@ use Rattle.std.specs.Option.{option_map_or}
 use Rattle.std.proofs.lemmas.List.{length-map}
 use Rattle.rec_reader.specs.declared.token.Name.{Name}
 use Rattle.rec_reader.specs.declared.syntax_tree.Specification.{Specification}
-use Rattle.rec_offences.specs.Material.{included, headers_of, symbols_by, symbols_of, sorts_of, rules_of}
+use Rattle.rec_includes.specs.Material.{included, headers_of, symbols_by, symbols_of, sorts_of, rules_of}
 use Rattle.rec_offences.specs.Scope.{symbol_entry, own_entries}
 use Rattle.rec_offences.specs.Offences.{includes_from}
 use Rattle.rec_offences.specs.Faults.{least_with, included_entries, offences_over, offences_after}
 use Rattle.faults.specs.declared.refusal.Refusal.{Refusal}
 use Rattle.rec_offences.specs.declared.entries.Verdict.{Verdict}
 use Rattle.rec_offences.specs.Grouped.{declared_group, used_group, verdict_of}
-use Rattle.rec_offences.specs.Listing.{Known, known, Listing, listing}
-use Rattle.rec_offences.specs.Numbered.{header_names, includes_at, offences_at}
+use Rattle.rec_includes.specs.Listing.{Listing, listing}
+use Rattle.rec_offences.specs.Known.{Known, known}
+use Rattle.rec_includes.specs.Numbered.{header_names, includes_at}
+use Rattle.rec_offences.specs.Grouped.{offences_at}
 use Rattle.rec_offences.specs.Inclusion.{counted, AreLevels, last_material, path_of}
-use Rattle.rec_offences.proofs.Brought.{headers_named}
+use Rattle.rec_includes.proofs.Brought.{headers_named}
 use Rattle.rec_offences.proofs.Early.{at_early, early_verdicts}
 use Rattle.rec_offences.proofs.Groups.{declared_is, used_is}
-use Rattle.rec_offences.proofs.Materials.{below_none, included_below}
+use Rattle.rec_includes.proofs.Materials.{below_none, included_below}
 use Rattle.rec_offences.proofs.input.note_offences.Goals as goal
 
 pub note_included-requires : goal.note_included-requires

@@ -1,9 +1,9 @@
 use Rattle.std.proofs.Common.{◌++◌, take, not, refl, ap, ◌∙◌}
 use Rattle.std.specs.List.{filter}
-use Rattle.rec_offences.specs.Names.{is_among}
+use Rattle.rec_includes.specs.Names.{is_among}
 use Rattle.rec_offences.specs.Offences.{bare_variables, free_variables, not_ground, unknown_names, wrong_counts, sort_clashes}
 use Rattle.rec_offences.specs.Faults.{of_kind, least_with}
-use Rattle.rec_offences.specs.Listing.{entries_of}
+use Rattle.rec_offences.specs.Known.{entries_of}
 use Rattle.rec_offences.specs.Grouped.{limits_group, used_group}
 use Rattle.rec_offences.proofs.Noted.{noted_after, three_after}
 use Rattle.rec_offences.proofs.Orders.{last_first}

@@ -1,6 +1,6 @@
 use Rattle.std.proofs.Common.{◌∷◌, [], ◌++◌, get_or, ap, ◌∙◌}
-use Rattle.rec_offences.specs.Material.{sorts_of}
-use Rattle.rec_offences.proofs.Gathered.{gathered_turn, default_in}
+use Rattle.rec_includes.specs.Material.{sorts_of}
+use Rattle.rec_includes.proofs.Gathered.{gathered_turn, default_in}
 use Rattle.rec_offences.proofs.Including.{at_append}
 use Rattle.rec_offences.proofs.numbered.add_sorts.Goals as goal
 

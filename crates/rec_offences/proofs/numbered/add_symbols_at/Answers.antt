@@ -1,8 +1,8 @@
 use Rattle.std.proofs.Common.{◌≡◌, ◌++◌, map, OnOk, ap, sym, subst, ◌∙◌, append-nil}
-use Rattle.rec_offences.specs.Material.{symbols_by}
+use Rattle.rec_includes.specs.Material.{symbols_by}
 use Rattle.rec_offences.specs.Scope.{symbol_entry}
-use Rattle.rec_offences.specs.Listing.{entries_of}
-use Rattle.rec_offences.proofs.Gathered.{at_one, at_none}
+use Rattle.rec_offences.specs.Known.{entries_of}
+use Rattle.rec_includes.proofs.Gathered.{at_one, at_none}
 use Rattle.rec_offences.proofs.numbered.add_symbols_at.Goals as goal
 
 pub returns-in-Some : goal.returns-in-Some

@@ -1,7 +1,7 @@
 use Rattle.std.proofs.Common.{◌≡◌, ℕ, ◌+◌, ◌≤◌, ◌^◌, ◌-◌, ◌∷◌, [], ◌++◌, drop, length, min, get_or, ap, sym, ◌∙◌, arith, length-append}
-use Rattle.rec_offences.specs.Material.{rules_of}
+use Rattle.rec_includes.specs.Material.{rules_of}
 use Rattle.rec_offences.specs.Inclusion.{counted}
-use Rattle.rec_offences.proofs.Gathered.{drop_at, drop_all, default_in}
+use Rattle.rec_includes.proofs.Gathered.{drop_at, drop_all, default_in}
 use Rattle.rec_offences.proofs.Including.{at_append}
 use Rattle.rec_offences.proofs.numbered.count_rules.Goals as goal
 

@@ -1,5 +1,5 @@
 use Rattle.std.proofs.Common.{◌≡◌, ◌+◌, ◌-◌, ◌^◌, ◌≤◌, drop, length}
-use Rattle.rec_offences.specs.Material.{rules_of}
+use Rattle.rec_includes.specs.Material.{rules_of}
 use Rattle.rec_offences.specs.Inclusion.{counted}
 use Rattle.rec_offences.proofs.numbered.count_rules.Given as goal
 

@@ -1,5 +1,5 @@
 use Rattle.std.proofs.Common.{◌∙◌}
-use Rattle.rec_offences.proofs.Gathered.{at_one, at_none}
+use Rattle.rec_includes.proofs.Gathered.{at_one, at_none}
 use Rattle.rec_offences.proofs.numbered.sorts_at.Goals as goal
 
 pub returns-in-Some : goal.returns-in-Some

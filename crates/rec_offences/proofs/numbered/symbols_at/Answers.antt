@@ -1,7 +1,7 @@
 use Rattle.std.proofs.Common.{◌∷◌, [], get_or}
 use Rattle.rec_offences.specs.Faults.{included_entries}
-use Rattle.rec_offences.specs.Listing.{entries_of}
-use Rattle.rec_offences.proofs.Gathered.{gathered_turn, default_in}
+use Rattle.rec_offences.specs.Known.{entries_of}
+use Rattle.rec_includes.proofs.Gathered.{gathered_turn, default_in}
 use Rattle.rec_offences.proofs.Including.{entries_append}
 use Rattle.rec_offences.proofs.numbered.symbols_at.Goals as goal
 

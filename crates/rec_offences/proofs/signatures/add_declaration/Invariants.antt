@@ -1,7 +1,7 @@
 use Rattle.std.proofs.Common.{◌≡◌, ◌++◌, drop, map}
-use Rattle.rec_offences.specs.Material.{declared}
+use Rattle.rec_includes.specs.Material.{declared}
 use Rattle.rec_offences.specs.Scope.{symbol_entry}
-use Rattle.rec_offences.specs.Listing.{entries_of}
+use Rattle.rec_offences.specs.Known.{entries_of}
 use Rattle.rec_offences.proofs.signatures.add_declaration.Given as goal
 
 abbrev pub invariant-loop-name : goal.invariant-loop-name

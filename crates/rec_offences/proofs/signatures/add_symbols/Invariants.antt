@@ -1,8 +1,8 @@
 use Rattle.std.proofs.Common.{◌≡◌, ◌++◌, drop, map}
 use Rattle.std.specs.List.{flat_map}
-use Rattle.rec_offences.specs.Material.{symbols_of_declaration}
+use Rattle.rec_includes.specs.Material.{symbols_of_declaration}
 use Rattle.rec_offences.specs.Scope.{symbol_entry}
-use Rattle.rec_offences.specs.Listing.{entries_of}
+use Rattle.rec_offences.specs.Known.{entries_of}
 use Rattle.rec_offences.proofs.signatures.add_symbols.Given as goal
 
 abbrev pub invariant-loop-declaration : goal.invariant-loop-declaration

@@ -1,8 +1,8 @@
 use Rattle.std.proofs.Common.{◌≡◌, ◌++◌, drop, map}
 use Rattle.std.specs.List.{flat_map}
-use Rattle.rec_offences.specs.Material.{variables_of}
+use Rattle.rec_includes.specs.Material.{variables_of}
 use Rattle.rec_offences.specs.Scope.{variable_entry}
-use Rattle.rec_offences.specs.Listing.{entries_of}
+use Rattle.rec_offences.specs.Known.{entries_of}
 use Rattle.rec_offences.proofs.signatures.add_variables.Given as goal
 
 abbrev pub invariant-loop-variables : goal.invariant-loop-variables

@@ -1,8 +1,8 @@
 use Rattle.std.proofs.Common.{◌++◌, ◌∷◌, [], Some, cond, ◌∙◌, ap, sym}
 use Rattle.std.specs.Option.{is_some}
-use Rattle.rec_offences.specs.Names.{same_text}
-use Rattle.rec_offences.specs.Listing.{listing, place_of}
-use Rattle.rec_offences.proofs.Places.{is_some_place}
+use Rattle.rec_includes.specs.Names.{same_text}
+use Rattle.rec_includes.specs.Listing.{listing, place_of}
+use Rattle.rec_includes.proofs.Places.{is_some_place}
 use Rattle.rec_offences.proofs.SortPlaces.{new_place}
 use Rattle.rec_offences.proofs.sorts.number_of.Goals as goal
 

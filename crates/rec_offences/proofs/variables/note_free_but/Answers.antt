@@ -4,7 +4,7 @@ use Rattle.rec_reader.specs.declared.syntax_tree.Condition.{Condition}
 use Rattle.rec_reader.specs.declared.syntax_tree.Node.{Node}
 use Rattle.rec_reader.specs.declared.token.Name.{Name}
 use Rattle.faults.specs.declared.refusal.Refusal.{Refusal}
-use Rattle.rec_offences.specs.Names.{is_among}
+use Rattle.rec_includes.specs.Names.{is_among}
 use Rattle.rec_offences.specs.Scope.{is_variable, heads}
 use Rattle.rec_offences.specs.Faults.{least_with, of_kind}
 use Rattle.rec_offences.proofs.Noted.{least_append, marks_append, noted_turn, noted_end}

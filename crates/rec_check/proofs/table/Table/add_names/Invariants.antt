@@ -1,5 +1,5 @@
 use Rattle.std.proofs.Common.{◌≡◌, drop, map}
-use Rattle.rec_offences.specs.Names.{text_of}
+use Rattle.rec_includes.specs.Names.{text_of}
 use Rattle.symbol_pool.specs.Pool.{named}
 use Rattle.rec_check.specs.Symbols.{with_symbols}
 use Rattle.rec_check.proofs.table.Table.add_names.Given as goal

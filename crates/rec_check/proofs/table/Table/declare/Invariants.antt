@@ -1,6 +1,6 @@
 use Rattle.std.proofs.Common.{◌≡◌, drop}
 use Rattle.std.specs.List.{flat_map}
-use Rattle.rec_offences.specs.Material.{symbols_of_declaration}
+use Rattle.rec_includes.specs.Material.{symbols_of_declaration}
 use Rattle.rec_check.specs.Symbols.{named_in, with_symbols}
 use Rattle.rec_check.proofs.table.Table.declare.Given as goal
 

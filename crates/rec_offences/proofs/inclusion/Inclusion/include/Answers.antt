@@ -1,9 +1,10 @@
 use Rattle.std.proofs.Common.{◌≡◌, ℕ, ◌+◌, Bool, List, ◌++◌, length, ap, sym, ◌∙◌}
 use Rattle.rec_offences.specs.declared.entries.Verdict.{Verdict}
-use Rattle.rec_offences.specs.Material.{material_of, fresh, sorts_of, rules_of}
+use Rattle.rec_includes.specs.Material.{material_of, fresh, sorts_of, rules_of}
 use Rattle.rec_offences.specs.Faults.{included_entries}
 use Rattle.rec_offences.specs.Inclusion.{counted}
-use Rattle.rec_offences.specs.Listing.{listing, known, entries_of}
+use Rattle.rec_includes.specs.Listing.{listing}
+use Rattle.rec_offences.specs.Known.{known, entries_of}
 use Rattle.rec_offences.proofs.Including.{scope_more, sorts_more, rules_more, clashing_more, passing_more}
 use Rattle.rec_offences.proofs.inclusion.Inclusion.include.Goals as goal
 

@@ -4,16 +4,16 @@ use Rattle.rec_reader.specs.declared.token.Name.{Name}
 use Rattle.rec_reader.specs.declared.syntax_tree.Specification.{Specification}
 use Rattle.rec_offences.specs.declared.entries.Verdict.{Verdict}
 use Rattle.rec_offences.specs.declared.inclusion.Inclusion.{Inclusion}
-use Rattle.rec_offences.specs.Names.{same_text}
-use Rattle.rec_offences.specs.Listing.{place_in}
-use Rattle.rec_offences.specs.Material.{included, headers_of}
+use Rattle.rec_includes.specs.Names.{same_text}
+use Rattle.rec_includes.specs.Listing.{place_in}
+use Rattle.rec_includes.specs.Material.{included, headers_of}
 use Rattle.rec_offences.specs.Offences.{includes_from}
 use Rattle.rec_offences.specs.Grouped.{verdict_of}
 use Rattle.rec_offences.specs.Inclusion.{path_of}
-use Rattle.rec_offences.specs.Forest.{cut, parent_of}
-use Rattle.rec_offences.specs.Numbered.{header_names, includes_at, target, first_target}
-use Rattle.rec_offences.proofs.Brought.{target_before}
-use Rattle.rec_offences.proofs.Gathered.{drop_at, drop_all, default_in}
+use Rattle.rec_includes.specs.Forest.{cut, parent_of}
+use Rattle.rec_includes.specs.Numbered.{header_names, includes_at, target, first_target}
+use Rattle.rec_includes.proofs.Brought.{target_before}
+use Rattle.rec_includes.proofs.Gathered.{drop_at, drop_all, default_in}
 use Rattle.rec_offences.proofs.Along.{Along, Ended, ended, past_unknown, past_first, past_other}
 use Rattle.rec_offences.proofs.inclusion.Inclusion.include_all.Goals as goal
 use Rattle.rec_offences.proofs.inclusion.Inclusion.include_all.Goals.{in-None, in-Some, in-Some-2+in_ok-verdict-in-Some-2}

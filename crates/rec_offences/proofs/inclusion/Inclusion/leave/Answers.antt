@@ -1,11 +1,12 @@
 use Rattle.std.proofs.Common.{[], length, take, ap, sym, subst, ◌∙◌}
-use Rattle.rec_offences.specs.Material.{rules_of}
-use Rattle.rec_offences.specs.Numbered.{IsClosed}
+use Rattle.rec_includes.specs.Material.{rules_of}
+use Rattle.rec_includes.specs.Numbered.{IsClosed}
 use Rattle.rec_offences.specs.Faults.{included_entries}
-use Rattle.rec_offences.specs.Listing.{known, listing}
-use Rattle.rec_offences.specs.Material.{sorts_of}
+use Rattle.rec_includes.specs.Listing.{listing}
+use Rattle.rec_offences.specs.Known.{known}
+use Rattle.rec_includes.specs.Material.{sorts_of}
 use Rattle.rec_offences.specs.Inclusion.{counted, IsFront, last_material}
-use Rattle.rec_offences.proofs.Closed.{closed_none}
+use Rattle.rec_includes.proofs.Closed.{closed_none}
 use Rattle.rec_offences.proofs.Levels.{left, last_closed, scope_cut, sorts_cut}
 use Rattle.rec_offences.proofs.inclusion.Inclusion.leave.Goals as goal
 

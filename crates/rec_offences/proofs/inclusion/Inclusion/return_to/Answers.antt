@@ -1,7 +1,7 @@
 use Rattle.std.proofs.Common.{◌≡◌, ℕ, true, false, nat_eq, eqb-true, Option, None, Some, ap, sym, ◌∙◌}
 use Rattle.std.specs.Option.{option_eq}
 use Rattle.rec_offences.specs.Inclusion.{path_of}
-use Rattle.rec_offences.specs.Forest.{cut}
+use Rattle.rec_includes.specs.Forest.{cut}
 use Rattle.rec_offences.proofs.Levels.{cut_further, cut_none, cut_there, no_level}
 use Rattle.rec_offences.proofs.inclusion.Inclusion.return_to.Goals as goal
 

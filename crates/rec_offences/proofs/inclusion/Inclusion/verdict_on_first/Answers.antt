@@ -1,8 +1,8 @@
 use Rattle.std.proofs.Common.{Bool, [], length, sym, ap, ◌∙◌, refl}
 use Rattle.rec_offences.specs.declared.entries.Verdict.{Verdict}
-use Rattle.rec_offences.specs.Material.{fresh, rules_of}
+use Rattle.rec_includes.specs.Material.{fresh, rules_of}
 use Rattle.rec_offences.specs.Faults.{included_entries}
-use Rattle.rec_offences.specs.Listing.{known}
+use Rattle.rec_offences.specs.Known.{known}
 use Rattle.rec_offences.specs.Inclusion.{counted}
 use Rattle.rec_offences.specs.Offences.{symbol_names}
 use Rattle.rec_offences.proofs.Including.{passing_more}

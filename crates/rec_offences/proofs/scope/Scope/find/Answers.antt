@@ -1,8 +1,9 @@
 use Rattle.std.proofs.Common.{slice_get, ◌∙◌, ap, sym}
 use Rattle.std.specs.Option.{option_and_then}
-use Rattle.rec_offences.specs.Names.{same_text}
-use Rattle.rec_offences.specs.Listing.{place_in, entries_of}
-use Rattle.rec_offences.proofs.Places.{found_at}
+use Rattle.rec_includes.specs.Names.{same_text}
+use Rattle.rec_includes.specs.Listing.{place_in}
+use Rattle.rec_offences.specs.Known.{entries_of}
+use Rattle.rec_offences.proofs.LookUps.{found_at}
 use Rattle.rec_offences.proofs.scope.Scope.find.Goals as goal
 
 pub returns-in-Some : goal.returns-in-Some

@@ -1,7 +1,7 @@
 use Rattle.std.proofs.Common.{take, sym, ap, ◌∙◌}
 use Rattle.std.proofs.lemmas.List.{take-map}
 use Rattle.rec_offences.specs.Scope.{names_of}
-use Rattle.rec_offences.specs.Listing.{known, entry_of, entries_of}
+use Rattle.rec_offences.specs.Known.{known, entry_of, entries_of}
 use Rattle.rec_offences.proofs.scope.Scope.truncate.Goals as goal
 
 pub invariant_of-self : goal.invariant_of-self

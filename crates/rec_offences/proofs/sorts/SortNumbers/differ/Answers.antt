@@ -1,7 +1,7 @@
 use Rattle.std.proofs.Common.{◌≡◌, ℕ, Option, Some, not, ap, sym, subst, ◌∙◌}
 use Rattle.std.specs.Prelude.{IfSome}
 use Rattle.rec_reader.specs.declared.token.Name.{Name}
-use Rattle.rec_offences.specs.Listing.{place_of}
+use Rattle.rec_includes.specs.Listing.{place_of}
 use Rattle.rec_offences.proofs.SortPlaces.{same_number}
 use Rattle.rec_offences.proofs.sorts.SortNumbers.differ.Goals as goal
 

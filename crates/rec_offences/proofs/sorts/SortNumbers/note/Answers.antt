@@ -2,8 +2,8 @@ use Rattle.std.proofs.Common.{◌≡◌, ◌∙◌, ℕ, ◌&&◌, List, [], ◌
 use Rattle.std.specs.Map.{lookup}
 use Rattle.std.specs.Prelude.{IfSome}
 use Rattle.rec_reader.specs.declared.token.Name.{Name}
-use Rattle.rec_offences.specs.Names.{is_among}
-use Rattle.rec_offences.specs.Listing.{place_of}
+use Rattle.rec_includes.specs.Names.{is_among}
+use Rattle.rec_includes.specs.Listing.{place_of}
 use Rattle.rec_offences.specs.SortsKept.{name_at, numbers_shown}
 use Rattle.rec_offences.specs.Numbering.{Numbering, number_of}
 use Rattle.rec_offences.proofs.SortPlaces.{place_kept, right_after, right_still}

@@ -1,0 +1,37 @@
+-- Things that are gathered one after another.
+use Rattle.std.proofs.Common.{◌≡◌, ℕ, zero, suc, ◌+◌, ◌<◌, ◌≤◌, List, [], ◌∷◌, ◌++◌, append_assoc, append-nil, length, drop, slice_get, get_or, Some, None, refl, sym, ap, ◌∙◌, add-one, arith, drop-cons}
+use Rattle.std.specs.List.{flat_map}
+use Rattle.std.specs.Option.{option_to_list}
+use Rattle.rec_reader.specs.declared.syntax_tree.Specification.{Specification}
+use Rattle.rec_includes.specs.Material.{specifications_at}
+
+pub drop_at : {X : Type 0} (xs : List X) (i : ℕ) (x : X) → i < length xs → x ≡ get_or xs i x → drop i xs ≡ x ∷ drop (i + 1) xs
+drop_at xs i x l e = drop-cons xs i x l ∙ ap (λ z. z ∷ drop (suc i) xs) (sym e) ∙ ap (λ k. x ∷ drop k xs) (sym (add-one i))
+
+pub drop_all : {X : Type 0} (xs : List X) (i : ℕ) → length xs ≤ i → drop i xs ≡ []
+drop_all [] zero l = refl
+drop_all [] (suc i) l = refl
+drop_all (x ∷ xs) zero l = absurd (omega arith)
+drop_all (x ∷ xs) (suc i) l = drop_all xs i (omega arith)
+
+module _ {X Y : Type 0} (all : List X → List Y) (one : X → List Y) (splits : (x : X) (xs : List X) → all (x ∷ xs) ≡ one x ++ all xs) where
+  -- after one item more
+  pub gathered_turn : (xs : List X) (i : ℕ) (x : X) (was now start : List Y) → i < length xs → x ≡ get_or xs i x →
+      now ≡ was ++ one x → was ++ all (drop i xs) ≡ start → now ++ all (drop (i + 1) xs) ≡ start
+  gathered_turn xs i x was now start l at is before =
+      ap (λ ys. ys ++ all (drop (i + 1) xs)) is
+      ∙ append_assoc was (one x) (all (drop (i + 1) xs))
+      ∙ ap (λ ys. was ++ ys) (sym (splits x (drop (i + 1) xs)))
+      ∙ ap (λ ys. was ++ all ys) (sym (drop_at xs i x l at))
+      ∙ before
+
+pub default_in : {X : Type 0} (xs : List X) (i : ℕ) (d e : X) → i < length xs → get_or xs i d ≡ get_or xs i e
+default_in [] i d e l = absurd (omega arith)
+default_in (x ∷ xs) zero d e l = refl
+default_in (x ∷ xs) (suc i) d e l = default_in xs i d e (omega arith)
+
+pub at_one : {A : Type 0} (f : Specification → List A) (earlier : List Specification) (n : ℕ) (s : Specification) → Some s ≡ slice_get earlier n → f s ≡ flat_map f (specifications_at earlier (n ∷ []))
+at_one f earlier n s h = sym (append-nil (f s)) ∙ ap (λ o. flat_map f (option_to_list o ++ [])) h
+
+pub at_none : {A : Type 0} (f : Specification → List A) (earlier : List Specification) (n : ℕ) → None ≡ slice_get earlier n → [] ≡ flat_map f (specifications_at earlier (n ∷ []))
+at_none f earlier n h = ap (λ o. flat_map f (option_to_list o ++ [])) h

@@ -1,0 +1,11 @@
+use Rattle.std.proofs.Common.{take, ◌∙◌, ap}
+use Rattle.std.specs.Option.{is_some}
+use Rattle.rec_includes.specs.Names.{same_text}
+use Rattle.rec_includes.proofs.Places.{is_some_place}
+use Rattle.rec_includes.proofs.directory.Directory.has_before.Goals as goal
+
+pub returns : goal.returns
+returns c =
+    c.is_some.ensures
+    ∙ ap is_some c.place_before.ensures
+    ∙ is_some_place (same_text c.args.self.now.bytes c.args.name) (take c.args.count c.args.self.now.names)

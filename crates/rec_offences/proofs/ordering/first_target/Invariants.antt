@@ -1,8 +1,0 @@
-use Rattle.std.proofs.Common.{◌≡◌, drop}
-use Rattle.rec_offences.specs.Numbered.{first_target}
-use Rattle.rec_offences.proofs.ordering.first_target.Given as goal
-
--- those before it include none
-abbrev pub invariant-loop-entry : goal.invariant-loop-entry
-invariant-loop-entry l =
-    first_target l.headers.bytes l.headers.names l.number (drop l.entry-index l.entries) ≡ first_target l.headers.bytes l.headers.names l.number l.entries
