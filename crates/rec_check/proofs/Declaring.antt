@@ -1,14 +1,14 @@
 -- Names and symbols added one after another.
-use Rattle.std.proofs.Common.{◌≡◌, ℕ, ◌+◌, ◌<◌, ◌≤◌, Bool, true, false, cond, not, ◌&&◌, List, [], ◌∷◌, ◌++◌, length, map, filter, get_or, drop, slice_get, max, nat_lt, Option, Some, None, is_some, IfSome, refl, sym, ap, subst, ◌∙◌, arith, position, length-append}
+use Rattle.std.proofs.Common.{◌≡◌, ℕ, zero, suc, ◌+◌, ◌<◌, ◌≤◌, Bool, true, false, cond, not, ◌&&◌, ◌||◌, List, [], ◌∷◌, ◌++◌, length, map, filter, get_or, drop, slice_get, max, nat_lt, Option, Some, None, is_some, refl, sym, ap, ◌∙◌, arith, position}
 use Rattle.std.specs.Prelude.{option_and_then, nat_le, if◌then◌else◌}
 use Rattle.std.specs.Option.{option_to_list}
 use Rattle.std.specs.List.{list_any, flat_map}
 use Rattle.std.specs.Str.{bytes_eq}
+use Rattle.std.specs.Cmp.{first_so, second_so}
 use Rattle.std.proofs.lemmas.Bool.Decides.{nat_tests}
 use Rattle.std.proofs.lemmas.List.{map-append, at_drop_more, append-nil}
 use Rattle.std.proofs.lemmas.Grind.{flat_map-append}
-use Rattle.term_model.specs.declared.Symbol.{Symbol}
-use Rattle.symbol_pool.specs.Pool.{Named, named, most_symbols, Holds, Lacks, IsPool}
+use Rattle.symbol_pool.specs.Pool.{Named, named, most_symbols, Lacks}
 use Rattle.rec_reader.specs.declared.token.Name.{Name}
 use Rattle.rec_reader.specs.declared.syntax_tree.Node.{Node}
 use Rattle.rec_reader.specs.declared.syntax_tree.Declaration.{Declaration}
@@ -18,7 +18,8 @@ use Rattle.rec_includes.specs.Material.{Declared, declared, symbols_of_declarati
 use Rattle.rec_check.specs.Named.{with_name, with_names}
 use Rattle.rec_check.specs.Term.{same_symbol, most_arguments}
 use Rattle.rec_check.specs.Symbols.{named_in, may_be_added, with_symbol, with_symbols, widest_of}
-use Rattle.rec_check.proofs.Found.{held_at, lacking}
+use Rattle.rec_check.proofs.Found.{same_self}
+use Rattle.rec_check.proofs.OneByOne.{is_part}
 use Rattle.rec_check.proofs.Positions.{place_if_any}
 
 -- ---- the variables of a left side
@@ -52,26 +53,41 @@ with_names-append names (x ∷ xs) ys = with_names-append (with_name names x) xs
 
 -- ---- one more symbol
 
-pub already : (pool : List Named) (s : Named) (o : Option Symbol) → IsPool pool → IfSome o (λ f. Holds pool f s) → is_some o ≡ true → with_symbol pool s ≡ None
-already pool s None is h e = absurd cc
-already pool s (Some f) is h e =
-    let there : list_any (same_symbol s) pool ≡ true = sym (place_if_any (same_symbol s) pool) ∙ ap is_some (held_at pool f s is h) in
-    let refused : may_be_added pool s ≡ false = ap (λ (b : Bool). nat_le s.arity most_arguments && (not b && nat_lt (length pool) most_symbols)) there ∙ by (nat_le s.arity most_arguments) in
-    ap (λ b. if b then Some (pool ++ s ∷ []) else None) refused
-  where
-    by : (b : Bool) → (b && false) ≡ false
-    by true = refl
-    by false = refl
+-- where a symbol may come next, it is none of those that are there, has no more arguments than may be, and there is room
+module _ (pool : List Named) (s : Named) (h : is_some (with_symbol pool s) ≡ true) where
+  may : may_be_added pool s ≡ true
+  may = by (may_be_added pool s) h
+    where
+      by : (b : Bool) → is_some (if b then Some (pool ++ s ∷ []) else None) ≡ true → b ≡ true
+      by true e = refl
+      by false e = absurd cc
 
-pub comes_last : (pool new : List Named) (s : Named) → IsPool new → s.arity ≤ most_arguments → Lacks pool s → new ≡ pool ++ s ∷ [] → with_symbol pool s ≡ Some new
-comes_last pool new s is few lacks e =
-    let none : list_any (same_symbol s) pool ≡ false = sym (place_if_any (same_symbol s) pool) ∙ ap is_some (lacking pool s lacks) in
-    let room : length (pool ++ s ∷ []) ≤ most_symbols = subst (λ p. length p ≤ most_symbols) e is.room in
-    let longer = length-append pool (s ∷ []) in
-    let a : nat_le s.arity most_arguments ≡ true = grind (arith, nat_tests) in
-    let l : length pool < most_symbols = omega arith in
-    let b : nat_lt (length pool) most_symbols ≡ true = grind (arith, nat_tests) in
-    (λ i. if (a i && (not (none i) && b i)) then Some (pool ++ s ∷ []) else None) ∙ ap Some (sym e)
+  pub few_arguments : s.arity ≤ most_arguments
+  few_arguments = let e = first_so (nat_le s.arity most_arguments) (not (list_any (same_symbol s) pool) && nat_lt (length pool) most_symbols) may in grind (arith, nat_tests)
+
+  is_new : (not (list_any (same_symbol s) pool) && nat_lt (length pool) most_symbols) ≡ true
+  is_new = second_so (nat_le s.arity most_arguments) (not (list_any (same_symbol s) pool) && nat_lt (length pool) most_symbols) may
+
+  pub has_room : length pool ≡ most_symbols → ⊥
+  has_room full = let e = second_so (not (list_any (same_symbol s) pool)) (nat_lt (length pool) most_symbols) is_new in grind (arith, nat_tests)
+
+  pub lacks : Lacks pool s
+  lacks i at = let e = first_so (not (list_any (same_symbol s) pool)) (nat_lt (length pool) most_symbols) is_new in not_among pool i at e
+    where
+      not_among : (ts : List Named) (i : ℕ) → slice_get ts i ≡ Some s → not (list_any (same_symbol s) ts) ≡ true → ⊥
+      not_among [] i at e = cc
+      not_among (t ∷ ts) zero at e =
+          let same : t ≡ s = cc in
+          let bad : false ≡ true = sym (ap (λ b. not (b || list_any (same_symbol s) ts)) (ap (same_symbol s) same ∙ same_self s)) ∙ e in
+          cc
+      not_among (t ∷ ts) (suc i) at e = by (same_symbol s t) e (not_among ts i at)
+        where
+          by : (b : Bool) → not (b || list_any (same_symbol s) ts) ≡ true → (not (list_any (same_symbol s) ts) ≡ true → ⊥) → ⊥
+          by true e on = let bad : false ≡ true = e in cc
+          by false e on = on e
+
+  pub comes_last : (new : List Named) → new ≡ pool ++ s ∷ [] → with_symbol pool s ≡ Some new
+  comes_last new e = ap (λ b. if b then Some (pool ++ s ∷ []) else None) may ∙ ap Some (sym e)
 
 pub widest_of-push : (ss : List Named) (s : Named) → widest_of (ss ++ s ∷ []) ≡ max (widest_of ss) s.arity
 widest_of-push [] s = omega arith
@@ -109,6 +125,12 @@ names_by : (text : List ℕ) (arguments : List Name) (sort : Name) (names : List
 names_by text arguments sort [] = refl
 names_by text arguments sort (n ∷ names) = ap (λ more. named (text_of text n) (length arguments) ∷ more) (names_by text arguments sort names)
 
+-- the next of these names is spelled where all are
+pub next_name : (pool : List Named) (f : Name → Named) (ns : List Name) (i : ℕ) (d : Name) → i < length ns → is_some (with_symbols pool (map f (drop i ns))) ≡ true → is_some (with_symbol pool (f (get_or ns i d))) ≡ true
+next_name pool f ns i d l h =
+    is_part (with_symbol pool (f (get_or ns i d))) (with_symbols pool (map f (drop i ns)))
+    (λ e. at_drop_more (λ rest. with_symbols pool (map f rest)) ns i d l ∙ ap (option_and_then (λ more. with_symbols more (map f (drop (i + 1) ns)))) e) h
+
 -- the names of a declaration
 abbrev pub symbols_at : List ℕ → Declaration → List Named
 symbols_at text d = named_in text (symbols_of_declaration d)
@@ -134,8 +156,8 @@ module _ (text : List ℕ) (ds : List Declaration) where
     pub declares : (new : List Named) → with_symbols pool (map (λ n. named (text_of text n) arity) names) ≡ Some new → from new (i + 1) ≡ from pool i
     declares new e = apart new (i + 1) ∙ adds (symbols_at text) ds i d l pool new (sym here ∙ e) ∙ sym (apart pool i)
 
-    pub declares_not : with_symbols pool (map (λ n. named (text_of text n) arity) names) ≡ None → from pool i ≡ None
-    declares_not e = apart pool i ∙ adds_not (symbols_at text) ds i d l pool (sym here ∙ e)
+    pub is_declared : is_some (from pool i) ≡ true → is_some (with_symbols pool (map (λ n. named (text_of text n) arity) names)) ≡ true
+    is_declared = is_part (with_symbols pool (map (λ n. named (text_of text n) arity) names)) (from pool i) (λ e. apart pool i ∙ adds_not (symbols_at text) ds i d l pool (sym here ∙ e))
 
 -- adding the symbols of the specifications of a material, from a place on
 module _ (text : List ℕ) (specifications : List Specification) (material : List ℕ) where
@@ -169,9 +191,11 @@ module _ (text : List ℕ) (specifications : List Specification) (material : Lis
         ∙ adds symbols_number material i d l pool new (ap (with_symbols pool) (found s ds e same) ∙ h)
         ∙ sym (split pool i)
 
-    pub brings_not : (s : Specification) (ds : List Declaration) → Some s ≡ slice_get specifications (get_or material i d) → ds ≡ s.declarations
-        → with_symbols pool (named_in text (flat_map symbols_of_declaration ds)) ≡ None → from_material pool i ≡ None
-    brings_not s ds e same h = split pool i ∙ adds_not symbols_number material i d l pool (ap (with_symbols pool) (found s ds e same) ∙ h)
+    pub is_brought : (s : Specification) (ds : List Declaration) → Some s ≡ slice_get specifications (get_or material i d) → ds ≡ s.declarations
+        → is_some (from_material pool i) ≡ true → is_some (with_symbols pool (named_in text (flat_map symbols_of_declaration ds))) ≡ true
+    is_brought s ds e same =
+        is_part (with_symbols pool (named_in text (flat_map symbols_of_declaration ds))) (from_material pool i)
+        (λ h. split pool i ∙ adds_not symbols_number material i d l pool (ap (with_symbols pool) (found s ds e same) ∙ h))
 
     pub brings_nothing : None ≡ slice_get specifications (get_or material i d) → from_material pool (i + 1) ≡ from_material pool i
     brings_nothing e =

@@ -1,5 +1,5 @@
 -- Finding a symbol in a pool, and a name among names.
-use Rattle.std.proofs.Common.{◌≡◌, ℕ, ◌<◌, ◌≤◌, Bool, true, false, cond, eqb, ◌&&◌, List, length, get_or, slice_get, nat_lt, Option, Some, None, refl, sym, ap, ◌∙◌, arith, position, IfNone, is_some}
+use Rattle.std.proofs.Common.{◌≡◌, ℕ, zero, suc, ◌<◌, ◌≤◌, Bool, true, false, cond, eqb, ◌&&◌, List, length, get_or, slice_get, nat_lt, Option, Some, None, refl, sym, ap, ◌∙◌, arith, position, IfNone, is_some}
 use Rattle.std.specs.List.{position_or_len}
 use Rattle.std.specs.Str.{bytes_eq}
 use Rattle.std.specs.Cmp.{first_so, second_so}
@@ -11,10 +11,10 @@ use Rattle.std.proofs.lemmas.Bool.{eqb-true, eq-eqb, false_from_ne_true}
 use Rattle.std.specs.Prelude.{nat_le, if◌then◌else◌}
 use Rattle.std.specs.Option.{option_map}
 use Rattle.term_model.specs.declared.Item.{Item}
-use Rattle.term_model.specs.declared.Item.TheVariants.{App}
+use Rattle.term_model.specs.declared.Item.TheVariants.{App, Var}
 use Rattle.symbol_pool.specs.Pool.{Named, named, Holds, Lacks, IsPool}
 use Rattle.term_model.specs.declared.Symbol.{Symbol}
-use Rattle.rec_check.specs.Term.{same_symbol, symbol_item, most_arguments}
+use Rattle.rec_check.specs.Term.{same_symbol, symbol_item, item_by, most_arguments}
 
 -- the first place at which a test passes
 pub position_is : {X : Type 0} (p : X → Bool) (xs : List X) (i : ℕ) (x : X) → slice_get xs i ≡ Some x → p x ≡ true
@@ -59,21 +59,37 @@ held_at pool f s is held = position_is (same_symbol s) pool f.0 s held (same_sel
 pub lacking : (pool : List Named) (s : Named) → Lacks pool s → position (same_symbol s) pool ≡ None
 lacking pool s lacks = position_none (same_symbol s) pool s (λ k t at. differs s t (λ e. lacks k (at ∙ ap Some (sym e))))
 
-pub item_found : (pool : List Named) (name : List ℕ) (count : ℕ) (f : Symbol) → IsPool pool → Holds pool f (named name count) → count ≤ most_arguments
-    → Some (App f count) ≡ symbol_item pool name count
-item_found pool name count f is held few =
-    let small : nat_le count most_arguments ≡ true = grind (arith, nat_tests) in
-    sym (ap (λ b. if b then option_map (λ g. App (record { 0 = g }) count) (position (same_symbol (named name count)) pool) else None) small
-    ∙ ap (option_map (λ g. App (record { 0 = g }) count)) (held_at pool f (named name count) is held))
-
-pub item_lacking : (pool : List Named) (name : List ℕ) (count : ℕ) → Lacks pool (named name count) → None ≡ symbol_item pool name count
+item_lacking : (pool : List Named) (name : List ℕ) (count : ℕ) → Lacks pool (named name count) → symbol_item pool name count ≡ None
 item_lacking pool name count lacks =
-    sym (ap (λ o. if nat_le count most_arguments then option_map (λ g. App (record { 0 = g }) count) o else None) (lacking pool (named name count) lacks) ∙ by (nat_le count most_arguments))
+    ap (λ o. if nat_le count most_arguments then option_map (λ g. App (record { 0 = g }) count) o else None) (lacking pool (named name count) lacks) ∙ by (nat_le count most_arguments)
   where
     by : (b : Bool) → (let no : Option Item = None in if b then no else no) ≡ None
     by true = refl
     by false = refl
 
-pub absent : (pool : List Named) (s : Named) (o : Option Symbol) → IfNone o (Lacks pool s) → is_some o ≡ false → Lacks pool s
-absent pool s None h e = h
-absent pool s (Some f) h e = absurd cc
+-- where a head stands for a symbol, it has no more arguments than may be, and the symbol is found
+module _ (pool : List Named) (name : List ℕ) (count : ℕ) (h : is_some (symbol_item pool name count) ≡ true) where
+  pub is_small : nat_le count most_arguments ≡ true
+  is_small = by (nat_le count most_arguments) (option_map (λ g. App (record { 0 = g }) count) (position (same_symbol (named name count)) pool)) h
+    where
+      by : (b : Bool) (o : Option Item) → is_some (if b then o else None) ≡ true → b ≡ true
+      by true o e = refl
+      by false o e = absurd cc
+
+  pub few_arguments : count ≤ most_arguments
+  few_arguments = let small = is_small in grind (arith, nat_tests)
+
+  pub is_found : (o : Option Symbol) → IfNone o (Lacks pool (named name count)) → is_some o ≡ true
+  is_found None lacks = absurd (let bad : false ≡ true = sym (ap is_some (item_lacking pool name count lacks)) ∙ h in cc)
+  is_found (Some f) lacks = refl
+
+  pub item_found : (f : Symbol) → IsPool pool → Holds pool f (named name count) → symbol_item pool name count ≡ Some (App f count)
+  item_found f is held =
+      ap (λ b. if b then option_map (λ g. App (record { 0 = g }) count) (position (same_symbol (named name count)) pool) else None) is_small
+      ∙ ap (option_map (λ g. App (record { 0 = g }) count)) (held_at pool f (named name count) is held)
+
+-- where a variable is read, it has no arguments
+pub variable_found : (symbols : List Named) (name : List ℕ) (count : ℕ) (o : Option ℕ) (v : ℕ) → Some v ≡ o → is_some (item_by symbols name count o) ≡ true → item_by symbols name count o ≡ Some (Var v)
+variable_found symbols name count None v e h = absurd cc
+variable_found symbols name zero (Some w) v e h = let same : w ≡ v = cc in ap (λ x. Some (Var x)) same
+variable_found symbols name (suc count) (Some w) v e h = absurd cc

@@ -1,5 +1,5 @@
 -- The variables that a specification declares, one declaration after another, and its rules with them.
-use Rattle.std.proofs.Common.{◌≡◌, ℕ, ◌+◌, ◌<◌, List, [], ◌∷◌, ◌++◌, length, map, get_or, drop, Option, Result, refl, sym, ap, subst, ◌∙◌}
+use Rattle.std.proofs.Common.{◌≡◌, ℕ, ◌+◌, ◌<◌, List, [], ◌∷◌, ◌++◌, length, map, get_or, drop, Some, Result, Ok, Err, OnOk, refl, sym, ap, ◌∙◌}
 use Rattle.std.specs.List.{flat_map}
 use Rattle.std.proofs.lemmas.List.{map-append, at_drop_more}
 use Rattle.rewrite_model.specs.Rule.{Rule}
@@ -10,9 +10,7 @@ use Rattle.rec_reader.specs.declared.syntax_tree.Specification.{Specification}
 use Rattle.rec_includes.specs.Names.{text_of}
 use Rattle.rec_includes.specs.Material.{variable}
 use Rattle.rec_reader.specs.declared.syntax_tree.Rule as written_rule
-use Rattle.rec_check.specs.declared.stop.Stop.{Stop}
-use Rattle.rec_check.specs.Gives.{Gives, after}
-use Rattle.rec_check.specs.Term.{all_of}
+use Rattle.rec_check.specs.Term.{after, all_of}
 use Rattle.rec_check.specs.Named.{with_names}
 use Rattle.rec_check.specs.Rule.{rule_in}
 use Rattle.rec_check.specs.Spelled.{variables_of, rules_in}
@@ -41,10 +39,10 @@ writes text vs i v l is list same names new e =
     ap (λ ns. with_names ns rest) e ∙ sym (with_names-append names (map (λ n. text_of text n) list) rest) ∙ sym now
 
 -- the rules with the variables that their specification declares
-pub of_rules : {X : Type 0} (view : X → List Rule) (result : Result X Stop) (old : List Rule) (text : List ℕ) (symbols : List Named) (s : Specification) (names : List (List ℕ)) (list : List written_rule.Rule)
-    → names ≡ variables_of text s → list ≡ s.rules
-    → Gives view result (after old (all_of (λ r. rule_in text symbols names r) list)) → Gives view result (after old (rules_in text symbols s))
-of_rules view result old text symbols s names list e f h =
-    let P : Option (List Rule) → Type 0 = λ o. Gives view result o in
-    let q : after old (all_of (λ r. rule_in text symbols names r) list) ≡ after old (rules_in text symbols s) = λ i. after old (all_of (λ r. rule_in text symbols (e i) r) (f i)) in
-    subst P q h
+module _ (old : List Rule) (text : List ℕ) (symbols : List Named) (s : Specification) (names : List (List ℕ)) (list : List written_rule.Rule) (e : names ≡ variables_of text s) (f : list ≡ s.rules) where
+  pub of_rules : after old (all_of (λ r. rule_in text symbols names r) list) ≡ after old (rules_in text symbols s)
+  of_rules = λ i. after old (all_of (λ r. rule_in text symbols (e i) r) (f i))
+
+  pub on_rules : {U E : Type 0} (result : Result U E) (made : List Rule) → OnOk result (after old (all_of (λ r. rule_in text symbols names r) list) ≡ Some made) → OnOk result (after old (rules_in text symbols s) ≡ Some made)
+  on_rules (Ok u) made h = sym of_rules ∙ h
+  on_rules (Err x) made h = h

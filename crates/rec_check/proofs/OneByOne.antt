@@ -1,12 +1,9 @@
 -- Spelling each of a list, one after another.
-use Rattle.std.proofs.Common.{◌≡◌, ℕ, ◌+◌, ◌<◌, ◌≤◌, length, get_or, drop, List, [], ◌∷◌, ◌++◌, Option, Some, None, Result, Ok, Err, refl, sym, ap, ◌∙◌}
+use Rattle.std.proofs.Common.{◌≡◌, ℕ, ◌+◌, ◌<◌, ◌≤◌, length, get_or, drop, List, [], ◌∷◌, ◌++◌, Option, Some, None, true, false, is_some, refl, sym, ap, ◌∙◌}
 use Rattle.std.specs.Prelude.{option_and_then}
 use Rattle.std.specs.Option.{option_map}
 use Rattle.std.proofs.lemmas.List.{append_assoc, append-nil, at_drop_more, at_drop_all}
-use Rattle.rec_check.specs.declared.stop.Stop.{Stop}
-use Rattle.rec_check.specs.declared.stop.Stop.TheVariants.{Unspelled, Memory}
-use Rattle.rec_check.specs.Gives.{Gives, Stops, after}
-use Rattle.rec_check.specs.Term.{all_of}
+use Rattle.rec_check.specs.Term.{after, all_of}
 
 pub begins : {Y : Type 0} (rest : Option (List Y)) → after [] rest ≡ rest
 begins None = refl
@@ -26,16 +23,10 @@ module _ {X Y : Type 0} (f : X → Option Y) (x : X) (xs : List X) (ys : List Y)
   pub stops : f x ≡ None → after ys (all_of f (x ∷ xs)) ≡ None
   stops e = ap (λ o. after ys (option_and_then (λ z. option_map (λ more. z ∷ more) (all_of f xs)) o)) e
 
--- what a call gave
-module _ {X Y : Type 0} (view : X → Y) where
-  pub given : (r : Result X Stop) (x : X) (spelled : Option Y) → r ≡ Ok x → Gives view r spelled → spelled ≡ Some (view x)
-  given (Ok y) x spelled e h = let same : y ≡ x = cc in h ∙ ap (λ z. Some (view z)) same
-  given (Err e) x spelled is h = absurd cc
-
--- what stops one stops all
-pub all_stop : {Y Z : Type 0} (e : Stop) (one : Option Y) (all : Option Z) → (one ≡ None → all ≡ None) → Stops e one → Stops e all
-all_stop Unspelled one all h s = h s
-all_stop Memory one all h s = tt
+-- where all is spelled, so is a part without which nothing is
+pub is_part : {Y Z : Type 0} (one : Option Y) (all : Option Z) → (one ≡ None → all ≡ None) → is_some all ≡ true → is_some one ≡ true
+is_part None all h e = absurd (let bad : false ≡ true = sym (ap is_some (h refl)) ∙ e in cc)
+is_part (Some y) all h e = refl
 
 -- a loop over a list, at one of its places
 module _ {X Y : Type 0} (f : X → Option Y) (xs : List X) (i : ℕ) (ys : List Y) (total : Option (List Y)) (inv : after ys (all_of f (drop i xs)) ≡ total) where
@@ -49,5 +40,5 @@ module _ {X Y : Type 0} (f : X → Option Y) (xs : List X) (i : ℕ) (ys : List 
     pub next : (y : Y) → f (get_or xs i d) ≡ Some y → after (ys ++ y ∷ []) (all_of f (drop (i + 1) xs)) ≡ total
     next y e = sym (goes_on f (get_or xs i d) (drop (i + 1) xs) ys y e) ∙ here
 
-    pub broken : f (get_or xs i d) ≡ None → total ≡ None
-    broken e = sym here ∙ stops f (get_or xs i d) (drop (i + 1) xs) ys e
+    pub one_spelled : is_some total ≡ true → is_some (f (get_or xs i d)) ≡ true
+    one_spelled = is_part (f (get_or xs i d)) total (λ e. sym here ∙ stops f (get_or xs i d) (drop (i + 1) xs) ys e)

@@ -25,7 +25,7 @@ use Rattle.rec_check.specs.Rule.{◌>>=◌, condition_in, rule_in, variables_in}
 use Rattle.rec_check.specs.Spelled.{variables_of, rules_in, rules_of, terms_in}
 use Rattle.rec_check.proofs.Positions.{place_if_any}
 use Rattle.rec_check.proofs.Heads.{symbol_cases}
-use Rattle.rec_check.proofs.Chains.{goes, sides}
+use Rattle.rec_check.proofs.Chains.{goes, joined}
 use Rattle.rec_check.proofs.Sound.{Holds}
 use Rattle.rec_check.proofs.Whole.{IsOver, variable_over, symbol_over, whole_spells}
 
@@ -216,8 +216,7 @@ module _ (bytes : List ℕ) where
       let n = last_node r.left x.left.whole in
       let read : IsRead symbols vars n.0 = All-at (IsRead symbols vars) r.left (length r.left - 1) n.0 x.left.heads n.1 in
       let h = some_of (root a.tree) (has_root symbols vars r.left a n.0 n.1 (x.head n.0 n.1) read) in
-      let made : Rule = record { left = a.tree; right = b.tree; conditions = c.0; vars = length vars } in
-      ap is_some (sides s r a.tree b.tree c.0 (Some h.0) made (length vars) a.spelled b.spelled c.1 (sym h.1) (λ e. absurd cc) refl refl)
+      ap is_some (joined s r a.tree b.tree c.0 h.0 a.spelled b.spelled c.1 h.1)
 
   -- all rules of a specification, and of a list of specifications
   pub rules_spelled : (symbols : List Named) (ts : List Specification) → All (Reads symbols) ts → (rules : List Rule) × (rules_of bytes symbols ts ≡ Some rules)

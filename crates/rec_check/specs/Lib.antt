@@ -1,5 +1,4 @@
 pub mod Named
-pub mod Gives
 pub mod Term
 pub mod Scope
 pub mod Rule

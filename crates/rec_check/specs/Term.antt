@@ -1,5 +1,5 @@
 -- The tree that the nodes of a term spell.
-use Rattle.std.specs.Prelude.{ℕ, zero, suc, List, [], ◌∷◌, Bool, ◌&&◌, ◌==◌, nat_le, Option, Some, None, option_and_then, position, if◌then◌else◌}
+use Rattle.std.specs.Prelude.{ℕ, zero, suc, List, [], ◌∷◌, ◌++◌, Bool, ◌&&◌, ◌==◌, nat_le, Option, Some, None, option_and_then, position, if◌then◌else◌}
 use Rattle.std.specs.Option.{option_map}
 use Rattle.std.specs.Str.{bytes_eq}
 use Rattle.term_model.specs.Tree.{Tree}
@@ -14,6 +14,10 @@ use Rattle.rec_includes.specs.Names.{text_of}
 abbrev pub all_of : {X Y : Type 0} → (X → Option Y) → List X → Option (List Y)
 all_of f [] = Some []
 all_of f (x ∷ xs) = option_and_then (λ y. option_map (λ ys. y ∷ ys) (all_of f xs)) (f x)
+
+-- what is there already, and what the rest spells
+abbrev pub after : {Y : Type 0} → List Y → Option (List Y) → Option (List Y)
+after ys rest = option_map (λ more. ys ++ more) rest
 
 -- whether two symbols have the same name and the same number of arguments
 abbrev pub same_symbol : Named → Named → Bool

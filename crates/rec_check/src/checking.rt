@@ -9,7 +9,6 @@ ghost use Rattle.rec_check.specs.Symbols.{widest_of};
 
 use crate::last::spell_last;
 use crate::spec::Spec;
-use crate::stop::Stop;
 use rec_offences::fault;
 use rec_reader::{ReadFail, Syntax};
 use std::alloc::Global;
@@ -34,9 +33,5 @@ pub fn check(alloc: Global, syntax: &Syntax) -> Result<Spec, ReadFail>
     if let Some(fault) = fault(alloc, syntax)? {
         return Err(fault.into());
     }
-    match spell_last(alloc, syntax) {
-        Ok(spec) => Ok(spec),
-        Err(Stop::Unspelled) => unreachable!(),
-        Err(Stop::Memory) => Err(ReadFail::Memory),
-    }
+    Ok(spell_last(alloc, syntax)?)
 }

@@ -1,16 +1,13 @@
 //! What the last specification of a syntax spells.
 
-ghost use Rattle.std.specs.Prelude.{◌≡◌, ◌-◌, All, IfOk, length};
+ghost use Rattle.std.specs.Prelude.{◌≡◌, ◌-◌, Some, IfOk, IsSome, length};
 ghost use Rattle.std.specs.Option.{option_copied};
-ghost use Rattle.rec_reader.specs.Whole.{HasWholeTerms};
 ghost use Rattle.rec_includes.specs.Material.{material_of};
-ghost use Rattle.rec_check.specs.Gives.{Gives};
 ghost use Rattle.rec_check.specs.Run.{last_of, spelled_in};
 ghost use Rattle.rec_check.specs.Spec.{specified};
 ghost use Rattle.rec_check.specs.Symbols.{widest_of};
 
 use crate::spec::{Spec, spell};
-use crate::stop::Stop;
 use faults::Memory;
 use rec_includes::material_of;
 use rec_reader::{Specification, Syntax};
@@ -32,10 +29,10 @@ pub(crate) fn last_material(alloc: Global, syntax: &Syntax) -> Result<Vec<usize>
 }
 
 /// What the last specification spells with what it includes.
-pub(crate) fn spell_last(alloc: Global, syntax: &Syntax) -> Result<Spec, Stop>
-    ensures spelled { Gives specified result (spelled_in syntax.now) }
+pub(crate) fn spell_last(alloc: Global, syntax: &Syntax) -> Result<Spec, Memory>
+    requires { IsSome (spelled_in syntax.now) }
+    ensures spelled { IfOk result (λ s. spelled_in syntax.now ≡ Some (specified s)) }
     ensures widest { IfOk result (λ s. s.widest ≡ widest_of s.symbols) }
-    ensures whole { All HasWholeTerms syntax.now.specifications }
 {
     let specifications = syntax.as_slice();
     match last_of(specifications) {

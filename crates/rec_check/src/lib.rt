@@ -10,7 +10,6 @@ mod rules;
 mod scope;
 mod spec;
 mod spelling;
-mod stop;
 mod table;
 mod terms;
 

@@ -1,15 +1,13 @@
 //! Rules from their sides.
 
-ghost use Rattle.std.specs.Prelude.{◌≡◌, IfOk};
+ghost use Rattle.std.specs.Prelude.{◌≡◌, Some, IfOk, IsSome};
 ghost use Rattle.rec_reader.specs.Few.{HasFewNodes};
-ghost use Rattle.rec_check.specs.Gives.{Gives};
 ghost use Rattle.rec_check.specs.Scope.{seen};
 ghost use Rattle.rec_check.specs.Term.{all_of};
 ghost use Rattle.rec_check.specs.Rule.{condition_in, rule_in, sides_in, variables_in};
 
 use crate::names::Names;
 use crate::scope::Scope;
-use crate::stop::Stop;
 use crate::terms::tree_of;
 use faults::Memory;
 use rec_includes::text_of;
@@ -38,16 +36,22 @@ fn variables_of(
     Ok(variables)
 }
 
-fn condition_of(alloc: Global, scope: &Scope, written: &Written) -> Result<Condition, Stop>
-    ensures { Gives (λ c. c) result (condition_in (seen scope.now) written.now) }
+fn condition_of(alloc: Global, scope: &Scope, written: &Written) -> Result<Condition, Memory>
+    requires { IsSome (condition_in (seen scope.now) written.now) }
+    ensures { IfOk result (λ c. condition_in (seen scope.now) written.now ≡ Some c) }
 {
     let first = tree_of(alloc, scope, written.first.as_slice())?;
     let second = tree_of(alloc, scope, written.second.as_slice())?;
     Ok(Condition::new(first, second, written.equal))
 }
 
-fn conditions_of(alloc: Global, scope: &Scope, written: &[Written]) -> Result<Vec<Condition>, Stop>
-    ensures { Gives (λ v. v.items) result (all_of (condition_in (seen scope.now)) written.now) }
+fn conditions_of(
+    alloc: Global,
+    scope: &Scope,
+    written: &[Written],
+) -> Result<Vec<Condition>, Memory>
+    requires { IsSome (all_of (condition_in (seen scope.now)) written.now) }
+    ensures { IfOk result (λ v. all_of (condition_in (seen scope.now)) written.now ≡ Some v.items) }
 {
     let mut conditions = Vec::with_capacity(alloc, written.len())?;
     for condition in written {
@@ -57,15 +61,13 @@ fn conditions_of(alloc: Global, scope: &Scope, written: &[Written]) -> Result<Ve
 }
 
 /// The rule of these sides, whose left side is no variable.
-fn sides_of(alloc: Global, scope: &Scope, written: &WrittenRule) -> Result<Rule, Stop>
-    ensures { Gives (λ r. r) result (sides_in (seen scope.now) written.now) }
+fn sides_of(alloc: Global, scope: &Scope, written: &WrittenRule) -> Result<Rule, Memory>
+    requires { IsSome (sides_in (seen scope.now) written.now) }
+    ensures { IfOk result (λ r. sides_in (seen scope.now) written.now ≡ Some r) }
 {
     let left = tree_of(alloc, scope, written.left.as_slice())?;
     let right = tree_of(alloc, scope, written.right.as_slice())?;
     let conditions = conditions_of(alloc, scope, written.conditions.as_slice())?;
-    if left.root().is_none() {
-        return Err(Stop::Unspelled);
-    }
     let variables = scope.variables.count() as u32;
     Ok(Rule::new(left, right, conditions, variables))
 }
@@ -77,9 +79,10 @@ pub(crate) fn rule_of(
     symbols: &Symbols,
     declared: &Names,
     written: &WrittenRule,
-) -> Result<Rule, Stop>
-    requires { HasFewNodes written.now }
-    ensures { Gives (λ r. r) result (rule_in text.now symbols.now declared.now written.now) }
+) -> Result<Rule, Memory>
+    requires few { HasFewNodes written.now }
+    requires spelled { IsSome (rule_in text.now symbols.now declared.now written.now) }
+    ensures { IfOk result (λ r. rule_in text.now symbols.now declared.now written.now ≡ Some r) }
 {
     let variables = variables_of(alloc, text, declared, written.left.as_slice())?;
     let scope = Scope {

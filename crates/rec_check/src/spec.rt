@@ -1,22 +1,18 @@
 //! The specification that a syntax spells.
 
-ghost use Rattle.std.specs.Prelude.{◌≡◌, All, IfOk};
+ghost use Rattle.std.specs.Prelude.{◌≡◌, All, Some, IfOk, IsSome};
 ghost use Rattle.rec_reader.specs.Few.{HasFewLeftNodes};
-ghost use Rattle.rec_check.specs.Gives.{Gives};
 ghost use Rattle.rec_check.specs.Spelled.{nothing, spelled_by};
 ghost use Rattle.rec_check.specs.Spec.{specified};
 ghost use Rattle.rec_check.specs.Symbols.{widest_of};
 
 use crate::spelling::{rules_of, table_of, terms_of};
-use crate::stop::Stop;
+use faults::Memory;
 use rec_reader::{Node, Sequence, Specification};
 use rewrite_model::Rule;
 use std::alloc::Global;
 use symbol_pool::Symbols;
 use term_model::Flat;
-
-/// How many rules a specification may have.
-pub(crate) const MOST_RULES: usize = 65_535;
 
 /// A specification that may be run.
 #[derive(Drop)]
@@ -53,18 +49,17 @@ pub(crate) fn spell(
     specifications: &[Specification],
     material: &[usize],
     terms: &[Sequence<Node>],
-) -> Result<Spec, Stop>
-    requires { All HasFewLeftNodes specifications.now }
-    ensures spelled { Gives specified result
+) -> Result<Spec, Memory>
+    requires few { All HasFewLeftNodes specifications.now }
+    requires spelled { IsSome
         (spelled_by text.now specifications.now material.now terms.now) }
+    ensures spelled { IfOk result (λ s.
+        spelled_by text.now specifications.now material.now terms.now ≡ Some (specified s)) }
     ensures widest { IfOk result (λ s. s.widest ≡ widest_of s.symbols) }
 {
     let table = table_of(alloc, text, specifications, material)?;
     let rules = rules_of(alloc, text, &table.symbols, specifications, material)?;
     let terms = terms_of(alloc, text, &table.symbols, terms)?;
-    if rules.len() > MOST_RULES {
-        return Err(Stop::Unspelled);
-    }
     Ok(Spec {
         symbols: table.symbols,
         rules,

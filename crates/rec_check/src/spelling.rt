@@ -1,21 +1,19 @@
 //! What specifications spell together.
 
-ghost use Rattle.std.specs.Prelude.{◌≡◌, [], All, map, slice_get, IfOk, OnOk};
+ghost use Rattle.std.specs.Prelude.{◌≡◌, [], All, Some, map, slice_get, IfOk, IsSome, OnOk};
 ghost use Rattle.std.specs.Option.{option_copied};
 ghost use Rattle.rec_reader.specs.Few.{HasFewNodes, HasFewLeftNodes};
-ghost use Rattle.rec_check.specs.Gives.{Gives, after};
 ghost use Rattle.rec_check.specs.Named.{with_names};
 ghost use Rattle.rec_check.specs.Symbols.{named_in, with_symbols};
 ghost use Rattle.rec_check.specs.Rule.{rule_in};
 ghost use Rattle.rec_check.specs.Spelled as spelled;
-ghost use Rattle.rec_check.specs.Term.{all_of};
+ghost use Rattle.rec_check.specs.Term.{after, all_of};
 ghost use Rattle.rec_includes.specs.Material.{symbols_of, specifications_at};
 ghost use Rattle.rec_includes.specs.Names.{text_of};
 
 use crate::names::Names;
 use crate::rules::rule_of;
 use crate::scope::Scope;
-use crate::stop::Stop;
 use crate::table::Table;
 use crate::terms::trees_of;
 use faults::Memory;
@@ -41,9 +39,12 @@ pub(crate) fn table_of(
     text: &[u8],
     specifications: &[Specification],
     material: &[usize],
-) -> Result<Table, Stop>
-    ensures { Gives (λ t. t.symbols) result
+) -> Result<Table, Memory>
+    requires { IsSome
         (with_symbols [] (named_in text.now (symbols_of specifications.now material.now))) }
+    ensures { IfOk result (λ t.
+        with_symbols [] (named_in text.now (symbols_of specifications.now material.now))
+        ≡ Some t.symbols) }
 {
     let mut table = Table::new(alloc);
     for number in material {
@@ -83,10 +84,12 @@ fn push_rules(
     declared: &Names,
     written: &[WrittenRule],
     rules: &mut Vec<Rule>,
-) -> Result<(), Stop>
-    requires { All HasFewNodes written.now }
-    ensures { Gives (λ _. rules.new.items) result
-        (after rules.old.items (all_of (rule_in text.now symbols.now declared.now) written.now)) }
+) -> Result<(), Memory>
+    requires few { All HasFewNodes written.now }
+    requires spelled { IsSome (after rules.old.items
+        (all_of (rule_in text.now symbols.now declared.now) written.now)) }
+    ensures { OnOk result (after rules.old.items
+        (all_of (rule_in text.now symbols.now declared.now) written.now) ≡ Some rules.new.items) }
 {
     for rule in written {
         rules.push(rule_of(alloc, text, symbols, declared, rule)?)?;
@@ -101,10 +104,12 @@ fn add_rules(
     symbols: &Symbols,
     specification: &Specification,
     rules: &mut Vec<Rule>,
-) -> Result<(), Stop>
-    requires { HasFewLeftNodes specification.now }
-    ensures { Gives (λ _. rules.new.items) result
-        (after rules.old.items (spelled.rules_in text.now symbols.now specification.now)) }
+) -> Result<(), Memory>
+    requires few { HasFewLeftNodes specification.now }
+    requires spelled { IsSome (after rules.old.items
+        (spelled.rules_in text.now symbols.now specification.now)) }
+    ensures { OnOk result (after rules.old.items
+        (spelled.rules_in text.now symbols.now specification.now) ≡ Some rules.new.items) }
 {
     let declared = variables_of(alloc, text, specification)?;
     let written = specification.rules.as_slice();
@@ -118,11 +123,12 @@ pub(crate) fn rules_of(
     symbols: &Symbols,
     specifications: &[Specification],
     material: &[usize],
-) -> Result<Vec<Rule>, Stop>
-    requires { All HasFewLeftNodes specifications.now }
-    ensures { Gives (λ v. v.items) result
-        (spelled.rules_of text.now symbols.now
+) -> Result<Vec<Rule>, Memory>
+    requires few { All HasFewLeftNodes specifications.now }
+    requires spelled { IsSome (spelled.rules_of text.now symbols.now
         (specifications_at specifications.now material.now)) }
+    ensures { IfOk result (λ v. spelled.rules_of text.now symbols.now
+        (specifications_at specifications.now material.now) ≡ Some v.items) }
 {
     let mut rules = Vec::new(alloc);
     for number in material {
@@ -139,8 +145,9 @@ pub(crate) fn terms_of(
     text: &[u8],
     symbols: &Symbols,
     terms: &[Sequence<Node>],
-) -> Result<Vec<Flat>, Stop>
-    ensures { Gives (λ v. v.items) result (spelled.terms_in text.now symbols.now terms.now) }
+) -> Result<Vec<Flat>, Memory>
+    requires { IsSome (spelled.terms_in text.now symbols.now terms.now) }
+    ensures { IfOk result (λ v. spelled.terms_in text.now symbols.now terms.now ≡ Some v.items) }
 {
     let variables = Names::new(alloc);
     let scope = Scope {

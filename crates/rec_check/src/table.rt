@@ -1,10 +1,9 @@
 //! The symbols of the specifications that are read together.
 
-ghost use Rattle.std.specs.Prelude.{◌≡◌};
+ghost use Rattle.std.specs.Prelude.{◌≡◌, Some, IsSome, OnOk};
 ghost use Rattle.rec_check.specs.Symbols.{widest_of};
 
-use crate::scope::MOST_ARGUMENTS;
-use crate::stop::Stop;
+use faults::Memory;
 use rec_includes::text_of;
 use rec_reader::{Declaration, Name};
 use std::alloc::Global;
@@ -24,7 +23,6 @@ impl Table {
     ghost use Rattle.rec_includes.specs.Names.{text_of};
     ghost use Rattle.rec_includes.specs.Material.{symbols_of_declaration};
     ghost use Rattle.symbol_pool.specs.Pool.{named};
-    ghost use Rattle.rec_check.specs.Gives.{Gives};
     ghost use Rattle.rec_check.specs.Symbols.{with_symbol, with_symbols, named_in};
 
     /// No symbols. It takes no memory.
@@ -37,32 +35,28 @@ impl Table {
         }
     }
 
-    /// Adds a symbol that isn't there, with at most 16 arguments.
-    fn add(&mut self, name: &[u8], arity: usize) -> Result<(), Stop>
-        ensures { Gives (λ _. self.new.symbols) result
-            (with_symbol self.old.symbols (named name.now arity)) }
+    /// Adds a symbol that isn't there.
+    fn add(&mut self, name: &[u8], arity: usize) -> Result<(), Memory>
+        requires { IsSome (with_symbol self.old.symbols (named name.now arity)) }
+        ensures { OnOk result (with_symbol self.old.symbols (named name.now arity)
+            ≡ Some self.new.symbols) }
     {
-        if arity > MOST_ARGUMENTS {
-            return Err(Stop::Unspelled);
-        }
         let arity = arity as u32;
-        if self.symbols.find(name, arity).is_some() {
-            return Err(Stop::Unspelled);
-        }
         match self.symbols.intern(name, arity) {
             Ok(_) => {
                 self.widest = self.widest.max(arity);
                 Ok(())
             }
-            Err(PoolFault::Full) => Err(Stop::Unspelled),
-            Err(PoolFault::Memory) => Err(Stop::Memory),
+            Err(PoolFault::Full) => unreachable!(),
+            Err(PoolFault::Memory) => Err(Memory),
         }
     }
 
-    fn add_names(&mut self, text: &[u8], names: &[Name], arity: usize) -> Result<(), Stop>
-        ensures { Gives (λ _. self.new.symbols) result
-            (with_symbols self.old.symbols
+    fn add_names(&mut self, text: &[u8], names: &[Name], arity: usize) -> Result<(), Memory>
+        requires { IsSome (with_symbols self.old.symbols
             (map (λ n. named (text_of text.now n) arity) names.now)) }
+        ensures { OnOk result (with_symbols self.old.symbols
+            (map (λ n. named (text_of text.now n) arity) names.now) ≡ Some self.new.symbols) }
     {
         for name in names {
             self.add(text_of(text, *name), arity)?;
@@ -71,10 +65,16 @@ impl Table {
     }
 
     /// Adds the symbols of declarations, in order.
-    pub(crate) fn declare(&mut self, text: &[u8], declarations: &[Declaration]) -> Result<(), Stop>
-        ensures { Gives (λ _. self.new.symbols) result
-            (with_symbols self.old.symbols
+    pub(crate) fn declare(
+        &mut self,
+        text: &[u8],
+        declarations: &[Declaration],
+    ) -> Result<(), Memory>
+        requires { IsSome (with_symbols self.old.symbols
             (named_in text.now (flat_map symbols_of_declaration declarations.now))) }
+        ensures { OnOk result (with_symbols self.old.symbols
+            (named_in text.now (flat_map symbols_of_declaration declarations.now))
+            ≡ Some self.new.symbols) }
     {
         for declaration in declarations {
             let arity = declaration.arguments.as_slice().len();

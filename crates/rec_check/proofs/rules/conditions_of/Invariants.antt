@@ -1,7 +1,6 @@
 use Rattle.std.proofs.Common.{◌≡◌, drop}
-use Rattle.rec_check.specs.Gives.{after}
 use Rattle.rec_check.specs.Scope.{seen}
-use Rattle.rec_check.specs.Term.{all_of}
+use Rattle.rec_check.specs.Term.{after, all_of}
 use Rattle.rec_check.specs.Rule.{condition_in}
 use Rattle.rec_check.proofs.rules.conditions_of.Given as goal
 

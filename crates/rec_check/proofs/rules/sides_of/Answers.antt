@@ -1,18 +1,18 @@
-use Rattle.std.proofs.Common.{sym, ◌∙◌, ap, not}
+use Rattle.std.proofs.Common.{sym, ◌∙◌, ap}
 use Rattle.rec_check.specs.Rule.{condition_in}
 use Rattle.rec_check.specs.Scope.{seen}
 use Rattle.rec_check.specs.Term.{all_of, tree_in}
-use Rattle.rec_check.proofs.Chains.{sides, no_none}
+use Rattle.rec_check.proofs.Chains.{sides}
 use Rattle.rec_check.proofs.rules.sides_of.Goals as goal
 
 pub returns : goal.returns
 returns c =
     let scope = seen c.args.scope.now in
-    sides scope c.args.written.now c.in_ok-left.left c.in_ok-right.right c.in_ok-conditions.conditions.items c.root.result c.new.result c.count-variables.result
+    sides scope c.args.written.now c.requires c.in_ok-left.left
     (ap (tree_in scope) (sym c.as_slice.ensures) ∙ c.in_ok-left.ensures)
+    c.in_ok-right.right
     (ap (tree_in scope) (sym c.as_slice-2.ensures) ∙ c.in_ok-right.ensures)
+    c.in_ok-conditions.conditions.items c.new.result c.count-variables.result
     (ap (all_of (condition_in scope)) (sym c.as_slice-3.ensures) ∙ c.in_ok-conditions.ensures)
-    c.root.ensures
-    (no_none c.root.result (c.is_none.ensures ∙ ap not c.if-is_none.false))
     c.count-variables.ensures
     c.new.ensures

@@ -1,8 +1,12 @@
-use Rattle.rec_check.proofs.Found.{item_found, item_lacking}
+use Rattle.std.proofs.Common.{IfSome, subst}
+use Rattle.symbol_pool.specs.Pool.{Holds, named}
+use Rattle.rec_check.proofs.Found.{is_found, item_found}
 use Rattle.rec_check.proofs.scope.symbol_item.Goals as goal
 
-pub returns-in_err-symbol : goal.returns-in_err-symbol
-returns-in_err-symbol c = rw c.from_residual.ensures (item_lacking _ _ _ c.in_err-symbol.ensures.absent)
+pub unwrap-symbol-requires : goal.unwrap-symbol-requires
+unwrap-symbol-requires c = is_found _ _ _ c.requires c.find.result c.find.ensures.absent
 
 pub returns : goal.returns
-returns c = item_found _ _ _ _ c.in_ok-symbol.ensures.pool c.in_ok-symbol.ensures.found c.if-count-gt-MOST_ARGUMENTS.false
+returns c =
+    item_found _ _ _ c.requires c.unwrap-symbol.result c.find.ensures.pool
+    (subst (λ o. IfSome o (λ s. Holds c.args.symbols.now s (named c.args.name.now c.args.count))) c.unwrap-symbol.ensures c.find.ensures.found)

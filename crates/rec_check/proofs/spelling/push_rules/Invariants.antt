@@ -1,6 +1,5 @@
 use Rattle.std.proofs.Common.{◌≡◌, drop}
-use Rattle.rec_check.specs.Gives.{after}
-use Rattle.rec_check.specs.Term.{all_of}
+use Rattle.rec_check.specs.Term.{after, all_of}
 use Rattle.rec_check.specs.Rule.{rule_in}
 use Rattle.rec_check.proofs.spelling.push_rules.Given as goal
 
