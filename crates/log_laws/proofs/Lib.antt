@@ -1,3 +1,4 @@
 pub mod Numbers
 pub mod Cutting
 pub mod Reading
+pub mod Whole

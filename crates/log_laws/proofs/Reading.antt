@@ -1,6 +1,6 @@
 -- The line of each entry is read as the entry.
-use Rattle.std.proofs.Common.{◌≡◌, ◌∙◌, ℕ, ◌^◌, ◌<◌, true, List, [], ◌∷◌, ◌++◌, drop, append_assoc, Option, Some, refl, sym, ap, arith}
-use Rattle.std.specs.Prelude.{codes, decimal, option_and_then}
+use Rattle.std.proofs.Common.{◌≡◌, ◌∙◌, ℕ, ◌-◌, ◌^◌, ◌<◌, ◌&&◌, true, List, [], ◌∷◌, ◌++◌, drop, append_assoc, Option, Some, None, refl, sym, ap, arith}
+use Rattle.std.specs.Prelude.{codes, decimal, option_and_then, nat_lt, if◌then◌else◌}
 use Rattle.std.specs.Option.{option_map}
 use Rattle.std.specs.List.{AllByRecursion}
 use Rattle.std.proofs.lemmas.Bool.{ne_eqb}
@@ -9,9 +9,10 @@ use Rattle.term_model.specs.declared.Head.TheVariants.{App, Int, Nil, Cons}
 use Rattle.history_core.specs.declared.entry.Entry.{Entry}
 use Rattle.history_core.specs.declared.entry.Entry.TheVariants.{Make, Find, Roots, Collect}
 use Rattle.log_check.specs.Words.{lines, words_after}
-use Rattle.log_check.specs.Form.{is_marked, entry_in, key_in, name_in, names_in, head_in, creation_in, listing_in, make_of, find_of, roots_of, collect_of}
+use Rattle.log_check.specs.Log.{Log, placed, is_inside}
+use Rattle.log_check.specs.Form.{is_marked, line_in, entry_in, key_in, name_in, names_in, head_in, creation_in, listing_in, make_of, find_of, roots_of, collect_of}
 use Rattle.log_text.specs.Lines.{head_text, names_text, creation_text, listing_text, line_of}
-use Rattle.log_laws.specs.ReadBack.{IsTold, AreNames, IsTerm, LinesAreReadBack}
+use Rattle.log_laws.specs.ReadBack.{MayTell, IsTold, AreNames, IsTerm, LinesAreReadBack}
 use Rattle.log_laws.proofs.Numbers.{IsDigit, digits_of, below_back}
 use Rattle.log_laws.proofs.Cutting.{Without, AllWithout, without_both, line_cut, spaced, spaced_without, words_back, ends_last}
 
@@ -20,7 +21,7 @@ digits_without : (b : ℕ) (ds : List ℕ) → b < 48 → AllByRecursion IsDigit
 digits_without b [] l a = tt
 digits_without b (d ∷ ds) l a = (ne_eqb d b (λ same. (let i = a.0.0 in absurd (omega (arith, l, i, same)))), digits_without b ds l a.1)
 
-decimal_without : (b n : ℕ) → b < 48 → n < 2 ^ 64 → Without b (decimal n)
+pub decimal_without : (b n : ℕ) → b < 48 → n < 2 ^ 64 → Without b (decimal n)
 decimal_without b n l s = digits_without b (decimal n) l (digits_of n s).0
 
 -- names as words
@@ -76,24 +77,20 @@ listing_back : (n : ℕ) (ns : List ℕ) → n < 2 ^ 62 → AreNames ns → list
 listing_back n ns l a = rw (key_back n l, names_back ns a) refl
 
 -- a line without its mark and its line feed, as words
-record IsLine (bytes word : List ℕ) (ws : List (List ℕ)) : Type 0 where
+pub record IsLine (bytes word : List ℕ) (ws : List (List ℕ)) : Type 0 where
   pub is : bytes ≡ (35 ∷ (32 ∷ (word ++ spaced ws))) ++ 10 ∷ []
   pub feeds : Without 10 word × AllWithout 10 ws
   pub spaces : Without 32 word × AllWithout 32 ws
 
-line_back : (bytes word : List ℕ) (ws : List (List ℕ)) (e : Entry) → IsLine bytes word ws → entry_in word ws ≡ Some e → (rest : List ℕ)
-    → (text : List ℕ) × (front : List ℕ) × (words : List (List ℕ)) × (lines (bytes ++ rest) ≡ text ∷ lines rest) × (is_marked text ≡ true)
-    × (words_after (drop 1 text) ≡ front ∷ words) × (entry_in front words ≡ Some e)
-line_back bytes word ws e h reads rest =
+pub cut_line : (bytes word : List ℕ) (ws : List (List ℕ)) → IsLine bytes word ws → (rest : List ℕ)
+    → (text : List ℕ) × (lines (bytes ++ rest) ≡ text ∷ lines rest) × (is_marked text ≡ true) × (words_after (drop 1 text) ≡ word ∷ ws)
+cut_line bytes word ws h rest =
     let text : List ℕ = 35 ∷ (32 ∷ (word ++ spaced ws)) in
     let free : Without 10 text = (refl, (refl, without_both 10 word (spaced ws) h.feeds.0 (spaced_without ws h.feeds.1))) in (
       text,
-      word,
-      ws,
       ap (λ (z : List ℕ). lines (z ++ rest)) h.is ∙ (ap lines (append_assoc text (10 ∷ []) rest) ∙ line_cut text rest free),
       refl,
       words_back word ws h.spaces.0 h.spaces.1,
-      reads,
     )
 
 creation_line : (word : List ℕ) (n : ℕ) (h : Head) (args : List ℕ) (row : ℕ) → n < 2 ^ 62 → IsTerm row h args → Without 10 word → Without 32 word
@@ -122,20 +119,69 @@ listing_line word n ns l a feeds spaces = record {
     all : (b : ℕ) → b < 48 → AllWithout b (decimal n ∷ name_words ns)
     all b small = (decimal_without b n small (omega (arith, l)), names_without b ns small a)
 
+-- a log with an entry on this line
+abbrev pub step_of : ℕ → Log → Entry → Option Log
+step_of n log e =
+    if is_inside log.stage && nat_lt 0 log.begun
+    then Some (record {
+      stage = log.stage;
+      rows = log.rows;
+      callers = log.callers;
+      begun = log.begun;
+      noted = log.noted ++ record { line = n; caller = log.begun - 1; entry = e } ∷ [];
+    }) else None
+
+pub through : {A L : Type 0} (f : A → L) (g : L → Option Log) (o : Option A) (a : A) → o ≡ Some a → option_and_then g (option_map f o) ≡ g (f a)
+through f g o a e = ap (λ x. option_and_then g (option_map f x)) e
+
+-- the line of an entry: its words are read as the entry, and as a step of a log
+pub record IsEntryLine (e : Entry) : Type 0 where
+  pub word : List ℕ
+  pub words : List (List ℕ)
+  pub line : IsLine (line_of e) word words
+  pub reads : entry_in word words ≡ Some e
+  pub steps : (n : ℕ) (log : Log) → option_and_then (placed n log) (line_in (word ∷ words)) ≡ step_of n log e
+
+pub entry_line : (e : Entry) → MayTell e → IsEntryLine e
+entry_line (Make n h args row) t =
+    let is = ap (λ o. option_map make_of o) (creation_back n h args row t.0 t.1) in
+    record {
+      word = codes "make";
+      words = creation_words n h args row;
+      line = creation_line (codes "make") n h args row t.0 t.1 (refl, (refl, (refl, (refl, tt)))) (refl, (refl, (refl, (refl, tt))));
+      reads = is;
+      steps = λ m log. through _ (placed m log) _ (Make n h args row) is;
+    }
+entry_line (Find n h args row) t =
+    let is = ap (λ o. option_map find_of o) (creation_back n h args row t.0 t.1) in
+    record {
+      word = codes "find";
+      words = creation_words n h args row;
+      line = creation_line (codes "find") n h args row t.0 t.1 (refl, (refl, (refl, (refl, tt)))) (refl, (refl, (refl, (refl, tt))));
+      reads = is;
+      steps = λ m log. through _ (placed m log) _ (Find n h args row) is;
+    }
+entry_line (Roots n ns) t =
+    let is = ap (λ o. option_map roots_of o) (listing_back n ns t.0 t.1) in
+    record {
+      word = codes "roots";
+      words = decimal n ∷ name_words ns;
+      line = listing_line (codes "roots") n ns t.0 t.1 (refl, (refl, (refl, (refl, (refl, tt))))) (refl, (refl, (refl, (refl, (refl, tt)))));
+      reads = is;
+      steps = λ m log. through _ (placed m log) _ (Roots n ns) is;
+    }
+entry_line (Collect n ns) t =
+    let is = ap (λ o. option_map collect_of o) (listing_back n ns t.0 t.1) in
+    record {
+      word = codes "collect";
+      words = decimal n ∷ name_words ns;
+      line = listing_line (codes "collect") n ns t.0 t.1 (refl, (refl, (refl, (refl, (refl, (refl, (refl, tt))))))) (refl, (refl, (refl, (refl, (refl, (refl, (refl, tt)))))));
+      reads = is;
+      steps = λ m log. through _ (placed m log) _ (Collect n ns) is;
+    }
+
 pub read_back : LinesAreReadBack
-read_back (Make n h args row) t rest =
-    line_back (line_of (Make n h args row)) (codes "make") (creation_words n h args row) (Make n h args row)
-    (creation_line (codes "make") n h args row t.0 t.1 (refl, (refl, (refl, (refl, tt)))) (refl, (refl, (refl, (refl, tt)))))
-    (ap (λ o. option_map make_of o) (creation_back n h args row t.0 t.1)) rest
-read_back (Find n h args row) t rest =
-    line_back (line_of (Find n h args row)) (codes "find") (creation_words n h args row) (Find n h args row)
-    (creation_line (codes "find") n h args row t.0 t.1 (refl, (refl, (refl, (refl, tt)))) (refl, (refl, (refl, (refl, tt)))))
-    (ap (λ o. option_map find_of o) (creation_back n h args row t.0 t.1)) rest
-read_back (Roots n ns) t rest =
-    line_back (line_of (Roots n ns)) (codes "roots") (decimal n ∷ name_words ns) (Roots n ns)
-    (listing_line (codes "roots") n ns t.0 t.1 (refl, (refl, (refl, (refl, (refl, tt))))) (refl, (refl, (refl, (refl, (refl, tt))))))
-    (ap (λ o. option_map roots_of o) (listing_back n ns t.0 t.1)) rest
-read_back (Collect n ns) t rest =
-    line_back (line_of (Collect n ns)) (codes "collect") (decimal n ∷ name_words ns) (Collect n ns)
-    (listing_line (codes "collect") n ns t.0 t.1 (refl, (refl, (refl, (refl, (refl, (refl, (refl, tt))))))) (refl, (refl, (refl, (refl, (refl, (refl, (refl, tt))))))))
-    (ap (λ o. option_map collect_of o) (listing_back n ns t.0 t.1)) rest
+read_back e t rest =
+    let is = entry_line e t in
+    let cut = cut_line (line_of e) is.word is.words is.line rest in
+    (cut.0, is.word, is.words, cut.1, cut.2, cut.3, is.reads)
