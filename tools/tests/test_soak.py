@@ -15,6 +15,11 @@ FULL = 'cat >/dev/null; case "$*" in *--workers=1\\ *) echo a ;; *) exit 4 ;; es
 OTHER = 'cat >/dev/null; case "$*" in *--workers=8\\ *) echo b ;; *) echo a ;; esac'
 FULL_WITH_BYTES = 'cat >/dev/null; echo a; case "$*" in *--workers=16\\ *) exit 4 ;; esac'
 REFUSES = "cat >/dev/null; exit 3"
+# Programs that write a log of one line behind their line, and check one.
+LOGS = 'case "$1" in check) grep -q "^# log 1" && echo legal 0 || exit 9 ;; *) cat >/dev/null; echo a; WRITTEN ;; esac'
+UNLOGGED = LOGS.replace("WRITTEN", 'case "$*" in *--workers=8\\ *) ;; *) echo "# log 1" ;; esac')
+ILLEGAL = LOGS.replace("WRITTEN", 'case "$*" in *--workers=8\\ *) echo "# log 2" ;; *) echo "# log 1" ;; esac')
+LOGS = LOGS.replace("WRITTEN", 'echo "# log 1"')
 
 
 class Soak(unittest.TestCase):
@@ -23,9 +28,9 @@ class Soak(unittest.TestCase):
         self.addCleanup(room.cleanup)
         self.room = room.name
 
-    def soak(self, text: str) -> tuple[str, int]:
+    def soak(self, text: str, *options: str) -> tuple[str, int]:
         program = support.script(self.room, f"{text}\n")
-        here = f"cd {self.room} && exec {SOAK} 0 --seed 7 --rec {program}"
+        here = f"cd {self.room} && exec {SOAK} 0 --seed 7 --rec {program} {' '.join(options)}"
         out, err, status = run(["sh", "-c", here])
         self.assertEqual(err, b"")
         return out.decode(), status
@@ -46,12 +51,20 @@ class Soak(unittest.TestCase):
                 self.assertTrue(file.read().startswith(b"REC-SPEC SOAK\n"))
             os.remove(f"{self.room}/soak-difference.rec")
 
+    def test_logs_are_checked_and_left_out_of_the_lines(self) -> None:
+        self.assertEqual(self.soak(LOGS, "--log")[1], 0)
+        for program in (UNLOGGED, ILLEGAL):
+            out, status = self.soak(program, "--log")
+            self.assertEqual(status, 1, program)
+            self.assertIn("--workers=8", out)
+
     def test_one_specification_is_soaked_on_the_program(self) -> None:
         if not support.IS_BUILT:
             self.skipTest("the program isn't built")
-        out, err, status = run([SOAK, "0", "--seed", "1", "--rec", PROGRAM])
-        self.assertEqual((err, status), (b"", 0))
-        self.assertIn(b"no difference", out)
+        for options in ([], ["--log"]):
+            out, err, status = run([SOAK, "0", "--seed", "1", "--rec", PROGRAM, *options])
+            self.assertEqual((err, status), (b"", 0))
+            self.assertIn(b"no difference", out)
 
     def test_a_program_that_is_not_there(self) -> None:
         _, err, status = run([SOAK, "0", "--rec", f"{self.room}/none"])
