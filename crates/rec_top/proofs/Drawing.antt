@@ -1,10 +1,10 @@
 -- Which terms each worker drew, where a list tells the worker of each term: all that they build is a front of itself.
-use Rattle.std.proofs.Common.{◌≡◌, ◌≢◌, ◌==◌, ℕ, zero, suc, ◌+◌, ◌<◌, ◌≤◌, cond, true, false, Bool, List, [], ◌∷◌, ◌++◌, length, get_or, slice_get, Some, None, eq-eqb, ne_eqb, refl, sym, ap, subst, ◌∙◌, add-zero, zero-add, append-nil, arith, All, map}
+use Rattle.std.proofs.Common.{◌≡◌, ◌≢◌, ◌==◌, ℕ, zero, suc, ◌+◌, ◌<◌, ◌≤◌, cond, true, false, Bool, List, [], ◌∷◌, length, get_or, slice_get, Some, None, eq-eqb, ne_eqb, refl, sym, ap, subst, ◌∙◌, add-zero, zero-add, append-nil, arith, All, map}
 use mathlib.Core.Logic.{dite}
 use native.Mathlib.Decide.{ℕ_discrete}
 use Rattle.std.specs.List.{flat_map}
 use Rattle.std.proofs.lemmas.Option.{same_Some}
-use Rattle.std.proofs.lemmas.List.Elements.{All-nil, All-head, All-tail, All-cons, All-weaker}
+use Rattle.std.proofs.lemmas.List.Elements.{All-nil, All-cons, All-weaker}
 use Rattle.std.proofs.lemmas.List.Concat.{flat_map-cons}
 use Rattle.term_model.specs.Tree.{Tree, Leaf}
 use Rattle.history_core.specs.declared.entry.Entry.{Entry}

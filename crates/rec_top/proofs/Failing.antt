@@ -7,7 +7,7 @@ use Rattle.rec_reader.specs.declared.fail.ReadFail.{ReadFail}
 use Rattle.rec_reader.specs.declared.fail.ReadFail.TheVariants as fail
 use Rattle.rec_top.specs.Answered.{FailsSpelling}
 use Rattle.rec_check.specs.Conditional.{first_if}
-use Rattle.rec_top.specs.Rewritten.{Spells, IsSpecificationFault, IsConditionFault, IsInputFault, MeetsConditions}
+use Rattle.rec_top.specs.Rewritten.{Spells, IsConditionFault, IsInputFault, MeetsConditions}
 use Rattle.rec_top.specs.declared.specification.Conditions.{Conditions}
 use Rattle.rec_top.specs.declared.specification.Conditions.TheVariants as conditions
 use Rattle.rec_top.specs.Stops.{stop_of_fail}

@@ -20,3 +20,4 @@ pub mod Pushing
 pub mod Traces
 pub mod Unconditional
 pub mod Accepting
+pub mod Logged

@@ -1,6 +1,5 @@
 -- Checking a log: what is answered, or why it stops, is what the definitions say of the input.
-use Rattle.std.proofs.Common.{◌≡◌, ◌⊎◌, inl, inr, ℕ, List, Bool, true, false, Result, Ok, Err, refl, sym, ap, ap₂, subst, ◌∙◌}
-use Rattle.std.specs.Prelude.{if◌then◌else◌}
+use Rattle.std.proofs.Common.{◌≡◌, ◌⊎◌, inl, inr, ℕ, List, true, false, Result, Ok, Err, refl, sym, ap, ap₂, subst, ◌∙◌}
 use Rattle.faults.specs.declared.refusal.Refusal.{Refusal}
 use Rattle.rec_reader.specs.declared.fail.ReadFail.{ReadFail}
 use Rattle.rec_reader.specs.declared.fail.ReadFail.TheVariants as fail
@@ -8,9 +7,8 @@ use Rattle.log_check.specs.Log.{Log, log_in}
 use Rattle.log_check.specs.Verdict.{IsFound, IsRefused}
 use Rattle.log_check.specs.declared.verdict.LogVerdict.{LogVerdict}
 use Rattle.log_check.specs.declared.verdict.LogVerdict.TheVariants.{Legal, Illegal}
-use Rattle.log_check.proofs.OneVerdict.{IsOf, found_of, one_verdict, illegal_is_bad}
+use Rattle.log_check.proofs.OneVerdict.{found_of, one_verdict, illegal_is_bad}
 use Rattle.rec_top.specs.Written.{Output}
-use Rattle.rec_top.specs.Sequence.{IsSplit}
 use Rattle.rec_top.specs.Checked.{verdict_output, IsLogChecked, IsLogFault, IsGoodLog, IsBadLog}
 use Rattle.rec_top.specs.Answered.{IsAnswer, StopsChecking}
 use Rattle.rec_top.specs.Stops.{stop_of_fail}

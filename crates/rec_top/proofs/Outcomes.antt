@@ -1,5 +1,5 @@
 -- What is said of an answer that may not have been made, where it is known how it ended.
-use Rattle.std.proofs.Common.{◌≡◌, ◌⊎◌, inl, inr, ℕ, List, [], map, refl, sym, ap, subst, ◌∙◌}
+use Rattle.std.proofs.Common.{◌≡◌, ◌⊎◌, inl, inr, ℕ, List, [], map, sym, subst, ◌∙◌}
 use Rattle.std.specs.Prelude.{Result, Ok, Err, IfOk, IfErr, length}
 use Rattle.faults.specs.declared.refusal.Refusal.{Refusal}
 use Rattle.history_core.specs.declared.entry.Entry.{Entry}

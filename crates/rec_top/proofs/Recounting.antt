@@ -1,6 +1,6 @@
 -- What a history tells of an input, told of the run that read it.
-use Rattle.std.proofs.Common.{◌≡◌, ◌⊎◌, inl, inr, ℕ, List, [], Option, Some, refl, sym, ap, subst, ◌∙◌, arith}
-use Rattle.std.specs.Prelude.{Result, Ok, Err, IfOk, IfErr, IsErrAnd, map, length}
+use Rattle.std.proofs.Common.{◌≡◌, ◌⊎◌, inl, inr, ℕ, List, [], Option, Some, refl, sym, subst, ◌∙◌, arith}
+use Rattle.std.specs.Prelude.{Result, Ok, Err, IfOk, IfErr, IsErrAnd, length}
 use Rattle.std.proofs.lemmas.Option.{same_Some}
 use Rattle.history_core.specs.declared.entry.Entry.{Entry}
 use Rattle.history_core.specs.Chronicle.{chronicle, entries_of, IsLegal}
@@ -13,7 +13,6 @@ use Rattle.settings.specs.declared.parts.Settings.{Settings}
 use Rattle.shared_work.specs.Sharing.{CollectsFew, EachRises}
 use Rattle.rec_check.specs.Spelled.{Specified}
 use Rattle.rec_drill.specs.Drill.{drill_bytes}
-use Rattle.rec_top.specs.Rewritten.{Spells}
 use Rattle.rec_top.specs.Input.{GaveInput}
 use Rattle.rec_top.specs.Lines.{stop_status}
 use Rattle.rec_top.specs.Run.{IsMade}

@@ -3,7 +3,7 @@ use Rattle.std.proofs.Common.{◌≡◌, ◌⊎◌, inl, inr, ℕ, List, true, f
 use Rattle.faults.specs.declared.refusal.Refusal.{Refusal}
 use Rattle.term_commands.specs.declared.fault.TermsFault.{TermsFault}
 use Rattle.term_commands.specs.declared.fault.TermsFault.TheVariants as terms
-use Rattle.term_commands.specs.Listing.{IsListed, IsUntold, IsTooMuch, IsTextFault}
+use Rattle.term_commands.specs.Listing.{IsListed, IsUntold, IsTextFault}
 use Rattle.term_commands.specs.Packing.{IsPacked}
 use Rattle.term_commands.specs.Unpacking.{IsUnpacked, IsClosed, IsFileFault}
 use Rattle.term_commands.proofs.OneText.{one_text, one_fault, no_fault, not_too_much}
@@ -15,7 +15,6 @@ use Rattle.rec_top.specs.Answered.{IsAnswer, StopsTelling, StopsUnpacking}
 use Rattle.rec_top.specs.Stops.{stop_of_terms}
 use Rattle.rec_top.specs.declared.answers.Answer.{Answer}
 use Rattle.rec_top.specs.declared.stops.Stop.TheVariants as stop
-use Rattle.rec_top.proofs.Joined.{no_workers}
 
 -- ---- text
 pub text_stops : (rows : ℕ) (input : List ℕ) (f : TermsFault) → IsUntold rows input f → StopsTelling rows input (stop_of_terms f)

@@ -1,5 +1,5 @@
 -- An output with traces has one verdict or one fault.
-use Rattle.std.proofs.Common.{◌≡◌, ◌⊎◌, inl, inr, ℕ, List, length, take, drop, Option, Some, None, Bool, true, false, refl, sym, ap, ap₂, subst, ◌∙◌}
+use Rattle.std.proofs.Common.{◌≡◌, ◌⊎◌, inl, inr, ℕ, List, length, Some, None, true, false, refl, sym, ap, subst, ◌∙◌}
 use Rattle.std.proofs.lemmas.Option.{same_Some}
 use Rattle.faults.specs.declared.refusal.Refusal.{Refusal}
 use Rattle.rec_check.specs.Conditional.{first_if}
@@ -11,7 +11,7 @@ use Rattle.run_checks.specs.Form.{wrong_line}
 use Rattle.run_checks.specs.Parts.{parts}
 use Rattle.run_checks.specs.Specification as traced
 use Rattle.run_checks.proofs.Soundness.{is_sound}
-use Rattle.run_checks.specs.Verdict.{IsRefused, HasParts, IsChecked, IsBadHeading, IsBadSpecification, IsBadLine, term_lines, trace_lines, verdict}
+use Rattle.run_checks.specs.Verdict.{IsRefused, HasParts, IsChecked, IsBadSpecification, term_lines, trace_lines, verdict}
 use Rattle.rec_reader.specs.Parsed.{Parsed}
 use Rattle.rec_reader.specs.declared.fail.ReadFail.{ReadFail}
 use Rattle.rec_reader.specs.declared.fail.ReadFail.TheVariants as fail

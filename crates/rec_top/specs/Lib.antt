@@ -6,6 +6,7 @@ pub mod Histories
 pub mod Input
 pub mod Laws
 pub mod Lines
+pub mod Logged
 pub mod Output
 pub mod Rewritten
 pub mod Run

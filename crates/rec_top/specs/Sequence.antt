@@ -8,7 +8,6 @@ use Rattle.settings.specs.declared.parts.Settings.{Settings}
 use Rattle.term_lines.specs.Laws.{WritesNames}
 use Rattle.term_lines.specs.Line.{line_text, is_value, is_value_kind, spent_of}
 use Rattle.rewrite_workers.specs.Lined.{said, line_of, trace_of, end_of}
-use Rattle.rewrite_workers.specs.declared.lines.Line.{Line}
 use Rattle.rewrite_workers.specs.declared.lines.Lines.{Lines}
 use Rattle.shared_work.specs.Numbers.{LacksRows}
 use Rattle.shared_work.specs.Wearing.{WearsOut}

@@ -1,10 +1,11 @@
 // From a source to the output of a command.
-ghost use Rattle.std.specs.Prelude.{◌≡◌, ◌≤◌, ◌⊎◌, ℕ, List, Some, IfOk, IfErr, IsErrOf, length, vec_len};
+ghost use Rattle.std.specs.Prelude.{◌≡◌, ◌≤◌, ◌⊎◌, ℕ, List, Some, IfOk, IfErr, OnOk, IsErrOf, length, vec_len};
 ghost use Rattle.ends.specs.Bytes.{GaveAll};
 ghost use Rattle.settings.specs.Words.{AreInRange};
 ghost use Rattle.rec_top.specs.Written.{Output};
 ghost use Rattle.rec_top.specs.Input.{ReadsSource, HasInput};
 ghost use Rattle.rec_top.specs.Output.{IsOutput, IsFault, IsFaultWithin, IsTooLongAt, HasRows, HasNumbers, limit_of, too_long};
+ghost use Rattle.rec_top.specs.Logged.{log_bytes, log_by};
 ghost use Rattle.rec_top.specs.Rewritten.{conditions_of};
 ghost use Rattle.rec_top.specs.Run.{GaveOutput, HasNoFault};
 ghost use Rattle.rec_top.specs.Histories.{SpellsSuch, GaveSuch, TellsHistory};
@@ -101,6 +102,8 @@ fn output_for<R: Threads + Wait + Sync, G: Gate>(
     ensures refused { (fault : Refusal) → IsFaultWithin settings.now input.now fault
         → StopsWith result.answer fault }
     ensures history { TellsHistory settings.now (SpellsSuch input.now) result.answer result.chronicle }
+    ensures log { OnOk result.answer
+        (log_bytes result.log ≡ log_by settings.now.command settings.now result.chronicle) }
 {
     match settings.command {
         Command::Rewrite => rewritten(rt, alloc, settings, conditions_of(settings), input, gate),
@@ -140,6 +143,8 @@ fn answer_read<R: Threads + Wait + Sync, S: Source, G: Gate>(
         → HasNoFault S.faults source.old source.new → StopsWith result.answer fault }
     ensures history { TellsHistory settings.now
         (GaveSuch settings.now S.left source.old source.new) result.answer result.chronicle }
+    ensures log { OnOk result.answer
+        (log_bytes result.log ≡ log_by settings.now.command settings.now result.chronicle) }
     ensures later { S.faults source.old ≤ S.faults source.new }
 {
     match input_of(alloc, source, limit_of(settings.command)) {
@@ -173,6 +178,8 @@ pub fn answer_of<R: Threads + Wait + Sync, S: Source, G: Gate>(
     ensures unread { settings.now.command ≡ Command.Drill → source.new ≡ source.old }
     ensures history { TellsHistory settings.now
         (GaveSuch settings.now S.left source.old source.new) result.answer result.chronicle }
+    ensures log { OnOk result.answer
+        (log_bytes result.log ≡ log_by settings.now.command settings.now result.chronicle) }
     ensures later { S.faults source.old ≤ S.faults source.new }
 {
     match settings.command {

@@ -1,5 +1,5 @@
 // What a command answers before anything is written.
-ghost use Rattle.std.specs.Prelude.{◌≡◌, []};
+ghost use Rattle.std.specs.Prelude.{◌≡◌, [], None};
 
 use crate::results::Workers;
 use crate::stops::Stop;
@@ -23,6 +23,8 @@ pub struct Finished {
     pub answer: Result<Answer, Stop>,
     /// The history of its workers.
     pub chronicle: Chronicle,
+    /// The log of that history, where one is asked, to be written behind the output.
+    pub log: Option<Vec<u8>>,
 }
 
 impl Finished {
@@ -30,10 +32,12 @@ impl Finished {
     pub fn alone(answer: Result<Answer, Stop>) -> Self
         ensures answer { result.answer ≡ answer }
         ensures chronicle { result.chronicle ≡ [] }
+        ensures log { result.log ≡ None }
     {
         Finished {
             answer,
             chronicle: Chronicle::empty(),
+            log: None,
         }
     }
 }

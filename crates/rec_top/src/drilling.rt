@@ -1,9 +1,10 @@
 // The command `drill`: from a number to what came of the terms of its text.
-ghost use Rattle.std.specs.Prelude.{◌≡◌, IfOk, IfErr, map};
+ghost use Rattle.std.specs.Prelude.{◌≡◌, IfOk, IfErr, OnOk, map};
 ghost use Rattle.rec_drill.specs.Drill.{drill_bytes};
 ghost use Rattle.settings.specs.Words.{AreInRange};
 ghost use Rattle.rewrite_workers.specs.Lined.{worker_of};
 ghost use Rattle.rec_top.specs.Written.{Output};
+ghost use Rattle.rec_top.specs.Logged.{IsThere, log_bytes, log_asked};
 ghost use Rattle.rec_top.specs.Drilled.{IsDrilled, drill_output};
 ghost use Rattle.rec_top.specs.Rewritten.{RowsSuffice, NumbersSuffice};
 ghost use Rattle.rec_top.specs.Sequence.{AreLinesOf};
@@ -27,13 +28,17 @@ use std::alloc::Global;
 use std::sync::Wait;
 use std::thread::Threads;
 
-// What is told of the lines of a drill.
-fn told(alloc: Global, settings: &Settings, lines: &Lines) -> Result<Answer, Stop>
+// What is told of the lines of a drill, before the log that is asked; where it isn't there, memory lacked.
+fn told(alloc: Global, settings: &Settings, lines: &Lines, logged: bool) -> Result<Answer, Stop>
     ensures made { (spec : Specified) → AreLinesOf settings.now spec lines.now
         → IfOk result (λ answer. IsAnswer settings.now.workers answer (drill_output settings.now spec)) }
     ensures workers { IfOk result (λ answer. answer.workers ≡ map worker_of lines.now.list.items) }
     ensures stopped { IfErr result (λ why. why ≡ stop.Memory) }
+    ensures logged { OnOk result (IsThere settings.now logged) }
 {
+    if settings.log && !logged {
+        return Err(Stop::Memory);
+    }
     let output = counts(
         alloc,
         settings.count,
@@ -83,27 +88,27 @@ pub fn drilled<R: Threads + Wait + Sync, G: Gate>(
         → Answers result.answer (λ answer. IsAnswer settings.now.workers answer output) }
     ensures history { TellsTerms settings.now (SpellsSuch (drill_bytes settings.now.count))
         result.answer result.chronicle }
+    ensures log { OnOk result.answer (log_bytes result.log ≡ log_asked settings.now result.chronicle) }
 {
     let text = match drill_text(alloc, settings.count) {
         Ok(text) => text,
         Err(Memory) => return Finished::alone(Err(Stop::Memory)),
     };
-    let Worked { lines, chronicle } = lines_for(
-        rt,
-        alloc,
-        settings,
-        Conditions::Accepted,
-        &text,
-        gate,
-    );
+    let Worked {
+        lines,
+        chronicle,
+        log,
+    } = lines_for(rt, alloc, settings, Conditions::Accepted, &text, gate);
     match lines {
         Ok(lines) => Finished {
-            answer: told(alloc, settings, &lines),
+            answer: told(alloc, settings, &lines, log.is_some()),
             chronicle,
+            log,
         },
         Err(stop) => Finished {
             answer: Err(stop_of(stop)),
             chronicle,
+            log: None,
         },
     }
 }

@@ -1,11 +1,12 @@
 // The command `rewrite`: from a specification to the lines of its terms, and their traces.
-ghost use Rattle.std.specs.Prelude.{◌≡◌, ◌≤◌, [], Err, IfOk, IfErr, OnOk, length, map};
+ghost use Rattle.std.specs.Prelude.{◌≡◌, ◌≤◌, [], None, Err, IfOk, IfErr, OnOk, length, map};
 ghost use Rattle.settings.specs.Words.{AreInRange};
 ghost use Rattle.settings.specs.declared.parts.Settings.{Settings};
 ghost use Rattle.history_core.specs.Chronicle.{chronicle, IsLegal};
 ghost use Rattle.rewrite_workers.specs.Lined.{worker_of};
 ghost use Rattle.shared_work.specs.Sharing.{CollectsFew, EachRises};
 ghost use Rattle.rec_top.specs.Written.{Output};
+ghost use Rattle.rec_top.specs.Logged.{MayHaveLog, IsThere, log_bytes, log_asked};
 ghost use Rattle.rec_top.specs.Rewritten.{IsRewritten, IsInputFault, MeetsConditions, RowsSuffice, NumbersSuffice, IsNamed, Spells, output_of};
 ghost use Rattle.rec_top.specs.Sequence.{AreLinesOf, StopsTerms, text_told};
 ghost use Rattle.rec_top.specs.Histories.{CountsWorkers, NamesAll, SpellsSuch, TellsStop, TellsTerms};
@@ -33,11 +34,12 @@ use std::alloc::Global;
 use std::sync::Wait;
 use std::thread::Threads;
 
-/// The lines of terms, or why there are none; and the history of the workers.
+/// The lines of terms, or why there are none; the history of the workers; and its log, where one is asked and there was memory for it.
 #[derive(Drop)]
 pub struct Worked {
     pub lines: Result<Lines, Stop>,
     pub chronicle: Chronicle,
+    pub log: Option<Vec<u8>>,
 }
 
 impl Worked {
@@ -45,10 +47,12 @@ impl Worked {
     fn stopped(stop: Stop) -> Self
         ensures lines { result.lines ≡ Err stop }
         ensures chronicle { result.chronicle ≡ [] }
+        ensures log { result.log ≡ None }
     {
         Worked {
             lines: Err(stop),
             chronicle: Chronicle::empty(),
+            log: None,
         }
     }
 }
@@ -76,6 +80,7 @@ fn rewrite<R: Threads + Wait + Sync, G: Gate>(
     ensures built { IfOk result.lines (λ lines.
         NamesAll (map worker_of lines.list.items) result.chronicle settings.now (specified spec)) }
     ensures ended { IfErr result.lines (TellsStop settings.now (λ P. P (specified spec)) result.chronicle) }
+    ensures log { MayHaveLog settings.now result.chronicle result.log }
 {
     let plan = match Plan::of(alloc, spec.rules, spec.widest) {
         Ok(plan) => plan,
@@ -87,15 +92,21 @@ fn rewrite<R: Threads + Wait + Sync, G: Gate>(
         terms: &spec.terms,
         settings: *settings,
     };
-    let Rewritten { lines, chronicle } = rewrite_shared(rt, alloc, &work, gate);
+    let Rewritten {
+        lines,
+        chronicle,
+        log,
+    } = rewrite_shared(rt, alloc, &work, gate);
     match lines {
         Ok(lines) => Worked {
             lines: Ok(lines),
             chronicle,
+            log,
         },
         Err(fault) => Worked {
             lines: Err(Stop::from(fault)),
             chronicle,
+            log,
         },
     }
 }
@@ -125,6 +136,7 @@ pub fn lines_for<R: Threads + Wait + Sync, G: Gate>(
     ensures built { IfOk result.lines (λ lines. SpellsSuch input.now
         (NamesAll (map worker_of lines.list.items) result.chronicle settings.now)) }
     ensures ended { IfErr result.lines (TellsStop settings.now (SpellsSuch input.now) result.chronicle) }
+    ensures log { MayHaveLog settings.now result.chronicle result.log }
 {
     match specification_of(alloc, conditions, input) {
         Ok(spec) => rewrite(rt, alloc, settings, spec, gate),
@@ -145,14 +157,18 @@ fn text_of(alloc: Global, lines: &Lines, traced: bool) -> Result<Vec<u8>, Memory
     Ok(text)
 }
 
-// What is written of lines.
-fn told(alloc: Global, settings: &Settings, lines: &Lines) -> Result<Answer, Stop>
+// What is written of lines, before the log that is asked; where it isn't there, memory lacked.
+fn told(alloc: Global, settings: &Settings, lines: &Lines, logged: bool) -> Result<Answer, Stop>
     requires one_each { length lines.now.traces.items ≡ length lines.now.list.items }
     ensures made { (spec : Specified) → AreLinesOf settings.now spec lines.now
         → IfOk result (λ answer. IsAnswer settings.now.workers answer (output_of settings.now spec)) }
     ensures workers { IfOk result (λ answer. answer.workers ≡ map worker_of lines.now.list.items) }
     ensures stopped { IfErr result (λ why. why ≡ stop.Memory) }
+    ensures logged { OnOk result (IsThere settings.now logged) }
 {
+    if settings.log && !logged {
+        return Err(Stop::Memory);
+    }
     let output = text_of(alloc, lines, settings.trace)?;
     let workers = workers_of(alloc, &lines.list)?;
     Ok(Answer {
@@ -182,16 +198,23 @@ pub fn rewritten<R: Threads + Wait + Sync, G: Gate>(
         → Answers result.answer (λ answer. IsAnswer settings.now.workers answer output) }
     ensures refused { (fault : Refusal) → IsInputFault conditions input.now fault → StopsWith result.answer fault }
     ensures history { TellsTerms settings.now (SpellsSuch input.now) result.answer result.chronicle }
+    ensures log { OnOk result.answer (log_bytes result.log ≡ log_asked settings.now result.chronicle) }
 {
-    let Worked { lines, chronicle } = lines_for(rt, alloc, settings, conditions, input, gate);
+    let Worked {
+        lines,
+        chronicle,
+        log,
+    } = lines_for(rt, alloc, settings, conditions, input, gate);
     match lines {
         Ok(lines) => Finished {
-            answer: told(alloc, settings, &lines),
+            answer: told(alloc, settings, &lines, log.is_some()),
             chronicle,
+            log,
         },
         Err(stop) => Finished {
             answer: Err(stop),
             chronicle,
+            log: None,
         },
     }
 }

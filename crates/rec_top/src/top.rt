@@ -1,7 +1,9 @@
 // The top call.
-ghost use Rattle.std.specs.Prelude.{◌≡◌, ◌≢◌, ◌⊎◌, ◌≤◌, [], None};
-ghost use Rattle.faults.specs.Count.{Rose};
+ghost use Rattle.std.specs.Prelude.{◌≡◌, ◌≢◌, ◌⊎◌, ◌≤◌, [], ◌++◌, None, OnOk, OnErr};
+ghost use Rattle.faults.specs.Count.{Rose, HasCause};
 ghost use Rattle.ends.specs.Bytes.{TookFront};
+ghost use Rattle.std.specs.Io.KnownBytes.{Appends};
+ghost use Rattle.rec_top.specs.Logged.{log_bytes, with_log};
 ghost use Rattle.settings.specs.Words.{settings_of, texts};
 ghost use Rattle.rec_top.specs.Written.{Output, status_for};
 ghost use Rattle.rec_top.specs.Lines.{fault_line, status_line, TookLine};
@@ -13,7 +15,7 @@ use crate::answering::answer_of;
 use crate::answers::Finished;
 use crate::results::{Outcome, Workers};
 use crate::stops::{Stop, stopped, stopped_before};
-use ends::{Gate, Sink, Source, write_all};
+use ends::{Gate, Sink, Source, WriteFault, write_all};
 use settings::{WordsFault, settings};
 use std::alloc::Global;
 use std::sync::Wait;
@@ -30,6 +32,21 @@ fn status_for(values: bool, refuted: bool) -> u8
         0
     } else {
         1
+    }
+}
+
+// Writes an output, and the log behind it, where there is one.
+fn write_both<O: Sink>(out: &mut O, output: &[u8], log: &Option<Vec<u8>>) -> Result<(), WriteFault>
+    ensures whole { OnOk result
+        (Appends (O.taken out.old) (O.taken out.new) (output.now ++ log_bytes log.now)) }
+    ensures front { OnErr result
+        (TookFront (O.taken out.old) (O.taken out.new) (output.now ++ log_bytes log.now)) }
+    ensures fault_only_where_count_rose { HasCause (O.faults out.old) (O.faults out.new) result }
+{
+    write_all(out, output)?;
+    match log {
+        Some(log) => write_all(out, log),
+        None => Ok(()),
     }
 }
 
@@ -70,7 +87,8 @@ pub fn run<R: Threads + Wait + Sync, S: Source, O: Sink, E: Sink, G: Gate>(
     // Each other status comes only where it has its cause.
     ensures whole_only_where_out_took_the_output { IsWhole result.status → (output : Output)
         × HasOutput (texts words.now) S.left source.old source.new output
-        × IsWritten O.taken out.old out.new output result.status × HasWorkers (texts words.now) result.workers output }
+        × IsWritten O.taken out.old out.new (with_log (texts words.now) result.chronicle output) result.status
+        × HasWorkers (texts words.now) result.workers output }
     ensures upheld_where_right { result.status ≡ 0 → IsUpheld (texts words.now) S.left source.old source.new }
     ensures refuted_only_where_wrong { result.status ≡ 9 → IsRefuted (texts words.now) S.left source.old source.new }
     ensures refused_only_where_faulty { result.status ≡ 3 → (fault : Refusal)
@@ -86,7 +104,8 @@ pub fn run<R: Threads + Wait + Sync, S: Source, O: Sink, E: Sink, G: Gate>(
         → Rose (O.faults out.old) (O.faults out.new) }
     ensures write_fault_leaves_a_front { result.status ≡ 6 → (output : Output)
         × HasOutput (texts words.now) S.left source.old source.new output
-        × TookFront (O.taken out.old) (O.taken out.new) output.bytes × HasWorkers (texts words.now) result.workers output }
+        × TookFront (O.taken out.old) (O.taken out.new) (with_log (texts words.now) result.chronicle output).bytes
+        × HasWorkers (texts words.now) result.workers output }
     ensures statuses { IsStatus result.status }
 
     // A drill reads nothing, and so is neither refused nor stopped by a read.
@@ -107,7 +126,8 @@ pub fn run<R: Threads + Wait + Sync, S: Source, O: Sink, E: Sink, G: Gate>(
     // fault, memory aside.
     ensures complete { (output : Output) → Accepts (texts words.now) S.left source.old output
         → HasNoFault S.faults source.old source.new → HasNoFault O.faults out.old out.new
-        → IsWritten O.taken out.old out.new output result.status ⊎ (result.status ≡ 7) }
+        → IsWritten O.taken out.old out.new (with_log (texts words.now) result.chronicle output) result.status
+        ⊎ (result.status ≡ 7) }
     ensures complete_for_refused { (fault : Refusal) → Refuses (texts words.now) S.left source.old fault
         → HasNoFault S.faults source.old source.new
         → ((result.status ≡ 3) × TookLine E.taken E.faults err.old err.new (fault_line fault)) ⊎ (result.status ≡ 7) }
@@ -152,12 +172,16 @@ pub fn run<R: Threads + Wait + Sync, S: Source, O: Sink, E: Sink, G: Gate>(
         Err(WordsFault::Usage) => return stopped_before(alloc, err, Stop::Usage),
         Err(WordsFault::Memory) => return stopped_before(alloc, err, Stop::Memory),
     };
-    let Finished { answer, chronicle } = answer_of(rt, alloc, &settings, source, gate);
+    let Finished {
+        answer,
+        chronicle,
+        log,
+    } = answer_of(rt, alloc, &settings, source, gate);
     let answer = match answer {
         Ok(answer) => answer,
         Err(stop) => return stopped(err, stop, Workers::none(alloc), chronicle),
     };
-    match write_all(out, &answer.output) {
+    match write_both(out, &answer.output, &log) {
         Ok(()) => Outcome {
             status: status_for(answer.values, answer.refuted),
             chronicle,

@@ -10,6 +10,8 @@ mod large;
 #[cfg(test)]
 mod large_terms;
 #[cfg(test)]
+mod logs;
+#[cfg(test)]
 mod rows;
 #[cfg(test)]
 mod terms;

@@ -10,6 +10,7 @@ const REWRITE: Settings = Settings {
     rows: 65_536,
     depth: 4_096,
     sizes: false,
+    log: false,
     trace: false,
     count: 0,
     seats: 2,
@@ -67,7 +68,7 @@ fn words_of(alloc: Global, line: &str) -> Result<Vec<String>, AllocError> {
     Ok(words)
 }
 
-static ACCEPTED: [(&str, Settings); 33] = [
+static ACCEPTED: [(&str, Settings); 36] = [
     ("rec rewrite", REWRITE),
     ("rec rewrite --fuel 2", Settings { fuel: 2, ..REWRITE }),
     ("rec rewrite --fuel=+0", Settings { fuel: 0, ..REWRITE }),
@@ -152,6 +153,30 @@ static ACCEPTED: [(&str, Settings); 33] = [
             ..REWRITE
         },
     ),
+    (
+        "rec rewrite --log --sizes",
+        Settings {
+            log: true,
+            sizes: true,
+            ..REWRITE
+        },
+    ),
+    (
+        "rec drill --log 2",
+        Settings {
+            log: true,
+            count: 2,
+            ..DRILL
+        },
+    ),
+    (
+        "rec outermost --rows 3 --log",
+        Settings {
+            rows: 3,
+            log: true,
+            ..OUTERMOST
+        },
+    ),
     ("rec drill 1", Settings { count: 1, ..DRILL }),
     (
         "rec drill +065535",
@@ -231,7 +256,7 @@ fn accepted_words_give_their_settings(rt: HostRuntime) -> Result<(), Fail> {
     Ok(())
 }
 
-static REFUSED: [&str; 109] = [
+static REFUSED: [&str; 115] = [
     "",
     "rec",
     "rec --help",
@@ -271,7 +296,6 @@ static REFUSED: [&str; 109] = [
     "rec drill N",
     "rec drill N=5",
     "rec drill --cache 0 5",
-    "rec drill 5 --log",
     "rec Drill 5",
     "rec term",
     "rec terms --rows",
@@ -301,6 +325,13 @@ static REFUSED: [&str; 109] = [
     "rec rewrite --trace --trace",
     "rec rewrite --trac",
     "rec drill 5 --trace",
+    "rec rewrite --log --trace",
+    "rec rewrite --trace --rows 3 --log",
+    "rec rewrite --log=",
+    "rec rewrite --log 1",
+    "rec rewrite --log --log",
+    "rec outermost --lo",
+    "rec terms --log",
     "rec check logs",
     "rec check traces",
     "rec check trace log",

@@ -4,7 +4,7 @@ use Rattle.std.specs.Prelude.{find, option_map}
 use Rattle.std.specs.List.{list_any, list_all}
 use Rattle.std.proofs.lemmas.Slice.Eq.{bytes_eq-Decides}
 use Rattle.settings.specs.declared.options.OptionName.{OptionName}
-use Rattle.settings.specs.declared.options.OptionName.TheVariants.{Workers, Fuel, Rows, Depth, Sizes, Trace, Count, Seats}
+use Rattle.settings.specs.declared.options.OptionName.TheVariants.{Workers, Fuel, Rows, Depth, Sizes, Log, Trace, Count, Seats}
 use Rattle.settings.specs.Words.{Text, Uses, name_of, is_same, is_given, stands_alone, takes_value}
 
 -- ---- booleans
@@ -130,6 +130,8 @@ same_is Depth Depth e = refl
 same_is Depth q e = cc
 same_is Sizes Sizes e = refl
 same_is Sizes q e = cc
+same_is Log Log e = refl
+same_is Log q e = cc
 same_is Trace Trace e = refl
 same_is Trace q e = cc
 same_is Count Count e = refl
@@ -143,6 +145,7 @@ alone_is Fuel e = cc
 alone_is Rows e = cc
 alone_is Depth e = cc
 alone_is Sizes e = cc
+alone_is Log e = cc
 alone_is Trace e = cc
 alone_is Count e = refl
 alone_is Seats e = cc

@@ -12,6 +12,7 @@ pub enum OptionName {
     Rows,
     Depth,
     Sizes,
+    Log,
     Trace,
     /// The number of a drill, which stands without a name.
     Count,
@@ -76,6 +77,7 @@ pub fn options(command: Command) -> &'static [OptionName]
             OptionName::Rows,
             OptionName::Depth,
             OptionName::Sizes,
+            OptionName::Log,
             OptionName::Trace,
         ],
         Command::Drill => &[
@@ -83,6 +85,7 @@ pub fn options(command: Command) -> &'static [OptionName]
             OptionName::Fuel,
             OptionName::Rows,
             OptionName::Depth,
+            OptionName::Log,
             OptionName::Count,
         ],
         Command::Schedule => &[OptionName::Seats],
@@ -94,6 +97,7 @@ pub fn options(command: Command) -> &'static [OptionName]
             OptionName::Rows,
             OptionName::Depth,
             OptionName::Sizes,
+            OptionName::Log,
         ],
     }
 }
@@ -109,7 +113,10 @@ pub fn stands_alone(option: OptionName) -> bool
 pub fn has_value(option: OptionName) -> bool
     ensures { result ≡ takes_value option }
 {
-    !matches!(option, OptionName::Sizes | OptionName::Trace)
+    !matches!(
+        option,
+        OptionName::Sizes | OptionName::Log | OptionName::Trace
+    )
 }
 
 /// The name of an option, behind two hyphens in its word. It is lent for as long as the words are, since a command
@@ -123,6 +130,7 @@ pub fn name<'a>(option: OptionName, _words: &'a [String]) -> &'a str
         OptionName::Rows => "rows",
         OptionName::Depth => "depth",
         OptionName::Sizes => "sizes",
+        OptionName::Log => "log",
         OptionName::Trace => "trace",
         OptionName::Count => "count",
         OptionName::Seats => "seats",
@@ -134,7 +142,7 @@ pub fn least(option: OptionName) -> u64
     ensures { result ≡ least_of option }
 {
     match option {
-        OptionName::Fuel | OptionName::Sizes | OptionName::Trace => 0,
+        OptionName::Fuel | OptionName::Sizes | OptionName::Log | OptionName::Trace => 0,
         OptionName::Workers
         | OptionName::Rows
         | OptionName::Depth
@@ -152,7 +160,7 @@ pub fn most(option: OptionName) -> u64
         OptionName::Fuel => 1_000_000_000,
         OptionName::Rows => 262_144,
         OptionName::Depth => 65_536,
-        OptionName::Sizes | OptionName::Trace => 0,
+        OptionName::Sizes | OptionName::Log | OptionName::Trace => 0,
         OptionName::Count => 65_535,
         OptionName::Seats => 16,
     }

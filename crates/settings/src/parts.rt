@@ -40,7 +40,9 @@ pub struct Settings {
     pub depth: u32,
     /// Whether a value's sizes are written in place of its text.
     pub sizes: bool,
-    /// Whether the steps that lead to each value are written too. Never together with `sizes`.
+    /// Whether the log of the store's callers is written too.
+    pub log: bool,
+    /// Whether the steps that lead to each value are written too. Never together with `sizes` or `log`.
     pub trace: bool,
     /// The number that a drill is made from, 1 to 65,535; 0 where the command is no drill.
     pub count: u32,

@@ -51,6 +51,7 @@ fn settings_in(command: Command, matches: &ArgMatches, words: &[String]) -> Sett
         rows: short_number(matches, words, OptionName::Rows, 65_536),
         depth: short_number(matches, words, OptionName::Depth, 4_096),
         sizes: has_flag(matches, words, OptionName::Sizes),
+        log: has_flag(matches, words, OptionName::Log),
         trace: has_flag(matches, words, OptionName::Trace),
         count: short_number(matches, words, OptionName::Count, 0),
         seats: short_number(matches, words, OptionName::Seats, 2),
@@ -110,13 +111,14 @@ fn read_each(alloc: Global, command: Command, words: &[String]) -> Result<Settin
     Ok(settings_in(command, &matches, words))
 }
 
-// The settings of a command with these words after it. Sizes stand in the place of the texts that traces lead to.
+// The settings of a command with these words after it. Sizes stand in the place of the texts that traces lead to, and a log where
+// traces stand.
 fn read_options(alloc: Global, command: Command, words: &[String]) -> Result<Settings, WordsFault>
     ensures { MatchResult result (λ given. settings_after command (texts words.now) ≡ Some given)
         (λ fault. fault ≡ WordsFault.Usage → settings_after command (texts words.now) ≡ None) }
 {
     let settings = read_each(alloc, command, words)?;
-    if settings.sizes && settings.trace {
+    if settings.trace && (settings.sizes || settings.log) {
         return Err(WordsFault::Usage);
     }
     Ok(settings)
@@ -148,9 +150,10 @@ fn split_command<'a>(words: &'a [String]) -> Option<(Command, &'a [String])>
 /// Reads the words that the program is started with: its name, a command, and options of that command in any order,
 /// with the number of a drill among them. `check` is a command with the word after it, and has no options.
 ///
-/// An option is `--name value` or `--name=value`, and stands at most once; `--sizes` and `--trace` have no value, and
-/// aren't given together. A number is an optional `+` and one or more digits, within the option's range. All other words
-/// are `Usage`, among them `--`, `--help` and the beginning of a name. `Memory` may come wherever there is none.
+/// An option is `--name value` or `--name=value`, and stands at most once; `--sizes`, `--log` and `--trace` have no value,
+/// and `--trace` isn't given with another of them. A number is an optional `+` and one or more digits, within the option's
+/// range. All other words are `Usage`, among them `--`, `--help` and the beginning of a name. `Memory` may come wherever
+/// there is none.
 pub fn settings(alloc: Global, words: &[String]) -> Result<Settings, WordsFault>
     ensures settings { MatchResult result (λ given. settings_of (texts words.now) ≡ Some given)
         (λ fault. fault ≡ WordsFault.Usage → settings_of (texts words.now) ≡ None) }

@@ -27,7 +27,7 @@ use Rattle.shared_desk.specs.Desk.{store_of}
 use Rattle.shared_desk.specs.Telling.{protected_by}
 use Rattle.shared_desk.proofs.Telling.{crowd_is_last, crowd_is_of_its_names, hand_is_protected, load_is_most}
 use Rattle.shared_work.specs.Running.{HasRun, WantsMemory}
-use Rattle.shared_work.specs.Numbers.{NeedsMore, TellsNeed}
+use Rattle.shared_work.specs.Numbers.{TellsNeed}
 use Rattle.shared_work.proofs.Closing.{Worker, worker, all_got}
 use Rattle.shared_work.proofs.Needing.{below, asked_in_hand, point_needs, drawn_needs, crowd_needs}
 use Rattle.shared_work.proofs.Reached.{NoneBy, last_collect, end_of_nothing, kept_below}

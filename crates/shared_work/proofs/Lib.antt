@@ -13,3 +13,4 @@ pub mod Wearing
 pub mod Members
 pub mod Fronts
 pub mod Fewer
+pub mod Logging

@@ -1,6 +1,7 @@
 -- What workers leave of the desks at the passes of one store.
-use Rattle.std.specs.Prelude.{◌≡◌, List, Result, Err, IfOk, IfErr, map}
+use Rattle.std.specs.Prelude.{◌≡◌, ℕ, true, List, Result, Err, IfOk, IfErr, map}
 use Rattle.term_model.specs.Tree.{Tree}
+use Rattle.history_core.specs.declared.entry.Entry.{Entry}
 use Rattle.rewrite_model.specs.Rule.{Rule}
 use Rattle.settings.specs.declared.parts.Settings.{Settings}
 use Rattle.busy_forbidden.specs.Dealt.{EachPlace}
@@ -13,6 +14,8 @@ use Rattle.rewrite_workers.specs.Lined.{worker_of, drawn_by}
 use Rattle.rewrite_workers.specs.Works.{need_of}
 use Rattle.node_rows.specs.declared.store.Store.{Store}
 use Rattle.node_rows.specs.declared.store.Pass.{Pass}
+use Rattle.node_rows.specs.Told.{view_of}
+use Rattle.log_text.specs.Lines.{log_of}
 use Rattle.shared_desk.specs.Code.{Contents}
 use Rattle.shared_desk.specs.Desk.{store_of, IsSame}
 use Rattle.shared_work.specs.NewDesks.{IsNewDesk, AreBack}
@@ -20,6 +23,14 @@ use Rattle.shared_work.specs.NewDesks.{IsNewDesk, AreBack}
 -- there was no memory
 abbrev pub WantsMemory : Result Lines AllFault → Type 0
 WantsMemory lines = lines ≡ Err Memory
+
+-- a log that was asked, of these lists
+abbrev pub IsAskedLog : Settings → List (List Entry) → List ℕ → Type 0
+IsAskedLog s lists text = (s.log ≡ true) × (text ≡ log_of s.rows lists)
+
+-- the entries of passes, in their order
+abbrev pub entries_of : List Pass → List (List Entry)
+entries_of passes = map (λ p. (view_of p).store.entries) passes
 
 -- The desks were new; what each has built is as `rewrite_all` says; and these passes are those that they gave back.
 pub record HasRun (s : Settings) (rules : List Rule) (terms : List Tree) (store : Store) (lines : Result Lines AllFault) (passes : List Pass) : Type 0 where

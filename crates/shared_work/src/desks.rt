@@ -4,6 +4,7 @@ ghost use Rattle.settings.specs.Words.{AreInRange};
 ghost use Rattle.busy_forbidden.specs.Dealt.{EachPlace};
 ghost use Rattle.store_core.specs.StoreValue.{MaySize};
 ghost use Rattle.node_rows.specs.Passes.{IsStore};
+ghost use Rattle.node_rows.specs.Told.{view_of};
 ghost use Rattle.shared_desk.specs.Desk.{store_of};
 ghost use Rattle.shared_desk.specs.Telling.{MayHaveDesk};
 ghost use Rattle.shared_work.specs.NewDesks.{sizes_for, IsNewPass, IsNewDesk, AreBack};
@@ -11,7 +12,7 @@ ghost use Rattle.shared_work.specs.NewDesks.{sizes_for, IsNewPass, IsNewDesk, Ar
 use faults::Memory;
 use node_rows::{Pass, Store};
 use rewrite_workers::Work;
-use shared_desk::{Desk, OwnPass};
+use shared_desk::{Desk, LogDesk, OwnPass};
 use std::alloc::Global;
 use std::sync::Wait;
 use store_core::Sizes;
@@ -81,6 +82,53 @@ pub(crate) fn desks_at<'a, R: Wait>(
 
 /// The passes of desks that are out, in their order, in memory that has room for them.
 pub(crate) fn passes_of<R: Wait>(room: Vec<Pass>, desks: Vec<Desk<OwnPass<'_, R>>>) -> Vec<Pass>
+    requires outside { All (λ d. (store_of d).inside ≡ false) desks.items }
+    requires empty { room.items ≡ [] }
+    requires wide { vec_len desks ≤ vec_capacity room }
+    ensures back { AreBack desks.entry.items result.items }
+{
+    let mut passes = room;
+    for desk in desks {
+        passes.push_reserved(desk.into_pass());
+    }
+    passes
+}
+
+// A desk that writes a log, at a pass of a new store.
+fn log_desk_at<'a, R: Wait>(
+    rt: &'a R,
+    alloc: Global,
+    store: &'a Store,
+    pass: Pass,
+) -> Result<LogDesk<'a, R>, Memory>
+    requires may { MayHaveDesk store.now pass }
+    requires unnoted { (view_of pass).store.entries ≡ [] }
+    ensures { IfOk result (λ desk. (k : ℕ) → IsNewPass store.now k pass → IsNewDesk store.now k desk) }
+{
+    LogDesk::new(rt, alloc, store, pass)
+}
+
+/// A desk that writes a log, at each pass of a new store, in their order.
+pub(crate) fn log_desks_at<'a, R: Wait>(
+    rt: &'a R,
+    alloc: Global,
+    store: &'a Store,
+    passes: Vec<Pass>,
+) -> Result<Vec<LogDesk<'a, R>>, Memory>
+    requires may { All (MayHaveDesk store.now) passes.items }
+    requires new { EachPlace (IsNewPass store.now) store.now.sizes.seats passes.items }
+    ensures desks { IfOk result (λ desks. EachPlace (IsNewDesk store.now) store.now.sizes.seats desks.items) }
+{
+    let mut desks = Vec::new(alloc);
+    for pass in passes {
+        let desk = log_desk_at(rt, alloc, store, pass)?;
+        desks.push(desk)?;
+    }
+    Ok(desks)
+}
+
+/// `passes_of` for desks that write logs.
+pub(crate) fn logged_passes_of<R: Wait>(room: Vec<Pass>, desks: Vec<LogDesk<'_, R>>) -> Vec<Pass>
     requires outside { All (λ d. (store_of d).inside ≡ false) desks.items }
     requires empty { room.items ≡ [] }
     requires wide { vec_len desks ≤ vec_capacity room }

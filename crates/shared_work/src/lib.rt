@@ -2,6 +2,7 @@
 #![tactic(auto)]
 
 mod desks;
+mod logs;
 mod sharing;
 
 pub use rewrite_workers::{AllFault, Lines, Work};

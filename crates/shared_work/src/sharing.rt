@@ -1,5 +1,5 @@
 // All terms, by workers on one store.
-ghost use Rattle.std.specs.Prelude.{◌≡◌, ◌<◌, ◌≤◌, [], IfOk, IfErr, All, map};
+ghost use Rattle.std.specs.Prelude.{◌≡◌, ◌<◌, ◌≤◌, [], None, true, IfOk, IfErr, IfSome, All, map};
 ghost use Rattle.settings.specs.Words.{AreInRange};
 ghost use Rattle.busy_forbidden.specs.Dealt.{EachPlace};
 ghost use Rattle.history_core.specs.Chronicle.{chronicle, IsLegal};
@@ -12,10 +12,11 @@ ghost use Rattle.shared_work.specs.Filling.{TellsFull};
 ghost use Rattle.shared_work.specs.Wearing.{TellsWorn};
 ghost use Rattle.shared_work.specs.Fronts.{NamesFronts, NamesOnlyBuilt, TellsEach};
 ghost use Rattle.shared_work.specs.Numbers.{TellsFew, TellsNeed};
-ghost use Rattle.shared_work.specs.Running.{HasRun, WantsMemory};
+ghost use Rattle.shared_work.specs.Running.{HasRun, WantsMemory, IsAskedLog, entries_of};
 ghost use Rattle.shared_work.specs.Sharing.{NamesWhatItBuilt, CollectsFew, KeepsOrders, EachRises};
 
-use crate::desks::{desks_at, passes_of, store_for};
+use crate::desks::{desks_at, log_desks_at, logged_passes_of, passes_of, store_for};
+use crate::logs::log_for;
 use ends::Gate;
 use faults::Memory;
 use node_rows::{Chronicle, Pass, Store};
@@ -31,6 +32,8 @@ pub struct Rewritten {
     pub lines: Result<Lines, AllFault>,
     /// The entries of the passes of the store, pass k being that of worker k; or of none, where there was no memory to begin with.
     pub chronicle: Chronicle,
+    /// The chronicle's log, where one is asked and there was memory for it.
+    pub log: Option<Vec<u8>>,
 }
 
 impl Rewritten {
@@ -38,19 +41,22 @@ impl Rewritten {
     fn nothing() -> Rewritten
         ensures lines { WantsMemory result.lines }
         ensures chronicle { result.chronicle ≡ [] }
+        ensures log { result.log ≡ None }
     {
         Rewritten {
             lines: Err(AllFault::Memory),
             chronicle: Chronicle::empty(),
+            log: None,
         }
     }
 }
 
-// The lines, and the passes of the workers, which are out.
+// The lines, the passes of the workers, which are out, and the log of their entries, where there is one.
 #[derive(Drop)]
 struct Left {
     lines: Result<Lines, AllFault>,
     passes: Vec<Pass>,
+    log: Option<Vec<u8>>,
 }
 
 // Rewrites the terms by workers at the passes of a new store. All memory that the end takes is taken first: where
@@ -77,12 +83,86 @@ fn rewrite_on<R: Threads + Wait + Sync, G: Gate>(
         (λ w. w < work.now.settings.workers) (map worker_of l.list.items))) }
     ensures run { IfOk result (λ left. HasRun work.now.settings work.now.plan.now.rules
         work.now.terms.now store.now left.lines left.passes.items) }
+    ensures log { IfOk result (λ left. IfSome left.log
+        (λ text. IsAskedLog work.now.settings (entries_of left.passes.items) text.items)) }
 {
     let mut desks = desks_at(rt, alloc, store, passes)?;
     let room = Vec::with_capacity(alloc, desks.len())?;
     let lines = rewrite_all(rt, alloc, work, &mut desks, gate);
     let passes = passes_of(room, desks);
-    Ok(Left { lines, passes })
+    Ok(Left {
+        lines,
+        passes,
+        log: None,
+    })
+}
+
+// The same by desks that write a log.
+fn rewrite_logged<R: Threads + Wait + Sync, G: Gate>(
+    rt: &R,
+    alloc: Global,
+    work: &Work,
+    store: &Store,
+    passes: Vec<Pass>,
+    gate: &G,
+) -> Result<Left, Memory>
+    requires in_range { AreInRange work.now.settings }
+    requires may { MayWork work.now.plan.now work.now.symbols.now work.now.terms.now }
+    requires sizes { store.now.sizes ≡ sizes_for work.now.settings work.now.plan.now }
+    requires passes { All (MayHaveDesk store.now) passes.items }
+    requires new { EachPlace (IsNewPass store.now) store.now.sizes.seats passes.items }
+    requires asked { work.now.settings.log ≡ true }
+    ensures lines { IfOk result (λ left. IfOk left.lines (λ l. map said l.list.items
+        ≡ map (line_of work.now.settings work.now.symbols.now work.now.plan.now.rules)
+        work.now.terms.now)) }
+    ensures traces { IfOk result (λ left. IfOk left.lines (λ l. map (λ t. t.items) l.traces.items
+        ≡ map (trace_of work.now.settings work.now.plan.now.rules) work.now.terms.now)) }
+    ensures workers { IfOk result (λ left. IfOk left.lines (λ l. All
+        (λ w. w < work.now.settings.workers) (map worker_of l.list.items))) }
+    ensures run { IfOk result (λ left. HasRun work.now.settings work.now.plan.now.rules
+        work.now.terms.now store.now left.lines left.passes.items) }
+    ensures log { IfOk result (λ left. IfSome left.log
+        (λ text. IsAskedLog work.now.settings (entries_of left.passes.items) text.items)) }
+{
+    let mut desks = log_desks_at(rt, alloc, store, passes)?;
+    let room = Vec::with_capacity(alloc, desks.len())?;
+    let lines = rewrite_all(rt, alloc, work, &mut desks, gate);
+    let log = log_for(alloc, work.settings.rows, &desks).ok();
+    let passes = logged_passes_of(room, desks);
+    Ok(Left { lines, passes, log })
+}
+
+// The same, with a log where one is asked.
+fn rewrite_left<R: Threads + Wait + Sync, G: Gate>(
+    rt: &R,
+    alloc: Global,
+    work: &Work,
+    store: &Store,
+    passes: Vec<Pass>,
+    gate: &G,
+) -> Result<Left, Memory>
+    requires in_range { AreInRange work.now.settings }
+    requires may { MayWork work.now.plan.now work.now.symbols.now work.now.terms.now }
+    requires sizes { store.now.sizes ≡ sizes_for work.now.settings work.now.plan.now }
+    requires passes { All (MayHaveDesk store.now) passes.items }
+    requires new { EachPlace (IsNewPass store.now) store.now.sizes.seats passes.items }
+    ensures lines { IfOk result (λ left. IfOk left.lines (λ l. map said l.list.items
+        ≡ map (line_of work.now.settings work.now.symbols.now work.now.plan.now.rules)
+        work.now.terms.now)) }
+    ensures traces { IfOk result (λ left. IfOk left.lines (λ l. map (λ t. t.items) l.traces.items
+        ≡ map (trace_of work.now.settings work.now.plan.now.rules) work.now.terms.now)) }
+    ensures workers { IfOk result (λ left. IfOk left.lines (λ l. All
+        (λ w. w < work.now.settings.workers) (map worker_of l.list.items))) }
+    ensures run { IfOk result (λ left. HasRun work.now.settings work.now.plan.now.rules
+        work.now.terms.now store.now left.lines left.passes.items) }
+    ensures log { IfOk result (λ left. IfSome left.log
+        (λ text. IsAskedLog work.now.settings (entries_of left.passes.items) text.items)) }
+{
+    if work.settings.log {
+        rewrite_logged(rt, alloc, work, store, passes, gate)
+    } else {
+        rewrite_on(rt, alloc, work, store, passes, gate)
+    }
 }
 
 // Rewrites the terms on a new store, and ends the store.
@@ -122,12 +202,18 @@ fn rewrite_at<R: Threads + Wait + Sync, G: Gate>(
     ensures each { TellsEach work.now.settings result.lines result.chronicle }
     ensures front { IfErr result.lines (λ fault. NamesFronts work.now.settings
         work.now.plan.now.rules work.now.terms.now result.chronicle) }
+    ensures log { IfSome result.log
+        (λ text. IsAskedLog work.now.settings result.chronicle text.items) }
 {
-    match rewrite_on(rt, alloc, work, &store, passes, gate) {
+    match rewrite_left(rt, alloc, work, &store, passes, gate) {
         Ok(left) => {
-            let Left { lines, passes } = left;
+            let Left { lines, passes, log } = left;
             let chronicle = store.close(passes);
-            Rewritten { lines, chronicle }
+            Rewritten {
+                lines,
+                chronicle,
+                log,
+            }
         }
         Err(_) => Rewritten::nothing(),
     }
@@ -196,6 +282,10 @@ pub fn rewrite_shared<R: Threads + Wait + Sync, G: Gate>(
     // Whatever the answer is, workers made and found no trees but those that the terms build.
     ensures only { NamesOnlyBuilt work.now.settings work.now.plan.now.rules work.now.terms.now
         result.chronicle }
+
+    // Where there is a log, it was asked, and is that of the chronicle.
+    ensures log { IfSome result.log
+        (λ text. IsAskedLog work.now.settings result.chronicle text.items) }
 {
     match store_for(alloc, work) {
         Ok((store, passes)) => rewrite_at(rt, alloc, work, store, passes, gate),

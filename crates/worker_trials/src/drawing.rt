@@ -78,6 +78,7 @@ fn rewrite<R: Threads + Abort + Sync, H: Hears, G: Gate>(
             rows,
             depth: 8,
             sizes: false,
+            log: false,
             trace: false,
             count: 0,
             seats: 2,

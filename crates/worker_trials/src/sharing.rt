@@ -59,6 +59,7 @@ fn settings_for(workers: u32, rows: u32) -> Settings
         rows,
         depth: 16,
         sizes: false,
+        log: false,
         trace: false,
         count: 0,
         seats: 2,

@@ -1,7 +1,6 @@
-use Rattle.std.proofs.Common.{◌≡◌, map, sym, subst, ◌∙◌}
-use Rattle.std.specs.Prelude.{Err, IfOk}
+use Rattle.std.proofs.Common.{sym, subst, ◌∙◌}
+use Rattle.std.specs.Prelude.{Err}
 use Rattle.rewrite_workers.specs.declared.lines.Lines.{Lines}
-use Rattle.rewrite_workers.specs.Lined.{worker_of}
 use Rattle.rec_top.specs.Drilled.{drill_output}
 use Rattle.rec_top.specs.Rewritten.{Spells, RowsSuffice, NumbersSuffice}
 use Rattle.rec_top.specs.Sequence.{AreLinesOf}
@@ -9,6 +8,7 @@ use Rattle.rec_top.specs.Answered.{Answers, IsAnswer}
 use Rattle.rec_top.specs.Histories.{SpellsSuch, TellsTerms}
 use Rattle.rec_top.specs.declared.answers.Answer.{Answer}
 use Rattle.rec_top.proofs.Outcomes.{answers_ok, but_memory, tells_lines, tells_no_drill}
+use Rattle.rec_top.proofs.Logged.{log_where}
 use Rattle.rec_top.proofs.drilling.drilled.Goals as goal
 
 pub returns-in-Ok-lines-clause-accepted : goal.returns-in-Ok-lines-clause-accepted
@@ -40,3 +40,7 @@ returns-clause-history g c =
     let none = tells_no_drill s (SpellsSuch c.deref.result.now) c.lines_for-lines.result.lines c.in-Err-lines.stop lists c.in-Err-lines.is lines.legal lines.rises lines.collects lines.each lines.ended in
     subst (λ t. TellsTerms s (SpellsSuch t) (Err c.stop_of.result) lists) text
     (subst (λ stop. TellsTerms s (SpellsSuch c.deref.result.now) (Err stop) lists) (sym c.stop_of.ensures) none)
+
+pub returns-in-Ok-lines-clause-log : goal.returns-in-Ok-lines-clause-log
+returns-in-Ok-lines-clause-log g c =
+    log_where c.args.settings.now c.lines_for-lines.result.chronicle c.lines_for-lines.result.log c.is_some.result c.told.result c.is_some.ensures c.lines_for-lines.ensures.log c.told.ensures.logged

@@ -1,7 +1,5 @@
-use Rattle.std.proofs.Common.{◌≡◌, map, sym, subst}
-use Rattle.std.specs.Prelude.{IfOk}
+use Rattle.std.proofs.Common.{sym, subst}
 use Rattle.rewrite_workers.specs.declared.lines.Lines.{Lines}
-use Rattle.rewrite_workers.specs.Lined.{worker_of}
 use Rattle.rec_check.specs.Spelled.{Specified}
 use Rattle.rec_top.specs.Rewritten.{Spells, output_of}
 use Rattle.rec_top.specs.Sequence.{AreLinesOf}
@@ -9,6 +7,7 @@ use Rattle.rec_top.specs.Answered.{Answers, IsAnswer}
 use Rattle.rec_top.specs.declared.answers.Answer.{Answer}
 use Rattle.rec_top.proofs.Joined.{one_each}
 use Rattle.rec_top.proofs.Outcomes.{if_ok, answers_ok, answers_err, stops_ok, stops_err, but_memory, tells_lines}
+use Rattle.rec_top.proofs.Logged.{log_where}
 use Rattle.rec_top.proofs.rewriting.rewritten.Goals as goal
 
 pub told-requires : goal.told-requires
@@ -39,3 +38,7 @@ returns-in-Err-clause-accepted g c = λ output o m rows numbers.
 
 pub returns-in-Err-clause-refused : goal.returns-in-Err-clause-refused
 returns-in-Err-clause-refused g c = λ fault f. stops_err c.lines_for-lines.result.lines c.in-Err.stop fault c.in-Err.is (c.lines_for-lines.ensures.refused fault f)
+
+pub returns-in-Ok-clause-log : goal.returns-in-Ok-clause-log
+returns-in-Ok-clause-log g c =
+    log_where c.args.settings.now c.lines_for-lines.result.chronicle c.lines_for-lines.result.log c.is_some.result c.told.result c.is_some.ensures c.lines_for-lines.ensures.log c.told.ensures.logged

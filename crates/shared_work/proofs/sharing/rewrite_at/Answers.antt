@@ -1,7 +1,11 @@
-use Rattle.std.proofs.Common.{ap, subst, ◌∙◌}
+use Rattle.std.proofs.Common.{ℕ, ap, subst, ◌∙◌}
 use Rattle.history_core.specs.Chronicle.{chronicle, IsLegal}
 use Rattle.store_core.specs.declared.view.Sizes.{Sizes}
+use Rattle.std.specs.Prelude.{Vec}
+use Rattle.std.specs.Global.{Global}
 use Rattle.shared_work.specs.Fronts.{NamesFronts}
+use Rattle.shared_work.specs.Running.{entries_of}
+use Rattle.shared_work.proofs.Logging.{lists_are, log_told}
 use Rattle.shared_work.proofs.Filling.{tells_full, none_full}
 use Rattle.shared_work.proofs.Making.{has_rows}
 use Rattle.shared_work.proofs.Lacking.{tells_need, none_needed}
@@ -97,3 +101,9 @@ pub returns-in-Ok-clause-rises : goal.returns-in-Ok-clause-rises
 returns-in-Ok-clause-rises g c =
     each_rises c.args.work.now.settings c.args.work.now.plan.now.rules c.args.work.now.terms.now c.args.store c.in-Ok.left.lines c.in-Ok.left.passes.items c.in-Ok.ensures.run
     c.close-chronicle.result c.close-chronicle.ensures.count c.close-chronicle.ensures.rises
+
+pub returns-in-Ok-clause-log : goal.returns-in-Ok-clause-log
+returns-in-Ok-clause-log g c =
+    log_told c.args.work.now.settings (λ (text : Vec ℕ Global). text.items) c.in-Ok.left.log (entries_of c.in-Ok.left.passes.items) c.close-chronicle.result
+    (lists_are c.args.work.now.settings c.args.work.now.plan.now.rules c.args.work.now.terms.now c.args.store c.in-Ok.left.lines c.in-Ok.left.passes.items c.in-Ok.ensures.run
+    c.close-chronicle.result c.close-chronicle.ensures.count c.close-chronicle.ensures.own) c.in-Ok.ensures.log

@@ -1,0 +1,114 @@
+-- The log that desks wrote is that of the chronicle.
+use Rattle.std.proofs.Common.{◌≡◌, ℕ, zero, suc, ◌+◌, ◌<◌, List, [], ◌∷◌, ◌++◌, take, get_or, length, map, append_assoc, append-nil, refl, sym, ap, ap₂, subst, ◌∙◌, arith}
+use Rattle.std.specs.Prelude.{true, All, Some, None, Option, IfSome, IfOk, Vec, slice_get, Result, Ok, Err}
+use Rattle.std.specs.Result.{result_ok}
+use Rattle.std.specs.Global.{Global}
+use Rattle.std.proofs.lemmas.Option.{same_Some, slice_get_within}
+use Rattle.std.proofs.lemmas.List.{map_more}
+use Rattle.term_model.specs.Tree.{Tree}
+use Rattle.rewrite_model.specs.Rule.{Rule}
+use Rattle.settings.specs.declared.parts.Settings.{Settings}
+use Rattle.history_core.specs.declared.entry.Entry.{Entry}
+use Rattle.log_text.specs.Lines.{lines_of, caller_text, callers_from, log_of}
+use Rattle.node_rows.specs.declared.store.Store.{Store}
+use Rattle.node_rows.specs.declared.store.Pass.{Pass}
+use Rattle.node_rows.specs.Told.{HasEntries, view_of}
+use Rattle.rewrite_workers.specs.declared.fault.AllFault.{AllFault}
+use Rattle.rewrite_workers.specs.declared.lines.Lines.{Lines}
+use Rattle.shared_desk.specs.Code.{Contents}
+use Rattle.shared_desk.specs.Pass.{PassView}
+use Rattle.shared_work.specs.NewDesks.{AreBack}
+use Rattle.shared_work.specs.Running.{HasRun, IsAskedLog, entries_of}
+use Rattle.shared_work.proofs.Closing.{worker, all_got}
+
+abbrev pub entries_of_desk : Contents → List Entry
+entries_of_desk d = d.pass.entries
+
+abbrev pub entries_of_pass : Pass → List Entry
+entries_of_pass p = (view_of p).store.entries
+
+-- a list that has these values in turn
+same_lists : {A : Type 0} (f : A → List Entry) (xs : List A) (lists : List (List Entry)) → length xs ≡ length lists
+    → ((k : ℕ) (x : A) → slice_get xs k ≡ Some x → get_or lists k [] ≡ f x) → map f xs ≡ lists
+same_lists f [] [] e each = refl
+same_lists f [] (l ∷ ls) e each = absurd (omega (arith, e))
+same_lists f (x ∷ xs) [] e each = absurd (omega (arith, e))
+same_lists f (x ∷ xs) (l ∷ ls) e each =
+    ap (λ (es : List Entry). es ∷ map f xs) (sym (each 0 x refl))
+    ∙ ap (λ (ms : List (List Entry)). l ∷ ms) (same_lists f xs ls (omega (arith, e)) (λ k y at. each (suc k) y at))
+
+mapped_at : {A : Type 0} (g : A → List Entry) (xs : List A) (k : ℕ) (x : A) → slice_get xs k ≡ Some x → get_or (map g xs) k [] ≡ g x
+mapped_at g [] zero x e = absurd cc
+mapped_at g [] (suc k) x e = absurd cc
+mapped_at g (y ∷ ys) zero x e = ap g (same_Some y x e)
+mapped_at g (y ∷ ys) (suc k) x e = mapped_at g ys k x e
+
+long_map : {A B : Type 0} (g : A → B) (xs : List A) → length (map g xs) ≡ length xs
+long_map g [] = refl
+long_map g (x ∷ xs) = ap suc (long_map g xs)
+
+-- the entries of desks are those of the passes that they gave back
+pub back_entries : (desks : List Contents) (passes : List Pass) → AreBack desks passes → map entries_of_pass passes ≡ map entries_of_desk desks
+back_entries desks passes back = same_lists entries_of_pass passes (map entries_of_desk desks) (back.count ∙ sym (long_map entries_of_desk desks))
+    (λ k p at.
+    let b = back.each k p at in
+    mapped_at entries_of_desk desks k b.desk b.at ∙ sym (ap (λ (x : PassView). x.entries) b.back.seen))
+
+-- where desks give a log, it is that of the passes that they gave back
+pub logged : {E : Type 0} (s : Settings) (r : Result (Vec ℕ Global) E) (log : Option (Vec ℕ Global)) (seen desks : List Contents) (passes : List Pass) → s.log ≡ true → log ≡ result_ok r
+    → seen ≡ desks → AreBack desks passes → IfOk r (λ text. text.items ≡ log_of s.rows (map entries_of_desk seen)) → IfSome log (λ text. IsAskedLog s (entries_of passes) text.items)
+logged {E} s r log seen desks passes asked given same back is = subst (λ o. IfSome o (λ text. IsAskedLog s (entries_of passes) text.items)) (sym given) (go r is)
+  where
+    go : (q : Result (Vec ℕ Global) E) → IfOk q (λ text. text.items ≡ log_of s.rows (map entries_of_desk seen)) → IfSome (result_ok q) (λ text. IsAskedLog s (entries_of passes) text.items)
+    go (Ok text) h = (asked, h ∙ ap (log_of s.rows) (ap (map entries_of_desk) same ∙ sym (back_entries desks passes back)))
+    go (Err e) h = tt
+
+-- the entries of the passes are the lists of the chronicle
+pub lists_are : (s : Settings) (rules : List Rule) (terms : List Tree) (store : Store) (lines : Result Lines AllFault) (ps : List Pass) (run : HasRun s rules terms store lines ps)
+    (lists : List (List Entry)) → length lists ≡ store.sizes.seats → All (HasEntries lists) ps → map entries_of_pass ps ≡ lists
+lists_are s rules terms store lines ps run lists count has =
+    let one = run.new.count in
+    let two = run.same.0 in
+    let three = run.back.count in
+    same_lists entries_of_pass ps lists (omega (arith, one, two, three, count))
+    (λ k p at.
+    let lt = slice_get_within ps k p at in
+    let w = worker s rules terms store lines ps run k (omega (arith, lt, one, two, three)) in
+    let same : w.pass ≡ p = same_Some w.pass p (sym w.at_pass ∙ at) in
+    ap (λ (j : ℕ). get_or lists j []) (sym w.number ∙ ap (λ (q : Pass). q.seat.number) same) ∙ all_got (HasEntries lists) ps k p has at)
+
+pub log_told : {V : Type 0} (s : Settings) (items : V → List ℕ) (log : Option V) (lists news : List (List Entry)) → lists ≡ news
+    → IfSome log (λ text. IsAskedLog s lists (items text)) → IfSome log (λ text. IsAskedLog s news (items text))
+log_told s items None lists news same h = tt
+log_told s items (Some text) lists news same h = subst (λ ls. IsAskedLog s ls (items text)) same h
+
+-- the callers' steps, one caller more
+pub callers_last : (k : ℕ) (lists : List (List Entry)) (es : List Entry) → callers_from k (lists ++ es ∷ []) ≡ callers_from k lists ++ (caller_text (k + length lists) ++ lines_of es)
+callers_last k [] es = append-nil (caller_text k ++ lines_of es) ∙ ap (λ (j : ℕ). caller_text j ++ lines_of es) (omega arith)
+callers_last k (l ∷ ls) es =
+    ap (λ (ts : List ℕ). (caller_text k ++ lines_of l) ++ ts) (callers_last (suc k) ls es ∙ ap (λ (j : ℕ). callers_from (suc k) ls ++ (caller_text j ++ lines_of es)) (omega arith))
+    ∙ sym (append_assoc (caller_text k ++ lines_of l) (callers_from (suc k) ls) (caller_text (k + suc (length ls)) ++ lines_of es))
+
+long_take : {A : Type 0} (i : ℕ) (xs : List A) → i < length xs → length (take i xs) ≡ i
+long_take zero xs l = refl
+long_take (suc i) [] l = absurd (omega (arith, l))
+long_take (suc i) (x ∷ xs) l = ap suc (long_take i xs (omega (arith, l)))
+
+pub one_caller : (old : List ℕ) (ds : List Contents) (i : ℕ) (d : Contents) → i < length ds
+    → (old ++ callers_from 0 (map entries_of_desk (take i ds))) ++ (caller_text i ++ lines_of (get_or ds i d).pass.entries) ≡ old ++ callers_from 0 (map entries_of_desk (take (i + 1) ds))
+one_caller old ds i d l =
+    let es = (get_or ds i d).pass.entries in
+    let before = map entries_of_desk (take i ds) in
+    let long : length before ≡ i = long_map entries_of_desk (take i ds) ∙ long_take i ds l in
+    let number : 0 + length before ≡ i = omega (arith, long) in
+    append_assoc old (callers_from 0 before) (caller_text i ++ lines_of es)
+    ∙ ap (λ (ts : List ℕ). old ++ ts)
+    (ap (λ (j : ℕ). callers_from 0 before ++ (caller_text j ++ lines_of es)) (sym number)
+    ∙ (sym (callers_last 0 before es) ∙ ap (callers_from 0) (sym (map_more entries_of_desk ds i d l))))
+
+-- the same for texts that are so
+pub one_caller_more : (old now new : List ℕ) (ds : List Contents) (caller i : ℕ) (d : Contents) → caller ≡ i → now ≡ old ++ callers_from 0 (map entries_of_desk (take i ds))
+    → d ≡ get_or ds i d → new ≡ now ++ (caller_text caller ++ lines_of d.pass.entries) → i < length ds → new ≡ old ++ callers_from 0 (map entries_of_desk (take (i + 1) ds))
+one_caller_more old now new ds caller i d same told at is l =
+    is ∙ ap₂ (λ (ts us : List ℕ). ts ++ us) told (ap₂ (λ (j : ℕ) (x : Contents). caller_text j ++ lines_of x.pass.entries) same at)
+    ∙ one_caller old ds i d l

@@ -1,0 +1,34 @@
+use Rattle.std.proofs.Common.{◌≡◌, ◌++◌, take, drop, length, sym, ap, subst, arith}
+use Rattle.busy_forbidden.specs.Dealt.{EachPlace}
+use Rattle.shared_work.specs.NewDesks.{IsNewDesk, AreBack}
+use Rattle.shared_work.proofs.Readying.{all_ready, refilled}
+use Rattle.shared_work.proofs.Logging.{logged}
+use Rattle.shared_work.proofs.sharing.rewrite_logged.Goals as goal
+
+pub rewrite_all-lines-requires-clause-ready : goal.rewrite_all-lines-requires-clause-ready
+rewrite_all-lines-requires-clause-ready g c κs within =
+    all_ready c.args.work.now.settings c.args.work.now.plan.now c.args.store.now c.args.store.now.sizes.seats c.in_ok-desks.desks.items c.deref_mut.result.now c.deref_mut.ensures.value c.requires.sizes c.in_ok-desks.ensures.desks
+
+pub returns-clause-run : goal.returns-clause-run
+returns-clause-run g c =
+    let items = c.in_ok-desks.desks.items in
+    let news = c.rewrite_all-lines.new.desks in
+    let same = c.rewrite_all-lines.ensures.kept.0 in
+    let given = ap length c.deref_mut.ensures.value in
+    let long = c.in_ok-desks.desks.ok.0 in
+    let whole : take c.in_ok-desks.desks.len (news ++ drop (length news) items) ≡ news = refilled c.in_ok-desks.desks.len news (drop (length news) items) (omega (arith, same, given, long)) in
+    record {
+      olds = c.deref_mut.result.now;
+      news = news;
+      new = subst (EachPlace (IsNewDesk c.args.store.now) c.args.store.now.sizes.seats) (sym c.deref_mut.ensures.value) c.in_ok-desks.ensures.desks;
+      back = subst (λ ds. AreBack ds c.logged_passes_of-passes.result.items) whole c.logged_passes_of-passes.ensures.back;
+      same = c.rewrite_all-lines.ensures.same;
+      kept = c.rewrite_all-lines.ensures.kept;
+      built = c.rewrite_all-lines.ensures.built;
+      stopped = c.rewrite_all-lines.ensures.stopped;
+    }
+
+pub returns-clause-log : goal.returns-clause-log
+returns-clause-log g c =
+    logged c.args.work.now.settings c.log_for.result c.ok-log.result c.deref.result.now _ c.logged_passes_of-passes.result.items c.requires.asked c.ok-log.ensures.value c.deref.ensures.value
+    c.logged_passes_of-passes.ensures.back c.log_for.ensures
