@@ -129,7 +129,7 @@ class Definitions:
     """The definitions of a repository's crates."""
 
     def __init__(self, top: str) -> None:
-        self.top, self.read = top, {}
+        self.top, self.read, self.seen = top, {}, {}
 
     def text(self, path: str) -> str | None:
         try:
@@ -148,11 +148,13 @@ class Definitions:
 
     def model(self, crate: str, name: str) -> tuple[str, Module] | None:
         """The file and the model of a type of a crate, where it has one."""
-        for path in sorted(glob.glob(f"{self.top}/crates/{crate}/src/*.rt")):
-            found = read_model(without_comments(self.text(path) or "", "//"), name)
-            if found:
-                return os.path.basename(path), found
-        return None
+        key = (crate, name)
+        if key not in self.seen:
+            paths = sorted(glob.glob(f"{self.top}/crates/{crate}/src/*.rt"))
+            texts = {os.path.basename(it): self.text(it) or "" for it in paths}
+            models = {it: read_model(without_comments(text, "//"), name) for it, text in texts.items() if "Model for" in text}
+            self.seen[key] = next(((it, found) for it, found in models.items() if found), None)
+        return self.seen[key]
 
     def meant(self, path: str, name: str) -> list[Place]:
         """What a name that is brought in means, where it is a definition of the repository."""
