@@ -121,6 +121,15 @@ ready v w p i a sound out alone =
       rooted = ap (λ (x : PassView). x.rooted) a.rest ∙ sym (trees_same 0 (left (rooted v xs)) w xs (ended v xs i.right.sound).sound passed);
     }
 
+-- outside and back
+pub round_in : (v w : PassView) (p : Places) → IsIn v p → Arrived (left (rooted v p.items)) w → IsSound (own w) → w.shared ≡ true → w.alone ≡ false → IsIn w p
+round_in v w p i a sound in_it alone =
+    let passed = crossed v w p.items i.right.sound a sound in
+    record {
+      right = record { sound = passed.sound; roots = λ e. absurd (let x : true ≡ false = sym in_it ∙ e in cc); alone = alone; room = omega (arith, passed.same.depth, i.right.room) };
+      shared = in_it;
+    }
+
 rooted_same : (v : PassView) (xs : List Row) → v.roots ≡ xs → v ≡ rooted v xs
 rooted_same v xs e = subst (λ ys. v ≡ rooted v ys) e refl
 

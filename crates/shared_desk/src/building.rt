@@ -147,9 +147,19 @@ fn try_again<S: SharedPass>(
     }
 }
 
+// Goes outside, and comes back.
+fn go_round<S: SharedPass>(pass: &mut S, places: &Stack)
+    requires inside { IsIn (S.view pass.old) places.now }
+    ensures inside { IsIn (S.view pass.new) places.now }
+    ensures passed { Passed 0 (S.view pass.old) (S.view pass.new) places.now.items }
+{
+    let rows = places.rows();
+    pass.store_roots(rows);
+    pass.leave_shared(rows);
+    pass.enter_shared();
+}
+
 // Where the store was full: creates once more if another pass has collected meanwhile, and else collects and creates.
-#[cold]
-#[inline(never)]
 fn build_again<S: SharedPass>(
     pass: &mut S,
     places: &mut Stack,
@@ -170,6 +180,31 @@ fn build_again<S: SharedPass>(
     }
 }
 
+// Where the store was full: lets another pass collect that is about to, and creates once more; and else builds again.
+#[cold]
+#[inline(never)]
+fn build_late<S: SharedPass>(
+    pass: &mut S,
+    places: &mut Stack,
+    head: Head,
+    n: u32,
+) -> Result<(), BuildFault>
+    requires inside { IsIn (S.view pass.old) places.old }
+    requires may { MayBuild (store (S.view pass.old) places.old.items) head n }
+    requires place { NeedsPlace (store (S.view pass.old) places.old.items) n → ⊥ }
+    ensures outcome { Outcome (S.view pass.old) (S.view pass.new) places.old.items places.new.items head n result }
+    ensures inside { IsIn (S.view pass.new) places.new }
+{
+    if !pass.gives_way() {
+        return build_again(pass, places, head, n);
+    }
+    go_round(pass, places);
+    match try_create(pass, places, head, n) {
+        Ok(()) => Ok(()),
+        Err(_) => build_again(pass, places, head, n),
+    }
+}
+
 /// Creates over the last `n` places; where the store is full, collects and creates.
 #[inline(always)]
 pub(crate) fn build_row<S: SharedPass>(
@@ -186,6 +221,6 @@ pub(crate) fn build_row<S: SharedPass>(
 {
     match try_create(pass, places, head, n) {
         Ok(()) => Ok(()),
-        Err(_) => build_again(pass, places, head, n),
+        Err(_) => build_late(pass, places, head, n),
     }
 }

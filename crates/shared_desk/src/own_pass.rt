@@ -7,7 +7,8 @@ ghost use Rattle.node_rows.specs.Passes.{IsOut};
 ghost use Rattle.node_rows.specs.Told.{view_of};
 
 use crate::pass::SharedPass;
-use node_rows::{Last, Pass, Store};
+use crossbeam_utils::Backoff;
+use node_rows::{Last, Pass, Store, free_count_word};
 use std::marker::Model;
 use std::sync::Wait;
 use sweep_phase::{Kept, Worn, collect, create_exclusive};
@@ -84,12 +85,44 @@ impl<'a, R: Wait> OwnPass<'a, R> {
     }
 }
 
+impl<'a, R: Wait> OwnPass<'a, R> {
+    // What a word of the table is. Nothing is claimed of it.
+    fn peek(&self, word: usize) -> u64 {
+        let table = &self.store.table;
+        if word < table.word_count() {
+            table.shared.peek(word)
+        } else {
+            0
+        }
+    }
+
+    // Whether the last collection kept some rows, and fewer than one in 64.
+    fn has_room(&self) -> bool {
+        let rows = u64::from(self.store.sizes.rows);
+        let kept = rows.saturating_sub(self.peek(free_count_word(&self.store.sizes)));
+        kept > 0 && kept < rows / 64
+    }
+
+    // Waits while it is to give way.
+    fn let_others_in(&self) {
+        let backoff = Backoff::new();
+        for _ in self.rt.forever() {
+            if !self.gives_way() {
+                return;
+            }
+            backoff.snooze();
+        }
+        unreachable!()
+    }
+}
+
 impl<'a, R: Wait> SharedPass for OwnPass<'a, R> {
     ghost view = { λ v. v };
 
     ghost log = { λ _. None };
 
     fn enter_shared(&mut self) {
+        self.let_others_in();
         self.store.enter_shared(self.rt, &mut self.pass);
     }
 
@@ -136,11 +169,16 @@ impl<'a, R: Wait> SharedPass for OwnPass<'a, R> {
         child_of(self.store, &mut self.pass, row, j)
     }
 
-    // The own forbidden word, as the lock has it, is set where another pass waits for this one to leave.
+    // The own forbidden word, as the lock has it, is set at times where another pass waits for this one to leave.
     fn is_asked(&self) -> bool {
-        let forbidden = 2 + 2 * self.pass.seat.number as usize;
-        let table = &self.store.table;
-        forbidden < table.word_count() && table.shared.peek(forbidden) != 0
+        self.peek(2 + 2 * self.pass.seat.number as usize) != 0 || self.gives_way()
+    }
+
+    // The mutex of the lock is held while another pass waits for the others to leave, and while it collects. Where a collection keeps
+    // many rows the passes lose trees that they would build again, and fewer of them at a time lose fewer: so they give way only where
+    // it keeps few.
+    fn gives_way(&self) -> bool {
+        self.peek(0) != 0 && self.has_room()
     }
 
     fn base(&self) -> u64 {

@@ -113,6 +113,11 @@ pub trait SharedPass {
     /// Whether another pass has asked for exclusive access. It is a hint, of which no clause says anything.
     fn is_asked(&self) -> bool;
 
+    /// Whether it is better to go outside than to collect, since another pass is about to collect. It is a hint as well.
+    fn gives_way(&self) -> bool {
+        false
+    }
+
     /// The base that was loaded or stored last.
     fn base(&self) -> u64
         requires { ((view self.now).shared ≡ true) ⊎ ((view self.now).alone ≡ true) }

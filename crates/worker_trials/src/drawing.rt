@@ -77,6 +77,7 @@ fn rewrite<R: Threads + Abort + Sync, H: Hears, G: Gate>(
             fuel: 100,
             rows,
             depth: 8,
+            cache: 0,
             sizes: false,
             log: false,
             trace: false,

@@ -58,6 +58,7 @@ fn settings_for(workers: u32, rows: u32) -> Settings
         fuel: 100,
         rows,
         depth: 16,
+        cache: 0,
         sizes: false,
         log: false,
         trace: false,
