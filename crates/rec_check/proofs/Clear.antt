@@ -1,7 +1,7 @@
 -- The names of what is spelled have no space and no line feed: their bytes are those of names of
 -- the input.
-use Rattle.std.proofs.Common.{◌≡◌, ℕ, zero, suc, ◌-◌, Bool, true, false, List, [], ◌∷◌, ◌++◌, length, map, Option, Some, None, Ok, refl, subst}
-use Rattle.std.specs.Prelude.{slice_get, option_and_then, if◌then◌else◌}
+use Rattle.std.proofs.Common.{◌≡◌, ℕ, zero, suc, Bool, true, false, List, [], ◌∷◌, ◌++◌, map, Some, None, Ok, subst}
+use Rattle.std.specs.Prelude.{slice_get, if◌then◌else◌}
 use Rattle.std.specs.List.{flat_map, AllByRecursion}
 use Rattle.std.specs.Option.{option_to_list}
 use Rattle.symbol_pool.specs.Pool.{Named}
@@ -9,16 +9,14 @@ use Rattle.rec_reader.specs.declared.token.Name.{Name}
 use Rattle.rec_reader.specs.declared.token.Token.{Token}
 use Rattle.rec_reader.specs.declared.syntax_tree.Declaration.{Declaration}
 use Rattle.rec_reader.specs.declared.syntax_tree.Specification.{Specification}
-use Rattle.rec_reader.specs.declared.syntax_tree.Node.{Node}
 use Rattle.rec_reader.specs.Parsed.{Parsed}
 use Rattle.rec_reader.specs.Tokens.{tokens_of}
 use Rattle.rec_reader.specs.Grammar.{IsInput}
-use Rattle.rec_includes.specs.Material.{Declared, declared, symbols_of_declaration, symbols_by, symbols_of, specifications_at, material_of}
+use Rattle.rec_includes.specs.Material.{Declared, declared, symbols_of_declaration, symbols_by, symbols_of, specifications_at}
 use Rattle.rec_check.specs.Symbols.{named_in, may_be_added, with_symbol, with_symbols}
-use Rattle.rec_check.specs.Rule.{◌>>=◌}
-use Rattle.rec_check.specs.Spelled.{Specified, nothing, rules_of, terms_in, with_few_rules, spelled_by}
-use Rattle.rec_check.specs.Run.{last_of, spelled_with, spelled_in}
-use Rattle.rec_check.proofs.Plans.{came, cc_some, within_limit}
+use Rattle.rec_check.specs.Spelled.{Specified}
+use Rattle.rec_check.specs.Run.{spelled_in}
+use Rattle.rec_check.proofs.Plans.{cc_some, from_then, last_material, of_spelled}
 use Rattle.rec_check.proofs.NameBytes.{IsClear, ClearName, ClearNames, ClearDeclarations, ClearSpecifications, tokens_clear, input_clear}
 
 module _ (bytes : List ℕ) where
@@ -89,55 +87,25 @@ added symbols made s h = by (may_be_added symbols s) h
     by true g = cc_some (symbols ++ s ∷ []) made g
     by false g = absurd cc
 
-from_then : {A B : Type 0} (f : A → Option B) (o : Option A) (y : B)
-    → option_and_then f o ≡ Some y → (x : A) × (o ≡ Some x) × (f x ≡ Some y)
-from_then f None y h = absurd (let bad : None ≡ Some y = h in cc)
-from_then f (Some x) y h = (x, refl, h)
-
 stay_clear : (symbols ss made : List Named) → ClearSymbols symbols → ClearSymbols ss
     → with_symbols symbols ss ≡ Some made → ClearSymbols made
 stay_clear symbols [] made a b h = subst ClearSymbols (cc_some symbols made h) a
 stay_clear symbols (s ∷ ss) made a b h =
     let f = from_then (λ held. with_symbols held ss) (with_symbol symbols s) made h in
-    stay_clear f.0 ss made (subst ClearSymbols (added symbols f.0 s f.1) (pushed symbols s a b.0))
-    b.1 f.2
-
-spelled_clear : (text : List ℕ) (specifications : List Specification) (material : List ℕ)
-    (terms : List (List Node)) (made : Specified)
-    → ClearSpecifications text specifications
-    → spelled_by text specifications material terms ≡ Some made → ClearSymbols made.symbols
-spelled_clear text specifications material terms made clear h =
-    let at = specifications_at specifications material in
-    let a = came (with_symbols [] (named_in text (symbols_of specifications material)))
-    (λ symbols. rules_of text symbols at >>= λ rules. terms_in text symbols terms >>= λ trees.
-    with_few_rules (record { symbols = symbols; rules = rules; terms = trees })) made h in
-    let c = came (rules_of text a.x at)
-    (λ rules. terms_in text a.x terms >>= λ trees.
-    with_few_rules (record { symbols = a.x; rules = rules; terms = trees })) made a.gives in
-    let d = came (terms_in text a.x terms)
-    (λ trees. with_few_rules (record { symbols = a.x; rules = c.x; terms = trees })) made c.gives in
-    let s : Specified = record { symbols = a.x; rules = c.x; terms = d.x } in
-    let few = within_limit s made d.gives in
-    let all = are_named text (symbols_of specifications material)
-    (of_specifications text at (of_material text specifications material clear)) in
-    subst (λ (m : Specified). ClearSymbols m.symbols) few.1
-    (stay_clear [] (named_in text (symbols_of specifications material)) a.x tt all a.is)
-
-with_last : (syntax : Parsed) (o : Option Specification) (made : Specified)
-    → ClearSpecifications syntax.bytes syntax.specifications → spelled_with syntax o ≡ Some made
-    → ClearSymbols made.symbols
-with_last syntax None made clear h =
-    subst (λ (m : Specified). ClearSymbols m.symbols) (cc_some nothing made h) tt
-with_last syntax (Some last) made clear h =
-    spelled_clear syntax.bytes syntax.specifications
-    (material_of syntax.bytes syntax.specifications (length syntax.specifications - 1))
-    last.terms made clear h
+    stay_clear f.x ss made (subst ClearSymbols (added symbols f.x s f.is) (pushed symbols s a b.0))
+    b.1 f.gives
 
 -- the tokens of the bytes spell the names
 pub names_are_clear : (syntax : Parsed) (tokens : List Token) (spec : Specified)
     → tokens_of syntax.bytes ≡ Ok tokens → IsInput tokens syntax.specifications
     → spelled_in syntax ≡ Some spec → ClearSymbols spec.symbols
 names_are_clear syntax tokens spec cut read h =
-    with_last syntax (last_of syntax.specifications) spec
-    (input_clear syntax.bytes tokens syntax.specifications read
-    (tokens_clear syntax.bytes tokens cut)) h
+    let material = last_material syntax in
+    let clear = input_clear syntax.bytes tokens syntax.specifications read
+    (tokens_clear syntax.bytes tokens cut) in
+    let all = are_named syntax.bytes (symbols_of syntax.specifications material)
+    (of_specifications syntax.bytes (specifications_at syntax.specifications material)
+    (of_material syntax.bytes syntax.specifications material clear)) in
+    of_spelled (λ made. ClearSymbols made.symbols) syntax spec tt
+    (λ ts p. stay_clear [] (named_in syntax.bytes (symbols_of syntax.specifications material))
+    spec.symbols tt all p.symbols) h

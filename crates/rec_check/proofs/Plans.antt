@@ -40,6 +40,10 @@ pub came : {A B : Type 0} (o : Option A) (f : A → Option B) (y : B) → (o >>=
 came None f y h = absurd cc
 came (Some x) f y h = record { x = x; is = refl; gives = h }
 
+pub from_then : {A B : Type 0} (f : A → Option B) (o : Option A) (y : B) → option_and_then f o ≡ Some y → Came o f y
+from_then f None y h = absurd cc
+from_then f (Some x) y h = record { x = x; is = refl; gives = h }
+
 pub cc_some : {A : Type 0} (x y : A) → Some x ≡ Some y → x ≡ y
 cc_some x y e = cc
 
@@ -184,29 +188,53 @@ within_limit s made h = by (nat_le (length s.rules) most_rules) refl h
     by true e h = (grind (arith, nat_tests), cc_some s made h)
     by false e h = absurd cc
 
--- what specifications spell with terms
-pub spelled_runs : (text : List ℕ) (specifications : List Specification) (material : List ℕ) (terms : List (List written_node.Node)) (made : Specified)
-    → spelled_by text specifications material terms ≡ Some made → MayBeRun made
-spelled_runs text specifications material terms made h =
+-- the parts of what specifications spell with terms
+pub record Parts (text : List ℕ) (specifications : List Specification) (material : List ℕ) (ts : List (List written_node.Node)) (made : Specified) : Type 0 where
+  pub symbols : with_symbols [] (named_in text (symbols_of specifications material)) ≡ Some made.symbols
+  pub rules : rules_of text made.symbols (specifications_at specifications material) ≡ Some made.rules
+  pub terms : terms_in text made.symbols ts ≡ Some made.terms
+  pub few : length made.rules ≤ most_rules
+
+parts_of : (text : List ℕ) (specifications : List Specification) (material : List ℕ) (ts : List (List written_node.Node)) (made : Specified)
+    → spelled_by text specifications material ts ≡ Some made → Parts text specifications material ts made
+parts_of text specifications material ts made h =
     let at = specifications_at specifications material in
     let a = came (with_symbols [] (named_in text (symbols_of specifications material)))
-    (λ symbols. rules_of text symbols at >>= λ rules. terms_in text symbols terms >>= λ trees. with_few_rules (record { symbols = symbols; rules = rules; terms = trees })) made h in
-    let b = came (rules_of text a.x at) (λ rules. terms_in text a.x terms >>= λ trees. with_few_rules (record { symbols = a.x; rules = rules; terms = trees })) made a.gives in
-    let c = came (terms_in text a.x terms) (λ trees. with_few_rules (record { symbols = a.x; rules = b.x; terms = trees })) made b.gives in
+    (λ symbols. rules_of text symbols at >>= λ rules. terms_in text symbols ts >>= λ trees. with_few_rules (record { symbols = symbols; rules = rules; terms = trees })) made h in
+    let b = came (rules_of text a.x at) (λ rules. terms_in text a.x ts >>= λ trees. with_few_rules (record { symbols = a.x; rules = rules; terms = trees })) made a.gives in
+    let c = came (terms_in text a.x ts) (λ trees. with_few_rules (record { symbols = a.x; rules = b.x; terms = trees })) made b.gives in
     let s : Specified = record { symbols = a.x; rules = b.x; terms = c.x } in
     let few = within_limit s made c.gives in
-    let fit = rules_fit text a.x at b.x b.is in
-    let W = widest_of a.x in
-    let l : length b.x ≤ most_rules = few.0 in
-    subst MayBeRun few.1 (record {
+    subst (Parts text specifications material ts) few.1 (record { symbols = a.is; rules = b.is; terms = c.is; few = few.0 })
+
+abbrev pub last_material : Parsed → List ℕ
+last_material syntax = material_of syntax.bytes syntax.specifications (length syntax.specifications - 1)
+
+-- what holds of nothing and of what has such parts holds of what a syntax spells
+pub of_spelled : (P : Specified → Type 0) (syntax : Parsed) (made : Specified) → P nothing
+    → ((ts : List (List written_node.Node)) → Parts syntax.bytes syntax.specifications (last_material syntax) ts made → P made)
+    → spelled_in syntax ≡ Some made → P made
+of_spelled P syntax made none some h = by (last_of syntax.specifications) h
+  where
+    by : (o : Option Specification) → spelled_with syntax o ≡ Some made → P made
+    by None h = subst P (cc_some nothing made h) none
+    by (Some last) h = some last.terms (parts_of syntax.bytes syntax.specifications (last_material syntax) last.terms made h)
+
+parts_run : (text : List ℕ) (specifications : List Specification) (material : List ℕ) (ts : List (List written_node.Node)) (made : Specified)
+    → Parts text specifications material ts made → MayBeRun made
+parts_run text specifications material ts made p =
+    let W = widest_of made.symbols in
+    let fit = rules_fit text made.symbols (specifications_at specifications material) made.rules p.rules in
+    let l : length made.rules ≤ most_rules = p.few in
+    record {
       plan = record {
-        rules = All-weaker (IsFit W) IsRule (λ r f. f.rule) b.x fit;
-        symbols = All-weaker (IsFit W) (HasSymbolsAlone W) (λ r f. f.symbols) b.x fit;
+        rules = All-weaker (IsFit W) IsRule (λ r f. f.rule) made.rules fit;
+        symbols = All-weaker (IsFit W) (HasSymbolsAlone W) (λ r f. f.symbols) made.rules fit;
         count = omega arith;
       };
-      ground = all_hold (λ t. tree_in (no_variables text a.x) t) IsGround (term_ground text a.x) terms c.x c.is;
-      plain = all_hold (λ t. tree_in (no_variables text a.x) t) (IsPlain W) (λ t tree e. tree_plain (no_variables text a.x) t tree e) terms c.x c.is;
-    })
+      ground = all_hold (λ t. tree_in (no_variables text made.symbols) t) IsGround (term_ground text made.symbols) ts made.terms p.terms;
+      plain = all_hold (λ t. tree_in (no_variables text made.symbols) t) (IsPlain W) (λ t tree e. tree_plain (no_variables text made.symbols) t tree e) ts made.terms p.terms;
+    }
 
 pub nothing_runs : MayBeRun nothing
 nothing_runs = record {
@@ -217,8 +245,5 @@ nothing_runs = record {
 
 -- what the last specification spells
 pub last_runs : (syntax : Parsed) (made : Specified) → spelled_in syntax ≡ Some made → MayBeRun made
-last_runs syntax made h = by (last_of syntax.specifications) h
-  where
-    by : (o : Option Specification) → spelled_with syntax o ≡ Some made → MayBeRun made
-    by None h = subst MayBeRun (cc_some nothing made h) nothing_runs
-    by (Some last) h = spelled_runs syntax.bytes syntax.specifications (material_of syntax.bytes syntax.specifications (length syntax.specifications - 1)) last.terms made h
+last_runs syntax made h =
+    of_spelled MayBeRun syntax made nothing_runs (λ ts p. parts_run syntax.bytes syntax.specifications (last_material syntax) ts made p) h

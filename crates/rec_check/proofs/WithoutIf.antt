@@ -1,5 +1,5 @@
 -- A specification without an `if` in the rules that run has rules without conditions.
-use Rattle.std.proofs.Common.{◌≡◌, ℕ, zero, suc, ◌-◌, List, [], ◌∷◌, ◌++◌, length, refl, sym, ap, subst, ◌∙◌, arith}
+use Rattle.std.proofs.Common.{◌≡◌, ℕ, zero, suc, List, [], ◌∷◌, ◌++◌, refl, sym, ap, subst, ◌∙◌, arith}
 use Rattle.std.specs.Prelude.{Option, Some, None, slice_get, min, All}
 use Rattle.std.specs.List.{flat_map}
 use Rattle.std.specs.Option.{option_to_list, option_map}
@@ -14,14 +14,13 @@ use Rattle.rec_reader.specs.declared.syntax_tree.Rule as written
 use Rattle.rec_reader.specs.declared.syntax_tree.Specification.{Specification}
 use Rattle.rec_reader.specs.Parsed.{Parsed}
 use Rattle.rec_reader.specs.Grammar.{Any, none, next, Section, absent, present, IsRule, plain, conditional, IsSpecification, specification, IsInput, input}
-use Rattle.rec_includes.specs.Material.{material_of, specifications_at, symbols_of, rules_of}
+use Rattle.rec_includes.specs.Material.{specifications_at, rules_of}
 use Rattle.rec_check.specs.Conditional.{ifs_of, least_with, first_if}
 use Rattle.rec_check.specs.Rule.{◌>>=◌, condition_in, rule_in}
 use Rattle.rec_check.specs.Term.{all_of}
 use Rattle.rec_check.specs.Spelled as spelled
 use Rattle.rec_check.specs.Spelled.{Specified, nothing, variables_of}
-use Rattle.rec_check.specs.Symbols.{named_in, with_symbols}
-use Rattle.rec_check.specs.Run.{spelled_in, spelled_with, last_of}
+use Rattle.rec_check.specs.Run.{spelled_in}
 use Rattle.rec_check.proofs.Plans as plans
 
 -- ---- a rule has conditions only where it has an `if`
@@ -170,35 +169,12 @@ all_are text symbols (s ∷ ss) out w h e =
 pub unconditional_rules : (syntax : Parsed) (tokens : List Token) (spec : Specified)
     → IsInput tokens syntax.specifications → first_if syntax ≡ None → spelled_in syntax ≡ Some spec
     → All IsUnconditional spec.rules
-unconditional_rules syntax tokens spec read bare e = go (last_of syntax.specifications) e
-  where
-    material : List ℕ
-    material = material_of syntax.bytes syntax.specifications (length syntax.specifications - 1)
-
-    no_if : HaveNoIf (rules_of syntax.specifications material)
-    no_if = have_no_if (rules_of syntax.specifications material)
-        (least_none (ifs_of (rules_of syntax.specifications material)) bare)
-
-    go : (last : Option Specification) → spelled_with syntax last ≡ Some spec → ArePlain spec.rules
-    go None f = subst (λ (x : Specified). ArePlain x.rules) (same_Some nothing spec f) none_plain
-    go (Some last) f =
-        let at = specifications_at syntax.specifications material in
-        let a = plans.came (with_symbols []
-        (named_in syntax.bytes (symbols_of syntax.specifications material)))
-        (λ symbols. spelled.rules_of syntax.bytes symbols at >>= λ rules.
-        spelled.terms_in syntax.bytes symbols last.terms >>= λ trees.
-        spelled.with_few_rules (record { symbols = symbols; rules = rules; terms = trees })) spec
-        f in
-        let b = plans.came (spelled.rules_of syntax.bytes a.x at)
-        (λ rules. spelled.terms_in syntax.bytes a.x last.terms >>= λ trees.
-        spelled.with_few_rules (record { symbols = a.x; rules = rules; terms = trees })) spec
-        a.gives in
-        let c = plans.came (spelled.terms_in syntax.bytes a.x last.terms)
-        (λ trees. spelled.with_few_rules (record { symbols = a.x; rules = b.x; terms = trees }))
-        spec b.gives in
-        let s : Specified = record { symbols = a.x; rules = b.x; terms = c.x } in
-        let few = plans.within_limit s spec c.gives in
-        subst (λ (x : Specified). ArePlain x.rules) few.1
-        (all_are syntax.bytes a.x at b.x
-        (material_whole syntax.specifications material
-        (input_whole tokens syntax.specifications read)) no_if b.is)
+unconditional_rules syntax tokens spec read bare e =
+    let material = plans.last_material syntax in
+    let rules = rules_of syntax.specifications material in
+    plans.of_spelled (λ made. ArePlain made.rules) syntax spec none_plain
+    (λ ts p. all_are syntax.bytes spec.symbols (specifications_at syntax.specifications material)
+    spec.rules
+    (material_whole syntax.specifications material
+    (input_whole tokens syntax.specifications read))
+    (have_no_if rules (least_none (ifs_of rules) bare)) p.rules) e

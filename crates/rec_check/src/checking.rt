@@ -9,7 +9,8 @@ ghost use Rattle.rec_check.specs.Symbols.{widest_of};
 
 use crate::last::spell_last;
 use crate::spec::Spec;
-use rec_offences::fault;
+use rec_includes::headers_in;
+use rec_offences::fault_with;
 use rec_reader::{ReadFail, Syntax};
 use std::alloc::Global;
 
@@ -30,8 +31,9 @@ pub fn check(alloc: Global, syntax: &Syntax) -> Result<Spec, ReadFail>
     // This does nothing. Its contract brings to the proof that the terms of each specification are
     // whole, without which an input with no offence might spell nothing.
     let _ = syntax.as_slice();
-    if let Some(fault) = fault(alloc, syntax)? {
+    let headers = headers_in(alloc, syntax)?;
+    if let Some(fault) = fault_with(alloc, &headers, syntax)? {
         return Err(fault.into());
     }
-    Ok(spell_last(alloc, syntax)?)
+    Ok(spell_last(alloc, &headers, syntax)?)
 }

@@ -8,6 +8,7 @@ ghost use Rattle.rec_check.specs.Conditional.{IsConditional, first_if, ifs_of, l
 use crate::last::last_material;
 use crate::spelling::specification_at;
 use faults::kinds;
+use rec_includes::headers_in;
 use rec_reader::{ReadFail, Rule, Specification, Syntax};
 use std::alloc::Global;
 
@@ -54,7 +55,8 @@ pub fn unconditional(alloc: Global, syntax: &Syntax) -> Result<(), ReadFail>
     ensures accepted_only_without_conditions { OnOk result (first_if syntax.now ≡ None) }
     ensures refused_only_at_the_first { IfErr result (IsConditional (first_if syntax.now)) }
 {
-    let material = last_material(alloc, syntax)?;
+    let headers = headers_in(alloc, syntax)?;
+    let material = last_material(alloc, &headers, syntax)?;
     match first_of(syntax.as_slice(), &material) {
         Some(place) => Err(ReadFail::Refused {
             kind: kinds::CONDITIONAL,

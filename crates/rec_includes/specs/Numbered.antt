@@ -6,7 +6,8 @@ use Rattle.rec_reader.specs.declared.token.Name.{Name}
 use Rattle.rec_reader.specs.declared.syntax_tree.Specification.{Specification}
 use Rattle.rec_includes.specs.Names.{same_text}
 use Rattle.rec_includes.specs.Material.{fresh, material_of}
-use Rattle.rec_includes.specs.Listing.{place_in}
+use Rattle.rec_reader.specs.Parsed.{Parsed}
+use Rattle.rec_includes.specs.Listing.{Listing, listing, place_in}
 
 -- the entries of the specification with this number
 abbrev pub includes_at : List Specification → ℕ → List Name
@@ -14,6 +15,10 @@ includes_at specifications number = option_map_or (λ s. s.includes) (slice_get 
 
 abbrev pub header_names : List Specification → List Name
 header_names specifications = map (λ s. s.name) specifications
+
+-- the names of a syntax's headers
+abbrev pub headers_in : Parsed → Listing
+headers_in s = listing s.bytes (header_names s.specifications)
 
 -- the specification that an entry of the one with this number includes: the first of those before it that has the
 -- entry's name

@@ -3,7 +3,7 @@ ghost use Rattle.std.specs.Prelude.{◌≡◌, ◌<◌, ◌++◌, ◌∷◌, [],
 ghost use Rattle.std.specs.List.{list_any};
 ghost use Rattle.rec_includes.specs.Material.{fresh, with_numbers, material_of};
 ghost use Rattle.rec_includes.specs.Listing.{listing};
-ghost use Rattle.rec_includes.specs.Numbered.{header_names, includes_at, IsClosed};
+ghost use Rattle.rec_includes.specs.Numbered.{header_names, headers_in, includes_at, IsClosed};
 ghost use Rattle.rec_includes.specs.Walk.{next_in, missing};
 
 use crate::directory::Directory;
@@ -33,6 +33,13 @@ pub fn header_names<'a>(
         names.add(specification.name)?;
     }
     Ok(names)
+}
+
+/// The names of the headers of a syntax in order.
+pub fn headers_in<'a>(alloc: Global, syntax: &'a Syntax) -> Result<Directory<'a>, Memory>
+    ensures { IfOk result (λ d. d ≡ headers_in syntax.now) }
+{
+    header_names(alloc, syntax.text(), syntax.as_slice())
 }
 
 /// The entries of the specification with this number.
@@ -155,10 +162,16 @@ pub fn gather(
     gather_absent(alloc, headers, specifications, material, number)
 }
 
-/// The material of the specification with this number, counted from 0: the numbers of those that it
-/// includes, each once and after what it includes itself, and then its own. Nothing where there is no
-/// such specification.
-pub fn material_of(alloc: Global, syntax: &Syntax, number: usize) -> Result<Vec<usize>, Memory>
+/// The material of the specification with this number, counted from 0, where the names of headers
+/// are at hand: the numbers of those that it includes, each once and after what it includes itself,
+/// and then its own. Nothing where there is no such specification.
+pub fn material_with(
+    alloc: Global,
+    headers: &Directory,
+    syntax: &Syntax,
+    number: usize,
+) -> Result<Vec<usize>, Memory>
+    requires { headers.now ≡ headers_in syntax.now }
     ensures { IfOk result (λ v. v.items
         ≡ material_of syntax.now.bytes syntax.now.specifications number) }
 {
@@ -166,7 +179,15 @@ pub fn material_of(alloc: Global, syntax: &Syntax, number: usize) -> Result<Vec<
     if number >= specifications.len() {
         return Ok(Vec::new(alloc));
     }
-    let headers = header_names(alloc, syntax.text(), specifications)?;
     let mut material = IndexSet::new(alloc);
-    gather(alloc, &headers, specifications, &mut material, number)
+    gather(alloc, headers, specifications, &mut material, number)
+}
+
+/// The material of the specification with this number, counted from 0, as `material_with` gives it.
+pub fn material_of(alloc: Global, syntax: &Syntax, number: usize) -> Result<Vec<usize>, Memory>
+    ensures { IfOk result (λ v. v.items
+        ≡ material_of syntax.now.bytes syntax.now.specifications number) }
+{
+    let headers = headers_in(alloc, syntax)?;
+    material_with(alloc, &headers, syntax, number)
 }

@@ -10,6 +10,6 @@ mod recent;
 
 pub use directory::Directory;
 pub use faults::Memory;
-pub use gathering::{gather, header_names, includes_at, material_of};
+pub use gathering::{gather, header_names, headers_in, includes_at, material_of, material_with};
 pub use names::text_of;
 pub use ordering::{first_target, order};

@@ -4,7 +4,7 @@ use Rattle.std.specs.List.{filter}
 use Rattle.rec_reader.specs.declared.token.Name.{Name}
 use Rattle.rec_reader.specs.declared.syntax_tree.Node.{Node}
 use Rattle.faults.specs.declared.refusal.Refusal.{Refusal}
-use Rattle.rec_offences.specs.declared.terms.Argument.{Argument}
+use Rattle.rec_offences.specs.declared.offences.heads.Argument.{Argument}
 use Rattle.rec_offences.specs.Scope.{heads}
 use Rattle.rec_offences.specs.Faults.{lesser, least_with, of_kind, offence_at}
 use Rattle.rec_offences.specs.Walked.{clashing_sorts}

@@ -8,7 +8,7 @@ use Rattle.std.proofs.lemmas.List.Elements.{filter-append}
 use Rattle.rec_reader.specs.declared.token.Name.{Name}
 use Rattle.rec_reader.specs.declared.syntax_tree.Node.{Node}
 use Rattle.faults.specs.declared.refusal.Refusal.{Refusal}
-use Rattle.rec_offences.specs.declared.terms.Argument.{Argument}
+use Rattle.rec_offences.specs.declared.offences.heads.Argument.{Argument}
 use Rattle.rec_includes.specs.Names.{same_text}
 use Rattle.rec_offences.specs.Scope.{Entry, Visit, visits, look_up, is_variable, heads}
 use Rattle.rec_offences.specs.Offences.{clashing, unknown_name, wrong_count}

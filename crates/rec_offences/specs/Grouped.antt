@@ -5,6 +5,7 @@ use Rattle.std.specs.Option.{option_map, option_map_or, option_to_list, option_a
 use Rattle.rec_reader.specs.declared.token.Name.{Name}
 use Rattle.rec_reader.specs.declared.syntax_tree.Specification.{Specification}
 use Rattle.rec_offences.specs.declared.entries.Verdict.{Verdict}
+use Rattle.rec_offences.specs.declared.turn.Turn.{Turn}
 use Rattle.faults.specs.declared.refusal.Refusal.{Refusal}
 use Rattle.rec_includes.specs.Names.{is_among}
 use Rattle.rec_offences.specs.Scope.{Entry, names_of, root}
@@ -53,6 +54,27 @@ used_group bytes headers symbols_before rules_before verdicts symbols entries s 
     ++ of_kind 5 (unknown_names bytes entries s)
     ++ of_kind 7 (wrong_counts bytes entries s)
     ++ of_kind 8 (sort_clashes bytes entries s)
+
+-- the names of the headers before the specification whose turn it is
+abbrev pub earlier_headers : Turn → List Name
+earlier_headers t = take t.number t.headers.now.names
+
+-- what is repeated in it, where these names are included and these are its own
+abbrev pub repeated_at : Turn → (entries own : List Entry) → List Name
+repeated_at t entries own = repeated_group t.headers.now.bytes (earlier_headers t) t.verdicts.now entries own t.specification.now
+
+-- what is wrong with its declarations, where these sorts and names are included
+abbrev pub declared_at : Turn → (sorts : List Name) → (entries own : List Entry) → List Refusal
+declared_at t sorts entries own = declared_group t.headers.now.bytes (earlier_headers t) t.verdicts.now sorts entries own t.specification.now
+
+-- what passes the limits in it, where so many symbols and rules are included and these symbols are its own
+abbrev pub limits_at : Turn → (symbols_before rules_before : ℕ) → (symbols : List Entry) → List Name
+limits_at t symbols_before rules_before symbols = limits_group t.headers.now.bytes symbols_before rules_before t.verdicts.now symbols t.specification.now
+
+-- what else is wrong with it, where names are declared so
+abbrev pub used_at : Turn → (symbols_before rules_before : ℕ) → (symbols entries : List Entry) → List Refusal
+used_at t symbols_before rules_before symbols entries =
+    used_group t.headers.now.bytes (earlier_headers t) symbols_before rules_before t.verdicts.now symbols entries t.specification.now
 
 -- the offences of the specification with this number
 abbrev pub offences_at : List ℕ → List Specification → ℕ → List Refusal

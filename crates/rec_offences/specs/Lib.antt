@@ -9,4 +9,5 @@ pub mod Inclusion
 pub mod Visited
 pub mod Walked
 pub mod Grouped
+pub mod Checking
 pub mod Laws

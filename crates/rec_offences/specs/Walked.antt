@@ -4,7 +4,7 @@ use Rattle.std.specs.Option.{option_map, option_map_or}
 use Rattle.rec_reader.specs.declared.token.Name.{Name}
 use Rattle.rec_reader.specs.declared.syntax_tree.Node.{Node}
 use Rattle.faults.specs.declared.refusal.Refusal.{Refusal}
-use Rattle.rec_offences.specs.declared.terms.Argument.{Argument}
+use Rattle.rec_offences.specs.declared.offences.heads.Argument.{Argument}
 use Rattle.rec_includes.specs.Names.{same_text}
 use Rattle.rec_offences.specs.Scope.{Entry, Visit, visit, look_up, is_variable}
 use Rattle.rec_offences.specs.Offences.{unknown_name, wrong_count}

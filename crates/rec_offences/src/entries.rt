@@ -13,8 +13,8 @@ ghost use Rattle.rec_offences.specs.Inclusion.{IsInclusion, IsAtLevel, IsPastLev
 ghost use Rattle.rec_offences.specs.Grouped.{verdict_of};
 
 use crate::inclusion::Inclusion;
-use crate::limits::MOST;
 use crate::numbered::{add_sorts, count_rules, symbols_at};
+use crate::offences::limits::MOST;
 use crate::scope::Scope;
 use crate::signatures::Signature;
 use faults::Memory;

@@ -2,20 +2,18 @@
 //! them.
 #![tactic(auto)]
 
-mod declarations;
+mod checking;
 mod entries;
 mod inclusion;
-mod input;
 mod laws;
-mod limits;
+mod least;
 mod numbered;
-mod offence;
+mod offences;
 mod scope;
 mod signatures;
 mod sorts;
-mod terms;
-mod variables;
+mod turn;
 
+pub use checking::{fault, fault_with};
 pub use faults::{Memory, Refusal};
-pub use input::fault;
 pub use laws::{fault_laws, visit_laws};

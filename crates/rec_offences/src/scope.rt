@@ -4,7 +4,7 @@ ghost use Rattle.std.specs.Option.{option_map};
 ghost use Rattle.rec_includes.specs.Names.{is_among, same_text};
 ghost use Rattle.rec_offences.specs.Scope.{look_up, names_of, is_variable};
 ghost use Rattle.rec_offences.specs.Offences.{has_other_sort};
-ghost use Rattle.rec_offences.specs.Known.{known, entry_of, entries_of};
+ghost use Rattle.rec_offences.specs.Known.{known, entry_of, entries_of, with_entries};
 
 use crate::signatures::Signature;
 use crate::sorts::SortNumbers;
@@ -106,7 +106,7 @@ impl<'a> Scope<'a> {
     /// Declares a name, after the others.
     pub(crate) fn add(&mut self, signature: Signature<'a>) -> Result<(), Memory>
         ensures { OnOk result (self.new
-            ≡ known self.old.bytes (self.old.entries ++ entry_of signature.entry ∷ [])) }
+            ≡ with_entries self.old (entry_of signature.entry ∷ [])) }
     {
         self.sorts.note_sorts(signature.arguments, signature.sort)?;
         self.signatures.push(signature)?;
@@ -121,8 +121,7 @@ impl<'a> Scope<'a> {
 
     /// Declares names, after the others.
     pub(crate) fn add_all(&mut self, signatures: &[Signature<'a>]) -> Result<(), Memory>
-        ensures { OnOk result (self.new
-            ≡ known self.old.bytes (self.old.entries ++ entries_of signatures.now)) }
+        ensures { OnOk result (self.new ≡ with_entries self.old (entries_of signatures.now)) }
     {
         for signature in signatures {
             self.add(*signature)?;

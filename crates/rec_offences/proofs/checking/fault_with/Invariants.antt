@@ -1,0 +1,14 @@
+use Rattle.std.proofs.Common.{◌≡◌, None, take}
+use Rattle.std.specs.List.{flat_map}
+use Rattle.rec_offences.specs.Faults.{least_with}
+use Rattle.rec_offences.specs.Checking.{HasSameInput, IsChecking}
+use Rattle.rec_offences.specs.Grouped.{offences_at}
+use Rattle.rec_offences.proofs.checking.fault_with.Given as goal
+
+abbrev pub invariant-loop-number : goal.invariant-loop-number
+invariant-loop-number l =
+    record {
+      checking : IsChecking l.checking;
+      same : HasSameInput l.initial.checking l.checking;
+      noted : l.checking.found ≡ least_with None (flat_map (offences_at l.syntax.bytes l.initial.checking.specifications.now) (take l.number-index l.number-items));
+    }

@@ -1,9 +1,0 @@
-use Rattle.std.proofs.Common.{◌≡◌, drop, take, not}
-use Rattle.std.specs.List.{filter}
-use Rattle.rec_includes.specs.Names.{is_among}
-use Rattle.rec_offences.specs.Faults.{least_with, of_kind}
-use Rattle.rec_offences.proofs.declarations.note_unknown_includes.Given as goal
-
-abbrev pub invariant-loop-entry : goal.invariant-loop-entry
-invariant-loop-entry l =
-    least_with l.found (of_kind 12 (filter (λ n. not (is_among l.headers.bytes (take l.number l.headers.names) n)) (drop l.entry-index l.entry-items))) ≡ least_with l.initial.found (of_kind 12 (filter (λ n. not (is_among l.headers.bytes (take l.number l.headers.names) n)) l.entry-items))

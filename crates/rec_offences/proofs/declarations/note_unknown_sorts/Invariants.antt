@@ -1,9 +1,0 @@
-use Rattle.std.proofs.Common.{◌≡◌, drop, not}
-use Rattle.std.specs.List.{filter}
-use Rattle.rec_includes.specs.Names.{is_among}
-use Rattle.rec_offences.specs.Faults.{least_with, of_kind}
-use Rattle.rec_offences.proofs.declarations.note_unknown_sorts.Given as goal
-
-abbrev pub invariant-loop-sort : goal.invariant-loop-sort
-invariant-loop-sort l =
-    least_with l.found (of_kind 4 (filter (λ n. not (is_among l.sorts.bytes l.sorts.names n)) (drop l.sort-index l.sort-items))) ≡ least_with l.initial.found (of_kind 4 (filter (λ n. not (is_among l.sorts.bytes l.sorts.names n)) l.sort-items))

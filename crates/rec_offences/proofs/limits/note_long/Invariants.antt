@@ -1,9 +1,0 @@
-use Rattle.std.proofs.Common.{◌≡◌, drop}
-use Rattle.std.specs.List.{filter}
-use Rattle.rec_offences.specs.Offences.{is_long}
-use Rattle.rec_offences.specs.Faults.{least_with, of_kind}
-use Rattle.rec_offences.proofs.limits.note_long.Given as goal
-
-abbrev pub invariant-loop-name : goal.invariant-loop-name
-invariant-loop-name l =
-    least_with l.found (of_kind 13 (filter (is_long l.text) (drop l.name-index l.names))) ≡ least_with l.initial.found (of_kind 13 (filter (is_long l.text) l.names))

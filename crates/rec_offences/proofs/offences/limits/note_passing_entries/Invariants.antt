@@ -1,0 +1,8 @@
+use Rattle.std.proofs.Common.{◌≡◌, drop, map}
+use Rattle.std.specs.List.{filter}
+use Rattle.rec_offences.specs.Faults.{least_with, of_kind}
+use Rattle.rec_offences.proofs.offences.limits.note_passing_entries.Given as goal
+
+abbrev pub invariant-loop-verdict : goal.invariant-loop-verdict
+invariant-loop-verdict l =
+    least_with l.found (of_kind 13 (map (λ v. v.entry) (filter (λ v. v.is_passing) (drop l.verdict-index l.verdicts)))) ≡ least_with l.initial.found (of_kind 13 (map (λ v. v.entry) (filter (λ v. v.is_passing) l.verdicts)))

@@ -1,9 +1,0 @@
-use Rattle.std.proofs.Common.{◌≡◌, drop}
-use Rattle.std.specs.List.{flat_map}
-use Rattle.rec_offences.specs.Offences.{clashing_sides}
-use Rattle.rec_offences.specs.Faults.{least_with, of_kind}
-use Rattle.rec_offences.proofs.terms.note_clashing_sides.Given as goal
-
-abbrev pub invariant-loop-rule : goal.invariant-loop-rule
-invariant-loop-rule l =
-    least_with l.found (of_kind 8 (flat_map (clashing_sides l.scope.bytes l.scope.entries) (drop l.rule-index l.rules))) ≡ least_with l.initial.found (of_kind 8 (flat_map (clashing_sides l.scope.bytes l.scope.entries) l.rules))
