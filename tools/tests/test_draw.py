@@ -5,6 +5,7 @@ from __future__ import annotations
 import re
 import unittest
 import xml.etree.ElementTree
+from pathlib import Path
 
 import support
 from support import call, run
@@ -150,6 +151,13 @@ class Draw(unittest.TestCase):
         tree = xml.etree.ElementTree.parse(f"{support.TOP}/docs/sort.svg")
         shown = sorted(it.text for it in tree.iter(f"{SVG}text"))
         self.assertEqual(shown, ["cons", "cons", "cons", "nil", "s", "s", "z"])
+
+    def test_the_log_of_the_repository(self) -> None:
+        """docs/log.svg shows four callers on examples/sums.rec: 20 sums of each kind, of 13, 11 and 9 creations."""
+        shown = Path(f"{support.TOP}/docs/log.svg").read_text(encoding="utf-8")
+        self.assertEqual(re.findall(r">(caller [0-9])<", shown), [f"caller {caller}" for caller in range(4)])
+        self.assertEqual(len(re.findall('class="(?:make|find)"', shown)), 20 * (13 + 11 + 9))
+        self.assertGreater(shown.count('class="collect"'), 0)
 
 
 if __name__ == "__main__":

@@ -1,2 +1,4 @@
 pub mod ReadBack
 pub mod Whole
+pub mod Told
+pub mod Good

@@ -1,6 +1,7 @@
 //! The lines of a log, written: what a caller notes of its steps, each step in a line of its own.
 #![tactic(auto)]
 
+mod line;
 mod log;
 #[cfg(test)]
 mod tests;

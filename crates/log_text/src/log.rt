@@ -1,9 +1,11 @@
 // A log in memory.
-ghost use Rattle.std.specs.Prelude.{◌≡◌, ◌++◌, [], true, Some, is_none, IfSome, IfOk, codes};
+ghost use Rattle.std.specs.Prelude.{◌≡◌, ◌++◌, [], true, Some, is_none, IfSome, IfOk, OnOk, codes};
 ghost use Rattle.std.specs.Option.{option_map};
 ghost use Rattle.history_core.specs.declared.entry.Entry.TheVariants.{Make, Find, Roots, Collect};
 ghost use Rattle.log_text.specs.Lines.{names, creation_text, listing_text, line_of, Adds};
+ghost use Rattle.log_text.specs.Word.{word_of};
 
+use crate::line::Line;
 use crate::writing::{write_creation, write_listing};
 use faults::Memory;
 use std::alloc::Global;
@@ -15,6 +17,8 @@ use term_model::{Head, Row};
 #[derive(Drop)]
 pub struct Log {
     lines: Option<Vec<u8>>,
+    /// Where the line of a creation is written.
+    line: Line,
 }
 
 impl Model for Log {
@@ -26,21 +30,35 @@ impl Model for Log {
     ghost view = { λ log. option_map (λ bytes. bytes.items) log.lines };
 }
 
-// Lines with that of a creation, which begins with this word.
-fn with_creation(
-    mut lines: Vec<u8>,
-    word: &[u8],
+// Appends the line of a creation, which is written into this one where it is short.
+fn push_creation(
+    lines: &mut Vec<u8>,
+    line: &mut Line,
+    made: bool,
     key: u64,
     head: Head,
     args: &[Row],
     row: Row,
-) -> Result<Vec<u8>, Memory>
-    ensures { IfOk result (λ longer. longer.items
-        ≡ lines.items ++ (word.now ++ creation_text key head (names args.now) row.0)) }
+) -> Result<(), Memory>
+    ensures { OnOk result (lines.new.items
+        ≡ lines.old.items ++ (word_of made ++ creation_text key head (names args.now) row.0)) }
 {
+    if args.len() <= 16 {
+        line.tell(made, key, head, args, row);
+        lines.extend_from_slice(line.text())?;
+        return Ok(());
+    }
+    push_word(made, lines)?;
+    write_creation(key, head, args, row, lines)
+}
+
+// Appends the word of a creation.
+fn push_word(made: bool, lines: &mut Vec<u8>) -> Result<(), Memory>
+    ensures { OnOk result (lines.new.items ≡ lines.old.items ++ word_of made) }
+{
+    let word = if made { b"# make " } else { b"# find " };
     lines.extend_from_slice(word)?;
-    write_creation(key, head, args, row, &mut lines)?;
-    Ok(lines)
+    Ok(())
 }
 
 // Lines with that of another step, which begins with this word.
@@ -60,6 +78,20 @@ impl Log {
     {
         Log {
             lines: Some(Vec::new(alloc)),
+            line: Line::new(),
+        }
+    }
+
+    // Notes a creation, which made its row or found it.
+    fn note_creation(&mut self, made: bool, key: u64, head: Head, args: &[Row], row: Row)
+        ensures { IfSome self.new (λ lines. self.new ≡ option_map
+            (λ before. before ++ (word_of made ++ creation_text key head (names args.now) row.0))
+            self.old) }
+    {
+        if let Some(lines) = &mut self.lines {
+            if push_creation(lines, &mut self.line, made, key, head, args, row).is_err() {
+                self.lines = None;
+            }
         }
     }
 
@@ -67,20 +99,14 @@ impl Log {
     pub fn make(&mut self, number: u64, head: Head, args: &[Row], row: Row)
         ensures { Adds self.old self.new (Make number head (names args.now) row.0) }
     {
-        self.lines = match self.lines.take() {
-            Some(lines) => with_creation(lines, b"# make ", number, head, args, row).ok(),
-            None => None,
-        };
+        self.note_creation(true, number, head, args, row);
     }
 
     /// Notes a creation that found a row.
     pub fn find(&mut self, after: u64, head: Head, args: &[Row], row: Row)
         ensures { Adds self.old self.new (Find after head (names args.now) row.0) }
     {
-        self.lines = match self.lines.take() {
-            Some(lines) => with_creation(lines, b"# find ", after, head, args, row).ok(),
-            None => None,
-        };
+        self.note_creation(false, after, head, args, row);
     }
 
     /// Notes a leave, with the rows that are protected.
@@ -132,7 +158,7 @@ impl Log {
     pub fn into_lines(self) -> Option<Vec<u8>>
         ensures { option_map (λ lines. lines.items) result ≡ self }
     {
-        let Log { lines } = self;
+        let Log { lines, line: _ } = self;
         lines
     }
 }
