@@ -74,7 +74,9 @@ def options_given(command: Command, words: list[str]) -> tuple[dict[str, str], l
                     + (f", and {value} is none" if value else "")
                 )
         given[name] = value
+    # (a number 0 asks for nothing)
+    asked = {name for name, value in given.items() if command.options[name] is None or int(value) > 0}
     for one, other in command.apart:
-        if one in given and other in given:
+        if one in asked and other in asked:
             raise ValueError(f"{one} and {other} aren't taken together")
     return given, plain

@@ -40,3 +40,7 @@ pub mod TracedEnds
 pub mod Halting
 pub mod NodeHalts
 pub mod Matchings
+pub mod Memories
+pub mod Cachings
+pub mod Knowing
+pub mod CachedEnds

@@ -1,5 +1,5 @@
 -- Outermost rewriting, step by step.
-use Rattle.std.proofs.Common.{◌≡◌, ℕ, zero, suc, ◌+◌, ◌-◌, ◌≤◌, List, [], ◌∷◌, ◌++◌, length, get_or, refl, sym, ◌∙◌, ap, arith, subst, append-nil, Some, true}
+use Rattle.std.proofs.Common.{◌≡◌, ℕ, zero, suc, ◌+◌, ◌-◌, ◌≤◌, List, [], ◌∷◌, ◌++◌, length, get_or, refl, sym, ◌∙◌, ap, arith, subst, append-nil, Some, true, inl}
 use Rattle.std.specs.Prelude.{Contains, slice_get}
 use Rattle.std.proofs.lemmas.List.{length-map}
 use Rattle.std.proofs.lemmas.List.Elements.{Contains-append_right, All-get_or}
@@ -193,6 +193,7 @@ module _ (plan : Planned) (term : Tree) (fuel depth : ℕ) (start : Store) where
             upper = sym (append-nil (trees start));
             sound = sound;
             numbers = record { inside = inside; rows = refl; widest = refl; room = refl; sweeps = omega arith; load = omega arith };
+            ages = inl (refl, λ r t k. k);
             built = sym (append-nil start.built);
             refusals = refl;
             sweeps = omega arith;

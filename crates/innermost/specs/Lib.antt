@@ -27,3 +27,6 @@ pub mod Traced
 pub mod Trail
 pub mod Uses
 pub mod Noting
+pub mod Opened
+pub mod Remembered
+pub mod Caching

@@ -2,6 +2,7 @@
 #![tactic(auto)]
 
 mod building;
+mod caching;
 mod coding;
 mod compile;
 mod depths;
@@ -13,6 +14,7 @@ mod instantiating;
 mod laws;
 mod machine;
 mod matcher;
+mod memo;
 mod nodes;
 mod normal;
 mod normalizing;
@@ -20,6 +22,7 @@ mod outward;
 mod places;
 mod rebuilding;
 mod reducing;
+mod remembering;
 mod spots;
 mod step;
 mod stepping;
@@ -30,6 +33,7 @@ mod windows;
 
 pub use fitness::may_be_normalized;
 pub use laws::{choice_laws, code_laws, outermost_laws, step_laws};
+pub use memo::{Known, Memo, NoMemo};
 pub use normal::{Normal, RunFault, TraceFault};
 pub use normalizing::Machine;
 pub use rewrite_model::Event;

@@ -9,19 +9,22 @@ ghost use Rattle.rewrite_model.specs.Outermost.{outermost as outermost_of, outer
 ghost use Rattle.rule_match.specs.Planned.{IsPlain};
 ghost use Rattle.innermost.specs.Normalized.{Answers, Builds, FaultOnlyWhereRefused, SweepsAtMost, LoadsNeedAtMost, KeepsNumbers};
 ghost use Rattle.innermost.specs.BuiltTrees.{BuildsTrees};
+ghost use Rattle.innermost.specs.Remembered.{AreRight, BuildsCached};
 ghost use Rattle.innermost.specs.Traced.{TracedAnswers, TracedBuilds, RefusedOnlyWhereTold, TracedSweeps, TellsReplacements};
 ghost use Rattle.innermost.specs.Machines.{IsFor, settled};
 
+use crate::caching::evaluate_with;
 use crate::coding::code_plan;
 use crate::compile::Code;
 use crate::evaluating::evaluate;
 use crate::frames::Parts;
 use crate::matcher::Matcher;
 use crate::outward::rewrite;
+use crate::remembering::refresh;
 use crate::spots::Spot;
 use crate::trail::{Telling, Trail};
 use crate::windows::Window;
-use crate::{Event, Normal, RunFault, TraceFault, tracing};
+use crate::{Event, Memo, Normal, RunFault, TraceFault, tracing};
 use faults::Memory;
 use rule_match::Plan;
 use std::alloc::Global;
@@ -125,6 +128,62 @@ impl Machine {
             term,
             terms,
         );
+        settle(end, base, terms)
+    }
+
+    /// Normalizes a term as `normalize` does, with a memory of results of reductions, whose pairs are
+    /// right and stay so. At a node of the term whose tree it knows, the value is taken where there is
+    /// as much fuel and room as the memory says, and nothing of that reduction is built again. Where
+    /// rows may have been lost, and where the store has no epoch, the memory forgets all.
+    pub fn normalize_with<T: Terms, M: Memo>(
+        &mut self,
+        plan: &Plan,
+        term: &Flat,
+        fuel: u64,
+        terms: &mut T,
+        memo: &mut M,
+    ) -> Result<Normal, RunFault>
+        requires inside { (T.store terms.old).inside ≡ true }
+        requires machine { IsFor plan.now self.old }
+        requires no_variables { IsGround term.now }
+        requires plain { IsPlain plan.now.widest term.now }
+        requires wide { plan.now.widest ≤ (T.store terms.old).widest }
+        requires free { length (T.store terms.old).stack + self.old.depth
+            ≤ (T.store terms.old).room }
+        requires memory { AreRight plan.now.rules (T.store terms.old).built (T.store terms.old)
+            (M.map memo.old) }
+        ensures answer { Answers (evaluation plan.now.rules term.now fuel self.old.depth).end
+            (T.store terms.old) (T.store terms.new) result }
+        ensures built { BuildsCached plan.now.rules
+            (evaluation plan.now.rules term.now fuel self.old.depth).notes
+            (T.store terms.old) (T.store terms.new) result }
+        ensures memory { AreRight plan.now.rules (T.store terms.new).built (T.store terms.new)
+            (M.map memo.new) }
+        ensures faults { FaultOnlyWhereRefused (T.store terms.old) (T.store terms.new) result }
+        ensures sweeps { SweepsAtMost (T.store terms.old) (T.store terms.new) result }
+        ensures load { LoadsNeedAtMost (need plan.now.rules term.now fuel self.old.depth)
+            (T.store terms.old) (T.store terms.new) }
+        ensures numbers { KeepsNumbers (T.store terms.old) (T.store terms.new) }
+        ensures sound { IsSound (T.store terms.new) }
+        ensures machine { self.new ≡ self.old }
+        ensures same { T.same terms.old terms.new }
+    {
+        let base = terms.depth();
+        let _ = plan.rules();
+        let _ = self.code.steps.len();
+        self.parts.left = fuel;
+        let mut epoch = terms.epoch();
+        let end = evaluate_with(
+            plan,
+            &self.code,
+            &mut self.parts,
+            &mut self.window,
+            term,
+            &mut epoch,
+            terms,
+            memo,
+        );
+        let _ = refresh(&mut epoch, terms, memo);
         settle(end, base, terms)
     }
 

@@ -1,5 +1,5 @@
 -- Which terms each worker drew, where a list tells the worker of each term: all that they build is a front of itself.
-use Rattle.std.proofs.Common.{◌≡◌, ◌≢◌, ◌==◌, ℕ, zero, suc, ◌+◌, ◌<◌, ◌≤◌, cond, true, false, Bool, List, [], ◌∷◌, length, get_or, slice_get, Some, None, eq-eqb, ne_eqb, refl, sym, ap, subst, ◌∙◌, add-zero, zero-add, append-nil, arith, All, map}
+use Rattle.std.proofs.Common.{◌≡◌, ◌≢◌, ◌==◌, ℕ, zero, suc, ◌+◌, ◌<◌, ◌≤◌, cond, true, false, Bool, List, [], ◌∷◌, ◌++◌, length, get_or, slice_get, Some, None, eq-eqb, ne_eqb, refl, sym, ap, subst, ◌∙◌, add-zero, zero-add, append-nil, arith, All, map}
 use mathlib.Core.Logic.{dite}
 use native.Mathlib.Decide.{ℕ_discrete}
 use Rattle.std.specs.List.{flat_map}
@@ -12,7 +12,7 @@ use Rattle.rewrite_model.specs.Rule.{Rule}
 use Rattle.settings.specs.declared.parts.Settings.{Settings}
 use Rattle.rewrite_workers.specs.Dealt.{times}
 use Rattle.rewrite_workers.specs.Lined.{drawn_by}
-use Rattle.rewrite_workers.specs.Works.{term_at, built_of}
+use Rattle.rewrite_workers.specs.Works.{term_at, AreBuilt}
 use Rattle.rewrite_workers.specs.Ends.{AreApart, Rises, numbered}
 use Rattle.rewrite_workers.proofs.Dealing.{hit, times_cons, times_append, hit_same, hit_other}
 use Rattle.rewrite_workers.proofs.Dividing.{times_none}
@@ -165,7 +165,8 @@ fronts s rules terms workers lists long built = record {
       drawn_places terms k 0 workers terms long (λ j h. ap (term_at terms) (sym (zero-add j))) ∙ ap (numbered terms) (sym hand) in
       record {
         rest = [];
-        built = ap (λ ts. built_of s rules ts) (sym drawn) ∙ sym (built k below) ∙ sym (append-nil (named_by lists k));
+        built = subst (λ ts. AreBuilt s rules ts [] (named_by lists k ++ [])) drawn
+            (subst (AreBuilt s rules (drawn_by k workers terms) []) (sym (append-nil (named_by lists k))) (built k below));
       };
 }
 

@@ -70,11 +70,11 @@ HasSuch words left old new P =
     (settings : Settings) × (settings_of words ≡ Some settings) × GaveSuch settings left old new (P settings)
 
 -- What each worker's Make and Find entries name are, in order, the built lists of the terms that it drew, where these
--- workers drew the terms.
+-- workers drew the terms; where results are remembered, a cached list of these terms.
 abbrev pub NamesAll : (workers : List ℕ) → List (List Entry) → Settings → Specified → Type 0
 NamesAll workers lists s spec = NamesWhatItBuilt s spec.rules spec.terms workers lists
 
--- They are a front of the built lists of terms that it drew, and no term was drawn twice.
+-- They are a front of such a list of terms that it drew, and no term was drawn twice.
 abbrev pub NamesAllFronts : List (List Entry) → Settings → Specified → Type 0
 NamesAllFronts lists s spec = NamesFronts s spec.rules spec.terms lists
 

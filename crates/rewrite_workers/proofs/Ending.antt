@@ -1,21 +1,19 @@
 -- What a desk built over several terms, one after another.
 use Rattle.std.proofs.Common.{◌≡◌, ℕ, zero, suc, ◌+◌, ◌<◌, ◌≤◌, List, [], ◌∷◌, ◌++◌, length, map, get_or, max, refl, sym, ap, subst, ◌∙◌, arith, All}
 use Rattle.std.specs.Prelude.{Result, Ok, Err}
-use Rattle.std.specs.List.{flat_map}
 use Rattle.std.proofs.lemmas.List.{append-nil, append_assoc}
-use Rattle.std.proofs.lemmas.Grind.{flat_map-append}
 use Rattle.term_model.specs.Tree.{Tree, Leaf}
 use Rattle.terms_api.specs.Terms.{Store}
 use Rattle.rewrite_model.specs.Rule.{Rule}
 use Rattle.rewrite_model.specs.Built.{need, greatest, need_of_all}
-use Rattle.term_lines.specs.Strategies.{built_by}
+use Rattle.term_lines.proofs.Lists.{none_built, built_on}
 use Rattle.settings.specs.declared.parts.Settings.{Settings}
 use Rattle.innermost.specs.declared.normal.RunFault.{RunFault}
 use Rattle.term_lines.specs.declared.stop.LineStop.{LineStop}
 use Rattle.term_lines.specs.declared.stop.LineStop.TheVariants as stop
 use Rattle.rewrite_workers.specs.Desks.{KeepsDesk}
 use Rattle.rewrite_workers.specs.Ends.{BuiltAll, BuiltFront, RefusedLast, Ended, numbered}
-use Rattle.rewrite_workers.specs.Works.{term_at, strategy_of, built_of, need_at, need_of}
+use Rattle.rewrite_workers.specs.Works.{term_at, strategy_of, remembers_results, AreBuilt, need_at, need_of}
 use Rattle.rewrite_workers.specs.Working.{WorksOn, more_sweeps}
 
 pub numbered-append : (terms : List Tree) (xs ys : List ℕ) → numbered terms (xs ++ ys) ≡ numbered terms xs ++ numbered terms ys
@@ -23,26 +21,35 @@ numbered-append terms [] ys = refl
 numbered-append terms (x ∷ xs) ys = ap (λ (ts : List Tree). term_at terms x ∷ ts) (numbered-append terms xs ys)
 
 module _ (s : Settings) (rules : List Rule) where
-  abbrev built : List Tree → List Tree
-  built ts = built_of s rules ts
+  -- no terms build nothing
+  pub nothing_more : (a : Store) → BuiltAll s rules [] a a
+  nothing_more a = record { trees = []; are = none_built rules s.fuel s.depth (strategy_of s.command) (remembers_results s rules) a.built; built = sym (append-nil a.built) }
 
-  built-append : (ts us : List Tree) → built (ts ++ us) ≡ built ts ++ built us
-  built-append ts us = flat_map-append (λ t. built_by (strategy_of s.command) rules t s.fuel s.depth) ts us
+  pub built_over : (ts us before mid xs ys : List Tree) → mid ≡ before ++ xs → AreBuilt s rules ts before xs → AreBuilt s rules us mid ys → AreBuilt s rules (ts ++ us) before (xs ++ ys)
+  built_over ts us before mid xs ys e c d =
+      built_on rules s.fuel s.depth (strategy_of s.command) (remembers_results s rules) ts us before xs ys c (subst (λ (zs : List Tree). AreBuilt s rules us zs ys) e d)
+
+  longer : (a b c : Store) (xs ys : List Tree) → b.built ≡ a.built ++ xs → c.built ≡ b.built ++ ys → c.built ≡ a.built ++ (xs ++ ys)
+  longer a b c xs ys one two = two ∙ ap (λ (zs : List Tree). zs ++ ys) one ∙ append_assoc a.built xs ys
 
   pub built_after : (ts us : List Tree) (a b c : Store) → BuiltAll s rules ts a b → BuiltAll s rules us b c → BuiltAll s rules (ts ++ us) a c
-  built_after ts us a b c one two =
-      two ∙ ap (λ (xs : List Tree). xs ++ built us) one ∙ append_assoc a.built (built ts) (built us) ∙ ap (λ (xs : List Tree). a.built ++ xs) (sym (built-append ts us))
+  built_after ts us a b c one two = record {
+    trees = one.trees ++ two.trees;
+    are = built_over ts us a.built b.built one.trees two.trees one.built one.are two.are;
+    built = longer a b c one.trees two.trees one.built two.built;
+  }
 
   -- all is the first of it
   pub all_front : (ts : List Tree) (a b : Store) → BuiltAll s rules ts a b → BuiltFront s rules ts a b
-  all_front ts a b h = record { front = built ts; rest = []; split = sym (append-nil (built ts)); built = h; whole = λ e. h }
+  all_front ts a b h = record { front = h.trees; rest = []; split = subst (AreBuilt s rules ts a.built) (sym (append-nil h.trees)) h.are; built = h.built; whole = λ e. h }
 
   front_after : (ts us : List Tree) (a b c : Store) → BuiltAll s rules ts a b → BuiltFront s rules us b c → BuiltFront s rules (ts ++ us) a c
   front_after ts us a b c one two = record {
-    front = built ts ++ two.front;
+    front = one.trees ++ two.front;
     rest = two.rest;
-    split = built-append ts us ∙ (ap (λ (xs : List Tree). built ts ++ xs) two.split ∙ sym (append_assoc (built ts) two.front two.rest));
-    built = two.built ∙ (ap (λ (xs : List Tree). xs ++ two.front) one ∙ append_assoc a.built (built ts) two.front);
+    split = subst (AreBuilt s rules (ts ++ us) a.built) (sym (append_assoc one.trees two.front two.rest))
+        (built_over ts us a.built b.built one.trees (two.front ++ two.rest) one.built one.are two.split);
+    built = longer a b c one.trees two.front one.built two.built;
     whole = λ e. built_after ts us a b c one (two.whole e);
   }
 

@@ -16,13 +16,13 @@ use Rattle.rewrite_workers.specs.declared.draws.Drawn.{Drawn}
 use Rattle.rewrite_workers.specs.declared.worker.Numbered.{Numbered}
 use Rattle.rewrite_workers.specs.declared.worker.Share.{Share}
 use Rattle.rewrite_workers.specs.Dealt.{IsIn, drew, times}
-use Rattle.rewrite_workers.specs.Works.{term_at, built_of, need_at, need_of}
+use Rattle.rewrite_workers.specs.Works.{term_at, need_at, need_of}
 use Rattle.rewrite_workers.specs.Lined.{told_of}
 use Rattle.rewrite_workers.specs.Ends.{BuiltAll, Ended, Rises, numbered}
 use Rattle.rewrite_workers.specs.Working.{WorksOn}
 use Rattle.rewrite_workers.specs.Worked.{drawn_of, number_of, of_terms, IsFresh, KeepsSeat, AddsLine, Drew, IsLineAt, HasLines, HasLinesWhere, Worked}
 use Rattle.rewrite_workers.proofs.Dealing.{times_snoc, hit_same}
-use Rattle.rewrite_workers.proofs.Ending.{numbered-append, all_front, ended_after, works_after, works_begin, works_unbegun, need_most}
+use Rattle.rewrite_workers.proofs.Ending.{numbered-append, nothing_more, all_front, ended_after, works_after, works_begin, works_unbegun, need_most}
 
 pub rises_snoc : (xs : List ℕ) (n : ℕ) → Rises xs → All (λ x. x < n) xs → Rises (xs ++ n ∷ [])
 rises_snoc [] n r h = (All-nil (λ j. n < j), tt)
@@ -95,7 +95,7 @@ module _ (table : TableId) (s : Settings) (symbols : List Named) (rules : List R
     lines = subst (All (IsLineAt s symbols rules terms share.worker)) (sym fresh.no_lines) (All-nil (IsLineAt s symbols rules terms share.worker));
     places = subst (All (λ (x : Numbered). x.number < length terms)) (sym fresh.no_lines) (All-nil (λ (x : Numbered). x.number < length terms));
     worker = refl;
-    built = sym (ap (λ (xs : List ℕ). a.built ++ built_of s rules (numbered terms xs)) fresh.none ∙ append-nil a.built);
+    built = subst (λ (xs : List ℕ). BuiltAll s rules (numbered terms xs) a a) (sym fresh.none) (nothing_more s rules a);
     refusals = refl;
     works = works_begin s (need_of s rules terms) a tt;
   }

@@ -11,3 +11,4 @@ pub mod Crewing
 pub mod Unbegun
 pub mod Trying
 pub mod Beside
+pub mod Recalling

@@ -16,6 +16,7 @@ use Rattle.rewrite_workers.specs.Ends.{Ended, Rises, Stopped, numbered}
 use Rattle.rewrite_workers.proofs.Dealing.{sum_none}
 use Rattle.rewrite_workers.proofs.Dividing.{times_flat}
 use Rattle.rewrite_workers.proofs.Eachwise.{each_unchanged}
+use Rattle.rewrite_workers.proofs.Ending.{nothing_more}
 
 module _ {D : Type 0} (store : D → Store) where
   abbrev nothing : D → List ℕ
@@ -42,7 +43,7 @@ module _ {D : Type 0} (store : D → Store) where
           Ok tt,
           slice_get-map nothing ds k ∙ ap (option_map nothing) at,
           slice_get-map well ds k ∙ ap (option_map well) at,
-          (sym (append-nil (store d).built), refl),
+          (nothing_more s rules (store d), refl),
         ));
     worst = inr refl;
   }

@@ -7,14 +7,14 @@ use Rattle.rewrite_model.specs.Rule.{Rule}
 use Rattle.settings.specs.declared.parts.Settings.{Settings}
 use Rattle.innermost.specs.declared.normal.RunFault.{RunFault}
 use Rattle.innermost.specs.declared.normal.RunFault.TheVariants as fault
-use Rattle.term_lines.specs.Strategies.{RefusedBy}
+use Rattle.term_lines.specs.Strategies.{Adds, RefusedBy}
 use Rattle.term_lines.specs.declared.stop.LineStop.{LineStop}
 use Rattle.term_lines.specs.declared.stop.LineStop.TheVariants as stop
 use Rattle.rewrite_workers.specs.declared.fault.AllFault.{AllFault}
 use Rattle.rewrite_workers.specs.declared.fault.AllFault.TheVariants.{StoreFull, Worn, Memory}
 use Rattle.rewrite_workers.specs.Dealt.{times}
 use Rattle.rewrite_workers.specs.Desks.{EachDesk}
-use Rattle.rewrite_workers.specs.Works.{term_at, strategy_of, tells_events, built_of}
+use Rattle.rewrite_workers.specs.Works.{term_at, strategy_of, tells_events, remembers_results, AreBuilt}
 
 -- the terms with these numbers, in their order
 abbrev pub numbered : List Tree → List ℕ → List Tree
@@ -33,9 +33,9 @@ pub record AreApart (count workers : ℕ) (hands : List (List ℕ)) : Type 0 whe
   pub upwards : All Rises hands
   pub once : (i : ℕ) → times i (flat_map (λ hand. hand) hands) ≤ 1
 
--- the desk built all that these terms build, in order, and nothing else
+-- the desk built what these terms build, in order, and nothing else
 abbrev pub BuiltAll : Settings → List Rule → List Tree → Store → Store → Type 0
-BuiltAll s rules drawn old new = new.built ≡ old.built ++ built_of s rules drawn
+BuiltAll s rules drawn old new = Adds (AreBuilt s rules drawn) old.built new.built
 
 -- The desk refused a tree of the last of these terms, and built all that they build before it.
 pub record RefusedLast (s : Settings) (rules : List Rule) (drawn : List Tree) (old new : Store) (fault : RunFault) : Type 0 where
@@ -45,7 +45,7 @@ pub record RefusedLast (s : Settings) (rules : List Rule) (drawn : List Tree) (o
   pub begun : Store
   pub built : BuiltAll s rules before old begun
   pub empty : begun.stack ≡ []
-  pub refused : RefusedBy (strategy_of s.command) rules term s.fuel s.depth begun new fault
+  pub refused : RefusedBy (strategy_of s.command) (remembers_results s rules) rules term s.fuel s.depth begun new fault
   pub refusals : old.refusals < new.refusals
 
 -- The desk built the first of what these terms build, in order; all of it where no events are told, since only they want memory
@@ -53,7 +53,7 @@ pub record RefusedLast (s : Settings) (rules : List Rule) (drawn : List Tree) (o
 pub record BuiltFront (s : Settings) (rules : List Rule) (drawn : List Tree) (old new : Store) : Type 0 where
   pub front : List Tree
   pub rest : List Tree
-  pub split : built_of s rules drawn ≡ front ++ rest
+  pub split : AreBuilt s rules drawn old.built (front ++ rest)
   pub built : new.built ≡ old.built ++ front
   pub whole : tells_events s rules ≡ false → BuiltAll s rules drawn old new
 

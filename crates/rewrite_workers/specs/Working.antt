@@ -1,16 +1,17 @@
 -- What a worker has, and what it leaves of its desk.
-use Rattle.std.specs.Prelude.{◌≡◌, ◌≢◌, ℕ, ◌+◌, ◌<◌, ◌≤◌, List, [], ◌∷◌, Result, Ok, Err, max, map, length, filter, nat_lt, slice_index_or, All}
+use Rattle.std.specs.Prelude.{◌≡◌, ◌≢◌, ℕ, ◌+◌, ◌<◌, ◌≤◌, List, [], ◌∷◌, Result, Ok, Err, max, map, length, filter, nat_lt, slice_index_or, All, Option, Some}
 use Rattle.term_model.specs.Tree.{Tree, Leaf}
 use Rattle.terms_api.specs.Terms.{Store}
 use Rattle.symbol_pool.specs.Pool.{Named}
 use Rattle.rewrite_model.specs.Rule.{Rule}
 use Rattle.rule_match.specs.Planned.{Planned}
 use Rattle.innermost.specs.Machines.{IsFor}
+use Rattle.innermost.specs.Remembered.{Map}
 use Rattle.settings.specs.declared.parts.Settings.{Settings}
-use Rattle.term_lines.specs.Written.{SweepsMore}
+use Rattle.term_lines.specs.Written.{MayRecall, SweepsMore}
 use Rattle.term_lines.specs.declared.rewriter.Rewriter.{Rewriter}
 use Rattle.term_lines.specs.declared.stop.LineStop.{LineStop}
-use Rattle.rewrite_workers.specs.Works.{strategy_of, is_traced, IsInnermost}
+use Rattle.rewrite_workers.specs.Works.{strategy_of, is_traced, IsInnermost, remembers_results}
 use Rattle.term_lines.specs.declared.stop.LineStop.TheVariants as stop
 
 -- a rewriter of a plan, with the strategy of the settings' command, their fuel, depth and rows, and what they ask to be told
@@ -22,6 +23,13 @@ pub record IsRewriterOf (s : Settings) (plan : Planned) (rewriter : Rewriter) : 
   pub fuel : rewriter.fuel ≡ s.fuel
   pub sizes : rewriter.sizes ≡ s.sizes
   pub traced : rewriter.traced ≡ is_traced s plan.rules
+  pub remembers : rewriter.remembers ≡ nat_lt 0 s.cache
+
+-- What a worker remembers of a desk that nobody is inside: where results are remembered each is right, and where the epoch is known it is
+-- that of the desk.
+pub record Recalls (s : Settings) (rules : List Rule) (desk : Store) (map : Map) (epoch : Option ℕ) : Type 0 where
+  pub right : MayRecall (remembers_results s rules) rules desk map
+  pub epoch_is : (n : ℕ) → epoch ≡ Some n → desk.epoch ≡ Some n
 
 -- how much more often than it built trees a desk may have collected: once, where it refused one
 abbrev pub more_sweeps : {A : Type 0} → Result A LineStop → ℕ

@@ -1,5 +1,5 @@
 -- How the settings ask terms to be rewritten, and what workers ask of the terms and the rules.
-use Rattle.std.specs.Prelude.{◌≡◌, ℕ, ◌<◌, ◌^◌, ◌==◌, ◌&&◌, Bool, List, All, length, slice_index_or}
+use Rattle.std.specs.Prelude.{◌≡◌, ℕ, ◌<◌, ◌^◌, ◌==◌, ◌&&◌, Bool, List, All, length, nat_lt, slice_index_or}
 use Rattle.std.specs.List.{list_all}
 use Rattle.term_model.specs.Tree.{Tree, Leaf, IsGround}
 use Rattle.symbol_pool.specs.Pool.{Named}
@@ -11,8 +11,8 @@ use Rattle.settings.specs.declared.parts.Settings.{Settings}
 use Rattle.rule_match.specs.Planned.{Planned, IsPlain}
 use Rattle.term_text.specs.Text.{HasNames}
 use Rattle.term_lines.specs.Laws.{WritesNames}
-use Rattle.term_lines.specs.Strategies.{built_by_all}
-use Rattle.term_lines.specs.Tracing.{tells}
+use Rattle.term_lines.specs.Strategies.{built_by_all, AreBuiltBy}
+use Rattle.term_lines.specs.Tracing.{tells, remembers}
 use Rattle.term_lines.specs.declared.strategy.Strategy.{Strategy}
 use Rattle.term_lines.specs.declared.strategy.Strategy.TheVariants.{Innermost, Outermost}
 
@@ -53,6 +53,14 @@ tells_events s rules = tells (strategy_of s.command) (is_traced s rules)
 -- what terms build, in order
 abbrev pub built_of : Settings → List Rule → List Tree → List Tree
 built_of s rules terms = built_by_all (strategy_of s.command) rules terms s.fuel s.depth
+
+-- whether results of reductions are remembered
+abbrev pub remembers_results : Settings → List Rule → Bool
+remembers_results s rules = remembers (strategy_of s.command) (is_traced s rules) (nat_lt 0 s.cache)
+
+-- Trees that terms build after these: all, in order; where results are remembered, a cached list of the terms' points.
+abbrev pub AreBuilt : Settings → List Rule → List Tree → (before trees : List Tree) → Type 0
+AreBuilt s rules terms before trees = AreBuiltBy (strategy_of s.command) (remembers_results s rules) rules terms s.fuel s.depth before trees
 
 -- how many trees innermost rewriting has in hand at once, at the term with a number, and at any term
 abbrev pub need_at : Settings → List Rule → List Tree → ℕ → ℕ

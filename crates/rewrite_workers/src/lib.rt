@@ -8,6 +8,7 @@ mod fault;
 mod gather;
 mod law;
 mod lines;
+mod remembered;
 mod threads;
 mod work;
 mod worker;

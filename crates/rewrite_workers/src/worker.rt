@@ -1,18 +1,21 @@
 // What one worker does: it draws terms until none is left, and makes the line of each.
-ghost use Rattle.std.specs.Prelude.{◌≡◌, ◌<◌, [], ◌∷◌, IfOk, OnErr, OnOk, length};
+ghost use Rattle.std.specs.Prelude.{◌≡◌, ◌<◌, [], ◌∷◌, None, IfOk, OnErr, OnOk, length};
+ghost use Rattle.term_model.specs.declared.Row.{Row};
 ghost use Rattle.rewrite_workers.specs.Works.{MayWork, term_at, need_at};
 ghost use Rattle.rewrite_workers.specs.Lined.{told, told_of};
 ghost use Rattle.rewrite_workers.specs.Desks.{IsReady};
 ghost use Rattle.rewrite_workers.specs.Ends.{Ended};
-ghost use Rattle.rewrite_workers.specs.Working.{IsRewriterOf, WorksOn};
+ghost use Rattle.rewrite_workers.specs.Working.{IsRewriterOf, Recalls, WorksOn};
 ghost use Rattle.rewrite_workers.specs.Worked.{IsFresh, AddsLine, KeepsSeat, Drew, Worked};
 
 use crate::draws::{Draws, Seat, draw};
 use crate::lines::Traced;
+use crate::remembered::Remembered;
 use crate::{Line, Work};
 use ends::Gate;
 use faults::Memory;
-use innermost::Machine;
+use innermost::{Machine, Memo, NoMemo};
+use result_memory::LruMemo;
 use std::alloc::Global;
 use term_lines::{LineStop, Rewriter};
 use term_text::SizeMarks;
@@ -65,13 +68,15 @@ fn rewriter_of<G>(job: &Job<G>) -> Result<Rewriter, Memory>
         fuel: job.work.settings.fuel,
         sizes: job.work.settings.sizes,
         traced: job.work.traced(),
+        remembers: job.work.settings.cache > 0,
     })
 }
 
 // Makes the line of a term on a desk, with its events. The gate is told before and after, while nobody is inside.
-fn make_line<T: Terms, G: Gate>(
+fn make_line<T: Terms, G: Gate, M: Memo>(
     job: &Job<G>,
     rewriter: &mut Rewriter,
+    memory: &mut Remembered<M>,
     desk: &mut T,
     number: u32,
     worker: u32,
@@ -80,6 +85,8 @@ fn make_line<T: Terms, G: Gate>(
     requires may { MayWork job.now.work.plan.now job.now.work.symbols.now job.now.work.terms.now }
     requires rewriter { IsRewriterOf job.now.work.settings job.now.work.plan.now rewriter.old }
     requires ready { IsReady job.now.work.settings job.now.work.plan.now (T.store desk.old) }
+    requires recalls { Recalls job.now.work.settings job.now.work.plan.now.rules (T.store desk.old)
+        (M.map memory.old.memo) memory.old.epoch }
     ensures line { IfOk result (λ l. told l ≡ told_of job.now.work.settings job.now.work.symbols.now
         job.now.work.plan.now.rules (term_at job.now.work.terms.now number)) }
     ensures worker { IfOk result (λ l. l.line.worker ≡ worker) }
@@ -88,6 +95,8 @@ fn make_line<T: Terms, G: Gate>(
     ensures works { WorksOn job.now.work.settings (need_at job.now.work.settings job.now.work.plan.now.rules job.now.work.terms.now number)
         (T.store desk.old) (T.store desk.new) result }
     ensures ready { IsReady job.now.work.settings job.now.work.plan.now (T.store desk.new) }
+    ensures recalls { Recalls job.now.work.settings job.now.work.plan.now.rules (T.store desk.new)
+        (M.map memory.new.memo) memory.new.epoch }
     ensures rewriter { rewriter.new ≡ rewriter.old }
     ensures same { T.same desk.old desk.new }
 {
@@ -96,14 +105,17 @@ fn make_line<T: Terms, G: Gate>(
     let term = &job.work.terms[number as usize];
     job.gate.before(number);
     desk.enter();
+    memory.enter(desk);
     let made = rewriter.write_line(
         job.work.plan,
         job.work.symbols,
         term,
         desk,
+        &mut memory.memo,
         &mut text,
         &mut events,
     );
+    memory.leave(desk);
     desk.leave();
     job.gate.after(number);
     match made {
@@ -121,9 +133,10 @@ fn make_line<T: Terms, G: Gate>(
 }
 
 // Makes the line of a term that was drawn, and puts it behind the worker's others.
-fn add_line<T: Terms, G: Gate>(
+fn add_line<T: Terms, G: Gate, M: Memo>(
     job: &Job<G>,
     rewriter: &mut Rewriter,
+    memory: &mut Remembered<M>,
     desk: &mut T,
     share: &mut Share,
     number: u32,
@@ -132,6 +145,8 @@ fn add_line<T: Terms, G: Gate>(
     requires may { MayWork job.now.work.plan.now job.now.work.symbols.now job.now.work.terms.now }
     requires rewriter { IsRewriterOf job.now.work.settings job.now.work.plan.now rewriter.old }
     requires ready { IsReady job.now.work.settings job.now.work.plan.now (T.store desk.old) }
+    requires recalls { Recalls job.now.work.settings job.now.work.plan.now.rules (T.store desk.old)
+        (M.map memory.old.memo) memory.old.epoch }
     ensures line { OnOk result (AddsLine share.old share.new number (told_of job.now.work.settings
         job.now.work.symbols.now job.now.work.plan.now.rules (term_at job.now.work.terms.now number))) }
     ensures unmade { OnErr result (share.new.lines.items ≡ share.old.lines.items) }
@@ -141,10 +156,12 @@ fn add_line<T: Terms, G: Gate>(
     ensures works { WorksOn job.now.work.settings (need_at job.now.work.settings job.now.work.plan.now.rules job.now.work.terms.now number)
         (T.store desk.old) (T.store desk.new) result }
     ensures ready { IsReady job.now.work.settings job.now.work.plan.now (T.store desk.new) }
+    ensures recalls { Recalls job.now.work.settings job.now.work.plan.now.rules (T.store desk.new)
+        (M.map memory.new.memo) memory.new.epoch }
     ensures rewriter { rewriter.new ≡ rewriter.old }
     ensures same { T.same desk.old desk.new }
 {
-    let line = make_line(job, rewriter, desk, number, share.worker)?;
+    let line = make_line(job, rewriter, memory, desk, number, share.worker)?;
     match share.lines.push(Numbered { number, line }) {
         Ok(()) => Ok(()),
         Err(_) => Err(LineStop::Memory),
@@ -152,15 +169,18 @@ fn add_line<T: Terms, G: Gate>(
 }
 
 // Draws terms until none is left, and makes the line of each.
-fn draw_terms<T: Terms, G: Gate>(
+fn draw_terms<T: Terms, G: Gate, M: Memo>(
     job: &Job<G>,
     rewriter: &mut Rewriter,
+    memory: &mut Remembered<M>,
     desk: &mut T,
     share: &mut Share,
 ) -> Result<(), LineStop>
     requires may { MayWork job.now.work.plan.now job.now.work.symbols.now job.now.work.terms.now }
     requires rewriter { IsRewriterOf job.now.work.settings job.now.work.plan.now rewriter.old }
     requires ready { IsReady job.now.work.settings job.now.work.plan.now (T.store desk.old) }
+    requires recalls { Recalls job.now.work.settings job.now.work.plan.now.rules (T.store desk.old)
+        (M.map memory.old.memo) memory.old.epoch }
     requires fresh { IsFresh job.now.draws.now.shared.table_id (length job.now.work.terms.now) share.old }
     ensures seat { Drew job.now.draws.now.shared.table_id share.old share.new }
     ensures worked { Worked job.now.work.settings job.now.work.symbols.now job.now.work.plan.now.rules
@@ -174,8 +194,31 @@ fn draw_terms<T: Terms, G: Gate>(
         if number >= count {
             return Ok(());
         }
-        add_line(job, rewriter, desk, share, number as u32)?;
+        add_line(job, rewriter, memory, desk, share, number as u32)?;
     }
+}
+
+// The same with a memory that has nothing yet.
+fn draw_with<T: Terms, G: Gate, M: Memo + Drop>(
+    job: &Job<G>,
+    mut rewriter: Rewriter,
+    memo: M,
+    desk: &mut T,
+    share: &mut Share,
+) -> Result<(), LineStop>
+    requires may { MayWork job.now.work.plan.now job.now.work.symbols.now job.now.work.terms.now }
+    requires rewriter { IsRewriterOf job.now.work.settings job.now.work.plan.now rewriter }
+    requires memo { (row : Row) → M.map memo row ≡ None }
+    requires ready { IsReady job.now.work.settings job.now.work.plan.now (T.store desk.old) }
+    requires fresh { IsFresh job.now.draws.now.shared.table_id (length job.now.work.terms.now) share.old }
+    ensures seat { Drew job.now.draws.now.shared.table_id share.old share.new }
+    ensures worked { Worked job.now.work.settings job.now.work.symbols.now job.now.work.plan.now.rules
+        job.now.work.terms.now (T.store desk.old) (T.store desk.new) share.new result }
+    ensures ready { IsReady job.now.work.settings job.now.work.plan.now (T.store desk.new) }
+    ensures same { T.same desk.old desk.new }
+{
+    let mut memory = Remembered::new(memo);
+    draw_terms(job, &mut rewriter, &mut memory, desk, share)
 }
 
 // A worker's whole work.
@@ -193,8 +236,12 @@ fn work_through<T: Terms, G: Gate>(
     ensures ready { IsReady job.now.work.settings job.now.work.plan.now (T.store desk.new) }
     ensures same { T.same desk.old desk.new }
 {
-    let mut rewriter = rewriter_of(job)?;
-    draw_terms(job, &mut rewriter, desk, share)
+    let rewriter = rewriter_of(job)?;
+    if job.work.settings.cache == 0 {
+        return draw_with(job, rewriter, NoMemo, desk, share);
+    }
+    let memo = LruMemo::new(job.alloc, job.work.settings.cache)?;
+    draw_with(job, rewriter, memo, desk, share)
 }
 
 /// One worker: draws terms until none is left or it must stop, and makes the line of each. How it

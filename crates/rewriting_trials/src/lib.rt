@@ -27,6 +27,8 @@ mod plans;
 #[cfg(test)]
 mod reading;
 #[cfg(test)]
+mod remembered;
+#[cfg(test)]
 mod rows;
 #[cfg(test)]
 mod sight;

@@ -111,8 +111,8 @@ fn logs_that_stop(rt: HostRuntime) -> Result<(), Fail> {
     check_all(&rt, &STOPPED)
 }
 
-// What a run with these words writes for an input, with this status.
-fn written<R: Abort + Alloc<A = Global> + Threads + Wait + Sync>(
+/// What a run with these words writes for an input, with this status.
+pub fn written<R: Abort + Alloc<A = Global> + Threads + Wait + Sync>(
     rt: &R,
     given: &[&str],
     input: &[u8],
@@ -144,7 +144,7 @@ type Twice = (
     u8,
 );
 
-static TWICE: [Twice; 8] = [
+static TWICE: [Twice; 11] = [
     (&["rewrite", "--log", "--rows", "3"], &["rewrite"], SUM, 0),
     (
         &["rewrite", "--log", "--fuel=1"],
@@ -170,7 +170,25 @@ static TWICE: [Twice; 8] = [
         FOUR_SUMS,
         0,
     ),
+    (
+        &["rewrite", "--cache", "1", "--log", "--rows=12"],
+        &["rewrite"],
+        FOUR_SUMS,
+        0,
+    ),
+    (
+        &["rewrite", "--workers", "4", "--log", "--cache", "16"],
+        &["rewrite"],
+        FOUR_SUMS,
+        0,
+    ),
     (&["drill", "1", "--log"], &["drill", "1"], b"", 0),
+    (
+        &["drill", "3", "--cache=16", "--log"],
+        &["drill", "3"],
+        b"",
+        0,
+    ),
     (
         &["drill", "3", "--workers", "4", "--log"],
         &["drill", "3"],

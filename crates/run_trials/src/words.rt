@@ -9,6 +9,7 @@ const REWRITE: Settings = Settings {
     fuel: 1_000_000,
     rows: 65_536,
     depth: 4_096,
+    cache: 0,
     sizes: false,
     log: false,
     trace: false,
@@ -68,7 +69,7 @@ fn words_of(alloc: Global, line: &str) -> Result<Vec<String>, AllocError> {
     Ok(words)
 }
 
-static ACCEPTED: [(&str, Settings); 36] = [
+static ACCEPTED: [(&str, Settings); 39] = [
     ("rec rewrite", REWRITE),
     ("rec rewrite --fuel 2", Settings { fuel: 2, ..REWRITE }),
     ("rec rewrite --fuel=+0", Settings { fuel: 0, ..REWRITE }),
@@ -151,6 +152,28 @@ static ACCEPTED: [(&str, Settings); 36] = [
             trace: true,
             fuel: 2,
             ..REWRITE
+        },
+    ),
+    (
+        "rec rewrite --cache 65535",
+        Settings {
+            cache: 65_535,
+            ..REWRITE
+        },
+    ),
+    (
+        "rec rewrite --trace --cache=0",
+        Settings {
+            trace: true,
+            ..REWRITE
+        },
+    ),
+    (
+        "rec drill --cache=+16 3",
+        Settings {
+            cache: 16,
+            count: 3,
+            ..DRILL
         },
     ),
     (
@@ -256,7 +279,7 @@ fn accepted_words_give_their_settings(rt: HostRuntime) -> Result<(), Fail> {
     Ok(())
 }
 
-static REFUSED: [&str; 115] = [
+static REFUSED: [&str; 118] = [
     "",
     "rec",
     "rec --help",
@@ -295,7 +318,7 @@ static REFUSED: [&str; 115] = [
     "rec drill --count 5",
     "rec drill N",
     "rec drill N=5",
-    "rec drill --cache 0 5",
+    "rec drill --cache -1 5",
     "rec Drill 5",
     "rec term",
     "rec terms --rows",
@@ -317,6 +340,7 @@ static REFUSED: [&str; 115] = [
     "rec check",
     "rec outermost x",
     "rec outermost --trace",
+    "rec outermost --cache 1",
     "rec outermost --seats 2",
     "rec rewrite --trace --sizes",
     "rec rewrite --sizes --fuel 2 --trace",
@@ -326,6 +350,8 @@ static REFUSED: [&str; 115] = [
     "rec rewrite --trac",
     "rec drill 5 --trace",
     "rec rewrite --log --trace",
+    "rec rewrite --cache 1 --trace",
+    "rec rewrite --cache 65536",
     "rec rewrite --trace --rows 3 --log",
     "rec rewrite --log=",
     "rec rewrite --log 1",

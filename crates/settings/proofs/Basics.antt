@@ -4,7 +4,7 @@ use Rattle.std.specs.Prelude.{find, option_map}
 use Rattle.std.specs.List.{list_any, list_all}
 use Rattle.std.proofs.lemmas.Slice.Eq.{bytes_eq-Decides}
 use Rattle.settings.specs.declared.options.OptionName.{OptionName}
-use Rattle.settings.specs.declared.options.OptionName.TheVariants.{Workers, Fuel, Rows, Depth, Sizes, Log, Trace, Count, Seats}
+use Rattle.settings.specs.declared.options.OptionName.TheVariants.{Workers, Fuel, Rows, Depth, Cache, Sizes, Log, Trace, Count, Seats}
 use Rattle.settings.specs.Words.{Text, Uses, name_of, is_same, is_given, stands_alone, takes_value}
 
 -- ---- booleans
@@ -128,6 +128,8 @@ same_is Rows Rows e = refl
 same_is Rows q e = cc
 same_is Depth Depth e = refl
 same_is Depth q e = cc
+same_is Cache Cache e = refl
+same_is Cache q e = cc
 same_is Sizes Sizes e = refl
 same_is Sizes q e = cc
 same_is Log Log e = refl
@@ -144,6 +146,7 @@ alone_is Workers e = cc
 alone_is Fuel e = cc
 alone_is Rows e = cc
 alone_is Depth e = cc
+alone_is Cache e = cc
 alone_is Sizes e = cc
 alone_is Log e = cc
 alone_is Trace e = cc

@@ -6,7 +6,7 @@ use Rattle.std.proofs.lemmas.Slice.Eq.{bytes_eq-Decides}
 use Rattle.settings.specs.declared.parts.Command.{Command}
 use Rattle.settings.specs.declared.parts.Settings.{Settings}
 use Rattle.settings.specs.declared.options.OptionName.{OptionName}
-use Rattle.settings.specs.declared.options.OptionName.TheVariants.{Workers, Fuel, Rows, Depth, Sizes, Log, Trace, Count, Seats}
+use Rattle.settings.specs.declared.options.OptionName.TheVariants.{Workers, Fuel, Rows, Depth, Cache, Sizes, Log, Trace, Count, Seats}
 use Rattle.settings.specs.Words.{Text, Uses, name_of, names, stands_alone, takes_value, options_of, option_named, before_equals_sign, after_equals_sign, is_value, are_values, is_whole, stand_once, in_front, begun, read_word, uses_of, settings_with, settings_using, settings_told}
 use Rattle.settings.specs.Line.{is_end_of_options}
 use Rattle.settings.proofs.Basics.{and_none, none_passes}
@@ -19,6 +19,7 @@ name_is_some Workers = refl
 name_is_some Fuel = refl
 name_is_some Rows = refl
 name_is_some Depth = refl
+name_is_some Cache = refl
 name_is_some Sizes = refl
 name_is_some Log = refl
 name_is_some Trace = refl

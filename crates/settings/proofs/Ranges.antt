@@ -7,7 +7,7 @@ use Rattle.settings.specs.declared.parts.Command.{Command}
 use Rattle.settings.specs.declared.parts.Command.TheVariants.{Rewrite, Drill, Schedule, Terms, Pack, Unpack, Outermost, CheckLog, CheckTrace}
 use Rattle.settings.specs.declared.parts.Settings.{Settings}
 use Rattle.settings.specs.declared.options.OptionName.{OptionName}
-use Rattle.settings.specs.declared.options.OptionName.TheVariants.{Workers, Fuel, Rows, Depth, Count, Seats}
+use Rattle.settings.specs.declared.options.OptionName.TheVariants.{Workers, Fuel, Rows, Depth, Cache, Count, Seats}
 use Rattle.settings.specs.Words.{Text, Uses, command_named, options_of, takes_value, number_of, is_in_range, is_same, is_given, are_values, is_whole, are_accepted, stand_once, text_given, number_or, uses_of, settings_with, settings_using, settings_told, agree, agreed, settings_after, check_named, settings_of_check, settings_of, AreInRange}
 use Rattle.settings.proofs.Basics.{both}
 use Rattle.settings.proofs.Values.{given_number}
@@ -60,6 +60,7 @@ accepted_range c uses true s a e =
       fuel = number_range 1000000 Fuel uses refl v refl;
       rows = number_range 65536 Rows uses refl v refl;
       depth = number_range 4096 Depth uses refl v refl;
+      cache = number_range 0 Cache uses refl v refl;
       count = count_range c uses v more.1;
       seats = number_range 2 Seats uses refl v refl;
     })

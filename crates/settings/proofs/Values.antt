@@ -11,7 +11,7 @@ use Rattle.clap.proofs.ValueTestLemmas.{accepts-Accepts, Accepts-accepts}
 use Rattle.clap.specs.declared.builder.value_parser.ValueParser.TheVariants.{Unsigned}
 use Rattle.clap.specs.declared.parser.matches.Found.{Found}
 use Rattle.settings.specs.declared.options.OptionName.{OptionName}
-use Rattle.settings.specs.declared.options.OptionName.TheVariants.{Workers, Fuel, Rows, Depth, Sizes, Log, Trace, Count, Seats}
+use Rattle.settings.specs.declared.options.OptionName.TheVariants.{Workers, Fuel, Rows, Depth, Cache, Sizes, Log, Trace, Count, Seats}
 use Rattle.settings.specs.Words.{Text, Uses, name_of, takes_value, least_of, most_of, is_number, number_of, is_in_range, is_value, is_same, is_given, are_values, text_given, number_or}
 use Rattle.settings.specs.Line.{HasFlag, Shows}
 use Rattle.settings.proofs.Basics.{both, same_tests, same_is}
@@ -35,6 +35,7 @@ most_small Workers = lit< tt
 most_small Fuel = lit< tt
 most_small Rows = lit< tt
 most_small Depth = lit< tt
+most_small Cache = lit< tt
 most_small Sizes = lit< tt
 most_small Log = lit< tt
 most_small Trace = lit< tt

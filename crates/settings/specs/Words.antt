@@ -2,7 +2,7 @@
 --
 -- The words are the program's name, a command, and options of that command in any order, with a drill's number among
 -- them. `check` is a command with the word after it, and has no options. An option is `--name value` or `--name=value`,
--- and stands at most once; `--sizes`, `--log` and `--trace` have no value, and `--trace` isn't given with another of them. A number is an optional `+`
+-- and stands at most once; `--sizes`, `--log` and `--trace` have no value, and `--trace` isn't given with another of them, or with a `--cache` above 0. A number is an optional `+`
 -- and one or more digits, within the option's range. Nothing else is accepted.
 use Rattle.std.specs.Prelude.{◌≡◌, ℕ, ◌==◌, ◌&&◌, ◌||◌, Bool, true, false, not, List, [], ◌∷◌, length, map, codes, find, Option, Some, None, option_and_then, option_map, if◌then◌else◌, nat_lt, nat_le, String}
 use Rattle.std.specs.Global.{Global}
@@ -15,7 +15,7 @@ use Rattle.settings.specs.declared.parts.Command.{Command}
 use Rattle.settings.specs.declared.parts.Command.TheVariants.{Rewrite, Drill, Schedule, Terms, Pack, Unpack, Outermost, CheckLog, CheckTrace}
 use Rattle.settings.specs.declared.parts.Settings.{Settings}
 use Rattle.settings.specs.declared.options.OptionName.{OptionName}
-use Rattle.settings.specs.declared.options.OptionName.TheVariants.{Workers, Fuel, Rows, Depth, Sizes, Log, Trace, Count, Seats}
+use Rattle.settings.specs.declared.options.OptionName.TheVariants.{Workers, Fuel, Rows, Depth, Cache, Sizes, Log, Trace, Count, Seats}
 
 abbrev pub Text : Type 0
 Text = List ℕ
@@ -54,8 +54,8 @@ check_named word = find (λ c. bytes_eq (command_text c) word) checks
 
 -- the options of a command, with its further word
 abbrev pub options_of : Command → List OptionName
-options_of Rewrite = Workers ∷ Fuel ∷ Rows ∷ Depth ∷ Sizes ∷ Log ∷ Trace ∷ []
-options_of Drill = Workers ∷ Fuel ∷ Rows ∷ Depth ∷ Log ∷ Count ∷ []
+options_of Rewrite = Workers ∷ Fuel ∷ Rows ∷ Depth ∷ Cache ∷ Sizes ∷ Log ∷ Trace ∷ []
+options_of Drill = Workers ∷ Fuel ∷ Rows ∷ Depth ∷ Cache ∷ Log ∷ Count ∷ []
 options_of Schedule = Seats ∷ []
 options_of Terms = Rows ∷ []
 options_of Pack = Rows ∷ []
@@ -80,6 +80,7 @@ name_of Workers = codes "workers"
 name_of Fuel = codes "fuel"
 name_of Rows = codes "rows"
 name_of Depth = codes "depth"
+name_of Cache = codes "cache"
 name_of Sizes = codes "sizes"
 name_of Log = codes "log"
 name_of Trace = codes "trace"
@@ -92,6 +93,7 @@ least_of Workers = 1
 least_of Fuel = 0
 least_of Rows = 1
 least_of Depth = 1
+least_of Cache = 0
 least_of Sizes = 0
 least_of Log = 0
 least_of Trace = 0
@@ -103,6 +105,7 @@ most_of Workers = 16
 most_of Fuel = 1000000000
 most_of Rows = 262144
 most_of Depth = 65536
+most_of Cache = 65535
 most_of Sizes = 0
 most_of Log = 0
 most_of Trace = 0
@@ -217,6 +220,7 @@ settings_with c uses = record {
   fuel = number_or 1000000 Fuel uses;
   rows = number_or 65536 Rows uses;
   depth = number_or 4096 Depth uses;
+  cache = number_or 0 Cache uses;
   sizes = is_given Sizes uses;
   log = is_given Log uses;
   trace = is_given Trace uses;
@@ -232,9 +236,10 @@ settings_using c uses = if are_accepted (options_of c) uses then Some (settings_
 abbrev pub settings_told : Command → List Text → Option Settings
 settings_told c words = option_and_then (settings_using c) (uses_of (options_of c) None words)
 
--- sizes stand in the place of the texts that traces lead to, and a log where traces stand
+-- Sizes stand in the place of the texts that traces lead to, and a log where traces stand; of a result that is remembered no steps
+-- are known.
 abbrev pub agree : Settings → Bool
-agree s = not (s.trace && (s.sizes || s.log))
+agree s = not (s.trace && (s.sizes || s.log || nat_lt 0 s.cache))
 
 abbrev pub agreed : Settings → Option Settings
 agreed s = if agree s then Some s else None
@@ -262,5 +267,6 @@ pub record AreInRange (s : Settings) : Type 0 where
   pub fuel : is_in_range Fuel s.fuel ≡ true
   pub rows : is_in_range Rows s.rows ≡ true
   pub depth : is_in_range Depth s.depth ≡ true
+  pub cache : is_in_range Cache s.cache ≡ true
   pub count : s.command ≡ Drill → is_in_range Count s.count ≡ true
   pub seats : is_in_range Seats s.seats ≡ true

@@ -11,6 +11,7 @@ pub enum OptionName {
     Fuel,
     Rows,
     Depth,
+    Cache,
     Sizes,
     Log,
     Trace,
@@ -76,6 +77,7 @@ pub fn options(command: Command) -> &'static [OptionName]
             OptionName::Fuel,
             OptionName::Rows,
             OptionName::Depth,
+            OptionName::Cache,
             OptionName::Sizes,
             OptionName::Log,
             OptionName::Trace,
@@ -85,6 +87,7 @@ pub fn options(command: Command) -> &'static [OptionName]
             OptionName::Fuel,
             OptionName::Rows,
             OptionName::Depth,
+            OptionName::Cache,
             OptionName::Log,
             OptionName::Count,
         ],
@@ -129,6 +132,7 @@ pub fn name<'a>(option: OptionName, _words: &'a [String]) -> &'a str
         OptionName::Fuel => "fuel",
         OptionName::Rows => "rows",
         OptionName::Depth => "depth",
+        OptionName::Cache => "cache",
         OptionName::Sizes => "sizes",
         OptionName::Log => "log",
         OptionName::Trace => "trace",
@@ -142,7 +146,11 @@ pub fn least(option: OptionName) -> u64
     ensures { result ≡ least_of option }
 {
     match option {
-        OptionName::Fuel | OptionName::Sizes | OptionName::Log | OptionName::Trace => 0,
+        OptionName::Fuel
+        | OptionName::Cache
+        | OptionName::Sizes
+        | OptionName::Log
+        | OptionName::Trace => 0,
         OptionName::Workers
         | OptionName::Rows
         | OptionName::Depth
@@ -160,6 +168,7 @@ pub fn most(option: OptionName) -> u64
         OptionName::Fuel => 1_000_000_000,
         OptionName::Rows => 262_144,
         OptionName::Depth => 65_536,
+        OptionName::Cache => 65_535,
         OptionName::Sizes | OptionName::Log | OptionName::Trace => 0,
         OptionName::Count => 65_535,
         OptionName::Seats => 16,

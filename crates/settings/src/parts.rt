@@ -38,11 +38,13 @@ pub struct Settings {
     pub rows: u32,
     /// Places on each worker's stack, the room that a term is rewritten in, 1 to 65,536. By default 4,096.
     pub depth: u32,
+    /// Results that each worker remembers of innermost rewriting, 0 to 65,535. By default 0.
+    pub cache: u32,
     /// Whether a value's sizes are written in place of its text.
     pub sizes: bool,
     /// Whether the log of the store's callers is written too.
     pub log: bool,
-    /// Whether the steps that lead to each value are written too. Never together with `sizes` or `log`.
+    /// Whether the steps that lead to each value are written too. Never together with `sizes` or `log`, or with a `cache` above 0.
     pub trace: bool,
     /// The number that a drill is made from, 1 to 65,535; 0 where the command is no drill.
     pub count: u32,

@@ -50,6 +50,7 @@ fn settings_in(command: Command, matches: &ArgMatches, words: &[String]) -> Sett
         fuel: number(matches, words, OptionName::Fuel, 1_000_000),
         rows: short_number(matches, words, OptionName::Rows, 65_536),
         depth: short_number(matches, words, OptionName::Depth, 4_096),
+        cache: short_number(matches, words, OptionName::Cache, 0),
         sizes: has_flag(matches, words, OptionName::Sizes),
         log: has_flag(matches, words, OptionName::Log),
         trace: has_flag(matches, words, OptionName::Trace),
@@ -112,13 +113,13 @@ fn read_each(alloc: Global, command: Command, words: &[String]) -> Result<Settin
 }
 
 // The settings of a command with these words after it. Sizes stand in the place of the texts that traces lead to, and a log where
-// traces stand.
+// traces stand; of a result that is remembered no steps are known.
 fn read_options(alloc: Global, command: Command, words: &[String]) -> Result<Settings, WordsFault>
     ensures { MatchResult result (λ given. settings_after command (texts words.now) ≡ Some given)
         (λ fault. fault ≡ WordsFault.Usage → settings_after command (texts words.now) ≡ None) }
 {
     let settings = read_each(alloc, command, words)?;
-    if settings.trace && (settings.sizes || settings.log) {
+    if settings.trace && (settings.sizes || settings.log || settings.cache > 0) {
         return Err(WordsFault::Usage);
     }
     Ok(settings)
@@ -151,7 +152,7 @@ fn split_command<'a>(words: &'a [String]) -> Option<(Command, &'a [String])>
 /// with the number of a drill among them. `check` is a command with the word after it, and has no options.
 ///
 /// An option is `--name value` or `--name=value`, and stands at most once; `--sizes`, `--log` and `--trace` have no value,
-/// and `--trace` isn't given with another of them. A number is an optional `+` and one or more digits, within the option's
+/// and `--trace` isn't given with another of them, or with a `--cache` above 0. A number is an optional `+` and one or more digits, within the option's
 /// range. All other words are `Usage`, among them `--`, `--help` and the beginning of a name. `Memory` may come wherever
 /// there is none.
 pub fn settings(alloc: Global, words: &[String]) -> Result<Settings, WordsFault>

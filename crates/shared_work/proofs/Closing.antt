@@ -16,7 +16,7 @@ use Rattle.node_rows.specs.Told.{HasEntries, KeepsOrder, HasRisingKeys, TellsTre
 use Rattle.rewrite_workers.specs.declared.fault.AllFault.{AllFault}
 use Rattle.rewrite_workers.specs.declared.lines.Lines.{Lines}
 use Rattle.rewrite_workers.specs.Lined.{worker_of, drawn_by}
-use Rattle.rewrite_workers.specs.Works.{built_of}
+use Rattle.rewrite_workers.specs.Works.{AreBuilt}
 use Rattle.shared_desk.specs.Code.{Contents}
 use Rattle.shared_desk.specs.Pass.{PassView, WhichStore, WhichPass}
 use Rattle.shared_desk.specs.Passes.{IsBack}
@@ -135,8 +135,9 @@ names_what_it_built s rules terms store (Err fault) ps run lists seats tells = t
 names_what_it_built s rules terms store (Ok l) ps run lists seats tells = λ k lt.
     let w = worker s rules terms store (Ok l) ps run k (omega (arith, lt, seats)) in
     let all = run.built.1 k w.old w.new w.at_old w.at_new in
-    names_built s rules terms store (Ok l) ps run lists tells k w ∙ all
-    ∙ ap (λ ts. ts ++ built_of s rules (drawn_by k (map worker_of l.list.items) terms)) w.fresh.built
+    let drew = drawn_by k (map worker_of l.list.items) terms in
+    let named = names_built s rules terms store (Ok l) ps run lists tells k w ∙ all.built ∙ ap (λ ts. ts ++ all.trees) w.fresh.built in
+    subst (AreBuilt s rules drew []) (sym named) (subst (λ ts. AreBuilt s rules drew ts all.trees) w.fresh.built all.are)
 
 -- the chronicle of nothing
 pub none_collect : (s : Settings) (lists : List (List Entry)) → lists ≡ [] → CollectsFew s lists

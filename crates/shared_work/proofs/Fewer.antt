@@ -1,5 +1,5 @@
 -- Where workers stop for want of rows, the terms build more different trees than there are rows.
-use Rattle.std.proofs.Common.{◌≡◌, inl, inr, ◌+◌, ◌<◌, List, ◌∷◌, length, Bool, true, false, refl, sym, ap, subst, arith}
+use Rattle.std.proofs.Common.{◌≡◌, inl, inr, ◌+◌, ◌<◌, List, ◌∷◌, ◌++◌, length, Bool, true, false, refl, sym, ap, subst, arith}
 use Rattle.std.specs.Prelude.{All, Contains, Result, Ok, Err, IfErr, if◌then◌else◌}
 use Rattle.std.proofs.lemmas.List.Elements.{All-contains, Contains-append_right}
 use Rattle.term_model.specs.Tree.{Tree, among, distinct}
@@ -18,7 +18,7 @@ use Rattle.shared_work.specs.Numbers.{TellsNeed, TellsFew}
 use Rattle.shared_work.specs.Running.{WantsMemory}
 use Rattle.shared_work.specs.Sharing.{named_by}
 use Rattle.shared_work.proofs.Closing.{all_got}
-use Rattle.shared_work.proofs.Members.{built_by_all, numbered_within, first_or_other}
+use Rattle.shared_work.proofs.Members.{built_by_all, built_within, numbered_within, first_or_other}
 
 never_true : (b : Bool) → (b ≡ true → ⊥) → b ≡ false
 never_true true f = absurd (f refl)
@@ -37,7 +37,8 @@ module _ (s : Settings) (rules : List Rule) (terms : List Tree) (lists : List (L
   next_within : Contains all f.next
   next_within =
       built_by_all s rules (numbered terms f.drawn) terms (numbered_within terms f.drawn of) f.next
-      (subst (λ ts. Contains ts f.next) (sym f.built) (Contains-append_right (named_by lists f.worker) (f.next ∷ f.rest) f.next (0, omega arith, refl)))
+      (built_within s rules (numbered terms f.drawn) (named_by lists f.worker ++ f.next ∷ f.rest) f.built f.next
+      (Contains-append_right (named_by lists f.worker) (f.next ∷ f.rest) f.next (0, omega arith, refl)))
 
   crowd_within : (t : Tree) → Contains f.crowd t → Contains all t
   crowd_within t c =

@@ -10,9 +10,8 @@ use Rattle.history_core.specs.Chronicle.{chronicle, set_of, IsLegal, IsNoted}
 use Rattle.history_core.specs.TermSet.{empty, Holds, trees_at}
 use Rattle.history_core.specs.Told.{told, named, kept_trees}
 use Rattle.history_core.proofs.Chronicles.{has_the_noted}
-use Rattle.innermost.specs.BuiltTrees.{TreeWasRefused}
 use Rattle.innermost.specs.declared.normal.RunFault.TheVariants as fault
-use Rattle.term_lines.specs.Strategies.{built_by}
+use Rattle.term_lines.specs.Strategies.{IsBuiltBy}
 use Rattle.node_rows.specs.declared.store.Store.{Store}
 use Rattle.node_rows.specs.declared.store.Pass.{Pass}
 use Rattle.node_rows.specs.Crowding.{EndsWith, IsLastCollect}
@@ -22,7 +21,7 @@ use Rattle.rewrite_workers.specs.declared.fault.AllFault.{AllFault}
 use Rattle.rewrite_workers.specs.declared.fault.AllFault.TheVariants.{StoreFull}
 use Rattle.rewrite_workers.specs.declared.lines.Lines.{Lines}
 use Rattle.rewrite_workers.specs.Ends.{numbered, AreApart}
-use Rattle.rewrite_workers.specs.Works.{strategy_of}
+use Rattle.rewrite_workers.specs.Works.{strategy_of, remembers_results}
 use Rattle.shared_desk.specs.Desk.{store_of}
 use Rattle.shared_desk.proofs.Telling.{crowd_is_last, crowd_is_of_its_names}
 use Rattle.shared_work.specs.Running.{HasRun, WantsMemory}
@@ -31,7 +30,7 @@ use Rattle.shared_work.proofs.Kept.{IsNamed, kept_made, told_some}
 use Rattle.shared_work.proofs.Closing.{Worker, all_got}
 use Rattle.shared_work.proofs.Fronts.{next_built}
 use Rattle.shared_work.proofs.Reached.{NoneBy, last_collect, end_of_nothing}
-use Rattle.shared_work.proofs.Refusals.{last_refused}
+use Rattle.shared_work.proofs.Refusals.{IsRefused, last_refused}
 use Rattle.shared_work.proofs.Refusing.{Refused, refused}
 
 -- a tree that a Collect of a legal chronicle kept was made or found by a caller
@@ -61,7 +60,7 @@ module _ (s : Settings) (rules : List Rule) (terms : List Tree) (store : Store) 
   abbrev crowd : List Tree
   crowd = one.new.pass.crowd
 
-  was : TreeWasRefused (built_by (strategy_of s.command) rules off.last.term s.fuel s.depth) off.last.begun (store_of one.new) fault.StoreFull
+  was : IsRefused (IsBuiltBy (strategy_of s.command) (remembers_results s rules) rules off.last.term s.fuel s.depth) off.last.begun (store_of one.new) fault.StoreFull
   was = last_refused s rules (numbered terms off.drawn) (store_of one.old) (store_of one.new) fault.StoreFull off.last
 
   tells_crowd : TellsCrowd lists one.pass

@@ -3,20 +3,19 @@ use Rattle.std.proofs.Common.{◌≡◌, inl, inr, ℕ, zero, suc, ◌<◌, ◌�
 use Rattle.std.specs.Prelude.{All, Contains, Result, Ok, Err, IfOk, IfErr, map}
 use Rattle.std.specs.List.{flat_map}
 use Rattle.std.proofs.lemmas.List.{append-nil, append_assoc}
-use Rattle.std.proofs.lemmas.List.Concat.{flat_map-append}
 use Rattle.std.proofs.lemmas.List.Elements.{Contains-append_left, Contains-get_or}
 use Rattle.std.proofs.lemmas.Option.{slice_get_within, slice_get-get_or, same_Some}
 use Rattle.term_model.specs.Tree.{Tree}
 use Rattle.rewrite_model.specs.Rule.{Rule}
 use Rattle.settings.specs.declared.parts.Settings.{Settings}
 use Rattle.history_core.specs.declared.entry.Entry.{Entry}
-use Rattle.innermost.specs.BuiltTrees.{StoppedBefore}
 use Rattle.innermost.specs.declared.normal.RunFault.{RunFault}
 use Rattle.innermost.specs.declared.normal.RunFault.TheVariants as refusal
 use Rattle.node_rows.specs.declared.store.Store.{Store}
 use Rattle.node_rows.specs.declared.store.Pass.{Pass}
 use Rattle.node_rows.specs.Told.{TellsTrees}
-use Rattle.term_lines.specs.Strategies.{built_by}
+use Rattle.term_lines.specs.Strategies.{IsBuiltBy}
+use Rattle.term_lines.proofs.Lists.{none_built}
 use Rattle.term_lines.specs.declared.stop.LineStop.{LineStop}
 use Rattle.term_lines.specs.declared.stop.LineStop.TheVariants as stop
 use Rattle.rewrite_workers.specs.declared.fault.AllFault.{AllFault}
@@ -24,14 +23,14 @@ use Rattle.rewrite_workers.specs.declared.lines.Lines.{Lines}
 use Rattle.rewrite_workers.specs.Dealt.{times}
 use Rattle.rewrite_workers.specs.Ends.{numbered, Rises, AreApart, BuiltAll, BuiltFront, RefusedLast, Ended}
 use Rattle.rewrite_workers.specs.Lined.{worker_of, drawn_by}
-use Rattle.rewrite_workers.specs.Works.{strategy_of, built_of}
+use Rattle.rewrite_workers.specs.Works.{strategy_of, remembers_results, AreBuilt}
 use Rattle.shared_desk.specs.Desk.{store_of}
 use Rattle.shared_work.specs.Running.{HasRun, WantsMemory}
 use Rattle.shared_work.specs.Sharing.{named_by, NamesWhatItBuilt}
 use Rattle.shared_work.specs.Fronts.{NamesFront, NamesFronts, NamesOnlyBuilt, TellsEach}
 use Rattle.shared_work.proofs.Closing.{Worker, worker, names_built, there}
-use Rattle.shared_work.proofs.Refusals.{last_refused}
-use Rattle.shared_work.proofs.Members.{built_by_all, numbered_within, drawn_within}
+use Rattle.shared_work.proofs.Refusals.{StopsAt, last_refused, first, drawn_builds, was_built}
+use Rattle.shared_work.proofs.Members.{built_by_all, built_within, numbered_within, drawn_within}
 
 module _ (s : Settings) (rules : List Rule) (terms : List Tree) (store : Store) (fault : AllFault) (ps : List Pass) (run : HasRun s rules terms store (Err fault) ps) (lists : List (List Entry)) (tells : All (TellsTrees lists) ps) where
   abbrev At : ℕ → Type 0
@@ -41,25 +40,30 @@ module _ (s : Settings) (rules : List Rule) (terms : List Tree) (store : Store) 
   names : (k : ℕ) (w : At k) (more : List Tree) → w.new.pass.built ≡ w.old.pass.built ++ more → named_by lists k ≡ more
   names k w more e = names_built s rules terms store (Err fault) ps run lists tells k w ∙ e ∙ ap (λ zs. zs ++ more) w.fresh.built
 
+  -- and they go on so
+  named : (k : ℕ) (w : At k) (drawn : List ℕ) (front rest : List Tree) → AreBuilt s rules (numbered terms drawn) w.old.pass.built (front ++ rest) → w.new.pass.built ≡ w.old.pass.built ++ front
+      → AreBuilt s rules (numbered terms drawn) [] (named_by lists k ++ rest)
+  named k w drawn front rest are built =
+      subst (λ zs. AreBuilt s rules (numbered terms drawn) [] (zs ++ rest)) (sym (names k w front built))
+      (subst (λ zs. AreBuilt s rules (numbered terms drawn) zs (front ++ rest)) w.fresh.built are)
+
   -- the tree that was refused is the next one of those that the terms drawn build
   pub next_built : (k : ℕ) (w : At k) (drawn : List ℕ) (by : RunFault) (last : RefusedLast s rules (numbered terms drawn) (store_of w.old) (store_of w.new) by)
-      → (t : Tree) (at : StoppedBefore (built_by (strategy_of s.command) rules last.term s.fuel s.depth) last.begun (store_of w.new) t)
-      → built_of s rules (numbered terms drawn) ≡ named_by lists k ++ t ∷ at.back
+      → (t : Tree) (at : StopsAt (IsBuiltBy (strategy_of s.command) (remembers_results s rules) rules last.term s.fuel s.depth) last.begun (store_of w.new) t)
+      → AreBuilt s rules (numbered terms drawn) [] (named_by lists k ++ t ∷ at.back)
   next_built k w drawn by last t at =
-      let bl : Tree → List Tree = λ u. built_by (strategy_of s.command) rules u s.fuel s.depth in
-      let before : List Tree = flat_map bl last.before in
-      let front = at.front in
-      let rest : List Tree = t ∷ at.back in
-      let points : bl last.term ≡ front ++ rest = at.split in
-      let own : w.new.pass.built ≡ w.old.pass.built ++ (before ++ front) = at.built ∙ ap (λ zs. zs ++ front) last.built ∙ append_assoc w.old.pass.built before front in
-      ap (flat_map bl) last.drawn_is ∙ flat_map-append bl last.before (last.term ∷ [])
-      ∙ ap (λ ys. before ++ ys) (append-nil (bl last.term) ∙ points) ∙ sym (append_assoc before front rest) ∙ ap (λ zs. zs ++ rest) (sym (names k w (before ++ front) own))
+      let front = first s rules (numbered terms drawn) (store_of w.old) (store_of w.new) by last t at in
+      named k w drawn front (t ∷ at.back) (drawn_builds s rules (numbered terms drawn) (store_of w.old) (store_of w.new) by last t at)
+      (was_built s rules (numbered terms drawn) (store_of w.old) (store_of w.new) by last t at)
 
   whole : (k : ℕ) (w : At k) (drawn : List ℕ) → BuiltAll s rules (numbered terms drawn) (store_of w.old) (store_of w.new) → NamesFront s rules terms lists k drawn
-  whole k w drawn e = record { rest = []; built = sym (names k w (built_of s rules (numbered terms drawn)) e) ∙ sym (append-nil (named_by lists k)) }
+  whole k w drawn e = record {
+    rest = [];
+    built = named k w drawn e.trees [] (subst (AreBuilt s rules (numbered terms drawn) w.old.pass.built) (sym (append-nil e.trees)) e.are) e.built;
+  }
 
-  first : (k : ℕ) (w : At k) (drawn : List ℕ) → BuiltFront s rules (numbered terms drawn) (store_of w.old) (store_of w.new) → NamesFront s rules terms lists k drawn
-  first k w drawn e = record { rest = e.rest; built = e.split ∙ ap (λ zs. zs ++ e.rest) (sym (names k w e.front e.built)) }
+  first_named : (k : ℕ) (w : At k) (drawn : List ℕ) → BuiltFront s rules (numbered terms drawn) (store_of w.old) (store_of w.new) → NamesFront s rules terms lists k drawn
+  first_named k w drawn e = record { rest = e.rest; built = named k w drawn e.front e.rest e.split e.built }
 
   front_at : (k : ℕ) (w : At k) (drawn : List ℕ) (end : Result (Unit {0}) LineStop) → Ended s rules (numbered terms drawn) (store_of w.old) (store_of w.new) end → NamesFront s rules terms lists k drawn
   front_at k w drawn (Ok x) e = whole k w drawn e.0
@@ -69,7 +73,7 @@ module _ (s : Settings) (rules : List Rule) (terms : List Tree) (store : Store) 
   front_at k w drawn (Err stop.Worn) e =
       let r = last_refused s rules (numbered terms drawn) (store_of w.old) (store_of w.new) refusal.Worn e in
       record { rest = r.0 ∷ r.1.back; built = next_built k w drawn refusal.Worn e r.0 r.1 }
-  front_at k w drawn (Err stop.Memory) e = first k w drawn e.0
+  front_at k w drawn (Err stop.Memory) e = first_named k w drawn e.0
 
   pub fronts : store.sizes.seats ≡ s.workers → NamesFronts s rules terms lists
   fronts seats =
@@ -102,13 +106,13 @@ front_within s rules terms lists f k lt =
     λ i x inside.
     let t = get_or (named_by lists k) i x in
     built_by_all s rules (numbered terms d.0) terms (numbered_within terms d.0 below) t
-    (subst (λ ts. Contains ts t) (sym n.built) (Contains-append_left (named_by lists k) n.rest t (Contains-get_or (named_by lists k) i x inside)))
+    (built_within s rules (numbered terms d.0) (named_by lists k ++ n.rest) n.built t (Contains-append_left (named_by lists k) n.rest t (Contains-get_or (named_by lists k) i x inside)))
 
 whole_within : (s : Settings) (rules : List Rule) (terms : List Tree) (workers : List ℕ) (lists : List (List Entry)) → NamesWhatItBuilt s rules terms workers lists → NamesOnlyBuilt s rules terms lists
 whole_within s rules terms workers lists h k lt i x inside =
     let t = get_or (named_by lists k) i x in
     built_by_all s rules (drawn_by k workers terms) terms (drawn_within k workers terms) t
-    (subst (λ ts. Contains ts t) (h k lt) (Contains-get_or (named_by lists k) i x inside))
+    (built_within s rules (drawn_by k workers terms) (named_by lists k) (h k lt) t (Contains-get_or (named_by lists k) i x inside))
 
 pub only_built : (s : Settings) (rules : List Rule) (terms : List Tree) (lines : Result Lines AllFault) (lists : List (List Entry))
     → IfOk lines (λ l. NamesWhatItBuilt s rules terms (map worker_of l.list.items) lists) → IfErr lines (λ fault. NamesFronts s rules terms lists) → NamesOnlyBuilt s rules terms lists
@@ -151,7 +155,7 @@ none_fronts s rules terms [] e = record {
   front = λ k numbers at.
       let l = slice_get_within (blank s.workers) k numbers at in
       let none : [] ≡ numbers = sym (blank_at s.workers k numbers l) ∙ same_Some (get_or (blank s.workers) k numbers) numbers (sym (slice_get-get_or (blank s.workers) k numbers l) ∙ at) in
-      subst (NamesFront s rules terms [] k) none (record { rest = []; built = refl });
+      subst (NamesFront s rules terms [] k) none (record { rest = []; built = none_built rules s.fuel s.depth (strategy_of s.command) (remembers_results s rules) [] });
 }
 none_fronts s rules terms (x ∷ xs) e = cc
 

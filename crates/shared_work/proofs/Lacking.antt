@@ -5,10 +5,10 @@ use Rattle.std.proofs.lemmas.List.Elements.{Contains-append_right}
 use Rattle.term_model.specs.Tree.{Tree, distinct}
 use Rattle.term_model.proofs.Members.{distinct_of_part}
 use Rattle.rewrite_model.specs.Rule.{Rule}
+use Rattle.rewrite_model.specs.Evaluation.{Point}
 use Rattle.settings.specs.declared.parts.Settings.{Settings}
-use Rattle.innermost.specs.Normalized.{WasRefused}
 use Rattle.innermost.specs.declared.normal.RunFault.TheVariants as fault
-use Rattle.term_lines.specs.Strategies.{points_of, RefusedBy}
+use Rattle.term_lines.specs.Strategies.{RefusedBy}
 use Rattle.history_core.specs.declared.entry.Entry.{Entry}
 use Rattle.history_core.specs.Chronicle.{chronicle, IsLegal}
 use Rattle.history_core.specs.TermSet.{empty}
@@ -22,7 +22,7 @@ use Rattle.node_rows.proofs.Crowding.{told_none_by}
 use Rattle.rewrite_workers.specs.declared.fault.AllFault.{AllFault}
 use Rattle.rewrite_workers.specs.declared.fault.AllFault.TheVariants.{StoreFull}
 use Rattle.rewrite_workers.specs.declared.lines.Lines.{Lines}
-use Rattle.rewrite_workers.specs.Works.{need_of, IsInnermost}
+use Rattle.rewrite_workers.specs.Works.{need_of, IsInnermost, remembers_results}
 use Rattle.shared_desk.specs.Desk.{store_of}
 use Rattle.shared_desk.specs.Telling.{protected_by}
 use Rattle.shared_desk.proofs.Telling.{crowd_is_last, crowd_is_of_its_names, hand_is_protected, load_is_most}
@@ -31,6 +31,7 @@ use Rattle.shared_work.specs.Numbers.{TellsNeed}
 use Rattle.shared_work.proofs.Closing.{Worker, worker, all_got}
 use Rattle.shared_work.proofs.Needing.{below, asked_in_hand, point_needs, drawn_needs, crowd_needs}
 use Rattle.shared_work.proofs.Reached.{NoneBy, last_collect, end_of_nothing, kept_below}
+use Rattle.shared_work.proofs.Refusals.{WantsRows, wants_rows}
 use Rattle.shared_work.proofs.Refusing.{Refused, refused}
 
 module _ (s : Settings) (innermost : IsInnermost s) (rules : List Rule) (terms : List Tree) (store : Store) (ps : List Pass) (run : HasRun s rules terms store (Err StoreFull) ps)
@@ -51,8 +52,9 @@ module _ (s : Settings) (innermost : IsInnermost s) (rules : List Rule) (terms :
   abbrev crowd : List Tree
   crowd = one.new.pass.crowd
 
-  was : WasRefused (points_of rules off.last.term s.fuel s.depth) off.last.begun (store_of one.new) fault.StoreFull
-  was = subst (λ by. RefusedBy by rules off.last.term s.fuel s.depth off.last.begun (store_of one.new) fault.StoreFull) innermost off.last.refused
+  was : (p : Point) × WantsRows rules off.last.term s.fuel s.depth off.last.begun (store_of one.new) p
+  was = wants_rows rules off.last.term s.fuel s.depth off.last.begun (store_of one.new) (remembers_results s rules)
+      (subst (λ by. RefusedBy by (remembers_results s rules) rules off.last.term s.fuel s.depth off.last.begun (store_of one.new) fault.StoreFull) innermost off.last.refused)
 
   abbrev next : Tree
   next = was.0.tree
@@ -62,7 +64,7 @@ module _ (s : Settings) (innermost : IsInnermost s) (rules : List Rule) (terms :
   hand_needs =
       let p = was.0 in
       let at = was.1 in
-      let asked = asked_in_hand p one.new.pass.hand (was.3 off.last.empty) in
+      let asked = asked_in_hand p one.new.pass.hand (at.hand off.last.empty) in
       let point = point_needs s rules off.last.term at.front at.back p at.split in
       let drawn = drawn_needs s rules terms off.drawn off.of off.last.term
       (subst (λ ts. Contains ts off.last.term) (sym off.last.drawn_is) (Contains-append_right off.last.before (off.last.term ∷ []) off.last.term (contains_here off.last.term []))) in
@@ -91,7 +93,7 @@ module _ (s : Settings) (innermost : IsInnermost s) (rules : List Rule) (terms :
       let b = kept_below rows lists one.pass.seat.number legal c t (subst (λ ts. Contains ts t) names has) in
       let here = b.1.1.present in
       (b.0, omega (arith, here, count, seats), b.2))
-      was.2.absent
+      was.1.full.absent
 
   -- without a Collect it kept nothing
   at_none : crowd ≡ [] → distinct crowd < s.workers * needed
@@ -101,7 +103,7 @@ module _ (s : Settings) (innermost : IsInnermost s) (rules : List Rule) (terms :
       (λ j l ne. omega arith)
       (let one_tree = distinct_of_part (next ∷ []) (next ∷ below one.new.pass.hand) (λ t c. front t (contains_cases next [] t c)) in let h = hand_needs in omega (arith, one_tree, h))
       (λ t has. absurd (contains_none t (subst (λ ts. Contains ts t) none has)))
-      was.2.absent
+      was.1.full.absent
     where
       front : (t : Tree) → (next ≡ t) ⊎ Contains [] t → Contains (next ∷ below one.new.pass.hand) t
       front t (inl same) = subst (Contains (next ∷ below one.new.pass.hand)) same (contains_here next (below one.new.pass.hand))
@@ -109,7 +111,7 @@ module _ (s : Settings) (innermost : IsInnermost s) (rules : List Rule) (terms :
 
   needs : s.rows < s.workers * needed
   needs =
-      let full = was.2.full ∙ ((run.kept.1 k one.old one.new one.at_old one.at_new).rows ∙ (one.fresh.rows ∙ same_rows)) in
+      let full = was.1.full.full ∙ ((run.kept.1 k one.old one.new one.at_old one.at_new).rows ∙ (one.fresh.rows ∙ same_rows)) in
       subst (λ n. n < s.workers * needed) full (by (last_collect one.pass.seat.number (chronicle lists)))
     where
       by : IsLastCollect (chronicle lists) one.pass.seat.number ⊎ NoneBy one.pass.seat.number (chronicle lists) → distinct crowd < s.workers * needed

@@ -2,14 +2,15 @@
 use Rattle.std.proofs.Common.{◌≡◌, ◌⊎◌, inl, inr, ℕ, zero, suc, ◌<◌, ◌==◌, Bool, true, false, List, [], ◌∷◌, length, refl, sym, subst, arith}
 use Rattle.std.specs.Prelude.{All, Contains, if◌then◌else◌}
 use Rattle.std.specs.List.{flat_map}
-use Rattle.std.proofs.lemmas.List.Elements.{All-head, All-tail, Contains-append_left, Contains-append_right, Contains-append_cases, Contains-get_or}
+use Rattle.std.proofs.lemmas.List.Elements.{All-head, All-tail, All-contains, Contains-append_left, Contains-append_right, Contains-append_cases, Contains-get_or}
 use Rattle.term_model.specs.Tree.{Tree, Leaf}
 use Rattle.rewrite_model.specs.Rule.{Rule}
 use Rattle.term_lines.specs.Strategies.{built_by}
+use Rattle.term_lines.proofs.Lists.{within}
 use Rattle.settings.specs.declared.parts.Settings.{Settings}
 use Rattle.rewrite_workers.specs.Ends.{numbered}
 use Rattle.rewrite_workers.specs.Lined.{drawn_by}
-use Rattle.rewrite_workers.specs.Works.{term_at, strategy_of, built_of}
+use Rattle.rewrite_workers.specs.Works.{term_at, strategy_of, remembers_results, built_of, AreBuilt}
 
 one_of_none : {A : Type 0} (x : A) → Contains [] x → ⊥
 one_of_none x (k, l, e) = omega (arith, l)
@@ -46,6 +47,11 @@ pub built_by_all : (s : Settings) (rules : List Rule) (some all : List Tree) →
 built_by_all s rules some all within u c =
     let q = in_some (λ t. built_by (strategy_of s.command) rules t s.fuel s.depth) some u c in
     in_all (λ t. built_by (strategy_of s.command) rules t s.fuel s.depth) all q.0 u (within q.0 q.1) q.2
+
+-- what was built of some terms is some of what they build
+pub built_within : (s : Settings) (rules : List Rule) (drawn trees : List Tree) → AreBuilt s rules drawn [] trees → (t : Tree) → Contains trees t → Contains (built_of s rules drawn) t
+built_within s rules drawn trees are t c =
+    All-contains (Contains (built_of s rules drawn)) trees t (within rules s.fuel s.depth (strategy_of s.command) (remembers_results s rules) drawn [] trees are) c
 
 pub numbered_within : (terms : List Tree) (drawn : List ℕ) → All (λ i. i < length terms) drawn → (t : Tree) → Contains (numbered terms drawn) t → Contains terms t
 numbered_within terms [] below t c = absurd (one_of_none t c)

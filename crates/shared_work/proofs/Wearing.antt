@@ -4,7 +4,6 @@ use Rattle.std.specs.Prelude.{All, Contains, Some, slice_get, ◌==◌, Result, 
 use Rattle.std.specs.List.{flat_map}
 use Rattle.std.proofs.Math.Nat.{mul-le-mul_right}
 use Rattle.std.proofs.lemmas.List.{append-nil, length-append}
-use Rattle.std.proofs.lemmas.List.Concat.{flat_map-append}
 use Rattle.std.proofs.lemmas.List.Elements.{All-head, All-tail}
 use Rattle.std.proofs.lemmas.Option.{slice_get_within, slice_get-get_or, same_Some}
 use Rattle.term_model.specs.Tree.{Tree}
@@ -14,7 +13,7 @@ use Rattle.settings.specs.declared.parts.Settings.{Settings}
 use Rattle.history_core.specs.declared.entry.Entry.{Entry}
 use Rattle.history_core.specs.Chronicle.{chronicle, IsNoted}
 use Rattle.history_core.proofs.Chronicles.{has_the_noted}
-use Rattle.innermost.specs.BuiltTrees.{StoppedBefore}
+use Rattle.innermost.specs.declared.normal.RunFault.{RunFault}
 use Rattle.innermost.specs.declared.normal.RunFault.TheVariants as fault
 use Rattle.store_core.proofs.Basics.{eqb_is}
 use Rattle.store_core.specs.declared.view.Sizes.{Sizes}
@@ -24,7 +23,8 @@ use Rattle.node_rows.specs.declared.store.Store.{Store}
 use Rattle.node_rows.specs.declared.store.Pass.{Pass}
 use Rattle.node_rows.specs.Joining.{HasBase}
 use Rattle.node_rows.specs.Told.{HasEntries, TellsTrees, view_of}
-use Rattle.term_lines.specs.Strategies.{built_by}
+use Rattle.term_lines.specs.Strategies.{built_by, IsBuiltBy}
+use Rattle.term_lines.proofs.Lists.{no_longer}
 use Rattle.term_lines.specs.declared.stop.LineStop.{LineStop}
 use Rattle.term_lines.specs.declared.stop.LineStop.TheVariants as stop
 use Rattle.rewrite_workers.specs.declared.fault.AllFault.{AllFault}
@@ -32,7 +32,7 @@ use Rattle.rewrite_workers.specs.declared.fault.AllFault.TheVariants.{Worn, Memo
 use Rattle.rewrite_workers.specs.declared.lines.Lines.{Lines}
 use Rattle.rewrite_workers.specs.Dealt.{times}
 use Rattle.rewrite_workers.specs.Ends.{numbered, BuiltAll, BuiltFront, Ended, RefusedLast, IsWorst}
-use Rattle.rewrite_workers.specs.Works.{term_at, strategy_of, built_of}
+use Rattle.rewrite_workers.specs.Works.{term_at, strategy_of, remembers_results, built_of, AreBuilt}
 use Rattle.rewrite_workers.proofs.Dealing.{hit, times_cons, times_append}
 use Rattle.shared_desk.specs.Desk.{store_of}
 use Rattle.shared_desk.specs.Pass.{PassView, WhichStore, IsWorn}
@@ -42,7 +42,7 @@ use Rattle.shared_work.specs.Running.{HasRun, WantsMemory}
 use Rattle.shared_work.specs.Sharing.{named_by}
 use Rattle.shared_work.specs.Wearing.{WearsOut, TellsWorn}
 use Rattle.shared_work.proofs.Closing.{Worker, worker, names_built, collects_few, all_got}
-use Rattle.shared_work.proofs.Refusals.{last_refused}
+use Rattle.shared_work.proofs.Refusals.{StopsAt, last_refused, first, drawn_builds, was_built}
 use Rattle.shared_work.proofs.Counting.{total, total_most, total_more, weigh, weigh_hands, weigh_once, collects_most, stays_most}
 
 -- ---- what the terms drawn build, by how many trees
@@ -50,36 +50,25 @@ module _ (s : Settings) (rules : List Rule) where
   abbrev builds : Tree → List Tree
   builds t = built_by (strategy_of s.command) rules t s.fuel s.depth
 
-  stopped_long : (drawn before : List Tree) (term : Tree) (old begun new : terms.Store) (t : Tree) → drawn ≡ before ++ term ∷ [] → BuiltAll s rules before old begun → StoppedBefore (builds term) begun new t
-      → length new.built ≤ length old.built + length (built_of s rules drawn)
-  stopped_long drawn before term old begun new t is all at =
-      let front = at.front in
-      let rest : List Tree = t ∷ at.back in
-      let first = flat_map builds before in
-      let points : builds term ≡ front ++ rest = at.split in
-      let whole : flat_map builds drawn ≡ first ++ (front ++ rest) = ap (flat_map builds) is ∙ flat_map-append builds before (term ∷ []) ∙ ap (λ ys. first ++ ys) (append-nil (builds term) ∙ points) in
-      let a : length (flat_map builds drawn) ≡ length (first ++ (front ++ rest)) = ap length whole in
-      let b = length-append first (front ++ rest) in
-      let c = length-append front rest in
-      let d : length new.built ≡ length (begun.built ++ front) = ap length at.built in
-      let e = length-append begun.built front in
-      let f : length begun.built ≡ length (old.built ++ first) = ap length all in
-      let g = length-append old.built first in
-      omega (arith, a, b, c, d, e, f, g)
+  -- the first of what the terms drawn build is no longer than all of it
+  first_long : (drawn front rest : List Tree) (old new : terms.Store) → AreBuilt s rules drawn old.built (front ++ rest) → new.built ≡ old.built ++ front → length new.built ≤ length old.built + length (built_of s rules drawn)
+  first_long drawn front rest old new are built =
+      let a = no_longer rules s.fuel s.depth (strategy_of s.command) (remembers_results s rules) drawn old.built (front ++ rest) are in
+      let b = length-append front rest in
+      let c : length new.built ≡ length (old.built ++ front) = ap length built in
+      let d = length-append old.built front in
+      omega (arith, a, b, c, d)
+
+  stopped_long : (drawn : List Tree) (old new : terms.Store) (f : RunFault) (last : RefusedLast s rules drawn old new f) (t : Tree)
+      → StopsAt (IsBuiltBy (strategy_of s.command) (remembers_results s rules) rules last.term s.fuel s.depth) last.begun new t → length new.built ≤ length old.built + length (built_of s rules drawn)
+  stopped_long drawn old new f last t at =
+      first_long drawn (first s rules drawn old new f last t at) (t ∷ at.back) old new (drawn_builds s rules drawn old new f last t at) (was_built s rules drawn old new f last t at)
 
   all_long : (drawn : List Tree) (old new : terms.Store) → BuiltAll s rules drawn old new → length new.built ≤ length old.built + length (built_of s rules drawn)
-  all_long drawn old new all =
-      let f : length new.built ≡ length (old.built ++ built_of s rules drawn) = ap length all in
-      let g = length-append old.built (built_of s rules drawn) in
-      omega (arith, f, g)
+  all_long drawn old new all = first_long drawn all.trees [] old new (subst (AreBuilt s rules drawn old.built) (sym (append-nil all.trees)) all.are) all.built
 
   front_long : (drawn : List Tree) (old new : terms.Store) → BuiltFront s rules drawn old new → length new.built ≤ length old.built + length (built_of s rules drawn)
-  front_long drawn old new first =
-      let f : length new.built ≡ length (old.built ++ first.front) = ap length first.built in
-      let g = length-append old.built first.front in
-      let h : length (built_of s rules drawn) ≡ length (first.front ++ first.rest) = ap length first.split in
-      let i = length-append first.front first.rest in
-      omega (arith, f, g, h, i)
+  front_long drawn old new first = first_long drawn first.front first.rest old new first.split first.built
 
   -- however the worker ended
   ended_long : (drawn : List Tree) (old new : terms.Store) (end : Result (Unit {0}) LineStop) → Ended s rules drawn old new end
@@ -87,10 +76,10 @@ module _ (s : Settings) (rules : List Rule) where
   ended_long drawn old new (Ok u) (all, same) = all_long drawn old new all
   ended_long drawn old new (Err stop.StoreFull) last =
       let r = last_refused s rules drawn old new fault.StoreFull last in
-      stopped_long drawn last.before last.term old last.begun new r.0 last.drawn_is last.built r.1
+      stopped_long drawn old new fault.StoreFull last r.0 r.1
   ended_long drawn old new (Err stop.Worn) last =
       let r = last_refused s rules drawn old new fault.Worn last in
-      stopped_long drawn last.before last.term old last.begun new r.0 last.drawn_is last.built r.1
+      stopped_long drawn old new fault.Worn last r.0 r.1
   ended_long drawn old new (Err stop.Memory) (first, same) = front_long drawn old new first
 
   -- how many trees the term with a number builds

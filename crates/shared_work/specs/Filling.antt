@@ -1,5 +1,5 @@
 -- Why workers on one store stop for want of rows.
-use Rattle.std.specs.Prelude.{◌≡◌, ℕ, ◌<◌, List, ◌∷◌, ◌++◌, Some, All, Contains, length, slice_get}
+use Rattle.std.specs.Prelude.{◌≡◌, ℕ, ◌<◌, List, [], ◌∷◌, ◌++◌, Some, All, Contains, length, slice_get}
 use Rattle.term_model.specs.Tree.{Tree, list_of, distinct}
 use Rattle.history_core.specs.declared.entry.Entry.{Entry}
 use Rattle.history_core.specs.Chronicle.{chronicle, set_of}
@@ -8,7 +8,7 @@ use Rattle.rewrite_model.specs.Rule.{Rule}
 use Rattle.settings.specs.declared.parts.Settings.{Settings}
 use Rattle.node_rows.specs.Crowding.{IsLastCollect}
 use Rattle.rewrite_workers.specs.Ends.{numbered, AreApart}
-use Rattle.rewrite_workers.specs.Works.{built_of}
+use Rattle.rewrite_workers.specs.Works.{AreBuilt}
 use Rattle.rewrite_workers.specs.declared.fault.AllFault.{AllFault}
 use Rattle.rewrite_workers.specs.declared.fault.AllFault.TheVariants.{StoreFull}
 use Rattle.shared_work.specs.Sharing.{named_by}
@@ -31,7 +31,7 @@ pub record FillsRows (s : Settings) (rules : List Rule) (terms : List Tree) (lis
   pub drawn_is : slice_get hands worker ≡ Some drawn
   pub next : Tree
   pub rest : List Tree
-  pub built : built_of s rules (numbered terms drawn) ≡ named_by lists worker ++ next ∷ rest
+  pub built : AreBuilt s rules (numbered terms drawn) [] (named_by lists worker ++ next ∷ rest)
   pub collect : IsLastCollect (chronicle lists) worker
   pub crowd : List Tree
   pub crowd_is : crowd ≡ list_of (trees_at (set_of collect.before).held collect.kept)

@@ -5,16 +5,16 @@ use Rattle.history_core.specs.declared.entry.Entry.{Entry}
 use Rattle.rewrite_model.specs.Rule.{Rule}
 use Rattle.settings.specs.declared.parts.Settings.{Settings}
 use Rattle.rewrite_workers.specs.Ends.{numbered, AreApart}
-use Rattle.rewrite_workers.specs.Works.{built_of}
+use Rattle.rewrite_workers.specs.Works.{built_of, AreBuilt}
 use Rattle.rewrite_workers.specs.declared.fault.AllFault.{AllFault}
 use Rattle.rewrite_workers.specs.declared.lines.Lines.{Lines}
 use Rattle.shared_work.specs.Running.{WantsMemory}
 use Rattle.shared_work.specs.Sharing.{named_by}
 
--- What the entries of worker k name is a front of what the terms with these numbers build.
+-- What the entries of worker k name is a front of what the terms with these numbers build, or of a cached list of it.
 pub record NamesFront (s : Settings) (rules : List Rule) (terms : List Tree) (lists : List (List Entry)) (k : ℕ) (drawn : List ℕ) : Type 0 where
   pub rest : List Tree
-  pub built : built_of s rules (numbered terms drawn) ≡ named_by lists k ++ rest
+  pub built : AreBuilt s rules (numbered terms drawn) [] (named_by lists k ++ rest)
 
 -- Each worker drew terms, upwards, and none was drawn twice; what its entries name is a front of what they build.
 pub record NamesFronts (s : Settings) (rules : List Rule) (terms : List Tree) (lists : List (List Entry)) : Type 0 where

@@ -14,6 +14,12 @@ abbrev pub tells : Strategy → Bool → Bool
 tells Innermost traced = traced
 tells Outermost traced = false
 
+-- whether results are remembered: where that is asked, of innermost rewriting whose events aren't told
+abbrev pub remembers : Strategy → (traced asked : Bool) → Bool
+remembers Innermost true asked = false
+remembers Innermost false asked = asked
+remembers Outermost traced asked = false
+
 -- what is told says something only of rules without conditions
 abbrev pub MayTell : Bool → List Rule → Type 0
 MayTell told rules = told ≡ true → All IsUnconditional rules

@@ -1,5 +1,5 @@
 -- What making the line of a term leaves.
-use Rattle.std.specs.Prelude.{◌≡◌, ℕ, ◌+◌, ◌<◌, ◌≤◌, List, ◌++◌, Bool, false, length, slice_index_or, Result, Ok, Err}
+use Rattle.std.specs.Prelude.{◌≡◌, ℕ, ◌+◌, ◌<◌, ◌≤◌, List, ◌++◌, Bool, true, false, length, slice_index_or, Result, Ok, Err}
 use Rattle.term_model.specs.Tree.{Tree, Leaf}
 use Rattle.terms_api.specs.Terms.{Store, trees}
 use Rattle.symbol_pool.specs.Pool.{Named}
@@ -7,12 +7,13 @@ use Rattle.term_text.specs.Text.{HasNames}
 use Rattle.rewrite_model.specs.Rule.{Rule}
 use Rattle.rewrite_model.specs.Run.{Ended}
 use Rattle.innermost.specs.Normalized.{Answers, StackIsBack}
+use Rattle.innermost.specs.Remembered.{Map, AreRight}
 use Rattle.innermost.specs.declared.normal.Normal.{Normal}
 use Rattle.innermost.specs.declared.normal.RunFault.TheVariants as fault
 use Rattle.term_lines.specs.declared.strategy.Strategy.{Strategy}
 use Rattle.term_lines.specs.declared.stop.LineStop.{LineStop}
 use Rattle.term_lines.specs.declared.stop.LineStop.TheVariants.{StoreFull, Worn, Memory}
-use Rattle.term_lines.specs.Strategies.{built_by, RefusedBy}
+use Rattle.term_lines.specs.Strategies.{IsBuiltBy, Adds, RefusedBy}
 
 -- the tree of the first place of the stack
 abbrev pub top_tree : Store → Tree
@@ -28,25 +29,30 @@ abbrev pub Finishes : Ended Tree → Store → Store → Result Normal LineStop 
 Finishes end old new (Ok normal) = Answers end old new (Ok normal)
 Finishes end old new (Err stop) = StackIsBack old new
 
--- all that a term builds was built
-abbrev pub BuildsWhole : Strategy → List Rule → Tree → (fuel room : ℕ) → Store → Store → Type 0
-BuildsWhole strategy rules term fuel room old new = new.built ≡ old.built ++ built_by strategy rules term fuel room
+-- all that a term builds was built, but what is remembered
+abbrev pub BuildsWhole : Strategy → (remembered : Bool) → List Rule → Tree → (fuel room : ℕ) → Store → Store → Type 0
+BuildsWhole strategy remembered rules term fuel room old new = Adds (IsBuiltBy strategy remembered rules term fuel room) old.built new.built
 
 -- The first of what a term builds was built; all of it where no events are told, since only they want memory before the line.
-pub record BuildsFront (strategy : Strategy) (told : Bool) (rules : List Rule) (term : Tree) (fuel room : ℕ) (old new : Store) : Type 0 where
+pub record BuildsFront (strategy : Strategy) (told remembered : Bool) (rules : List Rule) (term : Tree) (fuel room : ℕ) (old new : Store) : Type 0 where
   pub front : List Tree
   pub rest : List Tree
-  pub split : built_by strategy rules term fuel room ≡ front ++ rest
+  pub split : IsBuiltBy strategy remembered rules term fuel room old.built (front ++ rest)
   pub built : new.built ≡ old.built ++ front
-  pub whole : told ≡ false → BuildsWhole strategy rules term fuel room old new
+  pub whole : told ≡ false → BuildsWhole strategy remembered rules term fuel room old new
 
 -- What was built: all that the definition builds; where a build was refused, what it builds before that tree; and where there was no
 -- memory, the first of it.
-abbrev pub BuildsForLine : {A : Type 0} → Strategy → Bool → List Rule → Tree → (fuel room : ℕ) → Store → Store → Result A LineStop → Type 0
-BuildsForLine strategy told rules term fuel room old new (Ok _) = BuildsWhole strategy rules term fuel room old new
-BuildsForLine strategy told rules term fuel room old new (Err StoreFull) = RefusedBy strategy rules term fuel room old new fault.StoreFull
-BuildsForLine strategy told rules term fuel room old new (Err Worn) = RefusedBy strategy rules term fuel room old new fault.Worn
-BuildsForLine strategy told rules term fuel room old new (Err Memory) = BuildsFront strategy told rules term fuel room old new
+abbrev pub BuildsForLine : {A : Type 0} → Strategy → (told remembered : Bool) → List Rule → Tree → (fuel room : ℕ) → Store → Store → Result A LineStop → Type 0
+BuildsForLine strategy told remembered rules term fuel room old new (Ok _) = BuildsWhole strategy remembered rules term fuel room old new
+BuildsForLine strategy told remembered rules term fuel room old new (Err StoreFull) = RefusedBy strategy remembered rules term fuel room old new fault.StoreFull
+BuildsForLine strategy told remembered rules term fuel room old new (Err Worn) = RefusedBy strategy remembered rules term fuel room old new fault.Worn
+BuildsForLine strategy told remembered rules term fuel room old new (Err Memory) = BuildsFront strategy told remembered rules term fuel room old new
+
+-- where results are remembered, each that is known is right
+abbrev pub MayRecall : (remembered : Bool) → List Rule → Store → Map → Type 0
+MayRecall true rules s map = AreRight rules s.built s map
+MayRecall false rules s map = Unit {0}
 
 -- A build was refused where rows or numbers are wanted, and nowhere else.
 abbrev pub CountsRefusals : {A : Type 0} → Store → Store → Result A LineStop → Type 0

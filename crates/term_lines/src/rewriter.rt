@@ -10,16 +10,17 @@ ghost use Rattle.term_lines.specs.Laws.{WritesNames};
 ghost use Rattle.terms_api.specs.Terms.{kept, IsSound};
 ghost use Rattle.term_lines.specs.Line.{line_text, value_text, is_written, kind_of, spent_of, is_value};
 ghost use Rattle.term_lines.specs.Strategies.{ended, BuildsBy};
-ghost use Rattle.term_lines.specs.Tracing.{tells, MayTell, Told, events_of};
+ghost use Rattle.term_lines.specs.Tracing.{tells, remembers, MayTell, Told, events_of};
 ghost use Rattle.term_lines.specs.Written.{top_tree, HasValueAlone, Finishes};
-ghost use Rattle.term_lines.specs.Written.{BuildsForLine, CountsRefusals, SweepsForLine};
+ghost use Rattle.term_lines.specs.Written.{BuildsForLine, CountsRefusals, SweepsForLine, MayRecall};
+ghost use Rattle.innermost.specs.Remembered.{AreRight};
 ghost use Rattle.term_lines.specs.declared.strategy.Strategy.TheVariants.{Innermost};
 
 use crate::ending::value_ending;
 use crate::value::write_value;
 use crate::{Ending, LineKind, LineStop, Strategy};
 use faults::Memory;
-use innermost::{Event, Machine, Normal, RunFault, TraceFault};
+use innermost::{Event, Machine, Memo, Normal, RunFault, TraceFault};
 use rule_match::Plan;
 use symbol_pool::Symbols;
 use term_model::Flat;
@@ -39,6 +40,8 @@ pub struct Rewriter {
     pub sizes: bool,
     /// Whether the events of innermost rewriting are told too.
     pub traced: bool,
+    /// Whether results of innermost rewriting are remembered, where no events are told.
+    pub remembers: bool,
 }
 
 // The events of a term whose value isn't written are dropped.
@@ -51,7 +54,7 @@ fn keep_written(written: bool, events: &mut Vec<Event>)
 }
 
 impl Rewriter {
-    // Rewrites a term by the strategy that is asked, and tells no events.
+    // Rewrites a term by the strategy that is asked, and tells no events and remembers nothing.
     fn rewrite_untold<T: Terms>(
         &mut self,
         plan: &Plan,
@@ -68,7 +71,7 @@ impl Rewriter {
         ensures answer { Answers
             (ended self.old.strategy plan.now.rules term.now self.old.fuel self.old.machine.depth)
             (T.store terms.old) (T.store terms.new) result }
-        ensures built { BuildsBy self.old.strategy
+        ensures built { BuildsBy self.old.strategy false
             plan.now.rules term.now self.old.fuel self.old.machine.depth
             (T.store terms.old) (T.store terms.new) result }
         ensures faults { FaultOnlyWhereRefused (T.store terms.old) (T.store terms.new) result }
@@ -104,7 +107,7 @@ impl Rewriter {
         ensures answer { Finishes
             (ended self.old.strategy plan.now.rules term.now self.old.fuel self.old.machine.depth)
             (T.store terms.old) (T.store terms.new) result }
-        ensures built { BuildsForLine self.old.strategy false
+        ensures built { BuildsForLine self.old.strategy false false
             plan.now.rules term.now self.old.fuel self.old.machine.depth
             (T.store terms.old) (T.store terms.new) result }
         ensures refusals { CountsRefusals (T.store terms.old) (T.store terms.new) result }
@@ -143,7 +146,7 @@ impl Rewriter {
         ensures answer { Finishes
             (ended Innermost plan.now.rules term.now self.old.fuel self.old.machine.depth)
             (T.store terms.old) (T.store terms.new) result }
-        ensures built { BuildsForLine Innermost true
+        ensures built { BuildsForLine Innermost true false
             plan.now.rules term.now self.old.fuel self.old.machine.depth
             (T.store terms.old) (T.store terms.new) result }
         ensures refusals { CountsRefusals (T.store terms.old) (T.store terms.new) result }
@@ -169,13 +172,59 @@ impl Rewriter {
         }
     }
 
-    // Rewrites a term by the strategy that is asked. Its events stand in the place of what was there, where
-    // they are asked.
-    fn rewrite<T: Terms>(
+    // Rewrites a term innermost, with a memory of results, and tells no events.
+    fn rewrite_remembered<T: Terms, M: Memo>(
         &mut self,
         plan: &Plan,
         term: &Flat,
         terms: &mut T,
+        memo: &mut M,
+    ) -> Result<Normal, LineStop>
+        requires inside { (T.store terms.old).inside ≡ true }
+        requires machine { IsFor plan.now self.old.machine }
+        requires no_variables { IsGround term.now }
+        requires plain { IsPlain plan.now.widest term.now }
+        requires width { plan.now.widest ≤ (T.store terms.old).widest }
+        requires free { length (T.store terms.old).stack + self.old.machine.depth
+            ≤ (T.store terms.old).room }
+        requires memory { AreRight plan.now.rules (T.store terms.old).built
+            (T.store terms.old) (M.map memo.old) }
+        ensures answer { Finishes
+            (ended Innermost plan.now.rules term.now self.old.fuel self.old.machine.depth)
+            (T.store terms.old) (T.store terms.new) result }
+        ensures built { BuildsForLine Innermost false true
+            plan.now.rules term.now self.old.fuel self.old.machine.depth
+            (T.store terms.old) (T.store terms.new) result }
+        ensures refusals { CountsRefusals (T.store terms.old) (T.store terms.new) result }
+        ensures sweeps { SweepsForLine (T.store terms.old) (T.store terms.new) result }
+        ensures load { LoadsNeedAtMost
+            (need plan.now.rules term.now self.old.fuel self.old.machine.depth)
+            (T.store terms.old) (T.store terms.new) }
+        ensures numbers { KeepsNumbers (T.store terms.old) (T.store terms.new) }
+        ensures sound { IsSound (T.store terms.new) }
+        ensures rewriter { self.new ≡ self.old }
+        ensures same { T.same terms.old terms.new }
+        ensures memory { AreRight plan.now.rules (T.store terms.new).built
+            (T.store terms.new) (M.map memo.new) }
+    {
+        match self
+            .machine
+            .normalize_with(plan, term, self.fuel, terms, memo)
+        {
+            Ok(normal) => Ok(normal),
+            Err(RunFault::StoreFull) => Err(LineStop::StoreFull),
+            Err(RunFault::Worn) => Err(LineStop::Worn),
+        }
+    }
+
+    // Rewrites a term by the strategy that is asked. Its events stand in the place of what was there, where
+    // they are asked.
+    fn rewrite<T: Terms, M: Memo>(
+        &mut self,
+        plan: &Plan,
+        term: &Flat,
+        terms: &mut T,
+        memo: &mut M,
         events: &mut Vec<Event>,
     ) -> Result<Normal, LineStop>
         requires inside { (T.store terms.old).inside ≡ true }
@@ -185,10 +234,13 @@ impl Rewriter {
         requires width { plan.now.widest ≤ (T.store terms.old).widest }
         requires free { length (T.store terms.old).stack + self.old.machine.depth
             ≤ (T.store terms.old).room }
+        requires memory { MayRecall (remembers self.old.strategy self.old.traced self.old.remembers)
+            plan.now.rules (T.store terms.old) (M.map memo.old) }
         ensures answer { Finishes
             (ended self.old.strategy plan.now.rules term.now self.old.fuel self.old.machine.depth)
             (T.store terms.old) (T.store terms.new) result }
         ensures built { BuildsForLine self.old.strategy (tells self.old.strategy self.old.traced)
+            (remembers self.old.strategy self.old.traced self.old.remembers)
             plan.now.rules term.now self.old.fuel self.old.machine.depth
             (T.store terms.old) (T.store terms.new) result }
         ensures refusals { CountsRefusals (T.store terms.old) (T.store terms.new) result }
@@ -200,6 +252,8 @@ impl Rewriter {
         ensures sound { IsSound (T.store terms.new) }
         ensures rewriter { self.new ≡ self.old }
         ensures same { T.same terms.old terms.new }
+        ensures memory { MayRecall (remembers self.old.strategy self.old.traced self.old.remembers)
+            plan.now.rules (T.store terms.new) (M.map memo.new) }
         ensures events { MayTell (tells self.old.strategy self.old.traced) plan.now.rules
             → IfOk result (Told (tells self.old.strategy self.old.traced)
             plan.now.rules term.now self.old.fuel events.new.items) }
@@ -207,6 +261,9 @@ impl Rewriter {
         events.clear();
         match self.strategy {
             Strategy::Innermost if self.traced => self.rewrite_told(plan, term, terms, events),
+            Strategy::Innermost if self.remembers => {
+                self.rewrite_remembered(plan, term, terms, memo)
+            }
             Strategy::Innermost => self.rewrite_plain(plan, term, terms),
             Strategy::Outermost => self.rewrite_plain(plan, term, terms),
         }
@@ -241,13 +298,15 @@ impl Rewriter {
     /// the text of the value or its sizes, `too large`, `out of fuel` or `too deep`. Tells which of these
     /// it is, and how much fuel a value took. The stack, which must be empty, is empty again. Where it
     /// stops without a line, `out` is as before. In `events`, in the place of what was there, stand the
-    /// events that lead to a value that is written, where they are asked, and no others.
-    pub fn write_line<T: Terms>(
+    /// events that lead to a value that is written, where they are asked, and no others. Where results are
+    /// remembered, a reduction whose result the memory has is left out.
+    pub fn write_line<T: Terms, M: Memo>(
         &mut self,
         plan: &Plan,
         symbols: &Symbols,
         term: &Flat,
         terms: &mut T,
+        memo: &mut M,
         out: &mut Vec<u8>,
         events: &mut Vec<Event>,
     ) -> Result<Ending, LineStop>
@@ -261,6 +320,8 @@ impl Rewriter {
         requires marks { (T.store terms.old).rows ≤ self.old.marks }
         requires named { HasNames symbols.now term.now }
         requires names { All (WritesNames symbols.now) plan.now.rules }
+        requires memory { MayRecall (remembers self.old.strategy self.old.traced self.old.remembers)
+            plan.now.rules (T.store terms.old) (M.map memo.old) }
         // The line.
         ensures text { OnOk result (out.new.items ≡ out.old.items
             ++ line_text self.old.sizes symbols.now
@@ -278,6 +339,7 @@ impl Rewriter {
 
         // What was built, and what that cost the store.
         ensures built { BuildsForLine self.old.strategy (tells self.old.strategy self.old.traced)
+            (remembers self.old.strategy self.old.traced self.old.remembers)
             plan.now.rules term.now self.old.fuel self.old.machine.depth
             (T.store terms.old) (T.store terms.new) result }
         ensures refusals { CountsRefusals (T.store terms.old) (T.store terms.new) result }
@@ -286,6 +348,10 @@ impl Rewriter {
             → (T.store terms.new).load ≤ max (T.store terms.old).load
             (need plan.now.rules term.now self.old.fuel self.old.machine.depth) }
 
+        // What is remembered is right.
+        ensures memory { MayRecall (remembers self.old.strategy self.old.traced self.old.remembers)
+            plan.now.rules (T.store terms.new) (M.map memo.new) }
+
         // What is as before.
         ensures empty { (T.store terms.new).stack ≡ [] }
         ensures numbers { KeepsNumbers (T.store terms.old) (T.store terms.new) }
@@ -293,7 +359,7 @@ impl Rewriter {
         ensures rewriter { self.new ≡ self.old }
         ensures same { T.same terms.old terms.new }
     {
-        match self.rewrite(plan, term, terms, events) {
+        match self.rewrite(plan, term, terms, memo, events) {
             Ok(Normal::Value { left }) => {
                 let spent = self.fuel - left;
                 let written = self.write_top(symbols, terms, out)?;

@@ -2,7 +2,7 @@ use Rattle.std.proofs.Common.{◌<◌, ◌≤◌, List, length, get_or, sym, ◌
 use Rattle.std.proofs.lemmas.Result.{err_from_is_err_and}
 use Rattle.term_model.specs.declared.Item.{Item}
 use Rattle.term_model.proofs.Subtrees.{items_are_nodes}
-use Rattle.innermost.proofs.Evaluations.{floor, node_point, may_build_at, place_at, begun_too_deep, stands_at, over_at, node_gives_up, begun_at, has_head_here}
+use Rattle.innermost.proofs.Evaluations.{floor, node_point, may_build_at, place_at, begun_too_deep, stands_at, over_at, node_gives_up, begun_at, opened_at, has_head_here}
 use Rattle.innermost.proofs.evaluating.begin_node.Goals as goal
 
 pub item_at-item-requires : goal.item_at-item-requires
@@ -40,6 +40,15 @@ returns-in_err-build_at-clause-fault g c =
 pub returns-clause-state : goal.returns-clause-state
 returns-clause-state g c = λ job left e.
     begun_at c.args.plan.now c.args.code.now job c.args.term.now c.args.at left (g.T.Terms.store c.args.terms.now) e c.item_at-item.result c.in-Some.head c.requires.plain c.requires.node (c.item_at-item.ensures ∙ ap (λ (is : List Item). get_or is c.args.at c.item_at-item.result) c.items.ensures.items) (sym c.head.ensures ∙ c.in-Some.is) c.args.down c.requires.down (omega arith) (g.T.Terms.store c.build_at.new.terms) c.first.result
+    (let job' = job in let e' = e in c.in_ok-build_at.ensures.built job'.start e'.points
+    (floor c.args.plan.now c.args.code.now job' c.args.term.now c.args.at left (g.T.Terms.store c.args.terms.now) e' c.item_at-item.result c.in-Some.head c.requires.plain c.requires.node (c.item_at-item.ensures ∙ ap (λ (is : List Item). get_or is c.args.at c.item_at-item.result) c.items.ensures.items) (sym c.head.ensures ∙ c.in-Some.is)) _
+    (node_point c.args.plan.now c.args.code.now job' c.args.term.now c.args.at left (g.T.Terms.store c.args.terms.now) e' c.item_at-item.result c.in-Some.head c.requires.plain c.requires.node (c.item_at-item.ensures ∙ ap (λ (is : List Item). get_or is c.args.at c.item_at-item.result) c.items.ensures.items) (sym c.head.ensures ∙ c.in-Some.is))
+    (stands_at c.args.plan.now c.args.code.now job' c.args.term.now c.args.at left (g.T.Terms.store c.args.terms.now) e' c.item_at-item.result c.in-Some.head c.requires.plain c.requires.node (c.item_at-item.ensures ∙ ap (λ (is : List Item). get_or is c.args.at c.item_at-item.result) c.items.ensures.items) (sym c.head.ensures ∙ c.in-Some.is) c.arity.result c.arity.ensures)
+    (over_at c.args.plan.now c.args.code.now job' c.args.term.now c.args.at left (g.T.Terms.store c.args.terms.now) e' c.item_at-item.result c.in-Some.head c.requires.plain c.requires.node (c.item_at-item.ensures ∙ ap (λ (is : List Item). get_or is c.args.at c.item_at-item.result) c.items.ensures.items) (sym c.head.ensures ∙ c.in-Some.is) c.arity.result c.arity.ensures)) c.first.ensures.first c.first.ensures.none
+
+pub returns-clause-opened : goal.returns-clause-opened
+returns-clause-opened g c = λ job left e.
+    opened_at c.args.plan.now c.args.code.now job c.args.term.now c.args.at left (g.T.Terms.store c.args.terms.now) e c.item_at-item.result c.in-Some.head c.requires.plain c.requires.node (c.item_at-item.ensures ∙ ap (λ (is : List Item). get_or is c.args.at c.item_at-item.result) c.items.ensures.items) (sym c.head.ensures ∙ c.in-Some.is) c.args.down c.requires.down (omega arith) (g.T.Terms.store c.build_at.new.terms) c.first.result
     (let job' = job in let e' = e in c.in_ok-build_at.ensures.built job'.start e'.points
     (floor c.args.plan.now c.args.code.now job' c.args.term.now c.args.at left (g.T.Terms.store c.args.terms.now) e' c.item_at-item.result c.in-Some.head c.requires.plain c.requires.node (c.item_at-item.ensures ∙ ap (λ (is : List Item). get_or is c.args.at c.item_at-item.result) c.items.ensures.items) (sym c.head.ensures ∙ c.in-Some.is)) _
     (node_point c.args.plan.now c.args.code.now job' c.args.term.now c.args.at left (g.T.Terms.store c.args.terms.now) e' c.item_at-item.result c.in-Some.head c.requires.plain c.requires.node (c.item_at-item.ensures ∙ ap (λ (is : List Item). get_or is c.args.at c.item_at-item.result) c.items.ensures.items) (sym c.head.ensures ∙ c.in-Some.is))

@@ -1,5 +1,8 @@
 use Rattle.std.proofs.Common.{◌≡◌, ◌∷◌, ◌++◌, [], ap, sym, subst}
-use Rattle.std.specs.Prelude.{OnOk, is_ok}
+use Rattle.std.specs.Prelude.{OnOk, is_ok, Result}
+use Rattle.term_lines.specs.declared.stop.LineStop.{LineStop}
+use Rattle.rewrite_workers.specs.Ends.{Ended}
+use Rattle.rewrite_workers.proofs.Ending.{all_front}
 use Rattle.rewrite_workers.specs.Works.{term_at}
 use Rattle.rewrite_workers.specs.Lined.{told_of}
 use Rattle.rewrite_workers.specs.Worked.{AddsLine}
@@ -24,4 +27,17 @@ returns-clause-line g c =
         worker = c.in_ok-line.ensures.worker;
       })
       | in-Err w ↦ subst (λ r. OnOk r X) (sym w.result-is) tt
+    ]
+
+pub returns-clause-ended : goal.returns-clause-ended
+returns-clause-ended g c =
+    let work = c.args.job.now.work in
+    let term = term_at work.terms.now c.args.number in
+    let old = g.T.Terms.store c.args.desk.now in
+    let new = g.T.Terms.store c.make_line.new.desk in
+    let built = c.in_ok-line.ensures.ended in
+    let X : Result (Unit {0}) LineStop → Type 0 = λ r. Ended work.settings work.plan.now.rules (term ∷ []) old new r in
+    elim c.match-push.branch [
+      | in-Ok w ↦ subst X (sym w.result-is) built
+      | in-Err w ↦ subst X (sym w.result-is) (all_front work.settings work.plan.now.rules (term ∷ []) old new built.0, built.1)
     ]

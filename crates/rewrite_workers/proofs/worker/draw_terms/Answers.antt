@@ -12,6 +12,7 @@ terms-init g c =
       c.requires.ready,
       c.requires.rewriter,
       g.met.T.Terms.same_as_itself c.args.desk.now,
+      c.requires.recalls,
     )
 
 pub returns-then-number-count-clause-seat : goal.returns-then-number-count-clause-seat
@@ -54,6 +55,7 @@ terms-preserved g c =
       e.ready,
       subst (IsRewriterOf work.settings work.plan.now) (sym e.rewriter) c.terms.invariant.2,
       g.met.T.Terms.same_in_turn c.args.desk.now c.terms.desk c.add_line.new.desk c.terms.invariant.3 e.same,
+      e.recalls,
     )
 
 pub returns-in_err-add_line-clause-seat : goal.returns-in_err-add_line-clause-seat

@@ -1,6 +1,6 @@
 use Rattle.std.proofs.Common.{◌-◌, length}
 use Rattle.rewrite_workers.specs.Desks.{IsReady}
-use Rattle.rewrite_workers.specs.Working.{IsRewriterOf}
+use Rattle.rewrite_workers.specs.Working.{IsRewriterOf, Recalls}
 use Rattle.rewrite_workers.specs.Worked.{drawn_of}
 use Rattle.rewrite_workers.proofs.Going.{Going, next_of}
 use Rattle.rewrite_workers.proofs.worker.draw_terms.Given as goal
@@ -13,6 +13,7 @@ invariant-terms g l =
     × IsReady work.settings work.plan.now (store l.desk)
     × IsRewriterOf work.settings work.plan.now l.rewriter
     × g.T.Terms.same l.fn.desk l.desk
+    × Recalls work.settings work.plan.now.rules (store l.desk) (g.M.Memo.map l.memory.memo) l.memory.epoch
 
 abbrev pub decreases-terms : goal.decreases-terms
 decreases-terms g l = length l.job.work.terms.now - next_of (drawn_of l.share)

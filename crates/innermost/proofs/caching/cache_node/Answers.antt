@@ -1,0 +1,93 @@
+use Rattle.std.proofs.Common.{◌≡◌, ℕ, Option, Some, ◌∙◌, ap, subst}
+use Rattle.std.proofs.lemmas.Result.{err_from_is_err_and, IfOk-weaker, IfErr-weaker}
+use Rattle.innermost.specs.declared.frames.Task.{Task}
+use Rattle.innermost.specs.declared.frames.Task.TheVariants.{Reduce}
+use Rattle.innermost.specs.Opened.{Opens}
+use Rattle.innermost.proofs.Evaluations.{begun_inside, begun_gives_up}
+use Rattle.innermost.proofs.Cachings.{afresh, begins_afresh, gives_up_so, node_caches, node_opened}
+use Rattle.innermost.proofs.caching.cache_node.Goals as goal
+
+pub begin_node-requires-clause-state : goal.begin_node-requires-clause-state
+begin_node-requires-clause-state g c =
+    let s = c.requires.state in
+    let now = g.T.Terms.store c.args.terms.now in (
+      afresh c.args.plan.now c.args.code.now s.0 c.args.term.now s.1 (g.M.Memo.map c.args.memo.now) c.args.epoch.now c.args.at c.args.parts.now.left now s.2,
+      c.args.parts.now.left,
+      begins_afresh c.args.plan.now c.args.code.now s.0 c.args.term.now s.1 (g.M.Memo.map c.args.memo.now) c.args.epoch.now c.args.at c.args.parts.now.left now s.2,
+    )
+
+pub returns-in_err-task-clause-fault : goal.returns-in_err-task-clause-fault
+returns-in_err-task-clause-fault g c =
+    let p = err_from_is_err_and c.from_residual.result c.from_residual.ensures.1 in
+    let now = g.T.Terms.store c.args.terms.now in
+    rw (p.1, p.2) (λ start fuel k.
+    let k' = k in
+    gives_up_so c.args.plan.now c.args.code.now start c.args.term.now fuel (g.M.Memo.map c.args.memo.now) c.args.epoch.now c.args.at c.args.parts.now.left now k' (g.T.Terms.store c.begin_node.new.terms) c.in_err-task.field-0.0
+    (c.in_err-task.ensures.fault (afresh c.args.plan.now c.args.code.now start c.args.term.now fuel (g.M.Memo.map c.args.memo.now) c.args.epoch.now c.args.at c.args.parts.now.left now k') c.args.parts.now.left
+    (begins_afresh c.args.plan.now c.args.code.now start c.args.term.now fuel (g.M.Memo.map c.args.memo.now) c.args.epoch.now c.args.at c.args.parts.now.left now k')))
+
+pub reduce-requires-clause-inside : goal.reduce-requires-clause-inside
+reduce-requires-clause-inside g c =
+    let s = c.requires.state in
+    let now = g.T.Terms.store c.args.terms.now in
+    begun_inside c.args.plan.now c.args.code.now (afresh c.args.plan.now c.args.code.now s.0 c.args.term.now s.1 (g.M.Memo.map c.args.memo.now) c.args.epoch.now c.args.at c.args.parts.now.left now s.2) c.args.term.now c.args.at c.args.parts.now.left (g.T.Terms.store c.begin_node.new.terms) c.in_ok-task.task (c.in_ok-task.ensures.state (afresh c.args.plan.now c.args.code.now s.0 c.args.term.now s.1 (g.M.Memo.map c.args.memo.now) c.args.epoch.now c.args.at c.args.parts.now.left now s.2) c.args.parts.now.left (begins_afresh c.args.plan.now c.args.code.now s.0 c.args.term.now s.1 (g.M.Memo.map c.args.memo.now) c.args.epoch.now c.args.at c.args.parts.now.left now s.2))
+
+pub reduce-requires-clause-state : goal.reduce-requires-clause-state
+reduce-requires-clause-state g c =
+    let s = c.requires.state in
+    let now = g.T.Terms.store c.args.terms.now in
+    let b = c.in_ok-task.ensures.state (afresh c.args.plan.now c.args.code.now s.0 c.args.term.now s.1 (g.M.Memo.map c.args.memo.now) c.args.epoch.now c.args.at c.args.parts.now.left now s.2) c.args.parts.now.left (begins_afresh c.args.plan.now c.args.code.now s.0 c.args.term.now s.1 (g.M.Memo.map c.args.memo.now) c.args.epoch.now c.args.at c.args.parts.now.left now s.2) in
+    (b.inner, b.task)
+
+pub returns-in_default-clause-state : goal.returns-in_default-clause-state
+returns-in_default-clause-state g c =
+    let now = g.T.Terms.store c.args.terms.now in
+    IfOk-weaker c.reduce.result _ _ (λ end h start fuel k.
+    let k' = k in
+    let b = c.in_ok-task.ensures.state (afresh c.args.plan.now c.args.code.now start c.args.term.now fuel (g.M.Memo.map c.args.memo.now) c.args.epoch.now c.args.at c.args.parts.now.left now k') c.args.parts.now.left (begins_afresh c.args.plan.now c.args.code.now start c.args.term.now fuel (g.M.Memo.map c.args.memo.now) c.args.epoch.now c.args.at c.args.parts.now.left now k') in
+    node_caches c.args.plan.now c.args.code.now start c.args.term.now fuel (g.M.Memo.map c.args.memo.now) c.args.epoch.now c.args.at c.args.parts.now.left now k' (g.T.Terms.store c.reduce.new.terms) end (b.ends (g.T.Terms.store c.reduce.new.terms) end (h b.inner b.task)))
+    c.reduce.ensures.state
+
+pub returns-in_default-clause-fault : goal.returns-in_default-clause-fault
+returns-in_default-clause-fault g c =
+    let now = g.T.Terms.store c.args.terms.now in
+    IfErr-weaker c.reduce.result _ _ (λ fault h start fuel k.
+    let k' = k in
+    let b = c.in_ok-task.ensures.state (afresh c.args.plan.now c.args.code.now start c.args.term.now fuel (g.M.Memo.map c.args.memo.now) c.args.epoch.now c.args.at c.args.parts.now.left now k') c.args.parts.now.left (begins_afresh c.args.plan.now c.args.code.now start c.args.term.now fuel (g.M.Memo.map c.args.memo.now) c.args.epoch.now c.args.at c.args.parts.now.left now k') in
+    gives_up_so c.args.plan.now c.args.code.now start c.args.term.now fuel (g.M.Memo.map c.args.memo.now) c.args.epoch.now c.args.at c.args.parts.now.left now k' (g.T.Terms.store c.reduce.new.terms) fault
+    (begun_gives_up c.args.plan.now c.args.code.now (afresh c.args.plan.now c.args.code.now start c.args.term.now fuel (g.M.Memo.map c.args.memo.now) c.args.epoch.now c.args.at c.args.parts.now.left now k') c.args.term.now c.args.at c.args.parts.now.left (g.T.Terms.store c.begin_node.new.terms) c.in_ok-task.task b (g.T.Terms.store c.reduce.new.terms) fault (h b.inner b.task)))
+    c.reduce.ensures.fault
+
+pub reduce_known-requires-clause-inside : goal.reduce_known-requires-clause-inside
+reduce_known-requires-clause-inside g c =
+    let s = c.requires.state in
+    let now = g.T.Terms.store c.args.terms.now in
+    begun_inside c.args.plan.now c.args.code.now (afresh c.args.plan.now c.args.code.now s.0 c.args.term.now s.1 (g.M.Memo.map c.args.memo.now) c.args.epoch.now c.args.at c.args.parts.now.left now s.2) c.args.term.now c.args.at c.args.parts.now.left (g.T.Terms.store c.begin_node.new.terms) c.in_ok-task.task (c.in_ok-task.ensures.state (afresh c.args.plan.now c.args.code.now s.0 c.args.term.now s.1 (g.M.Memo.map c.args.memo.now) c.args.epoch.now c.args.at c.args.parts.now.left now s.2) c.args.parts.now.left (begins_afresh c.args.plan.now c.args.code.now s.0 c.args.term.now s.1 (g.M.Memo.map c.args.memo.now) c.args.epoch.now c.args.at c.args.parts.now.left now s.2))
+
+pub reduce_known-requires-clause-state : goal.reduce_known-requires-clause-state
+reduce_known-requires-clause-state g c =
+    let s = c.requires.state in
+    let now = g.T.Terms.store c.args.terms.now in
+    let some : c.in-Reduce-Some-default.field-0 ≡ Some c.in-Reduce-Some-default.rule = rw c.in-Reduce-Some-default.is at c.in-Reduce-Some-default.field-0-is in
+    let task_is : c.in_ok-task.task ≡ Reduce (Some c.in-Reduce-Some-default.rule) c.in-Reduce-Some-default.room = c.in-Reduce-Some-default.is ∙ ap (λ (o : Option ℕ). Reduce o c.in-Reduce-Some-default.room) some in
+    (s.0, c.args.term.now, s.1, c.args.at, node_opened c.args.plan.now c.args.code.now s.0 c.args.term.now s.1 (g.M.Memo.map c.args.memo.now) c.args.epoch.now c.args.at c.args.parts.now.left now s.2 (g.T.Terms.store c.begin_node.new.terms) (Some c.in-Reduce-Some-default.rule) c.in-Reduce-Some-default.room (begins_afresh c.args.plan.now c.args.code.now s.0 c.args.term.now s.1 (g.M.Memo.map c.args.memo.now) c.args.epoch.now c.args.at c.args.parts.now.left now s.2).points (subst (λ (t : Task). Opens c.args.plan.now c.args.code.now (afresh c.args.plan.now c.args.code.now s.0 c.args.term.now s.1 (g.M.Memo.map c.args.memo.now) c.args.epoch.now c.args.at c.args.parts.now.left now s.2) c.args.term.now c.args.at c.args.parts.now.left (begins_afresh c.args.plan.now c.args.code.now s.0 c.args.term.now s.1 (g.M.Memo.map c.args.memo.now) c.args.epoch.now c.args.at c.args.parts.now.left now s.2).points (g.T.Terms.store c.begin_node.new.terms) t) task_is (c.in_ok-task.ensures.opened (afresh c.args.plan.now c.args.code.now s.0 c.args.term.now s.1 (g.M.Memo.map c.args.memo.now) c.args.epoch.now c.args.at c.args.parts.now.left now s.2) c.args.parts.now.left (begins_afresh c.args.plan.now c.args.code.now s.0 c.args.term.now s.1 (g.M.Memo.map c.args.memo.now) c.args.epoch.now c.args.at c.args.parts.now.left now s.2))))
+
+pub returns-clause-state : goal.returns-clause-state
+returns-clause-state g c =
+    let now = g.T.Terms.store c.args.terms.now in
+    let some : c.in-Reduce-Some-default.field-0 ≡ Some c.in-Reduce-Some-default.rule = rw c.in-Reduce-Some-default.is at c.in-Reduce-Some-default.field-0-is in
+    let task_is : c.in_ok-task.task ≡ Reduce (Some c.in-Reduce-Some-default.rule) c.in-Reduce-Some-default.room = c.in-Reduce-Some-default.is ∙ ap (λ (o : Option ℕ). Reduce o c.in-Reduce-Some-default.room) some in
+    IfOk-weaker c.reduce_known.result _ _ (λ end h start fuel k.
+    let k' = k in
+    h start c.args.term.now fuel c.args.at (node_opened c.args.plan.now c.args.code.now start c.args.term.now fuel (g.M.Memo.map c.args.memo.now) c.args.epoch.now c.args.at c.args.parts.now.left now k' (g.T.Terms.store c.begin_node.new.terms) (Some c.in-Reduce-Some-default.rule) c.in-Reduce-Some-default.room (begins_afresh c.args.plan.now c.args.code.now start c.args.term.now fuel (g.M.Memo.map c.args.memo.now) c.args.epoch.now c.args.at c.args.parts.now.left now k').points (subst (λ (t : Task). Opens c.args.plan.now c.args.code.now (afresh c.args.plan.now c.args.code.now start c.args.term.now fuel (g.M.Memo.map c.args.memo.now) c.args.epoch.now c.args.at c.args.parts.now.left now k') c.args.term.now c.args.at c.args.parts.now.left (begins_afresh c.args.plan.now c.args.code.now start c.args.term.now fuel (g.M.Memo.map c.args.memo.now) c.args.epoch.now c.args.at c.args.parts.now.left now k').points (g.T.Terms.store c.begin_node.new.terms) t) task_is (c.in_ok-task.ensures.opened (afresh c.args.plan.now c.args.code.now start c.args.term.now fuel (g.M.Memo.map c.args.memo.now) c.args.epoch.now c.args.at c.args.parts.now.left now k') c.args.parts.now.left (begins_afresh c.args.plan.now c.args.code.now start c.args.term.now fuel (g.M.Memo.map c.args.memo.now) c.args.epoch.now c.args.at c.args.parts.now.left now k')))))
+    c.reduce_known.ensures.state
+
+pub returns-clause-fault : goal.returns-clause-fault
+returns-clause-fault g c =
+    let now = g.T.Terms.store c.args.terms.now in
+    let some : c.in-Reduce-Some-default.field-0 ≡ Some c.in-Reduce-Some-default.rule = rw c.in-Reduce-Some-default.is at c.in-Reduce-Some-default.field-0-is in
+    let task_is : c.in_ok-task.task ≡ Reduce (Some c.in-Reduce-Some-default.rule) c.in-Reduce-Some-default.room = c.in-Reduce-Some-default.is ∙ ap (λ (o : Option ℕ). Reduce o c.in-Reduce-Some-default.room) some in
+    IfErr-weaker c.reduce_known.result _ _ (λ fault h start fuel k.
+    let k' = k in
+    h start c.args.term.now fuel c.args.at (node_opened c.args.plan.now c.args.code.now start c.args.term.now fuel (g.M.Memo.map c.args.memo.now) c.args.epoch.now c.args.at c.args.parts.now.left now k' (g.T.Terms.store c.begin_node.new.terms) (Some c.in-Reduce-Some-default.rule) c.in-Reduce-Some-default.room (begins_afresh c.args.plan.now c.args.code.now start c.args.term.now fuel (g.M.Memo.map c.args.memo.now) c.args.epoch.now c.args.at c.args.parts.now.left now k').points (subst (λ (t : Task). Opens c.args.plan.now c.args.code.now (afresh c.args.plan.now c.args.code.now start c.args.term.now fuel (g.M.Memo.map c.args.memo.now) c.args.epoch.now c.args.at c.args.parts.now.left now k') c.args.term.now c.args.at c.args.parts.now.left (begins_afresh c.args.plan.now c.args.code.now start c.args.term.now fuel (g.M.Memo.map c.args.memo.now) c.args.epoch.now c.args.at c.args.parts.now.left now k').points (g.T.Terms.store c.begin_node.new.terms) t) task_is (c.in_ok-task.ensures.opened (afresh c.args.plan.now c.args.code.now start c.args.term.now fuel (g.M.Memo.map c.args.memo.now) c.args.epoch.now c.args.at c.args.parts.now.left now k') c.args.parts.now.left (begins_afresh c.args.plan.now c.args.code.now start c.args.term.now fuel (g.M.Memo.map c.args.memo.now) c.args.epoch.now c.args.at c.args.parts.now.left now k')))))
+    c.reduce_known.ensures.fault

@@ -1,0 +1,74 @@
+use Rattle.std.proofs.Common.{◌≡◌, ℕ, ◌+◌, Some, sym, subst}
+use Rattle.std.proofs.lemmas.Result.{err_from_is_err_and}
+use Rattle.terms_api.specs.Terms.{Store}
+use Rattle.innermost.specs.declared.normal.Normal.{Normal}
+use Rattle.innermost.specs.Tasks.{IsEnd}
+use Rattle.innermost.specs.Remembered.{AreRight}
+use Rattle.innermost.specs.Caching.{IsResult, IsCaching}
+use Rattle.innermost.proofs.Inside.{end_inside}
+use Rattle.innermost.proofs.Memories.{right_now}
+use Rattle.innermost.proofs.Knowing.{job, reduces_itself, value_found, value_unkept, value_result, value_places, found_built, other_end, gave_up_so}
+use Rattle.innermost.proofs.caching.reduce_anew.Goals as goal
+
+pub reduce-requires-clause-state : goal.reduce-requires-clause-state
+reduce-requires-clause-state g c =
+    let s = c.requires.state in
+    let now = g.T.Terms.store c.args.terms.now in (
+      job c.args.plan.now c.args.code.now s.0 s.1 s.2 (g.M.Memo.map c.args.memo.now) c.args.epoch.now s.3 c.args.parts.now.left now (Some c.args.place.rule) c.args.place.room s.4,
+      reduces_itself c.args.plan.now c.args.code.now s.0 s.1 s.2 (g.M.Memo.map c.args.memo.now) c.args.epoch.now s.3 c.args.parts.now.left now (Some c.args.place.rule) c.args.place.room s.4,
+    )
+
+pub returns-in_err-end-clause-fault : goal.returns-in_err-end-clause-fault
+returns-in_err-end-clause-fault g c =
+    let p = err_from_is_err_and c.from_residual.result c.from_residual.ensures.1 in
+    let now = g.T.Terms.store c.args.terms.now in
+    rw (p.1, p.2) (λ start term fuel at n.
+    let n' = n in
+    gave_up_so c.args.plan.now c.args.code.now start term fuel (g.M.Memo.map c.args.memo.now) c.args.epoch.now at c.args.parts.now.left now (Some c.args.place.rule) c.args.place.room n' (g.T.Terms.store c.reduce.new.terms) c.in_err-end.field-0.0
+    (c.in_err-end.ensures.fault (job c.args.plan.now c.args.code.now start term fuel (g.M.Memo.map c.args.memo.now) c.args.epoch.now at c.args.parts.now.left now (Some c.args.place.rule) c.args.place.room n')
+    (reduces_itself c.args.plan.now c.args.code.now start term fuel (g.M.Memo.map c.args.memo.now) c.args.epoch.now at c.args.parts.now.left now (Some c.args.place.rule) c.args.place.room n')))
+
+pub remember-requires-clause-inside : goal.remember-requires-clause-inside
+remember-requires-clause-inside g c =
+    let s = c.requires.state in
+    let now = g.T.Terms.store c.args.terms.now in
+    let j = job c.args.plan.now c.args.code.now s.0 s.1 s.2 (g.M.Memo.map c.args.memo.now) c.args.epoch.now s.3 c.args.parts.now.left now (Some c.args.place.rule) c.args.place.room s.4 in
+    end_inside c.args.plan.now c.args.code.now j (g.T.Terms.store c.reduce.new.terms) c.in_ok-end.end
+    (c.in_ok-end.ensures.state j (reduces_itself c.args.plan.now c.args.code.now s.0 s.1 s.2 (g.M.Memo.map c.args.memo.now) c.args.epoch.now s.3 c.args.parts.now.left now (Some c.args.place.rule) c.args.place.room s.4))
+
+pub remember-requires-clause-some : goal.remember-requires-clause-some
+remember-requires-clause-some g c =
+    let s = c.requires.state in
+    let now = g.T.Terms.store c.args.terms.now in
+    let j = job c.args.plan.now c.args.code.now s.0 s.1 s.2 (g.M.Memo.map c.args.memo.now) c.args.epoch.now s.3 c.args.parts.now.left now (Some c.args.place.rule) c.args.place.room s.4 in
+    let new = g.T.Terms.store c.reduce.new.terms in
+    let h = c.in_ok-end.ensures.state j (reduces_itself c.args.plan.now c.args.code.now s.0 s.1 s.2 (g.M.Memo.map c.args.memo.now) c.args.epoch.now s.3 c.args.parts.now.left now (Some c.args.place.rule) c.args.place.room s.4) in
+    value_places c.args.plan.now c.args.code.now s.0 s.1 s.2 (g.M.Memo.map c.args.memo.now) c.args.epoch.now s.3 c.args.parts.now.left now (Some c.args.place.rule) c.args.place.room s.4 new c.in-Value.left (subst (λ (e : Normal). IsEnd c.args.plan.now c.args.code.now j new e) c.in-Value.is h)
+
+pub returns-in-Value-clause-state : goal.returns-in-Value-clause-state
+returns-in-Value-clause-state g c = λ start term fuel at n.
+    let n' = n in
+    let new = g.T.Terms.store c.reduce.new.terms in
+    let map2 = g.M.Memo.map c.remember.new.memo in
+    let later = c.remember.new.epoch in
+    let l = c.in-Value.left in
+    let j = job c.args.plan.now c.args.code.now start term fuel (g.M.Memo.map c.args.memo.now) c.args.epoch.now at c.args.parts.now.left (g.T.Terms.store c.args.terms.now) (Some c.args.place.rule) c.args.place.room n' in
+    let v = subst (λ (e : Normal). IsEnd c.args.plan.now c.args.code.now j new e) c.in-Value.is (c.in_ok-end.ensures.state j (reduces_itself c.args.plan.now c.args.code.now start term fuel (g.M.Memo.map c.args.memo.now) c.args.epoch.now at c.args.parts.now.left (g.T.Terms.store c.args.terms.now) (Some c.args.place.rule) c.args.place.room n')) in
+    let e = c.remember.ensures in
+    let result = subst (λ (i : ℕ). IsResult c.args.plan.now.rules (found_built c.args.plan.now c.args.code.now start term fuel (g.M.Memo.map c.args.memo.now) c.args.epoch.now at c.args.parts.now.left (g.T.Terms.store c.args.terms.now) (Some c.args.place.rule) c.args.place.room n' new l v) c.args.epoch.now new c.args.place.row i c.args.place.room) (sym c.saturating_sub-taken.ensures) (value_result c.args.plan.now c.args.code.now start term fuel (g.M.Memo.map c.args.memo.now) c.args.epoch.now at c.args.parts.now.left (g.T.Terms.store c.args.terms.now) (Some c.args.place.rule) c.args.place.room n' new l v c.args.place.row c.requires.row c.requires.epoch) in
+    let right = subst (λ (s : Store). AreRight c.args.plan.now.rules (found_built c.args.plan.now c.args.code.now start term fuel (g.M.Memo.map c.args.memo.now) c.args.epoch.now at c.args.parts.now.left (g.T.Terms.store c.args.terms.now) (Some c.args.place.rule) c.args.place.room n' new l v) s map2) e.unchanged (e.right c.args.plan.now.rules (found_built c.args.plan.now c.args.code.now start term fuel (g.M.Memo.map c.args.memo.now) c.args.epoch.now at c.args.parts.now.left (g.T.Terms.store c.args.terms.now) (Some c.args.place.rule) c.args.place.room n' new l v) (value_unkept c.args.plan.now c.args.code.now start term fuel (g.M.Memo.map c.args.memo.now) c.args.epoch.now at c.args.parts.now.left (g.T.Terms.store c.args.terms.now) (Some c.args.place.rule) c.args.place.room n' new l v) result) in
+    let memory = right_now c.args.plan.now.rules (found_built c.args.plan.now c.args.code.now start term fuel (g.M.Memo.map c.args.memo.now) c.args.epoch.now at c.args.parts.now.left (g.T.Terms.store c.args.terms.now) (Some c.args.place.rule) c.args.place.room n' new l v) map2 later new right (subst (λ (s : Store). later ≡ s.epoch) e.unchanged e.epoch) in
+    subst (λ (s : Store). IsCaching c.args.plan.now c.args.code.now start term fuel map2 later (at + 1) l s) (sym e.unchanged)
+    (value_found c.args.plan.now c.args.code.now start term fuel (g.M.Memo.map c.args.memo.now) c.args.epoch.now at c.args.parts.now.left (g.T.Terms.store c.args.terms.now) (Some c.args.place.rule) c.args.place.room n' map2 later new l v memory)
+
+pub returns-in_default : goal.returns-in_default
+returns-in_default g c =
+    let e = c.in_ok-end.ensures in
+    record {
+      state = λ start term fuel at n. (let n' = n in
+          other_end c.args.plan.now c.args.code.now start term fuel (g.M.Memo.map c.args.memo.now) c.args.epoch.now at c.args.parts.now.left (g.T.Terms.store c.args.terms.now) (Some c.args.place.rule) c.args.place.room n' (g.T.Terms.store c.reduce.new.terms) c.in_ok-end.end (e.state (job c.args.plan.now c.args.code.now start term fuel (g.M.Memo.map c.args.memo.now) c.args.epoch.now at c.args.parts.now.left (g.T.Terms.store c.args.terms.now) (Some c.args.place.rule) c.args.place.room n') (reduces_itself c.args.plan.now c.args.code.now start term fuel (g.M.Memo.map c.args.memo.now) c.args.epoch.now at c.args.parts.now.left (g.T.Terms.store c.args.terms.now) (Some c.args.place.rule) c.args.place.room n')) c.in_default.not-Value);
+      fault = tt;
+      frames_room = e.frames_room;
+      matcher = e.matcher;
+      same = e.same;
+    }

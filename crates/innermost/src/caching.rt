@@ -1,0 +1,201 @@
+//! Evaluating a term with a memory of results.
+
+ghost use Rattle.std.specs.Prelude.{◌≡◌, ℕ, ◌-◌, ◌<◌, ◌≤◌, Some, length, IfOk, IfErr, true, vec_capacity, slice_index, slice_get};
+ghost use Rattle.term_model.specs.Tree.{Tree, IsGround, nodes};
+ghost use Rattle.terms_api.specs.Terms.{Store};
+ghost use Rattle.rule_match.specs.Planned.{IsPlain};
+ghost use Rattle.rule_automaton.specs.Automata.{IsAutomaton};
+ghost use Rattle.innermost.specs.Depths.{depths as depths_of};
+ghost use Rattle.innermost.specs.Tasks.{IsReady};
+ghost use Rattle.innermost.specs.Caching.{IsCaching, IsOnNode, GivesUpCaching, CachesNext, CachingEnds, WasRight};
+
+use crate::compile::Code;
+use crate::evaluating::begin_node;
+use crate::frames::{Parts, Task};
+use crate::machine::reduce;
+use crate::remembering::{refresh, remember, take_known, top_row};
+use crate::windows::{Window, depth_at};
+use crate::{Memo, Normal, RunFault};
+use rule_match::Plan;
+use term_model::{Flat, Row};
+use terms_api::Terms;
+
+/// The row on top of the stack, by which rules its tree is reduced, from one on, and in which room.
+#[derive(Clone, Copy)]
+struct Place {
+    rule: u32,
+    room: u32,
+    row: Row,
+}
+
+/// Reduces the tree on top, whose row this is, by a rule and those after it, and remembers its value.
+fn reduce_anew<T: Terms, M: Memo>(
+    plan: &Plan,
+    code: &Code,
+    parts: &mut Parts,
+    place: Place,
+    epoch: &mut Option<u64>,
+    terms: &mut T,
+    memo: &mut M,
+) -> Result<Normal, RunFault>
+    requires inside { (T.store terms.old).inside ≡ true }
+    requires frames_room { code.now.depth ≤ vec_capacity parts.old.frames }
+    requires matcher { IsAutomaton plan.now.rules parts.old.matcher.automaton }
+    requires row { slice_get (T.store terms.old).stack (length (T.store terms.old).stack - 1)
+        ≡ Some place.row }
+    requires epoch { epoch.old ≡ (T.store terms.old).epoch }
+    requires state { (start : Store) × (term : Tree) × (fuel : ℕ) × (at : ℕ)
+        × IsOnNode plan.now code.now start term fuel (M.map memo.old) epoch.old at parts.old.left
+        (T.store terms.old) (Some place.rule) place.room }
+    ensures state { IfOk result (λ end. (start : Store) (term : Tree) (fuel : ℕ) (at : ℕ)
+        → IsOnNode plan.now code.now start term fuel (M.map memo.old) epoch.old at parts.old.left
+        (T.store terms.old) (Some place.rule) place.room
+        → CachesNext plan.now code.now start term fuel (M.map memo.new) epoch.new at
+        (T.store terms.new) end) }
+    ensures fault { IfErr result (λ fault. (start : Store) (term : Tree) (fuel : ℕ) (at : ℕ)
+        → IsOnNode plan.now code.now start term fuel (M.map memo.old) epoch.old at parts.old.left
+        (T.store terms.old) (Some place.rule) place.room
+        → GivesUpCaching plan.now code.now start term fuel (M.map memo.new) epoch.new
+        (T.store terms.new) fault) }
+    ensures frames_room { vec_capacity parts.new.frames ≡ vec_capacity parts.old.frames }
+    ensures matcher { parts.new.matcher.automaton ≡ parts.old.matcher.automaton }
+    ensures same { T.same terms.old terms.new }
+{
+    let before = parts.left;
+    let task = Task::Reduce(Some(place.rule), place.room);
+    let end = reduce(plan, code, parts, task, terms)?;
+    if let Normal::Value { left } = end {
+        let taken = before.saturating_sub(left);
+        remember(place.row, taken, place.room, epoch, terms, memo);
+    }
+    Ok(end)
+}
+
+/// Takes the value of the tree on top from the memory, or reduces it.
+fn reduce_known<T: Terms, M: Memo>(
+    plan: &Plan,
+    code: &Code,
+    parts: &mut Parts,
+    rule: u32,
+    room: u32,
+    epoch: &mut Option<u64>,
+    terms: &mut T,
+    memo: &mut M,
+) -> Result<Normal, RunFault>
+    requires inside { (T.store terms.old).inside ≡ true }
+    requires frames_room { code.now.depth ≤ vec_capacity parts.old.frames }
+    requires matcher { IsAutomaton plan.now.rules parts.old.matcher.automaton }
+    requires state { (start : Store) × (term : Tree) × (fuel : ℕ) × (at : ℕ)
+        × IsOnNode plan.now code.now start term fuel (M.map memo.old) epoch.old at parts.old.left
+        (T.store terms.old) (Some rule) room }
+    ensures state { IfOk result (λ end. (start : Store) (term : Tree) (fuel : ℕ) (at : ℕ)
+        → IsOnNode plan.now code.now start term fuel (M.map memo.old) epoch.old at parts.old.left
+        (T.store terms.old) (Some rule) room
+        → CachesNext plan.now code.now start term fuel (M.map memo.new) epoch.new at
+        (T.store terms.new) end) }
+    ensures fault { IfErr result (λ fault. (start : Store) (term : Tree) (fuel : ℕ) (at : ℕ)
+        → IsOnNode plan.now code.now start term fuel (M.map memo.old) epoch.old at parts.old.left
+        (T.store terms.old) (Some rule) room
+        → GivesUpCaching plan.now code.now start term fuel (M.map memo.new) epoch.new
+        (T.store terms.new) fault) }
+    ensures frames_room { vec_capacity parts.new.frames ≡ vec_capacity parts.old.frames }
+    ensures matcher { parts.new.matcher.automaton ≡ parts.old.matcher.automaton }
+    ensures same { T.same terms.old terms.new }
+{
+    let row = top_row(terms);
+    let _ = refresh(epoch, terms, memo);
+    if take_known(row, room, &mut parts.left, terms, memo) {
+        return Ok(Normal::Value { left: parts.left });
+    }
+    let place = Place { rule, room, row };
+    reduce_anew(plan, code, parts, place, epoch, terms, memo)
+}
+
+/// Evaluates a node of a term that stands so far down, after those before it.
+fn cache_node<T: Terms, M: Memo>(
+    plan: &Plan,
+    code: &Code,
+    parts: &mut Parts,
+    term: &Flat,
+    at: usize,
+    down: u32,
+    epoch: &mut Option<u64>,
+    terms: &mut T,
+    memo: &mut M,
+) -> Result<Normal, RunFault>
+    requires inside { (T.store terms.old).inside ≡ true }
+    requires frames_room { code.now.depth ≤ vec_capacity parts.old.frames }
+    requires matcher { IsAutomaton plan.now.rules parts.old.matcher.automaton }
+    requires node { at < nodes term.now }
+    requires no_variables { IsGround term.now }
+    requires plain { IsPlain plan.now.widest term.now }
+    requires down { down ≡ slice_index (depths_of code.now.depth term.now 0) at }
+    requires state { (start : Store) × (fuel : ℕ)
+        × IsCaching plan.now code.now start term.now fuel (M.map memo.old) epoch.old at
+        parts.old.left (T.store terms.old) }
+    ensures state { IfOk result (λ end. (start : Store) (fuel : ℕ)
+        → IsCaching plan.now code.now start term.now fuel (M.map memo.old) epoch.old at
+        parts.old.left (T.store terms.old)
+        → CachesNext plan.now code.now start term.now fuel (M.map memo.new) epoch.new at
+        (T.store terms.new) end) }
+    ensures fault { IfErr result (λ fault. (start : Store) (fuel : ℕ)
+        → IsCaching plan.now code.now start term.now fuel (M.map memo.old) epoch.old at
+        parts.old.left (T.store terms.old)
+        → GivesUpCaching plan.now code.now start term.now fuel (M.map memo.new) epoch.new
+        (T.store terms.new) fault) }
+    ensures frames_room { vec_capacity parts.new.frames ≡ vec_capacity parts.old.frames }
+    ensures matcher { parts.new.matcher.automaton ≡ parts.old.matcher.automaton }
+    ensures same { T.same terms.old terms.new }
+{
+    let task = begin_node(plan, code, term, at, down, &mut parts.builds, terms)?;
+    let Task::Reduce(Some(rule), room) = task else {
+        return reduce(plan, code, parts, task, terms);
+    };
+    reduce_known(plan, code, parts, rule, room, epoch, terms, memo)
+}
+
+/// Evaluates a term, with the fuel that is left, and a memory that was right at this epoch.
+pub(crate) fn evaluate_with<T: Terms, M: Memo>(
+    plan: &Plan,
+    code: &Code,
+    parts: &mut Parts,
+    window: &mut Window,
+    term: &Flat,
+    epoch: &mut Option<u64>,
+    terms: &mut T,
+    memo: &mut M,
+) -> Result<Normal, RunFault>
+    requires inside { (T.store terms.old).inside ≡ true }
+    requires frames_room { code.now.depth ≤ vec_capacity parts.old.frames }
+    requires matcher { IsAutomaton plan.now.rules parts.old.matcher.automaton }
+    requires path_room { code.now.depth ≤ vec_capacity window.old.path }
+    requires window { 0 < length window.old.depths.items }
+    requires ready { IsReady plan.now code.now (T.store terms.old) }
+    requires no_variables { IsGround term.now }
+    requires plain { IsPlain plan.now.widest term.now }
+    requires memory { WasRight plan.now.rules (T.store terms.old).built (M.map memo.old) epoch.old
+        (T.store terms.old) }
+    ensures state { IfOk result (λ end. CachingEnds plan.now code.now (T.store terms.old) term.now
+        parts.old.left (M.map memo.new) epoch.new (T.store terms.new) end) }
+    ensures fault { IfErr result (λ fault. GivesUpCaching plan.now code.now (T.store terms.old)
+        term.now parts.old.left (M.map memo.new) epoch.new (T.store terms.new) fault) }
+    ensures frames_room { vec_capacity parts.new.frames ≡ vec_capacity parts.old.frames }
+    ensures matcher { parts.new.matcher.automaton ≡ parts.old.matcher.automaton }
+    ensures path_room { code.now.depth ≤ vec_capacity window.new.path }
+    ensures window { 0 < length window.new.depths.items }
+    ensures same { T.same terms.old terms.new }
+{
+    let _ = terms.depth();
+    let count = term.node_count();
+    window.from = usize::MAX;
+    let mut at = 0usize;
+    'nodes: while at < count {
+        let down = depth_at(term, code.depth, at, window);
+        match cache_node(plan, code, parts, term, at, down, epoch, terms, memo)? {
+            Normal::Value { left } => parts.left = left,
+            end => return Ok(end),
+        }
+        at += 1;
+    }
+    Ok(Normal::Value { left: parts.left })
+}

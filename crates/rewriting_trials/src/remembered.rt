@@ -1,0 +1,117 @@
+//! Normalizing with a memory of results.
+
+ghost use Rattle.std.specs.Prelude.{◌≡◌, ◌≤◌, None, Some, if◌then◌else◌, nat_eq, option_and_then, true};
+ghost use Rattle.innermost.specs.Machines.{IsFor};
+ghost use Rattle.innermost.specs.Remembered.{AreRight};
+
+use crate::adding::{ONE_AND_ONE, TWO, sums};
+use crate::counting::Counting;
+use crate::sight::is_on_top;
+use crate::writing::{WIDEST, flat};
+use innermost::{Known, Machine, Memo, NoMemo, Normal, may_be_normalized};
+use rewrite_model::Term;
+use rule_match::Plan;
+use std::alloc::Global;
+use std::test::Fail;
+use term_model::{Flat, Row};
+use terms_api::Terms;
+
+/// A memory of one result, the last that was kept.
+#[derive(Clone, Copy)]
+struct LastResult {
+    kept: Option<(Row, Known)>,
+}
+
+impl Memo for LastResult {
+    ghost map = { λ memo row. option_and_then (λ k. if nat_eq k.0.0 row.0 then Some k.1 else None) memo.kept };
+
+    fn find(&mut self, row: Row) -> Option<Known> {
+        let Some((kept, known)) = self.kept else {
+            return None;
+        };
+        if kept.0 == row.0 { Some(known) } else { None }
+    }
+
+    fn keep(&mut self, row: Row, known: Known) {
+        self.kept = Some((row, known));
+    }
+
+    fn forget(&mut self) {
+        self.kept = None;
+    }
+}
+
+/// Whether a term comes to the wanted value by two uses of rules, with a memory, on an empty stack,
+/// which is empty again then.
+fn comes_with<T: Terms, M: Memo>(
+    machine: &mut Machine,
+    plan: &Plan,
+    term: &Flat,
+    value: &Term,
+    store: &mut T,
+    memo: &mut M,
+) -> bool
+    requires inside { (T.store store.old).inside ≡ true }
+    requires machine { IsFor plan.now machine.old }
+    requires depth { machine.old.depth ≡ 6 }
+    requires wide { plan.now.widest ≤ (T.store store.old).widest }
+    requires memory { AreRight plan.now.rules (T.store store.old).built (T.store store.old)
+        (M.map memo.old) }
+    ensures inside { (T.store store.new).inside ≡ true }
+    ensures wide { plan.now.widest ≤ (T.store store.new).widest }
+    ensures memory { AreRight plan.now.rules (T.store store.new).built (T.store store.new)
+        (M.map memo.new) }
+    ensures machine { machine.new ≡ machine.old }
+{
+    let free = store.room() - store.depth();
+    if free < 6 || !may_be_normalized(term, plan.widest()) {
+        return false;
+    }
+    let answer = machine.normalize_with(plan, term, 2, store, memo);
+    let is_right = is_on_top(value, store) && store.depth() == 1;
+    store.keep(0, 0);
+    is_right && answer == Ok(Normal::Value { left: 0 })
+}
+
+/// Four sums of one and one by one memory, in a store of so many rows: whether each comes to two, how
+/// many trees were built, and the store's epoch then.
+fn four_sums<M: Memo>(
+    alloc: Global,
+    rows: u32,
+    memo: &mut M,
+) -> Result<(bool, u32, Option<u64>), Fail> {
+    let plan = sums(alloc)?;
+    let term = flat(alloc, &ONE_AND_ONE)?;
+    let value = Term::of(alloc, &flat(alloc, &TWO)?)?;
+    let mut machine = Machine::new(alloc, &plan, 6)?;
+    let mut store = Counting::new(alloc, rows, 6, WIDEST)?;
+    store.enter();
+    memo.forget();
+    let first = comes_with(&mut machine, &plan, &term, &value, &mut store, memo);
+    let second = comes_with(&mut machine, &plan, &term, &value, &mut store, memo);
+    let third = comes_with(&mut machine, &plan, &term, &value, &mut store, memo);
+    let fourth = comes_with(&mut machine, &plan, &term, &value, &mut store, memo);
+    let all = first && second && third && fourth;
+    Ok((all, store.counts().builds, store.epoch()))
+}
+
+#[test]
+fn a_known_sum_is_not_built_again(rt: HostRuntime) -> Result<(), Fail> {
+    let alloc = rt.alloc();
+    let mut memo = LastResult { kept: None };
+    assert_eq!(rt; four_sums(alloc, 5, &mut memo)?, (true, 22, Some(0)));
+    assert_eq!(rt; four_sums(alloc, 5, &mut NoMemo)?, (true, 28, Some(0)));
+    Ok(())
+}
+
+#[test]
+fn a_lost_row_is_forgotten(rt: HostRuntime) -> Result<(), Fail> {
+    let alloc = rt.alloc();
+    let mut memo = LastResult { kept: None };
+    let (all, builds, epoch) = four_sums(alloc, 3, &mut memo)?;
+    assert!(rt;
+        all && builds == 28 && epoch > Some(0),
+        "{builds} {epoch:?}"
+    );
+    Ok(())
+}
