@@ -33,12 +33,10 @@ impl LruMemo {
         requires some { 0 < entries }
         ensures { IfOk result (λ memo. memo ≡ lru_cache [] entries) }
     {
-        match NonZeroUsize::new(entries as usize) {
-            Some(most) => Ok(LruMemo {
-                results: LruCache::new(alloc, most)?,
-            }),
-            None => Err(Memory),
-        }
+        let most = NonZeroUsize::new(entries as usize).unwrap();
+        Ok(LruMemo {
+            results: LruCache::new(alloc, most)?,
+        })
     }
 
     /// Puts a result first, before all others; or leaves all as they are, where there is no memory.
