@@ -3,6 +3,7 @@
 ghost use Rattle.std.specs.Prelude.{◌≡◌, ℕ, ◌<◌, ◌≤◌, length, true, false, All, Contains, IfSome, IfNone, slice_index_or};
 ghost use Rattle.std.specs.List.{list_all};
 ghost use Rattle.term_model.specs.Tree.{Tree};
+ghost use Rattle.term_model.specs.declared.Head.TheVariants.{App};
 ghost use Rattle.terms_api.specs.Terms.{Store, IsSound};
 ghost use Rattle.rule_automaton.specs.Automata.{part, AreInOrder};
 ghost use Rattle.rule_automaton.specs.declared.states.State.{State};
@@ -13,7 +14,7 @@ use crate::rows::fill;
 use crate::shapes::{Pair, Test};
 use crate::states::{Node, Op, Way, key_of};
 use rule_match::stands_at;
-use term_model::{Head, Row};
+use term_model::{Head, Row, Symbol};
 use terms_api::Terms;
 
 /// What comes after a state: an answer, or another state.
@@ -37,16 +38,33 @@ fn have_one_row(pairs: &[Pair], rows: &[Row]) -> bool
     true
 }
 
-/// The way of a head over so many trees, of ways in order.
-fn find_way(ways: &[Way], head: Head, count: u32) -> Option<Way>
+/// How many ways are looked at one after another.
+const FEW: usize = 4;
+
+/// The way of a symbol over so many trees, of ways that are looked at one after another.
+#[inline(always)]
+fn find_in_turn(ways: &[Way], symbol: Symbol, count: u32) -> Option<Way>
+    ensures some { IfSome result (λ way. Contains ways.now way
+        × (is_way_of (App symbol) count way ≡ true)) }
+    ensures none { IfNone result
+        (All (λ (w : Way). is_way_of (App symbol) count w ≡ false) ways.now) }
+{
+    for way in ways {
+        if way.symbol.0 == symbol.0 && way.count == count {
+            return Some(*way);
+        }
+    }
+    None
+}
+
+/// The way of a symbol over so many trees, of ways in order.
+fn find_by_halves(ways: &[Way], symbol: Symbol, count: u32) -> Option<Way>
     requires { AreInOrder ways.now }
     ensures some { IfSome result (λ way. Contains ways.now way
-        × (is_way_of head count way ≡ true)) }
-    ensures none { IfNone result (All (λ (w : Way). is_way_of head count w ≡ false) ways.now) }
+        × (is_way_of (App symbol) count way ≡ true)) }
+    ensures none { IfNone result
+        (All (λ (w : Way). is_way_of (App symbol) count w ≡ false) ways.now) }
 {
-    let Head::App(symbol) = head else {
-        return None;
-    };
     let key = key_of(symbol, count);
     let mut low = 0;
     let mut high = ways.len();
@@ -63,6 +81,23 @@ fn find_way(ways: &[Way], head: Head, count: u32) -> Option<Way>
         }
     }
     None
+}
+
+/// The way of a head over so many trees, of ways in order.
+#[inline(always)]
+fn find_way(ways: &[Way], head: Head, count: u32) -> Option<Way>
+    requires { AreInOrder ways.now }
+    ensures some { IfSome result (λ way. Contains ways.now way
+        × (is_way_of head count way ≡ true)) }
+    ensures none { IfNone result (All (λ (w : Way). is_way_of head count w ≡ false) ways.now) }
+{
+    let Head::App(symbol) = head else {
+        return None;
+    };
+    if ways.len() > FEW {
+        return find_by_halves(ways, symbol, count);
+    }
+    find_in_turn(ways, symbol, count)
 }
 
 /// Whether all tests hold, made one after another. The arguments of each node that was read are

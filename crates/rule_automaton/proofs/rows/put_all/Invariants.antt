@@ -1,6 +1,6 @@
 use Rattle.std.proofs.Common.{◌≡◌}
 use Rattle.rule_automaton.specs.Rows.{Fills}
-use Rattle.rule_automaton.proofs.rows.fill.Given as goal
+use Rattle.rule_automaton.proofs.rows.put_all.Given as goal
 
 -- the arguments before a place are put
 abbrev pub invariant-loop-place : goal.invariant-loop-place

@@ -1,7 +1,7 @@
 use Rattle.std.proofs.Common.{◌+◌, ◌-◌, ◌/◌, ◌<◌, length, get_or, arith}
 use Rattle.rule_automaton.proofs.Ways.{other_way, not_below, not_above}
 use Rattle.rule_automaton.specs.declared.states.Way.{Way}
-use Rattle.rule_automaton.proofs.finding.find_way.Goals as goal
+use Rattle.rule_automaton.proofs.finding.find_by_halves.Goals as goal
 
 pub halves-preserved-then-key_of-key : goal.halves-preserved-then-key_of-key
 halves-preserved-then-key_of-key c =
@@ -13,7 +13,7 @@ halves-preserved-then-key_of-key c =
     record {
       order = omega arith;
       within = i.within;
-      below = not_below ways c.requires c.in-App.symbol c.args.count middle zero l (omega (arith, c.key_of.ensures.key, c.key_of-key.ensures.key, c.if-key_of-key.true));
+      below = not_below ways c.requires c.args.symbol c.args.count middle zero l (omega (arith, c.key_of.ensures.key, c.key_of-key.ensures.key, c.if-key_of-key.true));
       above = i.above;
     }
 
@@ -28,5 +28,5 @@ halves-preserved c =
       order = omega arith;
       within = omega arith;
       below = i.below;
-      above = not_above ways c.requires c.in-App.symbol c.args.count middle zero l c.key_of-key.ensures.small c.key_of.ensures.small (omega (arith, c.key_of.ensures.key, c.key_of-key.ensures.key, c.if-key_of-key.false)) (other_way c.in-App.symbol c.args.count (get_or ways middle zero) c.else-way-symbol.either);
+      above = not_above ways c.requires c.args.symbol c.args.count middle zero l c.key_of-key.ensures.small c.key_of.ensures.small (omega (arith, c.key_of.ensures.key, c.key_of-key.ensures.key, c.if-key_of-key.false)) (other_way c.args.symbol c.args.count (get_or ways middle zero) c.else-way-symbol.either);
     }

@@ -2,7 +2,7 @@ use Rattle.std.proofs.Common.{◌≡◌, ℕ, ◌-◌, ◌<◌, ◌≤◌, lengt
 use Rattle.term_model.specs.declared.Head.TheVariants.{App}
 use Rattle.rule_automaton.specs.Running.{is_way_of}
 use Rattle.rule_automaton.specs.declared.states.Way.{Way}
-use Rattle.rule_automaton.proofs.finding.find_way.Given as goal
+use Rattle.rule_automaton.proofs.finding.find_by_halves.Given as goal
 
 -- no way before the low place or from the high one on is the head's
 abbrev pub invariant-halves : goal.invariant-halves
