@@ -1,8 +1,7 @@
 -- Reading a node: on by its way, or by none. And the first state.
 use Rattle.std.proofs.Common.{◌≡◌, ℕ, zero, suc, ◌+◌, ◌<◌, ◌≤◌, List, [], ◌∷◌, length, set, get_or, Some, Bool, true, false, refl, sym, ◌∙◌, ap, arith, inl, inr, subst}
 use Rattle.std.specs.Prelude.{◌⊎◌, All, Contains}
-use Rattle.std.proofs.lemmas.List.{length-set, get_or-set_same, take_all}
-use Rattle.std.specs.Prelude.{◌-◌}
+use Rattle.std.proofs.lemmas.List.{length-set, get_or-set_same}
 use Rattle.std.proofs.lemmas.List.Elements.{All-contains}
 use Rattle.term_model.specs.Tree.{Tree, root, arguments}
 use Rattle.term_model.specs.declared.Row.{Row}
@@ -14,11 +13,8 @@ use Rattle.rule_match.specs.Preorder.{left_at}
 use Rattle.rule_match.specs.Stands.{stands}
 use Rattle.rule_match.specs.Groups.{head_at}
 use Rattle.rule_match.proofs.Pushing.{stands_by}
-use Rattle.rule_automaton.specs.Places.{Tabled, IsTable}
-use Rattle.rule_automaton.specs.declared.shapes.Shape.{Shape}
-use Rattle.rule_automaton.proofs.Laying.{All-numbers}
-use Rattle.rule_automaton.specs.Shapes.{HaveShapes, IsShape, tests_at, pairs_at, variables_at, numbers}
-use Rattle.rule_automaton.specs.Automata.{first_match, Made, part, rules_of, AreInOrder, IsWay, IsReading, IsRight, IsState, IsStart, IsAutomaton}
+use Rattle.rule_automaton.specs.Shapes.{IsShape, tests_at, pairs_at, variables_at}
+use Rattle.rule_automaton.specs.Automata.{first_match, Made, part, rules_of, AreInOrder, IsWay, IsReading, IsRight, IsStart, IsAutomaton}
 use Rattle.rule_automaton.specs.Rows.{row_at, IsFull, Fills}
 use Rattle.rule_automaton.specs.Running.{Known, AreKnown, Asked, asked, IsBegun, IsRun, is_way_of}
 use Rattle.rule_automaton.proofs.Standing as standing

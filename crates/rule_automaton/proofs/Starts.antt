@@ -12,7 +12,7 @@ use Rattle.rule_match.specs.Planned.{match_at}
 use Rattle.rule_match.specs.Groups.{head_at, IsNext, MatchNone}
 use Rattle.rule_automaton.specs.Places.{Tabled, IsTable}
 use Rattle.rule_automaton.specs.Shapes.{HaveShapes, numbers}
-use Rattle.rule_automaton.specs.Automata.{first_match, Made, part, IsStart, IsRight, IsAutomaton}
+use Rattle.rule_automaton.specs.Automata.{first_match, Made, part, IsRight, IsAutomaton}
 use Rattle.rule_automaton.specs.Starting.{HaveFirst, HavePassed, in_turn_from, BeginsInTurn, AreStarts, AddsGroup}
 use Rattle.rule_automaton.proofs.Laying.{All-numbers}
 use Rattle.rule_automaton.proofs.Growing.{part_front}

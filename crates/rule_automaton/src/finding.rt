@@ -228,6 +228,24 @@ fn step<T: Terms>(automaton: &Automaton, at: usize, terms: &mut T, rows: &mut [R
         Op::Turn => Next::End(in_turn(automaton, state.from, state.to, terms, rows)),
     }
 }
+
+/// From a state on to one at which no node is read.
+#[inline(always)]
+fn read_on<T: Terms>(automaton: &Automaton, first: usize, terms: &mut T, rows: &mut [Row]) -> usize
+    requires inside { (T.store terms.old).inside ≡ true }
+    requires run { (m : Asked) × IsRun (made automaton.now) (T.store terms.old) rows.old m first }
+    ensures run { (m : Asked) → IsRun (made automaton.now) (T.store terms.old) rows.old m first
+        → (first ≤ result) × IsRun (made automaton.now) (T.store terms.old) rows.new m result }
+    ensures unchanged { T.store terms.new ≡ T.store terms.old }
+    ensures same { T.same terms.old terms.new }
+{
+    let mut at = first;
+    'reads: while let Op::Read(node) = automaton.states[at].op {
+        at = read(automaton, at, node, terms, rows);
+    }
+    at
+}
+
 /// From a state on to an answer.
 pub(crate) fn run<T: Terms>(
     automaton: &Automaton,
@@ -245,7 +263,8 @@ pub(crate) fn run<T: Terms>(
 {
     let mut at = first;
     'states: loop {
-        match step(automaton, at, terms, rows) {
+        let reached = read_on(automaton, at, terms, rows);
+        match step(automaton, reached, terms, rows) {
             Next::End(answer) => return answer,
             Next::On(next) => at = next,
         }
