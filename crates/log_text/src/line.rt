@@ -87,29 +87,24 @@ fn put_term(row: Row, head: Head, args: &[Row], bytes: &mut [u8; ROOM]) -> usize
     put_number(row.0 as u64, bytes, at)
 }
 
-// The same of a word with which the line of a creation begins.
+/// The word with which the line of a creation begins.
+#[inline(always)]
+pub(crate) fn creation_word(made: bool) -> &'static [u8; 7]
+    ensures { result.now ≡ word_of made }
+{
+    if made { b"# make " } else { b"# find " }
+}
+
+// The same of that word.
 #[inline(always)]
 fn put_word(made: bool, bytes: &mut [u8; ROOM], at: usize) -> usize
     requires { (7 ≤ at) × (at ≤ 512) }
     ensures written { drop result bytes.new ≡ word_of made ++ drop at bytes.old }
     ensures within { result ≤ at }
 {
-    let at = put(b' ', bytes, at);
-    if made {
-        let at = put(b'e', bytes, at);
-        let at = put(b'k', bytes, at);
-        let at = put(b'a', bytes, at);
-        let at = put(b'm', bytes, at);
-        let at = put(b' ', bytes, at);
-        put(b'#', bytes, at)
-    } else {
-        let at = put(b'd', bytes, at);
-        let at = put(b'n', bytes, at);
-        let at = put(b'i', bytes, at);
-        let at = put(b'f', bytes, at);
-        let at = put(b' ', bytes, at);
-        put(b'#', bytes, at)
-    }
+    let start = at - 7;
+    bytes[start..at].copy_from_slice(creation_word(made));
+    start
 }
 
 /// The line of a creation; before the first it is empty.

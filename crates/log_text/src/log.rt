@@ -5,7 +5,7 @@ ghost use Rattle.history_core.specs.declared.entry.Entry.TheVariants.{Make, Find
 ghost use Rattle.log_text.specs.Lines.{names, creation_text, listing_text, line_of, Adds};
 ghost use Rattle.log_text.specs.Word.{word_of};
 
-use crate::line::Line;
+use crate::line::{Line, creation_word};
 use crate::writing::{write_creation, write_listing};
 use faults::Memory;
 use std::alloc::Global;
@@ -48,17 +48,8 @@ fn push_creation(
         lines.extend_from_slice(line.text())?;
         return Ok(());
     }
-    push_word(made, lines)?;
+    lines.extend_from_slice(creation_word(made))?;
     write_creation(key, head, args, row, lines)
-}
-
-// Appends the word of a creation.
-fn push_word(made: bool, lines: &mut Vec<u8>) -> Result<(), Memory>
-    ensures { OnOk result (lines.new.items ≡ lines.old.items ++ word_of made) }
-{
-    let word = if made { b"# make " } else { b"# find " };
-    lines.extend_from_slice(word)?;
-    Ok(())
 }
 
 // Lines with that of another step, which begins with this word.
