@@ -1,7 +1,8 @@
 -- What a collection notes of the words that it has worked out.
-use Rattle.std.proofs.Common.{◌≡◌, ◌≢◌, ◌⊎◌, ℕ, zero, suc, ◌+◌, ◌<◌, ◌≤◌, eqb, Bool, true, false, cond, if◌then◌else◌, Some, List, [], ◌∷◌, length, get_or, refl, sym, ap, ◌∙◌, subst, ⊎_elim, inl, inr, arith, true≢false, eq-eqb, ne_eqb}
+use Rattle.std.proofs.Common.{◌≡◌, ◌≢◌, ℕ, suc, ◌+◌, ◌<◌, ◌≤◌, Bool, false, cond, Some, List, [], ◌∷◌, get_or, refl, sym, ap, ◌∙◌, subst, ⊎_elim, arith, eq-eqb, ne_eqb}
 use Rattle.std.proofs.lemmas.Bool.{cases_lt}
 use Rattle.atomic_table.specs.declared.shared.Seat.{Seat}
+use Rattle.store_core.specs.declared.view.Sizes.{Sizes}
 use Rattle.store_core.specs.declared.view.Call.{Call}
 use Rattle.store_core.specs.declared.view.Call.TheVariants.{Loading}
 use Rattle.store_core.specs.declared.view.Place.{Place}
@@ -19,8 +20,9 @@ use Rattle.sweep_phase.specs.Gathered.{sizes_of, loads_of, words_of, HasGathered
 use Rattle.sweep_phase.specs.Chained.{LeadsTo, Belongs, ChainsTo}
 use Rattle.sweep_phase.specs.Collected.{IsWorkedOut}
 use Rattle.sweep_phase.specs.Read.{again_in_turn}
-use Rattle.sweep_phase.specs.Compared.{told_by, unmarked_below, Notes, IsCompared}
-use Rattle.sweep_phase.proofs.Ending.{inside_marks}
+use Rattle.sweep_phase.specs.Compared.{told_by, unmarked_before, place_for, Notes, IsCompared}
+use Rattle.sweep_phase.specs.Turns.{row_in_turn}
+use Rattle.sweep_phase.proofs.Turning.{turn_back, turn_same}
 
 -- a cell that says that the word stays, and another one
 pub told_stays : (word cell : ℕ) → cell ≡ 4294967295 → told_by word cell ≡ word
@@ -52,38 +54,41 @@ module _ (w : Place → ℕ) (marks : List Bool) (u n : ℕ) (heads nexts : List
   pub nexts_few : (r : ℕ) → r < n → IsMarked marks r → get_or nexts r 0 ≤ n
   nexts_few r l m = let t = h.all r l m in next_few (λ q. get_or nexts q 0) n (get_or heads t.0 0) (h.rows t.0) (rows_few t.0 t.1) (h.leads t.0 t.1) r t.2
 
--- how many rows aren't marked, one row more
-pub unmarked_skip : (marks : List Bool) (n : ℕ) → IsMarked marks n → unmarked_below marks (n + 1) ≡ unmarked_below marks n
-unmarked_skip marks n m =
+-- how many aren't marked, one turn more
+pub unmarked_next : (marks : List Bool) (z : Sizes) (n count : ℕ) → count ≡ unmarked_before marks z n → count + cond (get_or marks (row_in_turn z n) false) 0 1 ≡ unmarked_before marks z (n + 1)
+unmarked_next marks z n count e =
     let next : n + 1 ≡ suc n = omega arith in
-    let none : unmarked_below marks (suc n) ≡ unmarked_below marks n + 0 = ap (λ (b : Bool). unmarked_below marks n + cond b 0 1) m in
-    let zero_more : unmarked_below marks n + 0 ≡ unmarked_below marks n = omega arith in
-    ap (unmarked_below marks) next ∙ (none ∙ zero_more)
+    ap (λ (k : ℕ). k + cond (get_or marks (row_in_turn z n) false) 0 1) e ∙ sym (ap (unmarked_before marks z) next)
 
-pub unmarked_more : (marks : List Bool) (n : ℕ) → get_or marks n false ≡ false → unmarked_below marks (n + 1) ≡ unmarked_below marks n + 1
-unmarked_more marks n m =
-    let next : n + 1 ≡ suc n = omega arith in
-    let one : unmarked_below marks (suc n) ≡ unmarked_below marks n + 1 = ap (λ (b : Bool). unmarked_below marks n + cond b 0 1) m in
-    ap (unmarked_below marks) next ∙ one
+-- the cells of no row yet
+pub notes_none : (w : Place → ℕ) (count : ℕ) (marks : List Bool) (nexts : List ℕ) (z : Sizes) → Notes w count marks nexts nexts z 0
+notes_none w count marks nexts z = record { next = λ r l t. absurd (omega arith); place = λ r l t. absurd (omega arith); rest = λ r l. refl }
 
 -- the cells of one row more
-pub notes_none : (w : Place → ℕ) (count : ℕ) (marks : List Bool) (nexts : List ℕ) → Notes w count marks nexts nexts 0
-notes_none w count marks nexts = record { next = λ r l. absurd (omega arith); place = λ r l. absurd (omega arith); rest = λ r l. refl }
+module _ (w : Place → ℕ) (count : ℕ) (marks : List Bool) (nexts cells more : List ℕ) (z : Sizes) (n row : ℕ) (is : row ≡ row_in_turn z n) (h : Notes w count marks nexts cells z n)
+    (next : IsMarked marks row → told_by (w (Next row)) (get_or more row 0) ≡ get_or cells row 0)
+    (place : get_or marks row false ≡ false → get_or more row 0 ≡ 4294967295 → (unmarked_before marks z n < count) × (w (FreePlace (unmarked_before marks z n)) ≡ row))
+    (others : (r : ℕ) → r ≢ row → get_or more r 0 ≡ get_or cells r 0) where
+  turn_is : row_in_turn z row ≡ n
+  turn_is = ap (row_in_turn z) is ∙ turn_back z n
 
-module _ (w : Place → ℕ) (count : ℕ) (marks : List Bool) (nexts cells more : List ℕ) (n : ℕ) (h : Notes w count marks nexts cells n)
-    (next : IsMarked marks n → told_by (w (Next n)) (get_or more n 0) ≡ get_or cells n 0)
-    (place : get_or marks n false ≡ false → get_or more n 0 ≡ 4294967295 → (unmarked_below marks n < count) × (w (FreePlace (unmarked_below marks n)) ≡ n))
-    (others : (r : ℕ) → r ≢ n → get_or more r 0 ≡ get_or cells r 0) where
-  before : (r : ℕ) → r < n → get_or more r 0 ≡ get_or cells r 0
-  before r l = others r (λ e. omega arith)
+  other : (r : ℕ) → row_in_turn z r ≢ n → get_or more r 0 ≡ get_or cells r 0
+  other r not = others r (λ e. not (ap (row_in_turn z) e ∙ turn_is))
 
-  pub notes_more : Notes w count marks nexts more (n + 1)
+  before : (r : ℕ) → row_in_turn z r < n → get_or more r 0 ≡ get_or cells r 0
+  before r l = other r (λ e. omega arith)
+
+  this : (r : ℕ) → n ≤ row_in_turn z r → row_in_turn z r < n + 1 → row ≡ r
+  this r past l = is ∙ turn_same z n r (omega arith)
+
+  pub notes_more : Notes w count marks nexts more z (n + 1)
   notes_more = record {
-    next = λ r l m. ⊎_elim (λ less. ap (told_by (w (Next r))) (before r less) ∙ h.next r less m)
-        (λ past. let e : n ≡ r = omega arith in subst (λ (q : ℕ). IsMarked marks q → told_by (w (Next q)) (get_or more q 0) ≡ get_or nexts q 0) e (λ k. next k ∙ h.rest n (omega arith)) m) (cases_lt r n);
-    place = λ r l not is. ⊎_elim (λ less. h.place r less not (sym (before r less) ∙ is))
-        (λ past. let e : n ≡ r = omega arith in subst (λ (q : ℕ). get_or marks q false ≡ false → get_or more q 0 ≡ 4294967295 → (unmarked_below marks q < count) × (w (FreePlace (unmarked_below marks q)) ≡ q)) e place not is) (cases_lt r n);
-    rest = λ r l. others r (λ e. omega arith) ∙ h.rest r (omega arith);
+    next = λ r l t m. ⊎_elim (λ less. ap (told_by (w (Next r))) (before r less) ∙ h.next r l less m)
+        (λ past. subst (λ (q : ℕ). IsMarked marks q → told_by (w (Next q)) (get_or more q 0) ≡ get_or nexts q 0) (this r past t) (λ k. next k ∙ h.rest row (let e = turn_is in omega arith)) m) (cases_lt (row_in_turn z r) n);
+    place = λ r l t not is. ⊎_elim (λ less. h.place r l less not (sym (before r less) ∙ is))
+        (λ past. subst (λ (q : ℕ). get_or marks q false ≡ false → get_or more q 0 ≡ 4294967295 → (place_for marks z q < count) × (w (FreePlace (place_for marks z q)) ≡ q)) (this r past t)
+        (subst (λ (j : ℕ). get_or marks row false ≡ false → get_or more row 0 ≡ 4294967295 → (unmarked_before marks z j < count) × (w (FreePlace (unmarked_before marks z j)) ≡ row)) (sym turn_is) place) not is) (cases_lt (row_in_turn z r) n);
+    rest = λ r l. other r (λ e. omega arith) ∙ h.rest r (omega arith);
   }
 
 -- what was worked out stays so while words are loaded again
@@ -105,7 +110,7 @@ module _ (c : Sweep) (a : Seat (Unit {0}) NodeView) (i n : ℕ) (marks : List Bo
 -- and it is noted which words it changes
 module _ (c : Sweep) (a : Seat (Unit {0}) NodeView) (i n : ℕ) (marks : List Bool) (nexts heads : List ℕ) (live buckets : ℕ) (h : IsWorkedOut c a i n marks nexts heads live buckets)
     (b : Seat (Unit {0}) NodeView) (j m : ℕ) (d : Seat (Unit {0}) NodeView) (k l : ℕ) (first : LoadsAgain c a i n b j m) (second : LoadsAgain c b j m d k l) (at : HasGathered c d k l)
-    (cells tails : List ℕ) (notes : Notes (words_of a) c.count marks nexts cells (sizes_of c).rows) (tells : (x : ℕ) → x < buckets → told_by (words_of b (Bucket x)) (get_or tails x 0) ≡ get_or heads x 0) where
+    (cells tails : List ℕ) (notes : Notes (words_of a) c.count marks nexts cells (sizes_of c) (sizes_of c).rows) (tells : (x : ℕ) → x < buckets → told_by (words_of b (Bucket x)) (get_or tails x 0) ≡ get_or heads x 0) where
   both : LoadsAgain c a i n d k l
   both = again_in_turn c a i n b j m d k l first second
 
@@ -114,7 +119,7 @@ module _ (c : Sweep) (a : Seat (Unit {0}) NodeView) (i n : ℕ) (marks : List Bo
     new_nexts = nexts;
     new_heads = heads;
     out = out_again c a i n marks nexts heads live buckets h d k l both at;
-    notes = subst (λ (w : Place → ℕ). Notes w c.count marks nexts cells (sizes_of c).rows) (sym both.words) notes;
+    notes = subst (λ (w : Place → ℕ). Notes w c.count marks nexts cells (sizes_of c) (sizes_of c).rows) (sym both.words) notes;
     heads_are = λ x less. subst (λ (w : Place → ℕ). told_by (w (Bucket x)) (get_or tails x 0) ≡ get_or heads x 0) (sym second.words) (tells x less);
   }
 

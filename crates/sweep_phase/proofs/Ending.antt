@@ -1,15 +1,14 @@
 -- A collection that has stored what it worked out may end.
-use Rattle.std.proofs.Common.{◌≡◌, ◌≢◌, ◌⊎◌, ℕ, zero, suc, pred, ◌+◌, ◌<◌, ◌≤◌, Bool, true, false, cond, Option, None, Some, List, [], ◌∷◌, ◌++◌, length, get_or, refl, sym, ap, ◌∙◌, subst, ⊎_elim, inl, inr, arith, true≢false}
+use Rattle.std.proofs.Common.{◌≡◌, ℕ, zero, suc, ◌+◌, ◌<◌, ◌≤◌, Bool, true, false, Option, None, Some, List, [], ◌∷◌, length, get_or, refl, sym, ap, ◌∙◌, subst, ⊎_elim, arith, true≢false}
 use Rattle.std.proofs.lemmas.Bool.{cases_lt, le-ltb}
 use Rattle.std.proofs.lemmas.List.{get_or_past}
 use Rattle.atomic_table.specs.declared.shared.Seat.{Seat}
 use Rattle.store_core.specs.declared.view.Sizes.{Sizes}
 use Rattle.store_core.specs.declared.view.View.{View}
 use Rattle.store_core.specs.declared.view.Content.{Content}
-use Rattle.store_core.specs.declared.view.Call.{Call}
 use Rattle.store_core.specs.declared.view.Place.{Place}
-use Rattle.store_core.specs.declared.view.Place.TheVariants.{Base, FreeCount, Claim, InUse, FreePlace, Bucket, RowWord, Birth, Next, RootCount, Root}
-use Rattle.store_core.specs.Words.{RowWords, row_at, same_place, write}
+use Rattle.store_core.specs.declared.view.Place.TheVariants.{Base, FreeCount, Claim, InUse, FreePlace, Bucket, RowWord, Next, RootCount, Root}
+use Rattle.store_core.specs.Words.{row_at, same_place}
 use Rattle.store_core.specs.Machine.{State, Each, In, widest}
 use Rattle.store_core.specs.Meaning.{Linked}
 use Rattle.store_core.specs.Invariant.{Holds}
@@ -17,8 +16,8 @@ use Rattle.store_core.specs.Marks.{IsMarked, MarksReached, MarksFree}
 use Rattle.store_core.specs.MarkedChains.{HasContent, StandsIn, IsChained, IsNoted, UsesBuckets, ChainsMarked}
 use Rattle.store_core.specs.Ending.{Keeps, BaseFollows, UseFollows}
 use Rattle.store_core.specs.Shown.{in_table}
-use Rattle.store_core.specs.Steps.{loads, stores, stored_over, value_at, is_stored, is_storing, ReachesByWords, protected_row, argument_row, grown_use, names_left, MayEnd, CoreHolds}
-use Rattle.store_core.specs.ByView.{seen_at, IsLoaded, HasAll}
+use Rattle.store_core.specs.Steps.{loads, stores, stored_over, value_at, is_stored, is_storing, ReachesByWords, protected_row, argument_row, grown_use, MayEnd, CoreHolds}
+use Rattle.store_core.specs.ByView.{seen_at, IsLoaded}
 use Rattle.store_core.specs.StoreHolds.{StoreHolds}
 use Rattle.store_core.proofs.Basics.{choose, each_map, same_is}
 use Rattle.store_core.proofs.ByWords.{value_is}
@@ -29,12 +28,12 @@ use Rattle.store_core.proofs.Showing.{collection_sees}
 use Rattle.node_rows.specs.declared.view.NodeView.{NodeView}
 use Rattle.node_rows.specs.Collecting.{or_zero, HasSeen, MayEndBy}
 use Rattle.sweep_phase.specs.declared.sweep.Sweep.{Sweep}
-use Rattle.sweep_phase.specs.Loaded.{found, FitsRows}
 use Rattle.sweep_phase.specs.Gathered.{sizes_of, loads_of, words_of}
 use Rattle.sweep_phase.specs.Chained.{LeadsTo, Belongs}
 use Rattle.sweep_phase.specs.Stored.{seen_of, ArePlaced}
-use Rattle.sweep_phase.specs.Collected.{HasStored, HasSwept}
+use Rattle.sweep_phase.specs.Collected.{HasSwept}
 use Rattle.sweep_phase.proofs.Left.{opposite, opposite_marks, free_marks, count_left}
+use Rattle.sweep_phase.proofs.Placing.{placed_like}
 use Rattle.sweep_phase.proofs.Sound.{spelled_count, spelled_few}
 
 -- a word that was loaded is seen
@@ -162,19 +161,15 @@ module _ (c : Sweep) (a : Seat (Unit {0}) NodeView) (i n : ℕ) (marks : List Bo
     place_is : (q : ℕ) → q < h.count → u (FreePlace q) ≡ seen_of a (FreePlace q)
     place_is q l = sees (FreePlace q) (h.stored.seen_places q l)
 
-    placed : ArePlaced (λ q. u (FreePlace q)) marks z.rows (u FreeCount)
-    placed = let p = h.stored.placed in let e = count_is in record {
-      below = λ q l. (let m : q < h.count = omega arith in let a = place_is q m in let b = p.below q m in omega arith);
-      free = λ q l. (let m : q < h.count = omega arith in ap (λ (t : ℕ). get_or marks t false) (place_is q m) ∙ p.free q m);
-      ascend = λ q t l m. (let less : t < h.count = omega arith in let a = place_is q (omega arith) in let b = place_is t less in let d = p.ascend q t l less in omega arith);
-      all = λ r l not. (let t = p.all r l not in (t.0, (let m = t.1 in omega arith), place_is t.0 t.1 ∙ t.2));
-    }
+    placed : ArePlaced (λ q. u (FreePlace q)) marks z z.rows (u FreeCount)
+    placed = subst (ArePlaced (λ q. u (FreePlace q)) marks z z.rows) (sym count_is)
+        (placed_like (λ q. seen_of a (FreePlace q)) (λ q. u (FreePlace q)) marks z z.rows h.count place_is h.stored.placed)
 
     free : MarksFree z u (opposite marks)
     free = record {
       few = (let e = count_is in let f = h.stored.few in omega arith);
       there = placed.below;
-      places = free_marks (λ q. u (FreePlace q)) marks z.rows (u FreeCount) placed h.stored.reached.size;
+      places = free_marks (λ q. u (FreePlace q)) marks z (u FreeCount) placed h.stored.reached.size;
     }
 
     -- the chains
@@ -251,7 +246,7 @@ module _ (c : Sweep) (a : Seat (Unit {0}) NodeView) (i n : ℕ) (marks : List Bo
       places = free;
       opposite = opposite_marks marks;
       chains = chains;
-      count = h.stored.live_is ∙ sym (count_left (λ q. u (FreePlace q)) marks z.rows (u FreeCount) placed h.stored.reached.size);
+      count = h.stored.live_is ∙ sym (count_left (λ q. u (FreePlace q)) marks z (u FreeCount) placed h.stored.reached.size);
     }
 
     base_follows : BaseFollows u (loads (s.view i).call)

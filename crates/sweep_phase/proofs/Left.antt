@@ -1,10 +1,10 @@
 -- The rows that aren't marked stand in the free places, and the others are left.
-use Rattle.std.proofs.Common.{◌≡◌, ◌≢◌, ◌⊎◌, ℕ, zero, suc, ◌+◌, ◌<◌, ◌≤◌, Bool, true, false, cond, List, [], ◌∷◌, ◌++◌, length, get_or, refl, sym, ap, ◌∙◌, subst, ⊎_elim, inl, inr, arith, true≢false}
+use Rattle.std.proofs.Common.{◌≡◌, ◌≢◌, ℕ, zero, suc, ◌+◌, ◌<◌, ◌≤◌, Bool, true, false, List, [], ◌∷◌, ◌++◌, length, get_or, refl, sym, ap, ◌∙◌, subst, ⊎_elim, arith, true≢false}
 use Rattle.std.specs.Prelude.{Contains}
 use Rattle.std.proofs.lemmas.Bool.{cases_lt}
-use Rattle.std.proofs.lemmas.List.{length_push}
 use Rattle.std.proofs.lemmas.List.Elements.{Contains-push, Contains-push_cases, Contains-append_left}
 use Rattle.history_core.proofs.Members.{contains_none}
+use Rattle.store_core.specs.declared.view.Sizes.{Sizes}
 use Rattle.store_core.specs.Marks.{IsMarked, MarksPlaces, AreOpposite}
 use Rattle.store_core.specs.Steps.{is_free, rows_left}
 use Rattle.store_core.proofs.Basics.{choose}
@@ -13,6 +13,7 @@ use Rattle.store_core.proofs.MarkedPlaces.{left_more, left_same}
 use Rattle.sweep_phase.specs.Marked.{marked_below}
 use Rattle.sweep_phase.specs.Stored.{ArePlaced}
 use Rattle.sweep_phase.proofs.Reaches.{counts_more, counts_same}
+use Rattle.sweep_phase.proofs.Turning.{turn_below}
 
 abbrev pub flip : Bool → Bool
 flip true = false
@@ -42,19 +43,19 @@ opposite_marks bs r l e = not_flip (get_or bs r false) (e ∙ opposite_at bs r l
 free_here : (place : ℕ → ℕ) (n i : ℕ) → i < n → is_free place n (place i) ≡ true
 free_here place n i l = ⊎_elim (λ e. e) (λ e. absurd (free_none place n (place i) e i l refl)) (by_bool (is_free place n (place i)))
 
-module _ (place : ℕ → ℕ) (marks : List Bool) (rows n : ℕ) (h : ArePlaced place marks rows n) (size : length marks ≡ rows) where
+module _ (place : ℕ → ℕ) (marks : List Bool) (z : Sizes) (n : ℕ) (h : ArePlaced place marks z z.rows n) (size : length marks ≡ z.rows) where
   -- a row is in a free place exactly where it isn't marked
-  pub free_is : (r : ℕ) → r < rows → is_free place n r ≡ flip (get_or marks r false)
+  pub free_is : (r : ℕ) → r < z.rows → is_free place n r ≡ flip (get_or marks r false)
   free_is r l = ⊎_elim
       (λ m. ⊎_elim (λ f. let t = free_some place n r f in absurd (true≢false (sym m ∙ (ap (λ (q : ℕ). get_or marks q false) (sym t.2) ∙ h.free t.0 t.1)))) (λ f. f ∙ ap flip (sym m)) (by_bool (is_free place n r)))
-      (λ m. let t = h.all r l m in (ap (is_free place n) (sym t.2) ∙ free_here place n t.0 t.1) ∙ ap flip (sym m)) (by_bool (get_or marks r false))
+      (λ m. let t = h.all r l (turn_below z r l) m in (ap (is_free place n) (sym t.2) ∙ free_here place n t.0 t.1) ∙ ap flip (sym m)) (by_bool (get_or marks r false))
 
   place_differ : (i j : ℕ) → i < n → j < n → place i ≡ place j → i ≡ j
   place_differ i j a b same = ⊎_elim
-      (λ l. absurd (let c = h.ascend i j l b in omega arith))
-      (λ past. ⊎_elim (λ l. absurd (let c = h.ascend j i l a in omega arith)) (λ q. omega arith) (cases_lt j i)) (cases_lt i j)
+      (λ l. absurd (h.differ i j l b same))
+      (λ past. ⊎_elim (λ l. absurd (h.differ j i l a (sym same))) (λ q. omega arith) (cases_lt j i)) (cases_lt i j)
 
-  pub free_marks : MarksPlaces place n rows (opposite marks)
+  pub free_marks : MarksPlaces place n z.rows (opposite marks)
   free_marks = record {
     size = opposite_length marks ∙ size;
     marked = λ r l. opposite_at marks r (omega arith) ∙ sym (free_is r l);
@@ -62,7 +63,7 @@ module _ (place : ℕ → ℕ) (marks : List Bool) (rows n : ℕ) (h : ArePlaced
   }
 
   -- as many are left as are marked
-  left_count : (k : ℕ) → k ≤ rows → length (rows_left place n k) ≡ marked_below marks k
+  left_count : (k : ℕ) → k ≤ z.rows → length (rows_left place n k) ≡ marked_below marks k
   left_count zero l = refl
   left_count (suc k) l =
       let rest = left_count k (omega arith) in
@@ -73,8 +74,8 @@ module _ (place : ℕ → ℕ) (marks : List Bool) (rows n : ℕ) (h : ArePlaced
       (λ m. let is : is_free place n k ≡ true = free_is k (omega arith) ∙ ap flip m in
       subst (λ (q : ℕ). length (rows_left place n q) ≡ marked_below marks q) next (left_same place n k is ∙ (rest ∙ counts_same marks k m))) (by_bool (get_or marks k false))
 
-  pub count_left : length (rows_left place n rows) ≡ marked_below marks rows
-  count_left = left_count rows (omega arith)
+  pub count_left : length (rows_left place n z.rows) ≡ marked_below marks z.rows
+  count_left = left_count z.rows (omega arith)
 
   left_has : (k r : ℕ) → r < k → is_free place n r ≡ false → Contains (rows_left place n k) r
   left_has zero r l e = absurd (omega arith)
@@ -93,8 +94,8 @@ module _ (place : ℕ → ℕ) (marks : List Bool) (rows n : ℕ) (h : ArePlaced
   flip_false false e = absurd (true≢false e)
 
   -- and they are those
-  pub left_marked : (inside : (r : ℕ) → IsMarked marks r → r < rows) (r : ℕ) → (IsMarked marks r → Contains (rows_left place n rows) r) × (Contains (rows_left place n rows) r → IsMarked marks r)
+  pub left_marked : (inside : (r : ℕ) → IsMarked marks r → r < z.rows) (r : ℕ) → (IsMarked marks r → Contains (rows_left place n z.rows) r) × (Contains (rows_left place n z.rows) r → IsMarked marks r)
   left_marked inside r = (
-    λ m. left_has rows r (inside r m) (free_is r (inside r m) ∙ ap flip m),
-    λ c. let t = left_only rows r c in flip_false (get_or marks r false) (sym (free_is r t.0) ∙ t.1),
+    λ m. left_has z.rows r (inside r m) (free_is r (inside r m) ∙ ap flip m),
+    λ c. let t = left_only z.rows r c in flip_false (get_or marks r false) (sym (free_is r t.0) ∙ t.1),
   )

@@ -6,6 +6,8 @@ pub mod Sound
 pub mod Reaches
 pub mod Chains
 pub mod Writes
+pub mod Turning
+pub mod Placing
 pub mod Left
 pub mod Ending
 pub mod Compares

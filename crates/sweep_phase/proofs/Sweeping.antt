@@ -1,38 +1,35 @@
 -- From what a collection has worked out to its end.
-use Rattle.std.proofs.Common.{◌≡◌, ◌≢◌, ◌⊎◌, ◌↔◌, ℕ, zero, suc, pred, ◌+◌, ◌<◌, ◌≤◌, Bool, true, false, cond, Option, Some, List, [], ◌∷◌, ◌++◌, length, get_or, refl, sym, ap, ◌∙◌, subst, ⊎_elim, inl, inr, arith, true≢false}
-use Rattle.std.specs.Prelude.{Contains}
+use Rattle.std.proofs.Common.{◌≡◌, ℕ, suc, pred, ◌+◌, ◌<◌, ◌≤◌, Bool, true, false, List, get_or, refl, sym, ap, ◌∙◌, subst, arith, true≢false}
 use Rattle.std.proofs.lemmas.Bool.{le-ltb}
 use Rattle.atomic_table.specs.declared.shared.Seat.{Seat}
 use Rattle.busy_forbidden.specs.Calls.{IsSame}
 use Rattle.history_core.specs.Entry.{IsAscending}
-use Rattle.store_core.specs.declared.view.Sizes.{Sizes}
-use Rattle.store_core.specs.declared.view.View.{View}
 use Rattle.store_core.specs.declared.view.Call.{Call}
 use Rattle.store_core.specs.declared.view.Call.TheVariants.{Loading}
 use Rattle.store_core.specs.declared.view.Place.{Place}
 use Rattle.store_core.specs.declared.view.Place.TheVariants.{Base, FreeCount, Claim, InUse, FreePlace, Bucket, RowWord, Birth, Next, RootCount, Root}
 use Rattle.store_core.specs.Collection.{collected}
-use Rattle.store_core.specs.Machine.{Each, In, with_call}
+use Rattle.store_core.specs.Machine.{Each}
 use Rattle.store_core.specs.Marks.{IsMarked, MarksReached}
-use Rattle.store_core.specs.Steps.{loads, stores, value_at, is_stored, is_storing, grown_use, names_left}
+use Rattle.store_core.specs.Steps.{loads, stores, value_at, is_stored, grown_use, names_left}
 use Rattle.store_core.specs.ByView.{HasAll, StoresNext, seen_at}
 use Rattle.store_core.specs.Shown.{in_table}
 use Rattle.store_core.proofs.Basics.{each_map}
 use Rattle.node_rows.specs.declared.view.NodeView.{NodeView}
-use Rattle.node_rows.specs.Collecting.{or_zero, word_seen, ended_by, HasSeen, IsKept}
+use Rattle.node_rows.specs.Collecting.{or_zero, ended_by, HasSeen, IsKept}
 use Rattle.node_rows.specs.Crowding.{kept_in, swept}
 use Rattle.node_rows.specs.Steps.{Known}
 use Rattle.sweep_phase.specs.declared.sweep.Sweep.{Sweep}
 use Rattle.sweep_phase.specs.Loaded.{begun, found}
-use Rattle.sweep_phase.specs.Gathered.{sizes_of, loads_of, words_of, StaysSeat, HasGathered, LoadsAgain}
-use Rattle.sweep_phase.specs.Marked.{marked_below}
-use Rattle.sweep_phase.specs.Chained.{LeadsTo, Belongs, ChainsTo}
+use Rattle.sweep_phase.specs.Gathered.{sizes_of, loads_of, words_of, StaysSeat, HasGathered}
+use Rattle.sweep_phase.specs.Chained.{LeadsTo, Belongs}
 use Rattle.sweep_phase.specs.Stored.{seen_of, Stores, StoresMore, ArePlaced, is_next, is_head, is_place, is_number}
 use Rattle.sweep_phase.specs.Collected.{IsWorkedOut, HasStored, HasSwept, Ends}
 use Rattle.sweep_phase.proofs.Chains.{leads_same}
 use Rattle.sweep_phase.proofs.Ending.{inside_marks}
 use Rattle.sweep_phase.proofs.Left.{count_left, left_marked}
-use Rattle.sweep_phase.proofs.Sound.{no_head_beyond, use_is}
+use Rattle.sweep_phase.proofs.Placing.{placed_like}
+use Rattle.sweep_phase.proofs.Sound.{no_head_beyond}
 
 -- a collection that has loaded all words may store
 pub gathered_stores : (c : Sweep) (a : Seat (Unit {0}) NodeView) (i n : ℕ) → HasGathered c a i n → Stores c a i n
@@ -105,7 +102,7 @@ module _ (c : Sweep) (a : Seat (Unit {0}) NodeView) (i n : ℕ) (marks : List Bo
     (first : StoresMore a i n b j m) (second : StoresMore b j m d k l) (third : StoresMore d k l e o q) (at : Stores c e o q)
     (next_is : (r : ℕ) → r < (sizes_of c).rows → IsMarked marks r → seen_of b (Next r) ≡ get_or nexts r 0) (next_others : (p : Place) → is_next p ≡ false → seen_of b p ≡ seen_of a p)
     (head_is : (x : ℕ) → x < buckets → seen_of d (Bucket x) ≡ get_or heads x 0) (head_others : (p : Place) → is_head buckets p ≡ false → seen_of d p ≡ seen_of b p)
-    (placed : ArePlaced (λ x. seen_of e (FreePlace x)) marks (sizes_of c).rows count) (has : (x : ℕ) → x < count → HasSeen e.me.0.store (FreePlace x)) (few : count ≤ (sizes_of c).rows) (place_others : (p : Place) → is_place p ≡ false → seen_of e p ≡ seen_of d p) where
+    (placed : ArePlaced (λ x. seen_of e (FreePlace x)) marks (sizes_of c) (sizes_of c).rows count) (has : (x : ℕ) → x < count → HasSeen e.me.0.store (FreePlace x)) (few : count ≤ (sizes_of c).rows) (place_others : (p : Place) → is_place p ≡ false → seen_of e p ≡ seen_of d p) where
   loads_same : loads_of e ≡ loads_of a
   loads_same = third.loads ∙ (second.loads ∙ first.loads)
 
@@ -164,12 +161,7 @@ module _ (c : Sweep) (a : Seat (Unit {0}) NodeView) (i n : ℕ) (marks : List Bo
     belong = λ x l. subst (λ (w : Place → ℕ). Each (Belongs w marks buckets (sizes_of c).rows x) (h.rows x)) (sym same_words) (h.belong x l);
     chained = h.chained;
     beyond = λ x past less. others (Bucket x) refl ∙ h.beyond x past less;
-    placed = record {
-      below = λ x l. (let e = others (FreePlace x) refl in let f = h.placed.below x l in omega arith);
-      free = λ x l. ap (λ (t : ℕ). get_or marks t false) (others (FreePlace x) refl) ∙ h.placed.free x l;
-      ascend = λ x y l less. (let e = others (FreePlace x) refl in let f = others (FreePlace y) refl in let g = h.placed.ascend x y l less in omega arith);
-      all = λ r l free. (let t = h.placed.all r l free in (t.0, t.1, others (FreePlace t.0) refl ∙ t.2));
-    };
+    placed = placed_like (λ x. seen_of a (FreePlace x)) (λ x. seen_of b (FreePlace x)) marks (sizes_of c) (sizes_of c).rows count (λ x l. others (FreePlace x) refl) h.placed;
     seen_places = λ x l. more.seen (FreePlace x) (h.seen_places x l);
     few = h.few;
     others = λ p is. others p (not_number p is) ∙ (h.others p is ∙ ap (λ (w : Place → ℕ). w p) (sym same_words));
@@ -190,8 +182,8 @@ module _ (c : Sweep) (a : Seat (Unit {0}) NodeView) (i n : ℕ) (marks : List Bo
   place : ℕ → ℕ
   place k = seen_of a (FreePlace k)
 
-  placed : ArePlaced (λ k. seen_of a (FreePlace k)) marks (sizes_of c).rows (seen_of a FreeCount)
-  placed = subst (λ (k : ℕ). ArePlaced (λ x. seen_of a (FreePlace x)) marks (sizes_of c).rows k) (sym h.count_is) h.stored.placed
+  placed : ArePlaced (λ k. seen_of a (FreePlace k)) marks (sizes_of c) (sizes_of c).rows (seen_of a FreeCount)
+  placed = subst (λ (k : ℕ). ArePlaced (λ x. seen_of a (FreePlace x)) marks (sizes_of c) (sizes_of c).rows k) (sym h.count_is) h.stored.placed
 
   pub swept_ends : Ends c a i n b j m marks live buckets
   swept_ends = record {
@@ -199,14 +191,14 @@ module _ (c : Sweep) (a : Seat (Unit {0}) NodeView) (i n : ℕ) (marks : List Bo
     number = number;
     seats = seats;
     kept = names_left (sizes_of c) (seen_of a);
-    live_is = h.stored.live_is ∙ sym (count_left (λ k. seen_of a (FreePlace k)) marks (sizes_of c).rows (seen_of a FreeCount) placed h.stored.reached.size);
+    live_is = h.stored.live_is ∙ sym (count_left (λ k. seen_of a (FreePlace k)) marks (sizes_of c) (seen_of a FreeCount) placed h.stored.reached.size);
     buckets_are = h.stored.buckets_are ∙ ap (λ (k : ℕ). grown_use (sizes_of c) k live) h.stored.use_is;
     view = view ∙ (ap (λ (k : ℕ). swept a.me.0 (collected a.me.0.store k (pred k) (seen_of a InUse) (names_left (sizes_of c) (seen_of a))) b.me.0.crowd) h.base
         ∙ (ap (λ (k : ℕ). swept a.me.0 (collected a.me.0.store (c.base + c.claim + 1) k (seen_of a InUse) (names_left (sizes_of c) (seen_of a))) b.me.0.crowd) (pred_more (c.base + c.claim))
         ∙ ap (λ (k : ℕ). swept a.me.0 (collected a.me.0.store (c.base + c.claim + 1) (c.base + c.claim) k (names_left (sizes_of c) (seen_of a))) b.me.0.crowd) h.in_use));
     crowd = crowd;
     ascends = ascends;
-    marked = λ r. left_marked (λ k. seen_of a (FreePlace k)) marks (sizes_of c).rows (seen_of a FreeCount) placed h.stored.reached.size (λ q y. let s = inside_marks marks q y in let t = h.stored.reached.size in omega arith) r;
+    marked = λ r. left_marked (λ k. seen_of a (FreePlace k)) marks (sizes_of c) (seen_of a FreeCount) placed h.stored.reached.size (λ q y. let s = inside_marks marks q y in let t = h.stored.reached.size in omega arith) r;
     size = h.stored.reached.size;
     known = known;
   }

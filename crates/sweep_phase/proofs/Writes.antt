@@ -1,34 +1,29 @@
 -- A store of a collection, and what it changes of the words that were seen.
-use Rattle.std.proofs.Common.{◌≡◌, ◌≢◌, ◌⊎◌, ℕ, zero, suc, ◌+◌, ◌<◌, ◌≤◌, eqb, Bool, true, false, cond, Option, None, Some, List, [], ◌∷◌, ◌++◌, length, get_or, refl, sym, ap, ◌∙◌, subst, ⊎_elim, inl, inr, arith, true≢false, ne_eqb}
-use Rattle.std.specs.Prelude.{nat_lt}
+use Rattle.std.proofs.Common.{◌≡◌, ℕ, ◌+◌, ◌<◌, ◌≤◌, Bool, true, false, cond, Option, Some, List, ◌∷◌, get_or, refl, sym, ap, ◌∙◌, subst, ⊎_elim, arith, true≢false, ne_eqb}
 use Rattle.std.proofs.lemmas.Bool.{cases_lt, lt-ltb}
 use mathlib.Core.Path.{fun_ext}
 use Rattle.atomic_table.specs.declared.shared.Seat.{Seat}
 use Rattle.busy_forbidden.specs.Calls.{IsSame}
-use Rattle.store_core.specs.declared.view.Sizes.{Sizes}
-use Rattle.store_core.specs.declared.view.View.{View}
 use Rattle.store_core.specs.declared.view.Call.{Call}
 use Rattle.store_core.specs.declared.view.Call.TheVariants.{Storing}
 use Rattle.store_core.specs.declared.view.Place.{Place}
 use Rattle.store_core.specs.declared.view.Place.TheVariants.{Base, FreeCount, Claim, InUse, FreePlace, Bucket, RowWord, Birth, Next, RootCount, Root}
 use Rattle.store_core.specs.Words.{same_place, write}
-use Rattle.store_core.specs.Machine.{StoreAny, with_call, Each}
+use Rattle.store_core.specs.Machine.{StoreAny, Each}
 use Rattle.store_core.specs.Marks.{IsMarked}
 use Rattle.store_core.specs.Shown.{in_table, index_of}
-use Rattle.store_core.specs.Steps.{loads, stores, is_stored, is_storing, value_at}
+use Rattle.store_core.specs.Steps.{loads, stores, is_stored, is_storing}
 use Rattle.store_core.specs.ByView.{seen_at, StoresNext}
-use Rattle.store_core.proofs.Basics.{choose, same_is}
 use Rattle.node_rows.specs.declared.view.NodeView.{NodeView}
-use Rattle.node_rows.specs.Collecting.{or_zero, word_seen, stored_any, HasSeen, MayCollect}
+use Rattle.node_rows.specs.Collecting.{or_zero, stored_any, HasSeen, MayCollect}
 use Rattle.node_rows.specs.Steps.{with_store}
 use Rattle.sweep_phase.specs.declared.sweep.Sweep.{Sweep}
-use Rattle.sweep_phase.specs.Gathered.{sizes_of, loads_of, IsAlone, StaysSeat}
+use Rattle.sweep_phase.specs.Gathered.{sizes_of, loads_of, StaysSeat}
 use Rattle.sweep_phase.specs.Read.{stays_itself, stays_in_turn}
 use Rattle.sweep_phase.specs.Compared.{told_by}
-use Rattle.sweep_phase.specs.Stored.{seen_of, Stores, StoresMore, is_next, is_head, is_place, is_number, ArePlaced}
+use Rattle.sweep_phase.specs.Stored.{seen_of, Stores, StoresMore, is_next, is_head, is_place, is_number}
 use Rattle.sweep_phase.proofs.Values.{same_itself}
 use Rattle.sweep_phase.proofs.Loads.{alone_on, stays_by}
-use Rattle.sweep_phase.proofs.Gathering.{below_more}
 
 zero_in : (b : Bool) (n : ℕ) (o : Option ℕ) → or_zero (cond b (Some n) o) ≡ cond b n (or_zero o)
 zero_in true n o = refl
@@ -152,36 +147,12 @@ module _ (w u v : Place → ℕ) (b n used : ℕ) (below : b < used) (e : v ≡ 
   heads_rest f c l = written_other v u (Bucket b) n e (Bucket c) (ne_eqb c b (λ same. let a : c ≡ b = same in omega arith)) ∙ f c (omega arith)
 
 -- one free place more
-pub placed_none : (place : ℕ → ℕ) (marks : List Bool) → ArePlaced place marks 0 0
-placed_none place marks = record { below = λ i l. absurd (omega arith); free = λ i l. absurd (omega arith); ascend = λ i j l m. absurd (omega arith); all = λ r l. absurd (omega arith) }
+module _ (u v : Place → ℕ) (n k : ℕ) (e : v ≡ write u (FreePlace k) n) where
+  pub place_here : v (FreePlace k) ≡ n
+  place_here = written_here v u (FreePlace k) n e
 
-pub placed_same : (place : ℕ → ℕ) (marks : List Bool) (n k : ℕ) → IsMarked marks n → ArePlaced place marks n k → ArePlaced place marks (n + 1) k
-placed_same place marks n k m h = record {
-  below = λ i l. let a = h.below i l in omega arith;
-  free = h.free;
-  ascend = h.ascend;
-  all = λ r l not. ⊎_elim (λ less. h.all r less not) (λ past. let e : n ≡ r = omega arith in absurd (true≢false (sym m ∙ (ap (λ (q : ℕ). get_or marks q false) e ∙ not)))) (cases_lt r n);
-}
-
-module _ (u v : Place → ℕ) (marks : List Bool) (n k : ℕ) (e : v ≡ write u (FreePlace k) n) where
-  here : v (FreePlace k) ≡ n
-  here = written_here v u (FreePlace k) n e
-
-  before : (i : ℕ) → i < k → v (FreePlace i) ≡ u (FreePlace i)
-  before i l = written_other v u (FreePlace k) n e (FreePlace i) (ne_eqb i k (λ same. let a : i ≡ k = same in omega arith))
-
-  pub placed_more : get_or marks n false ≡ false → ArePlaced (λ i. u (FreePlace i)) marks n k → ArePlaced (λ i. v (FreePlace i)) marks (n + 1) (k + 1)
-  placed_more not h = record {
-    below = λ i l. ⊎_elim (λ less. let a = h.below i less in let b = before i less in omega arith) (λ past. let s : i ≡ k = omega arith in let a : v (FreePlace i) ≡ n = ap (λ (q : ℕ). v (FreePlace q)) s ∙ here in omega arith) (cases_lt i k);
-    free = λ i l. ⊎_elim (λ less. ap (λ (q : ℕ). get_or marks q false) (before i less) ∙ h.free i less) (λ past. let s : i ≡ k = omega arith in ap (λ (q : ℕ). get_or marks q false) (ap (λ (q : ℕ). v (FreePlace q)) s ∙ here) ∙ not) (cases_lt i k);
-    ascend = λ i j l m.
-        let less : i < k = omega arith in
-        let a = before i less in
-        ⊎_elim (λ small. let b = before j small in let c = h.ascend i j l small in omega arith)
-        (λ past. let s : j ≡ k = omega arith in let b : v (FreePlace j) ≡ n = ap (λ (q : ℕ). v (FreePlace q)) s ∙ here in let c = h.below i less in omega arith) (cases_lt j k);
-    all = λ r l free. ⊎_elim (λ less. let t = h.all r less free in (t.0, (let a = t.1 in omega arith), before t.0 t.1 ∙ t.2))
-        (λ past. let s : n ≡ r = omega arith in (k, omega arith, here ∙ s)) (cases_lt r n);
-  }
+  pub place_before : (i : ℕ) → i < k → v (FreePlace i) ≡ u (FreePlace i)
+  place_before i l = written_other v u (FreePlace k) n e (FreePlace i) (ne_eqb i k (λ same. let a : i ≡ k = same in omega arith))
 
   pub place_later : (i : ℕ) → k + 1 ≤ i → v (FreePlace i) ≡ u (FreePlace i)
   place_later i l = written_other v u (FreePlace k) n e (FreePlace i) (ne_eqb i k (λ same. let a : i ≡ k = same in omega arith))

@@ -67,7 +67,7 @@ pub record HasStored (c : Sweep) (seat : Seat (Unit {0}) NodeView) (i n : ℕ) (
   pub belong : (b : ℕ) → b < buckets → Each (Belongs (words_of seat) marks buckets (sizes_of c).rows b) (rows b)
   pub chained : (r : ℕ) → IsMarked marks r → (b : ℕ) × (b < buckets) × In r (rows b)
   pub beyond : (b : ℕ) → buckets ≤ b → b < (sizes_of c).buckets → seen_of seat (Bucket b) ≡ 0
-  pub placed : ArePlaced (λ i. seen_of seat (FreePlace i)) marks (sizes_of c).rows count
+  pub placed : ArePlaced (λ i. seen_of seat (FreePlace i)) marks (sizes_of c) (sizes_of c).rows count
   pub seen_places : (k : ℕ) → k < count → HasSeen seat.me.0.store (FreePlace k)
   pub few : count ≤ (sizes_of c).rows
   pub others : (p : Place) → is_stored p ≡ false → seen_of seat p ≡ words_of seat p

@@ -3,6 +3,7 @@ pub mod Gathered
 pub mod Marked
 pub mod Read
 pub mod Chained
+pub mod Turns
 pub mod Stored
 pub mod Collected
 pub mod Compared

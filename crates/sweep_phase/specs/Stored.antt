@@ -1,6 +1,7 @@
 -- A seat whose collection stores words.
-use Rattle.std.specs.Prelude.{◌≡◌, ℕ, ◌<◌, nat_lt, Bool, true, false, List, get_or}
+use Rattle.std.specs.Prelude.{◌≡◌, ◌≢◌, ℕ, ◌<◌, nat_lt, Bool, true, false, List, get_or}
 use Rattle.atomic_table.specs.declared.shared.Seat.{Seat}
+use Rattle.store_core.specs.declared.view.Sizes.{Sizes}
 use Rattle.store_core.specs.declared.view.Place.{Place}
 use Rattle.store_core.specs.declared.view.Place.TheVariants.{Base, FreeCount, InUse, FreePlace, Bucket, Next}
 use Rattle.store_core.specs.Machine.{Each}
@@ -11,6 +12,7 @@ use Rattle.node_rows.specs.declared.view.NodeView.{NodeView}
 use Rattle.node_rows.specs.Collecting.{HasSeen, word_seen}
 use Rattle.sweep_phase.specs.declared.sweep.Sweep.{Sweep}
 use Rattle.sweep_phase.specs.Gathered.{sizes_of, loads_of, IsAlone, StaysSeat}
+use Rattle.sweep_phase.specs.Turns.{row_in_turn}
 
 -- the words, as a collection has stored them, or else loaded them
 abbrev pub seen_of : Seat (Unit {0}) NodeView → Place → ℕ
@@ -48,9 +50,10 @@ is_number FreeCount = true
 is_number InUse = true
 is_number p = false
 
--- the first k free places hold, ascending, the rows among the first n that aren't marked
-pub record ArePlaced (place : ℕ → ℕ) (marks : List Bool) (n k : ℕ) : Type 0 where
-  pub below : (i : ℕ) → i < k → place i < n
+-- the first k free places hold, each once, the rows that aren't marked, of those that come in the first n turns
+pub record ArePlaced (place : ℕ → ℕ) (marks : List Bool) (z : Sizes) (n k : ℕ) : Type 0 where
+  pub below : (i : ℕ) → i < k → place i < z.rows
+  pub turn : (i : ℕ) → i < k → row_in_turn z (place i) < n
   pub free : (i : ℕ) → i < k → get_or marks (place i) false ≡ false
-  pub ascend : (i j : ℕ) → i < j → j < k → place i < place j
-  pub all : (r : ℕ) → r < n → get_or marks r false ≡ false → (i : ℕ) × (i < k) × (place i ≡ r)
+  pub differ : (i j : ℕ) → i < j → j < k → place i ≢ place j
+  pub all : (r : ℕ) → r < z.rows → row_in_turn z r < n → get_or marks r false ≡ false → (i : ℕ) × (i < k) × (place i ≡ r)

@@ -1,13 +1,14 @@
 //! Which words the stores of a collection change: noted in plain memory before it stores any.
-ghost use Rattle.std.specs.Prelude.{◌≡◌, ◌≢◌, ◌<◌, ◌≤◌, ◌+◌, ℕ, false, length, get_or};
+ghost use Rattle.std.specs.Prelude.{◌≡◌, ◌≢◌, ◌<◌, ◌≤◌, ◌+◌, ℕ, false, length, get_or, if◌then◌else◌};
 ghost use Rattle.store_core.specs.declared.view.Place.TheVariants.{FreePlace, Bucket, Next};
 ghost use Rattle.store_core.specs.Marks.{IsMarked};
 ghost use Rattle.sweep_phase.specs.Gathered.{sizes_of, words_of, HasGathered, LoadsAgain, StaysSeat};
 ghost use Rattle.sweep_phase.specs.Collected.{IsWorkedOut};
-ghost use Rattle.sweep_phase.specs.Compared.{told_by, unmarked_below, Notes, IsCompared};
+ghost use Rattle.sweep_phase.specs.Compared.{told_by, Notes, IsCompared};
 
 use crate::reading::{head_of, next_of, place_of};
 use crate::sweep::{Kept, Sweep};
+use crate::turns::row_in_turn;
 use busy_forbidden::Seat;
 use mark_phase::Marks;
 use node_rows::NodeRows;
@@ -76,7 +77,7 @@ fn compare_place(sweep: &Sweep<'_>, seat: &mut Seat<NodeRows>, cells: &mut [u32]
     cells[row as usize] = cell;
 }
 
-// Notes of a row whether its next word, or the free place that it comes to, stays as it is: how many rows aren't marked so far.
+// Notes of a row whether its next word, or the free place that it comes to, stays as it is: how many rows so far aren't marked.
 fn compare_row(
     sweep: &Sweep<'_>,
     seat: &mut Seat<NodeRows>,
@@ -90,13 +91,14 @@ fn compare_row(
     requires cells { length cells.old ≡ (sizes_of sweep.now).rows }
     requires row { row < (sizes_of sweep.now).rows }
     requires small { IsMarked marks.now row → get_or cells.old row 0 < 4294967295 }
-    requires free { (free ≡ unmarked_below marks.now row) × (free ≤ row) }
+    requires few { free < (sizes_of sweep.now).rows }
     ensures at { HasGathered sweep.now seat.new.seat seat.new.number seat.new.seats }
     ensures again { LoadsAgain sweep.now seat.old.seat seat.old.number seat.old.seats seat.new.seat seat.new.number seat.new.seats }
     ensures next { IsMarked marks.now row → told_by (words_of seat.old.seat (Next row)) (get_or cells.new row 0) ≡ get_or cells.old row 0 }
     ensures place { get_or marks.now row false ≡ false → get_or cells.new row 0 ≡ 4294967295
         → (free < sweep.now.count) × (words_of seat.old.seat (FreePlace free) ≡ row) }
-    ensures free { (result ≡ unmarked_below marks.now (row + 1)) × (result ≤ row + 1) }
+    ensures free { result ≡ free + (if get_or marks.now row false then 0 else 1) }
+    ensures few { result ≤ free + 1 }
     ensures others { (r : ℕ) → r ≢ row → get_or cells.new r 0 ≡ get_or cells.old r 0 }
     ensures size { length cells.new ≡ length cells.old }
 {
@@ -116,11 +118,12 @@ fn compare_rows(sweep: &Sweep<'_>, seat: &mut Seat<NodeRows>, marks: &Marks, cel
     requires small { (r : ℕ) → IsMarked marks.now r → get_or cells.old r 0 < 4294967295 }
     ensures at { HasGathered sweep.now seat.new.seat seat.new.number seat.new.seats }
     ensures again { LoadsAgain sweep.now seat.old.seat seat.old.number seat.old.seats seat.new.seat seat.new.number seat.new.seats }
-    ensures notes { Notes (words_of seat.old.seat) sweep.now.count marks.now cells.old cells.new (sizes_of sweep.now).rows }
+    ensures notes { Notes (words_of seat.old.seat) sweep.now.count marks.now cells.old cells.new (sizes_of sweep.now) (sizes_of sweep.now).rows }
     ensures size { length cells.new ≡ length cells.old }
 {
     let mut free = 0;
-    for row in 0..sweep.store.sizes.rows {
+    for turn in 0..sweep.store.sizes.rows {
+        let row = row_in_turn(sweep, turn);
         free = compare_row(sweep, seat, marks, cells, row, free);
     }
 }

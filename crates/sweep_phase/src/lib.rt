@@ -14,6 +14,7 @@ mod places;
 mod reading;
 mod storing;
 mod sweep;
+mod turns;
 
 pub use collecting::collect;
 pub use creating::create_exclusive;

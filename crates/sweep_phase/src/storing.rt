@@ -1,5 +1,5 @@
 //! A collection's stores: of chains, buckets, free places and numbers, where they change.
-ghost use Rattle.std.specs.Prelude.{◌≡◌, ◌<◌, ◌≤◌, ◌+◌, ℕ, Bool, true, false, length, get_or};
+ghost use Rattle.std.specs.Prelude.{◌≡◌, ◌<◌, ◌≤◌, ◌+◌, ℕ, Bool, true, false, length, get_or, if◌then◌else◌};
 ghost use Rattle.store_core.specs.declared.view.Place.{Place};
 ghost use Rattle.store_core.specs.declared.view.Place.TheVariants.{FreePlace, Bucket, Next};
 ghost use Rattle.store_core.specs.Marks.{IsMarked};
@@ -8,12 +8,14 @@ ghost use Rattle.store_core.specs.Steps.{is_stored, is_storing};
 ghost use Rattle.store_core.specs.Words.{same_place, write};
 ghost use Rattle.node_rows.specs.Collecting.{HasSeen};
 ghost use Rattle.sweep_phase.specs.Gathered.{sizes_of};
-ghost use Rattle.sweep_phase.specs.Compared.{told_by, unmarked_below};
+ghost use Rattle.sweep_phase.specs.Compared.{told_by, place_for};
+ghost use Rattle.sweep_phase.specs.Turns.{row_in_turn};
 ghost use Rattle.sweep_phase.specs.Stored.{Stores, StoresMore, ArePlaced, seen_of, is_next, is_head, is_place};
 
 use crate::comparing::UNCHANGED;
 use crate::places::next_place;
 use crate::sweep::Sweep;
+use crate::turns::row_in_turn;
 use busy_forbidden::Seat;
 use mark_phase::Marks;
 use node_rows::{NodeRows, bucket_word, free_place_word, store_any};
@@ -176,33 +178,34 @@ fn put_place(sweep: &Sweep<'_>, seat: &mut Seat<NodeRows>, i: u32, row: u32, cel
     put(sweep, seat, word, Place::FreePlace(i), u64::from(row));
 }
 
-// Stores a row that isn't marked in the next free place, where it changes: how many are filled.
+// Stores the row of a turn in the next free place, where it isn't marked and the place changes: how many are filled.
 fn store_place(
     sweep: &Sweep<'_>,
     seat: &mut Seat<NodeRows>,
     marks: &Marks,
     cells: &[u32],
-    row: u32,
+    turn: u32,
     count: u32,
 ) -> u32
     requires at { Stores sweep.now seat.old.seat seat.old.number seat.old.seats }
     requires marks { length marks.now ≡ (sizes_of sweep.now).rows }
     requires cells { length cells.now ≡ (sizes_of sweep.now).rows }
-    requires held { get_or marks.now row false ≡ false → get_or cells.now row 0 ≡ 4294967295
+    requires held { let row = row_in_turn (sizes_of sweep.now) turn in get_or marks.now row false ≡ false → get_or cells.now row 0 ≡ 4294967295
         → (seen_of seat.old.seat (FreePlace count) ≡ row) × HasSeen seat.old.seat.me.0.store (FreePlace count) }
-    requires below { row < (sizes_of sweep.now).rows }
-    requires few { count ≤ row }
-    requires placed { ArePlaced (λ i. seen_of seat.old.seat (FreePlace i)) marks.now row count }
+    requires below { turn < (sizes_of sweep.now).rows }
+    requires few { count ≤ turn }
+    requires placed { ArePlaced (λ i. seen_of seat.old.seat (FreePlace i)) marks.now (sizes_of sweep.now) turn count }
     requires has { (i : ℕ) → i < count → HasSeen seat.old.seat.me.0.store (FreePlace i) }
     ensures at { Stores sweep.now seat.new.seat seat.new.number seat.new.seats }
     ensures more { StoresMore seat.old.seat seat.old.number seat.old.seats seat.new.seat seat.new.number seat.new.seats }
-    ensures placed { ArePlaced (λ i. seen_of seat.new.seat (FreePlace i)) marks.now (row + 1) result }
+    ensures placed { ArePlaced (λ i. seen_of seat.new.seat (FreePlace i)) marks.now (sizes_of sweep.now) (turn + 1) result }
     ensures has { (i : ℕ) → i < result → HasSeen seat.new.seat.me.0.store (FreePlace i) }
-    ensures few { (count ≤ result) × (result ≤ row + 1) }
-    ensures count { count ≡ unmarked_below marks.now row → result ≡ unmarked_below marks.now (row + 1) }
+    ensures few { (count ≤ result) × (result ≤ turn + 1) }
+    ensures count { result ≡ count + (if get_or marks.now (row_in_turn (sizes_of sweep.now) turn) false then 0 else 1) }
     ensures later { (i : ℕ) → result ≤ i → seen_of seat.new.seat (FreePlace i) ≡ seen_of seat.old.seat (FreePlace i) }
     ensures others { (p : Place) → is_place p ≡ false → seen_of seat.new.seat p ≡ seen_of seat.old.seat p }
 {
+    let row = row_in_turn(sweep, turn);
     if marks.has(Row(row)) {
         return count;
     }
@@ -210,7 +213,7 @@ fn store_place(
     count + 1
 }
 
-/// Stores the rows that aren't marked in the free places, ascending, where these change: how many they are.
+/// Stores the rows that aren't marked in the free places, turn by turn, where these change: how many they are.
 pub(crate) fn store_places(
     sweep: &Sweep<'_>,
     seat: &mut Seat<NodeRows>,
@@ -221,18 +224,18 @@ pub(crate) fn store_places(
     requires marks { length marks.now ≡ (sizes_of sweep.now).rows }
     requires cells { length cells.now ≡ (sizes_of sweep.now).rows }
     requires held { (r : ℕ) → r < (sizes_of sweep.now).rows → get_or marks.now r false ≡ false → get_or cells.now r 0 ≡ 4294967295
-        → (seen_of seat.old.seat (FreePlace (unmarked_below marks.now r)) ≡ r)
-        × HasSeen seat.old.seat.me.0.store (FreePlace (unmarked_below marks.now r)) }
+        → (seen_of seat.old.seat (FreePlace (place_for marks.now (sizes_of sweep.now) r)) ≡ r)
+        × HasSeen seat.old.seat.me.0.store (FreePlace (place_for marks.now (sizes_of sweep.now) r)) }
     ensures at { Stores sweep.now seat.new.seat seat.new.number seat.new.seats }
     ensures more { StoresMore seat.old.seat seat.old.number seat.old.seats seat.new.seat seat.new.number seat.new.seats }
-    ensures placed { ArePlaced (λ i. seen_of seat.new.seat (FreePlace i)) marks.now (sizes_of sweep.now).rows result }
+    ensures placed { ArePlaced (λ i. seen_of seat.new.seat (FreePlace i)) marks.now (sizes_of sweep.now) (sizes_of sweep.now).rows result }
     ensures has { (i : ℕ) → i < result → HasSeen seat.new.seat.me.0.store (FreePlace i) }
     ensures few { result ≤ (sizes_of sweep.now).rows }
     ensures others { (p : Place) → is_place p ≡ false → seen_of seat.new.seat p ≡ seen_of seat.old.seat p }
 {
     let mut count = 0;
-    for row in 0..sweep.store.sizes.rows {
-        count = store_place(sweep, seat, marks, cells, row, count);
+    for turn in 0..sweep.store.sizes.rows {
+        count = store_place(sweep, seat, marks, cells, turn, count);
     }
     count
 }

@@ -1,14 +1,14 @@
-use Rattle.std.specs.Prelude.{◌≡◌, ℕ, ◌<◌, ◌≤◌, length, get_or}
-use Rattle.sweep_phase.specs.Gathered.{words_of, HasGathered, LoadsAgain}
-use Rattle.sweep_phase.specs.Compared.{unmarked_below, Notes}
+use Rattle.std.specs.Prelude.{◌≡◌, ◌≤◌, length}
+use Rattle.sweep_phase.specs.Gathered.{sizes_of, words_of, HasGathered, LoadsAgain}
+use Rattle.sweep_phase.specs.Compared.{unmarked_before, Notes}
 use Rattle.sweep_phase.proofs.comparing.compare_rows.Given as goal
 
-abbrev pub invariant-loop-row : goal.invariant-loop-row
-invariant-loop-row l = record {
+abbrev pub invariant-loop-turn : goal.invariant-loop-turn
+invariant-loop-turn l = record {
   at : HasGathered l.sweep l.seat.seat l.seat.number l.seat.seats;
   again : LoadsAgain l.sweep l.fn.seat.seat l.fn.seat.number l.fn.seat.seats l.seat.seat l.seat.number l.seat.seats;
-  notes : Notes (words_of l.fn.seat.seat) l.sweep.count l.marks l.fn.cells l.cells l.row;
-  free : l.free ≡ unmarked_below l.marks l.row;
-  few : l.free ≤ l.row;
+  notes : Notes (words_of l.fn.seat.seat) l.sweep.count l.marks l.fn.cells l.cells (sizes_of l.sweep) l.turn;
+  free : l.free ≡ unmarked_before l.marks (sizes_of l.sweep) l.turn;
+  few : l.free ≤ l.turn;
   size : length l.cells ≡ length l.fn.cells;
 }
