@@ -14,3 +14,4 @@ pub mod Members
 pub mod Fronts
 pub mod Fewer
 pub mod Logging
+pub mod LastKeys

@@ -1,7 +1,6 @@
 -- The log that desks wrote is that of the chronicle.
 use Rattle.std.proofs.Common.{◌≡◌, ℕ, zero, suc, ◌+◌, ◌<◌, List, [], ◌∷◌, ◌++◌, take, get_or, length, map, append_assoc, append-nil, refl, sym, ap, ap₂, subst, ◌∙◌, arith}
-use Rattle.std.specs.Prelude.{true, All, Some, None, Option, IfSome, IfOk, Vec, slice_get, Result, Ok, Err}
-use Rattle.std.specs.Result.{result_ok}
+use Rattle.std.specs.Prelude.{true, All, Some, None, Option, IfSome, Vec, slice_get, Result}
 use Rattle.std.specs.Global.{Global}
 use Rattle.std.proofs.lemmas.Option.{same_Some, slice_get_within}
 use Rattle.std.proofs.lemmas.List.{map_more}
@@ -55,13 +54,10 @@ back_entries desks passes back = same_lists entries_of_pass passes (map entries_
     mapped_at entries_of_desk desks k b.desk b.at ∙ sym (ap (λ (x : PassView). x.entries) b.back.seen))
 
 -- where desks give a log, it is that of the passes that they gave back
-pub logged : {E : Type 0} (s : Settings) (r : Result (Vec ℕ Global) E) (log : Option (Vec ℕ Global)) (seen desks : List Contents) (passes : List Pass) → s.log ≡ true → log ≡ result_ok r
-    → seen ≡ desks → AreBack desks passes → IfOk r (λ text. text.items ≡ log_of s.rows (map entries_of_desk seen)) → IfSome log (λ text. IsAskedLog s (entries_of passes) text.items)
-logged {E} s r log seen desks passes asked given same back is = subst (λ o. IfSome o (λ text. IsAskedLog s (entries_of passes) text.items)) (sym given) (go r is)
-  where
-    go : (q : Result (Vec ℕ Global) E) → IfOk q (λ text. text.items ≡ log_of s.rows (map entries_of_desk seen)) → IfSome (result_ok q) (λ text. IsAskedLog s (entries_of passes) text.items)
-    go (Ok text) h = (asked, h ∙ ap (log_of s.rows) (ap (map entries_of_desk) same ∙ sym (back_entries desks passes back)))
-    go (Err e) h = tt
+pub logged : (s : Settings) (log : Option (Vec ℕ Global)) (seen desks : List Contents) (passes : List Pass) → s.log ≡ true → seen ≡ desks → AreBack desks passes
+    → IfSome log (λ text. text.items ≡ log_of s.rows (map entries_of_desk seen)) → IfSome log (λ text. IsAskedLog s (entries_of passes) text.items)
+logged s None seen desks passes asked same back is = tt
+logged s (Some text) seen desks passes asked same back is = (asked, is ∙ ap (log_of s.rows) (ap (map entries_of_desk) same ∙ sym (back_entries desks passes back)))
 
 -- the entries of the passes are the lists of the chronicle
 pub lists_are : (s : Settings) (rules : List Rule) (terms : List Tree) (store : Store) (lines : Result Lines AllFault) (ps : List Pass) (run : HasRun s rules terms store lines ps)

@@ -5,3 +5,4 @@ pub mod Filling
 pub mod Numbers
 pub mod Wearing
 pub mod Fronts
+pub mod Keys

@@ -2,6 +2,7 @@
 #![tactic(auto)]
 
 mod desks;
+mod keys;
 mod logs;
 mod sharing;
 

@@ -1,5 +1,5 @@
 // The log of desks that wrote their entries.
-ghost use Rattle.std.specs.Prelude.{◌≡◌, ◌<◌, ◌^◌, ◌++◌, OnOk, IfOk, length, map};
+ghost use Rattle.std.specs.Prelude.{◌≡◌, ◌<◌, ◌^◌, ◌++◌, OnOk, IfOk, IfSome, length, map};
 ghost use Rattle.log_text.specs.Lines.{caller_text, callers_from, lines_of, log_of};
 
 use faults::Memory;
@@ -46,12 +46,8 @@ fn room_for<R: Wait>(desks: &[LogDesk<'_, R>]) -> usize {
     room
 }
 
-/// The log that desks wrote at the passes of a store with so many rows, desk k as caller k.
-pub(crate) fn log_for<R: Wait>(
-    alloc: Global,
-    rows: u32,
-    desks: &[LogDesk<'_, R>],
-) -> Result<Vec<u8>, Memory>
+// The log that desks wrote at the passes of a store with so many rows, desk k as caller k.
+fn log_for<R: Wait>(alloc: Global, rows: u32, desks: &[LogDesk<'_, R>]) -> Result<Vec<u8>, Memory>
     requires few { length desks.now < 2 ^ 32 }
     ensures { IfOk result (λ text. text.items ≡ log_of rows (map (λ d. d.pass.entries) desks.now)) }
 {
@@ -60,4 +56,21 @@ pub(crate) fn log_for<R: Wait>(
     push_callers(desks, &mut text)?;
     write_end(&mut text)?;
     Ok(text)
+}
+
+/// The same, where it is to be written and there is memory for it.
+pub(crate) fn log_where<R: Wait>(
+    alloc: Global,
+    written: bool,
+    rows: u32,
+    desks: &[LogDesk<'_, R>],
+) -> Option<Vec<u8>>
+    requires few { length desks.now < 2 ^ 32 }
+    ensures { IfSome result (λ text. text.items ≡ log_of rows (map (λ d. d.pass.entries) desks.now)) }
+{
+    if written {
+        log_for(alloc, rows, desks).ok()
+    } else {
+        None
+    }
 }

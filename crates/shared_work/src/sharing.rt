@@ -1,11 +1,13 @@
 // All terms, by workers on one store.
 ghost use Rattle.std.specs.Prelude.{◌≡◌, ◌<◌, ◌≤◌, [], None, true, IfOk, IfErr, IfSome, All, map};
+ghost use Rattle.std.specs.List.{AllByRecursion};
 ghost use Rattle.settings.specs.Words.{AreInRange};
 ghost use Rattle.busy_forbidden.specs.Dealt.{EachPlace};
 ghost use Rattle.history_core.specs.Chronicle.{chronicle, IsLegal};
 ghost use Rattle.node_rows.specs.Passes.{IsStore};
 ghost use Rattle.rewrite_workers.specs.Lined.{said, worker_of, line_of, trace_of};
 ghost use Rattle.rewrite_workers.specs.Works.{MayWork};
+ghost use Rattle.log_text.specs.Keys.{HaveKeys};
 ghost use Rattle.shared_desk.specs.Telling.{MayHaveDesk};
 ghost use Rattle.shared_work.specs.NewDesks.{sizes_for, IsNewPass};
 ghost use Rattle.shared_work.specs.Filling.{TellsFull};
@@ -16,7 +18,8 @@ ghost use Rattle.shared_work.specs.Running.{HasRun, WantsMemory, IsAskedLog, ent
 ghost use Rattle.shared_work.specs.Sharing.{NamesWhatItBuilt, CollectsFew, KeepsOrders, EachRises};
 
 use crate::desks::{desks_at, log_desks_at, logged_passes_of, passes_of, store_for};
-use crate::logs::log_for;
+use crate::keys::with_keys;
+use crate::logs::log_where;
 use ends::Gate;
 use faults::Memory;
 use node_rows::{Chronicle, Pass, Store};
@@ -127,7 +130,7 @@ fn rewrite_logged<R: Threads + Wait + Sync, G: Gate>(
     let mut desks = log_desks_at(rt, alloc, store, passes)?;
     let room = Vec::with_capacity(alloc, desks.len())?;
     let lines = rewrite_all(rt, alloc, work, &mut desks, gate);
-    let log = log_for(alloc, work.settings.rows, &desks).ok();
+    let log = log_where(alloc, lines.is_ok(), work.settings.rows, &desks);
     let passes = logged_passes_of(room, desks);
     Ok(Left { lines, passes, log })
 }
@@ -204,10 +207,12 @@ fn rewrite_at<R: Threads + Wait + Sync, G: Gate>(
         work.now.plan.now.rules work.now.terms.now result.chronicle) }
     ensures log { IfSome result.log
         (λ text. IsAskedLog work.now.settings result.chronicle text.items) }
+    ensures keys { IfSome result.log (λ _. AllByRecursion HaveKeys result.chronicle) }
 {
     match rewrite_left(rt, alloc, work, &store, passes, gate) {
         Ok(left) => {
             let Left { lines, passes, log } = left;
+            let log = with_keys(log, &passes);
             let chronicle = store.close(passes);
             Rewritten {
                 lines,
@@ -283,9 +288,10 @@ pub fn rewrite_shared<R: Threads + Wait + Sync, G: Gate>(
     ensures only { NamesOnlyBuilt work.now.settings work.now.plan.now.rules work.now.terms.now
         result.chronicle }
 
-    // Where there is a log, it was asked, and is that of the chronicle.
+    // Where there is a log, it was asked, and is that of the chronicle, whose keys are those of a log.
     ensures log { IfSome result.log
         (λ text. IsAskedLog work.now.settings result.chronicle text.items) }
+    ensures keys { IfSome result.log (λ _. AllByRecursion HaveKeys result.chronicle) }
 {
     match store_for(alloc, work) {
         Ok((store, passes)) => rewrite_at(rt, alloc, work, store, passes, gate),

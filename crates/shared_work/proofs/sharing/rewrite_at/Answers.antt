@@ -1,11 +1,15 @@
-use Rattle.std.proofs.Common.{ℕ, ap, subst, ◌∙◌}
+use Rattle.std.proofs.Common.{ℕ, List, sym, ap, subst, ◌∙◌}
 use Rattle.history_core.specs.Chronicle.{chronicle, IsLegal}
 use Rattle.store_core.specs.declared.view.Sizes.{Sizes}
-use Rattle.std.specs.Prelude.{Vec}
+use Rattle.std.specs.Prelude.{Vec, All, IfSome}
 use Rattle.std.specs.Global.{Global}
 use Rattle.shared_work.specs.Fronts.{NamesFronts}
-use Rattle.shared_work.specs.Running.{entries_of}
+use Rattle.node_rows.specs.declared.store.Pass.{Pass}
+use Rattle.node_rows.specs.Told.{Tells, view_of}
+use Rattle.shared_work.specs.Keys.{HasKeys}
+use Rattle.shared_work.specs.Running.{IsAskedLog, entries_of}
 use Rattle.shared_work.proofs.Logging.{lists_are, log_told}
+use Rattle.shared_work.proofs.LastKeys.{are_told, log_keys, still_told}
 use Rattle.shared_work.proofs.Filling.{tells_full, none_full}
 use Rattle.shared_work.proofs.Making.{has_rows}
 use Rattle.shared_work.proofs.Lacking.{tells_need, none_needed}
@@ -102,8 +106,29 @@ returns-in-Ok-clause-rises g c =
     each_rises c.args.work.now.settings c.args.work.now.plan.now.rules c.args.work.now.terms.now c.args.store c.in-Ok.left.lines c.in-Ok.left.passes.items c.in-Ok.ensures.run
     c.close-chronicle.result c.close-chronicle.ensures.count c.close-chronicle.ensures.rises
 
+pub with_keys-log-requires : goal.with_keys-log-requires
+with_keys-log-requires g c =
+    record {
+      told = subst (All Tells) (sym c.deref.ensures.value)
+          (are_told c.args.work.now.settings c.args.work.now.plan.now.rules c.args.work.now.terms.now c.args.store c.in-Ok.left.lines c.in-Ok.left.passes.items c.in-Ok.ensures.run);
+    }
+
 pub returns-in-Ok-clause-log : goal.returns-in-Ok-clause-log
 returns-in-Ok-clause-log g c =
-    log_told c.args.work.now.settings (λ (text : Vec ℕ Global). text.items) c.in-Ok.left.log (entries_of c.in-Ok.left.passes.items) c.close-chronicle.result
-    (lists_are c.args.work.now.settings c.args.work.now.plan.now.rules c.args.work.now.terms.now c.args.store c.in-Ok.left.lines c.in-Ok.left.passes.items c.in-Ok.ensures.run
-    c.close-chronicle.result c.close-chronicle.ensures.count c.close-chronicle.ensures.own) c.in-Ok.ensures.log
+    let s = c.args.work.now.settings in
+    let passes = c.in-Ok.left.passes.items in
+    log_told s (λ (text : Vec ℕ Global). text.items) c.with_keys-log.result (entries_of passes) c.close-chronicle.result
+    (lists_are s c.args.work.now.plan.now.rules c.args.work.now.terms.now c.args.store c.in-Ok.left.lines passes c.in-Ok.ensures.run
+    c.close-chronicle.result c.close-chronicle.ensures.count c.close-chronicle.ensures.own)
+    (still_told (λ (text : Vec ℕ Global). IsAskedLog s (entries_of passes) text.items) c.in-Ok.left.log c.with_keys-log.result c.with_keys-log.ensures.same c.in-Ok.ensures.log)
+
+pub returns-in-Ok-clause-keys : goal.returns-in-Ok-clause-keys
+returns-in-Ok-clause-keys g c =
+    let s = c.args.work.now.settings in
+    let rules = c.args.work.now.plan.now.rules in
+    let terms = c.args.work.now.terms.now in
+    let passes = c.in-Ok.left.passes.items in
+    log_keys c.with_keys-log.result passes c.close-chronicle.result
+    (lists_are s rules terms c.args.store c.in-Ok.left.lines passes c.in-Ok.ensures.run c.close-chronicle.result c.close-chronicle.ensures.count c.close-chronicle.ensures.own)
+    (each_rises s rules terms c.args.store c.in-Ok.left.lines passes c.in-Ok.ensures.run c.close-chronicle.result c.close-chronicle.ensures.count c.close-chronicle.ensures.rises)
+    (subst (λ (ps : List Pass). IfSome c.with_keys-log.result (λ _. All (λ p. HasKeys (view_of p).store.entries) ps)) c.deref.ensures.value c.with_keys-log.ensures.keys)

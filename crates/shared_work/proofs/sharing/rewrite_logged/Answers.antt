@@ -30,5 +30,5 @@ returns-clause-run g c =
 
 pub returns-clause-log : goal.returns-clause-log
 returns-clause-log g c =
-    logged c.args.work.now.settings c.log_for.result c.ok-log.result c.deref.result.now _ c.logged_passes_of-passes.result.items c.requires.asked c.ok-log.ensures.value c.deref.ensures.value
-    c.logged_passes_of-passes.ensures.back c.log_for.ensures
+    logged c.args.work.now.settings c.log_where-log.result c.deref.result.now _ c.logged_passes_of-passes.result.items c.requires.asked c.deref.ensures.value
+    c.logged_passes_of-passes.ensures.back c.log_where-log.ensures

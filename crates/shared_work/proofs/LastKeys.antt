@@ -1,0 +1,83 @@
+-- Keys that rise are those of a log where the last one is.
+use Rattle.std.proofs.Common.{◌≡◌, ◌∙◌, ℕ, zero, suc, ◌<◌, ◌≤◌, ◌^◌, List, [], ◌∷◌, get_or, length, map, refl, sym, ap, subst, arith}
+use Rattle.std.specs.Prelude.{All, Some, None, Option, IfSome, slice_get, true, Vec}
+use Rattle.std.specs.List.{AllByRecursion}
+use Rattle.std.specs.Global.{Global}
+use Rattle.term_model.specs.Tree.{Tree}
+use Rattle.rewrite_model.specs.Rule.{Rule}
+use Rattle.settings.specs.declared.parts.Settings.{Settings}
+use Rattle.history_core.specs.declared.entry.Entry.{Entry}
+use Rattle.history_core.specs.declared.entry.Entry.TheVariants as entry
+use Rattle.history_core.specs.Entry.{key, is_numbered}
+use Rattle.history_core.specs.Chronicle.{KeysRise, entries_of}
+use Rattle.log_text.specs.Keys.{HaveKeys}
+use Rattle.node_rows.specs.declared.store.Last.{Last}
+use Rattle.node_rows.specs.declared.store.Store.{Store}
+use Rattle.node_rows.specs.declared.store.Pass.{Pass}
+use Rattle.node_rows.specs.Told.{Tells, HasEntries, told_by, last_from, last_in, view_of}
+use Rattle.rewrite_workers.specs.declared.fault.AllFault.{AllFault}
+use Rattle.rewrite_workers.specs.declared.lines.Lines.{Lines}
+use Rattle.std.specs.Prelude.{Result}
+use Rattle.std.proofs.lemmas.Option.{same_Some, slice_get-get_or}
+use Rattle.std.proofs.lemmas.List.Elements.{All-tail}
+use Rattle.shared_work.specs.Keys.{number_of, HasKeys}
+use Rattle.shared_work.specs.Running.{HasRun}
+use Rattle.shared_work.specs.Sharing.{EachRises}
+use Rattle.shared_work.proofs.Closing.{worker, all_got}
+use Rattle.shared_work.proofs.Logging.{entries_of_pass, lists_are}
+
+own_key : (e : Entry) → number_of (told_by e) ≡ key e
+own_key (entry.Make number head args row) = refl
+own_key (entry.Find seen head args row) = refl
+own_key (entry.Roots seen names) = refl
+own_key (entry.Collect number kept) = refl
+
+from_last : (e : Entry) (es : List Entry) → KeysRise (e ∷ es) → number_of (last_from (told_by e) es) < 2 ^ 62 → HaveKeys (e ∷ es)
+from_last e [] rise low = (subst (λ (n : ℕ). n < 2 ^ 62) (own_key e) low, tt)
+from_last e (d ∷ es) rise low =
+    let rest = from_last d es rise.1 low in
+    let under : key e ≤ key d = rise.0.0.0 in
+    let next : key d < 2 ^ 62 = rest.0 in
+    (omega (arith, under, next), rest)
+
+pub keys_by_last : (es : List Entry) → number_of (last_in es) < 2 ^ 62 → HasKeys es
+keys_by_last [] low rise = tt
+keys_by_last (e ∷ es) low rise = from_last e es rise low
+
+pub by_last : (told : Last) (es : List Entry) (n : ℕ) → told ≡ last_in es → n ≡ number_of told → n < 2 ^ 62 → HasKeys es
+by_last told es n is same low = keys_by_last es (subst (λ (k : ℕ). k < 2 ^ 62) (same ∙ ap number_of is) low)
+
+module _ (s : Settings) (rules : List Rule) (terms : List Tree) (store : Store) (lines : Result Lines AllFault) (ps : List Pass) (run : HasRun s rules terms store lines ps) where
+  -- the passes that came back tell what they noted
+  pub are_told : All Tells ps
+  are_told k d lt =
+      let p = get_or ps k d in
+      let at : slice_get ps k ≡ Some p = slice_get-get_or ps k d lt in
+      let one = run.new.count in
+      let two = run.same.0 in
+      let three = run.back.count in
+      let w = worker s rules terms store lines ps run k (omega (arith, one, two, three, lt)) in
+      subst Tells (same_Some w.pass p (sym w.at_pass ∙ at)) w.back.told
+
+-- the keys of lists that rise, and are those of passes
+each_list : (lists : List (List Entry)) → ((caller : ℕ) → HaveKeys (entries_of lists caller)) → AllByRecursion HaveKeys lists
+each_list [] h = tt
+each_list (es ∷ lists) h = (h 0, each_list lists (λ caller. h (suc caller)))
+
+lists_told : (ps : List Pass) (lists : List (List Entry)) → map entries_of_pass ps ≡ lists → All (λ p. HasKeys (view_of p).store.entries) ps → (caller : ℕ) → HasKeys (entries_of lists caller)
+lists_told ps lists same h caller = subst (λ ls. HasKeys (entries_of ls caller)) same (go ps h caller)
+  where
+    go : (qs : List Pass) → All (λ p. HasKeys (view_of p).store.entries) qs → (k : ℕ) → HasKeys (entries_of (map entries_of_pass qs) k)
+    go [] h k = λ rise. tt
+    go (q ∷ qs) h zero = h 0 q (omega arith)
+    go (q ∷ qs) h (suc k) = go qs (All-tail (λ p. HasKeys (view_of p).store.entries) q qs h) k
+
+pub log_keys : (log : Option (Vec ℕ Global)) (ps : List Pass) (lists : List (List Entry)) → map entries_of_pass ps ≡ lists → EachRises lists
+    → IfSome log (λ _. All (λ p. HasKeys (view_of p).store.entries) ps) → IfSome log (λ _. AllByRecursion HaveKeys lists)
+log_keys None ps lists same rises h = tt
+log_keys (Some text) ps lists same rises h = each_list lists (λ caller. lists_told ps lists same h caller (rises caller))
+
+-- a log that was there before is the log still
+pub still_told : (P : Vec ℕ Global → Type 0) (old new : Option (Vec ℕ Global)) → IfSome new (λ text. old ≡ Some text) → IfSome old P → IfSome new P
+still_told P old None same h = tt
+still_told P old (Some text) same h = subst (λ o. IfSome o P) same h
