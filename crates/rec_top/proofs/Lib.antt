@@ -21,3 +21,6 @@ pub mod Traces
 pub mod Unconditional
 pub mod Accepting
 pub mod Logged
+pub mod ToldHeads
+pub mod BesideLogs
+pub mod GoodLogs

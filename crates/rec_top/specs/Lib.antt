@@ -14,3 +14,4 @@ pub mod Traced
 pub mod Sequence
 pub mod Stops
 pub mod Written
+pub mod GoodLog

@@ -3,7 +3,9 @@ use Rattle.std.specs.Prelude.{◌≡◌, ℕ, Bool, true, List, [], ◌++◌, Op
 use Rattle.std.specs.Global.{Global}
 use Rattle.std.specs.Option.{option_map_or}
 use Rattle.history_core.specs.declared.entry.Entry.{Entry}
+use Rattle.std.specs.List.{AllByRecursion}
 use Rattle.log_text.specs.Lines.{log_of}
+use Rattle.log_text.specs.Keys.{HaveKeys}
 use Rattle.settings.specs.Words.{settings_of}
 use Rattle.settings.specs.declared.parts.Command.{Command}
 use Rattle.settings.specs.declared.parts.Command.TheVariants.{Rewrite, Drill, Schedule, Terms, Pack, Unpack, CheckLog, CheckTrace, Outermost}
@@ -51,3 +53,7 @@ IsThere s there = s.log ≡ true → there ≡ true
 -- the bytes of a log that may be there
 abbrev pub log_bytes : Option (Vec ℕ Global) → List ℕ
 log_bytes log = option_map_or (λ text. text.items) log []
+
+-- where a log is asked, it may tell the keys of all entries
+abbrev pub HaveLogKeys : Settings → List (List Entry) → Type 0
+HaveLogKeys s lists = s.log ≡ true → AllByRecursion HaveKeys lists

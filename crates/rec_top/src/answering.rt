@@ -5,7 +5,7 @@ ghost use Rattle.settings.specs.Words.{AreInRange};
 ghost use Rattle.rec_top.specs.Written.{Output};
 ghost use Rattle.rec_top.specs.Input.{ReadsSource, HasInput};
 ghost use Rattle.rec_top.specs.Output.{IsOutput, IsFault, IsFaultWithin, IsTooLongAt, HasRows, HasNumbers, limit_of, too_long};
-ghost use Rattle.rec_top.specs.Logged.{log_bytes, log_by};
+ghost use Rattle.rec_top.specs.Logged.{HaveLogKeys, log_bytes, log_by};
 ghost use Rattle.rec_top.specs.Rewritten.{conditions_of};
 ghost use Rattle.rec_top.specs.Run.{GaveOutput, HasNoFault};
 ghost use Rattle.rec_top.specs.Histories.{SpellsSuch, GaveSuch, TellsHistory};
@@ -104,6 +104,7 @@ fn output_for<R: Threads + Wait + Sync, G: Gate>(
     ensures history { TellsHistory settings.now (SpellsSuch input.now) result.answer result.chronicle }
     ensures log { OnOk result.answer
         (log_bytes result.log ≡ log_by settings.now.command settings.now result.chronicle) }
+    ensures keys { OnOk result.answer (HaveLogKeys settings.now result.chronicle) }
 {
     match settings.command {
         Command::Rewrite => rewritten(rt, alloc, settings, conditions_of(settings), input, gate),
@@ -145,6 +146,7 @@ fn answer_read<R: Threads + Wait + Sync, S: Source, G: Gate>(
         (GaveSuch settings.now S.left source.old source.new) result.answer result.chronicle }
     ensures log { OnOk result.answer
         (log_bytes result.log ≡ log_by settings.now.command settings.now result.chronicle) }
+    ensures keys { OnOk result.answer (HaveLogKeys settings.now result.chronicle) }
     ensures later { S.faults source.old ≤ S.faults source.new }
 {
     match input_of(alloc, source, limit_of(settings.command)) {
@@ -180,6 +182,7 @@ pub fn answer_of<R: Threads + Wait + Sync, S: Source, G: Gate>(
         (GaveSuch settings.now S.left source.old source.new) result.answer result.chronicle }
     ensures log { OnOk result.answer
         (log_bytes result.log ≡ log_by settings.now.command settings.now result.chronicle) }
+    ensures keys { OnOk result.answer (HaveLogKeys settings.now result.chronicle) }
     ensures later { S.faults source.old ≤ S.faults source.new }
 {
     match settings.command {

@@ -4,7 +4,7 @@ ghost use Rattle.rec_drill.specs.Drill.{drill_bytes};
 ghost use Rattle.settings.specs.Words.{AreInRange};
 ghost use Rattle.rewrite_workers.specs.Lined.{worker_of};
 ghost use Rattle.rec_top.specs.Written.{Output};
-ghost use Rattle.rec_top.specs.Logged.{IsThere, log_bytes, log_asked};
+ghost use Rattle.rec_top.specs.Logged.{IsThere, HaveLogKeys, log_bytes, log_asked};
 ghost use Rattle.rec_top.specs.Drilled.{IsDrilled, drill_output};
 ghost use Rattle.rec_top.specs.Rewritten.{RowsSuffice, NumbersSuffice};
 ghost use Rattle.rec_top.specs.Sequence.{AreLinesOf};
@@ -89,6 +89,7 @@ pub fn drilled<R: Threads + Wait + Sync, G: Gate>(
     ensures history { TellsTerms settings.now (SpellsSuch (drill_bytes settings.now.count))
         result.answer result.chronicle }
     ensures log { OnOk result.answer (log_bytes result.log ≡ log_asked settings.now result.chronicle) }
+    ensures keys { OnOk result.answer (HaveLogKeys settings.now result.chronicle) }
 {
     let text = match drill_text(alloc, settings.count) {
         Ok(text) => text,

@@ -1,12 +1,14 @@
 // The command `rewrite`: from a specification to the lines of its terms, and their traces.
-ghost use Rattle.std.specs.Prelude.{◌≡◌, ◌≤◌, [], None, Err, IfOk, IfErr, OnOk, length, map};
+ghost use Rattle.std.specs.Prelude.{◌≡◌, ◌≤◌, [], None, Err, IfOk, IfErr, IfSome, OnOk, length, map};
+ghost use Rattle.std.specs.List.{AllByRecursion};
+ghost use Rattle.log_text.specs.Keys.{HaveKeys};
 ghost use Rattle.settings.specs.Words.{AreInRange};
 ghost use Rattle.settings.specs.declared.parts.Settings.{Settings};
 ghost use Rattle.history_core.specs.Chronicle.{chronicle, IsLegal};
 ghost use Rattle.rewrite_workers.specs.Lined.{worker_of};
 ghost use Rattle.shared_work.specs.Sharing.{CollectsFew, EachRises};
 ghost use Rattle.rec_top.specs.Written.{Output};
-ghost use Rattle.rec_top.specs.Logged.{MayHaveLog, IsThere, log_bytes, log_asked};
+ghost use Rattle.rec_top.specs.Logged.{MayHaveLog, IsThere, HaveLogKeys, log_bytes, log_asked};
 ghost use Rattle.rec_top.specs.Rewritten.{IsRewritten, IsInputFault, MeetsConditions, RowsSuffice, NumbersSuffice, IsNamed, Spells, output_of};
 ghost use Rattle.rec_top.specs.Sequence.{AreLinesOf, StopsTerms, text_told};
 ghost use Rattle.rec_top.specs.Histories.{CountsWorkers, NamesAll, SpellsSuch, TellsStop, TellsTerms};
@@ -81,6 +83,7 @@ fn rewrite<R: Threads + Wait + Sync, G: Gate>(
         NamesAll (map worker_of lines.list.items) result.chronicle settings.now (specified spec)) }
     ensures ended { IfErr result.lines (TellsStop settings.now (λ P. P (specified spec)) result.chronicle) }
     ensures log { MayHaveLog settings.now result.chronicle result.log }
+    ensures keys { IfSome result.log (λ _. AllByRecursion HaveKeys result.chronicle) }
 {
     let plan = match Plan::of(alloc, spec.rules, spec.widest) {
         Ok(plan) => plan,
@@ -137,6 +140,7 @@ pub fn lines_for<R: Threads + Wait + Sync, G: Gate>(
         (NamesAll (map worker_of lines.list.items) result.chronicle settings.now)) }
     ensures ended { IfErr result.lines (TellsStop settings.now (SpellsSuch input.now) result.chronicle) }
     ensures log { MayHaveLog settings.now result.chronicle result.log }
+    ensures keys { IfSome result.log (λ _. AllByRecursion HaveKeys result.chronicle) }
 {
     match specification_of(alloc, conditions, input) {
         Ok(spec) => rewrite(rt, alloc, settings, spec, gate),
@@ -199,6 +203,7 @@ pub fn rewritten<R: Threads + Wait + Sync, G: Gate>(
     ensures refused { (fault : Refusal) → IsInputFault conditions input.now fault → StopsWith result.answer fault }
     ensures history { TellsTerms settings.now (SpellsSuch input.now) result.answer result.chronicle }
     ensures log { OnOk result.answer (log_bytes result.log ≡ log_asked settings.now result.chronicle) }
+    ensures keys { OnOk result.answer (HaveLogKeys settings.now result.chronicle) }
 {
     let Worked {
         lines,

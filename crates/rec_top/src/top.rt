@@ -8,6 +8,7 @@ ghost use Rattle.settings.specs.Words.{settings_of, texts};
 ghost use Rattle.rec_top.specs.Written.{Output, status_for};
 ghost use Rattle.rec_top.specs.Lines.{fault_line, status_line, TookLine};
 ghost use Rattle.rec_top.specs.Run.{HasOutput, HasFault, HasTooMuch, HasTooMany, HasNoFault, Accepts, Refuses, IsWritten, HasWorkers, AsksDrill, IsMade, IsWhole, IsStatus, IsUpheld, IsRefuted};
+ghost use Rattle.rec_top.specs.GoodLog.{HasGoodLog};
 ghost use Rattle.rec_top.specs.Histories.{AsksRewriting, HasLegalHistory, StandInTurn, HasFewCollects, HasEach, HasSuch, NamesAll, NamesAllFronts, Fills};
 ghost use Rattle.faults.specs.declared.refusal.Refusal.{Refusal};
 
@@ -162,6 +163,11 @@ pub fn run<R: Threads + Wait + Sync, S: Source, O: Sink, E: Sink, G: Gate>(
         → HasSuch (texts words.now) S.left source.old source.new (NamesAllFronts result.chronicle) }
     ensures fronts_or_nothing { result.status ≡ 7 → (result.chronicle ≡ [])
         ⊎ HasSuch (texts words.now) S.left source.old source.new (NamesAllFronts result.chronicle) }
+
+    // With `--log` the output and the log of that history behind it are together a good log, which is read as the
+    // same entries and found legal.
+    ensures good_log { IsMade result.status
+        → HasGoodLog (texts words.now) S.left source.old source.new result.chronicle }
 
     // At 4 a collection of a worker kept as many trees as there are rows, and the worker's next tree isn't one.
     ensures full { result.status ≡ 4 → AsksRewriting (texts words.now)

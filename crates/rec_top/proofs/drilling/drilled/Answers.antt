@@ -9,6 +9,7 @@ use Rattle.rec_top.specs.Histories.{SpellsSuch, TellsTerms}
 use Rattle.rec_top.specs.declared.answers.Answer.{Answer}
 use Rattle.rec_top.proofs.Outcomes.{answers_ok, but_memory, tells_lines, tells_no_drill}
 use Rattle.rec_top.proofs.Logged.{log_where}
+use Rattle.rec_top.proofs.GoodLogs.{keys_where}
 use Rattle.rec_top.proofs.drilling.drilled.Goals as goal
 
 pub returns-in-Ok-lines-clause-accepted : goal.returns-in-Ok-lines-clause-accepted
@@ -44,3 +45,7 @@ returns-clause-history g c =
 pub returns-in-Ok-lines-clause-log : goal.returns-in-Ok-lines-clause-log
 returns-in-Ok-lines-clause-log g c =
     log_where c.args.settings.now c.lines_for-lines.result.chronicle c.lines_for-lines.result.log c.is_some.result c.told.result c.is_some.ensures c.lines_for-lines.ensures.log c.told.ensures.logged
+
+pub returns-in-Ok-lines-clause-keys : goal.returns-in-Ok-lines-clause-keys
+returns-in-Ok-lines-clause-keys g c =
+    keys_where c.args.settings.now c.lines_for-lines.result.chronicle c.lines_for-lines.result.log c.is_some.result c.told.result c.is_some.ensures c.lines_for-lines.ensures.keys c.told.ensures.logged

@@ -8,6 +8,7 @@ use Rattle.rec_top.specs.declared.answers.Answer.{Answer}
 use Rattle.rec_top.proofs.Joined.{one_each}
 use Rattle.rec_top.proofs.Outcomes.{if_ok, answers_ok, answers_err, stops_ok, stops_err, but_memory, tells_lines}
 use Rattle.rec_top.proofs.Logged.{log_where}
+use Rattle.rec_top.proofs.GoodLogs.{keys_where}
 use Rattle.rec_top.proofs.rewriting.rewritten.Goals as goal
 
 pub told-requires : goal.told-requires
@@ -42,3 +43,7 @@ returns-in-Err-clause-refused g c = λ fault f. stops_err c.lines_for-lines.resu
 pub returns-in-Ok-clause-log : goal.returns-in-Ok-clause-log
 returns-in-Ok-clause-log g c =
     log_where c.args.settings.now c.lines_for-lines.result.chronicle c.lines_for-lines.result.log c.is_some.result c.told.result c.is_some.ensures c.lines_for-lines.ensures.log c.told.ensures.logged
+
+pub returns-in-Ok-clause-keys : goal.returns-in-Ok-clause-keys
+returns-in-Ok-clause-keys g c =
+    keys_where c.args.settings.now c.lines_for-lines.result.chronicle c.lines_for-lines.result.log c.is_some.result c.told.result c.is_some.ensures c.lines_for-lines.ensures.keys c.told.ensures.logged

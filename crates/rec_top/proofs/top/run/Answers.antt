@@ -15,6 +15,9 @@ use Rattle.rec_top.proofs.Recounting.{all_named, all_counted, all_filled, all_fr
 use Rattle.rec_top.specs.Logged.{log_bytes, with_log}
 use Rattle.rec_top.proofs.Judging.{upheld, refutes}
 use Rattle.rec_top.proofs.Logged.{on_ok, bytes_with, accepted_under}
+use Rattle.rec_top.proofs.GoodLogs.{has_good_log}
+use Rattle.rec_top.specs.GoodLog.{HasGoodLog}
+use Rattle.rec_top.proofs.Recounting.{not_made}
 use Rattle.rec_top.proofs.top.run.Goals as goal
 
 pub returns-in-Err-clause-refused_only_where_faulty : goal.returns-in-Err-clause-refused_only_where_faulty
@@ -173,3 +176,24 @@ returns-clause-rises g c =
     let a = c.answer_of-answer in
     subst StandInTurn (sym c.stopped-in-Err-write_both.ensures.chronicle)
     (all_in_turn (texts c.args.words.now) c.in-Ok.settings g.S.Source.left c.args.source.now a.new.source a.result.answer a.result.chronicle c.in-Ok.ensures.settings a.ensures.history)
+
+-- ---- the log is a good one
+pub returns-in-Ok-write_both-clause-good_log : goal.returns-in-Ok-write_both-clause-good_log
+returns-in-Ok-write_both-clause-good_log g c = λ made.
+    let a = c.answer_of-answer in
+    has_good_log (texts c.args.words.now) c.in-Ok.settings g.S.Source.left c.args.source.now a.new.source a.result.answer a.result.chronicle c.in-Ok.ensures.settings c.in-Ok.ensures.in_range a.ensures.history
+    c.in-Ok-answer.answer c.in-Ok-answer.is (on_ok a.result.answer c.in-Ok-answer.answer c.in-Ok-answer.is a.ensures.keys)
+
+pub returns-clause-good_log : goal.returns-clause-good_log
+returns-clause-good_log g c = λ made.
+    let a = c.answer_of-answer in
+    subst (HasGoodLog (texts c.args.words.now) g.S.Source.left c.args.source.now a.new.source) (sym c.stopped-in-Err-write_both.ensures.chronicle)
+    (has_good_log (texts c.args.words.now) c.in-Ok.settings g.S.Source.left c.args.source.now a.new.source a.result.answer a.result.chronicle c.in-Ok.ensures.settings c.in-Ok.ensures.in_range a.ensures.history
+    c.in-Ok-answer.answer c.in-Ok-answer.is (on_ok a.result.answer c.in-Ok-answer.answer c.in-Ok-answer.is a.ensures.keys))
+
+pub returns-in-Err-clause-good_log : goal.returns-in-Err-clause-good_log
+returns-in-Err-clause-good_log g c = λ made.
+    let s = c.in-Ok.settings in
+    let a = c.answer_of-answer in
+    let stops = if_err (StopsAnswering s g.S.Source.left g.S.Source.faults c.args.source.now a.new.source) a.result.answer c.in-Err.stop c.in-Err.is a.ensures.stopped in
+    absurd (not_made s g.S.Source.left g.S.Source.faults c.args.source.now a.new.source c.in-Err.stop c.stopped.result.status stops c.stopped.ensures.status made)
