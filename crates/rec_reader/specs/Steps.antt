@@ -15,20 +15,12 @@ use Rattle.rec_reader.specs.declared.machine.Part.{Part}
 use Rattle.rec_reader.specs.declared.machine.Part.TheVariants.{Expected, Headed, Whole}
 use Rattle.rec_reader.specs.declared.machine.Place.{Place}
 use Rattle.rec_reader.specs.declared.machine.Place.TheVariants.{Start, Between, Heading, AfterHeading, BeforeNames, AfterName, AfterComma, DeclarationSort, VariableSort, BeforeRule, BeforeTerms, Within}
-use Rattle.rec_reader.specs.declared.machine.Stop.{Stop}
-use Rattle.rec_reader.specs.declared.machine.Stop.TheVariants as stop
 use Rattle.rec_reader.specs.declared.machine.Machine.{Machine}
-use Rattle.rec_reader.specs.declared.fail.ReadFail.{ReadFail}
-use Rattle.rec_reader.specs.declared.fail.ReadFail.TheVariants.{Refused, Memory}
+use Rattle.reading.specs.declared.fail.ReadFail.{ReadFail}
+use Rattle.reading.specs.declared.fail.ReadFail.TheVariants.{Refused, Memory}
 use Rattle.rec_reader.specs.declared.syntax_tree.Specification.{Specification}
 use Rattle.rec_reader.specs.Refusal.{place_of}
 use Rattle.rec_reader.specs.Syntax.{blank_rule, blank_specification}
-
--- a step was taken, or there is none, or there was no memory
-abbrev pub Takes : Option Machine → Result (Unit {0}) Stop → Machine → Type 0
-Takes step (Ok _) new = step ≡ Some new
-Takes step (Err stop.Unexpected) new = step ≡ None
-Takes step (Err stop.Memory) new = Unit {0}
 
 abbrev pub at : Machine → Place → Option Machine
 at m place = Some (record m { place = place })

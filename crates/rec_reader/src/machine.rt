@@ -1,11 +1,9 @@
 //! Reads tokens one at a time: where in a sentence it stands, and what was read so far.
 ghost use Rattle.std.specs.Prelude.{◌≡◌};
 ghost use Rattle.rec_reader.specs.Steps as steps;
-ghost use Rattle.rec_reader.specs.Steps.{Takes};
+ghost use Rattle.reading.specs.Taking.{Takes};
 ghost use Rattle.rec_reader.specs.Few.{AreCountsFew};
-ghost use Rattle.rec_reader.specs.declared.machine.Stop.TheVariants.{Memory};
 
-use crate::sequence::{Sequence, Stack};
 use crate::syntax_tree::{Node, Rule, Specification};
 use crate::token::{Name, Token};
 
@@ -14,7 +12,9 @@ mod rules;
 mod sections;
 mod terms;
 
-use std::alloc::{AllocError, Global};
+use reading::Stop;
+use sequences::{Sequence, Stack};
+use std::alloc::Global;
 
 /// Of two sections of declarations, which.
 #[derive(Clone, Copy)]
@@ -66,21 +66,6 @@ pub(crate) enum Place {
     BeforeRule,
     BeforeTerms,
     Within(Purpose, Part),
-}
-
-/// Why a token isn't taken.
-#[derive(Clone, Copy)]
-pub(crate) enum Stop {
-    Unexpected,
-    Memory,
-}
-
-impl From<AllocError> for Stop {
-    ghost from_gives = { λ _ e. e ≡ Memory };
-
-    fn from(_: AllocError) -> Self {
-        Stop::Memory
-    }
 }
 
 /// The place, and what was read so far: whole specifications, the one that is being read, and of its

@@ -7,12 +7,12 @@ ghost use Rattle.rec_reader.specs.Reached.{HasRun, IsUntaken, IsStoppedIn, Spell
 ghost use Rattle.rec_reader.specs.Refusal.{IsRefusal};
 ghost use Rattle.rec_reader.specs.Steps.{run, start, step, IsStopped};
 
-use crate::fail::ReadFail;
-use crate::machine::{Machine, Stop};
+use crate::machine::Machine;
 use crate::scanner::{MOST_BYTES, Piece, piece_at, tokens};
 use crate::syntax_tree::Syntax;
 use crate::token::{Token, Tokens};
 use faults::kinds;
+use reading::{ReadFail, Stop, refused};
 use std::alloc::Global;
 
 fn run(alloc: Global, tokens: &[Token]) -> Result<Machine, ReadFail>
@@ -25,10 +25,7 @@ fn run(alloc: Global, tokens: &[Token]) -> Result<Machine, ReadFail>
         match machine.step(alloc, *token) {
             Ok(()) => {}
             Err(Stop::Unexpected) => {
-                return Err(ReadFail::Refused {
-                    kind: kinds::UNEXPECTED,
-                    offset: token.place() as u64,
-                });
+                return Err(refused(kinds::UNEXPECTED, token.place()));
             }
             Err(Stop::Memory) => return Err(ReadFail::Memory),
         }
@@ -54,10 +51,7 @@ pub fn syntax(alloc: Global, tokens: &Tokens) -> Result<Syntax, ReadFail>
     let text = Vec::from_slice(alloc, tokens.text())?;
     match run(alloc, tokens.as_slice())?.finish() {
         Some(items) => Ok(Syntax { text, items }),
-        None => Err(ReadFail::Refused {
-            kind: kinds::UNENDED,
-            offset: tokens.text().len() as u64,
-        }),
+        None => Err(refused(kinds::UNENDED, tokens.text().len())),
     }
 }
 
@@ -72,10 +66,7 @@ fn take(alloc: Global, bytes: &[u8], machine: &mut Machine, token: Token) -> Res
         Ok(()) => Ok(()),
         Err(Stop::Unexpected) => {
             let _tokens = tokens(alloc, bytes)?;
-            Err(ReadFail::Refused {
-                kind: kinds::UNEXPECTED,
-                offset: place as u64,
-            })
+            Err(refused(kinds::UNEXPECTED, place))
         }
         Err(Stop::Memory) => Err(ReadFail::Memory),
     }
@@ -96,12 +87,7 @@ fn run_bytes(alloc: Global, bytes: &[u8]) -> Result<Machine, ReadFail>
                 take(alloc, bytes, &mut machine, token)?;
                 at += more + 1;
             }
-            Piece::Bad => {
-                return Err(ReadFail::Refused {
-                    kind: kinds::BAD_BYTE,
-                    offset: at as u64,
-                });
-            }
+            Piece::Bad => return Err(refused(kinds::BAD_BYTE, at)),
         }
     }
     Ok(machine)
@@ -129,9 +115,6 @@ pub fn read(alloc: Global, bytes: &[u8]) -> Result<Syntax, ReadFail>
             let text = Vec::from_slice(alloc, bytes)?;
             Ok(Syntax { text, items })
         }
-        None => Err(ReadFail::Refused {
-            kind: kinds::UNENDED,
-            offset: bytes.len() as u64,
-        }),
+        None => Err(refused(kinds::UNENDED, bytes.len())),
     }
 }

@@ -3,9 +3,9 @@ ghost use Rattle.std.specs.Prelude.{◌≡◌, ◌+◌, ◌-◌, ◌≤◌, ◌<
 ghost use Rattle.std.specs.Option.{option_map_or};
 ghost use Rattle.rec_reader.specs.Tokens.{is_space, is_plain, is_name_byte, run_length, comment_length, begins, is_frequent_mark, ends_word, word_of, mark_of, more_of, token_of_run, piece_at, tokens_of, IsBadByte};
 
-use crate::fail::ReadFail;
 use crate::token::{Name, Sign, Token, Tokens};
 use faults::kinds;
+use reading::{ReadFail, refused};
 use std::alloc::Global;
 
 /// The most bytes that an input may have: 32 bits hold each count of what it spells.
@@ -228,12 +228,7 @@ pub fn tokens(alloc: Global, bytes: &[u8]) -> Result<Tokens, ReadFail>
                 items.push(token)?;
                 at += more + 1;
             }
-            Piece::Bad => {
-                return Err(ReadFail::Refused {
-                    kind: kinds::BAD_BYTE,
-                    offset: at as u64,
-                });
-            }
+            Piece::Bad => return Err(refused(kinds::BAD_BYTE, at)),
         }
     }
     let text = Vec::from_slice(alloc, bytes)?;

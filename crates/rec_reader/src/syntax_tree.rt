@@ -4,8 +4,8 @@ ghost use Rattle.rec_reader.specs.Whole.{HasWholeTerms};
 ghost use Rattle.rec_reader.specs.Few.{HasFewLeftNodes};
 ghost use Rattle.rec_reader.specs.Syntax.{blank_specification, blank_rule};
 
-use crate::sequence::Sequence;
 use crate::token::Name;
+use sequences::Sequence;
 use std::alloc::Global;
 use std::marker::Model;
 

@@ -10,7 +10,7 @@ use Rattle.term_model.specs.declared.Symbol.{Symbol}
 use Rattle.term_model.specs.declared.Head.TheVariants.{App, Int, Nil, Cons}
 use Rattle.term_model.specs.Tree.{Tree, Leaf, Node, Trees, End, More}
 use Rattle.term_model.proofs.Order.{both_hold}
-use Rattle.term_syntax.specs.Text.{text_by, in_parentheses, after_commas}
+use Rattle.tree_text.specs.Text.{text_by, in_parentheses, after_commas}
 use Rattle.term_text.specs.Text.{plain_name}
 use Rattle.rec_check.proofs.NameBytes.{is_clear, IsClear}
 use Rattle.rec_check.proofs.Clear.{ClearSymbols}

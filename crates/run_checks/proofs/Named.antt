@@ -1,6 +1,6 @@
 -- All symbols of what an input spells are among its symbols.
 use Rattle.std.proofs.Common.{◌≡◌, ℕ, ◌-◌, ◌<◌, Bool, true, false, ◌⊎◌, inl, inr, List, [], ◌∷◌, ◌++◌, length, Option, Some, None, All, refl, sym, ap, subst, ◌∙◌, arith, position}
-use Rattle.std.specs.Prelude.{◌&&◌, nat_lt}
+use Rattle.std.specs.Prelude.{◌&&◌, nat_lt, Result, Ok, Err, IfOk}
 use Rattle.std.specs.List.{list_all}
 use Rattle.std.specs.Str.{bytes_eq}
 use Rattle.std.proofs.lemmas.List.Folds.{list_all-append}
@@ -24,8 +24,7 @@ use Rattle.rec_check.specs.Symbols.{named_in, with_symbols}
 use Rattle.rec_check.specs.Term.{Scope, item_in, tree_in, same_symbol}
 use Rattle.rec_check.specs.Rule.{◌>>=◌, rule_in}
 use Rattle.rec_check.specs.Spelled.{Specified, nothing, variables_of, rules_in, rules_of, terms_in, with_few_rules, spelled_by}
-use Rattle.std.specs.Prelude.{Result, Ok, Err, IfOk}
-use Rattle.rec_reader.specs.declared.fail.ReadFail.{ReadFail}
+use Rattle.reading.specs.declared.fail.ReadFail.{ReadFail}
 use Rattle.rec_check.specs.declared.spec.Spec.{Spec}
 use Rattle.rec_check.specs.Spec.{specified}
 use Rattle.rec_check.specs.Run.{last_of, spelled_with, spelled_in}

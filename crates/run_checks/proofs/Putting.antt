@@ -11,7 +11,7 @@ use Rattle.term_model.specs.declared.Item.{Item}
 use Rattle.term_model.specs.Tree.{Tree, Leaf, Node, Trees, End, More, count_of, is_ground, all_ground, IsGround}
 use Rattle.term_model.specs.Postorder.{postorder, postorder_all, item_of}
 use Rattle.term_model.proofs.Order.{both}
-use Rattle.term_syntax.specs.Text.{is_named, has_names, all_have_names, HasNames}
+use Rattle.tree_text.specs.Text.{is_named, has_names, all_have_names, HasNames}
 use Rattle.rewrite_model.specs.Rule.{Rule, IsRule, is_below, all_below}
 use Rattle.rule_match.specs.Planned.{is_plain, IsPlain, HasSymbolsAlone, IsPlan, planned}
 use Rattle.rec_check.specs.Spelled.{Specified}

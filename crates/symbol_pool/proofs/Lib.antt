@@ -1,3 +1,4 @@
 pub mod Places
 pub mod Pools
 pub mod Grown
+pub mod Taking

@@ -1,3 +1,4 @@
 pub mod Pool
 pub mod Names
 pub mod Kept
+pub mod Taking

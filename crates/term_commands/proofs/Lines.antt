@@ -4,7 +4,7 @@ use Rattle.std.specs.Prelude.{Option, Some, None, unwrap_or, is_some, not, nat_l
 use Rattle.std.proofs.Math.Seq.{drop-cons}
 use Rattle.term_model.specs.Tree.{Tree, nodes}
 use Rattle.symbol_pool.specs.Pool.{Named}
-use Rattle.term_syntax.specs.Canonical.{canonical}
+use Rattle.tree_text.specs.Canonical.{canonical}
 use Rattle.term_commands.specs.Unpacking.{is_too_large, lines, all_written}
 use Rattle.term_commands.specs.WritingLines.{WritesLine}
 

@@ -2,12 +2,12 @@
 use Rattle.std.proofs.Common.{◌≡◌, ◌⊎◌, inl, inr, ℕ, ◌<◌, ◌≤◌, List, [], ◌∷◌, ◌++◌, length, Option, Some, None, refl, sym, ap, subst, ◌∙◌, arith, append_assoc, append-nil}
 use Rattle.std.specs.Prelude.{Result, Ok, Err, unwrap_or}
 use Rattle.faults.specs.declared.refusal.Refusal.{Refusal}
-use Rattle.rec_reader.specs.declared.fail.ReadFail.{ReadFail}
-use Rattle.rec_reader.specs.declared.fail.ReadFail.TheVariants as fail
+use Rattle.reading.specs.declared.fail.ReadFail.{ReadFail}
+use Rattle.reading.specs.declared.fail.ReadFail.TheVariants as fail
 use Rattle.term_model.specs.Tree.{Tree}
 use Rattle.symbol_pool.specs.Pool.{Named}
 use Rattle.term_syntax.specs.Token.{Token}
-use Rattle.term_syntax.specs.Fault.{fault}
+use Rattle.reading.specs.Fault.{fault}
 use Rattle.term_syntax.specs.Tokens.{tokens_of}
 use Rattle.term_syntax.specs.Written.{Written}
 use Rattle.term_syntax.specs.TermGrammar.{IsInput, BeginsInput}
@@ -22,7 +22,7 @@ use Rattle.term_syntax.proofs.TakingTerms.{taking_input}
 use Rattle.term_syntax.proofs.Readings.{only_one, no_refusal}
 use Rattle.term_commands.specs.Different.{different}
 use Rattle.term_commands.specs.Listing.{IsListed, IsTooMuch, IsTextFault, sizes_line}
-use Rattle.term_syntax.specs.Canonical.{canonical_lines}
+use Rattle.tree_text.specs.Canonical.{canonical_lines}
 
 -- ---- two splits of the same tokens are the same, or one is further on
 data Splits (b c : List Token) (t u : Token) : Type 0 where

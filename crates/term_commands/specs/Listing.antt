@@ -3,8 +3,8 @@ use Rattle.std.specs.Prelude.{◌≡◌, ℕ, ◌≤◌, ◌<◌, List, [], ◌+
 use Rattle.term_model.specs.Tree.{Tree, nodes}
 use Rattle.symbol_pool.specs.Pool.{Named}
 use Rattle.faults.specs.declared.refusal.Refusal.{Refusal}
-use Rattle.rec_reader.specs.declared.fail.ReadFail.TheVariants as fail
-use Rattle.term_syntax.specs.Canonical.{canonical_lines}
+use Rattle.reading.specs.declared.fail.ReadFail.TheVariants as fail
+use Rattle.tree_text.specs.Canonical.{canonical_lines}
 use Rattle.term_syntax.specs.Reading.{IsReading, IsRefusal}
 use Rattle.term_text.specs.Sizes.{saturated}
 use Rattle.term_commands.specs.Different.{different}

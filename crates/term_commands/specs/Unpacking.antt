@@ -3,7 +3,7 @@ use Rattle.std.specs.Prelude.{◌≡◌, ℕ, ◌+◌, List, [], ◌∷◌, ◌+
 use Rattle.term_model.specs.Tree.{Tree, nodes}
 use Rattle.symbol_pool.specs.Pool.{Named}
 use Rattle.faults.specs.declared.refusal.Refusal.{Refusal}
-use Rattle.term_syntax.specs.Canonical.{canonical}
+use Rattle.tree_text.specs.Canonical.{canonical}
 use Rattle.term_file.specs.File.{Terms, IsFile}
 use Rattle.term_file.specs.Reading.{read_file}
 use Rattle.term_commands.specs.declared.fault.TermsFault.{TermsFault}

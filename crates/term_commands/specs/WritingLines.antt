@@ -2,7 +2,7 @@
 use Rattle.std.specs.Prelude.{◌≡◌, ℕ, List, ◌++◌, codes, Bool, true, false, Option, Some, None}
 use Rattle.term_model.specs.Tree.{Tree, nodes}
 use Rattle.symbol_pool.specs.Pool.{Named}
-use Rattle.term_syntax.specs.Canonical.{canonical}
+use Rattle.tree_text.specs.Canonical.{canonical}
 use Rattle.term_commands.specs.Unpacking.{is_too_large}
 
 -- The line of a term was put behind the text, where so many nodes were written before: the term has these many nodes, or

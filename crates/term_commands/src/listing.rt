@@ -1,8 +1,8 @@
 //! The command `terms`: term text to the canonical line of each term, and how large they are together.
 ghost use Rattle.std.specs.Prelude.{◌≡◌, ◌++◌, All, IfOk, IfErr, OnOk};
 ghost use Rattle.term_model.specs.Tree.{IsGround};
-ghost use Rattle.term_syntax.specs.Canonical.{canonical_lines};
-ghost use Rattle.term_syntax.specs.Text.{HasNames};
+ghost use Rattle.tree_text.specs.Canonical.{canonical_lines};
+ghost use Rattle.tree_text.specs.Text.{HasNames};
 ghost use Rattle.term_commands.specs.Listing.{IsListed, IsUntold, counts_line};
 
 use crate::fault::TermsFault;
@@ -12,7 +12,9 @@ use itoa::Buffer;
 use std::alloc::Global;
 use symbol_pool::Symbols;
 use term_model::Flat;
-use term_text::{TermSizes, read_terms, write_term};
+use term_syntax::read_terms;
+use term_text::TermSizes;
+use tree_text::write_term;
 
 /// Appends the canonical text of each term, and a line feed.
 fn write_lines(terms: &[Flat], symbols: &Symbols, out: &mut Vec<u8>) -> Result<(), Memory>

@@ -7,7 +7,7 @@ use crate::fault::TermsFault;
 use std::alloc::Global;
 use symbol_pool::Symbols;
 use term_file::{encode, share};
-use term_text::read_terms;
+use term_syntax::read_terms;
 
 /// The one file of the terms that the input spells, in which each different subterm stands once.
 ///

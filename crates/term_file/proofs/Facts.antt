@@ -1,19 +1,18 @@
 -- What the tests of a right file say of the symbol, and of the record, with a number.
 use Rattle.std.proofs.Common.{◌≡◌, ℕ, zero, suc, ◌<◌, Bool, true, false, not, ◌&&◌, ◌||◌, eqb, leb, List, [], ◌∷◌, ◌++◌, length, slice_get, Some, refl, sym, ap, ◌∙◌, append_assoc, true≢false, arith}
-use Rattle.std.specs.Prelude.{unwrap_or}
+use Rattle.std.specs.Prelude.{unwrap_or, nat_eq}
 use Rattle.std.specs.List.{list_any, list_all, AllByRecursion}
 use Rattle.std.specs.Cmp.{first_so, second_so}
 use Rattle.std.specs.Cmp.Lexicographic.{pointwise, bytes_decides}
-use Rattle.std.specs.Prelude.{nat_eq}
 use Rattle.std.proofs.lemmas.Bool.{eqb-true}
 use Rattle.std.proofs.lemmas.List.{append-nil}
 use Rattle.symbol_pool.specs.Pool.{Named}
 use Rattle.symbol_pool.proofs.Places.{slice_get-append}
 use Rattle.term_model.proofs.Equality.{head_eq_refl}
 use Rattle.term_model.specs.declared.Head.{Head}
-use Rattle.term_syntax.specs.Tokens.{is_printable}
-use Rattle.term_syntax.specs.TakenUp.{named_eq}
-use Rattle.term_syntax.proofs.Pool.{itself}
+use Rattle.tree_text.specs.NameBytes.{is_printable}
+use Rattle.symbol_pool.specs.Taking.{named_eq}
+use Rattle.symbol_pool.proofs.Taking.{itself}
 use Rattle.term_file.specs.Contents.{Record, table_of}
 use Rattle.term_file.specs.Right.{all_after, is_right_symbol, record_eq, may_be_argument, may_be_arguments, is_right_head, is_right_record, arity_in}
 use Rattle.term_file.proofs.RecordsAgain.{argument_before}

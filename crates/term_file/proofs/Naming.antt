@@ -13,7 +13,7 @@ use Rattle.term_model.specs.declared.Head.TheVariants.{App, Int, Nil, Cons}
 use Rattle.term_model.specs.Tree.{Tree, Leaf, Node, Trees, End, More, subtrees, subtrees_all, tree_eq, among, distinct}
 use Rattle.term_model.proofs.Equality.{tree_eq_sound, tree_eq_same, among_here, among_there}
 use Rattle.term_model.proofs.Members.{same_test}
-use Rattle.term_syntax.specs.Text.{is_named, has_names, all_have_names}
+use Rattle.tree_text.specs.Text.{is_named, has_names, all_have_names}
 use Rattle.term_file.specs.NamedTree.{Called, Over, One_more, named_head, named_tree, named_trees, AreSame}
 use Rattle.term_file.specs.Sharing.{different}
 use Rattle.term_file.proofs.SymbolFields.{both_true}

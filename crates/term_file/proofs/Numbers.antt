@@ -11,8 +11,8 @@ use Rattle.symbol_pool.specs.Pool.{Named, named, IsPool, Lacks, Has, IsFullFor, 
 use Rattle.symbol_pool.proofs.Places.{slice_get-append}
 use Rattle.term_model.specs.declared.Symbol.{Symbol}
 use Rattle.term_model.proofs.Members.{same_test}
-use Rattle.term_syntax.specs.TakenUp.{named_eq, has, with_symbol}
-use Rattle.term_syntax.proofs.Pool.{same_named, itself, has_from, has_it, lacks_it, with_old, with_new}
+use Rattle.symbol_pool.specs.Taking.{named_eq, has, with_symbol}
+use Rattle.symbol_pool.proofs.Taking.{same_named, itself, has_from, has_it, lacks_it, with_old, with_new}
 use Rattle.term_file.specs.Sharing.{IsPart, Numbers}
 use Rattle.term_file.proofs.Facts.{list_any_at}
 use Rattle.term_file.proofs.Pieces.{symbol_is}

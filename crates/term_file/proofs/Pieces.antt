@@ -6,7 +6,7 @@ use Rattle.std.specs.Cmp.{first_so, second_so}
 use Rattle.std.proofs.lemmas.Bool.{leb-true}
 use Rattle.symbol_pool.specs.Pool.{Named, named, name_at, arity_at}
 use Rattle.term_model.specs.declared.Symbol.{Symbol}
-use Rattle.term_syntax.specs.Tokens.{is_printable}
+use Rattle.tree_text.specs.NameBytes.{is_printable}
 use Rattle.term_file.specs.Right.{all_after, is_right_symbol}
 use Rattle.term_file.specs.Written.{IsShort}
 

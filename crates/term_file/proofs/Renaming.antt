@@ -11,10 +11,10 @@ use Rattle.term_model.specs.declared.Head.TheVariants as head
 use Rattle.term_model.specs.declared.Item.{Item}
 use Rattle.term_model.specs.declared.Item.TheVariants.{Var, App, Int, Nil, Cons}
 use Rattle.term_model.specs.Postorder.{head_of, arity_of}
-use Rattle.term_syntax.specs.TakenUp.{has}
-use Rattle.term_syntax.specs.Tokens.{is_printable}
-use Rattle.term_syntax.specs.Canonical.{is_writable_symbol}
-use Rattle.term_syntax.proofs.Pool.{has_from, lacks_it, with_old, with_new}
+use Rattle.symbol_pool.specs.Taking.{has}
+use Rattle.tree_text.specs.NameBytes.{is_printable}
+use Rattle.tree_text.specs.Canonical.{is_writable_symbol}
+use Rattle.symbol_pool.proofs.Taking.{has_from, lacks_it, with_old, with_new}
 use Rattle.term_file.specs.Right.{is_right_symbol, is_new_symbol, is_right_head, arity_in}
 use Rattle.term_file.specs.NamedTree.{Called, named_head}
 use Rattle.term_file.specs.Sharing.{IsPart, Numbers, NumbersHead, is_writable_item}

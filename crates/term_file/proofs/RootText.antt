@@ -6,7 +6,7 @@ use Rattle.std.proofs.lemmas.Bool.{ltb-true}
 use Rattle.std.proofs.lemmas.List.{length-map}
 use Rattle.std.proofs.lemmas.Option.{slice_get-map, slice_get-get_or}
 use Rattle.term_model.specs.Tree.{Tree, Leaf}
-use Rattle.term_syntax.specs.Canonical.{canonical}
+use Rattle.tree_text.specs.Canonical.{canonical}
 use Rattle.term_file.specs.Contents.{Contents, trees, tree_at, terms}
 use Rattle.term_file.specs.Right.{IsRight}
 use Rattle.term_file.specs.File.{Terms, terms_in}

@@ -7,8 +7,8 @@ use Rattle.term_model.specs.declared.Symbol.{Symbol}
 use Rattle.term_model.specs.declared.Head.{Head}
 use Rattle.term_model.specs.declared.Head.TheVariants.{App, Int, Nil, Cons}
 use Rattle.term_model.specs.Tree.{Tree, Leaf, Node, Trees, End, More}
-use Rattle.term_syntax.specs.Text.{text_by, in_parentheses, after_commas, elements, further_elements}
-use Rattle.term_syntax.specs.Canonical.{spelled_name, spelling, canonical_lines}
+use Rattle.tree_text.specs.Text.{text_by, in_parentheses, after_commas, elements, further_elements}
+use Rattle.tree_text.specs.Canonical.{spelled_name, spelling, canonical_lines}
 use Rattle.term_file.specs.NamedTree.{named_head, named_tree, named_trees, AreSame}
 
 module _ (names others : List Named) where

@@ -14,8 +14,8 @@ use Rattle.term_model.specs.declared.Item.{Item}
 use Rattle.term_model.specs.declared.Item.TheVariants.{Var, App, Int, Nil, Cons}
 use Rattle.term_model.specs.Tree.{Tree, Leaf, Node, Trees, End, More, count_of, among, IsWellFormed}
 use Rattle.term_model.specs.Postorder.{item_of, postorder, postorder_all, head_of, arity_of, push_items}
-use Rattle.term_syntax.specs.Text.{has_names}
-use Rattle.term_syntax.specs.Canonical.{is_writable, all_writable, is_writable_head, IsWritable}
+use Rattle.tree_text.specs.Text.{has_names}
+use Rattle.tree_text.specs.Canonical.{is_writable, all_writable, is_writable_head, IsWritable}
 use Rattle.term_file.specs.declared.fault.ShareFault.{ShareFault}
 use Rattle.term_file.specs.Contents.{Record, Contents, nothing, trees, tree_at, terms}
 use Rattle.term_file.specs.Right.{IsRight, is_new_record}

@@ -17,7 +17,7 @@ use Rattle.term_model.specs.declared.Head.TheVariants as head
 use Rattle.term_model.specs.declared.Item.{Item}
 use Rattle.term_model.specs.Tree.{Tree, Leaf, Node, Trees, trees_of, may_be_list, may_stand_over}
 use Rattle.term_model.specs.Postorder.{arity_of}
-use Rattle.term_syntax.specs.Text.{has_names}
+use Rattle.tree_text.specs.Text.{has_names}
 use Rattle.term_file.specs.Contents.{Record, Contents, trees, tree_at, tree_over}
 use Rattle.term_file.specs.InOrder.{came_after, visits, visits_at, visits_over, walk, used_by, uses}
 use Rattle.term_file.specs.Right.{all_after, is_right_symbol, is_right_head, is_right_record, is_new_record, arity_in, is_list, is_list_at, may_be_argument, may_be_arguments}

@@ -7,7 +7,7 @@ use Rattle.std.proofs.lemmas.List.{append-nil}
 use Rattle.byteorder.specs.Endian.{big_bytes}
 use Rattle.faults.specs.declared.refusal.Refusal.{Refusal}
 use Rattle.symbol_pool.specs.Pool.{Named, named}
-use Rattle.term_syntax.specs.Tokens.{is_printable}
+use Rattle.tree_text.specs.NameBytes.{is_printable}
 use Rattle.term_file.specs.Right.{all_after, is_right_symbol, is_new_symbol}
 use Rattle.term_file.specs.File.{symbol_bytes}
 use Rattle.term_file.specs.Reading.{◌>>=◌, number_at, text_where, number_where, symbol_at, symbols_at}

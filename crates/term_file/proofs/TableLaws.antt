@@ -16,8 +16,8 @@ use Rattle.symbol_pool.proofs.Pools.{stands}
 use Rattle.term_model.specs.declared.Symbol.{Symbol}
 use Rattle.term_model.specs.Tree.{Tree, trees_of, head_eq, nodes, nodes_all}
 use Rattle.term_model.proofs.Equality.{head_eq_sound}
-use Rattle.term_syntax.specs.TakenUp.{named_eq}
-use Rattle.term_syntax.proofs.Pool.{itself, same_named}
+use Rattle.symbol_pool.specs.Taking.{named_eq}
+use Rattle.symbol_pool.proofs.Taking.{itself, same_named}
 use Rattle.term_file.specs.declared.record.Kind.{Kind}
 use Rattle.term_file.specs.declared.record.Kind.TheVariants.{Call, Integer, Empty, Cell}
 use Rattle.term_file.specs.declared.record.Record as declared

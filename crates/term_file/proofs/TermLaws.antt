@@ -11,7 +11,7 @@ use Rattle.symbol_pool.proofs.Pools.{stands}
 use Rattle.term_model.specs.declared.Head.{Head}
 use Rattle.term_model.specs.declared.Head.TheVariants.{App, Int, Nil, Cons}
 use Rattle.term_model.specs.Tree.{Tree, Node, Trees, trees_of, may_be_list, may_stand_over, is_well_formed, all_well_formed, is_ground, all_ground}
-use Rattle.term_syntax.specs.Text.{is_named, has_names, all_have_names}
+use Rattle.tree_text.specs.Text.{is_named, has_names, all_have_names}
 use Rattle.term_file.specs.Contents.{Record, Contents, trees, tree_at}
 use Rattle.term_file.specs.Right.{IsRight, all_after, is_right_head, is_right_record, may_be_arguments, is_list, is_list_at, arity_in}
 use Rattle.term_file.proofs.SymbolFields.{both_true}

@@ -2,7 +2,7 @@
 use Rattle.std.specs.Prelude.{◌≡◌, ℕ, List}
 use Rattle.term_model.specs.Tree.{Tree}
 use Rattle.symbol_pool.specs.Pool.{Named}
-use Rattle.term_syntax.specs.Canonical.{canonical_lines}
+use Rattle.tree_text.specs.Canonical.{canonical_lines}
 use Rattle.term_file.specs.File.{Terms, IsFile}
 use Rattle.term_file.specs.NamedTree.{AreSame}
 

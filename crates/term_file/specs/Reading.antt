@@ -8,8 +8,8 @@ use Rattle.term_model.specs.declared.Head.{Head}
 use Rattle.term_model.specs.declared.Head.TheVariants.{App, Int, Nil, Cons}
 use Rattle.symbol_pool.specs.Pool.{Named, named}
 use Rattle.faults.specs.declared.refusal.Refusal.{Refusal}
-use Rattle.term_syntax.specs.Fault.{fault}
-use Rattle.term_syntax.specs.Tokens.{is_printable}
+use Rattle.reading.specs.Fault.{fault}
+use Rattle.tree_text.specs.NameBytes.{is_printable}
 use Rattle.term_file.specs.Contents.{Record, Contents}
 use Rattle.term_file.specs.InOrder.{came_after, used_by, visits, visits_at}
 use Rattle.term_file.specs.Right.{is_new_symbol, is_new_record, arity_in, may_be_argument}

@@ -7,8 +7,8 @@ use Rattle.term_model.specs.declared.Head.{Head}
 use Rattle.term_model.specs.declared.Head.TheVariants.{App, Int, Nil, Cons}
 use Rattle.term_model.specs.Tree.{head_eq}
 use Rattle.symbol_pool.specs.Pool.{Named}
-use Rattle.term_syntax.specs.TakenUp.{named_eq}
-use Rattle.term_syntax.specs.Tokens.{is_printable}
+use Rattle.symbol_pool.specs.Taking.{named_eq}
+use Rattle.tree_text.specs.NameBytes.{is_printable}
 use Rattle.term_file.specs.Contents.{Record, Contents}
 use Rattle.term_file.specs.InOrder.{came_after, walk, uses}
 

@@ -9,8 +9,8 @@ use Rattle.term_model.specs.declared.Head.TheVariants as head
 use Rattle.term_model.specs.Tree.{Tree, subtrees, distinct}
 use Rattle.term_model.specs.Postorder.{push_item}
 use Rattle.symbol_pool.specs.Pool.{Named, IsPool}
-use Rattle.term_syntax.specs.TakenUp.{has, with_symbol}
-use Rattle.term_syntax.specs.Canonical.{is_writable_symbol}
+use Rattle.symbol_pool.specs.Taking.{has, with_symbol}
+use Rattle.tree_text.specs.Canonical.{is_writable_symbol}
 use Rattle.term_file.specs.Contents.{Record, Contents, terms}
 use Rattle.term_file.specs.InOrder.{came_after, walk, uses}
 use Rattle.term_file.specs.Right.{all_after, is_right_symbol, is_right_record, is_new_record}

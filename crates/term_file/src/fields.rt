@@ -2,15 +2,15 @@
 ghost use Rattle.std.specs.Prelude.{◌≡◌, ◌-◌, ◌≤◌, length, nat_le, nat_eq, IfOk};
 ghost use Rattle.std.specs.Cmp.Lexicographic.{pointwise};
 ghost use Rattle.std.specs.List.{list_all};
-ghost use Rattle.rec_reader.specs.declared.fail.ReadFail.TheVariants.{Refused};
-ghost use Rattle.term_syntax.specs.Tokens as tokens;
+ghost use Rattle.reading.specs.declared.fail.ReadFail.TheVariants.{Refused};
+ghost use Rattle.tree_text.specs.NameBytes as tokens;
 ghost use Rattle.term_file.specs.File as file;
 ghost use Rattle.term_file.specs.Reading as spec;
 ghost use Rattle.term_file.specs.Outcome.{Gives};
 
 use byteorder::{BigEndian, ByteOrder};
 use faults::kinds;
-use rec_reader::ReadFail;
+use reading::ReadFail;
 
 /// The kind of a field that breaks its rule.
 const BAD_FILE: u8 = 18;

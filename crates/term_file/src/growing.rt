@@ -1,7 +1,7 @@
 //! Terms that are shared item by item.
 ghost use Rattle.std.specs.Prelude.{◌≡◌, ◌<◌, ◌≤◌, length, All, IfOk, OnErr, OnOk, Err, true};
 ghost use Rattle.symbol_pool.specs.Pool.{IsPool};
-ghost use Rattle.term_syntax.specs.Canonical.{IsWritable};
+ghost use Rattle.tree_text.specs.Canonical.{IsWritable};
 ghost use Rattle.term_file.specs.declared.fault.ShareFault.TheVariants.{StoreFull};
 ghost use Rattle.term_file.specs.Outcome.{view};
 ghost use Rattle.term_file.specs.Right as right;

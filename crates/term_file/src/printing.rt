@@ -1,15 +1,15 @@
 //! Terms of a file as text.
 ghost use Rattle.std.specs.Prelude.{◌≡◌, ◌<◌, ◌++◌, ◌↔◌, length, IfOk, OnErr, Ok};
 ghost use Rattle.term_model.specs.Tree.{nodes};
-ghost use Rattle.term_syntax.specs.Canonical.{canonical};
+ghost use Rattle.tree_text.specs.Canonical.{canonical};
 ghost use Rattle.term_text.specs.declared.printing.Printed.TheVariants.{Whole, TooLarge};
 ghost use Rattle.term_file.specs.Contents as contents;
 
 use crate::expanding::flat_of;
 use crate::shared::Shared;
 use faults::Memory;
-use term_syntax::write_term;
 use term_text::Printed;
+use tree_text::write_term;
 
 /// Puts the canonical text of one of the terms behind what `out` has, unless the term has more nodes than the
 /// limit. Then, as without memory, `out` is as before. It doesn't recurse, and takes memory linear in the nodes.

@@ -1,6 +1,6 @@
 //! Shares the equal subterms of terms.
 ghost use Rattle.std.specs.Prelude.{◌≡◌, ◌<◌, ◌≤◌, ◌^◌, All, IfOk, OnOk, Err, length};
-ghost use Rattle.term_syntax.specs.Canonical.{IsWritable};
+ghost use Rattle.tree_text.specs.Canonical.{IsWritable};
 ghost use Rattle.term_file.specs.declared.fault.ShareFault.TheVariants.{StoreFull};
 ghost use Rattle.term_file.specs.NamedTree.{AreSame};
 ghost use Rattle.term_file.specs.Sharing.{different};
@@ -10,7 +10,7 @@ use crate::growing::Growing;
 use crate::shared::Shared;
 use std::alloc::Global;
 use symbol_pool::Symbols;
-use term_syntax::Flats;
+use tree_text::Flats;
 
 /// The terms, each different subterm once, of which there may be `rows`. Memory is linear in the terms, whatever
 /// their depth.

@@ -1,8 +1,7 @@
 -- What must still come at each place of an input, in the grammar's words.
 use Rattle.std.proofs.Common.{◌≡◌, ◌+◌, ℕ, List, [], ◌∷◌, ◌++◌, Bool, true, false, Option, Some, None}
 use Rattle.std.specs.Prelude.{option_and_then}
-use Rattle.term_syntax.specs.Token.{Token}
-use Rattle.term_syntax.specs.Token.{Word, Number, At}
+use Rattle.term_syntax.specs.Token.{Token, Word, Number, At}
 use Rattle.term_syntax.specs.declared.token.Mark.{Mark}
 use Rattle.term_syntax.specs.declared.token.Mark.TheVariants.{Open, Close, OpenList, CloseList, Comma}
 use Rattle.term_syntax.specs.declared.machine.Group.{Group}

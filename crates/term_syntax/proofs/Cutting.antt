@@ -1,11 +1,10 @@
 -- Reading on, piece by piece.
 use Rattle.std.proofs.Common.{◌≡◌, ◌≤◌, ◌<◌, ◌∙◌, ℕ, zero, suc, ◌+◌, ◌-◌, List, [], ◌∷◌, ◌++◌, length, length-drop, drop, refl, ap, sym, arith, append_assoc, append-nil, Result, Ok, Err}
-use Rattle.rec_reader.specs.declared.fail.ReadFail.{ReadFail}
-use Rattle.rec_reader.specs.declared.fail.ReadFail.TheVariants.{Refused, Memory}
+use Rattle.reading.specs.declared.fail.ReadFail.{ReadFail}
+use Rattle.reading.specs.declared.fail.ReadFail.TheVariants.{Refused, Memory}
 use Rattle.faults.specs.declared.refusal.Refusal.{Refusal}
-use Rattle.term_syntax.specs.Fault.{IsDue}
-use Rattle.term_syntax.specs.Token.{Token}
-use Rattle.term_syntax.specs.Token.{Piece, Blank, Whole}
+use Rattle.reading.specs.Fault.{IsDue}
+use Rattle.term_syntax.specs.Token.{Token, Piece, Blank, Whole}
 use Rattle.term_syntax.specs.Reached.{HasTokens}
 use Rattle.term_syntax.specs.Tokens.{tokens_from, tokens_of, after_token, after_piece, next_of, piece_at, read_piece}
 use Rattle.std.proofs.lemmas.List.{drop_more, drop_all, drop-drop}

@@ -7,14 +7,12 @@ use Rattle.std.proofs.lemmas.Bool.Decides.{nat_tests}
 use Rattle.std.proofs.Math.Numerals.{add-one}
 use Rattle.term_model.proofs.Order.{both}
 use Rattle.faults.specs.declared.refusal.Refusal.{Refusal}
-use Rattle.term_syntax.specs.Token.{Token}
-use Rattle.term_syntax.specs.Token.{Word, Number, At}
+use Rattle.term_syntax.specs.Token.{Token, Word, Number, At, Piece, Blank, Whole}
 use Rattle.term_syntax.specs.declared.token.Mark.{Mark}
-use Rattle.term_syntax.specs.Token.{Piece}
-use Rattle.term_syntax.specs.Token.{Blank, Whole}
 use Rattle.term_syntax.specs.declared.scanner.Role.{Role}
 use Rattle.term_syntax.specs.declared.scanner.Role.TheVariants.{Closes, Escapes, Stands, Bad}
-use Rattle.term_syntax.specs.Tokens.{is_space, begins_name, continues_name, is_printable, front_length, integer_of, up_to_most, is_longer_than_one, begins_with_zero, quoted, by_role, role_of, with_byte, quoted_piece, mark_piece, mark_of, piece_at, after_token, read_piece, tokens_from, tokens_of}
+use Rattle.term_syntax.specs.Tokens.{is_space, front_length, integer_of, up_to_most, is_longer_than_one, begins_with_zero, quoted, by_role, role_of, with_byte, quoted_piece, mark_piece, mark_of, piece_at, after_token, read_piece, tokens_from, tokens_of}
+use Rattle.tree_text.specs.NameBytes.{begins_name, continues_name, is_printable}
 
 abbrev pub is_good_number : Option ℕ → Bool
 is_good_number (Some v) = leb v 18446744073709551615

@@ -5,13 +5,12 @@ use Rattle.std.proofs.lemmas.List.Elements.{All-head, All-tail, All-nil, All-con
 use Rattle.term_model.specs.Tree.{IsGround, is_ground, all_ground}
 use Rattle.term_model.proofs.Order.{both}
 use Rattle.symbol_pool.specs.Pool.{Named}
-use Rattle.term_syntax.specs.State.{Symbol, Brackets}
-use Rattle.term_syntax.specs.State.{Part}
+use Rattle.term_syntax.specs.State.{Symbol, Brackets, Part}
 use Rattle.term_syntax.specs.Written.{Written, Call, Digits, Listed, Writtens, End, More, count_of}
 use Rattle.term_syntax.specs.Parts.{parts_of, parts_of_all, parts_of_input}
 use Rattle.term_syntax.specs.TakenUp.{tree_in, trees_in, cells_in}
 use Rattle.term_syntax.specs.Items.{IsThere}
-use Rattle.term_syntax.specs.Text.{has_names, all_have_names, HasNames}
+use Rattle.tree_text.specs.Text.{has_names, all_have_names, HasNames}
 
 pub All-left : (P : Part → Type 0) (xs ys : List Part) → All P (xs ++ ys) → All P xs
 All-left P xs ys h = subst (All P) (take_at xs ys (length xs) refl) (All-take P (length xs) (xs ++ ys) h)

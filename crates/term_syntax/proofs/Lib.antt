@@ -7,7 +7,7 @@ pub mod Complete
 pub mod Ahead
 pub mod Viable
 pub mod Verdicts
-pub mod Pool
+pub mod Names
 pub mod TakingTerms
 pub mod TakingUp
 pub mod Spelling
@@ -16,9 +16,6 @@ pub mod Ground
 pub mod GoodTokens
 pub mod Writable
 pub mod Readings
-pub mod Arriving
-pub mod CellCounts
-pub mod Writings
 pub mod TokensBack
 pub mod TermsBack
 pub mod LinesBack

@@ -9,7 +9,7 @@ use Rattle.term_syntax.specs.Written.{Written}
 use Rattle.term_syntax.specs.TermGrammar.{IsInput, none, next}
 use Rattle.term_syntax.specs.Parts.{parts_of_input, taken_up}
 use Rattle.term_syntax.specs.TakenUp.{tree_in}
-use Rattle.term_syntax.specs.Canonical.{canonical, canonical_lines, IsWritable}
+use Rattle.tree_text.specs.Canonical.{canonical, canonical_lines, IsWritable}
 use Rattle.term_syntax.specs.Reading.{IsReading}
 use Rattle.term_syntax.proofs.Cutting.{after_tokens}
 use Rattle.term_syntax.proofs.TokensBack.{line_feed_back}

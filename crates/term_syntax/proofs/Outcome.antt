@@ -2,9 +2,8 @@
 use Rattle.std.proofs.Common.{◌≡◌, ◌∙◌, List, [], ◌∷◌, ◌++◌, refl, ap, sym, Option, Some, None}
 use Rattle.std.specs.Prelude.{option_and_then}
 use Rattle.term_syntax.specs.Token.{Token}
-use Rattle.term_syntax.specs.State.{Part}
+use Rattle.term_syntax.specs.State.{Part, Machine}
 use Rattle.term_syntax.specs.declared.machine.Node.{Node}
-use Rattle.term_syntax.specs.State.{Machine}
 use Rattle.term_syntax.specs.Steps.{run, step, settled_at, accepted}
 
 -- the parts and the nodes of the terms

@@ -8,11 +8,11 @@ use Rattle.std.specs.Char.{is_ascii_digit, digit_value}
 use Rattle.std.specs.Str.Parse.{AllDigits}
 use Rattle.std.proofs.lemmas.Str.{digit_value_digit}
 use Rattle.faults.specs.declared.refusal.Refusal.{Refusal}
-use Rattle.term_syntax.specs.Fault.{fault}
-use Rattle.term_syntax.specs.Token.{Word, Number}
-use Rattle.term_syntax.specs.Token.{Whole}
+use Rattle.reading.specs.Fault.{fault}
+use Rattle.term_syntax.specs.Token.{Word, Number, Whole}
 use Rattle.term_syntax.specs.declared.scanner.Role.{Role}
-use Rattle.term_syntax.specs.Tokens.{continues_name, front_length, quoted, by_role, role_of, plain_piece, number_piece, quoted_piece, with_byte, integer_of}
+use Rattle.tree_text.specs.NameBytes.{continues_name}
+use Rattle.term_syntax.specs.Tokens.{front_length, quoted, by_role, role_of, plain_piece, number_piece, quoted_piece, with_byte, integer_of}
 use Rattle.term_syntax.specs.Shown.{plain_name, plain_at, name_read, value, value_at}
 use Rattle.term_syntax.specs.Shown as shown
 

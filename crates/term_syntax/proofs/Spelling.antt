@@ -9,12 +9,12 @@ use Rattle.term_model.specs.declared.Item.{Item}
 use Rattle.term_model.specs.declared.Item.TheVariants.{App, Int, Nil, Cons}
 use Rattle.term_model.proofs.Order.{tree_of-postorder, both}
 use Rattle.symbol_pool.specs.Pool.{Named, named}
-use Rattle.term_syntax.specs.State.{Part}
+use Rattle.term_syntax.specs.State.{Part, Symbol, Integer, Brackets}
 use Rattle.term_syntax.specs.declared.machine.Node.{Node}
 use Rattle.term_syntax.specs.Written.{Written, Call, Digits, Listed, Writtens, End, More, count_of}
-use Rattle.term_syntax.specs.State.{Symbol, Integer, Brackets}
 use Rattle.term_syntax.specs.Parts.{parts_of, parts_of_all, parts_of_input}
-use Rattle.term_syntax.specs.TakenUp.{number_of, value_or_zero, tree_in, trees_in, cells_in}
+use Rattle.symbol_pool.specs.Taking.{number_of}
+use Rattle.term_syntax.specs.TakenUp.{value_or_zero, tree_in, trees_in, cells_in}
 use Rattle.term_syntax.specs.Nodes.{node, size_of, nodes_of, nodes_of_all, nodes_of_input}
 use Rattle.term_syntax.specs.Items.{item_in, node_items, items_at, trees_at}
 use Rattle.term_syntax.proofs.Complete.{same_size}

@@ -2,21 +2,20 @@
 use Rattle.std.proofs.Common.{◌≡◌, ◌≤◌, ◌<◌, ◌∙◌, ℕ, ◌+◌, List, [], ◌∷◌, ◌++◌, length, take, drop, map, get_or, true, refl, ap, sym, subst, Some, None, Ok, Err, All}
 use Rattle.std.proofs.lemmas.List.{take_more, drop_more, map_push, take_all, drop_all}
 use Rattle.std.proofs.lemmas.List.Elements.{All-head, All-tail, All-nil, All-cons, All-push}
-use Rattle.rec_reader.specs.declared.fail.ReadFail.{ReadFail}
-use Rattle.rec_reader.specs.declared.fail.ReadFail.TheVariants.{Refused, Memory}
+use Rattle.reading.specs.declared.fail.ReadFail.{ReadFail}
+use Rattle.reading.specs.declared.fail.ReadFail.TheVariants.{Refused, Memory}
 use Rattle.term_model.specs.declared.Item.{Item}
 use Rattle.term_model.specs.declared.Item.TheVariants as item
 use Rattle.symbol_pool.specs.Pool.{Named, named}
-use Rattle.term_syntax.specs.State.{Kind}
-use Rattle.term_syntax.specs.State.{Symbol, Integer, Brackets}
-use Rattle.term_syntax.specs.State.{Part}
+use Rattle.term_syntax.specs.State.{Kind, Symbol, Integer, Brackets, Part}
 use Rattle.faults.specs.declared.refusal.Refusal.{Refusal}
-use Rattle.term_syntax.specs.Fault.{fault, IsDue}
+use Rattle.reading.specs.Fault.{fault, IsDue}
 use Rattle.term_syntax.specs.Parts.{pool_after, part_fault, unless_fault, taken_up, symbols_of_parts}
-use Rattle.term_syntax.specs.Items.{is_there, IsThere, item_of_kind, item_in, IsTakenUp, IsPartFault, GrowsPool}
-use Rattle.term_syntax.specs.TakenUp.{with_symbols, TookFront}
+use Rattle.term_syntax.specs.Items.{is_there, IsThere, item_of_kind, item_in, IsTakenUp, IsPartFault}
+use Rattle.symbol_pool.specs.Taking.{GrowsPool, with_symbols}
+use Rattle.term_syntax.specs.TakenUp.{TookFront}
 use Rattle.term_syntax.proofs.TakingTerms.{after_symbol, with_more, symbols_append, front_of}
-use Rattle.term_syntax.proofs.Pool.{with_symbol_grows, stays_in, has_taken, grows_itself, grows_on}
+use Rattle.symbol_pool.proofs.Taking.{with_symbol_grows, stays_in, has_taken, grows_itself, grows_on}
 
 after_grows : (pool : List Named) (kind : Kind) (count : ℕ) → GrowsPool pool (pool_after pool kind count)
 after_grows pool (Symbol n) count = with_symbol_grows pool (named n count)

@@ -10,24 +10,24 @@ use Rattle.term_model.specs.Tree as tree
 use Rattle.term_model.specs.Tree.{Tree, Trees, Leaf, Node, is_well_formed, all_well_formed, may_be_list}
 use Rattle.term_model.proofs.Order.{both_hold}
 use Rattle.symbol_pool.specs.Pool.{Named, named, IsPool, most_symbols}
-use Rattle.term_syntax.specs.Token.{Token}
-use Rattle.term_syntax.specs.Token.{Word, Number, At}
+use Rattle.term_syntax.specs.Token.{Token, Word, Number, At}
 use Rattle.term_syntax.specs.declared.token.Mark.{Mark}
 use Rattle.term_syntax.specs.declared.token.Mark.TheVariants.{Open, Close, OpenList, CloseList, Comma}
-use Rattle.term_syntax.specs.State.{Symbol}
-use Rattle.term_syntax.specs.State.{Part}
+use Rattle.term_syntax.specs.State.{Symbol, Part}
 use Rattle.faults.specs.declared.refusal.Refusal.{Refusal}
-use Rattle.term_syntax.specs.Fault.{fault}
-use Rattle.term_syntax.specs.Tokens.{is_printable, tokens_from, after_token}
+use Rattle.reading.specs.Fault.{fault}
+use Rattle.tree_text.specs.NameBytes.{is_printable}
+use Rattle.term_syntax.specs.Tokens.{tokens_from, after_token}
 use Rattle.term_syntax.specs.Written.{Written, Call, Digits, Listed, Writtens, End, More, count_of}
 use Rattle.term_syntax.specs.TermGrammar.{IsTerm, constant, call, number, empty, list, AreTerms, only, more}
 use Rattle.term_syntax.specs.Parts.{parts_of, parts_of_all, part_fault, taken_up}
-use Rattle.term_syntax.specs.TakenUp.{number_of, has, is_full_for, tree_in, trees_in, cells_in}
-use Rattle.term_syntax.specs.Text.{text_by, after_commas, further_elements}
-use Rattle.term_syntax.specs.Canonical.{spelled_name, spelling, is_writable_symbol, is_writable, all_writable}
+use Rattle.symbol_pool.specs.Taking.{number_of, has, is_full_for}
+use Rattle.term_syntax.specs.TakenUp.{tree_in, trees_in, cells_in}
+use Rattle.tree_text.specs.Text.{text_by, after_commas, further_elements}
+use Rattle.tree_text.specs.Canonical.{spelled_name, spelling, is_writable_symbol, is_writable, all_writable}
 use Rattle.term_syntax.proofs.Cutting.{after_tokens}
 use Rattle.term_syntax.proofs.Spelling.{counted as counted_in}
-use Rattle.term_syntax.proofs.Pool.{number_is, has_from, with_old}
+use Rattle.symbol_pool.proofs.Taking.{number_is, has_from, with_old}
 use Rattle.term_syntax.proofs.TakingUp.{taken_one}
 use Rattle.term_syntax.proofs.TokensBack.{Stops, name_back, number_back, mark_back}
 

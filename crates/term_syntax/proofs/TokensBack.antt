@@ -9,13 +9,12 @@ use Rattle.std.proofs.lemmas.Bool.Decides.{nat_tests}
 use Rattle.std.proofs.lemmas.Str.Parse.{digit_from_value}
 use Rattle.std.proofs.lemmas.Fmt.{decimal_is_IsNumeral, first_decimal, decimal_digit}
 use Rattle.term_model.proofs.Order.{both_hold, both}
-use Rattle.term_syntax.specs.Token.{Token}
-use Rattle.term_syntax.specs.Token.{Word, Number, At}
+use Rattle.term_syntax.specs.Token.{Token, Word, Number, At, Whole}
 use Rattle.term_syntax.specs.declared.token.Mark.{Mark}
-use Rattle.term_syntax.specs.Token.{Whole}
 use Rattle.term_syntax.specs.declared.scanner.Role.TheVariants.{Closes, Escapes, Stands, Bad}
-use Rattle.term_syntax.specs.Tokens.{is_space, begins_name, continues_name, is_printable, front_length, integer_of, up_to_most, is_longer_than_one, begins_with_zero, quoted, by_role, role_of, with_byte, quoted_piece, plain_piece, number_piece, piece_at, read_piece, tokens_from, after_token}
-use Rattle.term_syntax.specs.Canonical.{is_plain, escaped, spelled_name}
+use Rattle.term_syntax.specs.Tokens.{is_space, front_length, integer_of, up_to_most, is_longer_than_one, begins_with_zero, quoted, by_role, role_of, with_byte, quoted_piece, plain_piece, number_piece, piece_at, read_piece, tokens_from, after_token}
+use Rattle.tree_text.specs.NameBytes.{begins_name, continues_name, is_printable}
+use Rattle.tree_text.specs.Canonical.{is_plain, escaped, spelled_name}
 use Rattle.term_syntax.proofs.Cutting.{passed_over}
 
 -- neither a name nor a number goes on with these bytes

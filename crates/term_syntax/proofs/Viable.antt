@@ -2,12 +2,11 @@
 use Rattle.std.proofs.Common.{◌+◌, ℕ, List, [], ◌∷◌, refl, Bool, true, false, Some}
 use Rattle.term_syntax.specs.Token.{Number, At}
 use Rattle.term_syntax.specs.declared.token.Mark.TheVariants.{Open, Close, CloseList}
-use Rattle.term_syntax.specs.State.{Part}
+use Rattle.term_syntax.specs.State.{Part, Machine}
 use Rattle.term_syntax.specs.declared.machine.Node.{Node}
 use Rattle.term_syntax.specs.declared.machine.Group.{Group}
 use Rattle.term_syntax.specs.declared.machine.Place.{Place}
 use Rattle.term_syntax.specs.declared.machine.Place.TheVariants.{Settled, Bracketed, Expected, Headed}
-use Rattle.term_syntax.specs.State.{Machine}
 use Rattle.term_syntax.proofs.Outcome.{outcome}
 use Rattle.term_syntax.proofs.Complete.{state, group, whole, closes, list_closes, expected_starts, bracket_starts, Starts}
 use Rattle.term_syntax.proofs.Ahead.{Ends_somehow, then_token}

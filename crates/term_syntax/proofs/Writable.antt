@@ -6,19 +6,18 @@ use Rattle.std.proofs.lemmas.List.Elements.{All-head, All-tail, All-nil, All-con
 use Rattle.term_model.proofs.Order.{both_hold, both}
 use Rattle.symbol_pool.specs.Pool.{Named, named}
 use Rattle.faults.specs.declared.refusal.Refusal.{Refusal}
-use Rattle.term_syntax.specs.Fault.{fault}
+use Rattle.reading.specs.Fault.{fault}
 use Rattle.term_syntax.specs.Token.{Token}
-use Rattle.term_syntax.specs.State.{Kind}
-use Rattle.term_syntax.specs.State.{Symbol, Integer, Brackets}
-use Rattle.term_syntax.specs.State.{Part}
-use Rattle.term_syntax.specs.Tokens.{is_printable}
+use Rattle.term_syntax.specs.State.{Kind, Symbol, Integer, Brackets, Part}
+use Rattle.tree_text.specs.NameBytes.{is_printable}
 use Rattle.term_syntax.specs.Written.{Written, Call, Digits, Listed, Writtens, End, More, count_of}
 use Rattle.term_syntax.specs.TermGrammar.{IsTerm, constant, call, number, empty, list, AreTerms, only, more, IsInput, none, next}
 use Rattle.term_syntax.specs.Parts.{parts_of, parts_of_all, parts_of_input, is_too_much, is_bad_number, part_fault, pool_after, unless_fault, taken_up}
-use Rattle.term_syntax.specs.TakenUp.{has, number_of, is_full_for, tree_in, trees_in, cells_in}
+use Rattle.symbol_pool.specs.Taking.{has, number_of, is_full_for}
+use Rattle.term_syntax.specs.TakenUp.{tree_in, trees_in, cells_in}
 use Rattle.term_syntax.specs.Items.{IsThere}
-use Rattle.term_syntax.specs.Canonical.{is_writable_symbol, is_writable, all_writable, IsWritable}
-use Rattle.term_syntax.proofs.Pool.{number_holds}
+use Rattle.tree_text.specs.Canonical.{is_writable_symbol, is_writable, all_writable, IsWritable}
+use Rattle.symbol_pool.proofs.Taking.{number_holds}
 use Rattle.term_syntax.proofs.Spelling.{counted, is_tree}
 use Rattle.term_syntax.proofs.Ground.{All-left, All-right}
 use Rattle.term_syntax.proofs.GoodTokens.{is_good_number, are_good}

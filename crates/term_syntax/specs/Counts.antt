@@ -1,5 +1,5 @@
--- Lists and stacks of the reader.
-use Rattle.std.specs.Prelude.{ℕ, zero, suc, List, [], ◌∷◌, Option, Some, None, Bool, true, false}
+-- Parts whose counts are told.
+use Rattle.std.specs.Prelude.{ℕ, zero, suc, List, [], ◌∷◌}
 use Rattle.term_syntax.specs.declared.machine.Entry.{Entry}
 use Rattle.term_syntax.specs.State.{Part}
 
@@ -14,11 +14,3 @@ abbrev pub counted : List Entry → ℕ → ℕ → List Entry
 counted [] i count = []
 counted (e ∷ es) zero count = record e { count = count } ∷ es
 counted (e ∷ es) (suc i) count = e ∷ counted es i count
-
-abbrev pub first_of : {A : Type 0} → List A → Option A
-first_of [] = None
-first_of (x ∷ xs) = Some x
-
-abbrev pub is_nil : {A : Type 0} → List A → Bool
-is_nil [] = true
-is_nil (x ∷ xs) = false

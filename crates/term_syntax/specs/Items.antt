@@ -1,20 +1,19 @@
 -- The items of terms that were read.
 use Rattle.std.specs.Prelude.{◌≡◌, ℕ, List, ◌∷◌, ◌++◌, map, replicate, slice_get, unwrap_or, Option, Some, None, Bool, true, All, ◌<◌}
 use Rattle.std.specs.List.{flat_map}
-use Rattle.rec_reader.specs.declared.fail.ReadFail.{ReadFail}
-use Rattle.rec_reader.specs.declared.fail.ReadFail.TheVariants.{Refused, Memory}
+use Rattle.reading.specs.declared.fail.ReadFail.{ReadFail}
+use Rattle.reading.specs.declared.fail.ReadFail.TheVariants.{Refused, Memory}
 use Rattle.term_model.specs.Tree.{Tree}
 use Rattle.term_model.specs.Postorder.{tree_of}
 use Rattle.term_model.specs.declared.Item.{Item}
 use Rattle.term_model.specs.declared.Item.TheVariants.{App, Int, Nil, Cons}
 use Rattle.symbol_pool.specs.Pool.{Named, named}
-use Rattle.term_syntax.specs.State.{Kind}
-use Rattle.term_syntax.specs.State.{Symbol, Integer, Brackets}
-use Rattle.term_syntax.specs.State.{Part}
+use Rattle.term_syntax.specs.State.{Kind, Symbol, Integer, Brackets, Part}
 use Rattle.term_syntax.specs.declared.machine.Node.{Node}
-use Rattle.term_syntax.specs.Fault.{fault}
+use Rattle.reading.specs.Fault.{fault}
 use Rattle.term_syntax.specs.Parts.{part_fault, pool_after}
-use Rattle.term_syntax.specs.TakenUp.{number_of, has, value_or_zero}
+use Rattle.symbol_pool.specs.Taking.{number_of, has}
+use Rattle.term_syntax.specs.TakenUp.{value_or_zero}
 
 -- the item of a part, of which a list has the empty list that ends it
 abbrev pub item_of_kind : List Named → Kind → ℕ → Item
@@ -35,10 +34,6 @@ pub record IsTakenUp (old : List Named) (p : Part) (item : Item) (new : List Nam
 abbrev pub IsPartFault : List Named → Part → ReadFail → Type 0
 IsPartFault pool p (Refused kind offset) = part_fault pool p ≡ Some (fault kind offset)
 IsPartFault pool p Memory = Unit {0}
-
--- symbols only come last
-abbrev pub GrowsPool : List Named → List Named → Type 0
-GrowsPool old new = (more : List Named) × (new ≡ old ++ more)
 
 -- the symbol of a part is there
 abbrev pub is_there : List Named → Kind → ℕ → Bool

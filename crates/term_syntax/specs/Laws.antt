@@ -2,7 +2,7 @@
 use Rattle.std.specs.Prelude.{◌≡◌, List, [], ◌∷◌, All}
 use Rattle.term_model.specs.Tree.{Tree}
 use Rattle.symbol_pool.specs.Pool.{Named, IsPool}
-use Rattle.term_syntax.specs.Canonical.{canonical, canonical_lines, IsWritable}
+use Rattle.tree_text.specs.Canonical.{canonical, canonical_lines, IsWritable}
 use Rattle.term_syntax.specs.Reading.{IsReading}
 
 -- The canonical texts of terms are read back as these terms, and no symbol is taken up.

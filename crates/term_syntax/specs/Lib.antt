@@ -1,4 +1,3 @@
-pub mod Fault
 pub mod Token
 pub mod Tokens
 pub mod Written
@@ -9,15 +8,11 @@ pub mod TakenUp
 pub mod Parts
 pub mod Named
 pub mod Nodes
-pub mod Room
 pub mod State
 pub mod Shown
 pub mod Steps
 pub mod Items
 pub mod Reading
 pub mod Reached
-pub mod Text
-pub mod Canonical
-pub mod Writing
 pub mod Laws
 pub mod Few

@@ -1,11 +1,11 @@
 -- Names with their numbers of arguments, as symbols.
 use Rattle.std.specs.Prelude.{◌≡◌, ◌||◌, ℕ, List, length, true, false, nat_lt}
-use Rattle.rec_reader.specs.declared.fail.ReadFail.{ReadFail}
-use Rattle.rec_reader.specs.declared.fail.ReadFail.TheVariants.{Refused, Memory}
+use Rattle.reading.specs.declared.fail.ReadFail.{ReadFail}
+use Rattle.reading.specs.declared.fail.ReadFail.TheVariants.{Refused, Memory}
 use Rattle.term_model.specs.declared.Item.{Item}
 use Rattle.term_model.specs.declared.Item.TheVariants.{App}
 use Rattle.symbol_pool.specs.Pool.{Named, named}
-use Rattle.term_syntax.specs.TakenUp.{number_of, with_symbol, is_full_for}
+use Rattle.symbol_pool.specs.Taking.{number_of, with_symbol, is_full_for}
 
 pub record IsSymbolTaken (old : List Named) (name : List ℕ) (count : ℕ) (item : Item)
     (new : List Named) : Type 0 where

@@ -1,13 +1,11 @@
 -- The parts of written terms, as the machine has them: one for each term in the order of the text.
 use Rattle.std.specs.Prelude.{ℕ, ◌+◌, List, [], ◌∷◌, ◌++◌, length, Bool, true, false, ◌&&◌, ◌||◌, ◌==◌, nat_lt, if◌then◌else◌, Option, Some, None, Result, Ok, Err}
 use Rattle.symbol_pool.specs.Pool.{Named, named}
-use Rattle.term_syntax.specs.State.{Kind}
-use Rattle.term_syntax.specs.State.{Symbol, Integer, Brackets}
-use Rattle.term_syntax.specs.State.{Part}
+use Rattle.term_syntax.specs.State.{Kind, Symbol, Integer, Brackets, Part}
 use Rattle.faults.specs.declared.refusal.Refusal.{Refusal}
-use Rattle.term_syntax.specs.Fault.{fault}
+use Rattle.reading.specs.Fault.{fault}
 use Rattle.term_syntax.specs.Written.{Written, Call, Digits, Listed, Writtens, End, More, count_of}
-use Rattle.term_syntax.specs.TakenUp.{with_symbol, is_full_for}
+use Rattle.symbol_pool.specs.Taking.{with_symbol, is_full_for}
 
 -- the parts of a term, and of terms of which so many came before; of a name's arguments the 17th is marked
 abbrev mutual

@@ -1,12 +1,11 @@
 -- Bytes are read token by token: what was read of them, and why reading stops.
 use Rattle.std.specs.Prelude.{◌≡◌, ◌⊎◌, ℕ, List, Option, Some, None, Result, Ok, Err}
-use Rattle.rec_reader.specs.declared.fail.ReadFail.{ReadFail}
-use Rattle.rec_reader.specs.declared.fail.ReadFail.TheVariants.{Refused, Memory}
+use Rattle.reading.specs.declared.fail.ReadFail.{ReadFail}
+use Rattle.reading.specs.declared.fail.ReadFail.TheVariants.{Refused, Memory}
 use Rattle.term_syntax.specs.Token.{Token}
-use Rattle.term_syntax.specs.State.{Part}
+use Rattle.term_syntax.specs.State.{Part, Machine}
 use Rattle.term_syntax.specs.declared.machine.Node.{Node}
-use Rattle.term_syntax.specs.State.{Machine}
-use Rattle.term_syntax.specs.Fault.{fault}
+use Rattle.reading.specs.Fault.{fault}
 use Rattle.term_syntax.specs.Few.{AreCountsFew}
 use Rattle.term_syntax.specs.Tokens.{tokens_of}
 use Rattle.term_syntax.specs.Refusal.{place_of}

@@ -11,7 +11,8 @@ use Rattle.term_syntax.specs.declared.machine.Entry.{Entry}
 use Rattle.term_syntax.specs.declared.machine.Machine as declared
 use Rattle.term_syntax.specs.Token.{Token, Word, Number, At, Piece, Blank, Whole}
 use Rattle.term_syntax.specs.State.{Kind, Symbol, Integer, Brackets, Part, Machine}
-use Rattle.term_syntax.specs.Tokens.{continues_name, front_length, quoted, integer_of}
+use Rattle.tree_text.specs.NameBytes.{continues_name}
+use Rattle.term_syntax.specs.Tokens.{front_length, quoted, integer_of}
 
 -- the plain name at the front of bytes: the first, and all that go on with it
 abbrev pub plain_name : List ℕ → List ℕ

@@ -1,30 +1,20 @@
 -- What reading does at each token.
 use Rattle.std.specs.Prelude.{◌≡◌, ℕ, ◌+◌, List, [], ◌∷◌, ◌++◌, length, Option, Some, None, Bool, true, false, ◌&&◌, ◌==◌, Result, Ok, Err, option_and_then}
-use Rattle.term_syntax.specs.Token.{Token}
-use Rattle.term_syntax.specs.Token.{Word, Number, At}
+use Rattle.term_syntax.specs.Token.{Token, Word, Number, At}
 use Rattle.term_syntax.specs.declared.token.Mark.TheVariants.{Open, Close, OpenList, CloseList, Comma}
-use Rattle.term_syntax.specs.State.{Kind}
-use Rattle.term_syntax.specs.State.{Symbol, Integer, Brackets}
-use Rattle.term_syntax.specs.State.{Part}
+use Rattle.term_syntax.specs.State.{Kind, Symbol, Integer, Brackets, Part, Machine}
 use Rattle.term_syntax.specs.declared.machine.Node.{Node}
 use Rattle.term_syntax.specs.declared.machine.Group.{Group}
 use Rattle.term_syntax.specs.declared.machine.Place.{Place}
 use Rattle.term_syntax.specs.declared.machine.Place.TheVariants.{Settled, Bracketed, Expected, Headed}
-use Rattle.term_syntax.specs.declared.machine.Stop.{Stop}
-use Rattle.term_syntax.specs.declared.machine.Stop.TheVariants as stop
-use Rattle.term_syntax.specs.State.{Machine}
+use Rattle.reading.specs.declared.stop.Stop.{Stop}
+use Rattle.reading.specs.declared.stop.Stop.TheVariants as stop
 use Rattle.term_syntax.specs.Counts.{with_count}
 use Rattle.term_syntax.specs.Written.{Written}
 use Rattle.term_syntax.specs.TermGrammar.{IsInput}
 use Rattle.term_syntax.specs.Refusal.{place_of}
 use Rattle.term_syntax.specs.Parts.{parts_of_input}
 use Rattle.term_syntax.specs.Nodes.{nodes_of_input}
-
--- a step was taken, or there is none, or there was no memory
-abbrev pub Takes : Option Machine → Result (Unit {0}) Stop → Machine → Type 0
-Takes step (Ok _) new = step ≡ Some new
-Takes step (Err stop.Unexpected) new = step ≡ None
-Takes step (Err stop.Memory) new = Unit {0}
 
 abbrev pub at : Machine → Place → Option Machine
 at m place = Some (record m { place = place })

@@ -1,36 +1,13 @@
 -- How the symbols of terms are taken up, in the order of the text: a name comes before its arguments.
 use Rattle.std.specs.Prelude.{◌≡◌, ℕ, ◌+◌, List, [], ◌∷◌, ◌++◌, length, Bool, not, ◌&&◌, ◌||◌, ◌==◌, nat_lt, if◌then◌else◌, Option, Some, None, Result, Ok, Err}
-use Rattle.std.specs.Str.{bytes_eq}
 use Rattle.term_model.specs.Tree as tree
 use Rattle.term_model.specs.Tree.{Tree, Trees, Node}
 use Rattle.term_model.specs.declared.Head.TheVariants.{App, Int, Nil, Cons}
-use Rattle.symbol_pool.specs.Pool.{Named, named, most_symbols}
+use Rattle.symbol_pool.specs.Pool.{Named, named}
+use Rattle.symbol_pool.specs.Taking.{number_of, with_symbol, with_symbols, is_full_for}
 use Rattle.faults.specs.declared.refusal.Refusal.{Refusal}
-use Rattle.term_syntax.specs.Fault.{fault}
+use Rattle.reading.specs.Fault.{fault}
 use Rattle.term_syntax.specs.Written.{Written, Call, Digits, Listed, Writtens, End, More, count_of, place_of}
-
-abbrev pub named_eq : Named → Named → Bool
-named_eq a b = bytes_eq a.name b.name && a.arity == b.arity
-
--- the number of the symbol that is this, or how many there are
-abbrev pub number_of : List Named → Named → ℕ
-number_of [] s = 0
-number_of (r ∷ pool) s = if named_eq r s then 0 else number_of pool s + 1
-
-abbrev pub has : List Named → Named → Bool
-has pool s = nat_lt (number_of pool s) (length pool)
-
--- a symbol that isn't there is taken up as the last
-abbrev pub with_symbol : List Named → Named → List Named
-with_symbol pool s = if has pool s then pool else pool ++ s ∷ []
-
--- one symbol after another
-abbrev pub with_symbols : List Named → List Named → List Named
-with_symbols pool [] = pool
-with_symbols pool (s ∷ ss) = with_symbols (with_symbol pool s) ss
-
-abbrev pub is_full_for : List Named → Named → Bool
-is_full_for pool s = not (has pool s) && length pool == most_symbols
 
 -- first one, and where it isn't refused the next
 abbrev pub and_then : Result (List Named) Refusal → (List Named → Result (List Named) Refusal) → Result (List Named) Refusal

@@ -1,34 +1,19 @@
 -- The tokens of term text, with their places in bytes from 0.
-use Rattle.std.specs.Prelude.{ℕ, zero, suc, ◌+◌, ◌-◌, List, [], ◌∷◌, length, take, Bool, true, false, ◌&&◌, ◌||◌, ◌==◌, nat_le, nat_lt, codes, if◌then◌else◌, Option, Some, None, Result, Ok, Err}
-use Rattle.std.specs.Char.{is_ascii_alphabetic, is_ascii_alphanumeric, is_ascii_digit}
-use Rattle.std.specs.List.{list_any}
+use Rattle.std.specs.Prelude.{ℕ, zero, suc, ◌+◌, ◌-◌, List, [], ◌∷◌, length, take, Bool, true, false, ◌&&◌, ◌||◌, ◌==◌, nat_le, nat_lt, if◌then◌else◌, Option, Some, None, Result, Ok, Err}
+use Rattle.std.specs.Char.{is_ascii_digit}
 use Rattle.std.specs.Str.Parse.{digits_value}
-use Rattle.term_syntax.specs.Token.{Token}
-use Rattle.term_syntax.specs.Token.{Word, Number, At}
+use Rattle.tree_text.specs.NameBytes.{begins_name, continues_name, is_printable}
+use Rattle.term_syntax.specs.Token.{Token, Word, Number, At, Piece, Blank, Whole}
 use Rattle.term_syntax.specs.declared.token.Mark.{Mark}
 use Rattle.term_syntax.specs.declared.token.Mark.TheVariants.{Open, Close, OpenList, CloseList, Comma}
-use Rattle.term_syntax.specs.Token.{Piece}
-use Rattle.term_syntax.specs.Token.{Blank, Whole}
 use Rattle.term_syntax.specs.declared.scanner.Role.{Role}
 use Rattle.term_syntax.specs.declared.scanner.Role.TheVariants.{Closes, Escapes, Stands, Bad}
 use Rattle.faults.specs.declared.refusal.Refusal.{Refusal}
-use Rattle.term_syntax.specs.Fault.{fault}
+use Rattle.reading.specs.Fault.{fault}
 
 -- space, tab, CR and LF
 abbrev pub is_space : ℕ → Bool
 is_space b = b == 32 || b == 9 || b == 13 || b == 10
-
--- a plain name begins with a letter or an underscore
-abbrev pub begins_name : ℕ → Bool
-begins_name b = is_ascii_alphabetic b || b == 95
-
--- and goes on with letters, digits and four other bytes
-abbrev pub continues_name : ℕ → Bool
-continues_name b = is_ascii_alphanumeric b || list_any (λ c. c == b) (codes "_'.-")
-
--- the bytes that may stand in quotes: from space to tilde
-abbrev pub is_printable : ℕ → Bool
-is_printable b = nat_le 32 b && nat_le b 126
 
 -- what a byte within quotes does. Behind a backslash a quote or a backslash stands for itself; else a quote closes
 -- the name, a backslash escapes the next byte, and a printable byte stands for itself. Every other byte is bad

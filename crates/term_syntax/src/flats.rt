@@ -5,12 +5,10 @@ ghost use Rattle.term_model.specs.declared.Item.TheVariants.{Nil, Cons};
 ghost use Rattle.term_syntax.specs.Items.{items_at, trees_at, AreWithin};
 
 use crate::machine::Node;
-use rec_reader::Sequence;
+use sequences::Sequence;
 use std::alloc::{AllocError, Global};
 use term_model::{Flat, Item};
-
-/// Terms in order.
-pub type Flats = Sequence<Flat>;
+use tree_text::Flats;
 
 // Puts an item at the end, and so many cells.
 fn push_items(items: &mut Vec<Item>, item: Item, cells: u32) -> Result<(), AllocError>

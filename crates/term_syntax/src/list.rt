@@ -1,6 +1,6 @@
-//! The parts of an input, and a stack, over vectors.
-ghost use Rattle.std.specs.Prelude.{◌≡◌, ◌++◌, ◌∷◌, [], length, MatchOption, OnOk, OnErr};
-ghost use Rattle.term_syntax.specs.Counts.{counted, first_of, is_nil};
+//! The parts of an input.
+ghost use Rattle.std.specs.Prelude.{◌≡◌, ◌++◌, ◌∷◌, [], length, OnOk, OnErr};
+ghost use Rattle.term_syntax.specs.Counts.{counted};
 
 use crate::machine::Entry;
 use std::alloc::{AllocError, Global};
@@ -58,64 +58,5 @@ impl Parts {
         if part < self.items.len() {
             self.items[part].count = count;
         }
-    }
-}
-
-/// A stack, which contracts see as a list with its top first.
-#[derive(Drop)]
-pub(crate) struct Stack<T> {
-    items: Vec<T>,
-}
-
-impl<T> Model for Stack<T> {
-    ghost use Rattle.std.specs.Prelude.{List, reverse};
-    ghost use Rattle.std.specs.Coded.{coded_list};
-
-    ghost Value = { List T };
-
-    ghost coded = { coded_list T.code };
-
-    ghost view = { λ s. reverse s.items.items };
-}
-
-impl<T> Stack<T> {
-    pub(crate) fn new(alloc: Global) -> Self
-        ensures { result ≡ [] }
-    {
-        Stack {
-            items: Vec::new(alloc),
-        }
-    }
-
-    pub(crate) fn pop(&mut self) -> Option<T>
-        ensures { MatchOption result ((self.old ≡ []) × (self.new ≡ []))
-            (λ x. self.old ≡ x ∷ self.new) }
-    {
-        self.items.pop()
-    }
-
-    pub(crate) fn is_empty(&self) -> bool
-        ensures { result ≡ is_nil self.now }
-    {
-        self.items.is_empty()
-    }
-}
-
-impl<T: Drop> Stack<T> {
-    pub(crate) fn push(&mut self, item: T) -> Result<(), AllocError>
-        ensures ok { OnOk result (self.new ≡ item ∷ self.old) }
-        ensures err { OnErr result (self.new ≡ self.old) }
-    {
-        self.items.push(item)?;
-        Ok(())
-    }
-}
-
-impl<T: Copy> Stack<T> {
-    /// The top.
-    pub(crate) fn last(&self) -> Option<T>
-        ensures { result ≡ first_of self.now }
-    {
-        self.items.last().copied()
     }
 }

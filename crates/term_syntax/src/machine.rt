@@ -1,15 +1,16 @@
 //! Reads tokens one at a time: where in an input it stands, and what was read so far.
 ghost use Rattle.std.specs.Prelude.{◌≡◌, Some, None, IfSome, IfNone, IfOk, IfErr};
 ghost use Rattle.term_syntax.specs.Steps as steps;
-ghost use Rattle.term_syntax.specs.Steps.{Takes};
+ghost use Rattle.reading.specs.Taking.{Takes};
 ghost use Rattle.term_syntax.specs.Shown.{machine_in, parts_in, token_in, kind_at};
 ghost use Rattle.term_syntax.specs.Few.{AreCountsFew};
-ghost use Rattle.term_syntax.specs.declared.machine.Stop.TheVariants.{Memory};
+ghost use Rattle.reading.specs.declared.stop.Stop.TheVariants.{Memory};
 
-use crate::list::{Parts, Stack};
+use crate::list::Parts;
 use crate::token::{Mark, Shape, Token};
-use rec_reader::Sequence;
-use std::alloc::{AllocError, Global};
+use reading::Stop;
+use sequences::{Sequence, Stack};
+use std::alloc::Global;
 use std::mem;
 
 /// A term of the input, in the order of the text: the place of its first byte, how many terms stand in its
@@ -46,21 +47,6 @@ pub(crate) enum Place {
     Bracketed,
     Expected,
     Headed(u32),
-}
-
-/// Why a token isn't taken.
-#[derive(Clone, Copy)]
-pub(crate) enum Stop {
-    Unexpected,
-    Memory,
-}
-
-impl From<AllocError> for Stop {
-    ghost from_gives = { λ _ e. e ≡ Memory };
-
-    fn from(_: AllocError) -> Self {
-        Stop::Memory
-    }
 }
 
 /// The place, and what was read so far: open groups, all parts, and the whole terms as nodes, each after

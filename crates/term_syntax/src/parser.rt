@@ -6,12 +6,12 @@ ghost use Rattle.term_syntax.specs.Shown.{machine_in, parts_in, token_in};
 ghost use Rattle.term_syntax.specs.Steps.{step};
 
 use crate::list::Parts;
-use crate::machine::{Machine, Node, Stop};
-use crate::refused::refused;
+use crate::machine::{Machine, Node};
 use crate::scanner::{Cut, look_through, piece_at};
 use crate::token::Token;
 use faults::kinds;
-use rec_reader::{ReadFail, Sequence};
+use reading::{ReadFail, Stop, refused};
+use sequences::Sequence;
 use std::alloc::Global;
 
 // Takes a token of the bytes. One that is unexpected is refused only where all bytes have tokens.
@@ -74,9 +74,6 @@ pub(crate) fn syntax(
     }
     match machine.finish(bytes) {
         Some(read) => Ok(read),
-        None => Err(ReadFail::Refused {
-            kind: kinds::UNENDED,
-            offset: bytes.len() as u64,
-        }),
+        None => Err(refused(kinds::UNENDED, bytes.len())),
     }
 }

@@ -2,18 +2,19 @@
 ghost use Rattle.std.specs.Prelude.{◌≡◌, ◌+◌, ◌≤◌, ◌<◌, length, drop, IfOk, IfErr, IfSome, OnOk, Ok, Err, true, false, slice_index};
 ghost use Rattle.std.specs.Char.{is_ascii_digit};
 ghost use Rattle.std.specs.Str.Parse.{digits_value, AllDigits};
-ghost use Rattle.rec_reader.specs.declared.fail.ReadFail.TheVariants.{Memory};
-ghost use Rattle.term_syntax.specs.Fault.{IsDue};
+ghost use Rattle.reading.specs.declared.fail.ReadFail.TheVariants.{Memory};
+ghost use Rattle.reading.specs.Fault.{IsDue};
 ghost use Rattle.term_syntax.specs.Shown.{piece_in, plain_at, quoted_at, value_at};
 ghost use Rattle.term_syntax.specs.Reached.{HasTokens};
 ghost use Rattle.term_syntax.specs.Tokens as spec;
+ghost use Rattle.tree_text.specs.NameBytes as name_bytes;
 
 use crate::name::Name;
-use crate::refused::refused;
 use crate::token::{Mark, Shape, Token};
 use faults::kinds;
-use rec_reader::ReadFail;
+use reading::{ReadFail, refused};
 use std::alloc::Global;
+use tree_text::{begins_name, continues_name};
 
 /// What begins at a byte: white space of one byte, or a token with the place after it.
 #[derive(Clone, Copy)]
@@ -22,39 +23,16 @@ pub(crate) enum Cut {
     Whole(Token, usize),
 }
 
-// Each byte that may stand in a plain name is at its own place, and a comma is at every other place.
-static NAME_BYTES: [u8; 256] = *b"\
-    ,,,,,,,,,,,,,,,,,,,,,,,,,,,,,,,,\
-    ,,,,,,,',,,,,-.,0123456789,,,,,,\
-    ,ABCDEFGHIJKLMNOPQRSTUVWXYZ,,,,_\
-    ,abcdefghijklmnopqrstuvwxyz,,,,,\
-    ,,,,,,,,,,,,,,,,,,,,,,,,,,,,,,,,\
-    ,,,,,,,,,,,,,,,,,,,,,,,,,,,,,,,,\
-    ,,,,,,,,,,,,,,,,,,,,,,,,,,,,,,,,\
-    ,,,,,,,,,,,,,,,,,,,,,,,,,,,,,,,,";
-
 fn is_space(byte: u8) -> bool
     ensures { result ≡ spec.is_space byte }
 {
     byte == b' ' || byte == b'\t' || byte == b'\r' || byte == b'\n'
 }
 
-pub(crate) fn begins_name(byte: u8) -> bool
-    ensures { result ≡ spec.begins_name byte }
-{
-    byte.is_ascii_alphabetic() || byte == b'_'
-}
-
-pub(crate) fn continues_name(byte: u8) -> bool
-    ensures { result ≡ spec.continues_name byte }
-{
-    NAME_BYTES[byte as usize] != b','
-}
-
 // The place after the name bytes that stand from `start` on.
 fn name_end(bytes: &[u8], start: usize) -> usize
     requires { start ≤ length bytes.now }
-    ensures end { result ≡ start + spec.front_length spec.continues_name (drop start bytes.now) }
+    ensures end { result ≡ start + spec.front_length name_bytes.continues_name (drop start bytes.now) }
     ensures within { result ≤ length bytes.now }
 {
     let mut at = start;

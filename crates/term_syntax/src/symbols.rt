@@ -1,18 +1,18 @@
 //! Takes up the symbols of parts in the order of the text.
 ghost use Rattle.std.specs.Prelude.{◌≡◌, map, Ok, IfOk, IfErr, OnOk, OnErr, All};
-ghost use Rattle.term_syntax.specs.Fault.{IsDue};
+ghost use Rattle.reading.specs.Fault.{IsDue};
 ghost use Rattle.term_syntax.specs.Parts.{taken_up, symbols_of_parts};
 ghost use Rattle.term_syntax.specs.TakenUp.{TookFront};
-ghost use Rattle.term_syntax.specs.Items.{item_in, IsTakenUp, IsPartFault, IsThere, GrowsPool};
+ghost use Rattle.term_syntax.specs.Items.{item_in, IsTakenUp, IsPartFault, IsThere};
+ghost use Rattle.symbol_pool.specs.Taking.{GrowsPool};
 ghost use Rattle.term_syntax.specs.Named.{IsSymbolTaken, IsSymbolRefused};
 ghost use Rattle.term_syntax.specs.Shown.{part_in, parts_in, quoted_at};
 
 use crate::machine::Entry;
-use crate::refused::refused;
 use crate::scanner::{integer_at, plain_name_at, quoted_name_at};
 use crate::token::Shape;
 use faults::kinds;
-use rec_reader::ReadFail;
+use reading::{ReadFail, refused};
 use std::alloc::Global;
 use symbol_pool::{PoolFault, Symbols};
 use term_model::Item;

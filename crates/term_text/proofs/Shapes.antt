@@ -9,7 +9,7 @@ use Rattle.term_model.specs.declared.Head.TheVariants.{App, Int, Nil, Cons}
 use Rattle.term_model.specs.Tree.{Tree, Leaf, Node, Trees, End, More, list_of, trees_of, arguments, root, nodes, nodes_all, may_stand_over, is_tree_and_list, all_well_formed, IsWellFormed}
 use Rattle.term_model.proofs.Order.{both_hold}
 use Rattle.symbol_pool.specs.Pool.{Named, name_at}
-use Rattle.term_syntax.specs.Text.{text_by, in_parentheses, elements, further_elements, is_named, has_names, all_have_names, HasNames}
+use Rattle.tree_text.specs.Text.{text_by, in_parentheses, elements, further_elements, is_named, has_names, all_have_names, HasNames}
 use Rattle.term_text.specs.Text.{plain_name}
 use Rattle.term_text.specs.Works.{is_cell}
 

@@ -16,7 +16,7 @@ use Rattle.terms_api.specs.declared.terms.BuildFault.{BuildFault}
 use Rattle.terms_api.specs.declared.terms.Deep.{Deep}
 use Rattle.terms_api.proofs.Callers.{trees-at, trees-pushed}
 use Rattle.symbol_pool.specs.Pool.{Named}
-use Rattle.term_syntax.specs.Text.{is_named, has_names, all_have_names, HasNames}
+use Rattle.tree_text.specs.Text.{is_named, has_names, all_have_names, HasNames}
 use Rattle.term_text.specs.Trials.{IsTried, is_list}
 use Rattle.term_text.proofs.Shapes.{some_same, drop_at}
 

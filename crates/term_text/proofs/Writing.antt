@@ -11,7 +11,7 @@ use Rattle.term_model.specs.Tree.{nodes, arguments, trees_of, root, IsWellFormed
 use Rattle.term_model.proofs.Subtrees.{some_nodes}
 use Rattle.terms_api.specs.Terms.{Store, IsHeld, tree_at}
 use Rattle.symbol_pool.specs.Pool.{Named, name_at}
-use Rattle.term_syntax.specs.Text.{text_by, in_parentheses, after_commas, elements, further_elements, HasNames}
+use Rattle.tree_text.specs.Text.{text_by, in_parentheses, after_commas, elements, further_elements, HasNames}
 use Rattle.term_text.specs.Text.{text, plain_name}
 use Rattle.term_text.specs.Works.{text_of, text_of_all, steps_of, steps_of_all, IsReady, Extends, Advances, PushesCell}
 use Rattle.term_text.specs.declared.works.Work.{Work}

@@ -3,7 +3,7 @@ use Rattle.std.specs.Prelude.{ℕ, List, [], unwrap_or}
 use Rattle.term_model.specs.declared.Symbol.{Symbol}
 use Rattle.term_model.specs.Tree.{Tree}
 use Rattle.symbol_pool.specs.Pool.{Named, name_at}
-use Rattle.term_syntax.specs.Text.{text_by}
+use Rattle.tree_text.specs.Text.{text_by}
 -- which trees have a text, for the contracts of callers
 pub use Rattle.term_syntax.specs.Text.{is_named, has_names, all_have_names, HasNames}
 

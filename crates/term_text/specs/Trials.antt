@@ -4,7 +4,7 @@ use Rattle.term_model.specs.declared.Head.{Head}
 use Rattle.term_model.specs.declared.Head.TheVariants.{App, Int, Nil, Cons}
 use Rattle.symbol_pool.specs.Pool.{Named}
 use Rattle.terms_api.specs.Terms.{Store, trees}
-use Rattle.term_syntax.specs.Text.{HasNames}
+use Rattle.tree_text.specs.Text.{HasNames}
 
 -- The caller is inside, three arguments fit, there are no more than a hundred rows, and the symbols
 -- of the stack's trees are held.

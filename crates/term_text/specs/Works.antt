@@ -6,7 +6,7 @@ use Rattle.term_model.specs.declared.Head.TheVariants.{App, Int, Nil, Cons}
 use Rattle.term_model.specs.Tree.{arguments, trees_of, nodes}
 use Rattle.terms_api.specs.Terms.{Store, IsHeld, tree_at}
 use Rattle.symbol_pool.specs.Pool.{Named}
-use Rattle.term_syntax.specs.Text.{after_commas, elements, further_elements, HasNames}
+use Rattle.tree_text.specs.Text.{after_commas, elements, further_elements, HasNames}
 use Rattle.term_text.specs.Text.{text, plain_name}
 use Rattle.term_text.specs.declared.works.Work.{Work}
 use Rattle.term_text.specs.declared.works.Work.TheVariants.{Term, Arguments, Elements}

@@ -1,4 +1,4 @@
-//! Terms as text, and how large they are: reads and writes terms, and counts what a store holds.
+//! The terms of a store as text, and how large they are.
 #![tactic(auto)]
 
 mod counting;
@@ -10,4 +10,3 @@ mod works;
 pub use faults::Memory;
 pub use measuring::{SizeMarks, TermSizes, sizes, stack_sizes};
 pub use printing::{Printed, write_rec};
-pub use term_syntax::{Flats, ReadFail, read_terms, write_term};

@@ -3,7 +3,7 @@
 ghost use Rattle.std.specs.Prelude.{◌≡◌, ◌++◌, ◌<◌, ◌↔◌, ◌∷◌, [], IfOk, OnOk, OnErr, Ok, true};
 ghost use Rattle.term_model.specs.Tree.{nodes};
 ghost use Rattle.terms_api.specs.Terms.{IsHeld, tree_at};
-ghost use Rattle.term_syntax.specs.Text.{HasNames};
+ghost use Rattle.tree_text.specs.Text.{HasNames};
 ghost use Rattle.term_text.specs.Text.{text};
 ghost use Rattle.term_text.specs.Works.{Extends};
 

@@ -4,7 +4,7 @@ ghost use Rattle.std.specs.Prelude.{◌≡◌, ◌++◌, ◌∷◌, [], OnOk, So
 ghost use Rattle.term_model.specs.Tree.{root, arguments};
 ghost use Rattle.term_model.specs.declared.Head.TheVariants.{App, Cons};
 ghost use Rattle.terms_api.specs.Terms.{IsHeld, IsSound, tree_at};
-ghost use Rattle.term_syntax.specs.Text.{HasNames};
+ghost use Rattle.tree_text.specs.Text.{HasNames};
 ghost use Rattle.term_text.specs.Works.{IsReady, Advances, Extends, PushesCell, is_cell};
 
 use faults::Memory;

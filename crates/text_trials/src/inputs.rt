@@ -2,8 +2,8 @@
 
 ghost use Rattle.std.specs.Prelude.{◌≡◌, ◌≤◌, All};
 ghost use Rattle.term_model.specs.Tree.{IsGround};
-ghost use Rattle.term_syntax.specs.Text.{HasNames};
-ghost use Rattle.term_syntax.specs.Writing.{IsItemHeld};
+ghost use Rattle.tree_text.specs.Text.{HasNames};
+ghost use Rattle.tree_text.specs.Writing.{IsItemHeld};
 ghost use Rattle.term_text.specs.Trials.{IsTried};
 
 use crate::sizes::{begin, build_cell, build_empty, build_integer, build_symbol};
@@ -12,10 +12,10 @@ use std::alloc::Global;
 use std::test::Fail;
 use symbol_pool::Symbols;
 use term_model::{Flat, Item};
-use term_text::{
-    Flats, Memory, ReadFail, SizeMarks, read_terms, stack_sizes, write_rec, write_term,
-};
+use term_syntax::{Flats, ReadFail, read_terms};
+use term_text::{Memory, SizeMarks, stack_sizes, write_rec};
 use terms_api::Terms;
+use tree_text::write_term;
 
 /// Builds the tree of an item over the last trees, if it may stand over them.
 fn build_item<T: Terms>(terms: &mut T, symbols: &Symbols, item: Item) -> bool

@@ -1,14 +1,15 @@
 //! Texts, what they are read as, and where they are refused.
 ghost use Rattle.std.specs.Prelude.{All};
 ghost use Rattle.term_model.specs.Tree.{IsGround};
-ghost use Rattle.term_syntax.specs.Text.{HasNames};
+ghost use Rattle.tree_text.specs.Text.{HasNames};
 
 use faults::Memory;
 use std::alloc::Global;
 use std::test::Fail;
 use symbol_pool::Symbols;
 use term_model::{Item, Symbol};
-use term_syntax::{Flats, ReadFail, read_terms, write_term};
+use term_syntax::{Flats, ReadFail, read_terms};
+use tree_text::write_term;
 
 // Texts, and the canonical texts of their terms, each with a line feed.
 static TEXTS: [(&[u8], &[u8]); 12] = [

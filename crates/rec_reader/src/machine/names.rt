@@ -1,11 +1,12 @@
 //! Lists of names: includes, sorts, declarations and variables.
 ghost use Rattle.rec_reader.specs.Steps as steps;
-ghost use Rattle.rec_reader.specs.Steps.{Takes};
+ghost use Rattle.reading.specs.Taking.{Takes};
 
-use crate::machine::{Group, Machine, NameList, Place, Stop};
-use crate::sequence::Sequence;
+use crate::machine::{Group, Machine, NameList, Place};
 use crate::syntax_tree::{Declaration, Variables};
 use crate::token::{Name, Sign, Token};
+use reading::Stop;
+use sequences::Sequence;
 use std::alloc::Global;
 use std::mem;
 

@@ -1,11 +1,12 @@
 //! Rules with their conditions, and terms to be evaluated.
 ghost use Rattle.rec_reader.specs.Steps as steps;
-ghost use Rattle.rec_reader.specs.Steps.{Takes};
+ghost use Rattle.reading.specs.Taking.{Takes};
 
-use crate::machine::{Machine, Part, Place, Purpose, Stop};
-use crate::sequence::Sequence;
+use crate::machine::{Machine, Part, Place, Purpose};
 use crate::syntax_tree::{Condition, Rule};
 use crate::token::{Sign, Token};
+use reading::Stop;
+use sequences::Sequence;
 use std::alloc::Global;
 use std::mem;
 

@@ -1,10 +1,11 @@
 //! The order of sections.
 ghost use Rattle.rec_reader.specs.Steps as steps;
-ghost use Rattle.rec_reader.specs.Steps.{Takes};
+ghost use Rattle.reading.specs.Taking.{Takes};
 
-use crate::machine::{Group, Machine, NameList, Place, Stop};
+use crate::machine::{Group, Machine, NameList, Place};
 use crate::syntax_tree::Specification;
 use crate::token::{Sign, Token};
+use reading::Stop;
 use std::alloc::Global;
 use std::mem;
 

@@ -1,13 +1,14 @@
 //! Terms, with an explicit stack of open heads.
 ghost use Rattle.std.specs.Prelude.{◌≡◌, ◌<◌, ◌^◌, []};
 ghost use Rattle.rec_reader.specs.Steps as steps;
-ghost use Rattle.rec_reader.specs.Steps.{Takes};
+ghost use Rattle.reading.specs.Taking.{Takes};
 ghost use Rattle.rec_reader.specs.Few.{AreCountsFew};
 
-use crate::machine::{Machine, Part, Place, Purpose, Stop};
-use crate::sequence::{Sequence, Stack};
+use crate::machine::{Machine, Part, Place, Purpose};
 use crate::syntax_tree::Node;
 use crate::token::{Name, Sign, Token};
+use reading::Stop;
+use sequences::{Sequence, Stack};
 use std::alloc::Global;
 use std::mem;
 

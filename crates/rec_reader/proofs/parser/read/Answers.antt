@@ -46,4 +46,4 @@ returns-in-None-clause-accepted c specs h =
 
 pub returns-in-None-clause-refused : goal.returns-in-None-clause-refused
 returns-in-None-clause-refused c =
-    ended_refusal c.args.bytes.now c.in_ok-run_bytes.field-0 (length c.args.bytes.now) c.in_ok-run_bytes.ensures.ran (sym c.finish.ensures ∙ c.in-None.is) refl
+    rw c.refused.ensures (ended_refusal c.args.bytes.now c.in_ok-run_bytes.field-0 (length c.args.bytes.now) c.in_ok-run_bytes.ensures.ran (sym c.finish.ensures ∙ c.in-None.is) refl)

@@ -12,7 +12,7 @@ loop-token-preserved c =
 
 pub returns-in-Err-Unexpected-clause-stopped : goal.returns-in-Err-Unexpected-clause-stopped
 returns-in-Err-Unexpected-clause-stopped c =
-    (refl, stops_at c.args.tokens.now c.loop-token.token-index _ c.place.result c.loop-token-test.true c.loop-token.invariant.ran (rw c.in-Err-Unexpected.field-0-is at c.in-Err-Unexpected.ensures) c.place.ensures)
+    rw c.refused.ensures (refl, stops_at c.args.tokens.now c.loop-token.token-index _ c.place.result c.loop-token-test.true c.loop-token.invariant.ran (rw c.in-Err-Unexpected.field-0-is at c.in-Err-Unexpected.ensures) c.place.ensures)
 
 pub step-requires : goal.step-requires
 step-requires c = few_of c.loop-token.token-index c.loop-token.machine.heads (omega (arith, c.loop-token-test.true, c.requires)) c.loop-token.invariant.counted

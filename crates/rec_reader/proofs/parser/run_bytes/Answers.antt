@@ -30,4 +30,4 @@ returns-in_err-take-in-Whole-clause-stopped c =
 pub returns-in-Bad-clause-stopped : goal.returns-in-Bad-clause-stopped
 returns-in-Bad-clause-stopped c =
     let l = c.loop-at in
-    stopped_byte c.args.bytes.now l.at l.machine c.loop-at-test.true (sym c.in-Bad.ensures.piece) l.invariant.passed
+    rw c.refused.ensures (stopped_byte c.args.bytes.now l.at l.machine c.loop-at-test.true (sym c.in-Bad.ensures.piece) l.invariant.passed)

@@ -38,4 +38,4 @@ returns-in-None-clause-accepted c specs h =
 
 pub returns-in-None-clause-refused_only_at_its_place : goal.returns-in-None-clause-refused_only_at_its_place
 returns-in-None-clause-refused_only_at_its_place c =
-    end_refusal c.args.tokens.now _ c.in_ok-run.field-0 _ c.as_slice.ensures.tokens c.in_ok-run.ensures.ran (sym c.finish.ensures ∙ c.in-None.is) (ap length c.text-in-None.ensures)
+    rw c.refused.ensures (end_refusal c.args.tokens.now _ c.in_ok-run.field-0 _ c.as_slice.ensures.tokens c.in_ok-run.ensures.ran (sym c.finish.ensures ∙ c.in-None.is) (ap length c.text-in-None.ensures))

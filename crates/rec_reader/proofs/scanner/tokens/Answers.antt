@@ -35,7 +35,7 @@ loop-at-preserved c =
 pub returns-in-Bad-clause-refused_only_at_first_bad_byte : goal.returns-in-Bad-clause-refused_only_at_first_bad_byte
 returns-in-Bad-clause-refused_only_at_first_bad_byte c =
     let l = c.loop-at in
-    (refl, sym l.invariant.read ∙ ap (after_tokens l.items.items) (bad_read c.args.bytes.now l.at c.loop-at-test.true (sym c.in-Bad.ensures.piece)))
+    rw c.refused.ensures (refl, sym l.invariant.read ∙ ap (after_tokens l.items.items) (bad_read c.args.bytes.now l.at c.loop-at-test.true (sym c.in-Bad.ensures.piece)))
 
 pub invariant_of-result : goal.invariant_of-result
 invariant_of-result c =

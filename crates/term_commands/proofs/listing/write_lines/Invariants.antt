@@ -1,5 +1,5 @@
 use Rattle.std.proofs.Common.{◌≡◌, ◌++◌, drop}
-use Rattle.term_syntax.specs.Canonical.{canonical_lines}
+use Rattle.tree_text.specs.Canonical.{canonical_lines}
 use Rattle.term_commands.proofs.listing.write_lines.Given as goal
 
 -- with the lines that are left it is all

@@ -1,6 +1,6 @@
 use Rattle.std.proofs.Common.{◌∙◌, ap}
 use Rattle.term_model.specs.Tree.{Tree, is_ground}
-use Rattle.term_syntax.specs.Text.{has_names}
+use Rattle.tree_text.specs.Text.{has_names}
 use Rattle.term_file.specs.SharedView.{contents_of}
 use Rattle.term_file.proofs.RootText.{term_at_root, text_is}
 use Rattle.term_file.proofs.printing.write_shared.Goals as goal

@@ -33,10 +33,10 @@ returns-in-None-clause-refused c =
     let bytes = c.args.bytes.now in
     let m = machine_in bytes c.in_ok-machine.machine in
     let r = c.in_ok-machine.ensures.ran in
-    inr (record {
+    rw c.refused.ensures (inr (record {
       tokens = r.tokens;
       cut = r.cut;
       refused =
           end_refusal (length bytes) r.tokens m r.ran
           (same (settled_at m.place m) (machine_in bytes c.settle.new.self) c.in-Ok.ensures ∙ c.in-None.ensures.none);
-    })
+    }))

@@ -1,5 +1,6 @@
 use Rattle.std.proofs.Common.{◌≡◌, ◌+◌, ◌-◌, ◌≤◌, length, drop}
-use Rattle.term_syntax.specs.Tokens.{front_length, continues_name}
+use Rattle.term_syntax.specs.Tokens.{front_length}
+use Rattle.tree_text.specs.NameBytes.{continues_name}
 use Rattle.term_syntax.proofs.scanner.name_end.Given as goal
 
 abbrev pub invariant-loop-at : goal.invariant-loop-at

@@ -5,7 +5,7 @@ use Rattle.term_syntax.specs.Shown.{part_in, parts_in}
 use Rattle.term_syntax.specs.TakenUp.{TookFront}
 use Rattle.term_syntax.specs.Parts.{symbols_of_parts}
 use Rattle.term_syntax.proofs.Keeping.{parts_many, entry_at, part_there}
-use Rattle.term_syntax.proofs.Pool.{grows_on}
+use Rattle.symbol_pool.proofs.Taking.{grows_on}
 use Rattle.term_syntax.proofs.TakingUp.{Taking, taking_more, part_due, part_grows, took_front}
 use Rattle.term_syntax.proofs.symbols.items_of.Goals as goal
 

@@ -1,5 +1,5 @@
 use Rattle.std.proofs.Common.{ap, refl, Err}
-use Rattle.term_syntax.proofs.Pool.{symbol_taken, symbol_refused}
+use Rattle.term_syntax.proofs.Names.{symbol_taken, symbol_refused}
 use Rattle.term_syntax.proofs.symbols.take_symbol.Goals as goal
 
 pub returns-in-Ok-clause-taken : goal.returns-in-Ok-clause-taken

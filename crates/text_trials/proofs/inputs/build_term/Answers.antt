@@ -1,7 +1,7 @@
 use Rattle.std.proofs.Common.{sym, subst}
 use Rattle.std.specs.Prelude.{All}
-use Rattle.term_syntax.specs.Writing.{IsItemHeld}
-use Rattle.term_syntax.proofs.Writings.{items_held}
+use Rattle.tree_text.specs.Writing.{IsItemHeld}
+use Rattle.tree_text.proofs.Writings.{items_held}
 use Rattle.text_trials.proofs.inputs.build_term.Goals as goal
 
 pub build_items-requires-clause-held : goal.build_items-requires-clause-held

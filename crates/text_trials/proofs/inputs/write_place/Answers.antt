@@ -1,7 +1,7 @@
 use Rattle.std.proofs.Common.{sym, subst}
 use Rattle.std.proofs.lemmas.Option.{slice_get_within}
 use Rattle.terms_api.specs.Terms.{Store, tree_at}
-use Rattle.term_syntax.specs.Text.{HasNames}
+use Rattle.tree_text.specs.Text.{HasNames}
 use Rattle.term_text.proofs.Trying.{named_place}
 use Rattle.text_trials.proofs.inputs.write_place.Goals as goal
 

@@ -1,0 +1,5 @@
+pub mod NameBytes
+pub mod Text
+pub mod Canonical
+pub mod Room
+pub mod Writing
