@@ -103,7 +103,7 @@ static ROWS: [Row; 9] = [
     },
 ];
 
-fn read(alloc: Global, input: &[u8]) -> Result<Syntax, ReadFail> {
+fn read(alloc: Global, input: &[u8]) -> Result<Syntax<'_>, ReadFail> {
     let tokens = tokens(alloc, input)?;
     syntax(alloc, &tokens)
 }

@@ -114,7 +114,7 @@ static CUTS: [(&[u8], [Token; 3]); 4] = [
 ];
 
 // The kind and the place of a refusal, or twice 0.
-fn outcome_of(read: Result<Syntax, ReadFail>) -> Result<(u8, u64), ReadFail> {
+fn outcome_of(read: Result<Syntax<'_>, ReadFail>) -> Result<(u8, u64), ReadFail> {
     match read {
         Ok(_) => Ok((0, 0)),
         Err(ReadFail::Refused { kind, offset }) => Ok((kind, offset)),

@@ -37,7 +37,7 @@ fn run(alloc: Global, tokens: &[Token]) -> Result<Machine, ReadFail>
 ///
 /// Refuses with kind 2 the first token such that the tokens up to and with it begin no sentence, at its
 /// place; with kind 3, at the length of the input, tokens that begin a sentence and are none.
-pub fn syntax(alloc: Global, tokens: &Tokens) -> Result<Syntax, ReadFail>
+pub fn syntax<'a>(alloc: Global, tokens: &Tokens<'a>) -> Result<Syntax<'a>, ReadFail>
     ensures bytes { IfOk result (λ s. s.bytes ≡ tokens.now.bytes) }
     ensures sentence { IfOk result (λ s. IsInput tokens.now.tokens s.specifications) }
     // No other specifications are spelled by these tokens.
@@ -48,9 +48,11 @@ pub fn syntax(alloc: Global, tokens: &Tokens) -> Result<Syntax, ReadFail>
         → IsInput tokens.now.tokens specs → IfErr result (λ e. e ≡ ReadFail.Memory) }
     ensures refused_only_at_its_place { IfErr result (IsRefusal tokens.now) }
 {
-    let text = Vec::from_slice(alloc, tokens.text())?;
     match run(alloc, tokens.as_slice())?.finish() {
-        Some(items) => Ok(Syntax { text, items }),
+        Some(items) => Ok(Syntax {
+            text: tokens.text(),
+            items,
+        }),
         None => Err(refused(kinds::UNENDED, tokens.text().len())),
     }
 }
@@ -96,7 +98,7 @@ fn run_bytes(alloc: Global, bytes: &[u8]) -> Result<Machine, ReadFail>
 /// The specifications that bytes spell. It gives what `syntax` gives of their `tokens`, and keeps no token.
 ///
 /// Refuses bytes that have no tokens as `tokens` does, and else as `syntax` does.
-pub fn read(alloc: Global, bytes: &[u8]) -> Result<Syntax, ReadFail>
+pub fn read(alloc: Global, bytes: &[u8]) -> Result<Syntax<'_>, ReadFail>
     ensures bytes { IfOk result (λ s. s.bytes ≡ bytes.now) }
     ensures sentence { IfOk result (λ s. Spells bytes.now s.specifications) }
     // Nothing of the grammar is refused, and no other specifications are spelled by these bytes.
@@ -111,10 +113,7 @@ pub fn read(alloc: Global, bytes: &[u8]) -> Result<Syntax, ReadFail>
         return Err(ReadFail::Memory);
     }
     match run_bytes(alloc, bytes)?.finish() {
-        Some(items) => {
-            let text = Vec::from_slice(alloc, bytes)?;
-            Ok(Syntax { text, items })
-        }
+        Some(items) => Ok(Syntax { text: bytes, items }),
         None => Err(refused(kinds::UNENDED, bytes.len())),
     }
 }

@@ -210,7 +210,7 @@ pub(crate) fn piece_at(bytes: &[u8], at: usize) -> Piece
 /// longest run of name bytes that is no reserved word. Refuses with kind 1 the first byte where no token,
 /// white space or comment begins. An input of 2^32 bytes or more isn't read, and is answered as want of
 /// memory.
-pub fn tokens(alloc: Global, bytes: &[u8]) -> Result<Tokens, ReadFail>
+pub fn tokens(alloc: Global, bytes: &[u8]) -> Result<Tokens<'_>, ReadFail>
     ensures bytes { IfOk result (λ t. t.bytes ≡ bytes.now) }
     ensures tokens { IfOk result (λ t. tokens_of bytes.now ≡ Ok t.tokens) }
     ensures refused_only_at_first_bad_byte { IfErr result (IsBadByte bytes.now) }
@@ -231,6 +231,5 @@ pub fn tokens(alloc: Global, bytes: &[u8]) -> Result<Tokens, ReadFail>
             Piece::Bad => return Err(refused(kinds::BAD_BYTE, at)),
         }
     }
-    let text = Vec::from_slice(alloc, bytes)?;
-    Ok(Tokens { text, items })
+    Ok(Tokens { text: bytes, items })
 }

@@ -89,33 +89,33 @@ impl Specification {
     }
 }
 
-/// The specifications of an input, with the input's bytes, in which the names stand.
+/// The specifications of an input, which they borrow: in its bytes the names stand.
 #[derive(Drop)]
-pub struct Syntax {
-    pub(crate) text: Vec<u8>,
+pub struct Syntax<'a> {
+    pub(crate) text: &'a [u8],
     pub(crate) items: Sequence<Specification>,
 }
 
-impl Model for Syntax {
+impl<'a> Model for Syntax<'a> {
     ghost use Rattle.std.specs.Prelude.{All};
     ghost use Rattle.rec_reader.specs.Parsed.{Parsed};
     ghost use Rattle.rec_reader.specs.Whole.{HasWholeTerms};
 
     ghost Value = { Parsed };
 
-    ghost view = { λ s. record { bytes = s.text.items; specifications = s.items } };
+    ghost view = { λ s. record { bytes = s.text.now; specifications = s.items } };
 
     ghost use Rattle.rec_reader.specs.Few.{HasFewLeftNodes};
 
     ghost invariant = { λ s. All HasWholeTerms s.items × All HasFewLeftNodes s.items };
 }
 
-impl Syntax {
+impl<'a> Syntax<'a> {
     /// The input's bytes.
-    pub fn text(&self) -> &[u8]
+    pub fn text(&self) -> &'a [u8]
         ensures { result.now ≡ self.now.bytes }
     {
-        self.text.as_slice()
+        self.text
     }
 
     /// The specifications in order. Each list of nodes in them is that of one whole term, and a left side

@@ -60,31 +60,31 @@ impl Token {
     }
 }
 
-/// The tokens of an input, with the input's bytes, in which the names stand.
+/// The tokens of an input, which they borrow: in its bytes the names stand.
 #[derive(Drop)]
-pub struct Tokens {
-    pub(crate) text: Vec<u8>,
+pub struct Tokens<'a> {
+    pub(crate) text: &'a [u8],
     pub(crate) items: Vec<Token>,
 }
 
-impl Model for Tokens {
+impl<'a> Model for Tokens<'a> {
     ghost use Rattle.rec_reader.specs.Scanned.{Scanned};
 
     ghost Value = { Scanned };
 
     ghost use Rattle.rec_reader.specs.Few.{IsShort};
 
-    ghost view = { λ t. record { bytes = t.text.items; tokens = t.items.items } };
+    ghost view = { λ t. record { bytes = t.text.now; tokens = t.items.items } };
 
-    ghost invariant = { λ t. IsShort t.text.items t.items.items };
+    ghost invariant = { λ t. IsShort t.text.now t.items.items };
 }
 
-impl Tokens {
+impl<'a> Tokens<'a> {
     /// The input's bytes.
-    pub fn text(&self) -> &[u8]
+    pub fn text(&self) -> &'a [u8]
         ensures { result.now ≡ self.now.bytes }
     {
-        self.text.as_slice()
+        self.text
     }
 
     /// The tokens in order. They are at most as many as the bytes, which are fewer than 2^32.

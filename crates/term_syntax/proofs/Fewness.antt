@@ -9,7 +9,7 @@ use Rattle.term_syntax.specs.declared.machine.Group.{Group}
 use Rattle.term_syntax.specs.declared.machine.Place.{Place}
 use Rattle.term_syntax.specs.declared.machine.Place.TheVariants.{Settled, Bracketed, Expected, Headed}
 use Rattle.term_syntax.specs.State.{Machine}
-use Rattle.term_syntax.specs.Tokens.{piece_at, next_of, after_token, after_piece, read_piece, tokens_from, tokens_of}
+use Rattle.term_syntax.specs.Tokens.{piece_at, after_token, read_piece, tokens_from, tokens_of}
 use Rattle.term_syntax.specs.Steps.{step, step_at, on_term, in_group, close_call, close_list, after_term, after_term_under, in_brackets, after_name, ended, end_under, end}
 use Rattle.term_syntax.specs.Few.{AreCountsFew}
 

@@ -1,5 +1,5 @@
 -- Parts as they are kept, and what they are in a text.
-use Rattle.std.proofs.Common.{◌≡◌, ◌≤◌, ◌<◌, ◌∙◌, ℕ, zero, suc, List, [], ◌∷◌, ◌++◌, length, map, get_or, set, refl, ap, arith, false}
+use Rattle.std.proofs.Common.{◌≡◌, ◌≤◌, ◌<◌, ℕ, zero, suc, List, [], ◌∷◌, ◌++◌, length, get_or, set, refl, ap, arith, false}
 use Rattle.std.proofs.lemmas.List.{length-map}
 use Rattle.term_syntax.specs.declared.machine.Entry.{Entry}
 use Rattle.term_syntax.specs.declared.token.Shape.TheVariants as shape

@@ -1,21 +1,21 @@
 -- Steps at the tokens of bytes, from their front on.
-use Rattle.std.proofs.Common.{◌≡◌, ◌≤◌, ◌<◌, ◌∙◌, ℕ, suc, ◌+◌, List, [], ◌∷◌, ◌++◌, length, drop, refl, ap, sym, subst, arith, inl, inr, append-nil, Option, Some, None, Result, Ok, Err}
-use Rattle.std.proofs.lemmas.List.{length-append, drop_all}
+use Rattle.std.proofs.Common.{◌≡◌, ◌≤◌, ◌<◌, ◌∙◌, ℕ, suc, ◌+◌, List, [], ◌∷◌, ◌++◌, length, drop, refl, ap, sym, subst, arith, inl, inr, Some, None, Result, Ok, Err}
+use Rattle.std.proofs.lemmas.List.{length-append}
 use Rattle.std.proofs.lemmas.List.Elements.{All-nil}
 use Rattle.reading.specs.declared.fail.ReadFail.{ReadFail}
 use Rattle.reading.specs.declared.fail.ReadFail.TheVariants.{Refused, Memory}
 use Rattle.faults.specs.declared.refusal.Refusal.{Refusal}
-use Rattle.term_syntax.specs.Token.{Token, Piece, Blank, Whole}
+use Rattle.term_syntax.specs.Token.{Token, Blank, Whole}
 use Rattle.term_syntax.specs.State.{Machine}
 use Rattle.term_syntax.specs.declared.token.Shape.{Shape}
 use Rattle.term_syntax.specs.declared.token.Shape.TheVariants as shape
 use Rattle.term_syntax.specs.Shown.{token_at}
-use Rattle.reading.specs.Fault.{fault, IsDue}
+use Rattle.reading.specs.Fault.{IsDue}
 use Rattle.term_syntax.specs.Few.{AreCountsFew}
 use Rattle.term_syntax.specs.Tokens.{tokens_from, tokens_of, after_token, piece_at}
 use Rattle.term_syntax.specs.Refusal.{place_of}
 use Rattle.term_syntax.specs.Steps.{run, start, step}
-use Rattle.term_syntax.specs.Reached.{HasTokens, HasRun, HasNoStep, IsUntaken, AreTokensStopped, IsStoppedIn, IsSyntaxFault}
+use Rattle.term_syntax.specs.Reached.{HasTokens, HasRun, IsUntaken, IsStoppedIn, IsSyntaxFault}
 use Rattle.term_syntax.proofs.Cutting.{after_tokens, after_none, all_cut, after_push, piece_read, due_at}
 use Rattle.term_syntax.proofs.Outcome.{run_one}
 use Rattle.term_syntax.proofs.Verdicts.{first_unexpected}

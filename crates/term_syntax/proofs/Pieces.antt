@@ -1,5 +1,5 @@
 -- What begins at a place of the bytes.
-use Rattle.std.proofs.Common.{◌≡◌, ◌≤◌, ◌<◌, ◌∙◌, ℕ, ◌+◌, ◌-◌, List, [], ◌∷◌, length, drop, take, get_or, Bool, true, false, cond, refl, ap, sym, subst, arith, Option, None, Result, Ok, Err, ◌++◌, append_assoc, leb}
+use Rattle.std.proofs.Common.{◌≡◌, ◌≤◌, ◌<◌, ◌∙◌, ℕ, ◌+◌, ◌-◌, List, [], ◌∷◌, length, drop, take, get_or, Bool, true, false, cond, refl, ap, sym, subst, arith, None, Result, Ok, Err, ◌++◌, append_assoc, leb}
 use Rattle.std.proofs.lemmas.List.{drop_more, drop_all}
 use Rattle.std.proofs.lemmas.Bool.{leb-true}
 use Rattle.std.specs.Cmp.{first_so, second_so}

@@ -1,5 +1,5 @@
 -- What reading says of the tokens.
-use Rattle.std.proofs.Common.{◌≡◌, ◌∙◌, ℕ, List, [], ◌∷◌, ◌++◌, refl, ap, sym, append_assoc, append-nil, inl, inr, Some, None}
+use Rattle.std.proofs.Common.{◌≡◌, ◌∙◌, ℕ, List, [], ◌∷◌, ◌++◌, refl, ap, sym, append_assoc, append-nil, inr, Some, None}
 use Rattle.std.specs.Prelude.{option_and_then}
 use Rattle.term_syntax.specs.Token.{Token}
 use Rattle.term_syntax.specs.State.{Machine}

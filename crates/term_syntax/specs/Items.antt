@@ -1,5 +1,5 @@
 -- The items of terms that were read.
-use Rattle.std.specs.Prelude.{◌≡◌, ℕ, List, ◌∷◌, ◌++◌, map, replicate, slice_get, unwrap_or, Option, Some, None, Bool, true, All, ◌<◌}
+use Rattle.std.specs.Prelude.{◌≡◌, ℕ, List, ◌∷◌, map, replicate, slice_get, unwrap_or, Option, Some, None, Bool, true, All, ◌<◌}
 use Rattle.std.specs.List.{flat_map}
 use Rattle.reading.specs.declared.fail.ReadFail.{ReadFail}
 use Rattle.reading.specs.declared.fail.ReadFail.TheVariants.{Refused, Memory}

@@ -5,7 +5,7 @@ use Rattle.term_model.specs.Tree.{Tree}
 use Rattle.symbol_pool.specs.Pool.{Named, name_at}
 use Rattle.tree_text.specs.Text.{text_by}
 -- which trees have a text, for the contracts of callers
-pub use Rattle.term_syntax.specs.Text.{is_named, has_names, all_have_names, HasNames}
+pub use Rattle.tree_text.specs.Text.{is_named, has_names, all_have_names, HasNames}
 
 -- the name of a symbol as it is, which a symbol that isn't held doesn't have
 abbrev pub plain_name : List Named → Symbol → List ℕ

@@ -28,8 +28,8 @@ returns-in_err-run_bytes-clause-refused c =
     let p = err_from_is_err_and c.from_residual.result c.from_residual.ensures.1 in
     rw (p.1, p.2) (stop_refusal c.args.bytes.now c.in_err-run_bytes.field-0.0 c.in_err-run_bytes.ensures.stopped)
 
-pub returns-in_ok-text-in-Some-clause-sentence : goal.returns-in_ok-text-in-Some-clause-sentence
-returns-in_ok-text-in-Some-clause-sentence c =
+pub returns-in-Some-clause-sentence : goal.returns-in-Some-clause-sentence
+returns-in-Some-clause-sentence c =
     let r = c.in_ok-run_bytes.ensures.ran in
     record {
       tokens = r.tokens;
@@ -37,8 +37,8 @@ returns-in_ok-text-in-Some-clause-sentence c =
       sentence = sentence r.tokens c.in_ok-run_bytes.field-0 c.in-Some.items r.ran (sym c.finish.ensures ∙ c.in-Some.is);
     }
 
-pub returns-in_ok-text-in-Some-clause-only : goal.returns-in_ok-text-in-Some-clause-only
-returns-in_ok-text-in-Some-clause-only c others h = spells_only c.args.bytes.now c.in-Some.items others (returns-in_ok-text-in-Some-clause-sentence c) h
+pub returns-in-Some-clause-only : goal.returns-in-Some-clause-only
+returns-in-Some-clause-only c others h = spells_only c.args.bytes.now c.in-Some.items others (returns-in-Some-clause-sentence c) h
 
 pub returns-in-None-clause-accepted : goal.returns-in-None-clause-accepted
 returns-in-None-clause-accepted c specs h =

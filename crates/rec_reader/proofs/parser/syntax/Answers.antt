@@ -17,12 +17,12 @@ invariant_of-result c =
 
 pub returns-in_err-run-clause-accepted : goal.returns-in_err-run-clause-accepted
 returns-in_err-run-clause-accepted c specs h =
-    let p = err_from_is_err_and c.from_residual-in_err-run.result c.from_residual-in_err-run.ensures.1 in
+    let p = err_from_is_err_and c.from_residual.result c.from_residual.ensures.1 in
     rw (p.1, p.2) (no_stop _ _ c.in_err-run.field-0.0 specs c.as_slice.ensures.tokens c.in_err-run.ensures.stopped h)
 
 pub returns-in_err-run-clause-refused_only_at_its_place : goal.returns-in_err-run-clause-refused_only_at_its_place
 returns-in_err-run-clause-refused_only_at_its_place c =
-    let p = err_from_is_err_and c.from_residual-in_err-run.result c.from_residual-in_err-run.ensures.1 in
+    let p = err_from_is_err_and c.from_residual.result c.from_residual.ensures.1 in
     rw (p.1, p.2) (refusal c.args.tokens.now _ c.in_err-run.field-0.0 c.as_slice.ensures.tokens c.in_err-run.ensures.stopped)
 
 pub returns-in-Some-clause-sentence : goal.returns-in-Some-clause-sentence

@@ -1,7 +1,6 @@
-use Rattle.std.proofs.Common.{◌≡◌, ◌+◌, ℕ, List, drop, refl, ap, sym, subst, ◌∙◌, arith, append-nil, Ok}
+use Rattle.std.proofs.Common.{◌≡◌, ◌+◌, ℕ, List, drop, refl, ap, sym, ◌∙◌, arith, append-nil, Ok}
 use Rattle.std.proofs.lemmas.List.{at_drop_all}
 use Rattle.rec_reader.specs.Tokens.{tokens_from, tokens_of}
-use Rattle.rec_reader.specs.Few.{IsShort}
 use Rattle.rec_reader.proofs.Reading.{after_tokens, after_push, blank_read, whole_read, bad_read}
 use Rattle.rec_reader.proofs.Fewness.{few_tokens}
 use Rattle.rec_reader.proofs.scanner.tokens.Goals as goal
@@ -46,5 +45,4 @@ invariant_of-result c =
     sym l.invariant.read
     ∙ at_drop_all (λ rest. after_tokens items (tokens_from l.at 0 rest)) bytes l.at (omega (arith, c.loop-at-test.false))
     ∙ ap Ok (append-nil items) in
-    let P : List ℕ → Type 0 = λ bs. IsShort bs items in
-    subst P (sym c.in_ok-text.ensures.items) (record { bytes_few = omega (arith, c.if-bytes-gt-MOST_BYTES.false); tokens_few = few_tokens bytes items all })
+    record { bytes_few = omega (arith, c.if-bytes-gt-MOST_BYTES.false); tokens_few = few_tokens bytes items all }

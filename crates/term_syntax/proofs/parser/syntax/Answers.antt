@@ -1,4 +1,4 @@
-use Rattle.std.proofs.Common.{◌≡◌, ◌∙◌, length, ap, sym, inr, Some, None}
+use Rattle.std.proofs.Common.{◌≡◌, ◌∙◌, length, ap, inr, Some}
 use Rattle.std.proofs.lemmas.Result.{err_from_is_err_and}
 use Rattle.term_syntax.specs.Shown.{machine_in}
 use Rattle.term_syntax.specs.Steps.{settled_at, accepted}
