@@ -3,7 +3,7 @@ ghost use Rattle.std.specs.Prelude.{◌≡◌, ◌-◌, ◌≤◌, length, nat_l
 ghost use Rattle.std.specs.Cmp.Lexicographic.{pointwise};
 ghost use Rattle.std.specs.List.{list_all};
 ghost use Rattle.reading.specs.declared.fail.ReadFail.TheVariants.{Refused};
-ghost use Rattle.tree_text.specs.NameBytes as tokens;
+ghost use Rattle.tree_text.specs.NameBytes as name_bytes;
 ghost use Rattle.term_file.specs.File as file;
 ghost use Rattle.term_file.specs.Reading as spec;
 ghost use Rattle.term_file.specs.Outcome.{Gives};
@@ -100,13 +100,13 @@ pub(crate) fn after_magic(total: usize, bytes: &[u8]) -> Result<&[u8], ReadFail>
 
 /// Whether a byte may stand in a name: from space to tilde.
 fn is_printable(byte: u8) -> bool
-    ensures { result ≡ tokens.is_printable byte }
+    ensures { result ≡ name_bytes.is_printable byte }
 {
     (b' '..=b'~').contains(&byte)
 }
 
 fn all_printable(bytes: &[u8]) -> bool
-    ensures { result ≡ list_all tokens.is_printable bytes.now }
+    ensures { result ≡ list_all name_bytes.is_printable bytes.now }
 {
     bytes.iter().all(|byte| is_printable(*byte))
 }
@@ -115,7 +115,7 @@ fn all_printable(bytes: &[u8]) -> bool
 #[tactic(auto, unfolding(crate::specs::Reading::text_where))]
 pub(crate) fn name_at(total: usize, size: usize, bytes: &[u8]) -> Result<(&[u8], &[u8]), ReadFail>
     ensures { Gives (λ x. (x.0.now, x.1.now)) result
-        (spec.text_where total size (list_all tokens.is_printable) bytes.now) }
+        (spec.text_where total size (list_all name_bytes.is_printable) bytes.now) }
 {
     if bytes.len() < size {
         return Err(cut(total));
