@@ -21,7 +21,8 @@ use Rattle.sweep_phase.specs.Chained.{LeadsTo, Belongs, ChainsTo}
 use Rattle.sweep_phase.specs.Collected.{IsWorkedOut}
 use Rattle.sweep_phase.specs.Read.{again_in_turn}
 use Rattle.sweep_phase.specs.Compared.{told_by, unmarked_before, place_for, Notes, IsCompared}
-use Rattle.sweep_phase.specs.Turns.{row_in_turn}
+use Rattle.sweep_phase.specs.declared.turns.Order.{Order}
+use Rattle.sweep_phase.specs.Turns.{order_for, row_in_turn}
 use Rattle.sweep_phase.proofs.Turning.{turn_back, turn_same}
 
 -- a cell that says that the word stays, and another one
@@ -55,39 +56,39 @@ module _ (w : Place → ℕ) (marks : List Bool) (u n : ℕ) (heads nexts : List
   nexts_few r l m = let t = h.all r l m in next_few (λ q. get_or nexts q 0) n (get_or heads t.0 0) (h.rows t.0) (rows_few t.0 t.1) (h.leads t.0 t.1) r t.2
 
 -- how many aren't marked, one turn more
-pub unmarked_next : (marks : List Bool) (z : Sizes) (n count : ℕ) → count ≡ unmarked_before marks z n → count + cond (get_or marks (row_in_turn z n) false) 0 1 ≡ unmarked_before marks z (n + 1)
-unmarked_next marks z n count e =
+pub unmarked_next : (marks : List Bool) (z : Sizes) (o : Order) (n count : ℕ) → count ≡ unmarked_before marks z o n → count + cond (get_or marks (row_in_turn z o n) false) 0 1 ≡ unmarked_before marks z o (n + 1)
+unmarked_next marks z o n count e =
     let next : n + 1 ≡ suc n = omega arith in
-    ap (λ (k : ℕ). k + cond (get_or marks (row_in_turn z n) false) 0 1) e ∙ sym (ap (unmarked_before marks z) next)
+    ap (λ (k : ℕ). k + cond (get_or marks (row_in_turn z o n) false) 0 1) e ∙ sym (ap (unmarked_before marks z o) next)
 
 -- the cells of no row yet
-pub notes_none : (w : Place → ℕ) (count : ℕ) (marks : List Bool) (nexts : List ℕ) (z : Sizes) → Notes w count marks nexts nexts z 0
-notes_none w count marks nexts z = record { next = λ r l t. absurd (omega arith); place = λ r l t. absurd (omega arith); rest = λ r l. refl }
+pub notes_none : (w : Place → ℕ) (count : ℕ) (marks : List Bool) (nexts : List ℕ) (z : Sizes) (o : Order) → Notes w count marks nexts nexts z o 0
+notes_none w count marks nexts z o = record { next = λ r l t. absurd (omega arith); place = λ r l t. absurd (omega arith); rest = λ r l. refl }
 
 -- the cells of one row more
-module _ (w : Place → ℕ) (count : ℕ) (marks : List Bool) (nexts cells more : List ℕ) (z : Sizes) (n row : ℕ) (is : row ≡ row_in_turn z n) (h : Notes w count marks nexts cells z n)
+module _ (w : Place → ℕ) (count : ℕ) (marks : List Bool) (nexts cells more : List ℕ) (z : Sizes) (o : Order) (n row : ℕ) (is : row ≡ row_in_turn z o n) (h : Notes w count marks nexts cells z o n)
     (next : IsMarked marks row → told_by (w (Next row)) (get_or more row 0) ≡ get_or cells row 0)
-    (place : get_or marks row false ≡ false → get_or more row 0 ≡ 4294967295 → (unmarked_before marks z n < count) × (w (FreePlace (unmarked_before marks z n)) ≡ row))
+    (place : get_or marks row false ≡ false → get_or more row 0 ≡ 4294967295 → (unmarked_before marks z o n < count) × (w (FreePlace (unmarked_before marks z o n)) ≡ row))
     (others : (r : ℕ) → r ≢ row → get_or more r 0 ≡ get_or cells r 0) where
-  turn_is : row_in_turn z row ≡ n
-  turn_is = ap (row_in_turn z) is ∙ turn_back z n
+  turn_is : row_in_turn z o row ≡ n
+  turn_is = ap (row_in_turn z o) is ∙ turn_back z o n
 
-  other : (r : ℕ) → row_in_turn z r ≢ n → get_or more r 0 ≡ get_or cells r 0
-  other r not = others r (λ e. not (ap (row_in_turn z) e ∙ turn_is))
+  other : (r : ℕ) → row_in_turn z o r ≢ n → get_or more r 0 ≡ get_or cells r 0
+  other r not = others r (λ e. not (ap (row_in_turn z o) e ∙ turn_is))
 
-  before : (r : ℕ) → row_in_turn z r < n → get_or more r 0 ≡ get_or cells r 0
+  before : (r : ℕ) → row_in_turn z o r < n → get_or more r 0 ≡ get_or cells r 0
   before r l = other r (λ e. omega arith)
 
-  this : (r : ℕ) → n ≤ row_in_turn z r → row_in_turn z r < n + 1 → row ≡ r
-  this r past l = is ∙ turn_same z n r (omega arith)
+  this : (r : ℕ) → n ≤ row_in_turn z o r → row_in_turn z o r < n + 1 → row ≡ r
+  this r past l = is ∙ turn_same z o n r (omega arith)
 
-  pub notes_more : Notes w count marks nexts more z (n + 1)
+  pub notes_more : Notes w count marks nexts more z o (n + 1)
   notes_more = record {
     next = λ r l t m. ⊎_elim (λ less. ap (told_by (w (Next r))) (before r less) ∙ h.next r l less m)
-        (λ past. subst (λ (q : ℕ). IsMarked marks q → told_by (w (Next q)) (get_or more q 0) ≡ get_or nexts q 0) (this r past t) (λ k. next k ∙ h.rest row (let e = turn_is in omega arith)) m) (cases_lt (row_in_turn z r) n);
+        (λ past. subst (λ (q : ℕ). IsMarked marks q → told_by (w (Next q)) (get_or more q 0) ≡ get_or nexts q 0) (this r past t) (λ k. next k ∙ h.rest row (let e = turn_is in omega arith)) m) (cases_lt (row_in_turn z o r) n);
     place = λ r l t not is. ⊎_elim (λ less. h.place r l less not (sym (before r less) ∙ is))
-        (λ past. subst (λ (q : ℕ). get_or marks q false ≡ false → get_or more q 0 ≡ 4294967295 → (place_for marks z q < count) × (w (FreePlace (place_for marks z q)) ≡ q)) (this r past t)
-        (subst (λ (j : ℕ). get_or marks row false ≡ false → get_or more row 0 ≡ 4294967295 → (unmarked_before marks z j < count) × (w (FreePlace (unmarked_before marks z j)) ≡ row)) (sym turn_is) place) not is) (cases_lt (row_in_turn z r) n);
+        (λ past. subst (λ (q : ℕ). get_or marks q false ≡ false → get_or more q 0 ≡ 4294967295 → (place_for marks z o q < count) × (w (FreePlace (place_for marks z o q)) ≡ q)) (this r past t)
+        (subst (λ (j : ℕ). get_or marks row false ≡ false → get_or more row 0 ≡ 4294967295 → (unmarked_before marks z o j < count) × (w (FreePlace (unmarked_before marks z o j)) ≡ row)) (sym turn_is) place) not is) (cases_lt (row_in_turn z o r) n);
     rest = λ r l. other r (λ e. omega arith) ∙ h.rest r (omega arith);
   }
 
@@ -110,7 +111,7 @@ module _ (c : Sweep) (a : Seat (Unit {0}) NodeView) (i n : ℕ) (marks : List Bo
 -- and it is noted which words it changes
 module _ (c : Sweep) (a : Seat (Unit {0}) NodeView) (i n : ℕ) (marks : List Bool) (nexts heads : List ℕ) (live buckets : ℕ) (h : IsWorkedOut c a i n marks nexts heads live buckets)
     (b : Seat (Unit {0}) NodeView) (j m : ℕ) (d : Seat (Unit {0}) NodeView) (k l : ℕ) (first : LoadsAgain c a i n b j m) (second : LoadsAgain c b j m d k l) (at : HasGathered c d k l)
-    (cells tails : List ℕ) (notes : Notes (words_of a) c.count marks nexts cells (sizes_of c) (sizes_of c).rows) (tells : (x : ℕ) → x < buckets → told_by (words_of b (Bucket x)) (get_or tails x 0) ≡ get_or heads x 0) where
+    (cells tails : List ℕ) (notes : Notes (words_of a) c.count marks nexts cells (sizes_of c) (order_for (sizes_of c) live) (sizes_of c).rows) (tells : (x : ℕ) → x < buckets → told_by (words_of b (Bucket x)) (get_or tails x 0) ≡ get_or heads x 0) where
   both : LoadsAgain c a i n d k l
   both = again_in_turn c a i n b j m d k l first second
 
@@ -119,7 +120,7 @@ module _ (c : Sweep) (a : Seat (Unit {0}) NodeView) (i n : ℕ) (marks : List Bo
     new_nexts = nexts;
     new_heads = heads;
     out = out_again c a i n marks nexts heads live buckets h d k l both at;
-    notes = subst (λ (w : Place → ℕ). Notes w c.count marks nexts cells (sizes_of c) (sizes_of c).rows) (sym both.words) notes;
+    notes = subst (λ (w : Place → ℕ). Notes w c.count marks nexts cells (sizes_of c) (order_for (sizes_of c) live) (sizes_of c).rows) (sym both.words) notes;
     heads_are = λ x less. subst (λ (w : Place → ℕ). told_by (w (Bucket x)) (get_or tails x 0) ≡ get_or heads x 0) (sym second.words) (tells x less);
   }
 

@@ -30,6 +30,7 @@ use Rattle.node_rows.specs.Collecting.{or_zero, HasSeen, MayEndBy}
 use Rattle.sweep_phase.specs.declared.sweep.Sweep.{Sweep}
 use Rattle.sweep_phase.specs.Gathered.{sizes_of, loads_of, words_of}
 use Rattle.sweep_phase.specs.Chained.{LeadsTo, Belongs}
+use Rattle.sweep_phase.specs.Turns.{order_for}
 use Rattle.sweep_phase.specs.Stored.{seen_of, ArePlaced}
 use Rattle.sweep_phase.specs.Collected.{HasSwept}
 use Rattle.sweep_phase.proofs.Left.{opposite, opposite_marks, free_marks, count_left}
@@ -161,15 +162,15 @@ module _ (c : Sweep) (a : Seat (Unit {0}) NodeView) (i n : ℕ) (marks : List Bo
     place_is : (q : ℕ) → q < h.count → u (FreePlace q) ≡ seen_of a (FreePlace q)
     place_is q l = sees (FreePlace q) (h.stored.seen_places q l)
 
-    placed : ArePlaced (λ q. u (FreePlace q)) marks z z.rows (u FreeCount)
-    placed = subst (ArePlaced (λ q. u (FreePlace q)) marks z z.rows) (sym count_is)
-        (placed_like (λ q. seen_of a (FreePlace q)) (λ q. u (FreePlace q)) marks z z.rows h.count place_is h.stored.placed)
+    placed : ArePlaced (λ q. u (FreePlace q)) marks z (order_for z live) z.rows (u FreeCount)
+    placed = subst (ArePlaced (λ q. u (FreePlace q)) marks z (order_for z live) z.rows) (sym count_is)
+        (placed_like (λ q. seen_of a (FreePlace q)) (λ q. u (FreePlace q)) marks z (order_for z live) z.rows h.count place_is h.stored.placed)
 
     free : MarksFree z u (opposite marks)
     free = record {
       few = (let e = count_is in let f = h.stored.few in omega arith);
       there = placed.below;
-      places = free_marks (λ q. u (FreePlace q)) marks z (u FreeCount) placed h.stored.reached.size;
+      places = free_marks (λ q. u (FreePlace q)) marks z (order_for z live) (u FreeCount) placed h.stored.reached.size;
     }
 
     -- the chains
@@ -246,7 +247,7 @@ module _ (c : Sweep) (a : Seat (Unit {0}) NodeView) (i n : ℕ) (marks : List Bo
       places = free;
       opposite = opposite_marks marks;
       chains = chains;
-      count = h.stored.live_is ∙ sym (count_left (λ q. u (FreePlace q)) marks z (u FreeCount) placed h.stored.reached.size);
+      count = h.stored.live_is ∙ sym (count_left (λ q. u (FreePlace q)) marks z (order_for z live) (u FreeCount) placed h.stored.reached.size);
     }
 
     base_follows : BaseFollows u (loads (s.view i).call)

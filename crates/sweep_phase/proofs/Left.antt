@@ -11,6 +11,7 @@ use Rattle.store_core.proofs.Basics.{choose}
 use Rattle.store_core.proofs.NamesLeft.{by_bool, free_none, free_some}
 use Rattle.store_core.proofs.MarkedPlaces.{left_more, left_same}
 use Rattle.sweep_phase.specs.Marked.{marked_below}
+use Rattle.sweep_phase.specs.declared.turns.Order.{Order}
 use Rattle.sweep_phase.specs.Stored.{ArePlaced}
 use Rattle.sweep_phase.proofs.Reaches.{counts_more, counts_same}
 use Rattle.sweep_phase.proofs.Turning.{turn_below}
@@ -43,12 +44,12 @@ opposite_marks bs r l e = not_flip (get_or bs r false) (e ∙ opposite_at bs r l
 free_here : (place : ℕ → ℕ) (n i : ℕ) → i < n → is_free place n (place i) ≡ true
 free_here place n i l = ⊎_elim (λ e. e) (λ e. absurd (free_none place n (place i) e i l refl)) (by_bool (is_free place n (place i)))
 
-module _ (place : ℕ → ℕ) (marks : List Bool) (z : Sizes) (n : ℕ) (h : ArePlaced place marks z z.rows n) (size : length marks ≡ z.rows) where
+module _ (place : ℕ → ℕ) (marks : List Bool) (z : Sizes) (o : Order) (n : ℕ) (h : ArePlaced place marks z o z.rows n) (size : length marks ≡ z.rows) where
   -- a row is in a free place exactly where it isn't marked
   pub free_is : (r : ℕ) → r < z.rows → is_free place n r ≡ flip (get_or marks r false)
   free_is r l = ⊎_elim
       (λ m. ⊎_elim (λ f. let t = free_some place n r f in absurd (true≢false (sym m ∙ (ap (λ (q : ℕ). get_or marks q false) (sym t.2) ∙ h.free t.0 t.1)))) (λ f. f ∙ ap flip (sym m)) (by_bool (is_free place n r)))
-      (λ m. let t = h.all r l (turn_below z r l) m in (ap (is_free place n) (sym t.2) ∙ free_here place n t.0 t.1) ∙ ap flip (sym m)) (by_bool (get_or marks r false))
+      (λ m. let t = h.all r l (turn_below z o r l) m in (ap (is_free place n) (sym t.2) ∙ free_here place n t.0 t.1) ∙ ap flip (sym m)) (by_bool (get_or marks r false))
 
   place_differ : (i j : ℕ) → i < n → j < n → place i ≡ place j → i ≡ j
   place_differ i j a b same = ⊎_elim

@@ -23,6 +23,7 @@ use Rattle.sweep_phase.specs.declared.sweep.Sweep.{Sweep}
 use Rattle.sweep_phase.specs.Loaded.{begun, found}
 use Rattle.sweep_phase.specs.Gathered.{sizes_of, loads_of, words_of, StaysSeat, HasGathered}
 use Rattle.sweep_phase.specs.Chained.{LeadsTo, Belongs}
+use Rattle.sweep_phase.specs.Turns.{order_for}
 use Rattle.sweep_phase.specs.Stored.{seen_of, Stores, StoresMore, ArePlaced, is_next, is_head, is_place, is_number}
 use Rattle.sweep_phase.specs.Collected.{IsWorkedOut, HasStored, HasSwept, Ends}
 use Rattle.sweep_phase.proofs.Chains.{leads_same}
@@ -102,7 +103,7 @@ module _ (c : Sweep) (a : Seat (Unit {0}) NodeView) (i n : ℕ) (marks : List Bo
     (first : StoresMore a i n b j m) (second : StoresMore b j m d k l) (third : StoresMore d k l e o q) (at : Stores c e o q)
     (next_is : (r : ℕ) → r < (sizes_of c).rows → IsMarked marks r → seen_of b (Next r) ≡ get_or nexts r 0) (next_others : (p : Place) → is_next p ≡ false → seen_of b p ≡ seen_of a p)
     (head_is : (x : ℕ) → x < buckets → seen_of d (Bucket x) ≡ get_or heads x 0) (head_others : (p : Place) → is_head buckets p ≡ false → seen_of d p ≡ seen_of b p)
-    (placed : ArePlaced (λ x. seen_of e (FreePlace x)) marks (sizes_of c) (sizes_of c).rows count) (has : (x : ℕ) → x < count → HasSeen e.me.0.store (FreePlace x)) (few : count ≤ (sizes_of c).rows) (place_others : (p : Place) → is_place p ≡ false → seen_of e p ≡ seen_of d p) where
+    (placed : ArePlaced (λ x. seen_of e (FreePlace x)) marks (sizes_of c) (order_for (sizes_of c) live) (sizes_of c).rows count) (has : (x : ℕ) → x < count → HasSeen e.me.0.store (FreePlace x)) (few : count ≤ (sizes_of c).rows) (place_others : (p : Place) → is_place p ≡ false → seen_of e p ≡ seen_of d p) where
   loads_same : loads_of e ≡ loads_of a
   loads_same = third.loads ∙ (second.loads ∙ first.loads)
 
@@ -161,7 +162,7 @@ module _ (c : Sweep) (a : Seat (Unit {0}) NodeView) (i n : ℕ) (marks : List Bo
     belong = λ x l. subst (λ (w : Place → ℕ). Each (Belongs w marks buckets (sizes_of c).rows x) (h.rows x)) (sym same_words) (h.belong x l);
     chained = h.chained;
     beyond = λ x past less. others (Bucket x) refl ∙ h.beyond x past less;
-    placed = placed_like (λ x. seen_of a (FreePlace x)) (λ x. seen_of b (FreePlace x)) marks (sizes_of c) (sizes_of c).rows count (λ x l. others (FreePlace x) refl) h.placed;
+    placed = placed_like (λ x. seen_of a (FreePlace x)) (λ x. seen_of b (FreePlace x)) marks (sizes_of c) (order_for (sizes_of c) live) (sizes_of c).rows count (λ x l. others (FreePlace x) refl) h.placed;
     seen_places = λ x l. more.seen (FreePlace x) (h.seen_places x l);
     few = h.few;
     others = λ p is. others p (not_number p is) ∙ (h.others p is ∙ ap (λ (w : Place → ℕ). w p) (sym same_words));
@@ -182,8 +183,8 @@ module _ (c : Sweep) (a : Seat (Unit {0}) NodeView) (i n : ℕ) (marks : List Bo
   place : ℕ → ℕ
   place k = seen_of a (FreePlace k)
 
-  placed : ArePlaced (λ k. seen_of a (FreePlace k)) marks (sizes_of c) (sizes_of c).rows (seen_of a FreeCount)
-  placed = subst (λ (k : ℕ). ArePlaced (λ x. seen_of a (FreePlace x)) marks (sizes_of c) (sizes_of c).rows k) (sym h.count_is) h.stored.placed
+  placed : ArePlaced (λ k. seen_of a (FreePlace k)) marks (sizes_of c) (order_for (sizes_of c) live) (sizes_of c).rows (seen_of a FreeCount)
+  placed = subst (λ (k : ℕ). ArePlaced (λ x. seen_of a (FreePlace x)) marks (sizes_of c) (order_for (sizes_of c) live) (sizes_of c).rows k) (sym h.count_is) h.stored.placed
 
   pub swept_ends : Ends c a i n b j m marks live buckets
   swept_ends = record {
@@ -191,14 +192,14 @@ module _ (c : Sweep) (a : Seat (Unit {0}) NodeView) (i n : ℕ) (marks : List Bo
     number = number;
     seats = seats;
     kept = names_left (sizes_of c) (seen_of a);
-    live_is = h.stored.live_is ∙ sym (count_left (λ k. seen_of a (FreePlace k)) marks (sizes_of c) (seen_of a FreeCount) placed h.stored.reached.size);
+    live_is = h.stored.live_is ∙ sym (count_left (λ k. seen_of a (FreePlace k)) marks (sizes_of c) (order_for (sizes_of c) live) (seen_of a FreeCount) placed h.stored.reached.size);
     buckets_are = h.stored.buckets_are ∙ ap (λ (k : ℕ). grown_use (sizes_of c) k live) h.stored.use_is;
     view = view ∙ (ap (λ (k : ℕ). swept a.me.0 (collected a.me.0.store k (pred k) (seen_of a InUse) (names_left (sizes_of c) (seen_of a))) b.me.0.crowd) h.base
         ∙ (ap (λ (k : ℕ). swept a.me.0 (collected a.me.0.store (c.base + c.claim + 1) k (seen_of a InUse) (names_left (sizes_of c) (seen_of a))) b.me.0.crowd) (pred_more (c.base + c.claim))
         ∙ ap (λ (k : ℕ). swept a.me.0 (collected a.me.0.store (c.base + c.claim + 1) (c.base + c.claim) k (names_left (sizes_of c) (seen_of a))) b.me.0.crowd) h.in_use));
     crowd = crowd;
     ascends = ascends;
-    marked = λ r. left_marked (λ k. seen_of a (FreePlace k)) marks (sizes_of c) (seen_of a FreeCount) placed h.stored.reached.size (λ q y. let s = inside_marks marks q y in let t = h.stored.reached.size in omega arith) r;
+    marked = λ r. left_marked (λ k. seen_of a (FreePlace k)) marks (sizes_of c) (order_for (sizes_of c) live) (seen_of a FreeCount) placed h.stored.reached.size (λ q y. let s = inside_marks marks q y in let t = h.stored.reached.size in omega arith) r;
     size = h.stored.reached.size;
     known = known;
   }

@@ -21,6 +21,7 @@ use Rattle.sweep_phase.specs.declared.sweep.Sweep.{Sweep}
 use Rattle.sweep_phase.specs.Gathered.{sizes_of, loads_of, words_of, HasGathered, LoadsClaim}
 use Rattle.sweep_phase.specs.Marked.{marked_below}
 use Rattle.sweep_phase.specs.Chained.{LeadsTo, Belongs, ChainsTo}
+use Rattle.sweep_phase.specs.Turns.{order_for}
 use Rattle.sweep_phase.specs.Stored.{Stores, ArePlaced, seen_of}
 
 -- Seat i has noted a collection: its number is the base and the claim that it loaded, and the next base is one more. The rows kept
@@ -67,7 +68,7 @@ pub record HasStored (c : Sweep) (seat : Seat (Unit {0}) NodeView) (i n : ℕ) (
   pub belong : (b : ℕ) → b < buckets → Each (Belongs (words_of seat) marks buckets (sizes_of c).rows b) (rows b)
   pub chained : (r : ℕ) → IsMarked marks r → (b : ℕ) × (b < buckets) × In r (rows b)
   pub beyond : (b : ℕ) → buckets ≤ b → b < (sizes_of c).buckets → seen_of seat (Bucket b) ≡ 0
-  pub placed : ArePlaced (λ i. seen_of seat (FreePlace i)) marks (sizes_of c) (sizes_of c).rows count
+  pub placed : ArePlaced (λ i. seen_of seat (FreePlace i)) marks (sizes_of c) (order_for (sizes_of c) live) (sizes_of c).rows count
   pub seen_places : (k : ℕ) → k < count → HasSeen seat.me.0.store (FreePlace k)
   pub few : count ≤ (sizes_of c).rows
   pub others : (p : Place) → is_stored p ≡ false → seen_of seat p ≡ words_of seat p

@@ -12,6 +12,7 @@ use Rattle.node_rows.specs.declared.view.NodeView.{NodeView}
 use Rattle.node_rows.specs.Collecting.{HasSeen, word_seen}
 use Rattle.sweep_phase.specs.declared.sweep.Sweep.{Sweep}
 use Rattle.sweep_phase.specs.Gathered.{sizes_of, loads_of, IsAlone, StaysSeat}
+use Rattle.sweep_phase.specs.declared.turns.Order.{Order}
 use Rattle.sweep_phase.specs.Turns.{row_in_turn}
 
 -- the words, as a collection has stored them, or else loaded them
@@ -51,9 +52,9 @@ is_number InUse = true
 is_number p = false
 
 -- the first k free places hold, each once, the rows that aren't marked, of those that come in the first n turns
-pub record ArePlaced (place : ℕ → ℕ) (marks : List Bool) (z : Sizes) (n k : ℕ) : Type 0 where
+pub record ArePlaced (place : ℕ → ℕ) (marks : List Bool) (z : Sizes) (o : Order) (n k : ℕ) : Type 0 where
   pub below : (i : ℕ) → i < k → place i < z.rows
-  pub turn : (i : ℕ) → i < k → row_in_turn z (place i) < n
+  pub turn : (i : ℕ) → i < k → row_in_turn z o (place i) < n
   pub free : (i : ℕ) → i < k → get_or marks (place i) false ≡ false
   pub differ : (i j : ℕ) → i < j → j < k → place i ≢ place j
-  pub all : (r : ℕ) → r < z.rows → row_in_turn z r < n → get_or marks r false ≡ false → (i : ℕ) × (i < k) × (place i ≡ r)
+  pub all : (r : ℕ) → r < z.rows → row_in_turn z o r < n → get_or marks r false ≡ false → (i : ℕ) × (i < k) × (place i ≡ r)

@@ -25,6 +25,7 @@ use crate::loading::load_all;
 use crate::marking::mark_all;
 use crate::storing::{put, put_over, store_heads, store_nexts, store_places};
 use crate::sweep::{Kept, Sweep, Worn};
+use crate::turns::order_for;
 use busy_forbidden::Seat;
 use mark_phase::Marks;
 use node_rows::{
@@ -88,7 +89,8 @@ fn store_lists(
 {
     store_nexts(sweep, seat, marks, nexts);
     store_heads(sweep, seat, heads, kept.buckets);
-    store_places(sweep, seat, marks, nexts)
+    let order = order_for(&sweep.store.sizes, kept.live);
+    store_places(sweep, seat, marks, nexts, order)
 }
 
 // Stores the free count and the buckets in use, where they change, and the base.

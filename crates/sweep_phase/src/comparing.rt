@@ -8,7 +8,7 @@ ghost use Rattle.sweep_phase.specs.Compared.{told_by, Notes, IsCompared};
 
 use crate::reading::{head_of, next_of, place_of};
 use crate::sweep::{Kept, Sweep};
-use crate::turns::row_in_turn;
+use crate::turns::{Order, order_for, row_in_turn};
 use busy_forbidden::Seat;
 use mark_phase::Marks;
 use node_rows::NodeRows;
@@ -110,20 +110,26 @@ fn compare_row(
     free + 1
 }
 
-// Notes of all rows which next words and free places stay as they are.
-fn compare_rows(sweep: &Sweep<'_>, seat: &mut Seat<NodeRows>, marks: &Marks, cells: &mut [u32])
+// Notes of all rows, in an order, which next words and free places stay as they are.
+fn compare_rows(
+    sweep: &Sweep<'_>,
+    seat: &mut Seat<NodeRows>,
+    marks: &Marks,
+    cells: &mut [u32],
+    order: Order,
+)
     requires at { HasGathered sweep.now seat.old.seat seat.old.number seat.old.seats }
     requires marks { length marks.now ≡ (sizes_of sweep.now).rows }
     requires cells { length cells.old ≡ (sizes_of sweep.now).rows }
     requires small { (r : ℕ) → IsMarked marks.now r → get_or cells.old r 0 < 4294967295 }
     ensures at { HasGathered sweep.now seat.new.seat seat.new.number seat.new.seats }
     ensures again { LoadsAgain sweep.now seat.old.seat seat.old.number seat.old.seats seat.new.seat seat.new.number seat.new.seats }
-    ensures notes { Notes (words_of seat.old.seat) sweep.now.count marks.now cells.old cells.new (sizes_of sweep.now) (sizes_of sweep.now).rows }
+    ensures notes { Notes (words_of seat.old.seat) sweep.now.count marks.now cells.old cells.new (sizes_of sweep.now) order (sizes_of sweep.now).rows }
     ensures size { length cells.new ≡ length cells.old }
 {
     let mut free = 0;
     for turn in 0..sweep.store.sizes.rows {
-        let row = row_in_turn(sweep, turn);
+        let row = row_in_turn(sweep, order, turn);
         free = compare_row(sweep, seat, marks, cells, row, free);
     }
 }
@@ -176,6 +182,7 @@ pub(crate) fn compare_all(
     ensures compared { IsCompared sweep.now seat.new.seat seat.new.number seat.new.seats marks.now nexts.new heads.new kept.live kept.buckets }
     ensures lengths { (length nexts.new ≡ length nexts.old) × (length heads.new ≡ length heads.old) }
 {
-    compare_rows(sweep, seat, marks, nexts);
+    let order = order_for(&sweep.store.sizes, kept.live);
+    compare_rows(sweep, seat, marks, nexts, order);
     compare_heads(sweep, seat, heads, kept.buckets);
 }

@@ -15,7 +15,7 @@ ghost use Rattle.sweep_phase.specs.Stored.{Stores, StoresMore, ArePlaced, seen_o
 use crate::comparing::UNCHANGED;
 use crate::places::next_place;
 use crate::sweep::Sweep;
-use crate::turns::row_in_turn;
+use crate::turns::{Order, row_in_turn};
 use busy_forbidden::Seat;
 use mark_phase::Marks;
 use node_rows::{NodeRows, bucket_word, free_place_word, store_any};
@@ -184,28 +184,29 @@ fn store_place(
     seat: &mut Seat<NodeRows>,
     marks: &Marks,
     cells: &[u32],
+    order: Order,
     turn: u32,
     count: u32,
 ) -> u32
     requires at { Stores sweep.now seat.old.seat seat.old.number seat.old.seats }
     requires marks { length marks.now ≡ (sizes_of sweep.now).rows }
     requires cells { length cells.now ≡ (sizes_of sweep.now).rows }
-    requires held { let row = row_in_turn (sizes_of sweep.now) turn in get_or marks.now row false ≡ false → get_or cells.now row 0 ≡ 4294967295
+    requires held { let row = row_in_turn (sizes_of sweep.now) order turn in get_or marks.now row false ≡ false → get_or cells.now row 0 ≡ 4294967295
         → (seen_of seat.old.seat (FreePlace count) ≡ row) × HasSeen seat.old.seat.me.0.store (FreePlace count) }
     requires below { turn < (sizes_of sweep.now).rows }
     requires few { count ≤ turn }
-    requires placed { ArePlaced (λ i. seen_of seat.old.seat (FreePlace i)) marks.now (sizes_of sweep.now) turn count }
+    requires placed { ArePlaced (λ i. seen_of seat.old.seat (FreePlace i)) marks.now (sizes_of sweep.now) order turn count }
     requires has { (i : ℕ) → i < count → HasSeen seat.old.seat.me.0.store (FreePlace i) }
     ensures at { Stores sweep.now seat.new.seat seat.new.number seat.new.seats }
     ensures more { StoresMore seat.old.seat seat.old.number seat.old.seats seat.new.seat seat.new.number seat.new.seats }
-    ensures placed { ArePlaced (λ i. seen_of seat.new.seat (FreePlace i)) marks.now (sizes_of sweep.now) (turn + 1) result }
+    ensures placed { ArePlaced (λ i. seen_of seat.new.seat (FreePlace i)) marks.now (sizes_of sweep.now) order (turn + 1) result }
     ensures has { (i : ℕ) → i < result → HasSeen seat.new.seat.me.0.store (FreePlace i) }
     ensures few { (count ≤ result) × (result ≤ turn + 1) }
-    ensures count { result ≡ count + (if get_or marks.now (row_in_turn (sizes_of sweep.now) turn) false then 0 else 1) }
+    ensures count { result ≡ count + (if get_or marks.now (row_in_turn (sizes_of sweep.now) order turn) false then 0 else 1) }
     ensures later { (i : ℕ) → result ≤ i → seen_of seat.new.seat (FreePlace i) ≡ seen_of seat.old.seat (FreePlace i) }
     ensures others { (p : Place) → is_place p ≡ false → seen_of seat.new.seat p ≡ seen_of seat.old.seat p }
 {
-    let row = row_in_turn(sweep, turn);
+    let row = row_in_turn(sweep, order, turn);
     if marks.has(Row(row)) {
         return count;
     }
@@ -219,23 +220,24 @@ pub(crate) fn store_places(
     seat: &mut Seat<NodeRows>,
     marks: &Marks,
     cells: &[u32],
+    order: Order,
 ) -> u32
     requires at { Stores sweep.now seat.old.seat seat.old.number seat.old.seats }
     requires marks { length marks.now ≡ (sizes_of sweep.now).rows }
     requires cells { length cells.now ≡ (sizes_of sweep.now).rows }
     requires held { (r : ℕ) → r < (sizes_of sweep.now).rows → get_or marks.now r false ≡ false → get_or cells.now r 0 ≡ 4294967295
-        → (seen_of seat.old.seat (FreePlace (place_for marks.now (sizes_of sweep.now) r)) ≡ r)
-        × HasSeen seat.old.seat.me.0.store (FreePlace (place_for marks.now (sizes_of sweep.now) r)) }
+        → (seen_of seat.old.seat (FreePlace (place_for marks.now (sizes_of sweep.now) order r)) ≡ r)
+        × HasSeen seat.old.seat.me.0.store (FreePlace (place_for marks.now (sizes_of sweep.now) order r)) }
     ensures at { Stores sweep.now seat.new.seat seat.new.number seat.new.seats }
     ensures more { StoresMore seat.old.seat seat.old.number seat.old.seats seat.new.seat seat.new.number seat.new.seats }
-    ensures placed { ArePlaced (λ i. seen_of seat.new.seat (FreePlace i)) marks.now (sizes_of sweep.now) (sizes_of sweep.now).rows result }
+    ensures placed { ArePlaced (λ i. seen_of seat.new.seat (FreePlace i)) marks.now (sizes_of sweep.now) order (sizes_of sweep.now).rows result }
     ensures has { (i : ℕ) → i < result → HasSeen seat.new.seat.me.0.store (FreePlace i) }
     ensures few { result ≤ (sizes_of sweep.now).rows }
     ensures others { (p : Place) → is_place p ≡ false → seen_of seat.new.seat p ≡ seen_of seat.old.seat p }
 {
     let mut count = 0;
     for turn in 0..sweep.store.sizes.rows {
-        count = store_place(sweep, seat, marks, cells, turn, count);
+        count = store_place(sweep, seat, marks, cells, order, turn, count);
     }
     count
 }

@@ -6,6 +6,7 @@ use Rattle.sweep_phase.specs.Loaded.{found}
 use Rattle.sweep_phase.specs.Gathered.{sizes_of}
 use Rattle.sweep_phase.specs.Read.{stays_in_turn}
 use Rattle.sweep_phase.specs.Compared.{told_by, place_for}
+use Rattle.sweep_phase.specs.Turns.{order_for}
 use Rattle.sweep_phase.proofs.Turning.{turn_below}
 use Rattle.sweep_phase.proofs.Compares.{gathered_seen, place_loaded}
 use Rattle.sweep_phase.proofs.Sweeping.{gathered_stores, seen_start, lists_stored}
@@ -22,8 +23,8 @@ store_places-requires-clause-held c = λ r l not is.
     let a = c.args.seat.now in
     let h = c.requires.compared in
     let g = h.out.gathered in
-    let k = place_for c.args.marks.now (sizes_of c.args.sweep.now) r in
-    let p = h.notes.place r l (turn_below (sizes_of c.args.sweep.now) r l) not is in
+    let k = place_for c.args.marks.now (sizes_of c.args.sweep.now) (order_for (sizes_of c.args.sweep.now) c.args.kept.live) r in
+    let p = h.notes.place r l (turn_below (sizes_of c.args.sweep.now) (order_for (sizes_of c.args.sweep.now) c.args.kept.live) r l) not is in
     let x = c.store_nexts.ensures in
     let y = c.store_heads.ensures in (
       y.others (FreePlace k) refl ∙ (x.others (FreePlace k) refl ∙ (seen_start c.args.sweep.now a.seat a.number a.seats g (FreePlace k) ∙ p.1)),
@@ -42,7 +43,7 @@ returns-clause-stored c = let a = c.args.seat.now in let b = c.store_nexts.new.s
     let start = seen_start c.args.sweep.now a.seat a.number a.seats h.out.gathered in
     lists_stored c.args.sweep.now a.seat a.number a.seats c.args.marks.now h.new_nexts h.new_heads c.args.kept.live c.args.kept.buckets h.out
     b.seat b.number b.seats d.seat d.number d.seats e.seat e.number e.seats c.store_places.result x.more y.more z.more z.at
-    (λ r l m. x.nexts r l m ∙ (ap (λ (n : ℕ). told_by n (get_or c.args.nexts.now r 0)) (start (Next r)) ∙ h.notes.next r l (turn_below (sizes_of c.args.sweep.now) r l) m)) x.others
+    (λ r l m. x.nexts r l m ∙ (ap (λ (n : ℕ). told_by n (get_or c.args.nexts.now r 0)) (start (Next r)) ∙ h.notes.next r l (turn_below (sizes_of c.args.sweep.now) (order_for (sizes_of c.args.sweep.now) c.args.kept.live) r l) m)) x.others
     (λ q l. y.heads q l ∙ (ap (λ (n : ℕ). told_by n (get_or c.args.heads.now q 0)) (x.others (Bucket q) refl ∙ start (Bucket q)) ∙ h.heads_are q l)) y.others z.placed z.has z.few z.others
 
 pub returns-clause-count : goal.returns-clause-count

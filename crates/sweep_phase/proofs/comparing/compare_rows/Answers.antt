@@ -15,7 +15,7 @@ pub loop-turn-init : goal.loop-turn-init
 loop-turn-init c = let s = c.args.seat.now in record {
   at = c.requires.at;
   again = again_itself c.args.sweep.now s.seat s.number s.seats;
-  notes = notes_none (words_of s.seat) c.args.sweep.now.count c.args.marks.now c.args.cells.now (sizes_of c.args.sweep.now);
+  notes = notes_none (words_of s.seat) c.args.sweep.now.count c.args.marks.now c.args.cells.now (sizes_of c.args.sweep.now) c.args.order;
   free = refl;
   few = omega arith;
   size = refl;
@@ -38,8 +38,8 @@ loop-turn-preserved c =
     let here = subst (λ (k : ℕ). get_or c.args.marks.now c.row_in_turn-row.result false ≡ false → get_or c.compare_row-free.new.cells c.row_in_turn-row.result 0 ≡ 4294967295 → (k < c.args.sweep.now.count) × (words_of c.args.seat.now.seat (FreePlace k) ≡ c.row_in_turn-row.result)) i.free place in record {
       at = e.at;
       again = again_in_turn c.args.sweep.now a.seat a.number a.seats t.seat t.number t.seats s.seat s.number s.seats i.again e.again;
-      notes = notes_more (words_of a.seat) count marks c.args.cells.now c.loop-turn.cells cells z c.loop-turn.turn r c.row_in_turn-row.ensures.row i.notes next here e.others;
-      free = e.free ∙ (ap (λ (q : ℕ). c.loop-turn.free + cond (get_or c.args.marks.now q false) 0 1) c.row_in_turn-row.ensures.row ∙ unmarked_next c.args.marks.now z c.loop-turn.turn c.loop-turn.free i.free);
+      notes = notes_more (words_of a.seat) count marks c.args.cells.now c.loop-turn.cells cells z c.args.order c.loop-turn.turn r c.row_in_turn-row.ensures.row i.notes next here e.others;
+      free = e.free ∙ (ap (λ (q : ℕ). c.loop-turn.free + cond (get_or c.args.marks.now q false) 0 1) c.row_in_turn-row.ensures.row ∙ unmarked_next c.args.marks.now z c.args.order c.loop-turn.turn c.loop-turn.free i.free);
       few = (let f = e.few in let g = i.few in omega arith);
       size = e.size ∙ i.size;
     }

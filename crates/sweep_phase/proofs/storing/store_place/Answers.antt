@@ -27,14 +27,14 @@ returns-clause-placed c =
     let words = c.put_place.ensures.words in
     let is = c.row_in_turn-row.ensures.row in
     let not : get_or c.args.marks.now c.row_in_turn-row.result false ≡ false = ⊎_elim (λ m. absurd (true≢false (sym (c.has.ensures.1 m) ∙ c.if-has.false))) (λ e. e) (by_bool (get_or c.args.marks.now c.row_in_turn-row.result false)) in
-    placed_more (λ i. u (FreePlace i)) (λ i. v (FreePlace i)) ms z c.args.turn c.args.count (place_here u v r c.args.count words ∙ is) (place_before u v r c.args.count words)
+    placed_more (λ i. u (FreePlace i)) (λ i. v (FreePlace i)) ms z c.args.order c.args.turn c.args.count (place_here u v r c.args.count words ∙ is) (place_before u v r c.args.count words)
     c.requires.below (sym (ap (λ (q : ℕ). get_or ms q false) is) ∙ not) c.requires.placed
 
 pub returns-then-has-clause-placed : goal.returns-then-has-clause-placed
 returns-then-has-clause-placed c =
     let ms = c.args.marks.now in
     let marked = ap (λ (q : ℕ). get_or ms q false) (sym c.row_in_turn-row.ensures.row) ∙ c.has.ensures.0 c.if-has.true in
-    placed_same (λ i. seen_of c.args.seat.now.seat (FreePlace i)) ms (sizes_of c.args.sweep.now) c.args.turn c.args.count marked c.requires.placed
+    placed_same (λ i. seen_of c.args.seat.now.seat (FreePlace i)) ms (sizes_of c.args.sweep.now) c.args.order c.args.turn c.args.count marked c.requires.placed
 
 pub returns-clause-later : goal.returns-clause-later
 returns-clause-later c = place_later (seen_of c.args.seat.now.seat) (seen_of c.put_place.new.seat.seat) c.row_in_turn-row.result c.args.count c.put_place.ensures.words

@@ -13,7 +13,7 @@ use Rattle.sweep_phase.proofs.Turning.{turn_back, turn_below}
 use Rattle.sweep_phase.proofs.storing.store_places.Goals as goal
 
 pub loop-turn-init : goal.loop-turn-init
-loop-turn-init c = let s = c.args.seat.now in record { at = c.requires.at; more = stores_itself s.seat s.number s.seats; placed = placed_none (λ i. seen_of s.seat (FreePlace i)) c.args.marks.now (sizes_of c.args.sweep.now); has = λ i l. absurd (omega arith); few = omega arith; count = refl; later = λ i l. refl; others = λ p is. refl }
+loop-turn-init c = let s = c.args.seat.now in record { at = c.requires.at; more = stores_itself s.seat s.number s.seats; placed = placed_none (λ i. seen_of s.seat (FreePlace i)) c.args.marks.now (sizes_of c.args.sweep.now) c.args.order; has = λ i l. absurd (omega arith); few = omega arith; count = refl; later = λ i l. refl; others = λ p is. refl }
 
 pub loop-turn-preserved : goal.loop-turn-preserved
 loop-turn-preserved c =
@@ -27,7 +27,7 @@ loop-turn-preserved c =
       placed = e.placed;
       has = e.has;
       few = e.few.1;
-      count = e.count ∙ unmarked_next c.args.marks.now (sizes_of c.args.sweep.now) c.loop-turn.turn c.loop-turn.count i.count;
+      count = e.count ∙ unmarked_next c.args.marks.now (sizes_of c.args.sweep.now) c.args.order c.loop-turn.turn c.loop-turn.count i.count;
       later = λ k l. e.later k l ∙ i.later k (let a = e.few.0 in omega arith);
       others = λ p is. e.others p is ∙ i.others p is;
     }
@@ -37,9 +37,9 @@ store_place-count-requires-clause-held c = λ not is.
     let i = c.loop-turn.invariant in
     let z = (sizes_of c.args.sweep.now) in
     let d = ap (λ (z : Sizes). z.rows) c.args.sweep.now.at.told in
-    let r = row_in_turn (sizes_of c.args.sweep.now) c.loop-turn.turn in
-    let h = c.requires.held r (turn_below z c.loop-turn.turn (omega arith)) not is in
-    let at : c.loop-turn.count ≡ place_for c.args.marks.now (sizes_of c.args.sweep.now) (row_in_turn (sizes_of c.args.sweep.now) c.loop-turn.turn) = i.count ∙ ap (unmarked_before c.args.marks.now (sizes_of c.args.sweep.now)) (sym (turn_back z c.loop-turn.turn)) in (
+    let r = row_in_turn (sizes_of c.args.sweep.now) c.args.order c.loop-turn.turn in
+    let h = c.requires.held r (turn_below z c.args.order c.loop-turn.turn (omega arith)) not is in
+    let at : c.loop-turn.count ≡ place_for c.args.marks.now (sizes_of c.args.sweep.now) c.args.order (row_in_turn (sizes_of c.args.sweep.now) c.args.order c.loop-turn.turn) = i.count ∙ ap (unmarked_before c.args.marks.now (sizes_of c.args.sweep.now) c.args.order) (sym (turn_back z c.args.order c.loop-turn.turn)) in (
       i.later c.loop-turn.count (omega arith) ∙ (ap (λ (k : ℕ). seen_of c.args.seat.now.seat (FreePlace k)) at ∙ h.0),
       i.more.seen (FreePlace c.loop-turn.count) (subst (λ (k : ℕ). HasSeen c.args.seat.now.seat.me.0.store (FreePlace k)) (sym at) h.1),
     )
