@@ -1,11 +1,14 @@
-use Rattle.std.proofs.Common.{ℕ, get_or, refl, ap, ◌∙◌}
+use Rattle.std.proofs.Common.{◌≡◌, ℕ, get_or, refl, sym, ap, ◌∙◌, subst}
 use Rattle.store_core.specs.declared.view.Place.TheVariants.{FreeCount, InUse, FreePlace, Bucket, Next}
 use Rattle.store_core.specs.declared.view.Call.{Call}
 use Rattle.store_core.specs.Steps.{loads}
 use Rattle.sweep_phase.specs.Loaded.{found}
-use Rattle.sweep_phase.specs.Gathered.{sizes_of}
+use Rattle.store_core.specs.declared.view.Sizes.{Sizes}
+use Rattle.sweep_phase.specs.Gathered.{sizes_of, words_of}
 use Rattle.sweep_phase.specs.Read.{stays_in_turn}
-use Rattle.sweep_phase.specs.Compared.{told_by, place_for}
+use Rattle.sweep_phase.specs.Compared.{told_by, place_for, Notes}
+use Rattle.sweep_phase.specs.Stored.{ArePlaced, seen_of}
+use Rattle.sweep_phase.specs.declared.turns.Order.{Order}
 use Rattle.sweep_phase.specs.Turns.{order_for}
 use Rattle.sweep_phase.proofs.Turning.{turn_below}
 use Rattle.sweep_phase.proofs.Compares.{gathered_seen, place_loaded}
@@ -23,8 +26,11 @@ store_places-requires-clause-held c = λ r l not is.
     let a = c.args.seat.now in
     let h = c.requires.compared in
     let g = h.out.gathered in
-    let k = place_for c.args.marks.now (sizes_of c.args.sweep.now) (order_for (sizes_of c.args.sweep.now) c.args.kept.live) r in
-    let p = h.notes.place r l (turn_below (sizes_of c.args.sweep.now) (order_for (sizes_of c.args.sweep.now) c.args.kept.live) r l) not is in
+    let s = c.args.sweep.now in
+    let same : c.order_for-order.result ≡ order_for (sizes_of s) c.args.kept.live = c.order_for-order.ensures ∙ ap (λ (z : Sizes). order_for z c.args.kept.live) (sym s.at.told) in
+    let notes = subst (λ (o : Order). Notes (words_of c.args.seat.now.seat) s.count c.args.marks.now h.new_nexts c.args.nexts.now (sizes_of s) o (sizes_of s).rows) (sym same) h.notes in
+    let k = place_for c.args.marks.now (sizes_of c.args.sweep.now) c.order_for-order.result r in
+    let p = notes.place r l (turn_below (sizes_of c.args.sweep.now) c.order_for-order.result r l) not is in
     let x = c.store_nexts.ensures in
     let y = c.store_heads.ensures in (
       y.others (FreePlace k) refl ∙ (x.others (FreePlace k) refl ∙ (seen_start c.args.sweep.now a.seat a.number a.seats g (FreePlace k) ∙ p.1)),
@@ -40,11 +46,14 @@ pub returns-clause-stored : goal.returns-clause-stored
 returns-clause-stored c = let a = c.args.seat.now in let b = c.store_nexts.new.seat in let d = c.store_heads.new.seat in let e = c.store_places.new.seat in
     let x = c.store_nexts.ensures in let y = c.store_heads.ensures in let z = c.store_places.ensures in
     let h = c.requires.compared in
+    let s = c.args.sweep.now in
+    let same : c.order_for-order.result ≡ order_for (sizes_of s) c.args.kept.live = c.order_for-order.ensures ∙ ap (λ (z : Sizes). order_for z c.args.kept.live) (sym s.at.told) in
+    let placed = subst (λ (o : Order). ArePlaced (λ i. seen_of e.seat (FreePlace i)) c.args.marks.now (sizes_of s) o (sizes_of s).rows c.store_places.result) same z.placed in
     let start = seen_start c.args.sweep.now a.seat a.number a.seats h.out.gathered in
     lists_stored c.args.sweep.now a.seat a.number a.seats c.args.marks.now h.new_nexts h.new_heads c.args.kept.live c.args.kept.buckets h.out
     b.seat b.number b.seats d.seat d.number d.seats e.seat e.number e.seats c.store_places.result x.more y.more z.more z.at
     (λ r l m. x.nexts r l m ∙ (ap (λ (n : ℕ). told_by n (get_or c.args.nexts.now r 0)) (start (Next r)) ∙ h.notes.next r l (turn_below (sizes_of c.args.sweep.now) (order_for (sizes_of c.args.sweep.now) c.args.kept.live) r l) m)) x.others
-    (λ q l. y.heads q l ∙ (ap (λ (n : ℕ). told_by n (get_or c.args.heads.now q 0)) (x.others (Bucket q) refl ∙ start (Bucket q)) ∙ h.heads_are q l)) y.others z.placed z.has z.few z.others
+    (λ q l. y.heads q l ∙ (ap (λ (n : ℕ). told_by n (get_or c.args.heads.now q 0)) (x.others (Bucket q) refl ∙ start (Bucket q)) ∙ h.heads_are q l)) y.others placed z.has z.few z.others
 
 pub returns-clause-count : goal.returns-clause-count
 returns-clause-count c =

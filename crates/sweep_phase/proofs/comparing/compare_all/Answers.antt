@@ -1,10 +1,13 @@
-use Rattle.std.proofs.Common.{◌≡◌, ℕ, ◌<◌, ◌≤◌, refl, sym, ap, ◌∙◌, arith}
+use Rattle.std.proofs.Common.{◌≡◌, ℕ, ◌<◌, ◌≤◌, refl, sym, ap, ◌∙◌, subst, arith}
 use Rattle.store_core.specs.declared.view.Sizes.{Sizes}
 use Rattle.sweep_phase.specs.Gathered.{sizes_of}
 use Rattle.sweep_phase.specs.Read.{stays_in_turn}
 use Rattle.sweep_phase.proofs.Compares.{heads_few, nexts_few, all_compared}
 use Rattle.sweep_phase.proofs.Ending.{inside_marks}
 use Rattle.sweep_phase.specs.Gathered.{words_of}
+use Rattle.sweep_phase.specs.Compared.{Notes}
+use Rattle.sweep_phase.specs.Turns.{order_for}
+use Rattle.sweep_phase.specs.declared.turns.Order.{Order}
 use Rattle.sweep_phase.proofs.comparing.compare_all.Goals as goal
 
 pub compare_rows-requires-clause-at : goal.compare_rows-requires-clause-at
@@ -40,6 +43,9 @@ returns-clause-stays c = let a = c.args.seat.now in let b = c.compare_rows.new.s
 
 pub returns-clause-compared : goal.returns-clause-compared
 returns-clause-compared c = let a = c.args.seat.now in let b = c.compare_rows.new.seat in let d = c.compare_heads.new.seat in
+    let s = c.args.sweep.now in
+    let same : c.order_for-order.result ≡ order_for (sizes_of s) c.args.kept.live = c.order_for-order.ensures ∙ ap (λ (z : Sizes). order_for z c.args.kept.live) (sym s.at.told) in
+    let notes = subst (λ (o : Order). Notes (words_of a.seat) s.count c.args.marks.now c.args.nexts.now c.compare_rows.new.cells (sizes_of s) o (sizes_of s).rows) same c.compare_rows.ensures.notes in
     all_compared c.args.sweep.now a.seat a.number a.seats c.args.marks.now c.args.nexts.now c.args.heads.now c.args.kept.live c.args.kept.buckets c.requires.out
     b.seat b.number b.seats d.seat d.number d.seats c.compare_rows.ensures.again c.compare_heads.ensures.again c.compare_heads.ensures.at
-    c.compare_rows.new.cells c.compare_heads.new.heads c.compare_rows.ensures.notes c.compare_heads.ensures.tells
+    c.compare_rows.new.cells c.compare_heads.new.heads notes c.compare_heads.ensures.tells
