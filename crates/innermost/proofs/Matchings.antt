@@ -103,14 +103,14 @@ finds_some plan a s places rows t from r is l head e same =
 
 -- the places of a rule's variables are places of the automaton
 pub variables_within : (rules : List Rule) (a : Made) (r size : ℕ) → IsAutomaton rules a → r < length a.shapes → a.places ≤ size → All (λ p. p < size) (variables_at a.shapes r)
-variables_within rules a r size au l fits = λ k d i. go (get_or (variables_at a.shapes r) k d) ((au.shapes.each r l).variables_under k d i)
+variables_within rules a r size au l fits = λ k d i. go (get_or (variables_at a.shapes r) k d) ((au.starts.shapes.each r l).variables_under k d i)
   where
     go : (p : ℕ) → IsUnder (tests_at a.shapes r) p → p < size
-    go p (inl z) = (let some = au.readable.some in let places = au.places in omega (arith, z, some, places, fits))
+    go p (inl z) = (let some = au.starts.readable.some in let places = au.starts.places in omega (arith, z, some, places, fits))
     go p (inr t) =
         let x = t.0 in
-        let base = All-contains (λ (y : Test). au.table.base_of y.place y.count ≡ Some y.base) (tests_at a.shapes r) x (au.shapes.each r l).bases t.1 in
-        let w = (au.readable.within x.place x.count x.base base).1 in
+        let base = All-contains (λ (y : Test). au.starts.table.base_of y.place y.count ≡ Some y.base) (tests_at a.shapes r) x (au.starts.shapes.each r l).bases t.1 in
+        let w = (au.starts.readable.within x.place x.count x.base base).1 in
         let b = (t.2).below in
-        let places = au.places in
+        let places = au.starts.places in
         omega (arith, w, b, places, fits)

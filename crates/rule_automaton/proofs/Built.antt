@@ -47,7 +47,7 @@ module _ (table : Tabled) (a b : Made) (c : Continues table a b) (rs : List ℕ)
   st_new = record { from = length b.rules; to = length (b.rules ++ rs); bound = bound; op = Turn }
 
   abbrev pub more : Made
-  more = record { shapes = b.shapes; rules = b.rules ++ rs; states = b.states ++ st_new ∷ []; ways = b.ways ++ ws; places = b.places }
+  more = record { shapes = b.shapes; rules = b.rules ++ rs; states = b.states ++ st_new ∷ []; ways = b.ways ++ ws; places = b.places; roots = b.roots }
 
   new_is : IsNew (b.rules ++ rs) st_new
   new_is = record { order = (let n = length-append b.rules rs in omega (arith, n)); within = omega arith; turn = refl }
@@ -60,7 +60,7 @@ module _ (table : Tabled) (a b : Made) (c : Continues table a b) (rs : List ℕ)
       record {
         shapes = c.shapes;
         places = c.places;
-        are = grown table b.shapes b.rules rs b.states (st_new ∷ []) b.ways ws b.places c.are fits are_new;
+        are = grown table b.shapes b.rules rs b.states (st_new ∷ []) b.ways ws b.places b.roots c.are fits are_new;
         count = (let n = c.count in omega (arith, n, length_push b.states st_new));
         longer = (let n = c.longer in omega (arith, n, length-append b.rules rs));
         states = λ k d l. get_or_append_left b.states (st_new ∷ []) d k (let n = c.count in omega (arith, n, l)) ∙ c.states k d l;
@@ -80,7 +80,7 @@ module _ (table : Tabled) (a b : Made) (c : Continues table a b) (rs : List ℕ)
       }
 
   old_ways : (at : ℕ) (st : State) (place first : ℕ) → st.from ≤ st.to → st.to ≤ length a.rules → All (IsWay table b at st place) (drop first b.ways) → All (IsWay table more at st place) (drop first b.ways)
-  old_ways at st place first l k all = λ i d j. way_grown table b.shapes b.rules rs b.states (st_new ∷ []) b.ways ws b.places c.are at st l (let n = c.longer in omega (arith, n, k)) place (get_or (drop first b.ways) i d) (all i d j)
+  old_ways at st place first l k all = λ i d j. way_grown table b.shapes b.rules rs b.states (st_new ∷ []) b.ways ws b.places b.roots c.are at st l (let n = c.longer in omega (arith, n, k)) place (get_or (drop first b.ways) i d) (all i d j)
 
 -- a way of a word asks for it
 its_own : (word t : Test) (w : Way) (to : ℕ) → word ≡ t → w ≡ record { symbol = word.symbol; count = word.count; base = word.base; to = to } → asks_for w.symbol w.count t ≡ true
@@ -161,7 +161,7 @@ module _ (table : Tabled) (a b : Made) (rules : List ℕ) (place first : ℕ) (w
 
   pub reads_on : ReadsOn table a (with_state b rest (place + 1)) rules place (Read node)
   reads_on =
-      subst (λ (ws : List Way). ReadsOn table a (record { shapes = b.shapes; rules = b.rules ++ rest; states = b.states ++ st_new table a b p.continues rest (place + 1) [] few ∷ []; ways = ws; places = b.places }) rules place (Read node)) (append-nil b.ways)
+      subst (λ (ws : List Way). ReadsOn table a (record { shapes = b.shapes; rules = b.rules ++ rest; states = b.states ++ st_new table a b p.continues rest (place + 1) [] few ∷ []; ways = ws; places = b.places; roots = b.roots }) rules place (Read node)) (append-nil b.ways)
       (record { continues = more_continues table a b p.continues rest (place + 1) [] few; right = reads })
 
 -- the base of a word is that of its place

@@ -8,7 +8,7 @@ use Rattle.std.proofs.lemmas.List.Elements.{All-contains, All-take, All-drop}
 use Rattle.rule_automaton.specs.Places.{Tabled}
 use Rattle.rule_automaton.specs.Shapes.{HaveShapes, tests_at, pairs_at}
 use Rattle.rewrite_model.specs.Rule.{Rule}
-use Rattle.rule_automaton.specs.Automata.{first_match, Made, rules_of, IsTested, GoesOn, IsRight, IsState, AreStates, IsAutomaton}
+use Rattle.rule_automaton.specs.Automata.{first_match, Made, rules_of, IsTested, GoesOn, IsRight, IsState, AreStates, HasStarts}
 use Rattle.rule_automaton.specs.Building.{with_state, AreBased, Continues, ReadsOn, IsBuilt, Serves, Decides, IsGrown, IsAsked}
 use Rattle.rule_automaton.specs.Asking.{is_from}
 use Rattle.std.proofs.lemmas.List.Elements.{Contains-get_or}
@@ -76,7 +76,7 @@ module _ (table : Tabled) (a : Made) (rules : List ℕ) (bound : ℕ) (some : 0 
 
     pub serves_compare : Serves table a (with_state a (drop 1 rules) bound) rules bound (Compare (length a.states))
     serves_compare =
-        subst (λ (ws : List Way). Serves table a (record { shapes = a.shapes; rules = a.rules ++ drop 1 rules; states = a.states ++ st_new table a a c (drop 1 rules) bound [] fits ∷ []; ways = ws; places = a.places }) rules bound (Compare (length a.states))) (append-nil a.ways)
+        subst (λ (ws : List Way). Serves table a (record { shapes = a.shapes; rules = a.rules ++ drop 1 rules; states = a.states ++ st_new table a a c (drop 1 rules) bound [] fits ∷ []; ways = ws; places = a.places; roots = a.roots }) rules bound (Compare (length a.states))) (append-nil a.ways)
         (record { continues = more_continues table a a c (drop 1 rules) bound [] fits; right = goes })
 
 -- by the state's own rules
@@ -101,7 +101,7 @@ module _ (table : Tabled) (a b : Made) (at : ℕ) (op : Op) (d : Decides table a
   now = record b { states = set b.states at (record st { op = op }) }
 
   are_now : AreStates table now
-  are_now = growing.done table b.shapes b.rules b.states b.ways b.places d.continues.are at st op within there_too (d.right st there)
+  are_now = growing.done table b.shapes b.rules b.states b.ways b.places b.roots d.continues.are at st op within there_too (d.right st there)
 
   all_same : (k : ℕ) (e : State) → k < length a.states → (rules_of now (get_or now.states k e) ≡ rules_of a (get_or a.states k e)) × ((get_or now.states k e).bound ≡ (get_or a.states k e).bound)
   all_same i e some =
@@ -152,11 +152,11 @@ pub decides_by : (table : Tabled) (a b : Made) (at : ℕ) (st : State) (rs : Lis
 decides_by table a b at st rs op l there e is s = decides table a b at st op l there is.are (subst (λ qs. Serves table a b qs st.bound op) e s)
 
 -- an automaton is under construction
-pub is_built : (rules : List Rule) (a : Made) (au : IsAutomaton rules a) → IsBuilt au.table a
+pub is_built : (rules : List Rule) (a : Made) (au : HasStarts rules a) → IsBuilt au.table a
 is_built rules a au = record { is = au.readable; are = au.states; based = λ r l. (au.shapes.each r l).bases }
 
 -- an automaton with more states is one
-pub automaton_grown : (rules : List Rule) (a b : Made) → IsAutomaton rules a → ((table : Tabled) → IsBuilt table a → IsGrown table a b) → IsAutomaton rules b
+pub automaton_grown : (rules : List Rule) (a b : Made) → HasStarts rules a → ((table : Tabled) → IsBuilt table a → IsGrown table a b) → HasStarts rules b
 automaton_grown rules a b au grows =
     let g = grows au.table (is_built rules a au) in
     record {

@@ -1,6 +1,6 @@
 -- States, ways and rules are added, and what is right stays right.
 use Rattle.std.proofs.Common.{◌≡◌, ℕ, ◌+◌, ◌-◌, ◌<◌, ◌≤◌, List, ◌++◌, length, take, drop, set, get_or, refl, sym, ◌∙◌, ap, arith, inl, inr, subst}
-use Rattle.std.specs.Prelude.{All, Contains}
+use Rattle.std.specs.Prelude.{Option, All, Contains}
 use Rattle.std.proofs.lemmas.Bool.{cases_lt, cases_eq}
 use Rattle.std.proofs.lemmas.List.{length-append, length-drop, length-set, take-append-le, drop-append-le, get_or_append_left, get_or-append_right, get_or-set_same, get_or-set_other}
 use Rattle.std.proofs.lemmas.List.Elements.{All-append}
@@ -23,15 +23,15 @@ pub record IsNew (rules : List ℕ) (st : State) : Type 0 where
   pub within : st.to ≤ length rules
   pub turn : st.op ≡ Turn
 
-abbrev pub tables : List Shape → List ℕ → List State → List Way → ℕ → Made
-tables shapes rules states ways places = record { shapes = shapes; rules = rules; states = states; ways = ways; places = places }
+abbrev pub tables : List Shape → List ℕ → List State → List Way → ℕ → List (Option Way) → Made
+tables shapes rules states ways places roots = record { shapes = shapes; rules = rules; states = states; ways = ways; places = places; roots = roots }
 
-module _ (table : Tabled) (shapes : List Shape) (rules more_rules : List ℕ) (states more_states : List State) (ways more_ways : List Way) (places : ℕ) (are : AreStates table (tables shapes rules states ways places)) where
+module _ (table : Tabled) (shapes : List Shape) (rules more_rules : List ℕ) (states more_states : List State) (ways more_ways : List Way) (places : ℕ) (roots : List (Option Way)) (are : AreStates table (tables shapes rules states ways places roots)) where
   abbrev old : Made
-  old = tables shapes rules states ways places
+  old = tables shapes rules states ways places roots
 
   abbrev new : Made
-  new = tables shapes (rules ++ more_rules) (states ++ more_states) (ways ++ more_ways) places
+  new = tables shapes (rules ++ more_rules) (states ++ more_states) (ways ++ more_ways) places roots
 
   same_rules : (st : State) → st.from ≤ st.to → st.to ≤ length rules → rules_of new st ≡ rules_of old st
   same_rules st l w = part_front rules more_rules st.from st.to l w
@@ -92,12 +92,12 @@ module _ (table : Tabled) (shapes : List Shape) (rules more_rules : List ℕ) (s
       }
 
 -- what is done at a state is set
-module _ (table : Tabled) (shapes : List Shape) (rules : List ℕ) (states : List State) (ways : List Way) (places : ℕ) (are : AreStates table (tables shapes rules states ways places)) (here : ℕ) (st : State) (op : Op) (l : here < length states) (is : (d : State) → get_or states here d ≡ st) where
+module _ (table : Tabled) (shapes : List Shape) (rules : List ℕ) (states : List State) (ways : List Way) (places : ℕ) (roots : List (Option Way)) (are : AreStates table (tables shapes rules states ways places roots)) (here : ℕ) (st : State) (op : Op) (l : here < length states) (is : (d : State) → get_or states here d ≡ st) where
   abbrev was : Made
-  was = tables shapes rules states ways places
+  was = tables shapes rules states ways places roots
 
   abbrev now : Made
-  now = tables shapes rules (set states here (record st { op = op })) ways places
+  now = tables shapes rules (set states here (record st { op = op })) ways places roots
 
   goes_too : (at to bound : ℕ) (rs : List ℕ) → GoesOn was at to bound rs → GoesOn now at to bound rs
   goes_too at to bound rs g =

@@ -5,6 +5,7 @@ pub mod Filling
 pub mod Steps
 pub mod Trying
 pub mod Readings
+pub mod Rooted
 pub mod Tried
 pub mod Ways
 pub mod Asked

@@ -14,7 +14,7 @@ use Rattle.rule_match.specs.Stands.{stands}
 use Rattle.rule_match.specs.Groups.{head_at}
 use Rattle.rule_match.proofs.Pushing.{stands_by}
 use Rattle.rule_automaton.specs.Shapes.{IsShape, tests_at, pairs_at, variables_at}
-use Rattle.rule_automaton.specs.Automata.{first_match, Made, part, rules_of, AreInOrder, IsWay, IsReading, IsRight, IsStart, IsAutomaton}
+use Rattle.rule_automaton.specs.Automata.{first_match, Made, part, rules_of, AreInOrder, IsWay, IsReading, IsRight, IsStart, HasStarts}
 use Rattle.rule_automaton.specs.Rows.{row_at, IsFull, Fills}
 use Rattle.rule_automaton.specs.Running.{Known, AreKnown, Asked, asked, IsBegun, IsRun, is_way_of}
 use Rattle.rule_automaton.proofs.Standing as standing
@@ -113,7 +113,7 @@ at_of (x ∷ xs) zero l = record { one = x; there = λ d. refl }
 at_of (x ∷ xs) (suc i) l = let r = at_of xs i (omega arith) in record { one = r.one; there = r.there }
 
 -- with the root's row at place 0 it begins, and stands at the state of the rule from which on it searches
-module _ (a : Made) (s : Store) (rows : List Row) (rules : List Rule) (row : Row) (from : ℕ) (au : IsAutomaton rules a) (held : IsHeld s row) (size : a.places ≤ length rows) where
+module _ (a : Made) (s : Store) (rows : List Row) (rules : List Rule) (row : Row) (from : ℕ) (au : HasStarts rules a) (held : IsHeld s row) (size : a.places ≤ length rows) where
   pub root_fits : 0 < length rows
   root_fits = let p = au.places in let q = au.readable.some in omega (arith, p, q, size)
 

@@ -12,7 +12,7 @@ use Rattle.rule_match.specs.Planned.{match_at}
 use Rattle.rule_match.specs.Groups.{head_at, IsNext, MatchNone}
 use Rattle.rule_automaton.specs.Places.{Tabled, IsTable}
 use Rattle.rule_automaton.specs.Shapes.{HaveShapes, numbers}
-use Rattle.rule_automaton.specs.Automata.{first_match, Made, part, IsRight, IsAutomaton}
+use Rattle.rule_automaton.specs.Automata.{first_match, Made, part, IsRight, HasStarts}
 use Rattle.rule_automaton.specs.Starting.{HaveFirst, HavePassed, in_turn_from, BeginsInTurn, AreStarts, AddsGroup}
 use Rattle.rule_automaton.proofs.Laying.{All-numbers}
 use Rattle.rule_automaton.proofs.Growing.{part_front}
@@ -215,9 +215,9 @@ starts_set rules old new states at to rule g s low high e is =
           start = record { bound = refl; same = λ t h. ap (first_match rules t) ps ∙ subst (λ q. HaveFirst rules q (drop at new)) (sym is) (g.each at low (omega (arith, high, e))) t h };
         }
 
-pub starts_automaton : (table : Tabled) → IsTable table → (rules : List Rule) (shapes : List Shape) → HaveShapes table rules shapes → (list : List ℕ) (states : List State) → AreStarts rules list states → (places : ℕ) → table.places ≤ places → (ways : List Way) → IsAutomaton rules (record { shapes = shapes; rules = list; states = states; ways = ways; places = places })
-starts_automaton table is rules shapes have list states s places low ways =
-    let a : Made = record { shapes = shapes; rules = list; states = states; ways = ways; places = places } in
+pub starts_automaton : (table : Tabled) → IsTable table → (rules : List Rule) (shapes : List Shape) → HaveShapes table rules shapes → (list : List ℕ) (states : List State) → AreStarts rules list states → (places : ℕ) → table.places ≤ places → (ways : List Way) (roots : List (Option Way)) → HasStarts rules (record { shapes = shapes; rules = list; states = states; ways = ways; places = places; roots = roots })
+starts_automaton table is rules shapes have list states s places low ways roots =
+    let a : Made = record { shapes = shapes; rules = list; states = states; ways = ways; places = places; roots = roots } in
     let n = s.count in
     let m = have.count in
     record {

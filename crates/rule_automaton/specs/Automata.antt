@@ -1,9 +1,10 @@
 -- Automata: states, each with the rules that may still match, and what is done there.
-use Rattle.std.specs.Prelude.{◌≡◌, ℕ, ◌+◌, ◌-◌, ◌*◌, ◌<◌, ◌≤◌, ◌&&◌, ◌||◌, ◌==◌, nat_lt, nat_le, not, Bool, true, List, [], ◌∷◌, Option, Some, None, if◌then◌else◌, length, take, drop, All, Contains, is_some, slice_index_or}
+use Rattle.std.specs.Prelude.{◌≡◌, ℕ, ◌+◌, ◌-◌, ◌*◌, ◌<◌, ◌≤◌, ◌&&◌, ◌||◌, ◌==◌, nat_lt, nat_le, not, Bool, true, List, [], ◌∷◌, Option, Some, None, if◌then◌else◌, length, take, drop, All, Contains, IfSome, is_some, slice_index_or}
 use Rattle.std.specs.List.{list_all, filter}
 use Rattle.std.specs.List.Sorted.{IsNonDecreasingBy}
 use Rattle.term_model.specs.Tree.{Tree, root}
 use Rattle.term_model.specs.declared.Symbol.{Symbol}
+use Rattle.term_model.specs.declared.Head.TheVariants.{App}
 use Rattle.rewrite_model.specs.Rule.{Rule}
 use Rattle.rule_match.specs.Planned.{match_at}
 use Rattle.rule_match.specs.Groups.{head_at}
@@ -22,13 +23,14 @@ first_match rules t [] = None
 first_match rules t (r ∷ rs) = if is_some (match_at rules r t) then Some r else first_match rules t rs
 
 -- The shapes of the rules in order, the rules of all states in one list, the states and their ways,
--- and how many places there are.
+-- how many places there are, and for each rule where it goes on from the root.
 pub record Made : Type 0 where
   pub shapes : List Shape
   pub rules : List ℕ
   pub states : List State
   pub ways : List Way
   pub places : ℕ
+  pub roots : List (Option Way)
 
 -- the part of a list from a place up to another
 abbrev pub part : {A : Type 0} → List A → ℕ → ℕ → List A
@@ -124,7 +126,7 @@ pub record IsStart (rules : List Rule) (list : List ℕ) (from : ℕ) (s : State
   pub same : (t : Tree) → root t ≡ head_at rules from → first_match rules t (part list s.from s.to) ≡ first_match rules t (numbers from (length rules - from))
 
 -- The shapes are those of the rules, and each rule has a state at which the search from it on begins.
-pub record IsAutomaton (rules : List Rule) (a : Made) : Type 0 where
+pub record HasStarts (rules : List Rule) (a : Made) : Type 0 where
   pub table : Tabled
   pub readable : IsTable table
   pub places : table.places ≤ a.places
@@ -132,3 +134,22 @@ pub record IsAutomaton (rules : List Rule) (a : Made) : Type 0 where
   pub count : length rules ≤ length a.states
   pub starts : (k : ℕ) (d : State) → k < length rules → IsStart rules a.rules k (slice_index_or a.states k d)
   pub states : AreStates table a
+
+-- The search from a rule on begins by reading the root, and this is a way of the rule's head.
+pub record IsRoot (rules : List Rule) (a : Made) (rule : ℕ) (w : Way) : Type 0 where
+  pub first : ℕ
+  pub last : ℕ
+  pub other : ℕ
+  pub reads : (d : State) → (slice_index_or a.states rule d).op ≡ Read (record { place = 0; first = first; last = last; other = other })
+  pub way : Contains (part a.ways first last) w
+  pub head : head_at rules rule ≡ Some (App w.symbol)
+
+-- for each rule a way of its head from the root, or none
+pub record AreRoots (rules : List Rule) (a : Made) (roots : List (Option Way)) : Type 0 where
+  pub count : length roots ≡ length rules
+  pub each : (k : ℕ) (d : Option Way) → k < length rules → IfSome (slice_index_or roots k d) (IsRoot rules a k)
+
+-- It finds the first rule from each one on that matches a tree with that one's head.
+pub record IsAutomaton (rules : List Rule) (a : Made) : Type 0 where
+  pub starts : HasStarts rules a
+  pub roots : AreRoots rules a a.roots

@@ -1,15 +1,16 @@
 -- An automaton under way: what holds at a state.
 use Rattle.std.specs.Prelude.{◌≡◌, ℕ, ◌<◌, ◌≤◌, true, List, Option, Some, None, Bool, length, map, take, All, slice_index_or, ◌==◌, ◌&&◌, ◌+◌, ◌-◌, false}
-use Rattle.term_model.specs.Tree.{Tree, head_eq}
+use Rattle.term_model.specs.Tree.{Tree, root, head_eq}
 use Rattle.term_model.specs.declared.Head.{Head}
 use Rattle.term_model.specs.declared.Head.TheVariants.{App}
 use Rattle.term_model.specs.declared.Row.{Row}
 use Rattle.terms_api.specs.Terms.{Store, IsHeld, tree_at}
 use Rattle.rewrite_model.specs.Rule.{Rule}
 use Rattle.rule_match.specs.Planned.{match_at}
+use Rattle.rule_match.specs.Groups.{head_at}
 use Rattle.rule_automaton.specs.Places.{Reading}
 use Rattle.rule_automaton.specs.Shapes.{holds, all_hold, Follow, IsKid, IsUnder, numbers, tests_at, variables_at}
-use Rattle.rule_automaton.specs.Automata.{Made, IsAutomaton, first_match, rules_of}
+use Rattle.rule_automaton.specs.Automata.{Made, HasStarts, AreRoots, first_match, rules_of}
 use Rattle.rule_automaton.specs.Rows.{IsFull, row_at, rows_at}
 use Rattle.rule_automaton.specs.declared.shapes.Test.{Test}
 use Rattle.rule_automaton.specs.declared.shapes.Pair.{Pair}
@@ -22,7 +23,7 @@ use Rattle.rule_automaton.specs.declared.finding.Next.TheVariants.{End, On}
 
 -- what an automaton has
 abbrev pub made : Automaton → Made
-made a = record { shapes = a.shapes.items; rules = a.rules.items; states = a.states.items; ways = a.ways.items; places = a.places }
+made a = record { shapes = a.shapes.items; rules = a.rules.items; states = a.states.items; ways = a.ways.items; places = a.places; roots = a.roots.items }
 
 -- A test at a place below a bound holds, and the places of the arguments below it are full.
 pub record Known (at : ℕ → Tree) (full : ℕ → Type 0) (bound : ℕ) (t : Test) : Type 0 where
@@ -40,7 +41,7 @@ pub record Asked : Type 0 where
 
 -- The rules' automaton reads the tree, whose row has place 0.
 pub record IsBegun (a : Made) (s : Store) (rows : List Row) (m : Asked) : Type 0 where
-  pub automaton : IsAutomaton m.rules a
+  pub automaton : HasStarts m.rules a
   pub reading : Reading automaton.table.base_of m.tree
   pub root : IsFull s reading.at rows 0
   pub size : a.places ≤ length rows
@@ -57,6 +58,13 @@ pub record IsRun (a : Made) (s : Store) (rows : List Row) (m : Asked) (k : ℕ) 
   pub there : (d : State) → slice_index_or a.states k d ≡ state
   pub same : first_match m.rules m.tree (rules_of a state) ≡ first_asked m
   pub known : AreKnown a.shapes begun.reading.at (IsFull s begun.reading.at rows) state.bound (rules_of a state)
+
+-- It stands at the state of a rule whose head the tree has.
+pub record IsRooted (a : Made) (s : Store) (rows : List Row) (m : Asked) (first : ℕ) : Type 0 where
+  pub run : IsRun a s rows m first
+  pub roots : AreRoots m.rules a a.roots
+  pub within : first < length m.rules
+  pub head : root m.tree ≡ head_at m.rules first
 
 -- the rule matches, and the rows at the places of its variables have the bound trees
 pub record IsMatch (a : Made) (s : Store) (rows : List Row) (m : Asked) (r : ℕ) : Type 0 where

@@ -5,13 +5,14 @@ ghost use Rattle.terms_api.specs.Terms.{IsHeld, IsSound, tree_at};
 ghost use Rattle.term_model.specs.Tree.{root};
 ghost use Rattle.rule_match.specs.Groups.{head_at};
 ghost use Rattle.rule_automaton.specs.Shapes.{variables_at};
-ghost use Rattle.rule_automaton.specs.Automata.{IsAutomaton};
+ghost use Rattle.rule_automaton.specs.Automata.{HasStarts, IsAutomaton};
 ghost use Rattle.rule_automaton.specs.Building.{HasFewStates};
 ghost use Rattle.rule_automaton.specs.Running.{made, asked, IsAnswer};
 
 use crate::asking::size_of;
 use crate::building::{Budget, build};
 use crate::finding::run;
+use crate::roots::{begin, roots_of};
 use crate::shapes::{Shape, numbers_below, shapes_of};
 use crate::starting::{firsts_of, group_all, others_of, states_below};
 use crate::states::{State, Way};
@@ -27,7 +28,8 @@ use terms_api::Terms;
 const STEPS: usize = 1 << 27;
 
 /// The matching automaton of a plan: the shapes of its rules, the lists of rules of its states, one
-/// after another, its states and their ways, and how many places there are.
+/// after another, its states and their ways, how many places there are, and for each rule the way
+/// of its head from the root, if the search from it on begins there.
 #[derive(Drop)]
 pub struct Automaton {
     pub(crate) shapes: Vec<Shape>,
@@ -35,6 +37,7 @@ pub struct Automaton {
     pub(crate) states: Vec<State>,
     pub(crate) ways: Vec<Way>,
     pub(crate) places: u32,
+    pub(crate) roots: Vec<Option<Way>>,
 }
 
 /// The rows of an automaton's places.
@@ -84,14 +87,16 @@ impl Automaton {
         };
         build(alloc, &mut automaton, &firsts, most, &mut budget)?;
         build(alloc, &mut automaton, &others, most, &mut budget)?;
+        let roots = roots_of(alloc, plan, &automaton)?;
+        automaton.roots = roots;
         Ok(automaton)
     }
 
     /// A state for each rule, which tries it and those after it that have its symbol in turn.
     fn in_turn(alloc: Global, plan: &Plan, firsts: &[bool]) -> Result<Self, Memory>
         requires { length firsts.now ≡ length plan.now.rules }
-        ensures automaton { IfOk result (λ automaton.
-            IsAutomaton plan.now.rules (made automaton)) }
+        ensures starts { IfOk result (λ automaton.
+            HasStarts plan.now.rules (made automaton)) }
         ensures count { IfOk result (λ automaton.
             length automaton.states.items ≡ length automaton.shapes.items) }
     {
@@ -108,6 +113,7 @@ impl Automaton {
             states,
             ways: Vec::new(alloc),
             places: table.places(),
+            roots: Vec::new(alloc),
         })
     }
 
@@ -147,6 +153,7 @@ impl Automaton {
         let _ = terms.depth();
         let rows = places.rows.as_mut_slice();
         rows[0] = row;
-        run(self, first as usize, terms, rows)
+        let start = begin(self, first, terms, rows);
+        run(self, start, terms, rows)
     }
 }

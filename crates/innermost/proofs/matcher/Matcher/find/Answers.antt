@@ -65,7 +65,7 @@ returns-clause-placed g c =
     let au = subst (IsAutomaton rules) (sym (ap (λ (m : Matching). m.automaton) c.self.view_is)) c.requires.automaton in
     let r = c.in-Some-find_rule.rule in
     let rule = c.in-Some-find_rule.ensures.answer.1.rule in
-    let n = au.shapes.count in
+    let n = au.starts.shapes.count in
     let l : r < length a.shapes = omega (arith, rule, n) in
     let size = length c.find_rule.new.places.rows.items in
     record {

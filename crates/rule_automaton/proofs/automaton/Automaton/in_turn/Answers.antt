@@ -15,10 +15,10 @@ group_all-requires-clause-starts c =
     let e : c.len-count.result ≡ length c.args.plan.now.rules = omega (arith, n, c.len-count.ensures) in
     first_starts c.args.plan.now.rules c.in_ok-rules.rules.items c.in_ok-states.states.items c.len-count.result e c.in_ok-rules.ensures c.in_ok-states.ensures
 
-pub returns-clause-automaton : goal.returns-clause-automaton
-returns-clause-automaton c =
+pub returns-clause-starts : goal.returns-clause-starts
+returns-clause-starts c =
     let low : (tabled c.shapes_of.new.table).places ≤ c.places.result = omega (arith, c.places.ensures) in
-    starts_automaton (tabled c.shapes_of.new.table) c.in_ok-shapes.ensures.table c.args.plan.now.rules c.in_ok-shapes.shapes.items c.in_ok-shapes.ensures.shapes c.group_all.new.rules.items c.group_all.new.states.items c.in_ok-group_all.ensures c.places.result low _
+    starts_automaton (tabled c.shapes_of.new.table) c.in_ok-shapes.ensures.table c.args.plan.now.rules c.in_ok-shapes.shapes.items c.in_ok-shapes.ensures.shapes c.group_all.new.rules.items c.group_all.new.states.items c.in_ok-group_all.ensures c.places.result low _ _
 
 pub returns-clause-count : goal.returns-clause-count
 returns-clause-count c =

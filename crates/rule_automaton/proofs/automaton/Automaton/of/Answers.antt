@@ -6,17 +6,18 @@ use Rattle.rule_automaton.specs.Running.{made}
 use Rattle.rule_automaton.specs.declared.shapes.Shape.{Shape}
 use Rattle.rule_automaton.proofs.Decided.{is_built, automaton_grown}
 use Rattle.rule_automaton.proofs.Laying.{All-numbers}
+use Rattle.rule_automaton.proofs.Rooted.{automaton_with}
 use Rattle.rule_automaton.proofs.Starts.{length-numbers}
 use Rattle.rule_automaton.proofs.automaton.Automaton.of.Goals as goal
 
 pub build-requires : goal.build-requires
 build-requires c =
-    let au = c.in_ok-automaton.ensures.automaton in
+    let au = c.in_ok-automaton.ensures.starts in
     (au.table, is_built c.args.plan.now.rules (made c.in_ok-automaton.automaton) au)
 
 pub build-requires-2 : goal.build-requires-2
 build-requires-2 c =
-    let au = c.in_ok-automaton.ensures.automaton in
+    let au = c.in_ok-automaton.ensures.starts in
     (au.table, (c.in_ok-build.ensures.grown au.table (is_built c.args.plan.now.rules (made c.in_ok-automaton.automaton) au)).built)
 
 pub returns-clause-automaton : goal.returns-clause-automaton
@@ -24,12 +25,19 @@ returns-clause-automaton c =
     let rules = c.args.plan.now.rules in
     let a = made c.in_ok-automaton.automaton in
     let b = made c.build.new.automaton in
-    automaton_grown rules b (made c.build-2.new.automaton) (automaton_grown rules a b c.in_ok-automaton.ensures.automaton c.in_ok-build.ensures.grown) c.in_ok-build-2.ensures.grown
+    let last = made c.build-2.new.automaton in
+    automaton_with rules last c.in_ok-roots.roots.items (automaton_grown rules b last (automaton_grown rules a b c.in_ok-automaton.ensures.starts c.in_ok-build.ensures.grown) c.in_ok-build-2.ensures.grown) c.in_ok-roots.ensures
+
+pub roots_of-requires : goal.roots_of-requires
+roots_of-requires c =
+    let rules = c.args.plan.now.rules in
+    let b = made c.build.new.automaton in
+    automaton_grown rules b (made c.build-2.new.automaton) (automaton_grown rules (made c.in_ok-automaton.automaton) b c.in_ok-automaton.ensures.starts c.in_ok-build.ensures.grown) c.in_ok-build-2.ensures.grown
 
 pub returns-clause-small : goal.returns-clause-small
 returns-clause-small c =
     let a = made c.in_ok-automaton.automaton in
-    let au = c.in_ok-automaton.ensures.automaton in
+    let au = c.in_ok-automaton.ensures.starts in
     let one = c.in_ok-build.ensures.grown au.table (is_built c.args.plan.now.rules a au) in
     let two = c.in_ok-build-2.ensures.grown au.table one.built in
     let n : c.len.result ≡ length a.shapes = omega (arith, c.len.ensures) in
@@ -46,7 +54,7 @@ returns-clause-small c =
 
 pub numbers_below-requires : goal.numbers_below-requires
 numbers_below-requires c =
-    let n = c.in_ok-automaton.ensures.automaton.shapes.count in
+    let n = c.in_ok-automaton.ensures.starts.shapes.count in
     let p = c.rules.ensures.plan.count in
     omega (arith, n, p, c.len.ensures)
 
