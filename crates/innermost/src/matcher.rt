@@ -106,6 +106,7 @@ impl Matcher {
 
     /// The first of a rule and those after it whose left side matches the tree of a held row. The
     /// places of its variables have the bound rows. The rule has the head of the tree.
+    #[inline(always)]
     pub(crate) fn find<T: Terms>(
         &mut self,
         plan: &Plan,
