@@ -13,7 +13,7 @@ other_number : (k q j : ℕ) → nat_eq q k ≡ false → nat_eq k j ≡ true �
 other_number k q j ne e = subst (λ i. nat_eq q i ≡ false) (eqb-true k j e) ne
 
 module _ {X : Type 0} where
-  of_entry : (test : ℕ → Bool) (es : List (ℕ × X)) (e : ℕ × X) → lookup_entry test es ≡ Some e → lookup test es ≡ Some e.1
+  pub of_entry : (test : ℕ → Bool) (es : List (ℕ × X)) (e : ℕ × X) → lookup_entry test es ≡ Some e → lookup test es ≡ Some e.1
   of_entry test [] e h = cc
   of_entry test (f ∷ es) e h = by (test f.0) h (of_entry test es e)
     where

@@ -1,6 +1,5 @@
 // A memory of as many results as it has entries.
-ghost use Rattle.std.specs.Prelude.{◌≡◌, ◌<◌, ◌⊎◌, [], None, IfOk, nat_eq};
-ghost use Rattle.std.specs.Map.{lookup};
+ghost use Rattle.std.specs.Prelude.{◌≡◌, ◌<◌, ◌⊎◌, [], None, IfOk, IsSome, nat_eq};
 ghost use Rattle.lru.specs.LruCache.{lru_cache, put_entries};
 
 use faults::Memory;
@@ -21,10 +20,13 @@ impl Model for LruMemo {
     ghost use Rattle.std.specs.Prelude.{ℕ};
     ghost use Rattle.lru.specs.LruCache.{LruCache};
     ghost use Rattle.innermost.specs.declared.memo.Known.{Known};
+    ghost use Rattle.result_memory.specs.Order.{HasRoom};
 
     ghost Value = { LruCache ℕ Known };
 
     ghost view = { λ m. m.results };
+
+    ghost invariant = { λ m. HasRoom m.results };
 }
 
 impl LruMemo {
@@ -38,28 +40,37 @@ impl LruMemo {
             results: LruCache::new(alloc, most)?,
         })
     }
-
-    /// Puts a result first, before all others; or leaves all as they are, where there is no memory.
-    fn put(&mut self, row: Row, known: Known)
-        ensures { (self.new ≡ lru_cache (put_entries nat_eq self.old row.0 known) self.old.cap)
-            ⊎ (self.new ≡ self.old) }
-    {
-        let _ = self.results.put(row.0, known);
-    }
 }
 
 impl Memo for LruMemo {
-    ghost map = { λ m row. lookup (nat_eq row.0) m.entries };
+    ghost use Rattle.term_model.specs.declared.Row.{Row as Rows};
+    ghost use Rattle.innermost.specs.Remembered.{IsPartWith};
+    ghost use Rattle.result_memory.specs.Order.{map_of, with_first, with_used};
 
-    fn find(&mut self, row: Row) -> Option<Known> {
+    ghost map = { map_of };
+
+    /// A row that is found was used last from then on.
+    fn find(&mut self, row: Row) -> Option<Known>
+        ensures found { result ≡ map_of self.old row }
+        ensures same { (other : Rows) → map_of self.new other ≡ map_of self.old other }
+        ensures order { self.new ≡ with_used self.old row }
+    {
         self.results.get(&row.0).copied()
     }
 
-    fn keep(&mut self, row: Row, known: Known) {
-        self.put(row, known);
+    /// The row was used last from then on; where there is no memory for a new row, nothing changes.
+    fn keep(&mut self, row: Row, known: Known)
+        ensures part { IsPartWith (map_of self.old) row known (map_of self.new) }
+        ensures order { (self.new ≡ with_first self.old row known) ⊎ (self.new ≡ self.old) }
+        ensures there { IsSome (map_of self.old row) → self.new ≡ with_first self.old row known }
+    {
+        let _ = self.results.put(row.0, known);
     }
 
-    fn forget(&mut self) {
+    fn forget(&mut self)
+        ensures empty { (row : Rows) → map_of self.new row ≡ None }
+        ensures all { self.new ≡ lru_cache [] self.old.cap }
+    {
         self.results.clear();
     }
 }
