@@ -5,8 +5,9 @@ mod line;
 mod log;
 #[cfg(test)]
 mod tests;
+mod text;
 mod writing;
 
 pub use faults::Memory;
 pub use log::Log;
-pub use writing::{write_caller, write_end, write_header};
+pub use text::LogText;

@@ -1,5 +1,5 @@
 // Lines written out by hand.
-use crate::{Log, write_caller, write_end, write_header};
+use crate::{Log, LogText};
 use std::test::Fail;
 use term_model::{Head, Row, Symbol};
 
@@ -35,12 +35,13 @@ fn a_lost_log_stays_so(rt: HostRuntime) -> Result<(), Fail> {
 
 #[test]
 fn a_log_has_a_header_callers_and_an_end(rt: HostRuntime) -> Result<(), Fail> {
-    let mut text = Vec::new(rt.alloc());
-    write_header(40, 2, &mut text)?;
-    write_caller(0, b"# roots 0\n", &mut text)?;
-    write_caller(1, b"", &mut text)?;
-    write_end(&mut text)?;
+    let alloc = rt.alloc();
+    let mut text = LogText::begin(alloc, 40, 2)?;
+    text.add_caller(alloc, 0, b"# roots 0\n".to_vec(alloc)?)?;
+    text.add_caller(alloc, 1, Vec::new(alloc))?;
+    text.end(alloc)?;
     let want: &[u8] = b"# log 40 2\n# caller 0\n# roots 0\n# caller 1\n# end\n";
-    assert_eq!(rt; text.as_slice(), want);
+    let whole = text.parts().concat(alloc)?;
+    assert_eq!(rt; whole.as_slice(), want);
     Ok(())
 }

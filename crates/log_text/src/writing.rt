@@ -90,7 +90,7 @@ pub(crate) fn write_listing(key: u64, rows: &[Row], out: &mut Vec<u8>) -> Result
 }
 
 /// Appends the first line of a log: how many rows the store has, and how many callers.
-pub fn write_header(rows: u32, callers: u32, out: &mut Vec<u8>) -> Result<(), Memory>
+pub(crate) fn write_header(rows: u32, callers: u32, out: &mut Vec<u8>) -> Result<(), Memory>
     ensures { OnOk result (out.new.items ≡ out.old.items ++ header_text rows callers) }
 {
     out.extend_from_slice(b"# log ")?;
@@ -101,19 +101,18 @@ pub fn write_header(rows: u32, callers: u32, out: &mut Vec<u8>) -> Result<(), Me
     Ok(())
 }
 
-/// Appends the line of a caller, and the lines of its steps.
-pub fn write_caller(caller: u32, steps: &[u8], out: &mut Vec<u8>) -> Result<(), Memory>
-    ensures { OnOk result (out.new.items ≡ out.old.items ++ (caller_text caller ++ steps.now)) }
+/// Appends the line of a caller.
+pub(crate) fn write_caller(caller: u32, out: &mut Vec<u8>) -> Result<(), Memory>
+    ensures { OnOk result (out.new.items ≡ out.old.items ++ caller_text caller) }
 {
     out.extend_from_slice(b"# caller ")?;
     write_number(caller as u64, out)?;
     out.push(b'\n')?;
-    out.extend_from_slice(steps)?;
     Ok(())
 }
 
 /// Appends the last line of a log.
-pub fn write_end(out: &mut Vec<u8>) -> Result<(), Memory>
+pub(crate) fn write_end(out: &mut Vec<u8>) -> Result<(), Memory>
     ensures { OnOk result (out.new.items ≡ out.old.items ++ end_text) }
 {
     out.extend_from_slice(b"# end\n")?;

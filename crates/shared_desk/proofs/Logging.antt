@@ -1,6 +1,8 @@
 -- That the log of a pass is the lines of its entries, after each call; and the names that a collection kept, listed.
 use Rattle.std.proofs.Common.{◌≡◌, ◌∙◌, ℕ, ◌+◌, ◌<◌, ◌≤◌, Option, Some, None, List, [], ◌∷◌, ◌++◌, append_assoc, append-nil, refl, sym, ap, subst, ⊎_elim, arith}
-use Rattle.std.specs.Prelude.{Contains, IfSome, nat_lt, unwrap_or}
+use Rattle.std.specs.Prelude.{Contains, IfSome, nat_lt, unwrap_or, Vec}
+use Rattle.std.specs.Global.{Global}
+use Rattle.std.specs.Option.{option_map}
 use Rattle.std.specs.List.{AllByRecursion}
 use Rattle.std.proofs.lemmas.Bool.{cases_lt, ltb-true, ltb-false}
 use Rattle.history_core.specs.declared.entry.Entry.{Entry}
@@ -121,3 +123,9 @@ told_collection old new es later most listed x told notes last lists adds =
 pub told_lines : (log : Option (List ℕ)) (bytes : List ℕ) (es : List Entry) → IfSome log (λ (lines : List ℕ). bytes ≡ lines) → AreTold log es → IfSome log (λ (lines : List ℕ). bytes ≡ lines_of es)
 told_lines None bytes es is told = tt
 told_lines (Some lines) bytes es is told = is ∙ told
+
+-- the same where they are taken out
+pub told_taken : (taken : Option (Vec ℕ Global)) (log : Option (List ℕ)) (es : List Entry) → option_map (λ (lines : Vec ℕ Global). lines.items) taken ≡ log → AreTold log es
+    → IfSome taken (λ lines. lines.items ≡ lines_of es)
+told_taken None log es same told = tt
+told_taken (Some lines) log es same told = subst (λ (o : Option (List ℕ)). AreTold o es) (sym same) told

@@ -1,5 +1,6 @@
 // A desk that writes a log.
 ghost use Rattle.std.specs.Prelude.{◌≡◌, [], Some, is_none, IfOk, IfSome, false};
+ghost use Rattle.std.specs.Option.{option_map};
 ghost use Rattle.log_text.specs.Lines.{lines_of};
 ghost use Rattle.shared_desk.specs.Desk.{store_of};
 ghost use Rattle.shared_desk.specs.Held.{IsWhole};
@@ -66,6 +67,17 @@ impl<'a, R: Wait> Desk<LoggedPass<OwnPass<'a, R>>> {
         requires { (store_of self).inside ≡ false }
         ensures { IsBack self.entry.pass result }
     {
+        let (pass, _) = self.into_parts();
+        pass
+    }
+
+    /// The pass of a desk that isn't inside, and the lines of all entries of the pass, in order; or None where the log is lost.
+    pub fn into_parts(self) -> (Pass, Option<Vec<u8>>)
+        requires { (store_of self).inside ≡ false }
+        ensures back { IsBack self.entry.pass result.0 }
+        ensures lines { option_map (λ lines. lines.items) result.1 ≡ self.entry.log }
+        ensures told { IfSome result.1 (λ lines. lines.items ≡ lines_of self.entry.pass.entries) }
+    {
         let Desk {
             pass,
             places: _,
@@ -73,6 +85,7 @@ impl<'a, R: Wait> Desk<LoggedPass<OwnPass<'a, R>>> {
             refused: _,
             apart: _,
         } = self;
-        pass.into_inner().into_pass()
+        let (pass, lines) = pass.into_parts();
+        (pass.into_pass(), lines)
     }
 }

@@ -1,5 +1,6 @@
 //! A pass of a shared store that writes its entries as the lines of a log.
 ghost use Rattle.std.specs.Prelude.{◌≡◌, [], Some, is_none, IfSome};
+ghost use Rattle.std.specs.Option.{option_map};
 ghost use Rattle.log_text.specs.Lines.{lines_of};
 
 use crate::noting::{note_creation, note_leave, note_sweep};
@@ -63,16 +64,14 @@ impl<S: SharedPass + Drop> LoggedPass<S> {
         self.log.lines()
     }
 
-    /// The pass alone.
-    pub(crate) fn into_inner(self) -> S
-        ensures { S.view result ≡ self.pass }
+    /// The pass, and the lines of all entries; None where the log is lost.
+    pub(crate) fn into_parts(self) -> (S, Option<Vec<u8>>)
+        ensures pass { S.view result.0 ≡ self.pass }
+        ensures lines { option_map (λ lines. lines.items) result.1 ≡ self.log }
+        ensures told { IfSome result.1 (λ lines. lines.items ≡ lines_of self.pass.entries) }
     {
-        let LoggedPass {
-            pass,
-            log: _,
-            kept: _,
-        } = self;
-        pass
+        let LoggedPass { pass, log, kept: _ } = self;
+        (pass, log.into_lines())
     }
 }
 
