@@ -1,8 +1,7 @@
 -- Keys that rise are those of a log where the last one is.
 use Rattle.std.proofs.Common.{◌≡◌, ◌∙◌, ℕ, zero, suc, ◌<◌, ◌≤◌, ◌^◌, List, [], ◌∷◌, get_or, length, map, refl, sym, ap, subst, arith}
-use Rattle.std.specs.Prelude.{All, Some, None, Option, IfSome, slice_get, true, Vec}
+use Rattle.std.specs.Prelude.{All, Some, None, Option, IfSome, slice_get, true}
 use Rattle.std.specs.List.{AllByRecursion}
-use Rattle.std.specs.Global.{Global}
 use Rattle.term_model.specs.Tree.{Tree}
 use Rattle.rewrite_model.specs.Rule.{Rule}
 use Rattle.settings.specs.declared.parts.Settings.{Settings}
@@ -72,12 +71,12 @@ lists_told ps lists same h caller = subst (λ ls. HasKeys (entries_of ls caller)
     go (q ∷ qs) h zero = h 0 q (omega arith)
     go (q ∷ qs) h (suc k) = go qs (All-tail (λ p. HasKeys (view_of p).store.entries) q qs h) k
 
-pub log_keys : (log : Option (Vec ℕ Global)) (ps : List Pass) (lists : List (List Entry)) → map entries_of_pass ps ≡ lists → EachRises lists
+pub log_keys : (log : Option (List ℕ)) (ps : List Pass) (lists : List (List Entry)) → map entries_of_pass ps ≡ lists → EachRises lists
     → IfSome log (λ _. All (λ p. HasKeys (view_of p).store.entries) ps) → IfSome log (λ _. AllByRecursion HaveKeys lists)
 log_keys None ps lists same rises h = tt
 log_keys (Some text) ps lists same rises h = each_list lists (λ caller. lists_told ps lists same h caller (rises caller))
 
 -- a log that was there before is the log still
-pub still_told : (P : Vec ℕ Global → Type 0) (old new : Option (Vec ℕ Global)) → IfSome new (λ text. old ≡ Some text) → IfSome old P → IfSome new P
+pub still_told : (P : List ℕ → Type 0) (old new : Option (List ℕ)) → IfSome new (λ text. old ≡ Some text) → IfSome old P → IfSome new P
 still_told P old None same h = tt
 still_told P old (Some text) same h = subst (λ o. IfSome o P) same h

@@ -1,14 +1,13 @@
 -- The log that desks wrote is that of the chronicle.
-use Rattle.std.proofs.Common.{◌≡◌, ℕ, zero, suc, ◌+◌, ◌<◌, List, [], ◌∷◌, ◌++◌, take, get_or, length, map, append_assoc, append-nil, refl, sym, ap, ap₂, subst, ◌∙◌, arith}
-use Rattle.std.specs.Prelude.{true, All, Some, None, Option, IfSome, Vec, slice_get, Result}
-use Rattle.std.specs.Global.{Global}
+use Rattle.std.proofs.Common.{◌≡◌, ℕ, zero, suc, ◌+◌, ◌<◌, List, [], ◌∷◌, ◌++◌, get_or, length, map, append_assoc, append-nil, refl, sym, ap, subst, ◌∙◌, arith}
+use Rattle.std.specs.Prelude.{true, All, Some, None, Option, IfSome, slice_get, unwrap_or, Result}
 use Rattle.std.proofs.lemmas.Option.{same_Some, slice_get_within}
-use Rattle.std.proofs.lemmas.List.{map_more}
+use Rattle.std.proofs.lemmas.List.{map_push}
 use Rattle.term_model.specs.Tree.{Tree}
 use Rattle.rewrite_model.specs.Rule.{Rule}
 use Rattle.settings.specs.declared.parts.Settings.{Settings}
 use Rattle.history_core.specs.declared.entry.Entry.{Entry}
-use Rattle.log_text.specs.Lines.{lines_of, caller_text, callers_from, log_of}
+use Rattle.log_text.specs.Lines.{lines_of, header_text, caller_text, callers_from, end_text, log_of}
 use Rattle.node_rows.specs.declared.store.Store.{Store}
 use Rattle.node_rows.specs.declared.store.Pass.{Pass}
 use Rattle.node_rows.specs.Told.{HasEntries, view_of}
@@ -18,6 +17,7 @@ use Rattle.shared_desk.specs.Code.{Contents}
 use Rattle.shared_desk.specs.Pass.{PassView}
 use Rattle.shared_work.specs.NewDesks.{AreBack}
 use Rattle.shared_work.specs.Running.{HasRun, IsAskedLog, entries_of}
+use Rattle.shared_work.specs.Texts.{AddsText, AddsCaller}
 use Rattle.shared_work.proofs.Closing.{worker, all_got}
 
 abbrev pub entries_of_desk : Contents → List Entry
@@ -53,11 +53,18 @@ back_entries desks passes back = same_lists entries_of_pass passes (map entries_
     let b = back.each k p at in
     mapped_at entries_of_desk desks k b.desk b.at ∙ sym (ap (λ (x : PassView). x.entries) b.back.seen))
 
--- where desks give a log, it is that of the passes that they gave back
-pub logged : (s : Settings) (log : Option (Vec ℕ Global)) (seen desks : List Contents) (passes : List Pass) → s.log ≡ true → seen ≡ desks → AreBack desks passes
-    → IfSome log (λ text. text.items ≡ log_of s.rows (map entries_of_desk seen)) → IfSome log (λ text. IsAskedLog s (entries_of passes) text.items)
-logged s None seen desks passes asked same back is = tt
-logged s (Some text) seen desks passes asked same back is = (asked, is ∙ ap (log_of s.rows) (ap (map entries_of_desk) same ∙ sym (back_entries desks passes back)))
+-- where desks give a log, behind the first line and before the last one it is that of the passes that they gave back
+pub logged : (s : Settings) (old new : Option (List ℕ)) (head : List ℕ) (callers : ℕ) (desks : List Contents) (passes : List Pass) → s.log ≡ true → head ≡ header_text s.rows callers
+    → callers ≡ length desks → AreBack desks passes → IfSome old (λ text. text ≡ head ++ callers_from 0 (map entries_of_desk desks)) → AddsText old new end_text
+    → IfSome new (λ text. IsAskedLog s (entries_of passes) text)
+logged s old None head callers desks passes asked first count back told adds = tt
+logged s None (Some text) head callers desks passes asked first count back told adds = absurd (cc)
+logged s (Some before) (Some text) head callers desks passes asked first count back told adds =
+    let lists = map entries_of_desk desks in
+    let is : text ≡ before ++ end_text = ap (λ (o : Option (List ℕ)). unwrap_or o []) adds in
+    let number : callers ≡ length lists = count ∙ sym (long_map entries_of_desk desks) in
+    let begins : head ≡ header_text s.rows (length lists) = first ∙ ap (header_text s.rows) number in
+    (asked, is ∙ (ap (λ (ts : List ℕ). ts ++ end_text) (told ∙ ap (λ (ts : List ℕ). ts ++ callers_from 0 lists) begins) ∙ ap (log_of s.rows) (sym (back_entries desks passes back))))
 
 -- the entries of the passes are the lists of the chronicle
 pub lists_are : (s : Settings) (rules : List Rule) (terms : List Tree) (store : Store) (lines : Result Lines AllFault) (ps : List Pass) (run : HasRun s rules terms store lines ps)
@@ -73,10 +80,9 @@ lists_are s rules terms store lines ps run lists count has =
     let same : w.pass ≡ p = same_Some w.pass p (sym w.at_pass ∙ at) in
     ap (λ (j : ℕ). get_or lists j []) (sym w.number ∙ ap (λ (q : Pass). q.seat.number) same) ∙ all_got (HasEntries lists) ps k p has at)
 
-pub log_told : {V : Type 0} (s : Settings) (items : V → List ℕ) (log : Option V) (lists news : List (List Entry)) → lists ≡ news
-    → IfSome log (λ text. IsAskedLog s lists (items text)) → IfSome log (λ text. IsAskedLog s news (items text))
-log_told s items None lists news same h = tt
-log_told s items (Some text) lists news same h = subst (λ ls. IsAskedLog s ls (items text)) same h
+pub log_told : (s : Settings) (log : Option (List ℕ)) (lists news : List (List Entry)) → lists ≡ news → IfSome log (IsAskedLog s lists) → IfSome log (IsAskedLog s news)
+log_told s None lists news same h = tt
+log_told s (Some text) lists news same h = subst (λ ls. IsAskedLog s ls text) same h
 
 -- the callers' steps, one caller more
 pub callers_last : (k : ℕ) (lists : List (List Entry)) (es : List Entry) → callers_from k (lists ++ es ∷ []) ≡ callers_from k lists ++ (caller_text (k + length lists) ++ lines_of es)
@@ -85,26 +91,18 @@ callers_last k (l ∷ ls) es =
     ap (λ (ts : List ℕ). (caller_text k ++ lines_of l) ++ ts) (callers_last (suc k) ls es ∙ ap (λ (j : ℕ). callers_from (suc k) ls ++ (caller_text j ++ lines_of es)) (omega arith))
     ∙ sym (append_assoc (caller_text k ++ lines_of l) (callers_from (suc k) ls) (caller_text (k + suc (length ls)) ++ lines_of es))
 
-long_take : {A : Type 0} (i : ℕ) (xs : List A) → i < length xs → length (take i xs) ≡ i
-long_take zero xs l = refl
-long_take (suc i) [] l = absurd (omega (arith, l))
-long_take (suc i) (x ∷ xs) l = ap suc (long_take i xs (omega (arith, l)))
-
-pub one_caller : (old : List ℕ) (ds : List Contents) (i : ℕ) (d : Contents) → i < length ds
-    → (old ++ callers_from 0 (map entries_of_desk (take i ds))) ++ (caller_text i ++ lines_of (get_or ds i d).pass.entries) ≡ old ++ callers_from 0 (map entries_of_desk (take (i + 1) ds))
-one_caller old ds i d l =
-    let es = (get_or ds i d).pass.entries in
-    let before = map entries_of_desk (take i ds) in
-    let long : length before ≡ i = long_map entries_of_desk (take i ds) ∙ long_take i ds l in
-    let number : 0 + length before ≡ i = omega (arith, long) in
-    append_assoc old (callers_from 0 before) (caller_text i ++ lines_of es)
-    ∙ ap (λ (ts : List ℕ). old ++ ts)
-    (ap (λ (j : ℕ). callers_from 0 before ++ (caller_text j ++ lines_of es)) (sym number)
-    ∙ (sym (callers_last 0 before es) ∙ ap (callers_from 0) (sym (map_more entries_of_desk ds i d l))))
-
--- the same for texts that are so
-pub one_caller_more : (old now new : List ℕ) (ds : List Contents) (caller i : ℕ) (d : Contents) → caller ≡ i → now ≡ old ++ callers_from 0 (map entries_of_desk (take i ds))
-    → d ≡ get_or ds i d → new ≡ now ++ (caller_text caller ++ lines_of d.pass.entries) → i < length ds → new ≡ old ++ callers_from 0 (map entries_of_desk (take (i + 1) ds))
-one_caller_more old now new ds caller i d same told at is l =
-    is ∙ ap₂ (λ (ts us : List ℕ). ts ++ us) told (ap₂ (λ (j : ℕ) (x : Contents). caller_text j ++ lines_of x.pass.entries) same at)
-    ∙ one_caller old ds i d l
+-- a log of callers has this one more, whose number is next
+pub one_caller_more : (old new : Option (List ℕ)) (head : List ℕ) (ds : List Contents) (d : Contents) (caller : ℕ) → caller ≡ length ds
+    → IfSome old (λ text. text ≡ head ++ callers_from 0 (map entries_of_desk ds)) → AddsCaller old new caller (entries_of_desk d)
+    → IfSome new (λ text. text ≡ head ++ callers_from 0 (map entries_of_desk (ds ++ d ∷ [])))
+one_caller_more old None head ds d caller same told adds = tt
+one_caller_more None (Some text) head ds d caller same told adds = absurd (cc)
+one_caller_more (Some before) (Some text) head ds d caller same told adds =
+    let step = caller_text caller ++ lines_of (entries_of_desk d) in
+    let lists = map entries_of_desk ds in
+    let is : text ≡ before ++ step = ap (λ (o : Option (List ℕ)). unwrap_or o []) adds in
+    let number : caller ≡ 0 + length lists = omega (arith, same, long_map entries_of_desk ds) in
+    is ∙ (ap (λ (ts : List ℕ). ts ++ step) told ∙ (append_assoc head (callers_from 0 lists) step
+    ∙ ap (λ (ts : List ℕ). head ++ ts)
+    (ap (λ (j : ℕ). callers_from 0 lists ++ (caller_text j ++ lines_of (entries_of_desk d))) number
+    ∙ (sym (callers_last 0 lists (entries_of_desk d)) ∙ ap (callers_from 0) (sym (map_push entries_of_desk ds d))))))

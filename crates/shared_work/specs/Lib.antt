@@ -6,3 +6,4 @@ pub mod Numbers
 pub mod Wearing
 pub mod Fronts
 pub mod Keys
+pub mod Texts

@@ -126,17 +126,3 @@ pub(crate) fn log_desks_at<'a, R: Wait>(
     }
     Ok(desks)
 }
-
-/// `passes_of` for desks that write logs.
-pub(crate) fn logged_passes_of<R: Wait>(room: Vec<Pass>, desks: Vec<LogDesk<'_, R>>) -> Vec<Pass>
-    requires outside { All (λ d. (store_of d).inside ≡ false) desks.items }
-    requires empty { room.items ≡ [] }
-    requires wide { vec_len desks ≤ vec_capacity room }
-    ensures back { AreBack desks.entry.items result.items }
-{
-    let mut passes = room;
-    for desk in desks {
-        passes.push_reserved(desk.into_pass());
-    }
-    passes
-}

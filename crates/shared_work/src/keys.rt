@@ -3,6 +3,7 @@ ghost use Rattle.std.specs.Prelude.{◌≡◌, ◌^◌, ◌<◌, All, IsTrue, If
 ghost use Rattle.node_rows.specs.Told.{Tells, view_of};
 ghost use Rattle.shared_work.specs.Keys.{number_of, HasKeys};
 
+use log_text::LogText;
 use node_rows::{Last, Pass, last};
 
 // A log tells keys below 2^62, where those of a store end.
@@ -41,7 +42,7 @@ fn have_keys(passes: &[Pass]) -> bool
 }
 
 /// The log of passes, where their keys are those of a log.
-pub(crate) fn with_keys(log: Option<Vec<u8>>, passes: &[Pass]) -> Option<Vec<u8>>
+pub(crate) fn with_keys(log: Option<LogText>, passes: &[Pass]) -> Option<LogText>
     requires told { All Tells passes.now }
     ensures same { IfSome result (λ text. log ≡ Some text) }
     ensures keys { IfSome result (λ _. All (λ p. HasKeys (view_of p).store.entries) passes.now) }

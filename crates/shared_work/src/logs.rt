@@ -1,76 +1,66 @@
 // The log of desks that wrote their entries.
-ghost use Rattle.std.specs.Prelude.{◌≡◌, ◌<◌, ◌^◌, ◌++◌, OnOk, IfOk, IfSome, length, map};
-ghost use Rattle.log_text.specs.Lines.{caller_text, callers_from, lines_of, log_of};
+ghost use Rattle.std.specs.Prelude.{◌≡◌, ◌<◌, ◌≤◌, ◌^◌, ◌++◌, [], false, All, List, OnOk, IfSome, vec_len, vec_capacity, map};
+ghost use Rattle.history_core.specs.declared.entry.Entry.{Entry};
+ghost use Rattle.log_text.specs.Lines.{caller_text, callers_from, end_text, lines_of};
+ghost use Rattle.shared_desk.specs.Desk.{store_of};
+ghost use Rattle.shared_work.specs.NewDesks.{AreBack};
+ghost use Rattle.shared_work.specs.Texts.{AddsText, AddsCaller};
 
 use faults::Memory;
-use log_text::{write_caller, write_end, write_header};
+use log_text::LogText;
+use node_rows::Pass;
 use shared_desk::LogDesk;
 use std::alloc::Global;
 use std::sync::Wait;
 
-// Appends the line of a caller, and those of the entries that its desk wrote; a log that is lost lacked memory.
-fn push_caller<R: Wait>(
+// A log with a caller more, whose lines these are; None where it was lost, or its lines, or memory lacks.
+fn with_caller(
+    alloc: Global,
+    log: Option<LogText>,
     caller: u32,
-    desk: &LogDesk<'_, R>,
-    text: &mut Vec<u8>,
-) -> Result<(), Memory>
-    ensures { OnOk result (text.new.items
-        ≡ text.old.items ++ (caller_text caller ++ lines_of desk.now.pass.entries)) }
+    lines: Option<Vec<u8>>,
+) -> Option<LogText>
+    ensures { (entries : List Entry) → IfSome lines (λ steps. steps.items ≡ lines_of entries)
+        → AddsCaller log result caller entries }
 {
-    if desk.lost() {
-        return Err(Memory);
-    }
-    write_caller(caller, desk.lines(), text)
+    let mut text = log?;
+    text.add_caller(alloc, caller, lines?).ok()?;
+    Some(text)
 }
 
-// Appends the callers and their entries, in the order of their desks.
-fn push_callers<R: Wait>(desks: &[LogDesk<'_, R>], text: &mut Vec<u8>) -> Result<(), Memory>
-    requires few { length desks.now < 2 ^ 32 }
-    ensures { OnOk result (text.new.items
-        ≡ text.old.items ++ callers_from 0 (map (λ d. d.pass.entries) desks.now)) }
+/// A log with its last line; None where it was lost, or memory lacks.
+pub(crate) fn with_end(alloc: Global, log: Option<LogText>) -> Option<LogText>
+    ensures { AddsText log result end_text }
 {
+    let mut text = log?;
+    text.end(alloc).ok()?;
+    Some(text)
+}
+
+/// What desks give that are out: their passes, in their order, in memory that has room for them; and the log with their entries
+/// behind this one, desk k as caller k, where memory lacked for no part of it.
+pub(crate) fn parts_of<R: Wait>(
+    alloc: Global,
+    room: Vec<Pass>,
+    log: LogText,
+    desks: Vec<LogDesk<'_, R>>,
+) -> (Vec<Pass>, Option<LogText>)
+    requires outside { All (λ d. (store_of d).inside ≡ false) desks.items }
+    requires empty { room.items ≡ [] }
+    requires wide { vec_len desks ≤ vec_capacity room }
+    requires few { vec_len desks < 2 ^ 32 }
+    ensures back { AreBack desks.entry.items result.0.items }
+    ensures log { IfSome result.1 (λ text. text
+        ≡ log ++ callers_from 0 (map (λ d. d.pass.entries) desks.entry.items)) }
+{
+    let mut passes = room;
+    let mut whole = Some(log);
     let mut caller = 0;
     for desk in desks {
-        push_caller(caller, desk, text)?;
+        let (pass, lines) = desk.into_parts();
+        passes.push_reserved(pass);
+        whole = with_caller(alloc, whole, caller, lines);
         caller += 1;
     }
-    Ok(())
-}
-
-// Room for the log of desks, so that its text is moved to no larger place while it is written.
-fn room_for<R: Wait>(desks: &[LogDesk<'_, R>]) -> usize {
-    let mut room: usize = 64;
-    for desk in desks {
-        room = room.saturating_add(desk.lines().len()).saturating_add(32);
-    }
-    room
-}
-
-// The log that desks wrote at the passes of a store with so many rows, desk k as caller k.
-fn log_for<R: Wait>(alloc: Global, rows: u32, desks: &[LogDesk<'_, R>]) -> Result<Vec<u8>, Memory>
-    requires few { length desks.now < 2 ^ 32 }
-    ensures { IfOk result (λ text. text.items ≡ log_of rows (map (λ d. d.pass.entries) desks.now)) }
-{
-    let mut text = Vec::with_capacity(alloc, room_for(desks))?;
-    write_header(rows, desks.len() as u32, &mut text)?;
-    push_callers(desks, &mut text)?;
-    write_end(&mut text)?;
-    Ok(text)
-}
-
-/// The same, where it is to be written and there is memory for it.
-pub(crate) fn log_where<R: Wait>(
-    alloc: Global,
-    written: bool,
-    rows: u32,
-    desks: &[LogDesk<'_, R>],
-) -> Option<Vec<u8>>
-    requires few { length desks.now < 2 ^ 32 }
-    ensures { IfSome result (λ text. text.items ≡ log_of rows (map (λ d. d.pass.entries) desks.now)) }
-{
-    if written {
-        log_for(alloc, rows, desks).ok()
-    } else {
-        None
-    }
+    (passes, whole)
 }

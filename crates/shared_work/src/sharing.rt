@@ -17,11 +17,12 @@ ghost use Rattle.shared_work.specs.Numbers.{TellsFew, TellsNeed};
 ghost use Rattle.shared_work.specs.Running.{HasRun, WantsMemory, IsAskedLog, entries_of};
 ghost use Rattle.shared_work.specs.Sharing.{NamesWhatItBuilt, CollectsFew, KeepsOrders, EachRises};
 
-use crate::desks::{desks_at, log_desks_at, logged_passes_of, passes_of, store_for};
+use crate::desks::{desks_at, log_desks_at, passes_of, store_for};
 use crate::keys::with_keys;
-use crate::logs::log_where;
+use crate::logs::{parts_of, with_end};
 use ends::Gate;
 use faults::Memory;
+use log_text::LogText;
 use node_rows::{Chronicle, Pass, Store};
 use rewrite_workers::{AllFault, Lines, Work, rewrite_all};
 use std::alloc::Global;
@@ -36,7 +37,7 @@ pub struct Rewritten {
     /// The entries of the passes of the store, pass k being that of worker k; or of none, where there was no memory to begin with.
     pub chronicle: Chronicle,
     /// The chronicle's log, where one is asked and there was memory for it.
-    pub log: Option<Vec<u8>>,
+    pub log: Option<LogText>,
 }
 
 impl Rewritten {
@@ -59,7 +60,7 @@ impl Rewritten {
 struct Left {
     lines: Result<Lines, AllFault>,
     passes: Vec<Pass>,
-    log: Option<Vec<u8>>,
+    log: Option<LogText>,
 }
 
 // Rewrites the terms by workers at the passes of a new store. All memory that the end takes is taken first: where
@@ -87,7 +88,7 @@ fn rewrite_on<R: Threads + Wait + Sync, G: Gate>(
     ensures run { IfOk result (λ left. HasRun work.now.settings work.now.plan.now.rules
         work.now.terms.now store.now left.lines left.passes.items) }
     ensures log { IfOk result (λ left. IfSome left.log
-        (λ text. IsAskedLog work.now.settings (entries_of left.passes.items) text.items)) }
+        (λ text. IsAskedLog work.now.settings (entries_of left.passes.items) text)) }
 {
     let mut desks = desks_at(rt, alloc, store, passes)?;
     let room = Vec::with_capacity(alloc, desks.len())?;
@@ -125,13 +126,14 @@ fn rewrite_logged<R: Threads + Wait + Sync, G: Gate>(
     ensures run { IfOk result (λ left. HasRun work.now.settings work.now.plan.now.rules
         work.now.terms.now store.now left.lines left.passes.items) }
     ensures log { IfOk result (λ left. IfSome left.log
-        (λ text. IsAskedLog work.now.settings (entries_of left.passes.items) text.items)) }
+        (λ text. IsAskedLog work.now.settings (entries_of left.passes.items) text)) }
 {
     let mut desks = log_desks_at(rt, alloc, store, passes)?;
     let room = Vec::with_capacity(alloc, desks.len())?;
+    let log = LogText::begin(alloc, work.settings.rows, desks.len() as u32)?;
     let lines = rewrite_all(rt, alloc, work, &mut desks, gate);
-    let log = log_where(alloc, lines.is_ok(), work.settings.rows, &desks);
-    let passes = logged_passes_of(room, desks);
+    let (passes, log) = parts_of(alloc, room, log, desks);
+    let log = with_end(alloc, log);
     Ok(Left { lines, passes, log })
 }
 
@@ -159,7 +161,7 @@ fn rewrite_left<R: Threads + Wait + Sync, G: Gate>(
     ensures run { IfOk result (λ left. HasRun work.now.settings work.now.plan.now.rules
         work.now.terms.now store.now left.lines left.passes.items) }
     ensures log { IfOk result (λ left. IfSome left.log
-        (λ text. IsAskedLog work.now.settings (entries_of left.passes.items) text.items)) }
+        (λ text. IsAskedLog work.now.settings (entries_of left.passes.items) text)) }
 {
     if work.settings.log {
         rewrite_logged(rt, alloc, work, store, passes, gate)
@@ -206,7 +208,7 @@ fn rewrite_at<R: Threads + Wait + Sync, G: Gate>(
     ensures front { IfErr result.lines (λ fault. NamesFronts work.now.settings
         work.now.plan.now.rules work.now.terms.now result.chronicle) }
     ensures log { IfSome result.log
-        (λ text. IsAskedLog work.now.settings result.chronicle text.items) }
+        (λ text. IsAskedLog work.now.settings result.chronicle text) }
     ensures keys { IfSome result.log (λ _. AllByRecursion HaveKeys result.chronicle) }
 {
     match rewrite_left(rt, alloc, work, &store, passes, gate) {
@@ -290,7 +292,7 @@ pub fn rewrite_shared<R: Threads + Wait + Sync, G: Gate>(
 
     // Where there is a log, it was asked, and is that of the chronicle, whose keys are those of a log.
     ensures log { IfSome result.log
-        (λ text. IsAskedLog work.now.settings result.chronicle text.items) }
+        (λ text. IsAskedLog work.now.settings result.chronicle text) }
     ensures keys { IfSome result.log (λ _. AllByRecursion HaveKeys result.chronicle) }
 {
     match store_for(alloc, work) {

@@ -1,8 +1,7 @@
 use Rattle.std.proofs.Common.{ℕ, List, sym, ap, subst, ◌∙◌}
 use Rattle.history_core.specs.Chronicle.{chronicle, IsLegal}
 use Rattle.store_core.specs.declared.view.Sizes.{Sizes}
-use Rattle.std.specs.Prelude.{Vec, All, IfSome}
-use Rattle.std.specs.Global.{Global}
+use Rattle.std.specs.Prelude.{All, IfSome}
 use Rattle.shared_work.specs.Fronts.{NamesFronts}
 use Rattle.node_rows.specs.declared.store.Pass.{Pass}
 use Rattle.node_rows.specs.Told.{Tells, view_of}
@@ -117,10 +116,10 @@ pub returns-in-Ok-clause-log : goal.returns-in-Ok-clause-log
 returns-in-Ok-clause-log g c =
     let s = c.args.work.now.settings in
     let passes = c.in-Ok.left.passes.items in
-    log_told s (λ (text : Vec ℕ Global). text.items) c.with_keys-log.result (entries_of passes) c.close-chronicle.result
+    log_told s c.with_keys-log.result (entries_of passes) c.close-chronicle.result
     (lists_are s c.args.work.now.plan.now.rules c.args.work.now.terms.now c.args.store c.in-Ok.left.lines passes c.in-Ok.ensures.run
     c.close-chronicle.result c.close-chronicle.ensures.count c.close-chronicle.ensures.own)
-    (still_told (λ (text : Vec ℕ Global). IsAskedLog s (entries_of passes) text.items) c.in-Ok.left.log c.with_keys-log.result c.with_keys-log.ensures.same c.in-Ok.ensures.log)
+    (still_told (IsAskedLog s (entries_of passes)) c.in-Ok.left.log c.with_keys-log.result c.with_keys-log.ensures.same c.in-Ok.ensures.log)
 
 pub returns-in-Ok-clause-keys : goal.returns-in-Ok-clause-keys
 returns-in-Ok-clause-keys g c =

@@ -1,4 +1,4 @@
-use Rattle.std.proofs.Common.{◌≡◌, ◌++◌, take, drop, length, sym, ap, subst, arith}
+use Rattle.std.proofs.Common.{◌≡◌, ◌++◌, take, drop, length, sym, ap, subst, ◌∙◌, arith}
 use Rattle.busy_forbidden.specs.Dealt.{EachPlace}
 use Rattle.shared_work.specs.NewDesks.{IsNewDesk, AreBack}
 use Rattle.shared_work.proofs.Readying.{all_ready, refilled}
@@ -21,7 +21,7 @@ returns-clause-run g c =
       olds = c.deref_mut.result.now;
       news = news;
       new = subst (EachPlace (IsNewDesk c.args.store.now) c.args.store.now.sizes.seats) (sym c.deref_mut.ensures.value) c.in_ok-desks.ensures.desks;
-      back = subst (λ ds. AreBack ds c.logged_passes_of-passes.result.items) whole c.logged_passes_of-passes.ensures.back;
+      back = subst (λ ds. AreBack ds c.parts_of-passes.result.0.items) whole c.parts_of-passes.ensures.back;
       same = c.rewrite_all-lines.ensures.same;
       kept = c.rewrite_all-lines.ensures.kept;
       built = c.rewrite_all-lines.ensures.built;
@@ -30,5 +30,13 @@ returns-clause-run g c =
 
 pub returns-clause-log : goal.returns-clause-log
 returns-clause-log g c =
-    logged c.args.work.now.settings c.log_where-log.result c.deref.result.now _ c.logged_passes_of-passes.result.items c.requires.asked c.deref.ensures.value
-    c.logged_passes_of-passes.ensures.back c.log_where-log.ensures
+    let items = c.in_ok-desks.desks.items in
+    let news = c.rewrite_all-lines.new.desks in
+    let same = c.rewrite_all-lines.ensures.kept.0 in
+    let given = ap length c.deref_mut.ensures.value in
+    let long = c.in_ok-desks.desks.ok.0 in
+    let whole : take c.in_ok-desks.desks.len (news ++ drop (length news) items) ≡ news = refilled c.in_ok-desks.desks.len news (drop (length news) items) (omega (arith, same, given, long)) in
+    let counted = c.len-2.ensures in
+    let count : c.len-2.result ≡ length news = omega (arith, counted, same, given, long) in
+    logged c.args.work.now.settings c.parts_of-passes.result.1 c.with_end-log.result c.in_ok-log.log c.len-2.result _ c.parts_of-passes.result.0.items c.requires.asked c.in_ok-log.ensures
+    (count ∙ sym (ap length whole)) c.parts_of-passes.ensures.back c.parts_of-passes.ensures.log c.with_end-log.ensures
