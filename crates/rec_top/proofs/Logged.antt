@@ -1,7 +1,7 @@
 -- The log that is written behind an output.
-use Rattle.std.proofs.Common.{◌≡◌, ℕ, ◌+◌, Bool, true, false, List, [], ◌++◌, length, Option, Some, None, refl, sym, ap, ap₂, subst, ◌∙◌, arith, length-append}
-use Rattle.std.specs.Prelude.{Result, Ok, Err, OnOk, OnErr, is_some, if◌then◌else◌, Vec}
-use Rattle.std.specs.Global.{Global}
+use Rattle.std.proofs.Common.{◌≡◌, ℕ, zero, suc, ◌+◌, ◌<◌, Bool, true, false, List, [], ◌∷◌, ◌++◌, length, take, get_or, Option, Some, None, refl, sym, ap, ap₂, subst, ◌∙◌, arith, length-append, append_assoc}
+use Rattle.std.specs.Prelude.{Result, Ok, Err, OnOk, OnErr, is_some, if◌then◌else◌}
+use Rattle.std.specs.List.{flat_map}
 use Rattle.std.specs.Io.KnownBytes.{Appends}
 use Rattle.std.proofs.KnownBytes.{Appends-trans}
 use Rattle.std.proofs.Math.Seq.{take-append-add}
@@ -31,10 +31,31 @@ front_second a b c xs ys h f =
     let le = f.1 in
     (length xs + f.0, omega (arith, long, le), subst (Appends a c) (sym (take-append-add xs ys f.0)) (Appends-trans _ _ _ _ _ h f.2))
 
-pub front_behind : {A E : Type 0} (r : Result A E) (a b c : Option (List ℕ)) (xs ys : List ℕ) (log : Option (Vec ℕ Global)) (text : Vec ℕ Global) → Appends a b xs → log ≡ Some text → ys ≡ text.items
+pub front_behind : {A E : Type 0} (r : Result A E) (a b c : Option (List ℕ)) (xs ys : List ℕ) (log : Option (List ℕ)) (text : List ℕ) → Appends a b xs → log ≡ Some text → ys ≡ text
     → OnErr r (TookFront b c ys) → OnErr r (TookFront a c (xs ++ log_bytes log))
 front_behind (Ok v) a b c xs ys log text h is same f = tt
 front_behind (Err e) a b c xs ys log text h is same f = subst (λ zs. TookFront a c (xs ++ zs)) (same ∙ sym (ap log_bytes is)) (front_second a b c xs ys h f)
+
+-- the texts before a place, the one there, and the rest
+split_at : {X : Type 0} (f : X → List ℕ) (xs : List X) (i : ℕ) (x : X) → i < length xs → x ≡ get_or xs i x → (rest : List ℕ) × (flat_map f xs ≡ (flat_map f (take i xs) ++ f x) ++ rest)
+split_at f [] i x l e = absurd (omega (arith, l))
+split_at f (y ∷ ys) zero x l e = (flat_map f ys, ap (λ z. f z ++ flat_map f ys) (sym e))
+split_at f (y ∷ ys) (suc i) x l e =
+    let r = split_at f ys i x (omega (arith, l)) e in
+    let before = flat_map f (take i ys) in
+    (r.0, ap (λ (ts : List ℕ). f y ++ ts) r.1 ∙ (sym (append_assoc (f y) (before ++ f x) r.0) ∙ ap (λ (ts : List ℕ). ts ++ r.0) (sym (append_assoc (f y) before (f x)))))
+
+-- a front of a text behind those before it is one of all
+pub front_of_texts : {X : Type 0} (f : X → List ℕ) (a b c : Option (List ℕ)) (xs : List X) (i : ℕ) (x : X) (bytes : List ℕ) → i < length xs → x ≡ get_or xs i x → bytes ≡ f x
+    → Appends a b (flat_map f (take i xs)) → TookFront b c bytes → TookFront a c (flat_map f xs)
+front_of_texts f a b c xs i x bytes l e same h took =
+    let r = split_at f xs i x l e in
+    subst (TookFront a c) (sym r.1)
+    (front_first a c (flat_map f (take i xs) ++ f x) r.0 (front_second a b c (flat_map f (take i xs)) (f x) h (subst (TookFront b c) same took)))
+
+pub at_err : {A E P : Type 0} (r : Result A E) → P → OnErr r P
+at_err (Ok v) p = tt
+at_err (Err e) p = p
 
 -- ---- the log that is asked
 none_asked : (b : Bool) (xs : List ℕ) → (b ≡ true → false ≡ true) → [] ≡ (if b then xs else [])
@@ -45,11 +66,11 @@ one_asked : (b : Bool) (xs ys : List ℕ) → b ≡ true → ys ≡ xs → ys �
 one_asked true xs ys e is = is
 one_asked false xs ys e is = absurd cc
 
-log_is : (s : Settings) (lists : List (List Entry)) (log : Option (Vec ℕ Global)) → MayHaveLog s lists log → IsThere s (is_some log) → log_bytes log ≡ log_asked s lists
+log_is : (s : Settings) (lists : List (List Entry)) (log : Option (List ℕ)) → MayHaveLog s lists log → IsThere s (is_some log) → log_bytes log ≡ log_asked s lists
 log_is s lists None may there = none_asked s.log (log_of s.rows lists) there
-log_is s lists (Some text) may there = one_asked s.log (log_of s.rows lists) text.items may.0 may.1
+log_is s lists (Some text) may there = one_asked s.log (log_of s.rows lists) text may.0 may.1
 
-pub log_where : {A E : Type 0} (s : Settings) (lists : List (List Entry)) (log : Option (Vec ℕ Global)) (there : Bool) (r : Result A E) → there ≡ is_some log
+pub log_where : {A E : Type 0} (s : Settings) (lists : List (List Entry)) (log : Option (List ℕ)) (there : Bool) (r : Result A E) → there ≡ is_some log
     → MayHaveLog s lists log → OnOk r (IsThere s there) → OnOk r (log_bytes log ≡ log_asked s lists)
 log_where s lists log there (Ok a) same may h = log_is s lists log may (subst (IsThere s) same h)
 log_where s lists log there (Err e) same may h = tt

@@ -1,6 +1,5 @@
 -- The log that is written behind the output of a command.
-use Rattle.std.specs.Prelude.{◌≡◌, ℕ, Bool, true, List, [], ◌++◌, Option, IfSome, if◌then◌else◌, Vec}
-use Rattle.std.specs.Global.{Global}
+use Rattle.std.specs.Prelude.{◌≡◌, ℕ, Bool, true, List, [], ◌++◌, Option, IfSome, if◌then◌else◌, unwrap_or}
 use Rattle.std.specs.Option.{option_map_or}
 use Rattle.history_core.specs.declared.entry.Entry.{Entry}
 use Rattle.std.specs.List.{AllByRecursion}
@@ -43,16 +42,16 @@ with_log words lists output = record {
 }
 
 -- where there is a log, it was asked, and is of these lists
-abbrev pub MayHaveLog : Settings → List (List Entry) → Option (Vec ℕ Global) → Type 0
-MayHaveLog s lists log = IfSome log (λ text. IsAskedLog s lists text.items)
+abbrev pub MayHaveLog : Settings → List (List Entry) → Option (List ℕ) → Type 0
+MayHaveLog s lists log = IfSome log (λ text. IsAskedLog s lists text)
 
 -- there is one where one is asked
 abbrev pub IsThere : Settings → Bool → Type 0
 IsThere s there = s.log ≡ true → there ≡ true
 
 -- the bytes of a log that may be there
-abbrev pub log_bytes : Option (Vec ℕ Global) → List ℕ
-log_bytes log = option_map_or (λ text. text.items) log []
+abbrev pub log_bytes : Option (List ℕ) → List ℕ
+log_bytes log = unwrap_or log []
 
 -- where a log is asked, it may tell the keys of all entries
 abbrev pub HaveLogKeys : Settings → List (List Entry) → Type 0

@@ -3,6 +3,7 @@ ghost use Rattle.std.specs.Prelude.{◌≡◌, [], None};
 
 use crate::results::Workers;
 use crate::stops::Stop;
+use log_text::LogText;
 use node_rows::Chronicle;
 
 /// The output of a command, before it is written.
@@ -24,7 +25,7 @@ pub struct Finished {
     /// The history of its workers.
     pub chronicle: Chronicle,
     /// The log of that history, where one is asked, to be written behind the output.
-    pub log: Option<Vec<u8>>,
+    pub log: Option<LogText>,
 }
 
 impl Finished {

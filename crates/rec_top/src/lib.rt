@@ -17,6 +17,7 @@ mod specification;
 mod stops;
 mod top;
 mod unpacking;
+mod writing;
 
 pub use laws::trace_laws;
 pub use node_rows::Chronicle;

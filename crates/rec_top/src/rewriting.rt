@@ -27,6 +27,7 @@ use crate::specification::{Conditions, specification_of};
 use crate::stops::Stop;
 use ends::Gate;
 use faults::Memory;
+use log_text::LogText;
 use node_rows::Chronicle;
 use rec_check::Spec;
 use rule_match::Plan;
@@ -41,7 +42,7 @@ use std::thread::Threads;
 pub struct Worked {
     pub lines: Result<Lines, Stop>,
     pub chronicle: Chronicle,
-    pub log: Option<Vec<u8>>,
+    pub log: Option<LogText>,
 }
 
 impl Worked {

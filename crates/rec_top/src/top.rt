@@ -16,7 +16,8 @@ use crate::answering::answer_of;
 use crate::answers::Finished;
 use crate::results::{Outcome, Workers};
 use crate::stops::{Stop, stopped, stopped_before};
-use ends::{Gate, Sink, Source, WriteFault, write_all};
+use crate::writing::write_both;
+use ends::{Gate, Sink, Source};
 use settings::{WordsFault, settings};
 use std::alloc::Global;
 use std::sync::Wait;
@@ -33,21 +34,6 @@ fn status_for(values: bool, refuted: bool) -> u8
         0
     } else {
         1
-    }
-}
-
-// Writes an output, and the log behind it, where there is one.
-fn write_both<O: Sink>(out: &mut O, output: &[u8], log: &Option<Vec<u8>>) -> Result<(), WriteFault>
-    ensures whole { OnOk result
-        (Appends (O.taken out.old) (O.taken out.new) (output.now ++ log_bytes log.now)) }
-    ensures front { OnErr result
-        (TookFront (O.taken out.old) (O.taken out.new) (output.now ++ log_bytes log.now)) }
-    ensures fault_only_where_count_rose { HasCause (O.faults out.old) (O.faults out.new) result }
-{
-    write_all(out, output)?;
-    match log {
-        Some(log) => write_all(out, log),
-        None => Ok(()),
     }
 }
 
