@@ -4,6 +4,8 @@
 #[cfg(test)]
 mod checking;
 #[cfg(test)]
+mod grammar;
+#[cfg(test)]
 mod includes;
 #[cfg(test)]
 mod limits;
@@ -15,5 +17,3 @@ mod materials;
 mod offences;
 #[cfg(test)]
 mod orders;
-#[cfg(test)]
-mod reading;
