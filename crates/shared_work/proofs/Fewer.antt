@@ -1,5 +1,5 @@
 -- Where workers stop for want of rows, the terms build more different trees than there are rows.
-use Rattle.std.proofs.Common.{◌≡◌, inl, inr, ◌+◌, ◌<◌, List, ◌∷◌, ◌++◌, length, Bool, true, false, refl, sym, ap, subst, arith}
+use Rattle.std.proofs.Common.{◌≡◌, inl, inr, ◌+◌, ◌<◌, List, ◌∷◌, ◌++◌, length, Bool, true, false, refl, ap, subst, arith}
 use Rattle.std.specs.Prelude.{All, Contains, Result, Ok, Err, IfErr, if◌then◌else◌}
 use Rattle.std.proofs.lemmas.List.Elements.{All-contains, Contains-append_right}
 use Rattle.term_model.specs.Tree.{Tree, among, distinct}

@@ -1,19 +1,19 @@
 -- Keys that rise are those of a log where the last one is.
-use Rattle.std.proofs.Common.{◌≡◌, ◌∙◌, ℕ, zero, suc, ◌<◌, ◌≤◌, ◌^◌, List, [], ◌∷◌, get_or, length, map, refl, sym, ap, subst, arith}
-use Rattle.std.specs.Prelude.{All, Some, None, Option, IfSome, slice_get, true}
+use Rattle.std.proofs.Common.{◌≡◌, ◌∙◌, ℕ, zero, suc, ◌<◌, ◌≤◌, ◌^◌, List, [], ◌∷◌, get_or, map, refl, sym, ap, subst, arith}
+use Rattle.std.specs.Prelude.{All, Some, None, Option, IfSome, slice_get}
 use Rattle.std.specs.List.{AllByRecursion}
 use Rattle.term_model.specs.Tree.{Tree}
 use Rattle.rewrite_model.specs.Rule.{Rule}
 use Rattle.settings.specs.declared.parts.Settings.{Settings}
 use Rattle.history_core.specs.declared.entry.Entry.{Entry}
 use Rattle.history_core.specs.declared.entry.Entry.TheVariants as entry
-use Rattle.history_core.specs.Entry.{key, is_numbered}
+use Rattle.history_core.specs.Entry.{key}
 use Rattle.history_core.specs.Chronicle.{KeysRise, entries_of}
 use Rattle.log_text.specs.Keys.{HaveKeys}
 use Rattle.node_rows.specs.declared.store.Last.{Last}
 use Rattle.node_rows.specs.declared.store.Store.{Store}
 use Rattle.node_rows.specs.declared.store.Pass.{Pass}
-use Rattle.node_rows.specs.Told.{Tells, HasEntries, told_by, last_from, last_in, view_of}
+use Rattle.node_rows.specs.Told.{Tells, told_by, last_from, last_in, view_of}
 use Rattle.rewrite_workers.specs.declared.fault.AllFault.{AllFault}
 use Rattle.rewrite_workers.specs.declared.lines.Lines.{Lines}
 use Rattle.std.specs.Prelude.{Result}
@@ -22,8 +22,8 @@ use Rattle.std.proofs.lemmas.List.Elements.{All-tail}
 use Rattle.shared_work.specs.Keys.{number_of, HasKeys}
 use Rattle.shared_work.specs.Running.{HasRun}
 use Rattle.shared_work.specs.Sharing.{EachRises}
-use Rattle.shared_work.proofs.Closing.{worker, all_got}
-use Rattle.shared_work.proofs.Logging.{entries_of_pass, lists_are}
+use Rattle.shared_work.proofs.Closing.{worker}
+use Rattle.shared_work.proofs.Logging.{entries_of_pass}
 
 own_key : (e : Entry) → number_of (told_by e) ≡ key e
 own_key (entry.Make number head args row) = refl

@@ -1,5 +1,5 @@
 -- The text of a log, which may be lost.
-use Rattle.std.specs.Prelude.{◌≡◌, ℕ, List, ◌++◌, Option, Some, IfSome}
+use Rattle.std.specs.Prelude.{◌≡◌, ℕ, List, ◌++◌, Option, IfSome}
 use Rattle.std.specs.Option.{option_map}
 use Rattle.history_core.specs.declared.entry.Entry.{Entry}
 use Rattle.log_text.specs.Lines.{caller_text, lines_of}

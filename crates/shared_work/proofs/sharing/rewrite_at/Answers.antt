@@ -1,4 +1,4 @@
-use Rattle.std.proofs.Common.{ℕ, List, sym, ap, subst, ◌∙◌}
+use Rattle.std.proofs.Common.{List, sym, ap, subst, ◌∙◌}
 use Rattle.history_core.specs.Chronicle.{chronicle, IsLegal}
 use Rattle.store_core.specs.declared.view.Sizes.{Sizes}
 use Rattle.std.specs.Prelude.{All, IfSome}
