@@ -36,10 +36,10 @@ fn a_lost_log_stays_so(rt: HostRuntime) -> Result<(), Fail> {
 #[test]
 fn a_log_has_a_header_callers_and_an_end(rt: HostRuntime) -> Result<(), Fail> {
     let alloc = rt.alloc();
-    let mut text = LogText::begin(alloc, 40, 2)?;
-    text.add_caller(alloc, 0, b"# roots 0\n".to_vec(alloc)?)?;
-    text.add_caller(alloc, 1, Vec::new(alloc))?;
-    text.end(alloc)?;
+    let text = LogText::begin(alloc, 40, 2)?
+        .with_caller(alloc, 0, b"# roots 0\n".to_vec(alloc)?)?
+        .with_caller(alloc, 1, Vec::new(alloc))?
+        .with_end(alloc)?;
     let want: &[u8] = b"# log 40 2\n# caller 0\n# roots 0\n# caller 1\n# end\n";
     let whole = text.parts().concat(alloc)?;
     assert_eq!(rt; whole.as_slice(), want);

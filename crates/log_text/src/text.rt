@@ -46,23 +46,27 @@ impl LogText {
         Ok(())
     }
 
-    /// Appends the line of a caller, and the lines of its steps.
-    pub fn add_caller(&mut self, alloc: Global, caller: u32, steps: Vec<u8>) -> Result<(), Memory>
-        ensures { OnOk result (self.new ≡ self.old ++ (caller_text caller ++ steps.items)) }
+    /// The text with the line of a caller behind it, and the lines of its steps.
+    pub fn with_caller(self, alloc: Global, caller: u32, steps: Vec<u8>) -> Result<LogText, Memory>
+        ensures { IfOk result (λ text. text ≡ self ++ (caller_text caller ++ steps.items)) }
     {
+        let mut text = self;
         let mut line = Vec::new(alloc);
         write_caller(caller, &mut line)?;
-        self.push(line)?;
-        self.push(steps)
+        text.push(line)?;
+        text.push(steps)?;
+        Ok(text)
     }
 
-    /// Appends the last line.
-    pub fn end(&mut self, alloc: Global) -> Result<(), Memory>
-        ensures { OnOk result (self.new ≡ self.old ++ end_text) }
+    /// The text with the last line behind it.
+    pub fn with_end(self, alloc: Global) -> Result<LogText, Memory>
+        ensures { IfOk result (λ text. text ≡ self ++ end_text) }
     {
+        let mut text = self;
         let mut line = Vec::new(alloc);
         write_end(&mut line)?;
-        self.push(line)
+        text.push(line)?;
+        Ok(text)
     }
 
     /// Its parts, in order.

@@ -4,7 +4,7 @@ ghost use Rattle.reading.specs.declared.stop.Stop.TheVariants.{Memory};
 
 use std::alloc::AllocError;
 
-/// Why a token isn't taken: none is expected there that is this one, or there is no memory.
+/// Why a token isn't taken: it is none of those that may stand there, or there is no memory.
 #[derive(Clone, Copy, Debug, PartialEq, Eq)]
 pub enum Stop {
     Unexpected,

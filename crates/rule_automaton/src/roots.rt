@@ -60,8 +60,9 @@ pub(crate) fn roots_of(
     Ok(roots)
 }
 
-/// Reads the root of a tree that has the head of a rule, and says from which state on the rules
-/// from this one on are searched.
+/// The state from which a search by a rule and those after it goes on, of a tree with the rule's
+/// head: where the head's way from the root leads, if the tree has as many arguments, and else the
+/// rule's start.
 #[inline(always)]
 pub(crate) fn begin<T: Terms>(
     automaton: &Automaton,

@@ -6,6 +6,5 @@ mod keys;
 mod logs;
 mod sharing;
 
-pub use log_text::LogText;
 pub use rewrite_workers::{AllFault, Lines, Work};
 pub use sharing::{Rewritten, rewrite_shared};

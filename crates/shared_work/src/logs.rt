@@ -23,18 +23,14 @@ fn with_caller(
     ensures { (entries : List Entry) → IfSome lines (λ steps. steps.items ≡ lines_of entries)
         → AddsCaller log result caller entries }
 {
-    let mut text = log?;
-    text.add_caller(alloc, caller, lines?).ok()?;
-    Some(text)
+    log?.with_caller(alloc, caller, lines?).ok()
 }
 
 /// A log with its last line; None where it was lost, or memory lacks.
 pub(crate) fn with_end(alloc: Global, log: Option<LogText>) -> Option<LogText>
     ensures { AddsText log result end_text }
 {
-    let mut text = log?;
-    text.end(alloc).ok()?;
-    Some(text)
+    log?.with_end(alloc).ok()
 }
 
 /// What desks give that are out: their passes, in their order, in memory that has room for them; and the log with their entries

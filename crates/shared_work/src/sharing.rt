@@ -101,7 +101,8 @@ fn rewrite_on<R: Threads + Wait + Sync, G: Gate>(
     })
 }
 
-// The same by desks that write a log.
+// The same by desks that write a log. What the log's parts take at the end is taken then: where
+// there is no memory for it, there is no log.
 fn rewrite_logged<R: Threads + Wait + Sync, G: Gate>(
     rt: &R,
     alloc: Global,

@@ -22,20 +22,14 @@ pub(crate) const MAGIC: &[u8; 8] = b"RECTERM1";
 pub(crate) fn cut(total: usize) -> ReadFail
     ensures { result ≡ Refused 3 total }
 {
-    ReadFail::Refused {
-        kind: kinds::UNENDED,
-        offset: total as u64,
-    }
+    refused(kinds::UNENDED, total)
 }
 
 /// The refusal of a field that breaks its rule, of which these are the bytes from it on.
 pub(crate) fn bad_at(total: usize, bytes: &[u8]) -> ReadFail
     ensures { result ≡ Refused 18 (total - length bytes.now) }
 {
-    ReadFail::Refused {
-        kind: BAD_FILE,
-        offset: total.saturating_sub(bytes.len()) as u64,
-    }
+    refused(BAD_FILE, total.saturating_sub(bytes.len()))
 }
 
 /// A number of one byte, and the bytes after it.
