@@ -12,5 +12,5 @@ mod verdict;
 pub mod words;
 
 pub use faults::Memory;
-pub use reading::ReadFail;
+pub use read_faults::ReadFail;
 pub use verdict::{LogVerdict, check_log};

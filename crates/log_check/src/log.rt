@@ -5,13 +5,13 @@ ghost use Rattle.log_check.specs.Log.{at_start, is_before, is_inside, is_after, 
 ghost use Rattle.log_check.specs.Form.{is_marked};
 ghost use Rattle.log_check.specs.declared.form.LogLine.TheVariants.{Header, Caller, Step, End};
 ghost use Rattle.log_check.specs.Verdict.{IsRefused};
-ghost use Rattle.reading.specs.declared.fail.ReadFail.TheVariants.{Refused};
+ghost use Rattle.read_faults.specs.declared.fail.ReadFail.TheVariants.{Refused};
 
 use crate::form::{LogLine, line_of};
 use crate::lines::next_line;
 use faults::{Memory, kinds};
 use history_core::Entry;
-use reading::ReadFail;
+use read_faults::ReadFail;
 use std::alloc::Global;
 use std::marker::Model;
 

@@ -9,7 +9,7 @@ use crate::log::{Log, read_log};
 use crate::merging::{merge, part};
 use faults::Memory;
 use history_core::{legal_entries, merge_laws};
-use reading::ReadFail;
+use read_faults::ReadFail;
 use std::alloc::Global;
 
 /// What is found of a log.

@@ -1,7 +1,7 @@
 -- How a syntax is refused.
 use Rattle.std.specs.Prelude.{◌≡◌, Option, Some}
-use Rattle.reading.specs.declared.fail.ReadFail.{ReadFail}
-use Rattle.reading.specs.declared.fail.ReadFail.TheVariants.{Refused, Memory}
+use Rattle.read_faults.specs.declared.fail.ReadFail.{ReadFail}
+use Rattle.read_faults.specs.declared.fail.ReadFail.TheVariants.{Refused, Memory}
 use Rattle.faults.specs.declared.refusal.Refusal.{Refusal}
 
 -- the refusal is this fault

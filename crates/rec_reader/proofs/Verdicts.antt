@@ -5,8 +5,8 @@ use Rattle.rec_reader.specs.declared.token.Token.{Token}
 use Rattle.rec_reader.specs.declared.syntax_tree.Specification.{Specification}
 use Rattle.rec_reader.specs.declared.machine.Machine.{Machine}
 use Rattle.rec_reader.specs.Scanned.{Scanned}
-use Rattle.reading.specs.declared.fail.ReadFail.{ReadFail}
-use Rattle.reading.specs.declared.fail.ReadFail.TheVariants.{Refused, Memory}
+use Rattle.read_faults.specs.declared.fail.ReadFail.{ReadFail}
+use Rattle.read_faults.specs.declared.fail.ReadFail.TheVariants.{Refused, Memory}
 use Rattle.rec_reader.specs.Grammar.{IsInput, BeginsSentence}
 use Rattle.rec_reader.specs.Refusal.{IsFirstUnexpected, IsUnended, IsRefusal}
 use Rattle.rec_reader.specs.Steps.{run, start, step, accepted, StopsAt, IsStopped}

@@ -16,8 +16,8 @@ use Rattle.rec_reader.specs.declared.machine.Part.TheVariants.{Expected, Headed,
 use Rattle.rec_reader.specs.declared.machine.Place.{Place}
 use Rattle.rec_reader.specs.declared.machine.Place.TheVariants.{Start, Between, Heading, AfterHeading, BeforeNames, AfterName, AfterComma, DeclarationSort, VariableSort, BeforeRule, BeforeTerms, Within}
 use Rattle.rec_reader.specs.declared.machine.Machine.{Machine}
-use Rattle.reading.specs.declared.fail.ReadFail.{ReadFail}
-use Rattle.reading.specs.declared.fail.ReadFail.TheVariants.{Refused, Memory}
+use Rattle.read_faults.specs.declared.fail.ReadFail.{ReadFail}
+use Rattle.read_faults.specs.declared.fail.ReadFail.TheVariants.{Refused, Memory}
 use Rattle.rec_reader.specs.declared.syntax_tree.Specification.{Specification}
 use Rattle.rec_reader.specs.Refusal.{place_of}
 use Rattle.rec_reader.specs.Syntax.{blank_rule, blank_specification}

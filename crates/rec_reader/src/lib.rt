@@ -11,7 +11,7 @@ mod token;
 pub use faults::Memory;
 pub use laws::token_laws;
 pub use parser::{read, syntax};
-pub use reading::ReadFail;
+pub use read_faults::ReadFail;
 pub use scanner::tokens;
 pub use sequences::Sequence;
 pub use syntax_tree::{Condition, Declaration, Node, Rule, Specification, Syntax, Variables};

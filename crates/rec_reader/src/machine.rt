@@ -1,7 +1,7 @@
 //! Reads tokens one at a time: where in a sentence it stands, and what was read so far.
 ghost use Rattle.std.specs.Prelude.{◌≡◌};
 ghost use Rattle.rec_reader.specs.Steps as steps;
-ghost use Rattle.reading.specs.Taking.{Takes};
+ghost use Rattle.read_faults.specs.Taking.{Takes};
 ghost use Rattle.rec_reader.specs.Few.{AreCountsFew};
 
 use crate::syntax_tree::{Node, Rule, Specification};
@@ -12,7 +12,7 @@ mod rules;
 mod sections;
 mod terms;
 
-use reading::Stop;
+use read_faults::NotTaken;
 use sequences::{Sequence, Stack};
 use std::alloc::Global;
 
@@ -105,7 +105,7 @@ impl Machine {
         }
     }
 
-    pub(crate) fn step(&mut self, alloc: Global, token: Token) -> Result<(), Stop>
+    pub(crate) fn step(&mut self, alloc: Global, token: Token) -> Result<(), NotTaken>
         requires { AreCountsFew self.old.heads }
         ensures { Takes (steps.step self.old token) result self.new }
     {
@@ -147,7 +147,7 @@ impl Machine {
         }
     }
 
-    pub(super) fn go(&mut self, place: Place) -> Result<(), Stop>
+    pub(super) fn go(&mut self, place: Place) -> Result<(), NotTaken>
         ensures { Takes (steps.at self.old place) result self.new }
     {
         self.place = place;

@@ -12,7 +12,7 @@ use crate::scanner::{MOST_BYTES, Piece, piece_at, tokens};
 use crate::syntax_tree::Syntax;
 use crate::token::{Token, Tokens};
 use faults::kinds;
-use reading::{ReadFail, Stop, refused};
+use read_faults::{ReadFail, NotTaken, refused};
 use std::alloc::Global;
 
 fn run(alloc: Global, tokens: &[Token]) -> Result<Machine, ReadFail>
@@ -24,10 +24,10 @@ fn run(alloc: Global, tokens: &[Token]) -> Result<Machine, ReadFail>
     for token in tokens {
         match machine.step(alloc, *token) {
             Ok(()) => {}
-            Err(Stop::Unexpected) => {
+            Err(NotTaken::Unexpected) => {
                 return Err(refused(kinds::UNEXPECTED, token.place()));
             }
-            Err(Stop::Memory) => return Err(ReadFail::Memory),
+            Err(NotTaken::Memory) => return Err(ReadFail::Memory),
         }
     }
     Ok(machine)
@@ -66,11 +66,11 @@ fn take(alloc: Global, bytes: &[u8], machine: &mut Machine, token: Token) -> Res
     let place = token.place();
     match machine.step(alloc, token) {
         Ok(()) => Ok(()),
-        Err(Stop::Unexpected) => {
+        Err(NotTaken::Unexpected) => {
             let _tokens = tokens(alloc, bytes)?;
             Err(refused(kinds::UNEXPECTED, place))
         }
-        Err(Stop::Memory) => Err(ReadFail::Memory),
+        Err(NotTaken::Memory) => Err(ReadFail::Memory),
     }
 }
 

@@ -5,7 +5,7 @@ ghost use Rattle.rec_reader.specs.Tokens.{is_space, is_plain, is_name_byte, run_
 
 use crate::token::{Name, Sign, Token, Tokens};
 use faults::kinds;
-use reading::{ReadFail, refused};
+use read_faults::{ReadFail, refused};
 use std::alloc::Global;
 
 /// The most bytes that an input may have: 32 bits hold each count of what it spells.

@@ -1,8 +1,8 @@
 -- An input that is read at once, and checked.
 use Rattle.std.proofs.Common.{◌≡◌, ℕ, List, inl, inr, Some, None, Result, Ok, Err, refl, ap, ◌∙◌}
 use Rattle.std.specs.Prelude.{IfOk, IfErr, OnOk}
-use Rattle.reading.specs.declared.fail.ReadFail.{ReadFail}
-use Rattle.reading.specs.declared.fail.ReadFail.TheVariants.{Refused, Memory}
+use Rattle.read_faults.specs.declared.fail.ReadFail.{ReadFail}
+use Rattle.read_faults.specs.declared.fail.ReadFail.TheVariants.{Refused, Memory}
 use Rattle.rec_reader.specs.Parsed.{Parsed}
 use Rattle.rec_reader.specs.Reached as reached
 use Rattle.rec_reader.specs.Reached.{IsReadRefusal}

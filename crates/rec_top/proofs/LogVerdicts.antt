@@ -1,8 +1,8 @@
 -- Checking a log: what is answered, or why it stops, is what the definitions say of the input.
 use Rattle.std.proofs.Common.{◌≡◌, ◌⊎◌, inl, inr, ℕ, List, true, false, Result, Ok, Err, refl, sym, ap, ap₂, subst, ◌∙◌}
 use Rattle.faults.specs.declared.refusal.Refusal.{Refusal}
-use Rattle.reading.specs.declared.fail.ReadFail.{ReadFail}
-use Rattle.reading.specs.declared.fail.ReadFail.TheVariants as fail
+use Rattle.read_faults.specs.declared.fail.ReadFail.{ReadFail}
+use Rattle.read_faults.specs.declared.fail.ReadFail.TheVariants as fail
 use Rattle.log_check.specs.Log.{Log, log_in}
 use Rattle.log_check.specs.Verdict.{IsFound, IsRefused}
 use Rattle.log_check.specs.declared.verdict.LogVerdict.{LogVerdict}

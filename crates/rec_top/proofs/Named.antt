@@ -25,7 +25,7 @@ use Rattle.rec_check.specs.Term.{Scope, item_in, tree_in, same_symbol}
 use Rattle.rec_check.specs.Rule.{◌>>=◌, rule_in}
 use Rattle.rec_check.specs.Spelled.{Specified, nothing, variables_of, rules_in, rules_of, terms_in, with_few_rules, spelled_by}
 use Rattle.std.specs.Prelude.{Result, Ok, Err, IfOk}
-use Rattle.reading.specs.declared.fail.ReadFail.{ReadFail}
+use Rattle.read_faults.specs.declared.fail.ReadFail.{ReadFail}
 use Rattle.rec_check.specs.declared.spec.Spec.{Spec}
 use Rattle.rec_check.specs.Spec.{specified}
 use Rattle.rec_check.specs.Run.{last_of, spelled_with, spelled_in}

@@ -13,8 +13,8 @@ use Rattle.run_checks.specs.Specification as traced
 use Rattle.run_checks.proofs.Soundness.{is_sound}
 use Rattle.run_checks.specs.Verdict.{IsRefused, HasParts, IsChecked, IsBadSpecification, term_lines, trace_lines, verdict}
 use Rattle.rec_reader.specs.Parsed.{Parsed}
-use Rattle.reading.specs.declared.fail.ReadFail.{ReadFail}
-use Rattle.reading.specs.declared.fail.ReadFail.TheVariants as fail
+use Rattle.read_faults.specs.declared.fail.ReadFail.{ReadFail}
+use Rattle.read_faults.specs.declared.fail.ReadFail.TheVariants as fail
 use Rattle.rec_top.specs.Rewritten.{IsRead, Spells, IsSpecificationFault}
 use Rattle.rec_top.specs.Written.{Output}
 use Rattle.rec_top.specs.Checked.{IsTraceFault, trace_output, IsTraceChecked, IsDerived, IsUnderived}

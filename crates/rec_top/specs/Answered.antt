@@ -14,8 +14,8 @@ use Rattle.rec_top.specs.Run.{GaveFault, GaveTooMuch, GaveTooMany}
 use Rattle.rec_top.specs.Checked.{IsLogFault, IsTraceFault}
 use Rattle.rec_top.specs.Sequence.{IsSplit}
 use Rattle.rec_top.specs.declared.answers.Answer.{Answer}
-use Rattle.reading.specs.declared.fail.ReadFail.{ReadFail}
-use Rattle.reading.specs.declared.fail.ReadFail.TheVariants as fail
+use Rattle.read_faults.specs.declared.fail.ReadFail.{ReadFail}
+use Rattle.read_faults.specs.declared.fail.ReadFail.TheVariants as fail
 use Rattle.faults.specs.declared.refusal.Refusal.{Refusal}
 use Rattle.rec_top.specs.declared.specification.Conditions.{Conditions}
 use Rattle.rec_top.specs.declared.stops.Stop.{Stop}

@@ -1,7 +1,7 @@
 -- A syntax whose rules may have no conditions, or may have some.
 use Rattle.std.specs.Prelude.{◌≡◌, ◌⊎◌, None}
 use Rattle.rec_reader.specs.Parsed.{Parsed}
-use Rattle.reading.specs.declared.fail.ReadFail.{ReadFail}
+use Rattle.read_faults.specs.declared.fail.ReadFail.{ReadFail}
 use Rattle.rec_offences.specs.Faults.{fault_of}
 use Rattle.rec_check.specs.Checked.{IsFault}
 use Rattle.rec_check.specs.Conditional.{first_if, IsConditional}

@@ -3,7 +3,7 @@
 use Rattle.std.specs.Prelude.{◌≡◌, ◌⊎◌, ℕ, ◌+◌, ◌*◌, ◌^◌, ◌≤◌, ◌<◌, ◌++◌, if◌then◌else◌, List, length, false, Some, None, Ok, Err, All}
 use Rattle.rec_reader.specs.declared.token.Token.{Token}
 use Rattle.rec_reader.specs.Parsed.{Parsed}
-use Rattle.reading.specs.declared.fail.ReadFail.TheVariants.{Refused}
+use Rattle.read_faults.specs.declared.fail.ReadFail.TheVariants.{Refused}
 use Rattle.rec_reader.specs.Tokens.{tokens_of}
 use Rattle.rec_reader.specs.Grammar.{IsInput}
 use Rattle.rec_reader.specs.Refusal.{IsRefusal}

@@ -1,7 +1,7 @@
 -- How a run stops where an input is refused by a reader of bytes or of lines, a command on terms has no output, or workers
 -- stop.
-use Rattle.reading.specs.declared.fail.ReadFail.{ReadFail}
-use Rattle.reading.specs.declared.fail.ReadFail.TheVariants as fail
+use Rattle.read_faults.specs.declared.fail.ReadFail.{ReadFail}
+use Rattle.read_faults.specs.declared.fail.ReadFail.TheVariants as fail
 use Rattle.lock_core.specs.declared.reading.LineFault.{LineFault}
 use Rattle.term_commands.specs.declared.fault.TermsFault.{TermsFault}
 use Rattle.term_commands.specs.declared.fault.TermsFault.TheVariants as terms

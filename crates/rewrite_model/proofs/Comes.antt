@@ -11,8 +11,8 @@ use Rattle.rewrite_model.specs.Boxed.{tree_of, trees_in}
 use Rattle.rewrite_model.specs.declared.boxed.Term.{Term}
 use Rattle.rewrite_model.specs.declared.boxed.Arguments.{Arguments}
 use Rattle.rewrite_model.specs.Program.{Agrees, ComesTo, same_point}
-use Rattle.rewrite_model.specs.declared.ends.Stop.{Stop}
-use Rattle.rewrite_model.specs.declared.ends.Stop.TheVariants.{OutOfFuel, TooDeep, Memory}
+use Rattle.rewrite_model.specs.declared.ends.NoValue.{NoValue}
+use Rattle.rewrite_model.specs.declared.ends.NoValue.TheVariants.{OutOfFuel, TooDeep, Memory}
 use Rattle.rewrite_model.proofs.Fuel.{begins_with_itself}
 
 map_append : {N M : Type 0} (f : N → M) (xs ys : List N) → map f (xs ++ ys) ≡ map f xs ++ map f ys
@@ -38,18 +38,18 @@ module _ {N M : Type 0} (tree : N → M) where
   )
 
   -- the first end that is no value is the end of all
-  pub then_err : {T U A B : Type 0} (view : T → A) (view' : U → B) (x : Run N A) (g : A → ℕ → Run N B) (old new : List M) (fuel fuel' : ℕ) (e : Stop) → ComesTo {T = T} tree view old new fuel (Err e) x → ComesTo {T = U} tree view' old new fuel' (Err e) (x >>= g)
+  pub then_err : {T U A B : Type 0} (view : T → A) (view' : U → B) (x : Run N A) (g : A → ℕ → Run N B) (old new : List M) (fuel fuel' : ℕ) (e : NoValue) → ComesTo {T = T} tree view old new fuel (Err e) x → ComesTo {T = U} tree view' old new fuel' (Err e) (x >>= g)
   then_err view view' x g old new fuel fuel' OutOfFuel s = (no_value x.notes x.end g old new s.built).0 s.ends
   then_err view view' x g old new fuel fuel' TooDeep s = (no_value x.notes x.end g old new s.built).1 s.ends
   then_err view view' x g old new fuel fuel' Memory s = tt
 
-  pub then_tail : {T A B : Type 0} (view : T → B) (x : Run N A) (g : A → ℕ → Run N B) (a : A) (k : ℕ) (old mid new : List M) (fuel : ℕ) (r : Result (T × ℕ) Stop) → Agrees tree old mid (Done a k) x → k ≤ fuel → ComesTo tree view mid new k r (g a k) → ComesTo tree view old new fuel r (x >>= g)
+  pub then_tail : {T A B : Type 0} (view : T → B) (x : Run N A) (g : A → ℕ → Run N B) (a : A) (k : ℕ) (old mid new : List M) (fuel : ℕ) (r : Result (T × ℕ) NoValue) → Agrees tree old mid (Done a k) x → k ≤ fuel → ComesTo tree view mid new k r (g a k) → ComesTo tree view old new fuel r (x >>= g)
   then_tail view x g a k old mid new fuel (Ok r) s l t = (agrees_then x g a k old mid new (Done (view r.0) r.1) s t.0, omega (arith, t.1))
   then_tail view x g a k old mid new fuel (Err OutOfFuel) s l t = agrees_then x g a k old mid new NoFuel s t
   then_tail view x g a k old mid new fuel (Err TooDeep) s l t = agrees_then x g a k old mid new NoRoom s t
   then_tail view x g a k old mid new fuel (Err Memory) s l t = tt
 
-  pub then_on : {T A B : Type 0} (view : T → B) (x : Run N A) (g : A → ℕ → Run N B) (a : A) (k m : ℕ) (old mid new : List M) (fuel : ℕ) (r : Result (T × ℕ) Stop) → Agrees tree old mid (Done a k) x → m ≤ fuel → ComesTo tree view mid new m r (g a k) → ComesTo tree view old new fuel r (x >>= g)
+  pub then_on : {T A B : Type 0} (view : T → B) (x : Run N A) (g : A → ℕ → Run N B) (a : A) (k m : ℕ) (old mid new : List M) (fuel : ℕ) (r : Result (T × ℕ) NoValue) → Agrees tree old mid (Done a k) x → m ≤ fuel → ComesTo tree view mid new m r (g a k) → ComesTo tree view old new fuel r (x >>= g)
   then_on view x g a k m old mid new fuel (Ok r) s l t = (agrees_then x g a k old mid new (Done (view r.0) r.1) s t.0, omega (arith, t.1))
   then_on view x g a k m old mid new fuel (Err OutOfFuel) s l t = agrees_then x g a k old mid new NoFuel s t
   then_on view x g a k m old mid new fuel (Err TooDeep) s l t = agrees_then x g a k old mid new NoRoom s t
@@ -62,14 +62,14 @@ module _ {N M : Type 0} (tree : N → M) where
   comes_end view old fuel = (record { built = sym (append-nil old); ends = refl }, record { built = sym (append-nil old); ends = refl })
 
   -- the same run, with more fuel given
-  pub more_given : {T A : Type 0} (view : T → A) (old new : List M) (m n : ℕ) (r : Result (T × ℕ) Stop) (x : Run N A) → m ≤ n → ComesTo tree view old new m r x → ComesTo tree view old new n r x
+  pub more_given : {T A : Type 0} (view : T → A) (old new : List M) (m n : ℕ) (r : Result (T × ℕ) NoValue) (x : Run N A) → m ≤ n → ComesTo tree view old new m r x → ComesTo tree view old new n r x
   more_given view old new m n (Ok r) x l s = (s.0, omega (arith, s.1))
   more_given view old new m n (Err OutOfFuel) x l s = s
   more_given view old new m n (Err TooDeep) x l s = s
   more_given view old new m n (Err Memory) x l s = s
 
   -- a run that begins with a note
-  pub noted : {T A : Type 0} (view : T → A) (n : N) (old new : List M) (fuel : ℕ) (r : Result (T × ℕ) Stop) (x : Run N A) → ComesTo tree view (old ++ tree n ∷ []) new fuel r x → ComesTo tree view old new fuel r (noting n x)
+  pub noted : {T A : Type 0} (view : T → A) (n : N) (old new : List M) (fuel : ℕ) (r : Result (T × ℕ) NoValue) (x : Run N A) → ComesTo tree view (old ++ tree n ∷ []) new fuel r x → ComesTo tree view old new fuel r (noting n x)
   noted view n old new fuel (Ok r) x s = (record { built = s.0.built ∙ append_assoc old (tree n ∷ []) (map tree x.notes); ends = s.0.ends }, s.1)
   noted view n old new fuel (Err OutOfFuel) x s = record { built = s.built ∙ append_assoc old (tree n ∷ []) (map tree x.notes); ends = s.ends }
   noted view n old new fuel (Err TooDeep) x s = record { built = s.built ∙ append_assoc old (tree n ∷ []) (map tree x.notes); ends = s.ends }
@@ -93,7 +93,7 @@ module _ (red : Reducer) (bound : List Tree) where
     here : Agrees same_point old mid (Done t left) (evaluate red bound p kept fuel (room - 1))
     here = subst (λ r. Agrees same_point old mid (Done t left) (evaluate red bound p kept fuel r)) at first
 
-    pub rest_err : (e : Stop) → ComesTo {T = Arguments} same_point trees_in mid new left (Err e) (evaluate_all red bound ps (t ∷ kept) left below) → ComesTo {T = Arguments} same_point trees_in old new fuel (Err e) (evaluate_all red bound all kept fuel room)
+    pub rest_err : (e : NoValue) → ComesTo {T = Arguments} same_point trees_in mid new left (Err e) (evaluate_all red bound ps (t ∷ kept) left below) → ComesTo {T = Arguments} same_point trees_in old new fuel (Err e) (evaluate_all red bound all kept fuel room)
     rest_err e c =
         let c' : ComesTo {T = Arguments} same_point trees_in mid new left (Err e) (evaluate_all red bound ps (t ∷ kept) left (room - 1)) = subst (λ r. ComesTo {T = Arguments} same_point trees_in mid new left (Err e) (evaluate_all red bound ps (t ∷ kept) left r)) at c in
         subst (λ qs. ComesTo {T = Arguments} same_point trees_in old new fuel (Err e) (evaluate_all red bound qs kept fuel room)) (sym is)
@@ -110,13 +110,13 @@ module _ (red : Reducer) (bound : List Tree) where
     first_value : Agrees same_point old mid (Done t left) (evaluate red bound c.first kept fuel (room - 2))
     first_value = subst (λ r. Agrees same_point old mid (Done t left) (evaluate red bound c.first kept fuel r)) two_is (subst (λ u. Agrees same_point old mid (Done t left) (evaluate red bound u kept fuel two)) p_is first)
 
-    pub second_err : (new : List Point) (e : Stop) → ComesTo {T = Term} same_point tree_of mid new left (Err e) (evaluate red bound q (t ∷ kept) left three) → ComesTo {T = Bool} same_point (λ b. b) old new fuel (Err e) (hold red bound all kept fuel room)
+    pub second_err : (new : List Point) (e : NoValue) → ComesTo {T = Term} same_point tree_of mid new left (Err e) (evaluate red bound q (t ∷ kept) left three) → ComesTo {T = Bool} same_point (λ b. b) old new fuel (Err e) (hold red bound all kept fuel room)
     second_err new e s =
         let s' : ComesTo {T = Term} same_point tree_of mid new left (Err e) (evaluate red bound c.second (t ∷ kept) left (room - 3)) = subst (λ r. ComesTo {T = Term} same_point tree_of mid new left (Err e) (evaluate red bound c.second (t ∷ kept) left r)) three_is (subst (λ u. ComesTo {T = Term} same_point tree_of mid new left (Err e) (evaluate red bound u (t ∷ kept) left three)) q_is s) in
         subst (λ ds. ComesTo {T = Bool} same_point (λ b. b) old new fuel (Err e) (hold red bound ds kept fuel room)) (sym is)
         (then_tail same_point (λ (b : Bool). b) (evaluate red bound c.first kept fuel (room - 2)) _ t left old mid new fuel (Err e) first_value l (then_err same_point tree_of (λ (b : Bool). b) (evaluate red bound c.second (t ∷ kept) left (room - 3)) _ mid new left left e s'))
 
-    pub both_values : (u : Tree) (last : ℕ) (new end : List Point) (r : Result (Bool × ℕ) Stop) (b : Bool) → Agrees same_point mid new (Done u last) (evaluate red bound q (t ∷ kept) left three) → last ≤ left → b ≡ holds c t u → ComesTo same_point (λ b. b) new end last r (if b then hold red bound cs kept last room else done false last) → ComesTo same_point (λ b. b) old end fuel r (hold red bound all kept fuel room)
+    pub both_values : (u : Tree) (last : ℕ) (new end : List Point) (r : Result (Bool × ℕ) NoValue) (b : Bool) → Agrees same_point mid new (Done u last) (evaluate red bound q (t ∷ kept) left three) → last ≤ left → b ≡ holds c t u → ComesTo same_point (λ b. b) new end last r (if b then hold red bound cs kept last room else done false last) → ComesTo same_point (λ b. b) old end fuel r (hold red bound all kept fuel room)
     both_values u last new end r b s l' b_is k =
         let s' : Agrees same_point mid new (Done u last) (evaluate red bound c.second (t ∷ kept) left (room - 3)) = subst (λ r'. Agrees same_point mid new (Done u last) (evaluate red bound c.second (t ∷ kept) left r')) three_is (subst (λ v. Agrees same_point mid new (Done u last) (evaluate red bound v (t ∷ kept) left three)) q_is s) in
         let k' : ComesTo same_point (λ (b : Bool). b) new end last r (if holds c t u then hold red bound cs kept last room else done false last) = subst (λ (d : Bool). ComesTo same_point (λ (b : Bool). b) new end last r (if d then hold red bound cs kept last room else done false last)) b_is k in
@@ -125,7 +125,7 @@ module _ (red : Reducer) (bound : List Tree) where
         (then_tail same_point (λ (b : Bool). b) (evaluate red bound c.second (t ∷ kept) left (room - 3)) _ u last mid new end left r s' l' k'))
 
 -- a reduction begins with a point
-pub reduced : (rules : List Rule) (given kept : List Tree) (t : Tree) (fuel room : ℕ) (old mid new : List Point) (r : Result (Term × ℕ) Stop) → mid ≡ old ++ record { tree = t; hand = arguments t ++ given ++ kept; room = room } ∷ [] → ComesTo same_point tree_of mid new fuel r (reduce_by (reduction rules) rules kept t fuel room) → ComesTo same_point tree_of old new fuel r (reduction rules given kept t fuel room)
+pub reduced : (rules : List Rule) (given kept : List Tree) (t : Tree) (fuel room : ℕ) (old mid new : List Point) (r : Result (Term × ℕ) NoValue) → mid ≡ old ++ record { tree = t; hand = arguments t ++ given ++ kept; room = room } ∷ [] → ComesTo same_point tree_of mid new fuel r (reduce_by (reduction rules) rules kept t fuel room) → ComesTo same_point tree_of old new fuel r (reduction rules given kept t fuel room)
 reduced rules given kept t fuel room old mid new r m c =
     let c' : ComesTo same_point tree_of (old ++ record { tree = t; hand = arguments t ++ given ++ kept; room = room } ∷ []) new fuel r (reduce_by (reduction rules) rules kept t fuel room) = subst (λ ts. ComesTo same_point tree_of ts new fuel r (reduce_by (reduction rules) rules kept t fuel room)) m c in
     subst (λ x. ComesTo same_point tree_of old new fuel r x) (sym (begins_with_itself rules given kept t fuel room))
@@ -159,7 +159,7 @@ module _ (red : Reducer) (r : Rule) (rs : List Rule) (kept : List Tree) (t : Tre
 
 -- the same, of the rules from one of them on
 module _ (red : Reducer) (all : List Rule) (r : Rule) (rs : List Rule) (is : all ≡ r ∷ rs) (kept : List Tree) (t : Tree) (fuel room : ℕ) (old : List Point) where
-  pub rest_used : (new : List Point) (s : Result (Term × ℕ) Stop) → match_of r.left t ≡ None → ComesTo same_point tree_of old new fuel s (reduce_by red rs kept t fuel room) → ComesTo same_point tree_of old new fuel s (reduce_by red all kept t fuel room)
+  pub rest_used : (new : List Point) (s : Result (Term × ℕ) NoValue) → match_of r.left t ≡ None → ComesTo same_point tree_of old new fuel s (reduce_by red rs kept t fuel room) → ComesTo same_point tree_of old new fuel s (reduce_by red all kept t fuel room)
   rest_used new s m c =
       subst (λ qs. ComesTo same_point tree_of old new fuel s (reduce_by red qs kept t fuel room)) (sym is)
       (subst (λ x. ComesTo same_point tree_of old new fuel s x) (sym (passed_over red r rs kept t fuel room m)) c)
@@ -171,14 +171,14 @@ module _ (red : Reducer) (all : List Rule) (r : Rule) (rs : List Rule) (is : all
         (subst (λ (x : Evaluated Tree). Agrees same_point old old NoRoom x) (sym (too_deep red r rs kept t fuel room bound f m e l)) (record { built = sym (append-nil old); ends = refl }))
 
     module _ (l : length bound < room) (below : ℕ) (below_is : below ≡ room - length bound) where
-      after_hold : (new : List Point) (s : Result (Term × ℕ) Stop) → ComesTo same_point tree_of old new fuel s (hold red bound r.conditions (t ∷ bound ++ kept) f below >>= (λ all left. if all then replace red bound r.right kept left room else reduce_by red rs kept t left room)) → ComesTo same_point tree_of old new fuel s (reduce_by red all kept t fuel room)
+      after_hold : (new : List Point) (s : Result (Term × ℕ) NoValue) → ComesTo same_point tree_of old new fuel s (hold red bound r.conditions (t ∷ bound ++ kept) f below >>= (λ all left. if all then replace red bound r.right kept left room else reduce_by red rs kept t left room)) → ComesTo same_point tree_of old new fuel s (reduce_by red all kept t fuel room)
       after_hold new s c =
           subst (λ qs. ComesTo same_point tree_of old new fuel s (reduce_by red qs kept t fuel room)) (sym is)
           (subst (λ x. ComesTo same_point tree_of old new fuel s x) (sym (used red r rs kept t fuel room bound f m e l))
           (subst (λ b. ComesTo same_point tree_of old new fuel s (hold red bound r.conditions (t ∷ bound ++ kept) f b >>= (λ all left. if all then replace red bound r.right kept left room else reduce_by red rs kept t left room))) below_is c))
 
-      pub hold_err : (new : List Point) (d : Stop) → ComesTo {T = Bool} same_point (λ b. b) old new f (Err d) (hold red bound r.conditions (t ∷ bound ++ kept) f below) → ComesTo {T = Term} same_point tree_of old new fuel (Err d) (reduce_by red all kept t fuel room)
+      pub hold_err : (new : List Point) (d : NoValue) → ComesTo {T = Bool} same_point (λ b. b) old new f (Err d) (hold red bound r.conditions (t ∷ bound ++ kept) f below) → ComesTo {T = Term} same_point tree_of old new fuel (Err d) (reduce_by red all kept t fuel room)
       hold_err new d c = after_hold new (Err d) (then_err same_point (λ (b : Bool). b) tree_of (hold red bound r.conditions (t ∷ bound ++ kept) f below) _ old new f fuel d c)
 
-      pub held : (b : Bool) (left : ℕ) (mid new : List Point) (s : Result (Term × ℕ) Stop) → Agrees same_point old mid (Done b left) (hold red bound r.conditions (t ∷ bound ++ kept) f below) → left ≤ f → ComesTo same_point tree_of mid new left s (if b then replace red bound r.right kept left room else reduce_by red rs kept t left room) → ComesTo same_point tree_of old new fuel s (reduce_by red all kept t fuel room)
+      pub held : (b : Bool) (left : ℕ) (mid new : List Point) (s : Result (Term × ℕ) NoValue) → Agrees same_point old mid (Done b left) (hold red bound r.conditions (t ∷ bound ++ kept) f below) → left ≤ f → ComesTo same_point tree_of mid new left s (if b then replace red bound r.right kept left room else reduce_by red rs kept t left room) → ComesTo same_point tree_of old new fuel s (reduce_by red all kept t fuel room)
       held b left mid new s h l' c = after_hold new s (then_tail same_point tree_of (hold red bound r.conditions (t ∷ bound ++ kept) f below) _ b left old mid new fuel s h (omega (arith, l', e)) c)

@@ -12,7 +12,7 @@ pub mod Binding
 pub mod Comes
 pub mod Measures
 pub mod Counts
-pub mod Steppings
+pub mod OutwardSteps
 pub mod Derivations
 pub mod Fewest
 pub mod InnermostDerives

@@ -22,5 +22,5 @@ pub mod TraceLaws
 pub mod Boxed
 pub mod Noted
 pub mod Program
-pub mod Stepping
+pub mod OutwardSteps
 pub mod Code

@@ -13,8 +13,8 @@ use Rattle.rewrite_model.specs.declared.boxed.Term.{Term}
 use Rattle.rewrite_model.specs.declared.boxed.Arguments.{Arguments}
 use Rattle.rewrite_model.specs.declared.ends.End.{End}
 use Rattle.rewrite_model.specs.declared.ends.End.TheVariants as the_end
-use Rattle.rewrite_model.specs.declared.ends.Stop.{Stop}
-use Rattle.rewrite_model.specs.declared.ends.Stop.TheVariants.{OutOfFuel, TooDeep, Memory}
+use Rattle.rewrite_model.specs.declared.ends.NoValue.{NoValue}
+use Rattle.rewrite_model.specs.declared.ends.NoValue.TheVariants.{OutOfFuel, TooDeep, Memory}
 
 -- an end, as the definitions have it
 abbrev pub ended : End → Ended Tree
@@ -28,7 +28,7 @@ pub record Agrees {N M A : Type 0} (view : N → M) (old new : List M) (end : En
   pub ends : end ≡ run.end
 
 -- a value leaves no more fuel than was given
-abbrev pub ComesTo : {N M T A : Type 0} → (N → M) → (T → A) → List M → List M → ℕ → Result (T × ℕ) Stop → Run N A → Type 0
+abbrev pub ComesTo : {N M T A : Type 0} → (N → M) → (T → A) → List M → List M → ℕ → Result (T × ℕ) NoValue → Run N A → Type 0
 ComesTo note view old new fuel (Ok r) run = Agrees note old new (Done (view r.0) r.1) run × (r.1 ≤ fuel)
 ComesTo note view old new fuel (Err OutOfFuel) run = Agrees note old new NoFuel run
 ComesTo note view old new fuel (Err TooDeep) run = Agrees note old new NoRoom run
@@ -46,26 +46,26 @@ Built = Vec Term Global
 
 -- The same for each part of the innermost evaluation, with these trees kept round it.
 module _ (rules : List Rule) where
-  abbrev pub Evaluates : List Term → List Term → Term → ℕ → ℕ → Points → Points → Result (Term × ℕ) Stop → Type 0
+  abbrev pub Evaluates : List Term → List Term → Term → ℕ → ℕ → Points → Points → Result (Term × ℕ) NoValue → Type 0
   Evaluates bound kept p fuel room old new result = (k : List Tree) → k ≡ trees kept →
       ComesTo same_point tree_of (points_of old.items) (points_of new.items) fuel result (evaluate (reduction rules) (trees bound) (tree_of p) k fuel room)
 
-  abbrev pub EvaluatesAll : List Term → List Term → Arguments → ℕ → ℕ → Points → Points → Result (Arguments × ℕ) Stop → Type 0
+  abbrev pub EvaluatesAll : List Term → List Term → Arguments → ℕ → ℕ → Points → Points → Result (Arguments × ℕ) NoValue → Type 0
   EvaluatesAll bound kept ps fuel room old new result = (k : List Tree) → k ≡ trees kept →
       ComesTo same_point trees_in (points_of old.items) (points_of new.items) fuel result (evaluate_all (reduction rules) (trees bound) (trees_in ps) k fuel room)
 
-  abbrev pub Holds : List Term → List Term → List Condition → ℕ → ℕ → Points → Points → Result (Bool × ℕ) Stop → Type 0
+  abbrev pub Holds : List Term → List Term → List Condition → ℕ → ℕ → Points → Points → Result (Bool × ℕ) NoValue → Type 0
   Holds bound kept cs fuel room old new result = (k : List Tree) → k ≡ trees kept →
       ComesTo same_point (λ b. b) (points_of old.items) (points_of new.items) fuel result (hold (reduction rules) (trees bound) cs k fuel room)
 
-  abbrev pub Replaces : List Term → List Term → Term → ℕ → ℕ → Points → Points → Result (Term × ℕ) Stop → Type 0
+  abbrev pub Replaces : List Term → List Term → Term → ℕ → ℕ → Points → Points → Result (Term × ℕ) NoValue → Type 0
   Replaces bound kept p fuel room old new result = (k : List Tree) → k ≡ trees kept →
       ComesTo same_point tree_of (points_of old.items) (points_of new.items) fuel result (replace (reduction rules) (trees bound) (tree_of p) k fuel room)
 
-  abbrev pub Reduces : List Term → List Term → Term → ℕ → ℕ → Points → Points → Result (Term × ℕ) Stop → Type 0
+  abbrev pub Reduces : List Term → List Term → Term → ℕ → ℕ → Points → Points → Result (Term × ℕ) NoValue → Type 0
   Reduces given kept t fuel room old new result = (g k : List Tree) → g ≡ trees given → k ≡ trees kept →
       ComesTo same_point tree_of (points_of old.items) (points_of new.items) fuel result (reduction rules g k (tree_of t) fuel room)
 
-  abbrev pub ReducesBy : List Rule → List Term → Term → ℕ → ℕ → Points → Points → Result (Term × ℕ) Stop → Type 0
+  abbrev pub ReducesBy : List Rule → List Term → Term → ℕ → ℕ → Points → Points → Result (Term × ℕ) NoValue → Type 0
   ReducesBy rs kept t fuel room old new result = (k : List Tree) → k ≡ trees kept →
       ComesTo same_point tree_of (points_of old.items) (points_of new.items) fuel result (reduce_by (reduction rules) rs k (tree_of t) fuel room)

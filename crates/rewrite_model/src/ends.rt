@@ -23,38 +23,38 @@ pub struct Evaluated {
 
 /// Why a part of an evaluation has no value.
 #[derive(Clone, Copy, Debug, PartialEq, Eq)]
-pub(crate) enum Stop {
+pub(crate) enum NoValue {
     OutOfFuel,
     TooDeep,
     Memory,
 }
 
-impl From<Memory> for Stop {
-    ghost use Rattle.rewrite_model.specs.declared.ends.Stop.TheVariants.{Memory};
+impl From<Memory> for NoValue {
+    ghost use Rattle.rewrite_model.specs.declared.ends.NoValue.TheVariants.{Memory};
 
     ghost from_gives = { λ _ stop. stop ≡ Memory };
 
     fn from(_: Memory) -> Self {
-        Stop::Memory
+        NoValue::Memory
     }
 }
 
-impl From<AllocError> for Stop {
-    ghost use Rattle.rewrite_model.specs.declared.ends.Stop.TheVariants.{Memory};
+impl From<AllocError> for NoValue {
+    ghost use Rattle.rewrite_model.specs.declared.ends.NoValue.TheVariants.{Memory};
 
     ghost from_gives = { λ _ stop. stop ≡ Memory };
 
     fn from(_: AllocError) -> Self {
-        Stop::Memory
+        NoValue::Memory
     }
 }
 
-impl<T: Drop> From<AllocFailed<T>> for Stop {
-    ghost use Rattle.rewrite_model.specs.declared.ends.Stop.TheVariants.{Memory};
+impl<T: Drop> From<AllocFailed<T>> for NoValue {
+    ghost use Rattle.rewrite_model.specs.declared.ends.NoValue.TheVariants.{Memory};
 
     ghost from_gives = { λ _ stop. stop ≡ Memory };
 
     fn from(_: AllocFailed<T>) -> Self {
-        Stop::Memory
+        NoValue::Memory
     }
 }

@@ -8,8 +8,8 @@ ghost use Rattle.rewrite_model.specs.Noted.{points_of};
 ghost use Rattle.rewrite_model.specs.Program.{ended, Evaluates, EvaluatesAll, Holds, Replaces, Reduces, ReducesBy};
 
 use crate::boxed::{Arguments, Term};
-use crate::ends::{End, Evaluated, Stop};
-use crate::finding::tree_at;
+use crate::ends::{End, Evaluated, NoValue};
+use crate::matching::tree_at;
 use crate::points::{Point, append_built, in_front, joined, most_in_hand, point_at};
 use crate::rules::{Condition, Rule};
 use faults::Memory;
@@ -69,15 +69,15 @@ fn noted(alloc: Global, rules: &[Rule], term: &Flat, fuel: u64, room: u32) -> Re
             points,
             end: End::Value(value, left),
         }),
-        Err(Stop::OutOfFuel) => Ok(Noting {
+        Err(NoValue::OutOfFuel) => Ok(Noting {
             points,
             end: End::OutOfFuel,
         }),
-        Err(Stop::TooDeep) => Ok(Noting {
+        Err(NoValue::TooDeep) => Ok(Noting {
             points,
             end: End::TooDeep,
         }),
-        Err(Stop::Memory) => Err(Memory),
+        Err(NoValue::Memory) => Err(Memory),
     }
 }
 
@@ -91,11 +91,11 @@ fn evaluate(
     fuel: u64,
     room: u32,
     points: &mut Vec<Point>,
-) -> Result<(Term, u64), Stop>
+) -> Result<(Term, u64), NoValue>
     ensures { Evaluates rules.now bound.now kept.now pattern.now fuel room points.old points.new result }
 {
     if room == 0 {
-        return Err(Stop::TooDeep);
+        return Err(NoValue::TooDeep);
     }
     match pattern {
         Term::Var(x) => {
@@ -123,7 +123,7 @@ fn evaluate_all(
     fuel: u64,
     room: u32,
     points: &mut Vec<Point>,
-) -> Result<(Arguments, u64), Stop>
+) -> Result<(Arguments, u64), NoValue>
     ensures { EvaluatesAll rules.now bound.now kept.now patterns.now fuel room points.old points.new result }
 {
     match patterns {
@@ -161,7 +161,7 @@ fn hold(
     fuel: u64,
     room: u32,
     points: &mut Vec<Point>,
-) -> Result<(bool, u64), Stop>
+) -> Result<(bool, u64), NoValue>
     ensures { Holds rules.now bound.now kept.now (drop from conditions.now) fuel room points.old points.new result }
 {
     if from >= conditions.len() {
@@ -228,7 +228,7 @@ fn replace(
     fuel: u64,
     room: u32,
     points: &mut Vec<Point>,
-) -> Result<(Term, u64), Stop>
+) -> Result<(Term, u64), NoValue>
     ensures { Replaces rules.now bound.now kept.now right.now fuel room points.old points.new result }
 {
     match right {
@@ -276,7 +276,7 @@ fn reduce(
     fuel: u64,
     room: u32,
     points: &mut Vec<Point>,
-) -> Result<(Term, u64), Stop>
+) -> Result<(Term, u64), NoValue>
     ensures { Reduces rules.now given.now kept.now term fuel room points.old points.new result }
 {
     points.push(point_at(alloc, &term, given, kept, room)?)?;
@@ -294,7 +294,7 @@ fn reduce_by(
     fuel: u64,
     room: u32,
     points: &mut Vec<Point>,
-) -> Result<(Term, u64), Stop>
+) -> Result<(Term, u64), NoValue>
     ensures { ReducesBy rules.now (drop from rules.now) kept.now term fuel room points.old points.new result }
 {
     if from >= rules.len() {
@@ -306,10 +306,10 @@ fn reduce_by(
         return reduce_by(alloc, rules, from + 1, kept, term, fuel, room, points);
     };
     if fuel == 0 {
-        return Err(Stop::OutOfFuel);
+        return Err(NoValue::OutOfFuel);
     }
     if room as usize <= bound.len() {
-        return Err(Stop::TooDeep);
+        return Err(NoValue::TooDeep);
     }
     let below = room_below(room, bound.len());
     let with_bound = joined(alloc, &bound, kept)?;

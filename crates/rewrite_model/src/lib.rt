@@ -6,14 +6,14 @@ mod counting;
 mod ends;
 mod evaluating;
 mod event;
-mod finding;
 mod laws;
+mod matching;
 mod one_step;
+mod outward;
 mod points;
 mod reading;
 mod rows;
 mod rules;
-mod stepping;
 
 pub use boxed::{Arguments, Term};
 pub use counting::distinct;
@@ -27,4 +27,4 @@ pub use laws::{
 pub use one_step::steps;
 pub use rows::{hand_rows, order_rows, outermost_rows, room_rows, trace_rows, worked_rows};
 pub use rules::{Condition, Rule};
-pub use stepping::outermost;
+pub use outward::outermost;

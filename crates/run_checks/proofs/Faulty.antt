@@ -2,8 +2,8 @@
 use Rattle.std.proofs.Common.{◌≡◌, ℕ, List, inl, inr, Some, None, Result, Ok, Err, refl}
 use Rattle.faults.specs.declared.refusal.Refusal.{Refusal}
 use Rattle.rec_reader.specs.declared.token.Token.{Token}
-use Rattle.reading.specs.declared.fail.ReadFail.{ReadFail}
-use Rattle.reading.specs.declared.fail.ReadFail.TheVariants.{Refused, Memory}
+use Rattle.read_faults.specs.declared.fail.ReadFail.{ReadFail}
+use Rattle.read_faults.specs.declared.fail.ReadFail.TheVariants.{Refused, Memory}
 use Rattle.rec_reader.specs.Parsed.{Parsed}
 use Rattle.rec_reader.specs.Scanned.{Scanned}
 use Rattle.rec_reader.specs.Tokens.{tokens_of, IsBadByte}

@@ -23,7 +23,7 @@ use crate::table::TermTable;
 use crate::text::is_text;
 use faults::Memory;
 use log_check::lines::next_line;
-use reading::ReadFail;
+use read_faults::ReadFail;
 use rec_check::Spec;
 use rule_match::Plan;
 use std::alloc::Global;

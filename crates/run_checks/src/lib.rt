@@ -17,4 +17,4 @@ pub use checking::{TraceVerdict, check_trace};
 pub use faults::Memory;
 pub use laws::acceptance_laws;
 pub use log_check::{LogVerdict, check_log};
-pub use reading::ReadFail;
+pub use read_faults::ReadFail;

@@ -4,12 +4,12 @@ ghost use Rattle.std.specs.Prelude.{◌≡◌, ℕ, ◌+◌, ◌<◌, ◌≤◌,
 ghost use Rattle.run_checks.specs.Form.{values_from, wrong_from, wrong_after};
 ghost use Rattle.run_checks.specs.Refusing.{IsCutOff, IsWrongAt, IsCut};
 ghost use Rattle.log_check.specs.Words.{lines};
-ghost use Rattle.reading.specs.declared.fail.ReadFail.TheVariants.{Refused};
+ghost use Rattle.read_faults.specs.declared.fail.ReadFail.TheVariants.{Refused};
 
 use crate::form::{is_end, is_no_value, is_trace};
 use faults::kinds;
 use log_check::lines::next_line;
-use reading::ReadFail;
+use read_faults::ReadFail;
 use std::alloc::Global;
 
 /// The refusal of a line of a wrong form, counted from 1; 0 stands for what is before the lines.

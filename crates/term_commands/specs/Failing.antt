@@ -1,6 +1,6 @@
 -- A command on terms ends where a call of its own does.
-use Rattle.reading.specs.declared.fail.ReadFail.{ReadFail}
-use Rattle.reading.specs.declared.fail.ReadFail.TheVariants as fail
+use Rattle.read_faults.specs.declared.fail.ReadFail.{ReadFail}
+use Rattle.read_faults.specs.declared.fail.ReadFail.TheVariants as fail
 use Rattle.term_file.specs.declared.fault.ShareFault.{ShareFault}
 use Rattle.term_file.specs.declared.fault.ShareFault.TheVariants as share
 use Rattle.term_commands.specs.declared.fault.TermsFault.{TermsFault}

@@ -3,7 +3,7 @@ use Rattle.std.specs.Prelude.{◌≡◌, ℕ, ◌≤◌, ◌<◌, List, [], ◌+
 use Rattle.term_model.specs.Tree.{Tree, nodes}
 use Rattle.symbol_pool.specs.Pool.{Named}
 use Rattle.faults.specs.declared.refusal.Refusal.{Refusal}
-use Rattle.reading.specs.declared.fail.ReadFail.TheVariants as fail
+use Rattle.read_faults.specs.declared.fail.ReadFail.TheVariants as fail
 use Rattle.tree_text.specs.Canonical.{canonical_lines}
 use Rattle.term_syntax.specs.Reading.{IsReading, IsRefusal}
 use Rattle.term_text.specs.Sizes.{saturated}

@@ -5,7 +5,7 @@ ghost use Rattle.term_commands.specs.declared.fault.TermsFault.TheVariants as fa
 
 use crate::building::Full;
 use faults::{Memory, Refusal};
-use reading::ReadFail;
+use read_faults::ReadFail;
 use std::alloc::AllocError;
 use term_file::ShareFault;
 

@@ -1,9 +1,9 @@
 -- What `decode` answers, by what reading gives.
 use Rattle.std.proofs.Common.{◌≡◌, ℕ, List, Result, Ok, Err, refl, sym, ◌∙◌}
 use Rattle.faults.specs.declared.refusal.Refusal.{Refusal}
-use Rattle.reading.specs.declared.fail.ReadFail.{ReadFail}
-use Rattle.reading.specs.declared.fail.ReadFail.TheVariants.{Refused, Memory}
-use Rattle.reading.specs.Fault.{IsDue, fault}
+use Rattle.read_faults.specs.declared.fail.ReadFail.{ReadFail}
+use Rattle.read_faults.specs.declared.fail.ReadFail.TheVariants.{Refused, Memory}
+use Rattle.read_faults.specs.Fault.{IsDue, fault}
 use Rattle.term_file.specs.Contents.{Contents}
 use Rattle.term_file.specs.File.{Terms, IsFile, terms_in}
 use Rattle.term_file.specs.Reading.{read_file}

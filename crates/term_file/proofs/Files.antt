@@ -20,8 +20,8 @@ use Rattle.term_file.proofs.RecordFields.{records_take}
 use Rattle.term_file.proofs.RecordsAgain.{records_again}
 use Rattle.term_file.proofs.RootFields.{is_below, roots_take, roots_again}
 use Rattle.term_file.proofs.Tables.{length-table_of}
-use Rattle.reading.specs.declared.fail.ReadFail.{ReadFail}
-use Rattle.reading.specs.Fault.{IsDue}
+use Rattle.read_faults.specs.declared.fail.ReadFail.{ReadFail}
+use Rattle.read_faults.specs.Fault.{IsDue}
 use Rattle.term_file.proofs.Loops.{first_due, same_due, checked_due}
 
 -- what comes after each part of a file

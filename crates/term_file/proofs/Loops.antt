@@ -1,10 +1,10 @@
 -- The steps of the loops of the reader: one more is read, or the first fault ends the loop.
 use Rattle.std.proofs.Common.{◌≡◌, ℕ, suc, ◌-◌, Bool, true, false, List, length, Result, Ok, Err, sym, ap, subst, ◌∙◌}
 use Rattle.faults.specs.declared.refusal.Refusal.{Refusal}
-use Rattle.reading.specs.declared.fail.ReadFail.{ReadFail}
-use Rattle.reading.specs.declared.fail.ReadFail.TheVariants.{Refused, Memory}
+use Rattle.read_faults.specs.declared.fail.ReadFail.{ReadFail}
+use Rattle.read_faults.specs.declared.fail.ReadFail.TheVariants.{Refused, Memory}
 use Rattle.symbol_pool.specs.Pool.{Named}
-use Rattle.reading.specs.Fault.{IsDue, fault}
+use Rattle.read_faults.specs.Fault.{IsDue, fault}
 use Rattle.term_file.specs.Contents.{Record}
 use Rattle.term_file.specs.Right.{may_be_argument}
 use Rattle.term_file.specs.Reading.{◌>>=◌, checked, number_where, symbol_at, symbols_at, Body, arguments_at, Records, record_at, records_at, Roots, may_be_root, with_root, roots_at}

@@ -1,13 +1,13 @@
 -- What a function of the reader gives, beside what reading gives.
 use Rattle.std.specs.Prelude.{◌≡◌, List, map, Result, Ok, Err}
-use Rattle.reading.specs.declared.fail.ReadFail.{ReadFail}
+use Rattle.read_faults.specs.declared.fail.ReadFail.{ReadFail}
 use Rattle.faults.specs.declared.refusal.Refusal.{Refusal}
 use Rattle.term_model.specs.declared.Head.{Head}
 use Rattle.term_model.specs.declared.Head.TheVariants as head
 use Rattle.term_file.specs.declared.record.Kind.{Kind}
 use Rattle.term_file.specs.declared.record.Kind.TheVariants.{Call, Integer, Empty, Cell}
 use Rattle.term_file.specs.declared.record.Record as declared
-use Rattle.reading.specs.Fault.{IsDue}
+use Rattle.read_faults.specs.Fault.{IsDue}
 use Rattle.term_file.specs.Contents.{Record}
 
 -- what was read, seen by the function, is what reading gives; want of memory needs no cause

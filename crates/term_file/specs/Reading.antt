@@ -8,7 +8,7 @@ use Rattle.term_model.specs.declared.Head.{Head}
 use Rattle.term_model.specs.declared.Head.TheVariants.{App, Int, Nil, Cons}
 use Rattle.symbol_pool.specs.Pool.{Named, named}
 use Rattle.faults.specs.declared.refusal.Refusal.{Refusal}
-use Rattle.reading.specs.Fault.{fault}
+use Rattle.read_faults.specs.Fault.{fault}
 use Rattle.tree_text.specs.NameBytes.{is_printable}
 use Rattle.term_file.specs.Contents.{Record, Contents}
 use Rattle.term_file.specs.InOrder.{came_after, used_by, visits, visits_at}

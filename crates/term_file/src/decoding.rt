@@ -1,7 +1,7 @@
 //! Reads a file.
 ghost use Rattle.std.specs.Prelude.{◌≡◌, ◌==◌, ◌&&◌, length, nat_le, IfOk, IfErr};
-ghost use Rattle.reading.specs.declared.fail.ReadFail.TheVariants.{Memory};
-ghost use Rattle.reading.specs.Fault.{IsDue};
+ghost use Rattle.read_faults.specs.declared.fail.ReadFail.TheVariants.{Memory};
+ghost use Rattle.read_faults.specs.Fault.{IsDue};
 ghost use Rattle.term_file.specs.File.{Terms, IsFile};
 ghost use Rattle.term_file.specs.Reading as spec;
 ghost use Rattle.term_file.specs.Outcome.{Gives};
@@ -13,7 +13,7 @@ use crate::roots::roots_at;
 use crate::shared::Shared;
 use crate::symbols::symbols_at;
 use crate::table::Table;
-use reading::ReadFail;
+use read_faults::ReadFail;
 use std::alloc::Global;
 use symbol_pool::{MOST_SYMBOLS, Symbols};
 

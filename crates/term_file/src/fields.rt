@@ -2,7 +2,7 @@
 ghost use Rattle.std.specs.Prelude.{◌≡◌, ◌-◌, ◌≤◌, length, nat_le, nat_eq, IfOk};
 ghost use Rattle.std.specs.Cmp.Lexicographic.{pointwise};
 ghost use Rattle.std.specs.List.{list_all};
-ghost use Rattle.reading.specs.declared.fail.ReadFail.TheVariants.{Refused};
+ghost use Rattle.read_faults.specs.declared.fail.ReadFail.TheVariants.{Refused};
 ghost use Rattle.tree_text.specs.NameBytes as name_bytes;
 ghost use Rattle.term_file.specs.File as file;
 ghost use Rattle.term_file.specs.Reading as spec;
@@ -10,7 +10,7 @@ ghost use Rattle.term_file.specs.Outcome.{Gives};
 
 use byteorder::{BigEndian, ByteOrder};
 use faults::kinds;
-use reading::ReadFail;
+use read_faults::ReadFail;
 
 /// The kind of a field that breaks its rule.
 const BAD_FILE: u8 = 18;

@@ -1,6 +1,6 @@
 //! The records that were read so far.
 ghost use Rattle.std.specs.Prelude.{◌≡◌, ◌<◌, ◌≤◌, ◌+◌, ◌^◌, ◌∷◌, [], length, is_some, unwrap_or, All, OnOk, IfErr, true};
-ghost use Rattle.reading.specs.declared.fail.ReadFail.TheVariants.{Memory};
+ghost use Rattle.read_faults.specs.declared.fail.ReadFail.TheVariants.{Memory};
 ghost use Rattle.term_file.specs.InOrder.{came_after, used_by};
 ghost use Rattle.term_file.specs.Reading as spec;
 ghost use Rattle.term_file.specs.Right as right;
@@ -9,7 +9,7 @@ ghost use Rattle.term_file.specs.Outcome.{Gives, view, head_of};
 use crate::fields::bad_at;
 use crate::record::{Kind, Record};
 use crate::table::Table;
-use reading::ReadFail;
+use read_faults::ReadFail;
 
 /// Records, and how many symbols they use: those with the numbers below.
 #[derive(Drop)]

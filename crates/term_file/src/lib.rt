@@ -28,7 +28,7 @@ pub use faults::Memory;
 pub use growing::number_of;
 pub use laws::file_laws;
 pub use printing::write_shared;
-pub use reading::ReadFail;
+pub use read_faults::ReadFail;
 pub use record::{Kind, Record};
 pub use shared::Shared;
 pub use sharing::share;

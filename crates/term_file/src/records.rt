@@ -10,7 +10,7 @@ use crate::fields::{bad_at, byte_at, u32_at, u64_at};
 use crate::found::{Found, comes_in_order};
 use crate::record::{Kind, Record};
 use crate::table::Table;
-use reading::ReadFail;
+use read_faults::ReadFail;
 use std::alloc::Global;
 use symbol_pool::Symbols;
 use term_model::Symbol;

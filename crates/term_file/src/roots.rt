@@ -9,7 +9,7 @@ use crate::fields::{bad_at, u32_at};
 use crate::frame::Frame;
 use crate::table::Table;
 use crate::walk::visited_from;
-use reading::ReadFail;
+use read_faults::ReadFail;
 use std::alloc::Global;
 
 /// A root, how many records were visited after its walk, and the bytes after it.

@@ -4,10 +4,10 @@ ghost use Rattle.symbol_pool.specs.Pool.{named};
 ghost use Rattle.term_file.specs.Reading as spec;
 ghost use Rattle.term_file.specs.Right.{is_new_symbol};
 ghost use Rattle.term_file.specs.Outcome.{Gives};
-ghost use Rattle.reading.specs.declared.fail.ReadFail.TheVariants.{Memory};
+ghost use Rattle.read_faults.specs.declared.fail.ReadFail.TheVariants.{Memory};
 
 use crate::fields::{bad_at, byte_at, name_at};
-use reading::ReadFail;
+use read_faults::ReadFail;
 use std::alloc::Global;
 use symbol_pool::{MOST_SYMBOLS, PoolFault, Symbols};
 

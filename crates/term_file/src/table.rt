@@ -1,6 +1,6 @@
 //! The different records of a file, by their numbers.
 ghost use Rattle.std.specs.Prelude.{◌≡◌, ◌<◌, ◌++◌, ◌∷◌, [], length, slice_get, IfSome, IfNone, OnOk, OnErr, IfErr, Some, true, All};
-ghost use Rattle.reading.specs.declared.fail.ReadFail.TheVariants.{Memory};
+ghost use Rattle.read_faults.specs.declared.fail.ReadFail.TheVariants.{Memory};
 ghost use Rattle.term_file.specs.Right as right;
 ghost use Rattle.term_file.specs.Contents as contents;
 ghost use Rattle.term_file.specs.Outcome.{view};
@@ -8,7 +8,7 @@ ghost use Rattle.term_file.specs.Tables.{least_nodes, least_over, AreLesser};
 
 use crate::record::{Kind, Record};
 use indexmap::IndexSet;
-use reading::ReadFail;
+use read_faults::ReadFail;
 use std::alloc::Global;
 use std::marker::Model;
 

@@ -1,6 +1,6 @@
 //! The walk from a root, with an explicit stack.
 ghost use Rattle.std.specs.Prelude.{◌≡◌, ◌<◌, ◌≤◌, ◌++◌, ◌∷◌, [], length, slice_index, option_and_then, IfOk, IfErr, OnOk};
-ghost use Rattle.reading.specs.declared.fail.ReadFail.TheVariants.{Memory};
+ghost use Rattle.read_faults.specs.declared.fail.ReadFail.TheVariants.{Memory};
 ghost use Rattle.std.specs.List.{AllByRecursion};
 ghost use Rattle.term_file.specs.Contents.{arguments_at};
 ghost use Rattle.term_file.specs.InOrder as order;
@@ -10,7 +10,7 @@ ghost use Rattle.term_file.specs.Walking.{Fits, left_in, work};
 
 use crate::frame::Frame;
 use crate::table::Table;
-use reading::ReadFail;
+use read_faults::ReadFail;
 
 /// How many records were visited with this one, where those with lesser numbers than `visited` were; None
 /// where it comes too early.

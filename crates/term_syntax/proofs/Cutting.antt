@@ -1,9 +1,9 @@
 -- Reading on, piece by piece.
 use Rattle.std.proofs.Common.{◌≡◌, ◌≤◌, ◌<◌, ◌∙◌, ℕ, zero, suc, ◌+◌, ◌-◌, List, [], ◌∷◌, ◌++◌, length, length-drop, drop, refl, ap, sym, arith, append_assoc, append-nil, Result, Ok, Err}
-use Rattle.reading.specs.declared.fail.ReadFail.{ReadFail}
-use Rattle.reading.specs.declared.fail.ReadFail.TheVariants.{Refused, Memory}
+use Rattle.read_faults.specs.declared.fail.ReadFail.{ReadFail}
+use Rattle.read_faults.specs.declared.fail.ReadFail.TheVariants.{Refused, Memory}
 use Rattle.faults.specs.declared.refusal.Refusal.{Refusal}
-use Rattle.reading.specs.Fault.{IsDue}
+use Rattle.read_faults.specs.Fault.{IsDue}
 use Rattle.term_syntax.specs.Token.{Token, Piece, Blank, Whole}
 use Rattle.term_syntax.specs.Reached.{HasTokens}
 use Rattle.term_syntax.specs.Tokens.{tokens_from, tokens_of, after_token, after_piece, next_of, piece_at, read_piece}

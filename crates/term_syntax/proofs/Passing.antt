@@ -2,15 +2,15 @@
 use Rattle.std.proofs.Common.{◌≡◌, ◌≤◌, ◌<◌, ◌∙◌, ℕ, suc, ◌+◌, List, [], ◌∷◌, ◌++◌, length, drop, refl, ap, sym, subst, arith, inl, inr, Some, None, Result, Ok, Err}
 use Rattle.std.proofs.lemmas.List.{length-append}
 use Rattle.std.proofs.lemmas.List.Elements.{All-nil}
-use Rattle.reading.specs.declared.fail.ReadFail.{ReadFail}
-use Rattle.reading.specs.declared.fail.ReadFail.TheVariants.{Refused, Memory}
+use Rattle.read_faults.specs.declared.fail.ReadFail.{ReadFail}
+use Rattle.read_faults.specs.declared.fail.ReadFail.TheVariants.{Refused, Memory}
 use Rattle.faults.specs.declared.refusal.Refusal.{Refusal}
 use Rattle.term_syntax.specs.Token.{Token, Blank, Whole}
 use Rattle.term_syntax.specs.State.{Machine}
 use Rattle.term_syntax.specs.declared.token.Shape.{Shape}
 use Rattle.term_syntax.specs.declared.token.Shape.TheVariants as shape
 use Rattle.term_syntax.specs.Shown.{token_at}
-use Rattle.reading.specs.Fault.{IsDue}
+use Rattle.read_faults.specs.Fault.{IsDue}
 use Rattle.term_syntax.specs.Few.{AreCountsFew}
 use Rattle.term_syntax.specs.Tokens.{tokens_from, tokens_of, after_token, piece_at}
 use Rattle.term_syntax.specs.Refusal.{place_of}

@@ -4,8 +4,8 @@ use Rattle.std.specs.Option.{IsSome, is_some, unwrap_or}
 use Rattle.std.proofs.lemmas.List.Elements.{All-nil, All-cons}
 use Rattle.std.proofs.lemmas.List.{length-map}
 use Rattle.term_syntax.proofs.Numbering.{input_within}
-use Rattle.reading.specs.declared.fail.ReadFail.{ReadFail}
-use Rattle.reading.specs.declared.fail.ReadFail.TheVariants.{Refused, Memory}
+use Rattle.read_faults.specs.declared.fail.ReadFail.{ReadFail}
+use Rattle.read_faults.specs.declared.fail.ReadFail.TheVariants.{Refused, Memory}
 use Rattle.term_model.specs.Tree.{Tree}
 use Rattle.term_model.specs.Postorder.{tree_of}
 use Rattle.term_model.specs.declared.Item.{Item}
@@ -13,7 +13,7 @@ use Rattle.symbol_pool.specs.Pool.{Named}
 use Rattle.term_syntax.specs.Token.{Token}
 use Rattle.term_syntax.specs.State.{Part}
 use Rattle.term_syntax.specs.declared.machine.Node.{Node}
-use Rattle.reading.specs.Fault.{fault, IsDue}
+use Rattle.read_faults.specs.Fault.{fault, IsDue}
 use Rattle.term_syntax.specs.Tokens.{tokens_of}
 use Rattle.term_syntax.specs.Written.{Written}
 use Rattle.term_syntax.specs.TermGrammar.{IsInput}

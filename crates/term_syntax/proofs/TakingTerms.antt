@@ -5,7 +5,7 @@ use Rattle.std.proofs.lemmas.List.{take-append-drop}
 use Rattle.faults.specs.declared.refusal.Refusal.{Refusal}
 use Rattle.symbol_pool.specs.Pool.{Named, named}
 use Rattle.term_syntax.specs.State.{Kind, Symbol, Integer, Brackets, Part}
-use Rattle.reading.specs.Fault.{fault}
+use Rattle.read_faults.specs.Fault.{fault}
 use Rattle.term_syntax.specs.Written.{Written, Call, Digits, Listed, Writtens, End, More, count_of, place_of}
 use Rattle.symbol_pool.specs.Taking.{with_symbol, with_symbols, is_full_for}
 use Rattle.term_syntax.specs.TakenUp.{and_then, take_name, take_term, take_arguments, take_elements, take_input, symbols_in, symbols_in_all, symbols_in_input, TookFront}

@@ -2,14 +2,14 @@
 use Rattle.std.proofs.Common.{◌≡◌, ◌≤◌, ◌<◌, ◌∙◌, ℕ, ◌+◌, List, [], ◌∷◌, ◌++◌, length, take, drop, map, get_or, true, refl, ap, sym, subst, Some, None, Ok, Err, All}
 use Rattle.std.proofs.lemmas.List.{take_more, drop_more, map_push, take_all, drop_all}
 use Rattle.std.proofs.lemmas.List.Elements.{All-head, All-tail, All-nil, All-cons, All-push}
-use Rattle.reading.specs.declared.fail.ReadFail.{ReadFail}
-use Rattle.reading.specs.declared.fail.ReadFail.TheVariants.{Refused, Memory}
+use Rattle.read_faults.specs.declared.fail.ReadFail.{ReadFail}
+use Rattle.read_faults.specs.declared.fail.ReadFail.TheVariants.{Refused, Memory}
 use Rattle.term_model.specs.declared.Item.{Item}
 use Rattle.term_model.specs.declared.Item.TheVariants as item
 use Rattle.symbol_pool.specs.Pool.{Named, named}
 use Rattle.term_syntax.specs.State.{Kind, Symbol, Integer, Brackets, Part}
 use Rattle.faults.specs.declared.refusal.Refusal.{Refusal}
-use Rattle.reading.specs.Fault.{fault, IsDue}
+use Rattle.read_faults.specs.Fault.{fault, IsDue}
 use Rattle.term_syntax.specs.Parts.{pool_after, part_fault, unless_fault, taken_up, symbols_of_parts}
 use Rattle.term_syntax.specs.Items.{is_there, IsThere, item_of_kind, item_in, IsTakenUp, IsPartFault}
 use Rattle.symbol_pool.specs.Taking.{GrowsPool, with_symbols}

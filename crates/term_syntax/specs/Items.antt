@@ -1,8 +1,8 @@
 -- The items of terms that were read.
 use Rattle.std.specs.Prelude.{◌≡◌, ℕ, List, ◌∷◌, map, replicate, slice_get, unwrap_or, Option, Some, None, Bool, true, All, ◌<◌}
 use Rattle.std.specs.List.{flat_map}
-use Rattle.reading.specs.declared.fail.ReadFail.{ReadFail}
-use Rattle.reading.specs.declared.fail.ReadFail.TheVariants.{Refused, Memory}
+use Rattle.read_faults.specs.declared.fail.ReadFail.{ReadFail}
+use Rattle.read_faults.specs.declared.fail.ReadFail.TheVariants.{Refused, Memory}
 use Rattle.term_model.specs.Tree.{Tree}
 use Rattle.term_model.specs.Postorder.{tree_of}
 use Rattle.term_model.specs.declared.Item.{Item}
@@ -10,7 +10,7 @@ use Rattle.term_model.specs.declared.Item.TheVariants.{App, Int, Nil, Cons}
 use Rattle.symbol_pool.specs.Pool.{Named, named}
 use Rattle.term_syntax.specs.State.{Kind, Symbol, Integer, Brackets, Part}
 use Rattle.term_syntax.specs.declared.machine.Node.{Node}
-use Rattle.reading.specs.Fault.{fault}
+use Rattle.read_faults.specs.Fault.{fault}
 use Rattle.term_syntax.specs.Parts.{part_fault, pool_after}
 use Rattle.symbol_pool.specs.Taking.{number_of, has}
 use Rattle.term_syntax.specs.TakenUp.{value_or_zero}

@@ -1,7 +1,7 @@
 -- Names with their numbers of arguments, as symbols.
 use Rattle.std.specs.Prelude.{◌≡◌, ◌||◌, ℕ, List, length, true, false, nat_lt}
-use Rattle.reading.specs.declared.fail.ReadFail.{ReadFail}
-use Rattle.reading.specs.declared.fail.ReadFail.TheVariants.{Refused, Memory}
+use Rattle.read_faults.specs.declared.fail.ReadFail.{ReadFail}
+use Rattle.read_faults.specs.declared.fail.ReadFail.TheVariants.{Refused, Memory}
 use Rattle.term_model.specs.declared.Item.{Item}
 use Rattle.term_model.specs.declared.Item.TheVariants.{App}
 use Rattle.symbol_pool.specs.Pool.{Named, named}

@@ -1,11 +1,11 @@
 -- Bytes are read token by token: what was read of them, and why reading stops.
 use Rattle.std.specs.Prelude.{◌≡◌, ◌⊎◌, ℕ, List, Some, None, Ok, Err}
-use Rattle.reading.specs.declared.fail.ReadFail.{ReadFail}
-use Rattle.reading.specs.declared.fail.ReadFail.TheVariants.{Refused, Memory}
+use Rattle.read_faults.specs.declared.fail.ReadFail.{ReadFail}
+use Rattle.read_faults.specs.declared.fail.ReadFail.TheVariants.{Refused, Memory}
 use Rattle.term_syntax.specs.Token.{Token}
 use Rattle.term_syntax.specs.State.{Part, Machine}
 use Rattle.term_syntax.specs.declared.machine.Node.{Node}
-use Rattle.reading.specs.Fault.{fault}
+use Rattle.read_faults.specs.Fault.{fault}
 use Rattle.term_syntax.specs.Few.{AreCountsFew}
 use Rattle.term_syntax.specs.Tokens.{tokens_of}
 use Rattle.term_syntax.specs.Refusal.{place_of}

@@ -7,8 +7,8 @@ use Rattle.term_syntax.specs.declared.machine.Node.{Node}
 use Rattle.term_syntax.specs.declared.machine.Group.{Group}
 use Rattle.term_syntax.specs.declared.machine.Place.{Place}
 use Rattle.term_syntax.specs.declared.machine.Place.TheVariants.{Settled, Bracketed, Expected, Headed}
-use Rattle.reading.specs.declared.stop.Stop.{Stop}
-use Rattle.reading.specs.declared.stop.Stop.TheVariants as stop
+use Rattle.read_faults.specs.declared.not_taken.NotTaken.{NotTaken}
+use Rattle.read_faults.specs.declared.not_taken.NotTaken.TheVariants as stop
 use Rattle.term_syntax.specs.Counts.{with_count}
 use Rattle.term_syntax.specs.Written.{Written}
 use Rattle.term_syntax.specs.TermGrammar.{IsInput}
@@ -33,7 +33,7 @@ begin place kind m =
     }
 
 -- a term began, with this number, or there was no memory
-abbrev pub Begins : Machine → ℕ → Kind → Result ℕ Stop → Machine → Type 0
+abbrev pub Begins : Machine → ℕ → Kind → Result ℕ NotTaken → Machine → Type 0
 Begins old place kind (Ok part) new = (part ≡ length old.parts) × (new ≡ begin place kind old)
 Begins old place kind (Err stop.Unexpected) new = ⊥
 Begins old place kind (Err stop.Memory) new = Unit {0}

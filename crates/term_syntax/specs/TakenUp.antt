@@ -6,7 +6,7 @@ use Rattle.term_model.specs.declared.Head.TheVariants.{App, Int, Nil, Cons}
 use Rattle.symbol_pool.specs.Pool.{Named, named}
 use Rattle.symbol_pool.specs.Taking.{number_of, with_symbol, with_symbols, is_full_for}
 use Rattle.faults.specs.declared.refusal.Refusal.{Refusal}
-use Rattle.reading.specs.Fault.{fault}
+use Rattle.read_faults.specs.Fault.{fault}
 use Rattle.term_syntax.specs.Written.{Written, Call, Digits, Listed, Writtens, End, More, count_of, place_of}
 
 -- first one, and where it isn't refused the next

@@ -9,7 +9,7 @@ use Rattle.term_syntax.specs.declared.token.Mark.TheVariants.{Open, Close, OpenL
 use Rattle.term_syntax.specs.declared.scanner.Role.{Role}
 use Rattle.term_syntax.specs.declared.scanner.Role.TheVariants.{Closes, Escapes, Stands, Bad}
 use Rattle.faults.specs.declared.refusal.Refusal.{Refusal}
-use Rattle.reading.specs.Fault.{fault}
+use Rattle.read_faults.specs.Fault.{fault}
 
 -- space, tab, CR and LF
 abbrev pub is_space : ℕ → Bool

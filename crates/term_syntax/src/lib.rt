@@ -13,6 +13,6 @@ mod terms;
 mod token;
 
 pub use laws::canonical_laws;
-pub use reading::ReadFail;
+pub use read_faults::ReadFail;
 pub use terms::read_terms;
 pub use tree_text::Flats;

@@ -1,14 +1,14 @@
 //! Reads tokens one at a time: where in an input it stands, and what was read so far.
 ghost use Rattle.std.specs.Prelude.{◌≡◌, Some, None, IfSome, IfNone, IfOk, IfErr};
 ghost use Rattle.term_syntax.specs.Steps as steps;
-ghost use Rattle.reading.specs.Taking.{Takes};
+ghost use Rattle.read_faults.specs.Taking.{Takes};
 ghost use Rattle.term_syntax.specs.Shown.{machine_in, parts_in, token_in, kind_at};
 ghost use Rattle.term_syntax.specs.Few.{AreCountsFew};
-ghost use Rattle.reading.specs.declared.stop.Stop.TheVariants.{Memory};
+ghost use Rattle.read_faults.specs.declared.not_taken.NotTaken.TheVariants.{Memory};
 
 use crate::list::Parts;
 use crate::token::{Mark, Shape, Token};
-use reading::Stop;
+use read_faults::NotTaken;
 use sequences::{Sequence, Stack};
 use std::alloc::Global;
 use std::mem;
@@ -62,13 +62,13 @@ pub(crate) struct Machine {
 
 // The number in 32 bits, which hold each place and each number of a part of a text that is read.
 #[inline(always)]
-fn in_32_bits(n: usize) -> Result<u32, Stop>
+fn in_32_bits(n: usize) -> Result<u32, NotTaken>
     ensures number { IfOk result (λ number. number ≡ n) }
     ensures memory { IfErr result (λ stop. stop ≡ Memory) }
 {
     match u32::try_from(n) {
         Ok(number) => Ok(number),
-        Err(_) => Err(Stop::Memory),
+        Err(_) => Err(NotTaken::Memory),
     }
 }
 
@@ -88,7 +88,7 @@ impl Machine {
 
     /// Takes a token of the text.
     #[inline(always)]
-    pub(crate) fn step(&mut self, alloc: Global, text: &[u8], token: Token) -> Result<(), Stop>
+    pub(crate) fn step(&mut self, alloc: Global, text: &[u8], token: Token) -> Result<(), NotTaken>
         requires { AreCountsFew 2 self.old.groups }
         ensures { Takes (steps.step (machine_in text.now self.old) (token_in text.now token))
             result (machine_in text.now self.new) }
@@ -102,7 +102,7 @@ impl Machine {
     }
 
     #[inline(always)]
-    fn go(&mut self, text: &[u8], place: Place) -> Result<(), Stop>
+    fn go(&mut self, text: &[u8], place: Place) -> Result<(), NotTaken>
         ensures { Takes (steps.at (machine_in text.now self.old) place)
             result (machine_in text.now self.new) }
     {
@@ -113,7 +113,7 @@ impl Machine {
 
     // A token comes with which a term begins.
     #[inline(always)]
-    fn on_term(&mut self, alloc: Global, text: &[u8], token: Token) -> Result<(), Stop>
+    fn on_term(&mut self, alloc: Global, text: &[u8], token: Token) -> Result<(), NotTaken>
         requires { AreCountsFew 1 self.old.groups }
         ensures { Takes (steps.on_term (machine_in text.now self.old) (token_in text.now token))
             result (machine_in text.now self.new) }
@@ -129,13 +129,13 @@ impl Machine {
                 let part = self.begin(text, token)?;
                 self.open_group(text, false, part, Place::Bracketed)
             }
-            Shape::At(_) => Err(Stop::Unexpected),
+            Shape::At(_) => Err(NotTaken::Unexpected),
         }
     }
 
     // A name comes.
     #[inline(always)]
-    fn on_name(&mut self, text: &[u8], token: Token) -> Result<(), Stop>
+    fn on_name(&mut self, text: &[u8], token: Token) -> Result<(), NotTaken>
         ensures { Takes (steps.headed (machine_in text.now self.old) token.place
             (kind_at text.now token.place token.shape)) result (machine_in text.now self.new) }
     {
@@ -146,7 +146,7 @@ impl Machine {
     // A term begins; its part has this number.
     #[tactic(auto, using(crate::proofs::Keeping::parts_push, crate::proofs::Keeping::parts_many))]
     #[inline(always)]
-    fn begin(&mut self, text: &[u8], token: Token) -> Result<u32, Stop>
+    fn begin(&mut self, text: &[u8], token: Token) -> Result<u32, NotTaken>
         ensures { steps.Begins (machine_in text.now self.old) token.place
             (kind_at text.now token.place token.shape) result (machine_in text.now self.new) }
     {
@@ -167,7 +167,7 @@ impl Machine {
     }
 
     #[inline(always)]
-    fn open_group(&mut self, text: &[u8], called: bool, part: u32, place: Place) -> Result<(), Stop>
+    fn open_group(&mut self, text: &[u8], called: bool, part: u32, place: Place) -> Result<(), NotTaken>
         ensures { Takes (steps.open_group called part place (machine_in text.now self.old))
             result (machine_in text.now self.new) }
     {
@@ -181,7 +181,7 @@ impl Machine {
 
     // A term is whole: a list of so many cells, or none.
     #[inline(always)]
-    fn end(&mut self, alloc: Global, text: &[u8], part: u32, cells: u32) -> Result<(), Stop>
+    fn end(&mut self, alloc: Global, text: &[u8], part: u32, cells: u32) -> Result<(), NotTaken>
         requires { AreCountsFew 1 self.old.groups }
         ensures { Takes (steps.end part cells (machine_in text.now self.old))
             result (machine_in text.now self.new) }
@@ -205,7 +205,7 @@ impl Machine {
 
     // What may come after a whole term, or at the start.
     #[inline(always)]
-    fn after_term(&mut self, alloc: Global, text: &[u8], token: Token) -> Result<(), Stop>
+    fn after_term(&mut self, alloc: Global, text: &[u8], token: Token) -> Result<(), NotTaken>
         requires { AreCountsFew 1 self.old.groups }
         ensures { Takes (steps.after_term (machine_in text.now self.old) (token_in text.now token))
             result (machine_in text.now self.new) }
@@ -224,7 +224,7 @@ impl Machine {
         text: &[u8],
         group: Group,
         token: Token,
-    ) -> Result<(), Stop>
+    ) -> Result<(), NotTaken>
         requires { AreCountsFew 1 self.old.groups }
         ensures { Takes (steps.in_group group (machine_in text.now self.old)
             (token_in text.now token)) result (machine_in text.now self.new) }
@@ -238,13 +238,13 @@ impl Machine {
             Shape::At(Mark::CloseList) if !group.called => {
                 self.close(alloc, text, group, group.count)
             }
-            _ => Err(Stop::Unexpected),
+            _ => Err(NotTaken::Unexpected),
         }
     }
 
     // A group closes, which is no longer on the stack.
     #[inline(always)]
-    fn close(&mut self, alloc: Global, text: &[u8], group: Group, cells: u32) -> Result<(), Stop>
+    fn close(&mut self, alloc: Global, text: &[u8], group: Group, cells: u32) -> Result<(), NotTaken>
         requires { AreCountsFew 1 self.old.groups }
         ensures { Takes (steps.close group cells (machine_in text.now self.old))
             result (machine_in text.now self.new) }
@@ -267,7 +267,7 @@ impl Machine {
 
     // What may come behind an opening bracket.
     #[inline(always)]
-    fn in_brackets(&mut self, alloc: Global, text: &[u8], token: Token) -> Result<(), Stop>
+    fn in_brackets(&mut self, alloc: Global, text: &[u8], token: Token) -> Result<(), NotTaken>
         requires { AreCountsFew 1 self.old.groups }
         ensures { Takes (steps.in_brackets (machine_in text.now self.old) (token_in text.now token))
             result (machine_in text.now self.new) }
@@ -286,7 +286,7 @@ impl Machine {
         text: &[u8],
         part: u32,
         token: Token,
-    ) -> Result<(), Stop>
+    ) -> Result<(), NotTaken>
         requires { AreCountsFew 2 self.old.groups }
         ensures { Takes (steps.after_name part (machine_in text.now self.old)
             (token_in text.now token)) result (machine_in text.now self.new) }
@@ -301,7 +301,7 @@ impl Machine {
     }
 
     /// Ends a name that stands last.
-    pub(crate) fn settle(&mut self, alloc: Global, text: &[u8]) -> Result<(), Stop>
+    pub(crate) fn settle(&mut self, alloc: Global, text: &[u8]) -> Result<(), NotTaken>
         requires { AreCountsFew 1 self.old.groups }
         ensures { Takes (steps.settled (machine_in text.now self.old))
             result (machine_in text.now self.new) }

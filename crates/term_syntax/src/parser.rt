@@ -10,7 +10,7 @@ use crate::machine::{Machine, Node};
 use crate::scanner::{Cut, look_through, piece_at};
 use crate::token::Token;
 use faults::kinds;
-use reading::{ReadFail, Stop, refused};
+use read_faults::{ReadFail, NotTaken, refused};
 use sequences::Sequence;
 use std::alloc::Global;
 
@@ -26,11 +26,11 @@ fn take(alloc: Global, bytes: &[u8], machine: &mut Machine, token: Token) -> Res
 {
     match machine.step(alloc, bytes, token) {
         Ok(()) => Ok(()),
-        Err(Stop::Unexpected) => {
+        Err(NotTaken::Unexpected) => {
             look_through(alloc, bytes)?;
             Err(refused(kinds::UNEXPECTED, token.place))
         }
-        Err(Stop::Memory) => Err(ReadFail::Memory),
+        Err(NotTaken::Memory) => Err(ReadFail::Memory),
     }
 }
 

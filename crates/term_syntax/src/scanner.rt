@@ -2,8 +2,8 @@
 ghost use Rattle.std.specs.Prelude.{◌≡◌, ◌+◌, ◌≤◌, ◌<◌, length, drop, IfOk, IfErr, IfSome, OnOk, Ok, Err, true, false, slice_index};
 ghost use Rattle.std.specs.Char.{is_ascii_digit};
 ghost use Rattle.std.specs.Str.Parse.{digits_value, AllDigits};
-ghost use Rattle.reading.specs.declared.fail.ReadFail.TheVariants.{Memory};
-ghost use Rattle.reading.specs.Fault.{IsDue};
+ghost use Rattle.read_faults.specs.declared.fail.ReadFail.TheVariants.{Memory};
+ghost use Rattle.read_faults.specs.Fault.{IsDue};
 ghost use Rattle.term_syntax.specs.Shown.{piece_in, plain_at, quoted_at, value_at};
 ghost use Rattle.term_syntax.specs.Reached.{HasTokens};
 ghost use Rattle.term_syntax.specs.Tokens as spec;
@@ -12,7 +12,7 @@ ghost use Rattle.tree_text.specs.NameBytes as name_bytes;
 use crate::name::Name;
 use crate::token::{Mark, Shape, Token};
 use faults::kinds;
-use reading::{ReadFail, refused};
+use read_faults::{ReadFail, refused};
 use std::alloc::Global;
 use tree_text::{begins_name, continues_name};
 

@@ -1,6 +1,6 @@
 //! Takes up the symbols of parts in the order of the text.
 ghost use Rattle.std.specs.Prelude.{◌≡◌, map, Ok, IfOk, IfErr, OnOk, OnErr, All};
-ghost use Rattle.reading.specs.Fault.{IsDue};
+ghost use Rattle.read_faults.specs.Fault.{IsDue};
 ghost use Rattle.term_syntax.specs.Parts.{taken_up, symbols_of_parts};
 ghost use Rattle.term_syntax.specs.TakenUp.{TookFront};
 ghost use Rattle.term_syntax.specs.Items.{item_in, IsTakenUp, IsPartFault, IsThere};
@@ -12,7 +12,7 @@ use crate::machine::Entry;
 use crate::scanner::{integer_at, plain_name_at, quoted_name_at};
 use crate::token::Shape;
 use faults::kinds;
-use reading::{ReadFail, refused};
+use read_faults::{ReadFail, refused};
 use std::alloc::Global;
 use symbol_pool::{PoolFault, Symbols};
 use term_model::Item;

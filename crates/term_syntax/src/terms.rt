@@ -1,6 +1,6 @@
 //! Reads term text.
 ghost use Rattle.std.specs.Prelude.{◌≡◌, ◌≤◌, ◌^◌, List, IfOk, IfErr, IsErrOf, OnErr, All, length};
-ghost use Rattle.reading.specs.declared.fail.ReadFail.TheVariants.{Memory};
+ghost use Rattle.read_faults.specs.declared.fail.ReadFail.TheVariants.{Memory};
 ghost use Rattle.term_model.specs.Tree.{Tree, IsGround};
 ghost use Rattle.symbol_pool.specs.Pool.{Named};
 ghost use Rattle.symbol_pool.specs.Taking.{GrowsPool};
@@ -11,7 +11,7 @@ ghost use Rattle.term_syntax.specs.Reading.{IsReading, IsRefusal, TookFrontOf};
 use crate::flats::flats;
 use crate::parser::syntax;
 use crate::symbols::items_of;
-use reading::ReadFail;
+use read_faults::ReadFail;
 use std::alloc::Global;
 use symbol_pool::Symbols;
 use tree_text::Flats;

@@ -1,18 +1,18 @@
 //! Lists of names: includes, sorts, declarations and variables.
 ghost use Rattle.rec_reader.specs.Steps as steps;
-ghost use Rattle.reading.specs.Taking.{Takes};
+ghost use Rattle.read_faults.specs.Taking.{Takes};
 
 use crate::machine::{Group, Machine, NameList, Place};
 use crate::syntax_tree::{Declaration, Variables};
 use crate::token::{Name, Sign, Token};
-use reading::Stop;
+use read_faults::NotTaken;
 use sequences::Sequence;
 use std::alloc::Global;
 use std::mem;
 
 impl Machine {
     // One more name of a list.
-    pub(super) fn take_name(&mut self, list: NameList, name: Name) -> Result<(), Stop>
+    pub(super) fn take_name(&mut self, list: NameList, name: Name) -> Result<(), NotTaken>
         ensures { Takes (steps.take_name list name self.old) result self.new }
     {
         match list {
@@ -30,7 +30,7 @@ impl Machine {
         alloc: Global,
         list: NameList,
         name: Name,
-    ) -> Result<(), Stop>
+    ) -> Result<(), NotTaken>
         ensures { Takes (steps.take_first_name list name self.old) result self.new }
     {
         match list {
@@ -47,7 +47,7 @@ impl Machine {
         alloc: Global,
         list: NameList,
         token: Token,
-    ) -> Result<(), Stop>
+    ) -> Result<(), NotTaken>
         ensures { Takes (steps.before_names list self.old token) result self.new }
     {
         match token {
@@ -62,7 +62,7 @@ impl Machine {
         alloc: Global,
         list: NameList,
         token: Token,
-    ) -> Result<(), Stop>
+    ) -> Result<(), NotTaken>
         ensures { Takes (steps.without_names list self.old token) result self.new }
     {
         match list {
@@ -79,7 +79,7 @@ impl Machine {
         alloc: Global,
         list: NameList,
         token: Token,
-    ) -> Result<(), Stop>
+    ) -> Result<(), NotTaken>
         ensures { Takes (steps.after_name list self.old token) result self.new }
     {
         match token {
@@ -95,7 +95,7 @@ impl Machine {
         alloc: Global,
         list: NameList,
         token: Token,
-    ) -> Result<(), Stop>
+    ) -> Result<(), NotTaken>
         ensures { Takes (steps.after_names list self.old token) result self.new }
     {
         match list {
@@ -107,17 +107,17 @@ impl Machine {
         }
     }
 
-    pub(super) fn after_comma(&mut self, list: NameList, token: Token) -> Result<(), Stop>
+    pub(super) fn after_comma(&mut self, list: NameList, token: Token) -> Result<(), NotTaken>
         ensures { Takes (steps.after_comma list self.old token) result self.new }
     {
         match token {
             Token::Named(name) => self.take_name(list, name),
-            _ => Err(Stop::Unexpected),
+            _ => Err(NotTaken::Unexpected),
         }
     }
 
     // The colon after declared names.
-    pub(super) fn on_colon(&mut self, alloc: Global, group: Group, token: Token) -> Result<(), Stop>
+    pub(super) fn on_colon(&mut self, alloc: Global, group: Group, token: Token) -> Result<(), NotTaken>
         ensures { Takes (steps.on_colon group self.old token) result self.new }
     {
         match token {
@@ -125,17 +125,17 @@ impl Machine {
                 self.arguments = Sequence::new(alloc);
                 self.go(Place::BeforeNames(NameList::ArgumentSorts(group)))
             }
-            _ => Err(Stop::Unexpected),
+            _ => Err(NotTaken::Unexpected),
         }
     }
 
     // The arrow after argument sorts.
-    pub(super) fn on_arrow(&mut self, group: Group, token: Token) -> Result<(), Stop>
+    pub(super) fn on_arrow(&mut self, group: Group, token: Token) -> Result<(), NotTaken>
         ensures { Takes (steps.on_arrow group self.old token) result self.new }
     {
         match token {
             Token::At(Sign::Arrow, _) => self.go(Place::DeclarationSort(group)),
-            _ => Err(Stop::Unexpected),
+            _ => Err(NotTaken::Unexpected),
         }
     }
 
@@ -144,7 +144,7 @@ impl Machine {
         alloc: Global,
         group: Group,
         token: Token,
-    ) -> Result<(), Stop>
+    ) -> Result<(), NotTaken>
         ensures { Takes (steps.on_declaration_sort group self.old token) result self.new }
     {
         match token {
@@ -158,21 +158,21 @@ impl Machine {
                 })?;
                 self.go(Place::BeforeNames(NameList::DeclaredNames(group)))
             }
-            _ => Err(Stop::Unexpected),
+            _ => Err(NotTaken::Unexpected),
         }
     }
 
     // The colon after names of variables.
-    pub(super) fn on_variable_colon(&mut self, token: Token) -> Result<(), Stop>
+    pub(super) fn on_variable_colon(&mut self, token: Token) -> Result<(), NotTaken>
         ensures { Takes (steps.on_variable_colon self.old token) result self.new }
     {
         match token {
             Token::At(Sign::Colon, _) => self.go(Place::VariableSort),
-            _ => Err(Stop::Unexpected),
+            _ => Err(NotTaken::Unexpected),
         }
     }
 
-    pub(super) fn on_variable_sort(&mut self, alloc: Global, token: Token) -> Result<(), Stop>
+    pub(super) fn on_variable_sort(&mut self, alloc: Global, token: Token) -> Result<(), NotTaken>
         ensures { Takes (steps.on_variable_sort self.old token) result self.new }
     {
         match token {
@@ -181,7 +181,7 @@ impl Machine {
                 self.current.variables.push(Variables { names, sort })?;
                 self.go(Place::BeforeNames(NameList::VariableNames))
             }
-            _ => Err(Stop::Unexpected),
+            _ => Err(NotTaken::Unexpected),
         }
     }
 }

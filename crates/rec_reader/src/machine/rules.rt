@@ -1,17 +1,17 @@
 //! Rules with their conditions, and terms to be evaluated.
 ghost use Rattle.rec_reader.specs.Steps as steps;
-ghost use Rattle.reading.specs.Taking.{Takes};
+ghost use Rattle.read_faults.specs.Taking.{Takes};
 
 use crate::machine::{Machine, Part, Place, Purpose};
 use crate::syntax_tree::{Condition, Rule};
 use crate::token::{Sign, Token};
-use reading::Stop;
+use read_faults::NotTaken;
 use sequences::Sequence;
 use std::alloc::Global;
 use std::mem;
 
 impl Machine {
-    pub(super) fn before_rule(&mut self, alloc: Global, token: Token) -> Result<(), Stop>
+    pub(super) fn before_rule(&mut self, alloc: Global, token: Token) -> Result<(), NotTaken>
         ensures { Takes (steps.before_rule self.old token) result self.new }
     {
         match token {
@@ -20,7 +20,7 @@ impl Machine {
         }
     }
 
-    pub(super) fn after_left(&mut self, alloc: Global, token: Token) -> Result<(), Stop>
+    pub(super) fn after_left(&mut self, alloc: Global, token: Token) -> Result<(), NotTaken>
         ensures { Takes (steps.after_left self.old token) result self.new }
     {
         match token {
@@ -29,11 +29,11 @@ impl Machine {
                 self.rule.left = self.whole_term(alloc);
                 self.go(Place::Within(Purpose::Right, Part::Expected))
             }
-            _ => Err(Stop::Unexpected),
+            _ => Err(NotTaken::Unexpected),
         }
     }
 
-    pub(super) fn after_right(&mut self, alloc: Global, token: Token) -> Result<(), Stop>
+    pub(super) fn after_right(&mut self, alloc: Global, token: Token) -> Result<(), NotTaken>
         ensures { Takes (steps.after_right self.old token) result self.new }
     {
         self.rule.right = self.whole_term(alloc);
@@ -47,7 +47,7 @@ impl Machine {
     }
 
     // A condition's sign comes, with what it says of the sides.
-    pub(super) fn begin_second(&mut self, alloc: Global, equal: bool) -> Result<(), Stop>
+    pub(super) fn begin_second(&mut self, alloc: Global, equal: bool) -> Result<(), NotTaken>
         ensures { Takes (steps.begin_second equal self.old) result self.new }
     {
         self.first = self.whole_term(alloc);
@@ -55,7 +55,7 @@ impl Machine {
         self.go(Place::Within(Purpose::Second, Part::Expected))
     }
 
-    pub(super) fn after_first(&mut self, alloc: Global, token: Token) -> Result<(), Stop>
+    pub(super) fn after_first(&mut self, alloc: Global, token: Token) -> Result<(), NotTaken>
         ensures { Takes (steps.after_first self.old token) result self.new }
     {
         match token {
@@ -63,11 +63,11 @@ impl Machine {
             Token::At(Sign::Equal, _) => self.begin_second(alloc, true),
             Token::At(Sign::Parts, _) => self.begin_second(alloc, false),
             Token::At(Sign::Unequal, _) => self.begin_second(alloc, false),
-            _ => Err(Stop::Unexpected),
+            _ => Err(NotTaken::Unexpected),
         }
     }
 
-    pub(super) fn after_second(&mut self, alloc: Global, token: Token) -> Result<(), Stop>
+    pub(super) fn after_second(&mut self, alloc: Global, token: Token) -> Result<(), NotTaken>
         ensures { Takes (steps.after_second self.old token) result self.new }
     {
         let first = mem::replace(&mut self.first, Sequence::new(alloc));
@@ -86,7 +86,7 @@ impl Machine {
     }
 
     // What may come after a rule.
-    pub(super) fn after_rule(&mut self, alloc: Global, token: Token) -> Result<(), Stop>
+    pub(super) fn after_rule(&mut self, alloc: Global, token: Token) -> Result<(), NotTaken>
         ensures { Takes (steps.after_rule self.old token) result self.new }
     {
         let rule = mem::replace(&mut self.rule, Rule::blank(alloc));
@@ -94,7 +94,7 @@ impl Machine {
         self.before_rule(alloc, token)
     }
 
-    pub(super) fn before_terms(&mut self, alloc: Global, token: Token) -> Result<(), Stop>
+    pub(super) fn before_terms(&mut self, alloc: Global, token: Token) -> Result<(), NotTaken>
         ensures { Takes (steps.before_terms self.old token) result self.new }
     {
         match token {
@@ -103,7 +103,7 @@ impl Machine {
         }
     }
 
-    pub(super) fn after_value(&mut self, alloc: Global, token: Token) -> Result<(), Stop>
+    pub(super) fn after_value(&mut self, alloc: Global, token: Token) -> Result<(), NotTaken>
         ensures { Takes (steps.after_value self.old token) result self.new }
     {
         let term = self.whole_term(alloc);
@@ -121,7 +121,7 @@ impl Machine {
         alloc: Global,
         purpose: Purpose,
         token: Token,
-    ) -> Result<(), Stop>
+    ) -> Result<(), NotTaken>
         ensures { Takes (steps.after_term purpose self.old token) result self.new }
     {
         match purpose {

@@ -1,25 +1,25 @@
 //! The order of sections.
 ghost use Rattle.rec_reader.specs.Steps as steps;
-ghost use Rattle.reading.specs.Taking.{Takes};
+ghost use Rattle.read_faults.specs.Taking.{Takes};
 
 use crate::machine::{Group, Machine, NameList, Place};
 use crate::syntax_tree::Specification;
 use crate::token::{Sign, Token};
-use reading::Stop;
+use read_faults::NotTaken;
 use std::alloc::Global;
 use std::mem;
 
 impl Machine {
-    pub(super) fn on_start(&mut self, token: Token) -> Result<(), Stop>
+    pub(super) fn on_start(&mut self, token: Token) -> Result<(), NotTaken>
         ensures { Takes (steps.on_start self.old token) result self.new }
     {
         match token {
             Token::At(Sign::RecSpec, _) => self.go(Place::Heading),
-            _ => Err(Stop::Unexpected),
+            _ => Err(NotTaken::Unexpected),
         }
     }
 
-    pub(super) fn on_heading(&mut self, alloc: Global, token: Token) -> Result<(), Stop>
+    pub(super) fn on_heading(&mut self, alloc: Global, token: Token) -> Result<(), NotTaken>
         ensures { Takes (steps.on_heading self.old token) result self.new }
     {
         match token {
@@ -27,11 +27,11 @@ impl Machine {
                 self.current = Specification::blank(alloc, name);
                 self.go(Place::AfterHeading)
             }
-            _ => Err(Stop::Unexpected),
+            _ => Err(NotTaken::Unexpected),
         }
     }
 
-    pub(super) fn after_heading(&mut self, alloc: Global, token: Token) -> Result<(), Stop>
+    pub(super) fn after_heading(&mut self, alloc: Global, token: Token) -> Result<(), NotTaken>
         ensures { Takes (steps.after_heading self.old token) result self.new }
     {
         match token {
@@ -40,7 +40,7 @@ impl Machine {
         }
     }
 
-    pub(super) fn after_header(&mut self, alloc: Global, token: Token) -> Result<(), Stop>
+    pub(super) fn after_header(&mut self, alloc: Global, token: Token) -> Result<(), NotTaken>
         ensures { Takes (steps.after_header self.old token) result self.new }
     {
         match token {
@@ -49,7 +49,7 @@ impl Machine {
         }
     }
 
-    pub(super) fn after_sorts(&mut self, alloc: Global, token: Token) -> Result<(), Stop>
+    pub(super) fn after_sorts(&mut self, alloc: Global, token: Token) -> Result<(), NotTaken>
         ensures { Takes (steps.after_sorts self.old token) result self.new }
     {
         match token {
@@ -60,7 +60,7 @@ impl Machine {
         }
     }
 
-    pub(super) fn after_constructors(&mut self, alloc: Global, token: Token) -> Result<(), Stop>
+    pub(super) fn after_constructors(&mut self, alloc: Global, token: Token) -> Result<(), NotTaken>
         ensures { Takes (steps.after_constructors self.old token) result self.new }
     {
         match token {
@@ -71,7 +71,7 @@ impl Machine {
         }
     }
 
-    pub(super) fn after_operations(&mut self, alloc: Global, token: Token) -> Result<(), Stop>
+    pub(super) fn after_operations(&mut self, alloc: Global, token: Token) -> Result<(), NotTaken>
         ensures { Takes (steps.after_operations self.old token) result self.new }
     {
         match token {
@@ -85,7 +85,7 @@ impl Machine {
         alloc: Global,
         group: Group,
         token: Token,
-    ) -> Result<(), Stop>
+    ) -> Result<(), NotTaken>
         ensures { Takes (steps.after_declarations group self.old token) result self.new }
     {
         match group {
@@ -94,7 +94,7 @@ impl Machine {
         }
     }
 
-    pub(super) fn after_variables(&mut self, alloc: Global, token: Token) -> Result<(), Stop>
+    pub(super) fn after_variables(&mut self, alloc: Global, token: Token) -> Result<(), NotTaken>
         ensures { Takes (steps.after_variables self.old token) result self.new }
     {
         match token {
@@ -103,7 +103,7 @@ impl Machine {
         }
     }
 
-    pub(super) fn after_rules(&mut self, alloc: Global, token: Token) -> Result<(), Stop>
+    pub(super) fn after_rules(&mut self, alloc: Global, token: Token) -> Result<(), NotTaken>
         ensures { Takes (steps.after_rules self.old token) result self.new }
     {
         match token {
@@ -112,7 +112,7 @@ impl Machine {
         }
     }
 
-    pub(super) fn on_end(&mut self, alloc: Global, token: Token) -> Result<(), Stop>
+    pub(super) fn on_end(&mut self, alloc: Global, token: Token) -> Result<(), NotTaken>
         ensures { Takes (steps.on_end self.old token) result self.new }
     {
         match token {
@@ -122,7 +122,7 @@ impl Machine {
                 self.done.push(whole)?;
                 self.go(Place::Between)
             }
-            _ => Err(Stop::Unexpected),
+            _ => Err(NotTaken::Unexpected),
         }
     }
 }

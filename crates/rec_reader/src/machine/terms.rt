@@ -1,13 +1,13 @@
 //! Terms, with an explicit stack of open heads.
 ghost use Rattle.std.specs.Prelude.{◌≡◌, ◌<◌, ◌^◌, []};
 ghost use Rattle.rec_reader.specs.Steps as steps;
-ghost use Rattle.reading.specs.Taking.{Takes};
+ghost use Rattle.read_faults.specs.Taking.{Takes};
 ghost use Rattle.rec_reader.specs.Few.{AreCountsFew};
 
 use crate::machine::{Machine, Part, Place, Purpose};
 use crate::syntax_tree::Node;
 use crate::token::{Name, Sign, Token};
-use reading::Stop;
+use read_faults::NotTaken;
 use sequences::{Sequence, Stack};
 use std::alloc::Global;
 use std::mem;
@@ -19,7 +19,7 @@ impl Machine {
         alloc: Global,
         purpose: Purpose,
         head: Name,
-    ) -> Result<(), Stop>
+    ) -> Result<(), NotTaken>
         ensures { Takes (steps.begin_term purpose head self.old) result self.new }
     {
         self.nodes = Sequence::new(alloc);
@@ -36,7 +36,7 @@ impl Machine {
         mem::replace(&mut self.nodes, Sequence::new(alloc))
     }
 
-    pub(super) fn on_term(&mut self, purpose: Purpose, token: Token) -> Result<(), Stop>
+    pub(super) fn on_term(&mut self, purpose: Purpose, token: Token) -> Result<(), NotTaken>
         ensures { Takes (steps.on_term purpose self.old token) result self.new }
     {
         match token {
@@ -44,7 +44,7 @@ impl Machine {
                 self.head = name;
                 self.go(Place::Within(purpose, Part::Headed))
             }
-            _ => Err(Stop::Unexpected),
+            _ => Err(NotTaken::Unexpected),
         }
     }
 
@@ -54,7 +54,7 @@ impl Machine {
         alloc: Global,
         purpose: Purpose,
         token: Token,
-    ) -> Result<(), Stop>
+    ) -> Result<(), NotTaken>
         requires { AreCountsFew self.old.heads }
         ensures { Takes (steps.after_head purpose self.old token) result self.new }
     {
@@ -82,7 +82,7 @@ impl Machine {
         alloc: Global,
         purpose: Purpose,
         token: Token,
-    ) -> Result<(), Stop>
+    ) -> Result<(), NotTaken>
         requires { AreCountsFew self.old.heads }
         ensures { Takes (steps.after_whole purpose self.old token) result self.new }
     {
@@ -98,7 +98,7 @@ impl Machine {
         purpose: Purpose,
         head: Node,
         token: Token,
-    ) -> Result<(), Stop>
+    ) -> Result<(), NotTaken>
         requires { head.count < 2 ^ 32 }
         ensures { Takes (steps.after_argument purpose head self.old token) result self.new }
     {
@@ -115,7 +115,7 @@ impl Machine {
                 self.nodes.push(head)?;
                 self.go(Place::Within(purpose, Part::Whole))
             }
-            _ => Err(Stop::Unexpected),
+            _ => Err(NotTaken::Unexpected),
         }
     }
 
@@ -125,7 +125,7 @@ impl Machine {
         purpose: Purpose,
         part: Part,
         token: Token,
-    ) -> Result<(), Stop>
+    ) -> Result<(), NotTaken>
         requires { AreCountsFew self.old.heads }
         ensures { Takes (steps.within_term purpose part self.old token) result self.new }
     {

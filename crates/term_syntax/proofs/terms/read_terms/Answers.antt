@@ -6,7 +6,7 @@ use Rattle.term_model.specs.Tree.{IsGround}
 use Rattle.term_syntax.proofs.Ground.{all_are_ground}
 use Rattle.term_syntax.specs.declared.machine.Node.{Node}
 use Rattle.term_model.specs.declared.Item.{Item}
-use Rattle.reading.specs.Fault.{IsDue}
+use Rattle.read_faults.specs.Fault.{IsDue}
 use Rattle.term_syntax.specs.Parts.{taken_up, symbols_of_parts}
 use Rattle.term_syntax.specs.Shown.{parts_in}
 use Rattle.term_syntax.specs.TakenUp.{TookFront}

@@ -1,0 +1,10 @@
+//! What every reader of text answers: why an input isn't read, and why a token isn't taken.
+#![tactic(auto)]
+
+mod fail;
+mod not_taken;
+mod refusing;
+
+pub use fail::ReadFail;
+pub use not_taken::NotTaken;
+pub use refusing::refused;
