@@ -12,7 +12,7 @@ use crate::scanner::{MOST_BYTES, Piece, piece_at, tokens};
 use crate::syntax_tree::Syntax;
 use crate::token::{Token, Tokens};
 use faults::kinds;
-use read_faults::{ReadFail, NotTaken, refused};
+use read_faults::{NotTaken, ReadFail, refused};
 use std::alloc::Global;
 
 fn run(alloc: Global, tokens: &[Token]) -> Result<Machine, ReadFail>

@@ -25,6 +25,6 @@ pub use laws::{
     value_laws,
 };
 pub use one_step::steps;
+pub use outward::outermost;
 pub use rows::{hand_rows, order_rows, outermost_rows, room_rows, trace_rows, worked_rows};
 pub use rules::{Condition, Rule};
-pub use outward::outermost;

@@ -167,7 +167,13 @@ impl Machine {
     }
 
     #[inline(always)]
-    fn open_group(&mut self, text: &[u8], called: bool, part: u32, place: Place) -> Result<(), NotTaken>
+    fn open_group(
+        &mut self,
+        text: &[u8],
+        called: bool,
+        part: u32,
+        place: Place,
+    ) -> Result<(), NotTaken>
         ensures { Takes (steps.open_group called part place (machine_in text.now self.old))
             result (machine_in text.now self.new) }
     {
@@ -244,7 +250,13 @@ impl Machine {
 
     // A group closes, which is no longer on the stack.
     #[inline(always)]
-    fn close(&mut self, alloc: Global, text: &[u8], group: Group, cells: u32) -> Result<(), NotTaken>
+    fn close(
+        &mut self,
+        alloc: Global,
+        text: &[u8],
+        group: Group,
+        cells: u32,
+    ) -> Result<(), NotTaken>
         requires { AreCountsFew 1 self.old.groups }
         ensures { Takes (steps.close group cells (machine_in text.now self.old))
             result (machine_in text.now self.new) }

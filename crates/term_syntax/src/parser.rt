@@ -10,7 +10,7 @@ use crate::machine::{Machine, Node};
 use crate::scanner::{Cut, look_through, piece_at};
 use crate::token::Token;
 use faults::kinds;
-use read_faults::{ReadFail, NotTaken, refused};
+use read_faults::{NotTaken, ReadFail, refused};
 use sequences::Sequence;
 use std::alloc::Global;
 

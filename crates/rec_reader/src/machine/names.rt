@@ -117,7 +117,12 @@ impl Machine {
     }
 
     // The colon after declared names.
-    pub(super) fn on_colon(&mut self, alloc: Global, group: Group, token: Token) -> Result<(), NotTaken>
+    pub(super) fn on_colon(
+        &mut self,
+        alloc: Global,
+        group: Group,
+        token: Token,
+    ) -> Result<(), NotTaken>
         ensures { Takes (steps.on_colon group self.old token) result self.new }
     {
         match token {
