@@ -3,14 +3,14 @@
 
 ghost use Rattle.std.specs.Prelude.{◌≡◌, IfOk, All};
 ghost use Rattle.lock_core.specs.declared.parts.Phase.TheVariants.{Shared};
-ghost use Rattle.store_core.specs.Machine.{In};
+ghost use Rattle.store_model.specs.Machine.{In};
 ghost use Rattle.node_rows.specs.Inside.{IsInside};
 ghost use Rattle.node_rows.specs.Told.{Tells};
 ghost use Rattle.node_rows.specs.Passes.{IsStore, IsPass, IsOut};
 
 use node_rows::{Pass, Store};
 use std::{env, io, thread};
-use store_core::Sizes;
+use store_model::Sizes;
 use term_create::create;
 use term_model::{Head, Symbol};
 

@@ -2,19 +2,19 @@
 use Rattle.std.proofs.Common.{◌≡◌, ℕ, zero, suc, ◌<◌, eqb, pred, Bool, true, cond, Some, List, [], ◌∷◌, ◌++◌, refl, sym, ap, ◌∙◌, subst, arith}
 use Rattle.atomic_table.specs.Table.{Me, Allows}
 use Rattle.term_model.specs.Tree.{Tree}
-use Rattle.store_core.specs.declared.view.Sizes.{Sizes}
-use Rattle.store_core.specs.declared.view.View.{View}
-use Rattle.store_core.specs.declared.view.Place.{Place}
-use Rattle.store_core.specs.declared.view.Place.TheVariants.{Base, FreeCount, Claim, InUse, FreePlace}
-use Rattle.store_core.specs.Words.{write, put}
-use Rattle.store_core.specs.Machine as core
-use Rattle.store_core.specs.Machine.{LoadAny, StoreAny, StoreClaim}
-use Rattle.store_core.specs.Steps.{Permits, is_free, rows_left, names_left, loads, stores, is_storing}
-use Rattle.store_core.specs.Collection.{collected}
-use Rattle.store_core.specs.Shown.{index_of}
-use Rattle.store_core.specs.StoreHolds.{StoreHolds}
-use Rattle.store_core.specs.ByView.{seen_at}
-use Rattle.store_core.proofs.Showing.{collection_sees}
+use Rattle.store_model.specs.declared.view.Sizes.{Sizes}
+use Rattle.store_model.specs.declared.view.View.{View}
+use Rattle.store_model.specs.declared.view.Place.{Place}
+use Rattle.store_model.specs.declared.view.Place.TheVariants.{Base, FreeCount, Claim, InUse, FreePlace}
+use Rattle.store_model.specs.Words.{write, put}
+use Rattle.store_model.specs.Machine as core
+use Rattle.store_model.specs.Machine.{LoadAny, StoreAny, StoreClaim}
+use Rattle.store_model.specs.Steps.{Permits, is_free, rows_left, names_left, loads, stores, is_storing}
+use Rattle.store_model.specs.Collection.{collected}
+use Rattle.store_model.specs.Shown.{index_of}
+use Rattle.store_model.specs.StoreHolds.{StoreHolds}
+use Rattle.store_model.specs.ByView.{seen_at}
+use Rattle.store_model.proofs.Showing.{collection_sees}
 use Rattle.node_rows.specs.declared.view.NodeView.{NodeView}
 use Rattle.node_rows.specs.Shown.{state_of}
 use Rattle.node_rows.specs.Joining.{ShowsJoined}

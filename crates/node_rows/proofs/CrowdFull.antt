@@ -2,9 +2,9 @@
 use Rattle.std.proofs.Common.{◌≡◌, ℕ, List, [], ◌∷◌, unwrap_or, refl, ap, subst}
 use Rattle.term_model.specs.Tree.{Tree, Node, Leaf, Trees, End, More}
 use Rattle.history_core.specs.TermSet.{Names, Holds, Lacks, tree_at, trees_at, tree_over}
-use Rattle.store_core.specs.declared.view.KnownWord.{KnownWord}
-use Rattle.store_core.specs.declared.view.Sizes.{Sizes}
-use Rattle.store_core.specs.declared.view.Content.{Content}
+use Rattle.store_model.specs.declared.view.KnownWord.{KnownWord}
+use Rattle.store_model.specs.declared.view.Sizes.{Sizes}
+use Rattle.store_model.specs.declared.view.Content.{Content}
 use Rattle.node_rows.specs.declared.view.NodeView.{NodeView}
 use Rattle.node_rows.specs.Crowding.{IsSwept, HasCrowd}
 use Rattle.node_rows.specs.CrowdFull.{IsCrowded, FilledIsCrowded}

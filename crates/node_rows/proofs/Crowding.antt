@@ -16,13 +16,13 @@ use Rattle.history_core.specs.Told.{told, kept_trees}
 use Rattle.history_core.proofs.Members.{contains_here, contains_there, contains_none, contains_cases, each_at}
 use Rattle.history_core.proofs.Sets.{pair_same, pair_other}
 use Rattle.history_core.proofs.Sound.{pair_split, legal_is_sound}
-use Rattle.store_core.specs.declared.view.Sizes.{Sizes}
-use Rattle.store_core.specs.declared.view.View.{View}
-use Rattle.store_core.specs.Machine.{Each}
-use Rattle.store_core.specs.Steps.{IsAtRest}
-use Rattle.store_core.specs.Laws.{held_by}
-use Rattle.store_core.proofs.Basics.{choose, eqb_is}
-use Rattle.store_core.proofs.Eight.{inductive}
+use Rattle.store_model.specs.declared.view.Sizes.{Sizes}
+use Rattle.store_model.specs.declared.view.View.{View}
+use Rattle.store_model.specs.Machine.{Each}
+use Rattle.store_model.specs.Steps.{IsAtRest}
+use Rattle.store_model.specs.Laws.{held_by}
+use Rattle.store_model.proofs.Basics.{choose, eqb_is}
+use Rattle.store_model.proofs.Eight.{inductive}
 use Rattle.node_rows.specs.declared.view.NodeView.{NodeView}
 use Rattle.node_rows.specs.Collecting.{ended_by, IsKept}
 use Rattle.node_rows.specs.Crowding.{kept_after, kept_from, kept_in, IsSwept, pairs_of, HasCrowd, swept, FullIsCrowded, AbsentIsNotCrowded, PairsAreKept, CrowdAtItsPlace}

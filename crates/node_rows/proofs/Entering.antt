@@ -14,16 +14,16 @@ use Rattle.busy_forbidden.specs.Entries.{Steps, TriesShared, EntersShared}
 use Rattle.busy_forbidden.specs.Exclusive.{freed_one, freed_below, released, next_release, TriesExclusive, EntersExclusive, IsGranted}
 use Rattle.busy_forbidden.proofs.Asking.{run_append, goes_free}
 use Rattle.busy_forbidden.proofs.Leaving.{tries_shared_leaves, enters_shared_leaves, tries_exclusive_leaves, enters_exclusive_leaves}
-use Rattle.store_core.specs.declared.view.Sizes.{Sizes}
-use Rattle.store_core.specs.declared.view.View.{View}
-use Rattle.store_core.specs.Machine.{based, ready, left, protected_in}
-use Rattle.store_core.specs.Steps.{IsAtRest}
+use Rattle.store_model.specs.declared.view.Sizes.{Sizes}
+use Rattle.store_model.specs.declared.view.View.{View}
+use Rattle.store_model.specs.Machine.{based, ready, left, protected_in}
+use Rattle.store_model.specs.Steps.{IsAtRest}
 use Rattle.node_rows.specs.declared.view.NodeView.{NodeView}
 use Rattle.node_rows.specs.Shown.{node_next, node_can, rest_of, is_out, IsAway, IsEnding, IsClosed}
 use Rattle.history_core.specs.declared.entry.Entry.{Entry}
 use Rattle.history_core.specs.declared.entry.Entry.TheVariants.{Roots}
 use Rattle.history_core.specs.Chronicle.{last_roots, roots_after}
-use Rattle.store_core.specs.Steps.{AreLastRoots}
+use Rattle.store_model.specs.Steps.{AreLastRoots}
 use Rattle.node_rows.specs.Passes.{Came, Left}
 use Rattle.node_rows.specs.Locking.{node_leaves, ended_on, freed_on, at_rest_in, ending_in}
 

@@ -7,22 +7,22 @@ use Rattle.history_core.specs.declared.entry.Entry.{Entry}
 use Rattle.history_core.specs.TermSet.{Names, IsHeld}
 use Rattle.history_core.specs.Chronicle.{chronicle, set_of}
 use Rattle.busy_forbidden.proofs.Goes.{same_place}
-use Rattle.store_core.specs.declared.view.Sizes.{Sizes}
-use Rattle.store_core.specs.declared.view.View.{View}
-use Rattle.store_core.specs.declared.view.Place.{Place}
-use Rattle.store_core.specs.declared.view.Place.TheVariants.{Base, FreeCount, Claim}
-use Rattle.store_core.specs.declared.view.Content.{Content}
-use Rattle.store_core.specs.declared.view.Call.{Call}
-use Rattle.store_core.specs.declared.view.Call.TheVariants.{Idle, Comparing, Passing, Finding, Ended, Counting, Drawing, Placing, Filling, Numbering, Linking, Publishing, Loading, Storing}
-use Rattle.store_core.specs.Machine as core
-use Rattle.store_core.specs.Machine.{IsCreation, Go, action}
-use Rattle.store_core.specs.Seats.{HasRead}
-use Rattle.store_core.specs.Invariant.{listed, names_of}
-use Rattle.store_core.specs.Runs.{Inductive}
-use Rattle.store_core.specs.Shown.{shown, in_table, index_of}
-use Rattle.store_core.proofs.Eight.{inductive}
-use Rattle.store_core.proofs.Full.{sole_words, sole_now, sole_all}
-use Rattle.store_core.proofs.Histories.{live_held}
+use Rattle.store_model.specs.declared.view.Sizes.{Sizes}
+use Rattle.store_model.specs.declared.view.View.{View}
+use Rattle.store_model.specs.declared.view.Place.{Place}
+use Rattle.store_model.specs.declared.view.Place.TheVariants.{Base, FreeCount, Claim}
+use Rattle.store_model.specs.declared.view.Content.{Content}
+use Rattle.store_model.specs.declared.view.Call.{Call}
+use Rattle.store_model.specs.declared.view.Call.TheVariants.{Idle, Comparing, Passing, Finding, Ended, Counting, Drawing, Placing, Filling, Numbering, Linking, Publishing, Loading, Storing}
+use Rattle.store_model.specs.Machine as core
+use Rattle.store_model.specs.Machine.{IsCreation, Go, action}
+use Rattle.store_model.specs.Seats.{HasRead}
+use Rattle.store_model.specs.Invariant.{listed, names_of}
+use Rattle.store_model.specs.Runs.{Inductive}
+use Rattle.store_model.specs.Shown.{shown, in_table, index_of}
+use Rattle.store_model.proofs.Eight.{inductive}
+use Rattle.store_model.proofs.Full.{sole_words, sole_now, sole_all}
+use Rattle.store_model.proofs.Histories.{live_held}
 use Rattle.node_rows.specs.declared.view.NodeView.{NodeView}
 use Rattle.node_rows.specs.Shown.{state_of, Shows}
 use Rattle.node_rows.specs.Joining.{with_views, ShowsJoined}

@@ -24,15 +24,15 @@ use Rattle.busy_forbidden.specs.Rules.{ShowsLock}
 use Rattle.busy_forbidden.specs.Views.{at_view}
 use Rattle.busy_forbidden.proofs.Framing.{same_view}
 use Rattle.busy_forbidden.proofs.Goes.{same_place}
-use Rattle.store_core.specs.declared.view.Sizes.{Sizes}
-use Rattle.store_core.specs.declared.view.View.{View}
-use Rattle.store_core.specs.Machine.{Each, In}
-use Rattle.store_core.specs.Invariant.{listed}
-use Rattle.store_core.specs.Recalls.{EntriesRecalled, Recalls}
-use Rattle.store_core.specs.StoreHolds.{StoreHolds}
-use Rattle.store_core.specs.Shown.{shown}
-use Rattle.store_core.proofs.Basics.{choose, eqb_is, eqb_not, each_map, each_both}
-use Rattle.store_core.proofs.Histories.{listed_at}
+use Rattle.store_model.specs.declared.view.Sizes.{Sizes}
+use Rattle.store_model.specs.declared.view.View.{View}
+use Rattle.store_model.specs.Machine.{Each, In}
+use Rattle.store_model.specs.Invariant.{listed}
+use Rattle.store_model.specs.Recalls.{EntriesRecalled, Recalls}
+use Rattle.store_model.specs.StoreHolds.{StoreHolds}
+use Rattle.store_model.specs.Shown.{shown}
+use Rattle.store_model.proofs.Basics.{choose, eqb_is, eqb_not, each_map, each_both}
+use Rattle.store_model.proofs.Histories.{listed_at}
 use Rattle.node_rows.specs.declared.store.Pass.{Pass}
 use Rattle.node_rows.specs.Told.{HasEntries, KeepsOrder, HasRisingKeys, TellsTrees, view_of}
 use Rattle.node_rows.specs.Crowding.{IsCrowd, Crowds, crowd_at}

@@ -4,15 +4,15 @@ use Rattle.term_model.specs.Tree.{Tree, Leaf, Node, Trees, End, More}
 use Rattle.term_model.specs.declared.Head.{Head}
 use Rattle.hash_buckets.specs.Spelled.{spelled}
 use Rattle.history_core.specs.declared.entry.Entry.{Entry}
-use Rattle.store_core.specs.declared.view.View.{View}
-use Rattle.store_core.specs.declared.view.KnownWord.{KnownWord}
-use Rattle.store_core.specs.Machine.{Each, In, protected_in, rows_kept, words_kept, based, ready}
-use Rattle.store_core.specs.Collection.{collected}
-use Rattle.store_core.specs.ByView.{KnowsWord}
-use Rattle.store_core.specs.Leading.{LeadsTo, leads_first, leads_on}
-use Rattle.store_core.proofs.Gains.{two_words, enough_words}
-use Rattle.store_core.proofs.ByWords.{spelled_at}
-use Rattle.store_core.proofs.Leading.{among_in, led_in, words_in, entry_keeps}
+use Rattle.store_model.specs.declared.view.View.{View}
+use Rattle.store_model.specs.declared.view.KnownWord.{KnownWord}
+use Rattle.store_model.specs.Machine.{Each, In, protected_in, rows_kept, words_kept, based, ready}
+use Rattle.store_model.specs.Collection.{collected}
+use Rattle.store_model.specs.ByView.{KnowsWord}
+use Rattle.store_model.specs.Leading.{LeadsTo, leads_first, leads_on}
+use Rattle.store_model.proofs.Gains.{two_words, enough_words}
+use Rattle.store_model.proofs.ByWords.{spelled_at}
+use Rattle.store_model.proofs.Leading.{among_in, led_in, words_in, entry_keeps}
 use Rattle.node_rows.specs.Knowing.{KnowsRow, KnowsTree, KnowsTrees}
 use Rattle.node_rows.specs.Keeping.{IsLedTo, KeepsLed, LedToArguments}
 

@@ -8,13 +8,13 @@ use Rattle.history_core.specs.TermSet.{Names, TermSet, Holds, tree_over}
 use Rattle.history_core.specs.Entry.{IsStep, after}
 use Rattle.history_core.specs.Chronicle.{History, Legal, left_by}
 use Rattle.history_core.proofs.Kept.{collect_keeps_reached}
-use Rattle.store_core.specs.declared.view.Sizes.{Sizes}
-use Rattle.store_core.specs.HistoryMatches.{history_of}
-use Rattle.store_core.specs.Laws.{held_by}
-use Rattle.store_core.specs.Machine as core
-use Rattle.store_core.specs.Steps.{IsAtRest, is_collecting}
-use Rattle.store_core.specs.Runs.{Inductive}
-use Rattle.store_core.proofs.Histories.{live_held}
+use Rattle.store_model.specs.declared.view.Sizes.{Sizes}
+use Rattle.store_model.specs.HistoryMatches.{history_of}
+use Rattle.store_model.specs.Laws.{held_by}
+use Rattle.store_model.specs.Machine as core
+use Rattle.store_model.specs.Steps.{IsAtRest, is_collecting}
+use Rattle.store_model.specs.Runs.{Inductive}
+use Rattle.store_model.proofs.Histories.{live_held}
 use Rattle.node_rows.specs.Entries.{NamesTrees}
 use Rattle.node_rows.specs.Knowing.{KnowsTree}
 use Rattle.node_rows.proofs.Knowing.{tree_is}

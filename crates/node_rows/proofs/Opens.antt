@@ -9,23 +9,23 @@ use Rattle.term_model.specs.Tree.{Tree}
 use Rattle.lock_core.specs.Lock.{at_start}
 use Rattle.busy_forbidden.specs.Shown.{newcomer}
 use Rattle.busy_forbidden.proofs.Dealing.{lock_opens, lock_splits}
-use Rattle.store_core.specs.declared.view.Sizes.{Sizes}
-use Rattle.store_core.specs.declared.view.View.{View}
-use Rattle.store_core.specs.declared.view.Place.{Place}
-use Rattle.store_core.specs.declared.view.Place.TheVariants.{Base, FreeCount, Claim, InUse, FreePlace, Bucket, RowWord, RootCount, Root}
-use Rattle.store_core.specs.Words.{write}
-use Rattle.store_core.specs.Shown.{shown, total, in_table, index_of}
-use Rattle.store_core.specs.Steps as core
-use Rattle.store_core.specs.Runs as runs
-use Rattle.store_core.specs.Runs.{AreSizes, StartsWith}
-use Rattle.store_core.specs.Recalls.{Recalls}
-use Rattle.store_core.specs.StoreHolds.{StoreHolds}
-use Rattle.store_core.specs.StoreValue.{MaySize}
-use Rattle.store_core.proofs.Basics.{choose, each_map, eqb_is, eqb_not}
-use Rattle.store_core.proofs.Shown.{shown_written, past_lock, place_inside}
-use Rattle.store_core.proofs.Eight.{eight}
-use Rattle.store_core.proofs.RecallsHold.{start_recalls}
-use Rattle.store_core.proofs.Runs.{starts}
+use Rattle.store_model.specs.declared.view.Sizes.{Sizes}
+use Rattle.store_model.specs.declared.view.View.{View}
+use Rattle.store_model.specs.declared.view.Place.{Place}
+use Rattle.store_model.specs.declared.view.Place.TheVariants.{Base, FreeCount, Claim, InUse, FreePlace, Bucket, RowWord, RootCount, Root}
+use Rattle.store_model.specs.Words.{write}
+use Rattle.store_model.specs.Shown.{shown, total, in_table, index_of}
+use Rattle.store_model.specs.Steps as core
+use Rattle.store_model.specs.Runs as runs
+use Rattle.store_model.specs.Runs.{AreSizes, StartsWith}
+use Rattle.store_model.specs.Recalls.{Recalls}
+use Rattle.store_model.specs.StoreHolds.{StoreHolds}
+use Rattle.store_model.specs.NewStore.{MaySize}
+use Rattle.store_model.proofs.Basics.{choose, each_map, eqb_is, eqb_not}
+use Rattle.store_model.proofs.Shown.{shown_written, past_lock, place_inside}
+use Rattle.store_model.proofs.Eight.{eight}
+use Rattle.store_model.proofs.RecallsHold.{start_recalls}
+use Rattle.store_model.proofs.Runs.{starts}
 use Rattle.node_rows.specs.declared.view.NodeView.{NodeView}
 use Rattle.node_rows.specs.Shown.{lock_of, first_view, one_made, next_seat, store_at, Shows}
 use Rattle.node_rows.specs.declared.view.JoinedSeat.{JoinedSeat}
@@ -33,7 +33,7 @@ use Rattle.node_rows.specs.Crowding.{Crowds, crowd_at}
 use Rattle.node_rows.specs.CrowdsKept.{crowds_start, crowd_same, crowd_end}
 use Rattle.node_rows.specs.Joining.{spent_view, seats_in, AreApart, IsSpent, Gathers, with_views, ShowsJoined}
 use Rattle.node_rows.specs.Gathering.{not_spent, known_at, step_gathers}
-use Rattle.store_core.specs.Machine.{Each}
+use Rattle.store_model.specs.Machine.{Each}
 use Rattle.node_rows.specs.Locking.{store_here, store_set, put_again}
 use Rattle.atomic_table.specs.Seated.{TableId}
 use Rattle.atomic_table.specs.declared.shared.Seat.{Seat}

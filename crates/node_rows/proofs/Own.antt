@@ -7,37 +7,37 @@ use Rattle.atomic_table.proofs.Lists.{set_here}
 use Rattle.term_model.specs.Tree.{Tree}
 use Rattle.busy_forbidden.proofs.Framing.{lock_left}
 use Rattle.busy_forbidden.proofs.Goes.{same_place}
-use Rattle.store_core.specs.declared.view.Sizes.{Sizes}
-use Rattle.store_core.specs.declared.view.View.{View}
-use Rattle.store_core.specs.declared.view.Place.{Place}
-use Rattle.store_core.specs.declared.view.Place.TheVariants.{InUse, RootCount, Root}
-use Rattle.store_core.specs.declared.view.Call.{Call}
-use Rattle.store_core.specs.declared.view.Content.{Content}
-use Rattle.store_core.specs.declared.view.Call.TheVariants.{Idle, Comparing, Passing, Finding, Ended, Counting, Drawing, Placing, Filling, Numbering, Linking, Publishing, Loading, Storing}
-use Rattle.store_core.specs.declared.view.Stay.TheVariants.{Away, Ready}
-use Rattle.store_core.specs.Words.{write, put}
-use Rattle.store_core.specs.Machine as core
-use Rattle.store_core.specs.Machine.{Action, acted, with_call, IsCreation, LoadBase, LoadInUse, Begin, Go, LoadRoot, StoreRoot, StoreCount, ReadWord, ReadArgument, StoreClaim, Each}
-use Rattle.store_core.specs.Seats.{looked, index, drawn, index_in, wanted, IsWalk, Walked, IsKnown, SeatHolds}
-use Rattle.store_core.specs.Invariant.{Holds, listed, names_of}
-use Rattle.store_core.specs.Reads.{IsUndisturbed}
+use Rattle.store_model.specs.declared.view.Sizes.{Sizes}
+use Rattle.store_model.specs.declared.view.View.{View}
+use Rattle.store_model.specs.declared.view.Place.{Place}
+use Rattle.store_model.specs.declared.view.Place.TheVariants.{InUse, RootCount, Root}
+use Rattle.store_model.specs.declared.view.Call.{Call}
+use Rattle.store_model.specs.declared.view.Content.{Content}
+use Rattle.store_model.specs.declared.view.Call.TheVariants.{Idle, Comparing, Passing, Finding, Ended, Counting, Drawing, Placing, Filling, Numbering, Linking, Publishing, Loading, Storing}
+use Rattle.store_model.specs.declared.view.Stay.TheVariants.{Away, Ready}
+use Rattle.store_model.specs.Words.{write, put}
+use Rattle.store_model.specs.Machine as core
+use Rattle.store_model.specs.Machine.{Action, acted, with_call, IsCreation, LoadBase, LoadInUse, Begin, Go, LoadRoot, StoreRoot, StoreCount, ReadWord, ReadArgument, StoreClaim, Each}
+use Rattle.store_model.specs.Seats.{looked, index, drawn, index_in, wanted, IsWalk, Walked, IsKnown, SeatHolds}
+use Rattle.store_model.specs.Invariant.{Holds, listed, names_of}
+use Rattle.store_model.specs.Reads.{IsUndisturbed}
 use Rattle.history_core.specs.declared.entry.Entry.{Entry}
 use Rattle.history_core.specs.TermSet.{Names, Lacks, tree_over}
 use Rattle.history_core.specs.Chronicle.{chronicle, set_of}
-use Rattle.store_core.specs.Runs.{Inductive}
-use Rattle.store_core.specs.Recalls.{Recalls}
-use Rattle.store_core.specs.StoreHolds.{StoreHolds}
-use Rattle.store_core.specs.Steps.{InPlace, Permits, after, is_collecting, head_read, IsAtRest}
-use Rattle.store_core.specs.Laws.{held_by}
-use Rattle.store_core.specs.Shown.{shown, in_table, index_of}
-use Rattle.store_core.proofs.Basics.{where_map, where_at, each_map}
-use Rattle.store_core.proofs.Shown.{shown_written, past_lock, place_inside}
-use Rattle.store_core.proofs.Locks.{is_in}
-use Rattle.store_core.proofs.Wrapped.{quiet, creation_calm, creation_busy}
-use Rattle.store_core.proofs.Eight.{inductive}
-use Rattle.store_core.specs.Words.{row_at, RowWords}
-use Rattle.store_core.specs.Calls.{bucket}
-use Rattle.store_core.proofs.Short.{chain_few, walks_few, walked_few}
+use Rattle.store_model.specs.Runs.{Inductive}
+use Rattle.store_model.specs.Recalls.{Recalls}
+use Rattle.store_model.specs.StoreHolds.{StoreHolds}
+use Rattle.store_model.specs.Steps.{InPlace, Permits, after, is_collecting, head_read, IsAtRest}
+use Rattle.store_model.specs.Laws.{held_by}
+use Rattle.store_model.specs.Shown.{shown, in_table, index_of}
+use Rattle.store_model.proofs.Basics.{where_map, where_at, each_map}
+use Rattle.store_model.proofs.Shown.{shown_written, past_lock, place_inside}
+use Rattle.store_model.proofs.Locks.{is_in}
+use Rattle.store_model.proofs.Wrapped.{quiet, creation_calm, creation_busy}
+use Rattle.store_model.proofs.Eight.{inductive}
+use Rattle.store_model.specs.Words.{row_at, RowWords}
+use Rattle.store_model.specs.Calls.{bucket}
+use Rattle.store_model.proofs.Short.{chain_few, walks_few, walked_few}
 use Rattle.node_rows.specs.declared.view.NodeView.{NodeView}
 use Rattle.node_rows.specs.Shown.{lock_of, store_at, state_of, Shows}
 use Rattle.node_rows.specs.Recalling.{step_recalls}

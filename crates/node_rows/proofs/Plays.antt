@@ -9,27 +9,27 @@ use Rattle.atomic_table.specs.declared.shared.Seat.{Seat}
 use Rattle.lock_core.specs.Exclusion.{IsExclusive}
 use Rattle.busy_forbidden.specs.Exclusive.{IsGranted}
 use Rattle.term_model.specs.declared.Head.{Head}
-use Rattle.store_core.specs.declared.view.Sizes.{Sizes}
-use Rattle.store_core.specs.declared.view.View.{View}
-use Rattle.store_core.specs.declared.view.Place.{Place}
-use Rattle.store_core.specs.declared.view.Place.TheVariants.{Base, Claim, InUse, Root}
-use Rattle.store_core.specs.declared.view.Call.{Call}
-use Rattle.store_core.specs.declared.view.Call.TheVariants.{Idle, Comparing, Passing, Finding, Ended, Counting, Drawing, Placing, Filling, Numbering, Linking, Publishing, Loading, Storing}
-use Rattle.store_core.specs.declared.view.Stay.TheVariants.{Away, Based, Ready}
-use Rattle.store_core.specs.Machine as core
-use Rattle.store_core.specs.Machine.{IsCreation, action, InAccess, LoadBase, LoadInUse, Begin, Go, LoadRoot, StoreRoot, StoreCount, ReadWord, ReadArgument}
-use Rattle.store_core.specs.ByView as by_view
-use Rattle.store_core.specs.ByView.{LockGrants}
-use Rattle.store_core.specs.Seats.{RootsKnown}
-use Rattle.store_core.specs.Runs.{Inductive}
-use Rattle.store_core.proofs.Eight.{inductive}
-use Rattle.store_core.proofs.Showing.{view_shows}
-use Rattle.store_core.specs.Invariant.{one_if, tally, is_at}
-use Rattle.store_core.specs.Steps.{Permits, MayCreate, is_collecting}
-use Rattle.store_core.specs.Shown.{shown, in_table, index_of}
-use Rattle.store_core.proofs.Shown.{place_inside}
-use Rattle.store_core.proofs.Locks.{is_in}
-use Rattle.store_core.proofs.Wrapped.{quiet, creation_calm, creation_busy}
+use Rattle.store_model.specs.declared.view.Sizes.{Sizes}
+use Rattle.store_model.specs.declared.view.View.{View}
+use Rattle.store_model.specs.declared.view.Place.{Place}
+use Rattle.store_model.specs.declared.view.Place.TheVariants.{Base, Claim, InUse, Root}
+use Rattle.store_model.specs.declared.view.Call.{Call}
+use Rattle.store_model.specs.declared.view.Call.TheVariants.{Idle, Comparing, Passing, Finding, Ended, Counting, Drawing, Placing, Filling, Numbering, Linking, Publishing, Loading, Storing}
+use Rattle.store_model.specs.declared.view.Stay.TheVariants.{Away, Based, Ready}
+use Rattle.store_model.specs.Machine as core
+use Rattle.store_model.specs.Machine.{IsCreation, action, InAccess, LoadBase, LoadInUse, Begin, Go, LoadRoot, StoreRoot, StoreCount, ReadWord, ReadArgument}
+use Rattle.store_model.specs.ByView as by_view
+use Rattle.store_model.specs.ByView.{LockGrants}
+use Rattle.store_model.specs.Seats.{RootsKnown}
+use Rattle.store_model.specs.Runs.{Inductive}
+use Rattle.store_model.proofs.Eight.{inductive}
+use Rattle.store_model.proofs.Showing.{view_shows}
+use Rattle.store_model.specs.Invariant.{one_if, tally, is_at}
+use Rattle.store_model.specs.Steps.{Permits, MayCreate, is_collecting}
+use Rattle.store_model.specs.Shown.{shown, in_table, index_of}
+use Rattle.store_model.proofs.Shown.{place_inside}
+use Rattle.store_model.proofs.Locks.{is_in}
+use Rattle.store_model.proofs.Wrapped.{quiet, creation_calm, creation_busy}
 use Rattle.node_rows.specs.declared.view.NodeView.{NodeView}
 use Rattle.node_rows.specs.Shown.{state_of, Shows, IsAway}
 use Rattle.node_rows.specs.Joining.{with_views, ShowsJoined}

@@ -6,29 +6,29 @@ use lib.ListN.{get_elem?}
 use Rattle.atomic_table.specs.Table.{State, Me}
 use Rattle.term_model.specs.Tree.{Tree}
 use Rattle.history_core.specs.TermSet.{Names, Holds, IsHeld, Lacks, tree_over}
-use Rattle.store_core.specs.declared.view.Sizes.{Sizes}
-use Rattle.store_core.specs.declared.view.View.{View}
-use Rattle.store_core.specs.declared.view.Place.{Place}
-use Rattle.store_core.specs.declared.view.Place.TheVariants.{Base, FreeCount, Claim, InUse, FreePlace}
-use Rattle.store_core.specs.declared.view.Content.{Content}
-use Rattle.store_core.specs.declared.view.Call.{Call}
-use Rattle.store_core.specs.declared.view.Stay.TheVariants.{Away, Ready}
-use Rattle.store_core.specs.declared.view.Call.TheVariants.{Idle, Comparing, Passing, Finding, Ended, Counting, Drawing, Placing, Filling, Numbering, Linking, Publishing, Loading, Storing}
-use Rattle.store_core.specs.Calls.{bucket}
-use Rattle.store_core.specs.Words.{row_at}
-use Rattle.store_core.specs.Machine as core
-use Rattle.store_core.specs.Machine.{IsCreation, action, with_call}
-use Rattle.store_core.specs.Meaning.{Meaning}
-use Rattle.store_core.specs.Seats.{index, wanted, SeatHolds, Walked, HasRead}
-use Rattle.store_core.specs.Invariant.{Holds as FactsHold, RowsHold, names_of}
-use Rattle.store_core.specs.Laws.{held_by}
-use Rattle.store_core.specs.Runs.{Inductive}
-use Rattle.store_core.specs.Steps.{IsFresh, head_read, is_collecting}
-use Rattle.store_core.specs.Shown.{shown}
-use Rattle.store_core.proofs.Basics.{each_map, where_at}
-use Rattle.store_core.proofs.Eight.{inductive, in_places}
-use Rattle.store_core.proofs.Histories.{live_held}
-use Rattle.store_core.proofs.Wrapped.{quiet, quiet_fresh, creation_calm}
+use Rattle.store_model.specs.declared.view.Sizes.{Sizes}
+use Rattle.store_model.specs.declared.view.View.{View}
+use Rattle.store_model.specs.declared.view.Place.{Place}
+use Rattle.store_model.specs.declared.view.Place.TheVariants.{Base, FreeCount, Claim, InUse, FreePlace}
+use Rattle.store_model.specs.declared.view.Content.{Content}
+use Rattle.store_model.specs.declared.view.Call.{Call}
+use Rattle.store_model.specs.declared.view.Stay.TheVariants.{Away, Ready}
+use Rattle.store_model.specs.declared.view.Call.TheVariants.{Idle, Comparing, Passing, Finding, Ended, Counting, Drawing, Placing, Filling, Numbering, Linking, Publishing, Loading, Storing}
+use Rattle.store_model.specs.Calls.{bucket}
+use Rattle.store_model.specs.Words.{row_at}
+use Rattle.store_model.specs.Machine as core
+use Rattle.store_model.specs.Machine.{IsCreation, action, with_call}
+use Rattle.store_model.specs.Meaning.{Meaning}
+use Rattle.store_model.specs.Seats.{index, wanted, SeatHolds, Walked, HasRead}
+use Rattle.store_model.specs.Invariant.{Holds as FactsHold, RowsHold, names_of}
+use Rattle.store_model.specs.Laws.{held_by}
+use Rattle.store_model.specs.Runs.{Inductive}
+use Rattle.store_model.specs.Steps.{IsFresh, head_read, is_collecting}
+use Rattle.store_model.specs.Shown.{shown}
+use Rattle.store_model.proofs.Basics.{each_map, where_at}
+use Rattle.store_model.proofs.Eight.{inductive, in_places}
+use Rattle.store_model.proofs.Histories.{live_held}
+use Rattle.store_model.proofs.Wrapped.{quiet, quiet_fresh, creation_calm}
 use Rattle.busy_forbidden.proofs.Goes.{same_place}
 use Rattle.node_rows.specs.declared.view.NodeView.{NodeView}
 use Rattle.node_rows.specs.Shown.{state_of, store_at}

@@ -7,12 +7,12 @@ use Rattle.term_model.specs.declared.Row.{Row}
 use Rattle.history_core.specs.declared.entry.Entry.{Entry}
 use Rattle.history_core.specs.declared.entry.Entry.TheVariants as entry
 use Rattle.mark_phase.specs.Reachable.{IsMarked}
-use Rattle.store_core.specs.declared.view.View.{View}
-use Rattle.store_core.specs.declared.view.Sizes.{Sizes}
-use Rattle.store_core.specs.Machine.{based, ready, left, protected_in}
+use Rattle.store_model.specs.declared.view.View.{View}
+use Rattle.store_model.specs.declared.view.Sizes.{Sizes}
+use Rattle.store_model.specs.Machine.{based, ready, left, protected_in}
 use Rattle.node_rows.specs.declared.view.NodeView.{NodeView}
 use Rattle.node_rows.specs.Steps.{with_store}
-use Rattle.store_core.specs.Steps.{newcomer}
+use Rattle.store_model.specs.Steps.{newcomer}
 use Rattle.node_rows.specs.declared.store.Last.{Last}
 use Rattle.node_rows.specs.declared.store.Last.TheVariants.{Nothing, Make, Find, Roots, Collect}
 use Rattle.node_rows.specs.Crowding.{kept_after, kept_in}

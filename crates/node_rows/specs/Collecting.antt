@@ -4,20 +4,20 @@ use Rattle.atomic_table.specs.Table.{Me, Step}
 use Rattle.term_model.specs.Tree.{Tree, distinct}
 use Rattle.history_core.specs.TermSet.{Holds}
 use Rattle.busy_forbidden.specs.Exclusive.{IsGranted}
-use Rattle.store_core.specs.declared.view.Sizes.{Sizes}
-use Rattle.store_core.specs.declared.view.View.{View}
-use Rattle.store_core.specs.declared.view.KnownWord.{KnownWord}
-use Rattle.store_core.specs.declared.view.Call.TheVariants.{Storing}
-use Rattle.store_core.specs.declared.view.Place.{Place}
-use Rattle.store_core.specs.declared.view.Place.TheVariants.{Base, FreeCount, Claim, InUse, FreePlace}
-use Rattle.store_core.specs.Machine as core
-use Rattle.store_core.specs.Machine.{Action, with_call, LoadAny, StoreAny, StoreClaim}
-use Rattle.store_core.specs.Steps.{loads, stores, loading, is_storing, names_left, MayEnd}
-use Rattle.store_core.specs.Collection.{collected}
-use Rattle.store_core.specs.Shown.{index_of}
-use Rattle.store_core.specs.StoreHolds.{StoreHolds}
-use Rattle.store_core.specs.ByView as by_view
-use Rattle.store_core.specs.ByView.{seen_at}
+use Rattle.store_model.specs.declared.view.Sizes.{Sizes}
+use Rattle.store_model.specs.declared.view.View.{View}
+use Rattle.store_model.specs.declared.view.KnownWord.{KnownWord}
+use Rattle.store_model.specs.declared.view.Call.TheVariants.{Storing}
+use Rattle.store_model.specs.declared.view.Place.{Place}
+use Rattle.store_model.specs.declared.view.Place.TheVariants.{Base, FreeCount, Claim, InUse, FreePlace}
+use Rattle.store_model.specs.Machine as core
+use Rattle.store_model.specs.Machine.{Action, with_call, LoadAny, StoreAny, StoreClaim}
+use Rattle.store_model.specs.Steps.{loads, stores, loading, is_storing, names_left, MayEnd}
+use Rattle.store_model.specs.Collection.{collected}
+use Rattle.store_model.specs.Shown.{index_of}
+use Rattle.store_model.specs.StoreHolds.{StoreHolds}
+use Rattle.store_model.specs.ByView as by_view
+use Rattle.store_model.specs.ByView.{seen_at}
 use Rattle.node_rows.specs.declared.view.NodeView.{NodeView}
 use Rattle.node_rows.specs.Crowding.{pairs_of, swept, HasCrowd}
 use Rattle.node_rows.specs.Knowing.{KnowsTree}

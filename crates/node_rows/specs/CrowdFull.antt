@@ -1,8 +1,8 @@
 -- What a pass knows of its crowd where it finds no row free after its collection.
 use Rattle.std.specs.Prelude.{◌≡◌, ℕ, Contains}
 use Rattle.term_model.specs.Tree.{Node, Trees, distinct}
-use Rattle.store_core.specs.declared.view.Sizes.{Sizes}
-use Rattle.store_core.specs.declared.view.Content.{Content}
+use Rattle.store_model.specs.declared.view.Sizes.{Sizes}
+use Rattle.store_model.specs.declared.view.Content.{Content}
 use Rattle.node_rows.specs.declared.view.NodeView.{NodeView}
 use Rattle.node_rows.specs.Crowding.{IsSwept}
 use Rattle.node_rows.specs.Full.{IsFilled}

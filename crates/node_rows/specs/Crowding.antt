@@ -7,14 +7,14 @@ use Rattle.history_core.specs.Entry.{is_collect, IsAscending}
 use Rattle.history_core.specs.TermSet.{Names, Holds, IsHeld, Lacks, empty, with_pair, trees_at}
 use Rattle.history_core.specs.Chronicle.{History, chronicle, part_of, set_of}
 use Rattle.history_core.specs.Told.{told, kept_trees}
-use Rattle.store_core.specs.declared.view.Sizes.{Sizes}
-use Rattle.store_core.specs.declared.view.View.{View}
-use Rattle.store_core.specs.Machine as core
-use Rattle.store_core.specs.Machine.{Each}
-use Rattle.store_core.specs.Steps.{names_left}
-use Rattle.store_core.specs.StoreHolds.{StoreHolds}
-use Rattle.store_core.specs.Invariant.{listed}
-use Rattle.store_core.specs.Laws.{held_by}
+use Rattle.store_model.specs.declared.view.Sizes.{Sizes}
+use Rattle.store_model.specs.declared.view.View.{View}
+use Rattle.store_model.specs.Machine as core
+use Rattle.store_model.specs.Machine.{Each}
+use Rattle.store_model.specs.Steps.{names_left}
+use Rattle.store_model.specs.StoreHolds.{StoreHolds}
+use Rattle.store_model.specs.Invariant.{listed}
+use Rattle.store_model.specs.Laws.{held_by}
 use Rattle.node_rows.specs.declared.view.NodeView.{NodeView}
 
 abbrev pub kept_after : List ℕ → Entry → List ℕ

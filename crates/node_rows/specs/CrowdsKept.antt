@@ -22,33 +22,33 @@ use Rattle.history_core.proofs.Members.{contains_here, contains_there, each_from
 use Rattle.history_core.proofs.Places.{lower_goes_first, collect_place}
 use Rattle.history_core.proofs.Growing.{left_parts}
 use Rattle.history_core.proofs.Sound.{legal_is_sound}
-use Rattle.store_core.specs.declared.view.Sizes.{Sizes}
-use Rattle.store_core.specs.declared.view.View.{View}
-use Rattle.store_core.specs.declared.view.Call.{Call}
-use Rattle.store_core.specs.declared.view.Call.TheVariants.{Idle, Comparing, Passing, Finding, Ended, Counting, Drawing, Placing, Filling, Numbering, Linking, Publishing, Loading, Storing}
-use Rattle.store_core.specs.declared.view.Place.TheVariants.{Base, Claim, InUse}
-use Rattle.store_core.specs.declared.view.Stay.{Stay}
-use Rattle.store_core.specs.declared.view.Stay.TheVariants.{Away, Ready, Leaving}
-use Rattle.store_core.specs.Words as words
-use Rattle.store_core.specs.Machine as core
-use Rattle.store_core.specs.Machine.{Each, IsCreation, action, with_call, gained, refusing, overdrawn, arrived, left, protected_in, LockAlone, LowerShared, UnaskSeat, GiveGranted, LoadBase, LoadInUse, Begin, Go, LoadRoot, StoreRoot, StoreCount, ReadWord, ReadArgument, LoadAny, StoreAny, StoreClaim}
-use Rattle.store_core.specs.Seats.{Where, index}
-use Rattle.store_core.specs.Steps as steps
-use Rattle.store_core.specs.Steps.{InPlace, names_left, is_storing, CoreHolds, newcomer}
-use Rattle.store_core.specs.StoreSteps.{lock_meant}
-use Rattle.store_core.specs.Collection.{collected}
-use Rattle.store_core.specs.Invariant.{listed}
-use Rattle.store_core.specs.Laws.{held_by}
-use Rattle.store_core.specs.Runs.{Inductive}
-use Rattle.store_core.specs.StoreHolds.{StoreHolds}
-use Rattle.store_core.proofs.Basics.{choose, eqb_is, eqb_not, put_case, put_same, put_other, where_map}
-use Rattle.store_core.proofs.ByWords.{by_words, from_words}
-use Rattle.store_core.proofs.Collects.{reached_live}
-use Rattle.store_core.proofs.Eight.{core_of, inductive}
-use Rattle.store_core.proofs.Histories.{listed_length, lists_noted, live_held}
-use Rattle.store_core.proofs.Locks.{is_in, alone_in}
-use Rattle.store_core.proofs.NamesLeft.{names_kept}
-use Rattle.store_core.proofs.Wrapped.{not_true, action_fresh, creation_busy}
+use Rattle.store_model.specs.declared.view.Sizes.{Sizes}
+use Rattle.store_model.specs.declared.view.View.{View}
+use Rattle.store_model.specs.declared.view.Call.{Call}
+use Rattle.store_model.specs.declared.view.Call.TheVariants.{Idle, Comparing, Passing, Finding, Ended, Counting, Drawing, Placing, Filling, Numbering, Linking, Publishing, Loading, Storing}
+use Rattle.store_model.specs.declared.view.Place.TheVariants.{Base, Claim, InUse}
+use Rattle.store_model.specs.declared.view.Stay.{Stay}
+use Rattle.store_model.specs.declared.view.Stay.TheVariants.{Away, Ready, Leaving}
+use Rattle.store_model.specs.Words as words
+use Rattle.store_model.specs.Machine as core
+use Rattle.store_model.specs.Machine.{Each, IsCreation, action, with_call, gained, refusing, overdrawn, arrived, left, protected_in, LockAlone, LowerShared, UnaskSeat, GiveGranted, LoadBase, LoadInUse, Begin, Go, LoadRoot, StoreRoot, StoreCount, ReadWord, ReadArgument, LoadAny, StoreAny, StoreClaim}
+use Rattle.store_model.specs.Seats.{Where, index}
+use Rattle.store_model.specs.Steps as steps
+use Rattle.store_model.specs.Steps.{InPlace, names_left, is_storing, CoreHolds, newcomer}
+use Rattle.store_model.specs.StoreSteps.{lock_meant}
+use Rattle.store_model.specs.Collection.{collected}
+use Rattle.store_model.specs.Invariant.{listed}
+use Rattle.store_model.specs.Laws.{held_by}
+use Rattle.store_model.specs.Runs.{Inductive}
+use Rattle.store_model.specs.StoreHolds.{StoreHolds}
+use Rattle.store_model.proofs.Basics.{choose, eqb_is, eqb_not, put_case, put_same, put_other, where_map}
+use Rattle.store_model.proofs.ByWords.{by_words, from_words}
+use Rattle.store_model.proofs.Collects.{reached_live}
+use Rattle.store_model.proofs.Eight.{core_of, inductive}
+use Rattle.store_model.proofs.Histories.{listed_length, lists_noted, live_held}
+use Rattle.store_model.proofs.Locks.{is_in, alone_in}
+use Rattle.store_model.proofs.NamesLeft.{names_kept}
+use Rattle.store_model.proofs.Wrapped.{not_true, action_fresh, creation_busy}
 use Rattle.node_rows.specs.declared.view.NodeView.{NodeView}
 use Rattle.node_rows.specs.Crowding.{kept_after, kept_from, kept_in, ends_from, ends_in_collect, IsSwept, pairs_of, IsCrowd, Crowds, crowd_now, crowd_at}
 

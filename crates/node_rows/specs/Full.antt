@@ -6,12 +6,12 @@ use Rattle.atomic_table.specs.Table.{State, Me, Step}
 use Rattle.term_model.specs.Tree.{Tree}
 use Rattle.history_core.specs.declared.entry.Entry.{Entry}
 use Rattle.history_core.specs.TermSet.{Names, Holds, IsHeld, Lacks, tree_over}
-use Rattle.store_core.specs.declared.view.Sizes.{Sizes}
-use Rattle.store_core.specs.declared.view.Content.{Content}
-use Rattle.store_core.specs.declared.view.Call.{Call}
-use Rattle.store_core.specs.declared.view.Call.TheVariants.{Counting, Drawing}
-use Rattle.store_core.specs.Laws.{held_by}
-use Rattle.store_core.specs.Machine.{Go}
+use Rattle.store_model.specs.declared.view.Sizes.{Sizes}
+use Rattle.store_model.specs.declared.view.Content.{Content}
+use Rattle.store_model.specs.declared.view.Call.{Call}
+use Rattle.store_model.specs.declared.view.Call.TheVariants.{Counting, Drawing}
+use Rattle.store_model.specs.Laws.{held_by}
+use Rattle.store_model.specs.Machine.{Go}
 use Rattle.node_rows.specs.declared.view.NodeView.{NodeView}
 use Rattle.node_rows.specs.Shown.{store_at}
 use Rattle.node_rows.specs.Joining.{ShowsJoined}

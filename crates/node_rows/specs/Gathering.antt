@@ -3,8 +3,8 @@ use Rattle.std.proofs.Common.{◌≡◌, ◌≢◌, ℕ, zero, suc, ◌<◌, Non
 use mathlib.Core.Option.{some, some-injective, some-ne-none}
 use lib.ListN.{get_elem?}
 use Rattle.atomic_table.proofs.Lists.{at_set, set_here, set_else}
-use Rattle.store_core.specs.Machine.{Each}
-use Rattle.store_core.proofs.Basics.{each_map}
+use Rattle.store_model.specs.Machine.{Each}
+use Rattle.store_model.proofs.Basics.{each_map}
 use Rattle.node_rows.specs.declared.view.JoinedSeat.{JoinedSeat}
 use Rattle.node_rows.specs.declared.view.NodeView.{NodeView}
 use Rattle.node_rows.specs.Joining.{spent_view, known_seat, both_views, number_in, seats_in, AreApart, IsSpent, Gathers}

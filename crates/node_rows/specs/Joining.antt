@@ -7,12 +7,12 @@ use Rattle.history_core.specs.declared.entry.Entry.{Entry}
 use Rattle.history_core.specs.Chronicle.{chronicle, IsLegal, KeysRise}
 use Rattle.busy_forbidden.specs.Shown.{nobody}
 use Rattle.busy_forbidden.specs.Rules.{ShowsLock}
-use Rattle.store_core.specs.declared.view.Sizes.{Sizes}
-use Rattle.store_core.specs.Machine.{Each}
-use Rattle.store_core.specs.Invariant.{listed, span}
-use Rattle.store_core.specs.Bases.{collect_numbers, StaysBelow, IsBase}
-use Rattle.store_core.specs.Recalls.{EntriesRecalled, Recalls}
-use Rattle.store_core.specs.Steps.{newcomer}
+use Rattle.store_model.specs.declared.view.Sizes.{Sizes}
+use Rattle.store_model.specs.Machine.{Each}
+use Rattle.store_model.specs.Invariant.{listed, span}
+use Rattle.store_model.specs.Bases.{collect_numbers, StaysBelow, IsBase}
+use Rattle.store_model.specs.Recalls.{EntriesRecalled, Recalls}
+use Rattle.store_model.specs.Steps.{newcomer}
 use Rattle.node_rows.specs.declared.view.JoinedSeat.{JoinedSeat}
 use Rattle.node_rows.specs.declared.view.NodeView.{NodeView}
 use Rattle.node_rows.specs.Shown.{Shows, lock_of, store_at}

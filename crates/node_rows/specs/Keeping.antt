@@ -2,9 +2,9 @@
 use Rattle.std.specs.Prelude.{ℕ, List}
 use Rattle.term_model.specs.Tree.{Tree}
 use Rattle.term_model.specs.declared.Head.{Head}
-use Rattle.store_core.specs.declared.view.View.{View}
-use Rattle.store_core.specs.Machine.{Each, In, protected_in}
-use Rattle.store_core.specs.Leading.{LeadsTo}
+use Rattle.store_model.specs.declared.view.View.{View}
+use Rattle.store_model.specs.Machine.{Each, In, protected_in}
+use Rattle.store_model.specs.Leading.{LeadsTo}
 use Rattle.node_rows.specs.Knowing.{KnowsRow, KnowsTree}
 
 -- r is a protected row, or an argument of such a row, at any depth, as far as the pass knows the words

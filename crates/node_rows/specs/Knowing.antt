@@ -7,12 +7,12 @@ use Rattle.history_core.specs.declared.entry.Entry.{Entry}
 use Rattle.history_core.specs.TermSet.{Names, Lacks, tree_over}
 use Rattle.history_core.specs.Chronicle.{chronicle, set_of}
 use Rattle.hash_buckets.specs.Spelled.{spelled}
-use Rattle.store_core.specs.declared.view.Call.{Call}
-use Rattle.store_core.specs.declared.view.Call.TheVariants.{Ended, Counting, Drawing}
-use Rattle.store_core.specs.declared.view.Content.{Content}
-use Rattle.store_core.specs.declared.view.KnownWord.{KnownWord}
-use Rattle.store_core.specs.Calls.{IsOver}
-use Rattle.store_core.specs.ByView.{KnowsWord}
+use Rattle.store_model.specs.declared.view.Call.{Call}
+use Rattle.store_model.specs.declared.view.Call.TheVariants.{Ended, Counting, Drawing}
+use Rattle.store_model.specs.declared.view.Content.{Content}
+use Rattle.store_model.specs.declared.view.KnownWord.{KnownWord}
+use Rattle.store_model.specs.Calls.{IsOver}
+use Rattle.store_model.specs.ByView.{KnowsWord}
 
 -- it knows all words of row r as those of a head over these rows
 pub record KnowsRow (ks : List KnownWord) (r : ℕ) (f : Head) (rs : List ℕ) : Type 0 where

@@ -23,24 +23,24 @@ use Rattle.busy_forbidden.specs.Calls.{LeavesMore}
 use Rattle.busy_forbidden.specs.Views.{at_view, put_same, put_other}
 use Rattle.busy_forbidden.specs.OnlyKeeps.{lock_kept}
 use Rattle.busy_forbidden.specs.Simulation.{in_place}
-use Rattle.store_core.specs.declared.view.Sizes.{Sizes}
-use Rattle.store_core.specs.declared.view.View.{View}
-use Rattle.store_core.specs.declared.view.Call.TheVariants.{Idle}
-use Rattle.store_core.specs.declared.view.Stay.{Stay}
-use Rattle.store_core.specs.declared.view.Stay.TheVariants.{Away, Based, Ready, Leaving}
-use Rattle.store_core.specs.Words as words
-use Rattle.store_core.specs.Machine as core
-use Rattle.store_core.specs.Machine.{LockAlone, LowerShared, UnaskSeat, GiveGranted, left, leaving, protected_in}
-use Rattle.store_core.specs.Shown.{shown}
-use Rattle.store_core.specs.Recalls.{Recalls}
-use Rattle.store_core.specs.StoreHolds.{StoreHolds}
-use Rattle.store_core.specs.Steps.{InPlace, Permits, IsAtRest, MayLeave}
-use Rattle.store_core.specs.Steps as steps
-use Rattle.store_core.specs.StoreSteps.{lock_meant}
-use Rattle.store_core.proofs.Basics.{choose, eqb_is, eqb_not}
-use Rattle.store_core.proofs.Shown.{shown_apart}
-use Rattle.store_core.proofs.Eight.{eight, inductive}
-use Rattle.store_core.proofs.Runs.{step_kept}
+use Rattle.store_model.specs.declared.view.Sizes.{Sizes}
+use Rattle.store_model.specs.declared.view.View.{View}
+use Rattle.store_model.specs.declared.view.Call.TheVariants.{Idle}
+use Rattle.store_model.specs.declared.view.Stay.{Stay}
+use Rattle.store_model.specs.declared.view.Stay.TheVariants.{Away, Based, Ready, Leaving}
+use Rattle.store_model.specs.Words as words
+use Rattle.store_model.specs.Machine as core
+use Rattle.store_model.specs.Machine.{LockAlone, LowerShared, UnaskSeat, GiveGranted, left, leaving, protected_in}
+use Rattle.store_model.specs.Shown.{shown}
+use Rattle.store_model.specs.Recalls.{Recalls}
+use Rattle.store_model.specs.StoreHolds.{StoreHolds}
+use Rattle.store_model.specs.Steps.{InPlace, Permits, IsAtRest, MayLeave}
+use Rattle.store_model.specs.Steps as steps
+use Rattle.store_model.specs.StoreSteps.{lock_meant}
+use Rattle.store_model.proofs.Basics.{choose, eqb_is, eqb_not}
+use Rattle.store_model.proofs.Shown.{shown_apart}
+use Rattle.store_model.proofs.Eight.{eight, inductive}
+use Rattle.store_model.proofs.Runs.{step_kept}
 use Rattle.node_rows.specs.declared.view.NodeView.{NodeView}
 use Rattle.node_rows.specs.Shown.{lock_of, seats_of, store_at, state_of, Shows, IsStoreStep, IsAway, IsEnding, IsClosed, node_can, ended, freed, store_next, node_next, rest_of, is_out}
 use Rattle.node_rows.specs.Crowding.{Crowds, crowd_at}

@@ -3,14 +3,14 @@ use Rattle.std.specs.Prelude.{◌≡◌, ℕ, ◌<◌, ◌≤◌, ◌^◌, []}
 use Rattle.atomic_table.specs.Seated.{TableId}
 use Rattle.atomic_table.specs.declared.shared.Seat.{Seat}
 use Rattle.lock_core.specs.declared.parts.Phase.TheVariants.{Out}
-use Rattle.store_core.specs.declared.view.Sizes.{Sizes}
-use Rattle.store_core.specs.declared.view.View.{View}
-use Rattle.store_core.specs.Machine.{based, ready, left, protected_in}
-use Rattle.store_core.specs.Shown.{total}
-use Rattle.store_core.specs.Steps.{IsAtRest, AreLastRoots}
+use Rattle.store_model.specs.declared.view.Sizes.{Sizes}
+use Rattle.store_model.specs.declared.view.View.{View}
+use Rattle.store_model.specs.Machine.{based, ready, left, protected_in}
+use Rattle.store_model.specs.Shown.{total}
+use Rattle.store_model.specs.Steps.{IsAtRest, AreLastRoots}
 use Rattle.node_rows.specs.declared.view.NodeView.{NodeView}
 use Rattle.node_rows.specs.Shown.{IsAway}
-use Rattle.store_core.specs.StoreValue.{MaySize}
+use Rattle.store_model.specs.NewStore.{MaySize}
 use Rattle.node_rows.specs.Steps.{Known}
 
 -- the sizes are those that the table was told, within their limits, and it has room for all words

@@ -2,15 +2,15 @@
 use Rattle.std.proofs.Common.{ℕ, List, sym, subst}
 use Rattle.lock_core.specs.Lock.{Lock}
 use Rattle.history_core.specs.TermSet.{Holds}
-use Rattle.store_core.specs.declared.view.Sizes.{Sizes}
-use Rattle.store_core.specs.declared.view.View.{View}
-use Rattle.store_core.specs.Invariant.{listed}
-use Rattle.store_core.specs.Laws.{held_by}
-use Rattle.store_core.specs.Machine as core
-use Rattle.store_core.specs.Recalls.{EntriesRecalled, Recalls}
-use Rattle.store_core.specs.StoreHolds.{StoreHolds}
-use Rattle.store_core.specs.Told.{told}
-use Rattle.store_core.proofs.RecallsHold.{recalls_kept}
+use Rattle.store_model.specs.declared.view.Sizes.{Sizes}
+use Rattle.store_model.specs.declared.view.View.{View}
+use Rattle.store_model.specs.Invariant.{listed}
+use Rattle.store_model.specs.Laws.{held_by}
+use Rattle.store_model.specs.Machine as core
+use Rattle.store_model.specs.Recalls.{EntriesRecalled, Recalls}
+use Rattle.store_model.specs.StoreHolds.{StoreHolds}
+use Rattle.store_model.specs.Told.{told}
+use Rattle.store_model.proofs.RecallsHold.{recalls_kept}
 use Rattle.node_rows.specs.declared.view.NodeView.{NodeView}
 use Rattle.node_rows.specs.Shown.{store_at, state_of, IsStoreStep}
 

@@ -13,17 +13,17 @@ use Rattle.busy_forbidden.specs.declared.view.LockView.{LockView}
 use Rattle.busy_forbidden.specs.Shown as lock
 use Rattle.busy_forbidden.specs.Moves.{moved}
 use Rattle.busy_forbidden.specs.Rules.{ShowsLock}
-use Rattle.store_core.specs.declared.view.Sizes.{Sizes}
-use Rattle.store_core.specs.declared.view.View.{View}
-use Rattle.store_core.specs.declared.view.Call.TheVariants.{Idle}
-use Rattle.store_core.specs.declared.view.Stay.{Stay}
-use Rattle.store_core.specs.declared.view.Stay.TheVariants.{Away, Based, Ready, Leaving}
-use Rattle.store_core.specs.Machine as core
-use Rattle.store_core.specs.Machine.{left, leaving, protected_in}
-use Rattle.store_core.specs.Shown.{shown, total}
-use Rattle.store_core.specs.StoreHolds.{StoreHolds}
-use Rattle.store_core.specs.Steps as steps
-use Rattle.store_core.specs.Steps.{InPlace, IsAtRest, MayLeave, newcomer}
+use Rattle.store_model.specs.declared.view.Sizes.{Sizes}
+use Rattle.store_model.specs.declared.view.View.{View}
+use Rattle.store_model.specs.declared.view.Call.TheVariants.{Idle}
+use Rattle.store_model.specs.declared.view.Stay.{Stay}
+use Rattle.store_model.specs.declared.view.Stay.TheVariants.{Away, Based, Ready, Leaving}
+use Rattle.store_model.specs.Machine as core
+use Rattle.store_model.specs.Machine.{left, leaving, protected_in}
+use Rattle.store_model.specs.Shown.{shown, total}
+use Rattle.store_model.specs.StoreHolds.{StoreHolds}
+use Rattle.store_model.specs.Steps as steps
+use Rattle.store_model.specs.Steps.{InPlace, IsAtRest, MayLeave, newcomer}
 use Rattle.node_rows.specs.declared.view.NodeView.{NodeView}
 
 abbrev pub lock_of : NodeView → LockView

@@ -8,23 +8,23 @@ use Rattle.term_model.specs.Tree.{Tree}
 use Rattle.lock_core.specs.declared.parts.Phase.TheVariants.{Shared}
 use Rattle.busy_forbidden.specs.declared.view.LockView.{LockView}
 use Rattle.busy_forbidden.specs.Exclusive.{IsGranted}
-use Rattle.store_core.specs.declared.view.Sizes.{Sizes}
-use Rattle.store_core.specs.declared.view.View.{View}
-use Rattle.store_core.specs.declared.view.Content.{Content}
-use Rattle.store_core.specs.declared.view.Call.{Call}
-use Rattle.store_core.specs.declared.view.Call.TheVariants.{Idle, Comparing, Passing, Finding, Drawing, Loading, Storing}
-use Rattle.store_core.specs.declared.view.Place.{Place}
-use Rattle.store_core.specs.declared.view.Place.TheVariants.{Base, InUse, Bucket, RowWord, RootCount, Root}
-use Rattle.store_core.specs.declared.view.Stay.TheVariants.{Away, Ready}
-use Rattle.store_core.specs.Machine as core
-use Rattle.store_core.specs.Machine.{Action, based, ready, begins, action, with_got, rooted, root_counted, knowing, protected_in, LoadBase, LoadInUse, Begin, Go, LoadRoot, StoreRoot, StoreCount, ReadWord, ReadArgument, IsCreation, Each, In, widest}
-use Rattle.store_core.specs.Calls.{bucket}
-use Rattle.store_core.specs.Shown.{total, in_table, index_of}
-use Rattle.store_core.specs.Seats.{Where, looked, index, drawn}
-use Rattle.store_core.specs.Invariant.{span}
-use Rattle.store_core.specs.Steps.{IsAtRest}
-use Rattle.store_core.specs.ByView as by_view
-use Rattle.store_core.specs.ByView.{KnowsWord}
+use Rattle.store_model.specs.declared.view.Sizes.{Sizes}
+use Rattle.store_model.specs.declared.view.View.{View}
+use Rattle.store_model.specs.declared.view.Content.{Content}
+use Rattle.store_model.specs.declared.view.Call.{Call}
+use Rattle.store_model.specs.declared.view.Call.TheVariants.{Idle, Comparing, Passing, Finding, Drawing, Loading, Storing}
+use Rattle.store_model.specs.declared.view.Place.{Place}
+use Rattle.store_model.specs.declared.view.Place.TheVariants.{Base, InUse, Bucket, RowWord, RootCount, Root}
+use Rattle.store_model.specs.declared.view.Stay.TheVariants.{Away, Ready}
+use Rattle.store_model.specs.Machine as core
+use Rattle.store_model.specs.Machine.{Action, based, ready, begins, action, with_got, rooted, root_counted, knowing, protected_in, LoadBase, LoadInUse, Begin, Go, LoadRoot, StoreRoot, StoreCount, ReadWord, ReadArgument, IsCreation, Each, In, widest}
+use Rattle.store_model.specs.Calls.{bucket}
+use Rattle.store_model.specs.Shown.{total, in_table, index_of}
+use Rattle.store_model.specs.Seats.{Where, looked, index, drawn}
+use Rattle.store_model.specs.Invariant.{span}
+use Rattle.store_model.specs.Steps.{IsAtRest}
+use Rattle.store_model.specs.ByView as by_view
+use Rattle.store_model.specs.ByView.{KnowsWord}
 use Rattle.node_rows.specs.declared.view.NodeView.{NodeView}
 use Rattle.node_rows.specs.Knowing.{KnowsTree, EndsAbsent}
 

@@ -1,8 +1,8 @@
 -- Which steps are a collection's.
 use Rattle.std.specs.Prelude.{ℕ}
-use Rattle.store_core.specs.declared.view.Sizes.{Sizes}
-use Rattle.store_core.specs.declared.view.View.{View}
-use Rattle.store_core.specs.Machine.{Step, LoadAny, StoreAny, StoreClaim}
+use Rattle.store_model.specs.declared.view.Sizes.{Sizes}
+use Rattle.store_model.specs.declared.view.View.{View}
+use Rattle.store_model.specs.Machine.{Step, LoadAny, StoreAny, StoreClaim}
 use Rattle.node_rows.specs.Collecting.{MayEndBy}
 
 -- A load or a store of a collection of seat i; or its last store, where the own view has seen the words that it ends by.

@@ -6,8 +6,8 @@ use Rattle.history_core.specs.declared.entry.Entry.{Entry}
 use Rattle.history_core.specs.declared.entry.Entry.TheVariants as entry
 use Rattle.history_core.specs.Chronicle.{chronicle, part_of, entries_of, KeysRise}
 use Rattle.mark_phase.specs.Reachable.{IsMarked}
-use Rattle.store_core.specs.declared.view.View.{View}
-use Rattle.store_core.specs.Recalls.{EntriesRecalled}
+use Rattle.store_model.specs.declared.view.View.{View}
+use Rattle.store_model.specs.Recalls.{EntriesRecalled}
 use Rattle.node_rows.specs.declared.view.NodeView.{NodeView}
 use Rattle.node_rows.specs.declared.store.Last.{Last}
 use Rattle.node_rows.specs.declared.store.Last.TheVariants.{Nothing, Make, Find, Roots, Collect}

@@ -1,8 +1,8 @@
 //! The end of a store, and the chronicle of its passes.
 ghost use Rattle.std.specs.Prelude.{◌≡◌, ◌+◌, [], All, length, map};
 ghost use Rattle.history_core.specs.Chronicle.{chronicle, IsLegal};
-ghost use Rattle.store_core.specs.Bases.{StaysBelow, collect_numbers};
-ghost use Rattle.store_core.specs.Invariant.{span};
+ghost use Rattle.store_model.specs.Bases.{StaysBelow, collect_numbers};
+ghost use Rattle.store_model.specs.Invariant.{span};
 ghost use Rattle.node_rows.specs.Passes.{IsStore, IsPass, IsOut};
 ghost use Rattle.node_rows.specs.Joining.{HasBase, TellsAll, all_views, both_views, lists_in};
 ghost use Rattle.node_rows.specs.Told.{HasEntries, KeepsOrder, HasRisingKeys, TellsTrees, TellsCrowd, view_of};

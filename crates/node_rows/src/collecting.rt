@@ -1,8 +1,8 @@
 //! The steps of a collection, each one atomic action on one word of the table.
 ghost use Rattle.std.specs.Prelude.{◌≡◌};
-ghost use Rattle.store_core.specs.declared.view.Place.TheVariants.{Base, Claim};
-ghost use Rattle.store_core.specs.Machine.{Step, LoadAny, StoreAny, StoreClaim};
-ghost use Rattle.store_core.specs.Shown.{index_of};
+ghost use Rattle.store_model.specs.declared.view.Place.TheVariants.{Base, Claim};
+ghost use Rattle.store_model.specs.Machine.{Step, LoadAny, StoreAny, StoreClaim};
+ghost use Rattle.store_model.specs.Shown.{index_of};
 ghost use Rattle.busy_forbidden.specs.Calls.{IsSame};
 ghost use Rattle.node_rows.specs.Steps.{IsOf, Known, with_store};
 ghost use Rattle.node_rows.specs.Collecting.{collects_on, claims_on, loaded_any, stored_any, ended_by, MayCollect, MayEndBy, HasStore, IsKept};
@@ -13,7 +13,7 @@ use crate::view::NodeView;
 use atomic_table::Play;
 use busy_forbidden::{Seat, Table};
 use std::marker::{Brand, PhantomData};
-use store_core::Place;
+use store_model::Place;
 
 /// The step of a collection that a load or a store is. Each call picks it, by its operands.
 pub(crate) trait Collects {

@@ -11,16 +11,16 @@ ghost use Rattle.lock_core.specs.declared.parts.LockStep.{LockStep};
 ghost use Rattle.busy_forbidden.specs.Rules.{MayMake, after_step};
 ghost use Rattle.term_model.specs.Tree.{Tree};
 ghost use Rattle.term_model.specs.declared.Head.{Head};
-ghost use Rattle.store_core.specs.declared.view.Call.TheVariants.{Idle};
-ghost use Rattle.store_core.specs.declared.view.Stay.TheVariants.{Based};
-ghost use Rattle.store_core.specs.declared.view.View.{View};
-ghost use Rattle.store_core.specs.Collection.{collected};
-ghost use Rattle.store_core.specs.Invariant.{listed};
-ghost use Rattle.store_core.specs.Machine.{In, Step, based, ready, LoadBase, LoadInUse, Begin, Go, IsCreation};
-ghost use Rattle.store_core.specs.Shown.{in_table, index_of};
-ghost use Rattle.store_core.specs.Laws.{held_by};
-ghost use Rattle.store_core.specs.Steps.{InPlace, IsAtRest};
-ghost use Rattle.store_core.specs.StoreSteps.{lock_meant};
+ghost use Rattle.store_model.specs.declared.view.Call.TheVariants.{Idle};
+ghost use Rattle.store_model.specs.declared.view.Stay.TheVariants.{Based};
+ghost use Rattle.store_model.specs.declared.view.View.{View};
+ghost use Rattle.store_model.specs.Collection.{collected};
+ghost use Rattle.store_model.specs.Invariant.{listed};
+ghost use Rattle.store_model.specs.Machine.{In, Step, based, ready, LoadBase, LoadInUse, Begin, Go, IsCreation};
+ghost use Rattle.store_model.specs.Shown.{in_table, index_of};
+ghost use Rattle.store_model.specs.Laws.{held_by};
+ghost use Rattle.store_model.specs.Steps.{InPlace, IsAtRest};
+ghost use Rattle.store_model.specs.StoreSteps.{lock_meant};
 ghost use Rattle.node_rows.specs.declared.view.NodeView.{NodeView};
 ghost use Rattle.node_rows.specs.Shown.{Shows, IsStoreStep, IsAway, lock_of, node_can, node_next, store_at, state_of};
 ghost use Rattle.node_rows.specs.Collecting.{collects};
@@ -34,7 +34,7 @@ ghost use Rattle.node_rows.specs.Joining.{ShowsJoined, with_views};
 ghost use Rattle.node_rows.specs.Sweeping.{IsSweep};
 ghost use Rattle.node_rows.specs.Steps.{Acts, MayLoad, MayMake as MayCreate, MayStepOn, over, place_of, written_by, moved_by, with_store};
 
-use store_core::Sizes;
+use store_model::Sizes;
 
 /// Between any two steps the entries of all passes, merged, are a legal history of one thread.
 pub fn history_is_legal(about: &Sizes)

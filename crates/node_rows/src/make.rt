@@ -1,9 +1,9 @@
 //! A new store, and its passes.
 ghost use Rattle.std.specs.Prelude.{◌≡◌, ℕ, ◌+◌, ◌<◌, ◌^◌, IfOk, All, false, replicate, length};
-ghost use Rattle.store_core.specs.Shown.{total};
+ghost use Rattle.store_model.specs.Shown.{total};
 ghost use Rattle.busy_forbidden.specs.Dealt.{EachPlace};
-ghost use Rattle.store_core.specs.Steps.{newcomer};
-ghost use Rattle.store_core.specs.StoreValue.{MaySize};
+ghost use Rattle.store_model.specs.Steps.{newcomer};
+ghost use Rattle.store_model.specs.NewStore.{MaySize};
 ghost use Rattle.node_rows.specs.Passes.{IsStore, IsPass, IsOut};
 ghost use Rattle.node_rows.specs.Told.{Tells};
 ghost use Rattle.node_rows.specs.Opening.{UpTo, IsNew, IsFirst};
@@ -17,7 +17,7 @@ use busy_forbidden::{Seat, Table};
 use faults::Memory;
 use mark_phase::Marks;
 use std::alloc::Global;
-use store_core::Sizes;
+use store_model::Sizes;
 
 // How many words a store has.
 fn count_words(sizes: &Sizes) -> usize

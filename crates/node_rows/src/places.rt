@@ -1,11 +1,11 @@
 //! Where the words of a store stand in its table.
 ghost use Rattle.std.specs.Prelude.{◌≡◌, ◌<◌, ◌^◌, ◌+◌, ◌*◌, true};
-ghost use Rattle.store_core.specs.declared.view.Place.TheVariants.{Base, FreeCount, Claim, InUse, FreePlace, Bucket, RowWord, Birth, Next};
-ghost use Rattle.store_core.specs.Machine.{widest};
-ghost use Rattle.store_core.specs.Shown.{index_of, in_table, total};
+ghost use Rattle.store_model.specs.declared.view.Place.TheVariants.{Base, FreeCount, Claim, InUse, FreePlace, Bucket, RowWord, Birth, Next};
+ghost use Rattle.store_model.specs.Machine.{widest};
+ghost use Rattle.store_model.specs.Shown.{index_of, in_table, total};
 
 use crate::store::Store;
-use store_core::Sizes;
+use store_model::Sizes;
 
 fn first_word(sizes: &Sizes) -> usize
     ensures word { result ≡ 1 + 2 * sizes.now.seats }

@@ -1,6 +1,6 @@
 //! The steps on a pass's protected rows, and its reads of rows, each one atomic action on one word of the table.
 ghost use Rattle.std.specs.Prelude.{◌≡◌, ℕ, get_or};
-ghost use Rattle.store_core.specs.Machine.{Step, Go, LoadRoot, StoreRoot, StoreCount, ReadWord, ReadArgument};
+ghost use Rattle.store_model.specs.Machine.{Step, Go, LoadRoot, StoreRoot, StoreCount, ReadWord, ReadArgument};
 ghost use Rattle.busy_forbidden.specs.Calls.{IsSame};
 ghost use Rattle.node_rows.specs.Steps.{goes_on, root_on, with_store, written_by, moved_by, IsOf, MayStepOn, Known};
 

@@ -1,11 +1,11 @@
 //! Where the words of a pass's protected rows stand.
 ghost use Rattle.std.specs.Prelude.{◌≡◌, ◌<◌, ◌≤◌, ◌^◌, ◌+◌, ◌*◌, true};
-ghost use Rattle.store_core.specs.declared.view.Place.TheVariants.{RootCount, Root};
-ghost use Rattle.store_core.specs.Machine.{widest};
-ghost use Rattle.store_core.specs.Shown.{index_of, in_table, total};
+ghost use Rattle.store_model.specs.declared.view.Place.TheVariants.{RootCount, Root};
+ghost use Rattle.store_model.specs.Machine.{widest};
+ghost use Rattle.store_model.specs.Shown.{index_of, in_table, total};
 
 use crate::places::row_width;
-use store_core::Sizes;
+use store_model::Sizes;
 
 // Where the words of the first pass begin.
 fn first_root_word(sizes: &Sizes) -> usize

@@ -1,7 +1,7 @@
 //! Rows by their numbers in words.
 ghost use Rattle.std.specs.Prelude.{◌≡◌, ◌<◌};
 
-use store_core::Sizes;
+use store_model::Sizes;
 use term_model::Row;
 
 /// The row of this number, which is below the number of rows.

@@ -3,7 +3,7 @@ use crate::view::NodeView;
 use atomic_table::{Join, Play, Split, TableRule};
 use busy_forbidden::{HasLock, HasMore};
 use std::collections::LinkedList;
-use store_core::{Sizes, View};
+use store_model::{Sizes, View};
 use term_model::Flat;
 
 /// The rule of a store. It is told the sizes.

@@ -2,11 +2,11 @@
 ghost use Rattle.std.specs.Prelude.{◌≡◌, ◌≤◌, ℕ, List, []};
 ghost use Rattle.term_model.specs.declared.Head.{Head};
 ghost use Rattle.term_model.specs.declared.Head.TheVariants.{Nil};
-ghost use Rattle.store_core.specs.declared.view.Call.TheVariants.{Idle};
-ghost use Rattle.store_core.specs.declared.view.Place.TheVariants.{Base, InUse};
-ghost use Rattle.store_core.specs.declared.view.Stay.TheVariants.{Based};
-ghost use Rattle.store_core.specs.Machine.{Go, LoadInUse, based, ready};
-ghost use Rattle.store_core.specs.Shown.{index_of};
+ghost use Rattle.store_model.specs.declared.view.Call.TheVariants.{Idle};
+ghost use Rattle.store_model.specs.declared.view.Place.TheVariants.{Base, InUse};
+ghost use Rattle.store_model.specs.declared.view.Stay.TheVariants.{Based};
+ghost use Rattle.store_model.specs.Machine.{Go, LoadInUse, based, ready};
+ghost use Rattle.store_model.specs.Shown.{index_of};
 ghost use Rattle.busy_forbidden.specs.Calls.{IsSame};
 ghost use Rattle.node_rows.specs.Full.{FullAlone, FullAfter, fills_on};
 ghost use Rattle.node_rows.specs.Shown.{IsAway};

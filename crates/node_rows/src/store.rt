@@ -1,8 +1,8 @@
 //! A store, its passes, and their accesses.
 ghost use Rattle.std.specs.Prelude.{◌≡◌, ◌+◌, ◌*◌, IfOk, IfErr, MatchResult, Err, length};
 ghost use Rattle.lock_core.specs.declared.parts.Phase.TheVariants.{Shared};
-ghost use Rattle.store_core.specs.Machine.{widest};
-ghost use Rattle.store_core.specs.Steps.{AreLastRoots};
+ghost use Rattle.store_model.specs.Machine.{widest};
+ghost use Rattle.store_model.specs.Steps.{AreLastRoots};
 ghost use Rattle.busy_forbidden.specs.Calls.{IsSame};
 ghost use Rattle.busy_forbidden.specs.Entries.{ShowsShared};
 ghost use Rattle.busy_forbidden.specs.Exclusive.{IsGranted, ShowsExclusive, TriesExclusive};
@@ -14,7 +14,7 @@ use crate::rule::NodeRows;
 use busy_forbidden::{Busy, Seat, Table};
 use mark_phase::Marks;
 use std::sync::Wait;
-use store_core::Sizes;
+use store_model::Sizes;
 
 /// A store of terms that threads share. Its fields are public because the crates above make their own steps on its table.
 #[derive(Drop)]

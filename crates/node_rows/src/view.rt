@@ -1,7 +1,7 @@
 //! What a seat knows.
 use busy_forbidden::LockView;
 use std::collections::LinkedList;
-use store_core::{Sizes, View};
+use store_model::{Sizes, View};
 use term_model::Flat;
 
 /// What is known of a seat that was joined into another: its number, what it knew of the store, and its crowd.

@@ -4,9 +4,9 @@ use Rattle.std.specs.Prelude.{Result, Ok, Err, IfOk, All, false, max}
 use Rattle.std.proofs.lemmas.List.{length_push}
 use Rattle.rule_match.specs.Planned.{Planned}
 use Rattle.innermost.specs.Machines.{Made, IsFor}
-use Rattle.store_core.specs.StoreValue.{MaySize}
-use Rattle.store_core.specs.Machine.{widest}
-use Rattle.store_core.specs.declared.view.Sizes.{Sizes}
+use Rattle.store_model.specs.NewStore.{MaySize}
+use Rattle.store_model.specs.Machine.{widest}
+use Rattle.store_model.specs.declared.view.Sizes.{Sizes}
 use Rattle.node_rows.specs.Passes.{IsStore}
 use Rattle.node_rows.specs.declared.store.Store.{Store}
 use Rattle.node_rows.specs.declared.store.Pass.{Pass}

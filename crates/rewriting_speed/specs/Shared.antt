@@ -1,6 +1,6 @@
 -- The sizes of the shared store.
 use Rattle.std.specs.Prelude.{ℕ}
-use Rattle.store_core.specs.declared.view.Sizes.{Sizes}
+use Rattle.store_model.specs.declared.view.Sizes.{Sizes}
 
 -- All rows, as many buckets, all in use, one pass, and terms of so many arguments.
 abbrev pub sizes_of : ℕ → Sizes

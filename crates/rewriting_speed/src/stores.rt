@@ -1,7 +1,7 @@
 //! A store of one thread's own, and a store that threads may share, by one thread.
 
 ghost use Rattle.std.specs.Prelude.{◌≡◌, ◌≤◌, IfOk, All};
-ghost use Rattle.store_core.specs.StoreValue.{MaySize};
+ghost use Rattle.store_model.specs.NewStore.{MaySize};
 ghost use Rattle.innermost.specs.Machines.{IsFor};
 ghost use Rattle.plain_store.specs.Contents as own;
 ghost use Rattle.shared_desk.specs.Desk.{store_of};
@@ -19,7 +19,7 @@ use shared_desk::{Desk, OwnPass};
 use std::alloc::Global;
 use std::sync::Wait;
 use std::time::CpuClock;
-use store_core::Sizes;
+use store_model::Sizes;
 use term_model::Flat;
 
 const ROWS: u32 = 262_144;

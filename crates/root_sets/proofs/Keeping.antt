@@ -1,9 +1,9 @@
 -- What the steps on protected rows leave of a view.
 use Rattle.std.proofs.Common.{◌≡◌, ◌⊎◌, inl, inr, ℕ, zero, suc, ◌+◌, ◌<◌, ◌≤◌, Bool, true, false, cond, List, [], ◌∷◌, ◌++◌, length, get_or, set, take, drop, refl, sym, ap, ◌∙◌, subst, arith}
 use Rattle.std.specs.Prelude.{nat_lt}
-use Rattle.store_core.specs.declared.view.View.{View}
-use Rattle.store_core.specs.Machine.{In, Each, with_got, rooted, root_counted, protected_in}
-use Rattle.store_core.proofs.Basics.{each_map}
+use Rattle.store_model.specs.declared.view.View.{View}
+use Rattle.store_model.specs.Machine.{In, Each, with_got, rooted, root_counted, protected_in}
+use Rattle.store_model.proofs.Basics.{each_map}
 use Rattle.node_rows.specs.declared.view.NodeView.{NodeView}
 use Rattle.node_rows.specs.Steps.{with_store}
 use Rattle.root_sets.specs.Protected.{Keeps}

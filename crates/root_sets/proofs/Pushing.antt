@@ -2,11 +2,11 @@
 use Rattle.std.proofs.Common.{◌≡◌, ◌⊎◌, inl, inr, ℕ, suc, ◌+◌, ◌<◌, ◌≤◌, List, [], ◌∷◌, ◌++◌, length, get_or, set, take, drop, refl, sym, ap, ◌∙◌, subst, ⊎_elim, arith, length-set}
 use Rattle.std.proofs.lemmas.List.{length-take-le, get_or-take, get_or-set_same, take_more_set}
 use Rattle.std.proofs.lemmas.Bool.{cases_lt}
-use Rattle.store_core.specs.declared.view.Sizes.{Sizes}
-use Rattle.store_core.specs.declared.view.View.{View}
-use Rattle.store_core.specs.declared.view.Stay.TheVariants.{Away, Ready}
-use Rattle.store_core.specs.Machine.{In, Each, with_got, rooted, root_counted, protected_in}
-use Rattle.store_core.specs.Steps.{IsAtRest}
+use Rattle.store_model.specs.declared.view.Sizes.{Sizes}
+use Rattle.store_model.specs.declared.view.View.{View}
+use Rattle.store_model.specs.declared.view.Stay.TheVariants.{Away, Ready}
+use Rattle.store_model.specs.Machine.{In, Each, with_got, rooted, root_counted, protected_in}
+use Rattle.store_model.specs.Steps.{IsAtRest}
 use Rattle.node_rows.specs.declared.view.NodeView.{NodeView}
 use Rattle.node_rows.specs.Steps.{with_store, Known}
 use Rattle.root_sets.proofs.Keeping.{each_got}

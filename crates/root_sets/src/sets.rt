@@ -1,6 +1,6 @@
 //! Calls on the protected rows of a pass. Each is made in shared or exclusive access, and none takes memory or waits.
 ghost use Rattle.std.specs.Prelude.{◌≡◌, ◌<◌, ◌≤◌, ◌+◌, ◌-◌, ◌↔◌, ℕ, [], ◌∷◌, ◌++◌, IfOk, IfErr, IsErr, length, get_or, set};
-ghost use Rattle.store_core.specs.Machine.{In, with_got, protected_in};
+ghost use Rattle.store_model.specs.Machine.{In, with_got, protected_in};
 ghost use Rattle.busy_forbidden.specs.Calls.{IsSame};
 ghost use Rattle.node_rows.specs.Inside.{IsInside};
 ghost use Rattle.node_rows.specs.Steps.{with_store};

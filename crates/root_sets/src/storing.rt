@@ -1,6 +1,6 @@
 //! The protected rows of a pass that keeps its stack in plain memory.
 ghost use Rattle.std.specs.Prelude.{◌≡◌, ◌<◌, ◌≤◌, IsTrue, length, get_or, set, take};
-ghost use Rattle.store_core.specs.Machine.{In, Each, protected_in};
+ghost use Rattle.store_model.specs.Machine.{In, Each, protected_in};
 ghost use Rattle.busy_forbidden.specs.Calls.{IsSame};
 ghost use Rattle.node_rows.specs.Inside.{IsInside};
 ghost use Rattle.node_rows.specs.Rows.{names};
@@ -8,7 +8,7 @@ ghost use Rattle.root_sets.specs.Protected.{Keeps};
 
 use crate::words::{load_root, set_count, set_root};
 use node_rows::{Pass, Store};
-use store_core::Sizes;
+use store_model::Sizes;
 use term_model::Row;
 
 // Whether protected row k is this one.

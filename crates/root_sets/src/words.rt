@@ -1,6 +1,6 @@
 //! Each step on the words of a pass's protected rows.
 ghost use Rattle.std.specs.Prelude.{◌≡◌, ◌⊎◌, ◌<◌, ◌≤◌, ℕ, get_or};
-ghost use Rattle.store_core.specs.Machine.{In, with_got, rooted, root_counted};
+ghost use Rattle.store_model.specs.Machine.{In, with_got, rooted, root_counted};
 ghost use Rattle.busy_forbidden.specs.Calls.{IsSame};
 ghost use Rattle.node_rows.specs.Inside.{IsInside};
 ghost use Rattle.node_rows.specs.Steps.{with_store};

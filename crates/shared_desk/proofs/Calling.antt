@@ -12,13 +12,13 @@ use Rattle.history_core.specs.Chronicle.{last_roots}
 use Rattle.busy_forbidden.specs.declared.view.LockView.{LockView}
 use Rattle.busy_forbidden.specs.Calls.{IsSame}
 use Rattle.busy_forbidden.specs.Exclusive.{IsGranted}
-use Rattle.store_core.specs.declared.view.KnownWord.{KnownWord}
-use Rattle.store_core.specs.declared.view.Stay.{Stay}
-use Rattle.store_core.specs.declared.view.Stay.TheVariants.{Away, Ready}
-use Rattle.store_core.specs.declared.view.View.{View}
-use Rattle.store_core.specs.Machine.{Each, In, protected_in}
-use Rattle.store_core.specs.Steps.{AreLastRoots}
-use Rattle.store_core.proofs.Basics.{each_map, each_in}
+use Rattle.store_model.specs.declared.view.KnownWord.{KnownWord}
+use Rattle.store_model.specs.declared.view.Stay.{Stay}
+use Rattle.store_model.specs.declared.view.Stay.TheVariants.{Away, Ready}
+use Rattle.store_model.specs.declared.view.View.{View}
+use Rattle.store_model.specs.Machine.{Each, In, protected_in}
+use Rattle.store_model.specs.Steps.{AreLastRoots}
+use Rattle.store_model.proofs.Basics.{each_map, each_in}
 use Rattle.node_rows.specs.declared.view.NodeView.{NodeView}
 use Rattle.node_rows.specs.declared.store.Store.{Store}
 use Rattle.node_rows.specs.declared.store.Pass.{Pass}
@@ -35,7 +35,7 @@ use Rattle.sweep_phase.specs.declared.sweep.Kept.{Kept}
 use Rattle.term_create.specs.Created.{MayCreate, NotesOne, Gets, GetsNone, KeepsRest}
 use Rattle.term_create.specs.Read.{Reads, ReadsChild, head_words, word}
 use Rattle.root_sets.specs.Protected.{Keeps}
-use Rattle.store_core.specs.Told.{Told, told, told_from, nothing, after, created}
+use Rattle.store_model.specs.Told.{Told, told, told_from, nothing, after, created}
 use Rattle.shared_desk.specs.Held.{names, tree_in, Has, IsOnce, HasOneRow, IsWhole, Forgets}
 use Rattle.shared_desk.specs.Pass as desk
 use Rattle.shared_desk.specs.Pass.{PassView, WhichPass, own, Got, NotesCreation}

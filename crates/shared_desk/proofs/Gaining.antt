@@ -12,14 +12,14 @@ use Rattle.history_core.specs.declared.entry.Entry.{Entry}
 use Rattle.history_core.specs.declared.entry.Entry.TheVariants.{Make, Find, Roots}
 use Rattle.terms_api.specs.Terms.{HasTree, IsHeld, tree_at}
 use Rattle.terms_api.proofs.Callers.{tree_at-has, held-has, has-held}
-use Rattle.store_core.specs.declared.view.View.{View}
-use Rattle.store_core.specs.declared.view.KnownWord.{KnownWord}
-use Rattle.store_core.specs.Calls.{IsOver}
-use Rattle.store_core.specs.Machine.{Each, protected_in}
-use Rattle.store_core.specs.ByView.{KnowsWord, KnowsSecond}
+use Rattle.store_model.specs.declared.view.View.{View}
+use Rattle.store_model.specs.declared.view.KnownWord.{KnownWord}
+use Rattle.store_model.specs.Calls.{IsOver}
+use Rattle.store_model.specs.Machine.{Each, protected_in}
+use Rattle.store_model.specs.ByView.{KnowsWord, KnowsSecond}
 use Rattle.node_rows.specs.Knowing.{KnowsTree}
-use Rattle.store_core.specs.Invariant.{listed}
-use Rattle.store_core.specs.Told.{Told, told, nothing, after, created, tree_over, subtrees_in}
+use Rattle.store_model.specs.Invariant.{listed}
+use Rattle.store_model.specs.Told.{Told, told, nothing, after, created, tree_over, subtrees_in}
 use Rattle.shared_desk.specs.Held.{names, held_in, tree_in, Has, IsOnce, HasOneRow, IsWhole}
 use Rattle.node_rows.specs.Crowding.{ends_in_collect}
 use Rattle.node_rows.specs.Rows as node

@@ -9,7 +9,7 @@ use Rattle.history_core.specs.declared.entry.Entry.{Entry}
 use Rattle.history_core.specs.declared.entry.Entry.TheVariants as entry
 use Rattle.history_core.specs.Entry.{IsAscending}
 use Rattle.history_core.proofs.Members.{contains_here, contains_there, contains_none, contains_cases, each_at}
-use Rattle.store_core.proofs.Basics.{choose}
+use Rattle.store_model.proofs.Basics.{choose}
 use Rattle.node_rows.specs.declared.store.Last.{Last}
 use Rattle.node_rows.specs.declared.store.Last.TheVariants.{Nothing, Make, Find, Collect}
 use Rattle.node_rows.specs.Told.{told_by, last_from, last_in}

@@ -8,11 +8,11 @@ use Rattle.history_core.specs.declared.entry.Entry.TheVariants.{Collect}
 use Rattle.history_core.specs.Entry.{IsAscending}
 use Rattle.terms_api.specs.Terms.{HasTree, reachable, GainsNone, Loses}
 use Rattle.terms_api.proofs.Staying.{reached_from}
-use Rattle.store_core.specs.declared.view.View.{View}
-use Rattle.store_core.specs.declared.view.KnownWord.{KnownWord}
-use Rattle.store_core.specs.Machine.{Each, protected_in}
+use Rattle.store_model.specs.declared.view.View.{View}
+use Rattle.store_model.specs.declared.view.KnownWord.{KnownWord}
+use Rattle.store_model.specs.Machine.{Each, protected_in}
 use Rattle.node_rows.specs.Knowing.{KnowsTree}
-use Rattle.store_core.specs.Told.{Told, told, nothing, after}
+use Rattle.store_model.specs.Told.{Told, told, nothing, after}
 use Rattle.shared_desk.specs.Held.{names, held_in, tree_in, Has, IsWhole, Forgets}
 use Rattle.node_rows.specs.Crowding.{ends_in_collect}
 use Rattle.node_rows.specs.CrowdsKept.{ends_snoc}

@@ -16,8 +16,8 @@ use Rattle.history_core.specs.Told.{told, rooted_trees}
 use Rattle.history_core.proofs.Members.{each_from}
 use Rattle.history_core.proofs.Sets.{pair_other}
 use Rattle.history_core.proofs.Sound.{only_holds, itself, step_sound}
-use Rattle.store_core.specs.Told as store
-use Rattle.store_core.specs.Told.{Told, all_roots_from, told_from, subtrees_in}
+use Rattle.store_model.specs.Told as store
+use Rattle.store_model.specs.Told.{Told, all_roots_from, told_from, subtrees_in}
 use Rattle.node_rows.specs.CrowdsKept.{trees_many}
 
 -- two lists in parts, the first ones of one length

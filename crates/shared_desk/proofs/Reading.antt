@@ -4,10 +4,10 @@ use Rattle.term_model.specs.declared.Head.{Head}
 use Rattle.term_model.specs.declared.Head.TheVariants.{App, Int, Nil, Cons}
 use Rattle.term_model.specs.Tree.{Tree, Leaf, Node, Trees, End, More, arguments, list_of}
 use Rattle.hash_buckets.specs.Spelled.{spelled}
-use Rattle.store_core.specs.declared.view.KnownWord.{KnownWord}
-use Rattle.store_core.specs.declared.view.View.{View}
-use Rattle.store_core.specs.Calls.{IsOver}
-use Rattle.store_core.specs.ByView.{KnowsWord}
+use Rattle.store_model.specs.declared.view.KnownWord.{KnownWord}
+use Rattle.store_model.specs.declared.view.View.{View}
+use Rattle.store_model.specs.Calls.{IsOver}
+use Rattle.store_model.specs.ByView.{KnowsWord}
 use Rattle.node_rows.specs.Knowing.{KnowsTree, KnowsTrees}
 use Rattle.term_create.specs.Read.{HasArgument}
 use Rattle.terms_api.specs.Terms.{IsHeld, tree_at}

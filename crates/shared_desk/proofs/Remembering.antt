@@ -2,14 +2,14 @@
 use Rattle.std.proofs.Common.{◌≡◌, inl, inr, ℕ, true, List, [], ◌∷◌, refl, sym, subst}
 use mathlib.Core.Logic.{dite}
 use native.Mathlib.Decide.{ℕ_discrete}
-use Rattle.store_core.specs.declared.view.KnownWord.{KnownWord}
-use Rattle.store_core.specs.declared.view.Sizes.{Sizes}
-use Rattle.store_core.specs.declared.view.View.{View}
-use Rattle.store_core.specs.Machine.{Each, In, protected_in, words_kept, based}
-use Rattle.store_core.specs.Collection.{collected}
-use Rattle.store_core.specs.ByView.{KnowsWord}
-use Rattle.store_core.specs.Leading.{LeadsTo, leads_first}
-use Rattle.store_core.proofs.Leading.{keeps_their_words, entry_keeps}
+use Rattle.store_model.specs.declared.view.KnownWord.{KnownWord}
+use Rattle.store_model.specs.declared.view.Sizes.{Sizes}
+use Rattle.store_model.specs.declared.view.View.{View}
+use Rattle.store_model.specs.Machine.{Each, In, protected_in, words_kept, based}
+use Rattle.store_model.specs.Collection.{collected}
+use Rattle.store_model.specs.ByView.{KnowsWord}
+use Rattle.store_model.specs.Leading.{LeadsTo, leads_first}
+use Rattle.store_model.proofs.Leading.{keeps_their_words, entry_keeps}
 use Rattle.node_rows.specs.Knowing.{KnowsTree}
 use Rattle.node_rows.specs.Keeping.{KeepsLed}
 use Rattle.node_rows.proofs.Keeping.{entry_keeps_led, collection_keeps_led}

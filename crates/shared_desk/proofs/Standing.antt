@@ -8,12 +8,12 @@ use Rattle.lock_core.specs.declared.parts.Phase.TheVariants.{Shared, Holder}
 use Rattle.busy_forbidden.specs.Calls.{IsSame}
 use Rattle.busy_forbidden.specs.Exclusive.{IsGranted}
 use Rattle.history_core.specs.declared.entry.Entry.TheVariants.{Roots}
-use Rattle.store_core.specs.declared.view.KnownWord.{KnownWord}
-use Rattle.store_core.specs.declared.view.Stay.{Stay}
-use Rattle.store_core.specs.declared.view.Stay.TheVariants.{Away, Ready}
-use Rattle.store_core.specs.declared.view.View.{View}
-use Rattle.store_core.specs.Machine.{based, ready, left, protected_in}
-use Rattle.store_core.proofs.Basics.{choose, eqb_not}
+use Rattle.store_model.specs.declared.view.KnownWord.{KnownWord}
+use Rattle.store_model.specs.declared.view.Stay.{Stay}
+use Rattle.store_model.specs.declared.view.Stay.TheVariants.{Away, Ready}
+use Rattle.store_model.specs.declared.view.View.{View}
+use Rattle.store_model.specs.Machine.{based, ready, left, protected_in}
+use Rattle.store_model.proofs.Basics.{choose, eqb_not}
 use Rattle.node_rows.specs.declared.view.NodeView.{NodeView}
 use Rattle.node_rows.specs.declared.store.Store.{Store}
 use Rattle.node_rows.specs.declared.store.Pass.{Pass}
@@ -22,7 +22,7 @@ use Rattle.node_rows.specs.Inside.{IsInside}
 use Rattle.node_rows.specs.Passes.{IsPass, IsOut, IsReady, Came, Left}
 use Rattle.node_rows.specs.Told.{Tells, view_of}
 use Rattle.terms_api.specs.Terms.{IsSound}
-use Rattle.store_core.specs.Told.{Told, nothing}
+use Rattle.store_model.specs.Told.{Told, nothing}
 use Rattle.shared_desk.specs.Held.{IsWhole, Forgets}
 use Rattle.shared_desk.specs.Pass as desk
 use Rattle.shared_desk.specs.Pass.{PassView, WhichPass, own, Arrived}

@@ -13,10 +13,10 @@ use Rattle.history_core.specs.Chronicle.{History, precedes, put, put_all, put_ea
 use Rattle.history_core.specs.TermSet.{empty}
 use Rattle.history_core.specs.Told.{told, rooted_trees}
 use Rattle.history_core.proofs.Sound.{legal_is_sound}
-use Rattle.store_core.proofs.Basics.{choose}
-use Rattle.store_core.specs.Told as store
-use Rattle.store_core.specs.Told.{Told, nothing, all_roots, all_roots_from, told_from, subtrees_in}
-use Rattle.store_core.specs.Machine.{widest}
+use Rattle.store_model.proofs.Basics.{choose}
+use Rattle.store_model.specs.Told as store
+use Rattle.store_model.specs.Told.{Told, nothing, all_roots, all_roots_from, told_from, subtrees_in}
+use Rattle.store_model.specs.Machine.{widest}
 use Rattle.node_rows.specs.declared.store.Store.{Store}
 use Rattle.node_rows.specs.declared.store.Pass.{Pass}
 use Rattle.node_rows.specs.Crowding.{EndsWith}
@@ -25,8 +25,8 @@ use Rattle.node_rows.specs.Passes.{IsStore, IsPass, IsOut}
 use Rattle.node_rows.specs.CrowdsKept.{part_join}
 use Rattle.node_rows.specs.Told.{Tells, KeepsOrder, TellsTrees, view_of}
 use Rattle.node_rows.specs.declared.view.NodeView.{NodeView}
-use Rattle.store_core.specs.declared.view.Sizes.{Sizes}
-use Rattle.store_core.specs.Steps.{newcomer}
+use Rattle.store_model.specs.declared.view.Sizes.{Sizes}
+use Rattle.store_model.specs.Steps.{newcomer}
 use Rattle.shared_desk.specs.Held.{IsWhole}
 use Rattle.shared_desk.specs.Pass.{PassView}
 use Rattle.node_rows.proofs.Crowding.{crowd_at_its_place}

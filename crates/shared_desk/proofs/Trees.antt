@@ -7,15 +7,15 @@ use Rattle.term_model.specs.declared.Head.{Head}
 use Rattle.term_model.specs.Tree.{Tree, Leaf, Node, Trees, End, More, trees_of, list_of, arguments, subtrees, subtrees_all, is_ground, all_ground}
 use Rattle.term_model.proofs.Order.{both}
 use Rattle.hash_buckets.specs.Spelled.{spelled}
-use Rattle.store_core.specs.declared.view.KnownWord.{KnownWord}
-use Rattle.store_core.specs.declared.view.Content.{Content}
-use Rattle.store_core.specs.Calls.{IsOver}
-use Rattle.store_core.specs.Machine.{Each, words_known}
-use Rattle.store_core.specs.ByView.{KnowsWord}
+use Rattle.store_model.specs.declared.view.KnownWord.{KnownWord}
+use Rattle.store_model.specs.declared.view.Content.{Content}
+use Rattle.store_model.specs.Calls.{IsOver}
+use Rattle.store_model.specs.Machine.{Each, words_known}
+use Rattle.store_model.specs.ByView.{KnowsWord}
 use Rattle.node_rows.specs.Knowing.{KnowsRow, KnowsTree, KnowsTrees}
-use Rattle.store_core.proofs.Basics.{choose, eqb_not}
-use Rattle.store_core.proofs.Histories.{spelled_once}
-use Rattle.store_core.proofs.Chains.{some_words}
+use Rattle.store_model.proofs.Basics.{choose, eqb_not}
+use Rattle.store_model.proofs.Histories.{spelled_once}
+use Rattle.store_model.proofs.Chains.{some_words}
 use Rattle.std.proofs.lemmas.List.Elements.{Contains-append_cases}
 use Rattle.shared_desk.specs.Held.{names, IsOnce}
 

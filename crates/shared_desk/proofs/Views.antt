@@ -7,12 +7,12 @@ use Rattle.term_model.specs.declared.Row.{Row}
 use Rattle.term_model.specs.Tree.{Tree, IsWellFormed}
 use Rattle.terms_api.specs.Terms.{Store, HasTree, IsHeld, IsSound, tree_at}
 use Rattle.terms_api.proofs.Callers.{tree_at-has, held-has, has-held}
-use Rattle.store_core.specs.declared.view.View.{View}
-use Rattle.store_core.specs.Machine.{Each, protected_in}
+use Rattle.store_model.specs.declared.view.View.{View}
+use Rattle.store_model.specs.Machine.{Each, protected_in}
 use Rattle.node_rows.specs.Knowing.{KnowsTree}
-use Rattle.store_core.specs.Invariant.{listed}
-use Rattle.store_core.proofs.Basics.{choose}
-use Rattle.store_core.proofs.Histories.{listed_at, listed_length}
+use Rattle.store_model.specs.Invariant.{listed}
+use Rattle.store_model.proofs.Basics.{choose}
+use Rattle.store_model.proofs.Histories.{listed_at, listed_length}
 use Rattle.shared_desk.specs.Held.{names, held_in, tree_in, Has, IsWhole}
 use Rattle.shared_desk.specs.Pass.{WhichStore, WhichPass, own}
 use Rattle.shared_desk.specs.Seen.{row_of, rows_of, seen}

@@ -8,15 +8,15 @@ use Rattle.term_model.specs.Tree.{Tree, trees_of, list_of, arguments, may_stand_
 use Rattle.term_model.proofs.Order.{both}
 use Rattle.hash_buckets.specs.Spelled.{spelled}
 use Rattle.history_core.specs.declared.entry.Entry.{Entry}
-use Rattle.store_core.specs.declared.view.Sizes.{Sizes}
-use Rattle.store_core.specs.declared.view.View.{View}
-use Rattle.store_core.specs.declared.view.KnownWord.{KnownWord}
-use Rattle.store_core.specs.Words.{put}
-use Rattle.store_core.specs.Calls.{IsOver}
-use Rattle.store_core.specs.Machine.{Each, In, widest, protected_in, words_known}
+use Rattle.store_model.specs.declared.view.Sizes.{Sizes}
+use Rattle.store_model.specs.declared.view.View.{View}
+use Rattle.store_model.specs.declared.view.KnownWord.{KnownWord}
+use Rattle.store_model.specs.Words.{put}
+use Rattle.store_model.specs.Calls.{IsOver}
+use Rattle.store_model.specs.Machine.{Each, In, widest, protected_in, words_known}
 use Rattle.node_rows.specs.Knowing.{KnowsTree}
-use Rattle.store_core.proofs.Basics.{put_same, put_other, each_map, choose}
-use Rattle.store_core.specs.Told.{Told, told_from, after, tree_over}
+use Rattle.store_model.proofs.Basics.{put_same, put_other, each_map, choose}
+use Rattle.store_model.specs.Told.{Told, told_from, after, tree_over}
 use Rattle.shared_desk.specs.Held.{names, held_in, tree_in, Has, IsOwn, IsOnce, HasOneRow, IsWhole, Forgets}
 use Rattle.shared_desk.proofs.Trees.{Within, tree_within, names_within, tree_names, tree_once, trees_known, row_there, known_before, named_there}
 

@@ -10,7 +10,7 @@ use Rattle.term_model.specs.Code.{tree_code, head_from}
 use Rattle.history_core.specs.declared.entry.Entry.{Entry}
 use Rattle.history_core.specs.declared.entry.Entry.TheVariants.{Make, Find, Roots, Collect}
 use Rattle.atomic_table.specs.Seated.{TableId}
-use Rattle.store_core.specs.declared.view.Sizes.{Sizes}
+use Rattle.store_model.specs.declared.view.Sizes.{Sizes}
 use Rattle.shared_desk.specs.Pass.{PassView, WhichStore, WhichPass}
 
 -- what contracts see of a desk

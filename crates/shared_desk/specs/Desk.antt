@@ -10,7 +10,7 @@ use Rattle.terms_api.specs.declared.terms.BuildFault.TheVariants.{Deep, StoreFul
 use Rattle.terms_api.specs.Terms.{Store, HasTree, IsSound, GainsNone, Loses, Loads, IsCrowded, trees, but_last, asked}
 use Rattle.shared_desk.specs.Places.{Places}
 use Rattle.shared_desk.specs.Pass as pass
-use Rattle.store_core.specs.Invariant.{span}
+use Rattle.store_model.specs.Invariant.{span}
 use Rattle.shared_desk.specs.Pass.{PassView, WhichStore, IsWorn, shown, store}
 use Rattle.shared_desk.specs.Code.{Contents}
 

@@ -1,13 +1,13 @@
 -- The own list of a pass: the rows of which it knows words, each with the tree that its entries tell.
 use Rattle.std.specs.Prelude.{◌≡◌, ℕ, ◌<◌, ◌≤◌, ◌==◌, Bool, true, false, if◌then◌else◌, Option, Some, None, List, [], ◌∷◌, length}
 use Rattle.term_model.specs.Tree.{Tree, arguments, IsWellFormed}
-use Rattle.store_core.specs.declared.view.Sizes.{Sizes}
-use Rattle.store_core.specs.declared.view.View.{View}
-use Rattle.store_core.specs.declared.view.KnownWord.{KnownWord}
-use Rattle.store_core.specs.Machine.{Each, In, widest, protected_in}
-use Rattle.store_core.specs.ByView.{KnowsWord}
+use Rattle.store_model.specs.declared.view.Sizes.{Sizes}
+use Rattle.store_model.specs.declared.view.View.{View}
+use Rattle.store_model.specs.declared.view.KnownWord.{KnownWord}
+use Rattle.store_model.specs.Machine.{Each, In, widest, protected_in}
+use Rattle.store_model.specs.ByView.{KnowsWord}
 use Rattle.node_rows.specs.Knowing.{KnowsTree}
-use Rattle.store_core.specs.Told.{told}
+use Rattle.store_model.specs.Told.{told}
 
 -- one of these words is a word of row r
 abbrev pub names : ℕ → List KnownWord → Bool

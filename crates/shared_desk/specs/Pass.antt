@@ -9,8 +9,8 @@ use Rattle.history_core.specs.Entry.{IsAscending}
 use Rattle.node_rows.specs.Rows.{names}
 use Rattle.term_model.specs.Tree.{Tree, Node, trees_of, subtrees, distinct, may_stand_over}
 use Rattle.atomic_table.specs.Seated.{TableId}
-use Rattle.store_core.specs.declared.view.Sizes.{Sizes}
-use Rattle.store_core.specs.Invariant.{span}
+use Rattle.store_model.specs.declared.view.Sizes.{Sizes}
+use Rattle.store_model.specs.Invariant.{span}
 use Rattle.terms_api.specs.Terms.{Store, HasTree, IsHeld, tree_at, trees, KeepsAll, GainsNone, Loses}
 
 -- which store: its table and sizes; and which of its passes

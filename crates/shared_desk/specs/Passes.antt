@@ -5,8 +5,8 @@ use Rattle.term_model.specs.declared.Head.TheVariants.{App, Int, Nil, Cons}
 use Rattle.lock_core.specs.declared.parts.Phase.{Phase}
 use Rattle.lock_core.specs.declared.parts.Phase.TheVariants.{Out, Raised, Shared, Blocked, Holder}
 use Rattle.busy_forbidden.specs.Exclusive.{IsGranted}
-use Rattle.store_core.specs.declared.view.Stay.{Stay}
-use Rattle.store_core.specs.declared.view.Stay.TheVariants.{Away, Based, Ready, Leaving}
+use Rattle.store_model.specs.declared.view.Stay.{Stay}
+use Rattle.store_model.specs.declared.view.Stay.TheVariants.{Away, Based, Ready, Leaving}
 use Rattle.node_rows.specs.declared.view.NodeView.{NodeView}
 use Rattle.node_rows.specs.declared.store.Store.{Store}
 use Rattle.node_rows.specs.declared.store.Pass.{Pass}

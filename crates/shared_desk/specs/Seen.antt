@@ -2,10 +2,10 @@
 use Rattle.std.specs.Prelude.{ℕ, Bool, ◌&&◌, Option, List, [], map}
 use Rattle.term_model.specs.declared.Row.{Row}
 use Rattle.term_model.specs.Tree.{Tree}
-use Rattle.store_core.specs.declared.view.View.{View}
-use Rattle.store_core.specs.Machine.{widest, protected_in}
-use Rattle.store_core.specs.Invariant.{listed}
-use Rattle.store_core.specs.Told.{Told, told}
+use Rattle.store_model.specs.declared.view.View.{View}
+use Rattle.store_model.specs.Machine.{widest, protected_in}
+use Rattle.store_model.specs.Invariant.{listed}
+use Rattle.store_model.specs.Told.{Told, told}
 use Rattle.node_rows.specs.Crowding.{ends_in_collect}
 use Rattle.shared_desk.specs.Held.{held_in}
 use Rattle.shared_desk.specs.Pass.{PassView, WhichStore, WhichPass}

@@ -7,8 +7,8 @@ use Rattle.history_core.specs.declared.entry.Entry.{Entry}
 use Rattle.history_core.specs.Entry.{is_collect, key}
 use Rattle.history_core.specs.Chronicle.{History}
 use Rattle.history_core.proofs.Members.{contains_here, contains_there}
-use Rattle.store_core.specs.Bases.{StaysBelow, collect_numbers}
-use Rattle.store_core.specs.Machine.{In}
+use Rattle.store_model.specs.Bases.{StaysBelow, collect_numbers}
+use Rattle.store_model.specs.Machine.{In}
 use Rattle.rewrite_workers.specs.Dealt.{times}
 use Rattle.rewrite_workers.proofs.Dealing.{hit, times_cons, hit_same}
 use Rattle.shared_desk.specs.Telling.{collects_by}

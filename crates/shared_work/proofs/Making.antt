@@ -6,11 +6,11 @@ use Rattle.settings.specs.Words.{AreInRange}
 use Rattle.settings.specs.declared.parts.Settings.{Settings}
 use Rattle.rule_match.specs.Planned.{Planned}
 use Rattle.busy_forbidden.specs.Dealt.{EachPlace}
-use Rattle.store_core.specs.StoreValue.{MaySize}
-use Rattle.store_core.specs.declared.view.Sizes.{Sizes}
+use Rattle.store_model.specs.NewStore.{MaySize}
+use Rattle.store_model.specs.declared.view.Sizes.{Sizes}
 use Rattle.node_rows.specs.Passes.{IsStore}
 use Rattle.node_rows.specs.Opening.{IsNew}
-use Rattle.store_core.specs.Told.{told}
+use Rattle.store_model.specs.Told.{told}
 use Rattle.node_rows.specs.declared.store.Store.{Store}
 use Rattle.node_rows.specs.declared.store.Pass.{Pass}
 use Rattle.node_rows.specs.declared.view.NodeView.{NodeView}

@@ -7,8 +7,8 @@ use Rattle.settings.specs.Words.{AreInRange}
 use Rattle.settings.specs.declared.parts.Settings.{Settings}
 use Rattle.rule_match.specs.Planned.{Planned}
 use Rattle.busy_forbidden.specs.Dealt.{EachPlace}
-use Rattle.store_core.specs.declared.view.Sizes.{Sizes}
-use Rattle.store_core.specs.Machine.{widest}
+use Rattle.store_model.specs.declared.view.Sizes.{Sizes}
+use Rattle.store_model.specs.Machine.{widest}
 use Rattle.node_rows.specs.declared.store.Store.{Store}
 use Rattle.rewrite_workers.specs.Desks.{IsReady}
 use Rattle.shared_desk.specs.Code.{Contents}

@@ -15,10 +15,10 @@ use Rattle.history_core.specs.Chronicle.{chronicle, IsNoted}
 use Rattle.history_core.proofs.Chronicles.{has_the_noted}
 use Rattle.innermost.specs.declared.normal.RunFault.{RunFault}
 use Rattle.innermost.specs.declared.normal.RunFault.TheVariants as fault
-use Rattle.store_core.proofs.Basics.{eqb_is}
-use Rattle.store_core.specs.declared.view.Sizes.{Sizes}
-use Rattle.store_core.specs.Bases.{StaysBelow, collect_numbers}
-use Rattle.store_core.specs.Invariant.{span}
+use Rattle.store_model.proofs.Basics.{eqb_is}
+use Rattle.store_model.specs.declared.view.Sizes.{Sizes}
+use Rattle.store_model.specs.Bases.{StaysBelow, collect_numbers}
+use Rattle.store_model.specs.Invariant.{span}
 use Rattle.node_rows.specs.declared.store.Store.{Store}
 use Rattle.node_rows.specs.declared.store.Pass.{Pass}
 use Rattle.node_rows.specs.Joining.{HasBase}

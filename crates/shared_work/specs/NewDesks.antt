@@ -3,8 +3,8 @@ use Rattle.std.specs.Prelude.{◌≡◌, ℕ, false, List, [], Some, length, sli
 use Rattle.rule_match.specs.Planned.{Planned}
 use Rattle.settings.specs.declared.parts.Settings.{Settings}
 use Rattle.busy_forbidden.specs.Dealt.{EachPlace}
-use Rattle.store_core.specs.declared.view.Sizes.{Sizes}
-use Rattle.store_core.specs.Machine.{widest}
+use Rattle.store_model.specs.declared.view.Sizes.{Sizes}
+use Rattle.store_model.specs.Machine.{widest}
 use Rattle.node_rows.specs.declared.store.Store.{Store}
 use Rattle.node_rows.specs.declared.store.Pass.{Pass}
 use Rattle.node_rows.specs.Opening.{IsNew}

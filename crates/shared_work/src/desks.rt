@@ -2,7 +2,7 @@
 ghost use Rattle.std.specs.Prelude.{◌≡◌, ℕ, ◌≤◌, [], IfOk, All, false, vec_len, vec_capacity};
 ghost use Rattle.settings.specs.Words.{AreInRange};
 ghost use Rattle.busy_forbidden.specs.Dealt.{EachPlace};
-ghost use Rattle.store_core.specs.StoreValue.{MaySize};
+ghost use Rattle.store_model.specs.NewStore.{MaySize};
 ghost use Rattle.node_rows.specs.Passes.{IsStore};
 ghost use Rattle.node_rows.specs.Told.{view_of};
 ghost use Rattle.shared_desk.specs.Desk.{store_of};
@@ -15,7 +15,7 @@ use rewrite_workers::Work;
 use shared_desk::{Desk, LogDesk, OwnPass};
 use std::alloc::Global;
 use std::sync::Wait;
-use store_core::Sizes;
+use store_model::Sizes;
 
 // The sizes of the store of some work.
 fn sizes_of(work: &Work) -> Sizes

@@ -8,32 +8,30 @@ use Rattle.std.proofs.Math.Nat.{mul-le-mul_left, mul-le-mul_right, le_trans}
 use mathlib.Core.Path.{fun_ext}
 use Rattle.lock_core.specs.Lock.{Lock}
 use Rattle.lock_core.specs.Lock as lock
-use Rattle.store_core.specs.Words.{Place, Base, FreeCount, Claim, InUse, FreePlace, Bucket, RowWord, Birth, Next, RootCount, Root}
-use Rattle.store_core.specs.Calls.{View}
-use Rattle.store_core.specs.Machine.{Sizes, State, widest}
-use Rattle.store_core.specs.Steps.{newcomer}
-use Rattle.store_core.specs.Shown.{shown, total, index_of}
+use Rattle.store_model.specs.Words.{Place, Base, FreeCount, Claim, InUse, FreePlace, Bucket, RowWord, Birth, Next, RootCount, Root}
+use Rattle.store_model.specs.Calls.{View}
+use Rattle.store_model.specs.Machine.{Sizes, State, widest}
+use Rattle.store_model.specs.Steps.{newcomer}
+use Rattle.store_model.specs.Shown.{shown, total, index_of}
 use Rattle.store_core.specs.Running.{IsBegun}
-use Rattle.store_core.specs.Runs.{AreSizes, StartsWith, at_start}
-use Rattle.store_core.specs.StoreHolds.{StoreHolds}
-use Rattle.store_core.specs.StoreSteps as steps
-use Rattle.store_core.specs.StoreSteps.{meant, IsInPlace, Leads}
-use Rattle.store_core.specs.StoreValue.{StoreValue, state_of, MaySize, first_words, start_of, IsNew, Stepped, Stayed, Replays}
+use Rattle.store_model.specs.Runs.{AreSizes, at_start}
+use Rattle.store_model.specs.StoreHolds.{StoreHolds}
+use Rattle.store_model.specs.StoreSteps as steps
+use Rattle.store_model.specs.StoreSteps.{IsInPlace, Leads}
+use Rattle.store_model.specs.NewStore.{MaySize, first_words, start_of}
+use Rattle.store_core.specs.StoreValue.{StoreValue, state_of, IsNew, Stepped, Stayed, Replays}
 use Rattle.store_core.specs.Planning.{state_by, changed, IsPlanOf}
 use Rattle.store_core.specs.StoreInside.{value_of, IsHeld}
 use Rattle.store_core.specs.declared.state.StoreState.TheInside.{Inside}
-use Rattle.store_core.specs.declared.step.StoreStep.{StoreStep}
+use Rattle.store_model.specs.declared.step.StoreStep.{StoreStep}
 use Rattle.store_core.specs.declared.machine.change.Change.{Change}
-use Rattle.store_core.proofs.Eight.{eight, inductive}
-use Rattle.store_core.proofs.Runs.{step_kept, starts}
+use Rattle.store_model.proofs.Eight.{eight}
+use Rattle.store_model.proofs.Runs.{starts}
+use Rattle.store_model.proofs.Follows.{below, not_below, holds_after, first_starts}
 use Rattle.store_core.proofs.Planning.{views_first}
-use Rattle.store_core.proofs.Shown.{total_is}
+use Rattle.store_model.proofs.Shown.{total_is}
 
--- the facts hold after a step in place
-pub holds_after : (z : Sizes) (s : State) (i : ℕ) (x : StoreStep) → StoreHolds z s → IsInPlace z s i x → StoreHolds z (steps.after z s i x)
-holds_after z s i x k ok = eight z (steps.after z s i x) (step_kept (meant s i x) z s i (inductive z s k) ok.step)
-
--- and of the fields after a change was made
+-- the facts hold of the fields after a change was made
 pub held_after : (z y : Sizes) (l m : Lock) (had has : List ℕ) (vs us : List View) (i : ℕ) (x : StoreStep) (c : Change) → y ≡ z → StoreHolds z (state_by z l had vs) → IsInPlace z (state_by z l had vs) i x → steps.after z (state_by z l had vs) i x ≡ changed (state_by z l had vs) i c → state_by z m has us ≡ changed (state_by z l had vs) i c → StoreHolds y (state_by y m has us)
 held_after z y l m had has vs us i x c same k ok after made =
     let at_z : StoreHolds z (state_by z m has us) = subst (StoreHolds z) (after ∙ sym made) (holds_after z (state_by z l had vs) i x k ok) in
@@ -42,20 +40,6 @@ held_after z y l m had has vs us i x c same k ok after made =
 -- the state after it is that of the step
 pub stepped_to : (z y : Sizes) (l m : Lock) (had has : List ℕ) (vs us : List View) (i : ℕ) (x : StoreStep) (c : Change) → y ≡ z → steps.after z (state_by z l had vs) i x ≡ changed (state_by z l had vs) i c → state_by z m has us ≡ changed (state_by z l had vs) i c → state_by y m has us ≡ steps.after z (state_by z l had vs) i x
 stepped_to z y l m had has vs us i x c same after made = ap (λ (t : Sizes). state_by t m has us) same ∙ (made ∙ sym after)
-
-true_or : (b : Bool) → (b ≡ false → ⊥) → b ≡ true
-true_or true h = refl
-true_or false h = absurd (h refl)
-
-false_or : (b : Bool) → (b ≡ true → ⊥) → b ≡ false
-false_or true h = absurd (h refl)
-false_or false h = refl
-
-below : (i n : ℕ) → i < n → nat_lt i n ≡ true
-below i n l = true_or (nat_lt i n) (λ e. let k = ltb-false i n e in omega arith)
-
-not_below : (i n : ℕ) → n ≤ i → nat_lt i n ≡ false
-not_below i n l = false_or (nat_lt i n) (λ e. let k = ltb-true i n e in omega arith)
 
 -- the words of a new store
 module _ (z : Sizes) (words : List ℕ) (h : IsBegun z z.rows (shown z words)) where
@@ -99,19 +83,6 @@ new_is z y l words vs same h at views = record {
 
 sizes_may : (z : Sizes) → MaySize z → AreSizes z
 sizes_may z m = record { first = m.first; room = let a = m.room in omega arith; used = let a = m.start.0 in omega arith; within = m.start.1 }
-
-pub first_starts : (z : Sizes) → StartsWith z (first_words z)
-first_starts z = record {
-  base = refl;
-  count = refl;
-  claim = refl;
-  in_use = refl;
-  place = λ i l. ap (λ (b : Bool). cond b i 0) (below i z.rows l);
-  bucket = λ b. refl;
-  count_word = λ r. refl;
-  root_count = λ j. refl;
-  root = λ j k l. refl;
-}
 
 -- the facts hold of it
 pub new_holds : (z : Sizes) (t : StoreValue) → MaySize z → IsNew z t → StoreHolds t.sizes (state_of t)

@@ -3,17 +3,17 @@ use Rattle.std.proofs.Common.{◌≡◌, ◌↔◌, ℕ, suc, ◌+◌, ◌<◌, 
 use Rattle.std.specs.Prelude.{replicate, MatchBool}
 use Rattle.std.proofs.lemmas.Bool.{cases_lt}
 use Rattle.std.proofs.lemmas.List.{length-replicate, drop_all, take_all, length_push, get_or_push, get_or_append_left}
-use Rattle.store_core.specs.Words.{Place, Claim, InUse, Bucket, Birth, Next, row_at, write}
-use Rattle.store_core.specs.Calls.{bucket, bucket_below}
-use Rattle.store_core.specs.Machine.{Sizes, Each, In}
-use Rattle.store_core.specs.Meaning.{Meaning, Linked, Stands, IsOlder}
-use Rattle.store_core.specs.Invariant.{ChainsHold}
-use Rattle.store_core.specs.Marks.{IsMarked, Marks}
-use Rattle.store_core.specs.MarkedChains.{IsMeant, NotMeant, HasContent, OneStrays, IsChain, HasPassed, IsSound, IsNoted, StandInFirst, AllStand, UsesBuckets, ChainsMarked}
-use Rattle.store_core.proofs.Basics.{each_in, each_map, each_right}
-use Rattle.store_core.proofs.Chains.{linked_once}
-use Rattle.store_core.proofs.Short.{chain_few}
-use Rattle.store_core.proofs.Gains.{in_at}
+use Rattle.store_model.specs.Words.{Place, Claim, InUse, Bucket, Birth, Next, row_at, write}
+use Rattle.store_model.specs.Calls.{bucket, bucket_below}
+use Rattle.store_model.specs.Machine.{Sizes, Each, In}
+use Rattle.store_model.specs.Meaning.{Meaning, Linked, Stands, IsOlder}
+use Rattle.store_model.specs.Invariant.{ChainsHold}
+use Rattle.store_model.specs.Marks.{IsMarked, Marks}
+use Rattle.store_model.specs.MarkedChains.{IsMeant, NotMeant, HasContent, OneStrays, IsChain, HasPassed, IsSound, IsNoted, StandInFirst, AllStand, UsesBuckets, ChainsMarked}
+use Rattle.store_model.proofs.Basics.{each_in, each_map, each_right}
+use Rattle.store_model.proofs.Chains.{linked_once}
+use Rattle.store_model.proofs.Short.{chain_few}
+use Rattle.store_model.proofs.Gains.{in_at}
 use Rattle.store_core.proofs.Outcomes.{match_by, never}
 use Rattle.store_core.proofs.Reached.{none_marked}
 

@@ -1,8 +1,8 @@
 -- The hash of rows that are read one after another.
 use Rattle.std.proofs.Common.{◌≡◌, ℕ, suc, ◌<◌, List, [], ◌∷◌, ◌++◌, length, get_or, drop, map, Bor, ap, sym, ◌∙◌}
 use Rattle.std.proofs.Math.Seq.{drop-cons, drop-length}
-use Rattle.store_core.specs.declared.view.KnownWord.{KnownWord}
-use Rattle.store_core.specs.Machine.{words_known}
+use Rattle.store_model.specs.declared.view.KnownWord.{KnownWord}
+use Rattle.store_model.specs.Machine.{words_known}
 use Rattle.hash_buckets.specs.Hash.{mixed, mixed_all}
 
 -- one row more

@@ -4,16 +4,16 @@ use Rattle.std.specs.Prelude.{MatchBool}
 use Rattle.term_model.specs.declared.Head.{Head}
 use Rattle.term_model.specs.declared.Head.TheVariants.{App, Int, Nil, Cons}
 use Rattle.hash_buckets.specs.Spelled.{spelled}
-use Rattle.store_core.specs.Words.{Place, RowWord, row_at}
-use Rattle.store_core.specs.Calls.{Content, IsOver, bucket}
-use Rattle.store_core.specs.Machine.{Sizes}
-use Rattle.store_core.specs.Meaning.{Matches}
+use Rattle.store_model.specs.Words.{Place, RowWord, row_at}
+use Rattle.store_model.specs.Calls.{Content, IsOver, bucket}
+use Rattle.store_model.specs.Machine.{Sizes}
+use Rattle.store_model.specs.Meaning.{Matches}
 use Rattle.store_core.specs.RowLists.{IsList, IsPast}
 use Rattle.store_core.specs.declared.machine.row_lists.RowList.TheVariants.{Arguments}
-use Rattle.store_core.specs.MarkedChains.{HasWords, HasContent, HasNone, StandsIn, Strays}
-use Rattle.store_core.proofs.Basics.{each_in, eqb_is, eqb_not}
-use Rattle.store_core.proofs.Gains.{argument_at, two_words, enough_words}
-use Rattle.store_core.proofs.Histories.{content_once}
+use Rattle.store_model.specs.MarkedChains.{HasWords, HasContent, HasNone, StandsIn, Strays}
+use Rattle.store_model.proofs.Basics.{each_in, eqb_is, eqb_not}
+use Rattle.store_model.proofs.Gains.{argument_at, two_words, enough_words}
+use Rattle.store_model.proofs.Histories.{content_once}
 use Rattle.store_core.proofs.Outcomes.{match_by}
 
 pub none_of : (xs : List ℕ) → length xs ≡ 0 → xs ≡ []

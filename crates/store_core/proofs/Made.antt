@@ -1,14 +1,14 @@
 -- What a planned change does is what its step does.
 use Rattle.std.proofs.Common.{◌≡◌, ℕ, None, Some, refl, sym, ap, ◌∙◌}
 use Rattle.lock_core.specs.Lock.{Lock}
-use Rattle.store_core.specs.Words.{Place, write}
-use Rattle.store_core.specs.Calls.{View}
-use Rattle.store_core.specs.Machine.{Step, Go, action}
-use Rattle.store_core.specs.Steps.{after}
+use Rattle.store_model.specs.Words.{Place, write}
+use Rattle.store_model.specs.Calls.{View}
+use Rattle.store_model.specs.Machine.{Step, Go, action}
+use Rattle.store_model.specs.Steps.{after}
 use Rattle.store_core.specs.declared.machine.change.Change.{Change}
 use Rattle.store_core.specs.declared.machine.change.Sight.{Sight}
 use Rattle.store_core.specs.Planning.{state_seen, sizes_seen, view_after, lock_with, words_with, Makes}
-use Rattle.store_core.proofs.Basics.{write_same}
+use Rattle.store_model.proofs.Basics.{write_same}
 
 pub two : (f : View → ℕ → View) (v u : View) (m n : ℕ) → v ≡ u → m ≡ n → f v m ≡ f u n
 two f v u m n e k = ap (λ (x : View). f x m) e ∙ ap (f u) k

@@ -3,14 +3,14 @@ use Rattle.std.proofs.Common.{◌≡◌, ◌≢◌, ℕ, zero, suc, ◌+◌, ◌
 use Rattle.std.specs.Prelude.{replicate}
 use Rattle.std.proofs.lemmas.Bool.{cases_lt}
 use Rattle.std.proofs.lemmas.List.{length-replicate, get_or-replicate, get_or_read, length-set, length_push}
-use Rattle.store_core.specs.Words.{Place, FreeCount, FreePlace}
-use Rattle.store_core.specs.Machine.{Sizes}
-use Rattle.store_core.specs.Steps.{is_free, rows_left}
+use Rattle.store_model.specs.Words.{Place, FreeCount, FreePlace}
+use Rattle.store_model.specs.Machine.{Sizes}
+use Rattle.store_model.specs.Steps.{is_free, rows_left}
 use Rattle.store_core.specs.RowLists.{AreListed, IsList, IsPast}
 use Rattle.store_core.specs.declared.machine.row_lists.RowList.TheVariants.{Free}
-use Rattle.store_core.specs.Marks.{MarksPlaces, MarksFree, AreNotApart, Repeats}
-use Rattle.store_core.proofs.Basics.{choose, eqb_is, eqb_not}
-use Rattle.store_core.proofs.NamesLeft.{free_none, free_some}
+use Rattle.store_model.specs.Marks.{MarksPlaces, MarksFree, AreNotApart, Repeats}
+use Rattle.store_model.proofs.Basics.{choose, eqb_is, eqb_not}
+use Rattle.store_model.proofs.NamesLeft.{free_none, free_some}
 
 -- equal places
 free_same : (f g : ℕ → ℕ) (n r : ℕ) → ((i : ℕ) → i < n → f i ≡ g i) → is_free f n r ≡ is_free g n r
@@ -67,21 +67,6 @@ module _ (z : Sizes) (w : Place → ℕ) where
       let second : t.second < w FreeCount = omega arith in
       let first : t.first < w FreeCount = omega arith in
       let same = h.differ t.first t.second first second (sym (k.each t.first first) ∙ (t.same ∙ k.each t.second second)) in omega arith
-
--- counting the rows that are left
-pub left_more : (place : ℕ → ℕ) (n r : ℕ) → is_free place n r ≡ false → length (rows_left place n (r + 1)) ≡ length (rows_left place n r) + 1
-left_more place n r e =
-    let next : suc r ≡ r + 1 = omega arith in
-    subst (λ (k : ℕ). length (rows_left place n k) ≡ length (rows_left place n r) + 1) next
-    (choose (λ (xs : List ℕ). length xs ≡ length (rows_left place n r) + 1) (is_free place n r) (rows_left place n r) (rows_left place n r ++ r ∷ [])
-    (λ t. absurd (true≢false (sym t ∙ e))) (λ _. length_push (rows_left place n r) r))
-
-pub left_same : (place : ℕ → ℕ) (n r : ℕ) → is_free place n r ≡ true → length (rows_left place n (r + 1)) ≡ length (rows_left place n r)
-left_same place n r e =
-    let next : suc r ≡ r + 1 = omega arith in
-    subst (λ (k : ℕ). length (rows_left place n k) ≡ length (rows_left place n r)) next
-    (choose (λ (xs : List ℕ). length xs ≡ length (rows_left place n r)) (is_free place n r) (rows_left place n r) (rows_left place n r ++ r ∷ [])
-    (λ _. refl) (λ f. absurd (true≢false (sym e ∙ f))))
 
 -- a mark that was read
 pub read_mark : (m : List Bool) (i : ℕ) (a b : Bool) → i < length m → a ≡ get_or m i a → a ≡ b → get_or m i false ≡ b

@@ -2,10 +2,10 @@
 use Rattle.std.proofs.Common.{◌≡◌, ℕ, List, None, Some, ap, ◌∙◌}
 use Rattle.std.specs.Prelude.{Option, Result, Ok, Err, IfOk}
 use Rattle.faults.specs.declared.Memory.{Memory}
-use Rattle.store_core.specs.Words.{Place}
-use Rattle.store_core.specs.Calls.{Storing, View}
-use Rattle.store_core.specs.Steps.{is_storing, loads}
-use Rattle.store_core.specs.Ending.{IsEnding}
+use Rattle.store_model.specs.Words.{Place}
+use Rattle.store_model.specs.Calls.{Storing, View}
+use Rattle.store_model.specs.Steps.{is_storing, loads}
+use Rattle.store_model.specs.Ending.{IsEnding}
 use Rattle.store_core.specs.declared.machine.change.Change.{Change}
 use Rattle.store_core.specs.declared.machine.change.Sight.{Sight}
 use Rattle.store_core.specs.Planning.{PlansEnd, PlansClaim, sizes_seen, state_seen}

@@ -1,11 +1,11 @@
 -- Marking the rows that a seat may name.
 use Rattle.std.proofs.Common.{◌≡◌, ◌⊎◌, ℕ, zero, suc, ◌+◌, ◌<◌, Bool, true, false, List, [], ◌∷◌, ◌++◌, length, get_or, set, refl, sym, ap, ◌∙◌, subst, ⊎_elim, inl, inr, arith, true≢false}
 use Rattle.std.specs.Prelude.{◌↔◌}
-use Rattle.store_core.specs.Words.{Place, RowWord, RootCount, Root}
-use Rattle.store_core.specs.Calls.{View}
-use Rattle.store_core.specs.Machine.{Each, In, MayName, has_got, has_protected, has_argument}
+use Rattle.store_model.specs.Words.{Place, RowWord, RootCount, Root}
+use Rattle.store_model.specs.Calls.{View}
+use Rattle.store_model.specs.Machine.{Each, In, MayName, has_got, has_protected, has_argument}
 use Rattle.store_core.specs.Naming.{IsMarked, unmarked, AreMarked, Halfway, Visits}
-use Rattle.store_core.proofs.Basics.{each_map, each_in}
+use Rattle.store_model.proofs.Basics.{each_map, each_in}
 
 pub unmarked_set : (m : List Bool) (k : ℕ) → k < length m → get_or m k false ≡ false → suc (unmarked (set m k true)) ≡ unmarked m
 unmarked_set [] k l e = absurd (omega arith)

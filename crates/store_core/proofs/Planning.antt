@@ -4,20 +4,20 @@ use Rattle.std.specs.Prelude.{MatchOption, Ok}
 use Rattle.std.proofs.lemmas.List.{get_or-set_same, get_or-set_other}
 use mathlib.Core.Path.{fun_ext}
 use Rattle.lock_core.specs.Lock.{Lock}
-use Rattle.store_core.specs.Words.{Place, put}
-use Rattle.store_core.specs.Calls.{View}
-use Rattle.store_core.specs.Machine.{Sizes, State, Step, LockAlone, StoreClaim}
-use Rattle.store_core.specs.Steps.{Permits, after, newcomer}
-use Rattle.store_core.specs.StoreHolds.{StoreHolds}
-use Rattle.store_core.specs.StoreSteps as steps
-use Rattle.store_core.specs.StoreSteps.{meant, Fits}
-use Rattle.store_core.specs.declared.step.StoreStep.{StoreStep}
-use Rattle.store_core.specs.declared.step.StoreStep.TheVariants as step
+use Rattle.store_model.specs.Words.{Place, put}
+use Rattle.store_model.specs.Calls.{View}
+use Rattle.store_model.specs.Machine.{Sizes, State, Step, LockAlone, StoreClaim}
+use Rattle.store_model.specs.Steps.{Permits, after, newcomer}
+use Rattle.store_model.specs.StoreHolds.{StoreHolds}
+use Rattle.store_model.specs.StoreSteps as steps
+use Rattle.store_model.specs.StoreSteps.{meant, Fits}
+use Rattle.store_model.specs.declared.step.StoreStep.{StoreStep}
+use Rattle.store_model.specs.declared.step.StoreStep.TheVariants as step
 use Rattle.store_core.specs.declared.machine.change.Change.{Change}
 use Rattle.store_core.specs.declared.machine.change.Sight.{Sight}
 use Rattle.store_core.specs.Planning.{state_seen, sizes_seen, view_after, lock_with, words_with, changed, Makes, Allows, IsPlanOf, Serves, state_by}
-use Rattle.store_core.specs.Shown.{shown}
-use Rattle.store_core.proofs.Basics.{put_case}
+use Rattle.store_model.specs.Shown.{shown}
+use Rattle.store_model.proofs.Basics.{put_case}
 
 pub put_back : {A : Type 0} (f : ℕ → A) (i : ℕ) → f ≡ put f i (f i)
 put_back f i = fun_ext (λ j. put_case (λ x. f j ≡ x) f i (f i) j (λ e. ap f e) (λ _. refl))

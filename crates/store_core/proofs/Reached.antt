@@ -5,15 +5,15 @@ use Rattle.std.proofs.lemmas.Bool.{cases_lt, ltb-true}
 use Rattle.std.proofs.lemmas.List.{length-replicate, length-set, length_push}
 use Rattle.std.proofs.lemmas.List.Elements.{Contains-push, Contains-push_cases, Contains-append_left}
 use Rattle.history_core.proofs.Members.{contains_none}
-use Rattle.store_core.specs.Words.{Place, RowWord, RootCount, Root}
-use Rattle.store_core.specs.Machine.{Sizes}
-use Rattle.store_core.specs.Steps.{ReachesByWords, protected_row, argument_row}
-use Rattle.store_core.specs.Shown.{shown, in_table, index_of}
+use Rattle.store_model.specs.Words.{Place, RowWord, RootCount, Root}
+use Rattle.store_model.specs.Machine.{Sizes}
+use Rattle.store_model.specs.Steps.{ReachesByWords, protected_row, argument_row}
+use Rattle.store_model.specs.Shown.{shown, in_table, index_of}
 use Rattle.store_core.specs.RowLists.{IsPast}
 use Rattle.store_core.specs.declared.machine.row_lists.RowList.TheVariants.{Protected, Arguments}
-use Rattle.store_core.specs.Marks.{IsMarked, unmarked, Marks, Adds, Halfway, MarksReached, ReachesPast}
-use Rattle.store_core.proofs.Basics.{choose, both_true}
-use Rattle.store_core.proofs.Marked.{marked_here, marked_kept, marked_cases, marks_none, marks_more}
+use Rattle.store_model.specs.Marks.{IsMarked, unmarked, Marks, Adds, Halfway, MarksReached, ReachesPast}
+use Rattle.store_model.proofs.Basics.{choose, both_true}
+use Rattle.store_model.proofs.Marked.{none_marked, marked_here, marked_kept, marked_cases, marks_none, marks_more}
 
 unmarked_set : (m : List Bool) (i : ℕ) → i < length m → get_or m i false ≡ false → unmarked (set m i true) + 1 ≡ unmarked m
 unmarked_set [] i h e = absurd (omega arith)
@@ -72,11 +72,6 @@ adds_same f g m n a b us vs e same h = record {
   from = h.from;
   left = h.left;
 }
-
-pub none_marked : (n r : ℕ) → IsMarked (replicate n false) r → ⊥
-none_marked zero r h = true≢false (sym h)
-none_marked (suc n) zero h = true≢false (sym h)
-none_marked (suc n) (suc r) h = none_marked n r h
 
 module _ (z : Sizes) (w : Place → ℕ) where
   pub halfway_none : Halfway z w 0 (replicate z.rows false) []

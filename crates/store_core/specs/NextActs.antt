@@ -1,5 +1,5 @@
 -- The next act of a creation as the code has it.
-use Rattle.store_core.specs.StoreSteps.{Act, Loads, Stores, Draws, Exchanges}
+use Rattle.store_model.specs.StoreSteps.{Act, Loads, Stores, Draws, Exchanges}
 use Rattle.store_core.specs.declared.machine.acting.NextAct.{NextAct}
 use Rattle.store_core.specs.declared.machine.acting.NextAct.TheVariants as next
 

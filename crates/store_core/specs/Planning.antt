@@ -2,19 +2,19 @@
 use Rattle.std.specs.Prelude.{◌≡◌, ℕ, suc, pred, true, Option, Some, None, Result, List, [], ◌∷◌, ◌++◌, get_or, IfOk, MatchOption}
 use Rattle.faults.specs.declared.Memory.{Memory}
 use Rattle.lock_core.specs.Lock.{Lock}
-use Rattle.store_core.specs.Words.{Place, Base, InUse, RowWord, Root, write, put}
-use Rattle.store_core.specs.Calls.{View, Storing}
-use Rattle.store_core.specs.Machine.{Sizes, State, Step, LockAlone, LowerShared, UnaskSeat, GiveGranted, LoadBase, LoadInUse, Begin, Go, LoadRoot, StoreRoot, StoreCount, ReadWord, ReadArgument, LoadAny, StoreAny, StoreClaim, action, begins, based, ready, leaving, left, protected_in, rooted, root_counted, knowing, with_got, with_call}
-use Rattle.store_core.specs.Steps.{loads, stores, loading, names_left, MayEnd, Permits, after, newcomer}
-use Rattle.store_core.specs.Collection.{collected}
-use Rattle.store_core.specs.Seats.{Where}
-use Rattle.store_core.specs.StoreHolds.{StoreHolds}
-use Rattle.store_core.specs.Ending.{IsEnding}
-use Rattle.store_core.specs.Shown.{shown, in_table}
-use Rattle.store_core.specs.StoreSteps as steps
-use Rattle.store_core.specs.StoreSteps.{meant, Fits}
-use Rattle.store_core.specs.declared.step.StoreStep.{StoreStep}
-use Rattle.store_core.specs.declared.step.StoreStep.TheVariants as step
+use Rattle.store_model.specs.Words.{Place, Base, InUse, RowWord, Root, write, put}
+use Rattle.store_model.specs.Calls.{View, Storing}
+use Rattle.store_model.specs.Machine.{Sizes, State, Step, LockAlone, LowerShared, UnaskSeat, GiveGranted, LoadBase, LoadInUse, Begin, Go, LoadRoot, StoreRoot, StoreCount, ReadWord, ReadArgument, LoadAny, StoreAny, StoreClaim, action, begins, based, ready, leaving, left, protected_in, rooted, root_counted, knowing, with_got, with_call}
+use Rattle.store_model.specs.Steps.{loads, stores, loading, names_left, MayEnd, Permits, after, newcomer}
+use Rattle.store_model.specs.Collection.{collected}
+use Rattle.store_model.specs.Seats.{Where}
+use Rattle.store_model.specs.StoreHolds.{StoreHolds}
+use Rattle.store_model.specs.Ending.{IsEnding}
+use Rattle.store_model.specs.Shown.{shown, in_table}
+use Rattle.store_model.specs.StoreSteps as steps
+use Rattle.store_model.specs.StoreSteps.{meant, Fits}
+use Rattle.store_model.specs.declared.step.StoreStep.{StoreStep}
+use Rattle.store_model.specs.declared.step.StoreStep.TheVariants as step
 use Rattle.store_core.specs.declared.machine.change.Change.{Change}
 use Rattle.store_core.specs.declared.machine.change.Sight.{Sight}
 

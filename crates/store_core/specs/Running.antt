@@ -1,9 +1,9 @@
 -- The machine that runs: its words at the start, and what one action of a creation changes.
 use Rattle.std.specs.Prelude.{◌≡◌, ℕ, ◌<◌, List}
-use Rattle.store_core.specs.Words.{Place, Base, FreeCount, Claim, InUse, FreePlace, Bucket, RowWord, Birth, Next, RootCount, Root, write}
-use Rattle.store_core.specs.Calls.{View}
-use Rattle.store_core.specs.Machine.{Sizes, action}
-use Rattle.store_core.specs.Shown.{shown}
+use Rattle.store_model.specs.Words.{Place, Base, FreeCount, Claim, InUse, FreePlace, Bucket, RowWord, Birth, Next, RootCount, Root, write}
+use Rattle.store_model.specs.Calls.{View}
+use Rattle.store_model.specs.Machine.{Sizes, action}
+use Rattle.store_model.specs.Shown.{shown}
 
 -- the words of a new store, but that only the first n free places are stored
 pub record IsBegun (z : Sizes) (n : ℕ) (w : Place → ℕ) : Type 0 where

@@ -1,6 +1,6 @@
 -- A store that runs: what contracts see of its fields, and what always holds of them.
 use Rattle.std.specs.Prelude.{◌≡◌, length}
-use Rattle.store_core.specs.StoreHolds.{StoreHolds}
+use Rattle.store_model.specs.StoreHolds.{StoreHolds}
 use Rattle.store_core.specs.StoreValue.{StoreValue, state_of}
 use Rattle.store_core.specs.declared.state.StoreState.TheInside.{Inside}
 

@@ -1,14 +1,13 @@
 -- A store that runs, as contracts see it, and what its calls answer.
-use Rattle.std.specs.Prelude.{◌≡◌, ℕ, ◌+◌, ◌^◌, ◌≤◌, nat_lt, if◌then◌else◌, List, get_or, Option, MatchOption}
+use Rattle.std.specs.Prelude.{◌≡◌, ℕ, List, get_or, Option, MatchOption}
 use Rattle.lock_core.specs.Lock.{Lock}
-use Rattle.store_core.specs.Words.{Place, Base, FreeCount, InUse, FreePlace}
-use Rattle.store_core.specs.Calls.{View}
-use Rattle.store_core.specs.Machine.{Sizes, State}
-use Rattle.store_core.specs.Steps.{newcomer}
-use Rattle.store_core.specs.Shown.{shown}
-use Rattle.store_core.specs.Runs.{at_start}
-use Rattle.store_core.specs.StoreSteps.{IsInPlace, after, Leads}
-use Rattle.store_core.specs.declared.step.StoreStep.{StoreStep}
+use Rattle.store_model.specs.Calls.{View}
+use Rattle.store_model.specs.Machine.{Sizes, State}
+use Rattle.store_model.specs.Steps.{newcomer}
+use Rattle.store_model.specs.Shown.{shown}
+use Rattle.store_model.specs.StoreSteps.{IsInPlace, after, Leads}
+use Rattle.store_model.specs.NewStore.{start_of}
+use Rattle.store_model.specs.declared.step.StoreStep.{StoreStep}
 
 -- the sizes, the lock, the words of the table, and the views of the seats in order
 pub record StoreValue : Type 0 where
@@ -21,29 +20,7 @@ pub record StoreValue : Type 0 where
 abbrev pub state_of : StoreValue → State
 state_of t = record { lock = t.lock; words = shown t.sizes t.words; view = λ j. get_or t.views j (newcomer t.sizes) }
 
--- what the sizes of a store have to be
-pub record MaySize (z : Sizes) : Type 0 where
-  pub rows : (1 ≤ z.rows) × (z.rows ≤ 262144)
-  pub buckets : (1 ≤ z.buckets) × (z.buckets ≤ 262144)
-  pub start : (1 ≤ z.start) × (z.start ≤ z.buckets)
-  pub seats : (1 ≤ z.seats) × (z.seats ≤ 16)
-  pub depth : z.depth ≤ 65536
-  pub arity : z.arity ≤ 16
-  pub first : 1 ≤ z.first
-  pub room : z.first + z.rows + z.seats + 1 ≤ 2 ^ 62
-
--- the words of a new store: all rows are free, and the other words are 0
-abbrev pub first_words : Sizes → Place → ℕ
-first_words z Base = z.first
-first_words z FreeCount = z.rows
-first_words z InUse = z.start
-first_words z (FreePlace i) = if nat_lt i z.rows then i else 0
-first_words z p = 0
-
--- a new store
-abbrev pub start_of : Sizes → State
-start_of z = at_start z (first_words z)
-
+-- it is new
 pub record IsNew (z : Sizes) (t : StoreValue) : Type 0 where
   pub sizes : t.sizes ≡ z
   pub state : state_of t ≡ start_of z

@@ -1,8 +1,8 @@
 -- The words of the machine that runs.
 use Rattle.std.specs.Prelude.{◌≡◌, ℕ, true}
-use Rattle.store_core.specs.Words.{Place}
-use Rattle.store_core.specs.Machine.{Sizes}
-use Rattle.store_core.specs.Shown.{in_table, index_of}
+use Rattle.store_model.specs.Words.{Place}
+use Rattle.store_model.specs.Machine.{Sizes}
+use Rattle.store_model.specs.Shown.{in_table, index_of}
 
 -- the table has the place, and this is its word
 pub record IsPlaceOf (z : Sizes) (p : Place) (k : ℕ) : Type 0 where

@@ -1,18 +1,18 @@
 // A store that runs, on plain data.
 ghost use Rattle.std.specs.Prelude.{◌≡◌, IfOk, OnErr, MatchBool, slice_get};
 ghost use Rattle.std.specs.Option.{option_copied};
-ghost use Rattle.store_core.specs.StoreValue.{MaySize, IsNew, Stepped, Stayed, Replays};
+ghost use Rattle.store_model.specs.NewStore.{MaySize};
+ghost use Rattle.store_core.specs.StoreValue.{IsNew, Stepped, Stayed, Replays};
 
 use crate::machine::copies::copy_step;
 use crate::machine::fresh::new_views;
 use crate::machine::planning::{commit, planned};
 use crate::machine::table::Table;
-use crate::step::StoreStep;
-use crate::view::{Sizes, View};
 use faults::Memory;
 use lock_core::LockState;
 use std::alloc::Global;
 use std::marker::Model;
+use store_model::{Sizes, StoreStep, View};
 
 /// A store as plain data: its lock, its words, and what each seat knows. What holds of a store after every list of steps holds of
 /// each value of this type.

@@ -1,7 +1,7 @@
 //! Passes of one store, on one thread and on two.
 ghost use Rattle.std.specs.Prelude.{◌≡◌, ◌<◌, ◌+◌, All, IfOk};
 ghost use Rattle.lock_core.specs.declared.parts.Phase.TheVariants.{Shared};
-ghost use Rattle.store_core.specs.Machine.{In};
+ghost use Rattle.store_model.specs.Machine.{In};
 ghost use Rattle.node_rows.specs.Inside.{IsInside};
 ghost use Rattle.node_rows.specs.Told.{Tells};
 ghost use Rattle.node_rows.specs.Passes.{IsStore, IsPass, IsReady, IsOut};
@@ -12,7 +12,7 @@ use std::process::Abort;
 use std::sync::atomic::{AtomicBool, Ordering};
 use std::test::Fail;
 use std::thread;
-use store_core::Sizes;
+use store_model::Sizes;
 use term_create::{Full, child_of, count_of, create, head_of};
 use term_model::{Head, Row, Symbol};
 

@@ -1,6 +1,6 @@
 //! Desks over a real store, on one thread, with values worked out by hand.
 ghost use Rattle.std.specs.Prelude.{◌≡◌, ◌≤◌, [], All, IfOk, true, false};
-ghost use Rattle.store_core.specs.StoreValue.{MaySize};
+ghost use Rattle.store_model.specs.NewStore.{MaySize};
 ghost use Rattle.node_rows.specs.Told.{view_of};
 ghost use Rattle.shared_desk.specs.Desk.{store_of};
 ghost use Rattle.shared_desk.specs.Telling.{MayHaveDesk};
@@ -11,7 +11,7 @@ use std::alloc::Global;
 use std::process::Abort;
 use std::sync::Wait;
 use std::test::Fail;
-use store_core::Sizes;
+use store_model::Sizes;
 use term_model::{Head, Row, Symbol};
 use terms_api::{BuildFault, Terms};
 

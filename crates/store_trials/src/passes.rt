@@ -7,7 +7,7 @@ use busy_forbidden::Busy;
 use node_rows::{Last, Pass, Store, kept, last};
 use std::process::Abort;
 use std::test::Fail;
-use store_core::Sizes;
+use store_model::Sizes;
 use term_model::Row;
 
 const SMALL: Sizes = Sizes {

@@ -1,7 +1,7 @@
 //! Protected rows on one thread, in stores with hand-worked answers.
 ghost use Rattle.std.specs.Prelude.{◌≡◌, ◌<◌, ℕ, All, IfOk, length};
 ghost use Rattle.lock_core.specs.declared.parts.Phase.TheVariants.{Shared};
-ghost use Rattle.store_core.specs.Machine.{In, Each, protected_in};
+ghost use Rattle.store_model.specs.Machine.{In, Each, protected_in};
 ghost use Rattle.node_rows.specs.Inside.{IsInside};
 ghost use Rattle.node_rows.specs.Rows.{names};
 ghost use Rattle.node_rows.specs.Told.{Tells};
@@ -12,7 +12,7 @@ use node_rows::{Pass, Store};
 use root_sets::{keep_roots, push_root, root_at, store_roots};
 use std::process::Abort;
 use std::test::Fail;
-use store_core::Sizes;
+use store_model::Sizes;
 use term_create::{Full, create};
 use term_model::{Head, Row, Symbol};
 use terms_api::Deep;

@@ -1,8 +1,8 @@
 //! Collections on one thread, in stores with answers worked out by hand.
 ghost use Rattle.std.specs.Prelude.{◌≡◌, All, IfOk};
 ghost use Rattle.lock_core.specs.declared.parts.Phase.TheVariants.{Shared};
-ghost use Rattle.store_core.specs.Machine.{In};
-ghost use Rattle.store_core.specs.Steps.{AreLastRoots};
+ghost use Rattle.store_model.specs.Machine.{In};
+ghost use Rattle.store_model.specs.Steps.{AreLastRoots};
 ghost use Rattle.busy_forbidden.specs.Exclusive.{IsGranted};
 ghost use Rattle.node_rows.specs.Inside.{IsInside};
 ghost use Rattle.node_rows.specs.Told.{Tells};
@@ -13,7 +13,7 @@ use node_rows::{Last, Pass, Store, kept, last};
 use root_sets::push_root;
 use std::process::Abort;
 use std::test::Fail;
-use store_core::Sizes;
+use store_model::Sizes;
 use sweep_phase::{Kept, TryCollect, Worn, collect, collect_now};
 use term_create::create;
 use term_model::{Head, Row, Symbol};

@@ -3,16 +3,16 @@ use Rattle.std.proofs.Common.{◌≡◌, ◌⊎◌, ℕ, ◌+◌, ◌<◌, ◌�
 use Rattle.std.proofs.lemmas.Bool.{lt-ltb}
 use Rattle.atomic_table.specs.declared.shared.Seat.{Seat}
 use Rattle.busy_forbidden.specs.Calls.{IsSame}
-use Rattle.store_core.specs.declared.view.Sizes.{Sizes}
-use Rattle.store_core.specs.declared.view.View.{View}
-use Rattle.store_core.specs.declared.view.Place.{Place}
-use Rattle.store_core.specs.declared.view.Place.TheVariants.{Base, FreeCount, Claim}
-use Rattle.store_core.specs.declared.view.Call.{Call}
-use Rattle.store_core.specs.declared.view.Call.TheVariants.{Idle, Loading}
-use Rattle.store_core.specs.Invariant.{span}
-use Rattle.store_core.specs.Machine.{LoadAny, with_call}
-use Rattle.store_core.specs.Shown.{in_table, index_of}
-use Rattle.store_core.specs.Steps.{loads, loading, value_at, IsLoading, IsNextLoad}
+use Rattle.store_model.specs.declared.view.Sizes.{Sizes}
+use Rattle.store_model.specs.declared.view.View.{View}
+use Rattle.store_model.specs.declared.view.Place.{Place}
+use Rattle.store_model.specs.declared.view.Place.TheVariants.{Base, FreeCount, Claim}
+use Rattle.store_model.specs.declared.view.Call.{Call}
+use Rattle.store_model.specs.declared.view.Call.TheVariants.{Idle, Loading}
+use Rattle.store_model.specs.Invariant.{span}
+use Rattle.store_model.specs.Machine.{LoadAny, with_call}
+use Rattle.store_model.specs.Shown.{in_table, index_of}
+use Rattle.store_model.specs.Steps.{loads, loading, value_at, IsLoading, IsNextLoad}
 use Rattle.node_rows.specs.declared.store.Store.{Store}
 use Rattle.node_rows.specs.declared.view.NodeView.{NodeView}
 use Rattle.node_rows.specs.Collecting.{loaded_any, MayCollect, HasStore}

@@ -9,15 +9,15 @@ use Rattle.term_model.specs.declared.Head.{Head}
 use Rattle.term_model.specs.declared.Head.TheVariants.{App, Int, Nil, Cons}
 use Rattle.hash_buckets.specs.Hash.{mixed, mixed_all, hash_of, bucket_of}
 use Rattle.hash_buckets.specs.Spelled.{spelled}
-use Rattle.store_core.specs.declared.view.Content.{Content}
-use Rattle.store_core.specs.declared.view.Place.{Place}
-use Rattle.store_core.specs.declared.view.Place.TheVariants.{RowWord}
-use Rattle.store_core.specs.Words.{put}
-use Rattle.store_core.specs.Calls.{words_of, bucket, IsOver}
-use Rattle.store_core.specs.Machine.{Each, In}
-use Rattle.store_core.specs.Marks.{IsMarked}
-use Rattle.store_core.specs.MarkedChains.{HasContent, StandsIn}
-use Rattle.store_core.proofs.Basics.{put_case, put_same, each_map, each_in}
+use Rattle.store_model.specs.declared.view.Content.{Content}
+use Rattle.store_model.specs.declared.view.Place.{Place}
+use Rattle.store_model.specs.declared.view.Place.TheVariants.{RowWord}
+use Rattle.store_model.specs.Words.{put}
+use Rattle.store_model.specs.Calls.{words_of, bucket, IsOver}
+use Rattle.store_model.specs.Machine.{Each, In}
+use Rattle.store_model.specs.Marks.{IsMarked}
+use Rattle.store_model.specs.MarkedChains.{HasContent, StandsIn}
+use Rattle.store_model.proofs.Basics.{put_case, put_same, each_map, each_in}
 use Rattle.sweep_phase.specs.Chained.{numbers_of, IsHashed, LeadsTo, Belongs, ChainsTo}
 use Rattle.sweep_phase.proofs.Gathering.{below_more}
 

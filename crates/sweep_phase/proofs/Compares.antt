@@ -2,17 +2,17 @@
 use Rattle.std.proofs.Common.{◌≡◌, ◌≢◌, ℕ, suc, ◌+◌, ◌<◌, ◌≤◌, Bool, false, cond, Some, List, [], ◌∷◌, get_or, refl, sym, ap, ◌∙◌, subst, ⊎_elim, arith, eq-eqb, ne_eqb}
 use Rattle.std.proofs.lemmas.Bool.{cases_lt}
 use Rattle.atomic_table.specs.declared.shared.Seat.{Seat}
-use Rattle.store_core.specs.declared.view.Sizes.{Sizes}
-use Rattle.store_core.specs.declared.view.Call.{Call}
-use Rattle.store_core.specs.declared.view.Call.TheVariants.{Loading}
-use Rattle.store_core.specs.declared.view.Place.{Place}
-use Rattle.store_core.specs.declared.view.Place.TheVariants.{FreeCount, InUse, FreePlace, Bucket, Next}
-use Rattle.store_core.specs.Machine.{Each, In}
-use Rattle.store_core.specs.Marks.{IsMarked, MarksReached}
-use Rattle.store_core.specs.Steps.{loads, stores, value_at, grown_use}
-use Rattle.store_core.specs.ByView.{IsLoaded, seen_at}
-use Rattle.store_core.specs.Words.{write}
-use Rattle.store_core.proofs.Basics.{each_map, write_same}
+use Rattle.store_model.specs.declared.view.Sizes.{Sizes}
+use Rattle.store_model.specs.declared.view.Call.{Call}
+use Rattle.store_model.specs.declared.view.Call.TheVariants.{Loading}
+use Rattle.store_model.specs.declared.view.Place.{Place}
+use Rattle.store_model.specs.declared.view.Place.TheVariants.{FreeCount, InUse, FreePlace, Bucket, Next}
+use Rattle.store_model.specs.Machine.{Each, In}
+use Rattle.store_model.specs.Marks.{IsMarked, MarksReached}
+use Rattle.store_model.specs.Steps.{loads, stores, value_at, grown_use}
+use Rattle.store_model.specs.ByView.{IsLoaded, seen_at}
+use Rattle.store_model.specs.Words.{write}
+use Rattle.store_model.proofs.Basics.{each_map, write_same}
 use Rattle.node_rows.specs.declared.view.NodeView.{NodeView}
 use Rattle.node_rows.specs.Collecting.{HasSeen}
 use Rattle.sweep_phase.specs.declared.sweep.Sweep.{Sweep}

@@ -2,8 +2,8 @@
 use Rattle.std.proofs.Common.{ℕ, List, Result, Ok, Err}
 use Rattle.std.specs.Prelude.{IfErr}
 use Rattle.term_model.specs.declared.Head.{Head}
-use Rattle.store_core.specs.declared.view.Sizes.{Sizes}
-use Rattle.store_core.specs.Machine.{with_call, with_path}
+use Rattle.store_model.specs.declared.view.Sizes.{Sizes}
+use Rattle.store_model.specs.Machine.{with_call, with_path}
 use Rattle.node_rows.specs.declared.view.NodeView.{NodeView}
 use Rattle.node_rows.specs.Crowding.{IsSwept}
 use Rattle.node_rows.specs.CrowdFull.{IsCrowded}

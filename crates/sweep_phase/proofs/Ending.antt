@@ -3,28 +3,28 @@ use Rattle.std.proofs.Common.{◌≡◌, ℕ, zero, suc, ◌+◌, ◌<◌, ◌�
 use Rattle.std.proofs.lemmas.Bool.{cases_lt, le-ltb}
 use Rattle.std.proofs.lemmas.List.{get_or_past}
 use Rattle.atomic_table.specs.declared.shared.Seat.{Seat}
-use Rattle.store_core.specs.declared.view.Sizes.{Sizes}
-use Rattle.store_core.specs.declared.view.View.{View}
-use Rattle.store_core.specs.declared.view.Content.{Content}
-use Rattle.store_core.specs.declared.view.Place.{Place}
-use Rattle.store_core.specs.declared.view.Place.TheVariants.{Base, FreeCount, Claim, InUse, FreePlace, Bucket, RowWord, Next, RootCount, Root}
-use Rattle.store_core.specs.Words.{row_at, same_place}
-use Rattle.store_core.specs.Machine.{State, Each, In, widest}
-use Rattle.store_core.specs.Meaning.{Linked}
-use Rattle.store_core.specs.Invariant.{Holds}
-use Rattle.store_core.specs.Marks.{IsMarked, MarksReached, MarksFree}
-use Rattle.store_core.specs.MarkedChains.{HasContent, StandsIn, IsChained, IsNoted, UsesBuckets, ChainsMarked}
-use Rattle.store_core.specs.Ending.{Keeps, BaseFollows, UseFollows}
-use Rattle.store_core.specs.Shown.{in_table}
-use Rattle.store_core.specs.Steps.{loads, stores, stored_over, value_at, is_stored, is_storing, ReachesByWords, protected_row, argument_row, grown_use, MayEnd, CoreHolds}
-use Rattle.store_core.specs.ByView.{seen_at, IsLoaded}
-use Rattle.store_core.specs.StoreHolds.{StoreHolds}
-use Rattle.store_core.proofs.Basics.{choose, each_map, same_is}
-use Rattle.store_core.proofs.ByWords.{value_is}
-use Rattle.store_core.proofs.Eight.{core_of}
-use Rattle.store_core.proofs.Gains.{two_words}
-use Rattle.store_core.proofs.Ending.{ends}
-use Rattle.store_core.proofs.Showing.{collection_sees}
+use Rattle.store_model.specs.declared.view.Sizes.{Sizes}
+use Rattle.store_model.specs.declared.view.View.{View}
+use Rattle.store_model.specs.declared.view.Content.{Content}
+use Rattle.store_model.specs.declared.view.Place.{Place}
+use Rattle.store_model.specs.declared.view.Place.TheVariants.{Base, FreeCount, Claim, InUse, FreePlace, Bucket, RowWord, Next, RootCount, Root}
+use Rattle.store_model.specs.Words.{row_at, same_place}
+use Rattle.store_model.specs.Machine.{State, Each, In, widest}
+use Rattle.store_model.specs.Meaning.{Linked}
+use Rattle.store_model.specs.Invariant.{Holds}
+use Rattle.store_model.specs.Marks.{IsMarked, MarksReached, MarksFree}
+use Rattle.store_model.specs.MarkedChains.{HasContent, StandsIn, IsChained, IsNoted, UsesBuckets, ChainsMarked}
+use Rattle.store_model.specs.Ending.{Keeps, BaseFollows, UseFollows}
+use Rattle.store_model.specs.Shown.{in_table}
+use Rattle.store_model.specs.Steps.{loads, stores, stored_over, value_at, is_stored, is_storing, ReachesByWords, protected_row, argument_row, grown_use, MayEnd, CoreHolds}
+use Rattle.store_model.specs.ByView.{seen_at, IsLoaded}
+use Rattle.store_model.specs.StoreHolds.{StoreHolds}
+use Rattle.store_model.proofs.Basics.{choose, each_map, same_is}
+use Rattle.store_model.proofs.ByWords.{value_is}
+use Rattle.store_model.proofs.Eight.{core_of}
+use Rattle.store_model.proofs.Gains.{two_words}
+use Rattle.store_model.proofs.Ending.{ends}
+use Rattle.store_model.proofs.Showing.{collection_sees}
 use Rattle.node_rows.specs.declared.view.NodeView.{NodeView}
 use Rattle.node_rows.specs.Collecting.{or_zero, HasSeen, MayEndBy}
 use Rattle.sweep_phase.specs.declared.sweep.Sweep.{Sweep}

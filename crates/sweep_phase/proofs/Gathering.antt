@@ -2,12 +2,12 @@
 use Rattle.std.proofs.Common.{◌≡◌, ℕ, suc, ◌+◌, ◌<◌, ◌≤◌, Option, Some, List, [], ◌∷◌, ◌++◌, refl, sym, ap, ◌∙◌, subst, ⊎_elim, arith}
 use Rattle.std.proofs.lemmas.Bool.{cases_lt}
 use Rattle.atomic_table.specs.declared.shared.Seat.{Seat}
-use Rattle.store_core.specs.declared.view.Sizes.{Sizes}
-use Rattle.store_core.specs.declared.view.Place.{Place}
-use Rattle.store_core.specs.declared.view.Place.TheVariants.{Base, FreeCount, Claim, InUse, FreePlace, Bucket, RowWord, Birth, Next, RootCount, Root}
-use Rattle.store_core.specs.Machine.{widest}
-use Rattle.store_core.specs.Steps.{loads, value_at}
-use Rattle.store_core.specs.ByView.{IsLoaded, HasAll}
+use Rattle.store_model.specs.declared.view.Sizes.{Sizes}
+use Rattle.store_model.specs.declared.view.Place.{Place}
+use Rattle.store_model.specs.declared.view.Place.TheVariants.{Base, FreeCount, Claim, InUse, FreePlace, Bucket, RowWord, Birth, Next, RootCount, Root}
+use Rattle.store_model.specs.Machine.{widest}
+use Rattle.store_model.specs.Steps.{loads, value_at}
+use Rattle.store_model.specs.ByView.{IsLoaded, HasAll}
 use Rattle.node_rows.specs.declared.view.NodeView.{NodeView}
 use Rattle.sweep_phase.specs.declared.sweep.Sweep.{Sweep}
 use Rattle.sweep_phase.specs.Loaded.{begun, Extends, found, HasRow, HasRoots, HasLists}

@@ -4,12 +4,11 @@ use Rattle.std.specs.Prelude.{Contains}
 use Rattle.std.proofs.lemmas.Bool.{cases_lt}
 use Rattle.std.proofs.lemmas.List.Elements.{Contains-push, Contains-push_cases, Contains-append_left}
 use Rattle.history_core.proofs.Members.{contains_none}
-use Rattle.store_core.specs.declared.view.Sizes.{Sizes}
-use Rattle.store_core.specs.Marks.{IsMarked, MarksPlaces, AreOpposite}
-use Rattle.store_core.specs.Steps.{is_free, rows_left}
-use Rattle.store_core.proofs.Basics.{choose}
-use Rattle.store_core.proofs.NamesLeft.{by_bool, free_none, free_some}
-use Rattle.store_core.proofs.MarkedPlaces.{left_more, left_same}
+use Rattle.store_model.specs.declared.view.Sizes.{Sizes}
+use Rattle.store_model.specs.Marks.{IsMarked, MarksPlaces, AreOpposite}
+use Rattle.store_model.specs.Steps.{is_free, rows_left}
+use Rattle.store_model.proofs.Basics.{choose}
+use Rattle.store_model.proofs.NamesLeft.{by_bool, free_none, free_some, left_more, left_same}
 use Rattle.sweep_phase.specs.Marked.{marked_below}
 use Rattle.sweep_phase.specs.declared.turns.Order.{Order}
 use Rattle.sweep_phase.specs.Stored.{ArePlaced}

@@ -5,18 +5,18 @@ use Rattle.atomic_table.specs.declared.shared.Seat.{Seat}
 use Rattle.busy_forbidden.specs.Calls.{IsSame}
 use Rattle.busy_forbidden.specs.Exclusive.{IsGranted}
 use Rattle.busy_forbidden.specs.declared.view.LockView.{LockView}
-use Rattle.store_core.specs.declared.view.Sizes.{Sizes}
-use Rattle.store_core.specs.declared.view.View.{View}
-use Rattle.store_core.specs.declared.view.Place.{Place}
-use Rattle.store_core.specs.declared.view.Place.TheVariants.{Base, Claim, FreeCount}
-use Rattle.store_core.specs.Words.{same_place}
-use Rattle.store_core.specs.declared.view.Call.{Call}
-use Rattle.store_core.specs.declared.view.Call.TheVariants.{Idle, Loading}
-use Rattle.store_core.specs.Invariant.{span}
-use Rattle.store_core.specs.Machine.{LoadAny, with_call, protected_in}
-use Rattle.store_core.specs.Shown.{in_table, index_of}
-use Rattle.store_core.specs.Steps.{loads, value_at, loading, AreLastRoots, IsLoading, IsNextLoad}
-use Rattle.store_core.specs.ByView.{IsLoaded}
+use Rattle.store_model.specs.declared.view.Sizes.{Sizes}
+use Rattle.store_model.specs.declared.view.View.{View}
+use Rattle.store_model.specs.declared.view.Place.{Place}
+use Rattle.store_model.specs.declared.view.Place.TheVariants.{Base, Claim, FreeCount}
+use Rattle.store_model.specs.Words.{same_place}
+use Rattle.store_model.specs.declared.view.Call.{Call}
+use Rattle.store_model.specs.declared.view.Call.TheVariants.{Idle, Loading}
+use Rattle.store_model.specs.Invariant.{span}
+use Rattle.store_model.specs.Machine.{LoadAny, with_call, protected_in}
+use Rattle.store_model.specs.Shown.{in_table, index_of}
+use Rattle.store_model.specs.Steps.{loads, value_at, loading, AreLastRoots, IsLoading, IsNextLoad}
+use Rattle.store_model.specs.ByView.{IsLoaded}
 use Rattle.node_rows.specs.declared.store.Store.{Store}
 use Rattle.node_rows.specs.declared.view.NodeView.{NodeView}
 use Rattle.node_rows.specs.Collecting.{loaded_any, MayCollect, HasStore}

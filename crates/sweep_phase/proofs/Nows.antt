@@ -4,9 +4,9 @@ use Rattle.std.specs.Prelude.{IfOk, IfErr}
 use Rattle.term_model.specs.Tree.{Tree}
 use Rattle.busy_forbidden.specs.declared.rule.Busy.{Busy}
 use Rattle.history_core.specs.declared.entry.Entry.TheVariants.{Roots}
-use Rattle.store_core.specs.declared.view.Sizes.{Sizes}
-use Rattle.store_core.specs.declared.view.View.{View}
-use Rattle.store_core.specs.Machine.{based, ready, left, protected_in}
+use Rattle.store_model.specs.declared.view.Sizes.{Sizes}
+use Rattle.store_model.specs.declared.view.View.{View}
+use Rattle.store_model.specs.Machine.{based, ready, left, protected_in}
 use Rattle.node_rows.specs.declared.view.NodeView.{NodeView}
 use Rattle.node_rows.specs.Collecting.{IsKept}
 use Rattle.node_rows.specs.Crowding.{kept_in}

@@ -2,9 +2,9 @@
 use Rattle.std.proofs.Common.{◌≡◌, ℕ, ◌+◌, ◌<◌, ◌≤◌, Bool, false, List, get_or, sym, ap, ◌∙◌, subst, ⊎_elim, arith, true≢false}
 use Rattle.std.proofs.lemmas.Bool.{cases_lt}
 use Rattle.sweep_phase.specs.Turns.{row_in_turn}
-use Rattle.store_core.specs.declared.view.Sizes.{Sizes}
+use Rattle.store_model.specs.declared.view.Sizes.{Sizes}
 use Rattle.sweep_phase.specs.declared.turns.Order.{Order}
-use Rattle.store_core.specs.Marks.{IsMarked}
+use Rattle.store_model.specs.Marks.{IsMarked}
 use Rattle.sweep_phase.specs.Stored.{ArePlaced}
 use Rattle.sweep_phase.proofs.Turning.{turn_back, turn_below, turn_same}
 

@@ -8,11 +8,11 @@ use Rattle.history_core.proofs.Members.{contains_none}
 use Rattle.atomic_table.specs.declared.shared.Seat.{Seat}
 use Rattle.term_model.specs.declared.Row.{Row}
 use Rattle.mark_phase.specs.Reachable.{Reaches, itself, child, IsClosed, AddsReached}
-use Rattle.store_core.specs.declared.view.Place.{Place}
-use Rattle.store_core.specs.declared.view.Place.TheVariants.{RowWord, RootCount, Root}
-use Rattle.store_core.specs.Marks.{IsMarked, MarksReached}
-use Rattle.store_core.specs.Steps.{ReachesByWords, protected_row, argument_row}
-use Rattle.store_core.proofs.Reached.{none_marked}
+use Rattle.store_model.specs.declared.view.Place.{Place}
+use Rattle.store_model.specs.declared.view.Place.TheVariants.{RowWord, RootCount, Root}
+use Rattle.store_model.specs.Marks.{IsMarked, MarksReached}
+use Rattle.store_model.specs.Steps.{ReachesByWords, protected_row, argument_row}
+use Rattle.store_model.proofs.Marked.{none_marked}
 use Rattle.node_rows.specs.declared.view.NodeView.{NodeView}
 use Rattle.sweep_phase.specs.Marked.{row_of, arguments_of, children_of, MarksTo, marked_below}
 

@@ -5,23 +5,23 @@ use Rattle.term_model.specs.declared.Head.{Head}
 use Rattle.term_model.specs.declared.Head.TheVariants.{App, Int, Nil, Cons}
 use Rattle.hash_buckets.specs.Spelled.{spelled}
 use Rattle.atomic_table.specs.declared.shared.Seat.{Seat}
-use Rattle.store_core.specs.declared.view.Sizes.{Sizes}
-use Rattle.store_core.specs.declared.view.View.{View}
-use Rattle.store_core.specs.declared.view.Content.{Content}
-use Rattle.store_core.specs.declared.view.Place.{Place}
-use Rattle.store_core.specs.declared.view.Place.TheVariants.{Base, FreeCount, Claim, InUse, FreePlace, Bucket, RowWord, Birth, Next, RootCount, Root}
-use Rattle.store_core.specs.declared.view.Call.TheVariants.{Loading}
-use Rattle.store_core.specs.Words.{row_at}
-use Rattle.store_core.specs.Calls.{words_of, IsOver}
-use Rattle.store_core.specs.Machine.{State, In, widest}
-use Rattle.store_core.specs.Meaning.{Meaning, IsOlder, Linked}
-use Rattle.store_core.specs.Invariant.{Holds}
-use Rattle.store_core.specs.MarkedChains.{HasContent}
-use Rattle.store_core.specs.Steps.{loads, value_at, ReachesByWords, protected_row, argument_row}
-use Rattle.store_core.specs.ByView.{IsLoaded, HasAll}
-use Rattle.store_core.specs.StoreHolds.{StoreHolds}
-use Rattle.store_core.proofs.Basics.{each_in}
-use Rattle.store_core.proofs.Gains.{argument_at, two_words, enough_words}
+use Rattle.store_model.specs.declared.view.Sizes.{Sizes}
+use Rattle.store_model.specs.declared.view.View.{View}
+use Rattle.store_model.specs.declared.view.Content.{Content}
+use Rattle.store_model.specs.declared.view.Place.{Place}
+use Rattle.store_model.specs.declared.view.Place.TheVariants.{Base, FreeCount, Claim, InUse, FreePlace, Bucket, RowWord, Birth, Next, RootCount, Root}
+use Rattle.store_model.specs.declared.view.Call.TheVariants.{Loading}
+use Rattle.store_model.specs.Words.{row_at}
+use Rattle.store_model.specs.Calls.{words_of, IsOver}
+use Rattle.store_model.specs.Machine.{State, In, widest}
+use Rattle.store_model.specs.Meaning.{Meaning, IsOlder, Linked}
+use Rattle.store_model.specs.Invariant.{Holds}
+use Rattle.store_model.specs.MarkedChains.{HasContent}
+use Rattle.store_model.specs.Steps.{loads, value_at, ReachesByWords, protected_row, argument_row}
+use Rattle.store_model.specs.ByView.{IsLoaded, HasAll}
+use Rattle.store_model.specs.StoreHolds.{StoreHolds}
+use Rattle.store_model.proofs.Basics.{each_in}
+use Rattle.store_model.proofs.Gains.{argument_at, two_words, enough_words}
 use Rattle.node_rows.specs.Collecting.{or_zero, HasStore}
 use Rattle.node_rows.specs.declared.view.NodeView.{NodeView}
 use Rattle.sweep_phase.specs.declared.sweep.Sweep.{Sweep}

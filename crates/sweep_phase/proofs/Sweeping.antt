@@ -4,17 +4,17 @@ use Rattle.std.proofs.lemmas.Bool.{le-ltb}
 use Rattle.atomic_table.specs.declared.shared.Seat.{Seat}
 use Rattle.busy_forbidden.specs.Calls.{IsSame}
 use Rattle.history_core.specs.Entry.{IsAscending}
-use Rattle.store_core.specs.declared.view.Call.{Call}
-use Rattle.store_core.specs.declared.view.Call.TheVariants.{Loading}
-use Rattle.store_core.specs.declared.view.Place.{Place}
-use Rattle.store_core.specs.declared.view.Place.TheVariants.{Base, FreeCount, Claim, InUse, FreePlace, Bucket, RowWord, Birth, Next, RootCount, Root}
-use Rattle.store_core.specs.Collection.{collected}
-use Rattle.store_core.specs.Machine.{Each}
-use Rattle.store_core.specs.Marks.{IsMarked, MarksReached}
-use Rattle.store_core.specs.Steps.{loads, stores, value_at, is_stored, grown_use, names_left}
-use Rattle.store_core.specs.ByView.{HasAll, StoresNext, seen_at}
-use Rattle.store_core.specs.Shown.{in_table}
-use Rattle.store_core.proofs.Basics.{each_map}
+use Rattle.store_model.specs.declared.view.Call.{Call}
+use Rattle.store_model.specs.declared.view.Call.TheVariants.{Loading}
+use Rattle.store_model.specs.declared.view.Place.{Place}
+use Rattle.store_model.specs.declared.view.Place.TheVariants.{Base, FreeCount, Claim, InUse, FreePlace, Bucket, RowWord, Birth, Next, RootCount, Root}
+use Rattle.store_model.specs.Collection.{collected}
+use Rattle.store_model.specs.Machine.{Each}
+use Rattle.store_model.specs.Marks.{IsMarked, MarksReached}
+use Rattle.store_model.specs.Steps.{loads, stores, value_at, is_stored, grown_use, names_left}
+use Rattle.store_model.specs.ByView.{HasAll, StoresNext, seen_at}
+use Rattle.store_model.specs.Shown.{in_table}
+use Rattle.store_model.proofs.Basics.{each_map}
 use Rattle.node_rows.specs.declared.view.NodeView.{NodeView}
 use Rattle.node_rows.specs.Collecting.{or_zero, ended_by, HasSeen, IsKept}
 use Rattle.node_rows.specs.Crowding.{kept_in, swept}

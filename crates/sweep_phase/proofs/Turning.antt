@@ -1,7 +1,7 @@
 -- The order of turns is its own inverse, and stays below the rows.
 use Rattle.std.proofs.Common.{◌≡◌, ℕ, ◌+◌, ◌*◌, ◌/◌, ◌%◌, ◌<◌, ◌≤◌, Bool, cond, refl, sym, ap, ◌∙◌, subst, ⊎_elim, arith}
 use Rattle.std.proofs.lemmas.Bool.{cases_lt, lt-ltb, le-ltb}
-use Rattle.store_core.specs.declared.view.Sizes.{Sizes}
+use Rattle.store_model.specs.declared.view.Sizes.{Sizes}
 use Rattle.sweep_phase.specs.declared.turns.Order.{Order}
 use Rattle.sweep_phase.specs.declared.turns.Order.TheVariants.{Ascending, Apart}
 use Rattle.sweep_phase.specs.Turns.{in_blocks, row_in_turn}

@@ -1,14 +1,14 @@
 -- What a list of loads says of a place, after one load more.
 use Rattle.std.proofs.Common.{◌≡◌, ℕ, Bool, true, false, cond, Option, None, Some, List, [], ◌∷◌, ◌++◌, refl, sym, ap, ◌∙◌, subst, eqb, eq-eqb, true≢false}
 use mathlib.Core.Path.{fun_ext}
-use Rattle.store_core.specs.declared.view.Place.{Place}
-use Rattle.store_core.specs.declared.view.Place.TheVariants.{Base, FreeCount, Claim, InUse, FreePlace, Bucket, RowWord, Birth, Next, RootCount, Root}
-use Rattle.store_core.specs.Words.{same_place}
-use Rattle.store_core.specs.Machine.{Each}
-use Rattle.store_core.specs.Steps.{value_at}
-use Rattle.store_core.specs.ByView.{IsLoaded}
-use Rattle.store_core.proofs.Basics.{choose, each_right, same_is}
-use Rattle.store_core.proofs.ByWords.{value_is}
+use Rattle.store_model.specs.declared.view.Place.{Place}
+use Rattle.store_model.specs.declared.view.Place.TheVariants.{Base, FreeCount, Claim, InUse, FreePlace, Bucket, RowWord, Birth, Next, RootCount, Root}
+use Rattle.store_model.specs.Words.{same_place}
+use Rattle.store_model.specs.Machine.{Each}
+use Rattle.store_model.specs.Steps.{value_at}
+use Rattle.store_model.specs.ByView.{IsLoaded}
+use Rattle.store_model.proofs.Basics.{choose, each_right, same_is}
+use Rattle.store_model.proofs.ByWords.{value_is}
 use Rattle.node_rows.specs.Collecting.{or_zero}
 use Rattle.sweep_phase.specs.Loaded.{Extends, found}
 

@@ -7,12 +7,12 @@ use Rattle.busy_forbidden.specs.Exclusive.{IsGranted}
 use Rattle.history_core.specs.declared.entry.Entry.{Entry}
 use Rattle.history_core.specs.declared.entry.Entry.TheVariants.{Collect}
 use Rattle.history_core.specs.Entry.{IsAscending}
-use Rattle.store_core.specs.declared.view.Sizes.{Sizes}
-use Rattle.store_core.specs.declared.view.View.{View}
-use Rattle.store_core.specs.Collection.{collected}
-use Rattle.store_core.specs.Invariant.{span}
-use Rattle.store_core.specs.Shown.{total}
-use Rattle.store_core.specs.Steps.{grown_use, IsAtRest, AreLastRoots}
+use Rattle.store_model.specs.declared.view.Sizes.{Sizes}
+use Rattle.store_model.specs.declared.view.View.{View}
+use Rattle.store_model.specs.Collection.{collected}
+use Rattle.store_model.specs.Invariant.{span}
+use Rattle.store_model.specs.Shown.{total}
+use Rattle.store_model.specs.Steps.{grown_use, IsAtRest, AreLastRoots}
 use Rattle.node_rows.specs.declared.store.Store.{Store}
 use Rattle.node_rows.specs.declared.view.NodeView.{NodeView}
 use Rattle.node_rows.specs.Passes.{IsStore, IsPass, IsReady}

@@ -4,16 +4,16 @@ use Rattle.std.proofs.lemmas.Bool.{cases_lt, lt-ltb}
 use mathlib.Core.Path.{fun_ext}
 use Rattle.atomic_table.specs.declared.shared.Seat.{Seat}
 use Rattle.busy_forbidden.specs.Calls.{IsSame}
-use Rattle.store_core.specs.declared.view.Call.{Call}
-use Rattle.store_core.specs.declared.view.Call.TheVariants.{Storing}
-use Rattle.store_core.specs.declared.view.Place.{Place}
-use Rattle.store_core.specs.declared.view.Place.TheVariants.{Base, FreeCount, Claim, InUse, FreePlace, Bucket, RowWord, Birth, Next, RootCount, Root}
-use Rattle.store_core.specs.Words.{same_place, write}
-use Rattle.store_core.specs.Machine.{StoreAny, Each}
-use Rattle.store_core.specs.Marks.{IsMarked}
-use Rattle.store_core.specs.Shown.{in_table, index_of}
-use Rattle.store_core.specs.Steps.{loads, stores, is_stored, is_storing}
-use Rattle.store_core.specs.ByView.{seen_at, StoresNext}
+use Rattle.store_model.specs.declared.view.Call.{Call}
+use Rattle.store_model.specs.declared.view.Call.TheVariants.{Storing}
+use Rattle.store_model.specs.declared.view.Place.{Place}
+use Rattle.store_model.specs.declared.view.Place.TheVariants.{Base, FreeCount, Claim, InUse, FreePlace, Bucket, RowWord, Birth, Next, RootCount, Root}
+use Rattle.store_model.specs.Words.{same_place, write}
+use Rattle.store_model.specs.Machine.{StoreAny, Each}
+use Rattle.store_model.specs.Marks.{IsMarked}
+use Rattle.store_model.specs.Shown.{in_table, index_of}
+use Rattle.store_model.specs.Steps.{loads, stores, is_stored, is_storing}
+use Rattle.store_model.specs.ByView.{seen_at, StoresNext}
 use Rattle.node_rows.specs.declared.view.NodeView.{NodeView}
 use Rattle.node_rows.specs.Collecting.{or_zero, stored_any, HasSeen, MayCollect}
 use Rattle.node_rows.specs.Steps.{with_store}

@@ -1,12 +1,12 @@
 -- The new chains of the marked rows, as a collection works them out before it stores them.
 use Rattle.std.specs.Prelude.{◌≡◌, ℕ, zero, suc, ◌<◌, Bool, List, [], ◌∷◌, ◌++◌, get_or}
 use Rattle.hash_buckets.specs.Hash.{hash_of}
-use Rattle.store_core.specs.declared.view.Place.{Place}
-use Rattle.store_core.specs.declared.view.Place.TheVariants.{RowWord}
-use Rattle.store_core.specs.declared.view.Content.{Content}
-use Rattle.store_core.specs.Machine.{Each, In}
-use Rattle.store_core.specs.Marks.{IsMarked}
-use Rattle.store_core.specs.MarkedChains.{HasContent, StandsIn}
+use Rattle.store_model.specs.declared.view.Place.{Place}
+use Rattle.store_model.specs.declared.view.Place.TheVariants.{RowWord}
+use Rattle.store_model.specs.declared.view.Content.{Content}
+use Rattle.store_model.specs.Machine.{Each, In}
+use Rattle.store_model.specs.Marks.{IsMarked}
+use Rattle.store_model.specs.MarkedChains.{HasContent, StandsIn}
 
 -- the first n arguments of row r, by the words
 abbrev pub numbers_of : (Place → ℕ) → (r n : ℕ) → List ℕ

@@ -2,16 +2,16 @@
 use Rattle.std.specs.Prelude.{◌≡◌, ◌↔◌, ℕ, ◌+◌, ◌<◌, ◌≤◌, ◌^◌, Bool, true, false, Some, List, length, Contains}
 use Rattle.atomic_table.specs.declared.shared.Seat.{Seat}
 use Rattle.history_core.specs.Entry.{IsAscending}
-use Rattle.store_core.specs.declared.view.Sizes.{Sizes}
-use Rattle.store_core.specs.declared.view.View.{View}
-use Rattle.store_core.specs.declared.view.Place.{Place}
-use Rattle.store_core.specs.declared.view.Place.TheVariants.{Base, FreeCount, Claim, InUse, FreePlace, Bucket, Next}
-use Rattle.store_core.specs.Collection.{collected}
-use Rattle.store_core.specs.Invariant.{span}
-use Rattle.store_core.specs.Machine.{Each, In}
-use Rattle.store_core.specs.Marks.{IsMarked, MarksReached}
-use Rattle.store_core.specs.Steps.{value_at, grown_use, is_stored, is_storing}
-use Rattle.store_core.specs.ByView.{HasAll}
+use Rattle.store_model.specs.declared.view.Sizes.{Sizes}
+use Rattle.store_model.specs.declared.view.View.{View}
+use Rattle.store_model.specs.declared.view.Place.{Place}
+use Rattle.store_model.specs.declared.view.Place.TheVariants.{Base, FreeCount, Claim, InUse, FreePlace, Bucket, Next}
+use Rattle.store_model.specs.Collection.{collected}
+use Rattle.store_model.specs.Invariant.{span}
+use Rattle.store_model.specs.Machine.{Each, In}
+use Rattle.store_model.specs.Marks.{IsMarked, MarksReached}
+use Rattle.store_model.specs.Steps.{value_at, grown_use, is_stored, is_storing}
+use Rattle.store_model.specs.ByView.{HasAll}
 use Rattle.node_rows.specs.declared.view.NodeView.{NodeView}
 use Rattle.busy_forbidden.specs.Calls.{IsSame}
 use Rattle.node_rows.specs.Collecting.{HasSeen, IsKept}

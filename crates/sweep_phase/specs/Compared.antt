@@ -1,10 +1,10 @@
 -- Which words the stores of a collection change, as it notes this before it stores any.
 use Rattle.std.specs.Prelude.{◌≡◌, ℕ, zero, suc, ◌+◌, ◌<◌, ◌≤◌, ◌==◌, Bool, false, if◌then◌else◌, List, get_or}
 use Rattle.atomic_table.specs.declared.shared.Seat.{Seat}
-use Rattle.store_core.specs.declared.view.Sizes.{Sizes}
-use Rattle.store_core.specs.declared.view.Place.{Place}
-use Rattle.store_core.specs.declared.view.Place.TheVariants.{FreePlace, Bucket, Next}
-use Rattle.store_core.specs.Marks.{IsMarked}
+use Rattle.store_model.specs.declared.view.Sizes.{Sizes}
+use Rattle.store_model.specs.declared.view.Place.{Place}
+use Rattle.store_model.specs.declared.view.Place.TheVariants.{FreePlace, Bucket, Next}
+use Rattle.store_model.specs.Marks.{IsMarked}
 use Rattle.node_rows.specs.declared.view.NodeView.{NodeView}
 use Rattle.sweep_phase.specs.declared.sweep.Sweep.{Sweep}
 use Rattle.sweep_phase.specs.Gathered.{sizes_of, words_of}

@@ -3,16 +3,16 @@ use Rattle.std.specs.Prelude.{◌≡◌, ℕ, ◌+◌, ◌<◌, ◌≤◌, ◌^�
 use Rattle.atomic_table.specs.declared.shared.Seat.{Seat}
 use Rattle.busy_forbidden.specs.Calls.{IsSame}
 use Rattle.busy_forbidden.specs.Exclusive.{IsGranted}
-use Rattle.store_core.specs.declared.view.Sizes.{Sizes}
-use Rattle.store_core.specs.declared.view.View.{View}
-use Rattle.store_core.specs.declared.view.Place.{Place}
-use Rattle.store_core.specs.declared.view.Place.TheVariants.{Base, Claim}
-use Rattle.store_core.specs.declared.view.Call.TheVariants.{Loading}
-use Rattle.store_core.specs.declared.view.Stay.TheVariants.{Ready}
-use Rattle.store_core.specs.Invariant.{span}
-use Rattle.store_core.specs.Machine.{with_call}
-use Rattle.store_core.specs.Steps.{loads, AreLastRoots}
-use Rattle.store_core.specs.ByView.{HasAll}
+use Rattle.store_model.specs.declared.view.Sizes.{Sizes}
+use Rattle.store_model.specs.declared.view.View.{View}
+use Rattle.store_model.specs.declared.view.Place.{Place}
+use Rattle.store_model.specs.declared.view.Place.TheVariants.{Base, Claim}
+use Rattle.store_model.specs.declared.view.Call.TheVariants.{Loading}
+use Rattle.store_model.specs.declared.view.Stay.TheVariants.{Ready}
+use Rattle.store_model.specs.Invariant.{span}
+use Rattle.store_model.specs.Machine.{with_call}
+use Rattle.store_model.specs.Steps.{loads, AreLastRoots}
+use Rattle.store_model.specs.ByView.{HasAll}
 use Rattle.node_rows.specs.declared.store.Store.{Store}
 use Rattle.node_rows.specs.declared.view.NodeView.{NodeView}
 use Rattle.node_rows.specs.Steps.{IsOf, Known, with_store}

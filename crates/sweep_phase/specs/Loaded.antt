@@ -1,12 +1,12 @@
 -- What a collection has loaded.
 use Rattle.std.specs.Prelude.{◌≡◌, ℕ, ◌+◌, ◌<◌, ◌≤◌, Some, List, ◌∷◌}
-use Rattle.store_core.specs.declared.view.Sizes.{Sizes}
-use Rattle.store_core.specs.declared.view.Place.{Place}
-use Rattle.store_core.specs.declared.view.Place.TheVariants.{Base, FreeCount, Claim, InUse, FreePlace, Bucket, RowWord, Birth, Next, RootCount, Root}
-use Rattle.store_core.specs.Machine.{State, widest}
-use Rattle.store_core.specs.StoreHolds.{StoreHolds}
-use Rattle.store_core.specs.Steps.{value_at}
-use Rattle.store_core.specs.ByView.{IsLoaded}
+use Rattle.store_model.specs.declared.view.Sizes.{Sizes}
+use Rattle.store_model.specs.declared.view.Place.{Place}
+use Rattle.store_model.specs.declared.view.Place.TheVariants.{Base, FreeCount, Claim, InUse, FreePlace, Bucket, RowWord, Birth, Next, RootCount, Root}
+use Rattle.store_model.specs.Machine.{State, widest}
+use Rattle.store_model.specs.StoreHolds.{StoreHolds}
+use Rattle.store_model.specs.Steps.{value_at}
+use Rattle.store_model.specs.ByView.{IsLoaded}
 use Rattle.node_rows.specs.Collecting.{or_zero}
 
 -- a collection loads the base, the claim and the free count first, and then other words

@@ -1,10 +1,10 @@
 -- The rows that a collection reaches, which it marks.
 use Rattle.std.specs.Prelude.{◌≡◌, ℕ, zero, suc, ◌+◌, ◌<◌, Bool, true, false, if◌then◌else◌, List, [], ◌∷◌, ◌++◌, length, get_or}
 use Rattle.term_model.specs.declared.Row.{Row}
-use Rattle.store_core.specs.declared.view.Place.{Place}
-use Rattle.store_core.specs.declared.view.Place.TheVariants.{RowWord, RootCount, Root}
-use Rattle.store_core.specs.Steps.{ReachesByWords}
-use Rattle.store_core.specs.Marks.{IsMarked}
+use Rattle.store_model.specs.declared.view.Place.{Place}
+use Rattle.store_model.specs.declared.view.Place.TheVariants.{RowWord, RootCount, Root}
+use Rattle.store_model.specs.Steps.{ReachesByWords}
+use Rattle.store_model.specs.Marks.{IsMarked}
 
 abbrev pub row_of : ℕ → Row
 row_of r = record { 0 = r }

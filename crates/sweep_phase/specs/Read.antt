@@ -3,9 +3,9 @@ use Rattle.std.specs.Prelude.{◌≡◌, ℕ, refl, List}
 use Rattle.std.proofs.Common.{◌∙◌, ap, sym, subst}
 use Rattle.atomic_table.specs.declared.shared.Seat.{Seat}
 use Rattle.term_model.specs.declared.Row.{Row}
-use Rattle.store_core.specs.declared.view.Place.{Place}
-use Rattle.store_core.specs.Machine.{with_call}
-use Rattle.store_core.specs.Steps.{ReachesByWords}
+use Rattle.store_model.specs.declared.view.Place.{Place}
+use Rattle.store_model.specs.Machine.{with_call}
+use Rattle.store_model.specs.Steps.{ReachesByWords}
 use Rattle.node_rows.specs.declared.view.NodeView.{NodeView}
 use Rattle.node_rows.specs.Steps.{with_store}
 use Rattle.sweep_phase.specs.declared.sweep.Sweep.{Sweep}

@@ -1,13 +1,13 @@
 -- A seat whose collection stores words.
 use Rattle.std.specs.Prelude.{◌≡◌, ◌≢◌, ℕ, ◌<◌, nat_lt, Bool, true, false, List, get_or}
 use Rattle.atomic_table.specs.declared.shared.Seat.{Seat}
-use Rattle.store_core.specs.declared.view.Sizes.{Sizes}
-use Rattle.store_core.specs.declared.view.Place.{Place}
-use Rattle.store_core.specs.declared.view.Place.TheVariants.{Base, FreeCount, InUse, FreePlace, Bucket, Next}
-use Rattle.store_core.specs.Machine.{Each}
-use Rattle.store_core.specs.Steps.{stores}
-use Rattle.store_core.specs.ByView.{StoresNext}
-use Rattle.store_core.specs.Shown.{in_table}
+use Rattle.store_model.specs.declared.view.Sizes.{Sizes}
+use Rattle.store_model.specs.declared.view.Place.{Place}
+use Rattle.store_model.specs.declared.view.Place.TheVariants.{Base, FreeCount, InUse, FreePlace, Bucket, Next}
+use Rattle.store_model.specs.Machine.{Each}
+use Rattle.store_model.specs.Steps.{stores}
+use Rattle.store_model.specs.ByView.{StoresNext}
+use Rattle.store_model.specs.Shown.{in_table}
 use Rattle.node_rows.specs.declared.view.NodeView.{NodeView}
 use Rattle.node_rows.specs.Collecting.{HasSeen, word_seen}
 use Rattle.sweep_phase.specs.declared.sweep.Sweep.{Sweep}

@@ -1,6 +1,6 @@
 -- The order in which a collection comes to the rows, and so the order of the free places.
 use Rattle.std.specs.Prelude.{ℕ, ◌+◌, ◌*◌, ◌/◌, ◌%◌, ◌==◌, nat_lt, if◌then◌else◌}
-use Rattle.store_core.specs.declared.view.Sizes.{Sizes}
+use Rattle.store_model.specs.declared.view.Sizes.{Sizes}
 use Rattle.sweep_phase.specs.declared.turns.Order.{Order}
 use Rattle.sweep_phase.specs.declared.turns.Order.TheVariants.{Ascending, Apart}
 

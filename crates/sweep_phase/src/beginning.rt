@@ -1,10 +1,10 @@
 //! The begin of a collection: it loads the base, the claim and the free count, and is worn or not.
 ghost use Rattle.std.specs.Prelude.{◌≡◌, ◌<◌, ◌≤◌, ◌+◌, ◌^◌, ◌↔◌, IsTrue, IfOk, IfErr, [], ◌∷◌};
-ghost use Rattle.store_core.specs.declared.view.Call.TheVariants.{Idle, Loading};
-ghost use Rattle.store_core.specs.declared.view.Place.TheVariants.{Base, Claim, FreeCount};
-ghost use Rattle.store_core.specs.Invariant.{span};
-ghost use Rattle.store_core.specs.Machine.{with_call};
-ghost use Rattle.store_core.specs.Steps.{loading};
+ghost use Rattle.store_model.specs.declared.view.Call.TheVariants.{Idle, Loading};
+ghost use Rattle.store_model.specs.declared.view.Place.TheVariants.{Base, Claim, FreeCount};
+ghost use Rattle.store_model.specs.Invariant.{span};
+ghost use Rattle.store_model.specs.Machine.{with_call};
+ghost use Rattle.store_model.specs.Steps.{loading};
 ghost use Rattle.node_rows.specs.Collecting.{HasStore};
 ghost use Rattle.node_rows.specs.Passes.{IsStore};
 ghost use Rattle.node_rows.specs.Steps.{with_store, Known};
@@ -14,7 +14,7 @@ ghost use Rattle.sweep_phase.specs.Gathered.{IsAlone, Gathers, StaysSeat, LoadsC
 use crate::sweep::{Sweep, Worn};
 use busy_forbidden::Seat;
 use node_rows::{NodeRows, Store, base_word, claim_word, free_count_word, load_any};
-use store_core::{Place, Sizes};
+use store_model::{Place, Sizes};
 
 // Loads the base, which is that of the access.
 fn load_base(store: &Store, seat: &mut Seat<NodeRows>) -> u64

@@ -1,10 +1,10 @@
 //! A whole collection.
 ghost use Rattle.std.specs.Prelude.{◌≡◌, ◌<◌, ◌≤◌, ◌+◌, ◌↔◌, ℕ, List, Contains, true, false, IfOk, IfErr, length};
 ghost use Rattle.term_model.specs.declared.Row.{Row};
-ghost use Rattle.store_core.specs.declared.view.Place.{Place};
-ghost use Rattle.store_core.specs.declared.view.Place.TheVariants.{Base, FreeCount, InUse};
-ghost use Rattle.store_core.specs.Marks.{MarksReached, IsMarked};
-ghost use Rattle.store_core.specs.Steps.{AreLastRoots, grown_use, is_storing};
+ghost use Rattle.store_model.specs.declared.view.Place.{Place};
+ghost use Rattle.store_model.specs.declared.view.Place.TheVariants.{Base, FreeCount, InUse};
+ghost use Rattle.store_model.specs.Marks.{MarksReached, IsMarked};
+ghost use Rattle.store_model.specs.Steps.{AreLastRoots, grown_use, is_storing};
 ghost use Rattle.busy_forbidden.specs.Calls.{IsSame};
 ghost use Rattle.busy_forbidden.specs.Exclusive.{IsGranted};
 ghost use Rattle.node_rows.specs.Collecting.{HasSeen};
@@ -32,7 +32,7 @@ use node_rows::{
     NodeRows, Pass, Store, base_word, claim_word, free_count_word, in_use_word, store_claim,
     tell_collect,
 };
-use store_core::Place;
+use store_model::Place;
 
 // Loads all words, and marks the rows that are reached.
 fn load_and_mark(sweep: &Sweep<'_>, seat: &mut Seat<NodeRows>, marks: &mut Marks)

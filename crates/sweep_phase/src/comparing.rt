@@ -1,7 +1,7 @@
 //! Which words the stores of a collection change: noted in plain memory before it stores any.
 ghost use Rattle.std.specs.Prelude.{◌≡◌, ◌≢◌, ◌<◌, ◌≤◌, ◌+◌, ℕ, false, length, get_or, if◌then◌else◌};
-ghost use Rattle.store_core.specs.declared.view.Place.TheVariants.{FreePlace, Bucket, Next};
-ghost use Rattle.store_core.specs.Marks.{IsMarked};
+ghost use Rattle.store_model.specs.declared.view.Place.TheVariants.{FreePlace, Bucket, Next};
+ghost use Rattle.store_model.specs.Marks.{IsMarked};
 ghost use Rattle.sweep_phase.specs.Gathered.{sizes_of, words_of, HasGathered, LoadsAgain, StaysSeat};
 ghost use Rattle.sweep_phase.specs.Collected.{IsWorkedOut};
 ghost use Rattle.sweep_phase.specs.Compared.{told_by, Notes, IsCompared};

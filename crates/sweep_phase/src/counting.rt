@@ -1,10 +1,10 @@
 //! How many rows are kept, and how many buckets are in use then.
 ghost use Rattle.std.specs.Prelude.{◌≡◌, ◌<◌, ◌≤◌, if◌then◌else◌, false, length, get_or};
-ghost use Rattle.store_core.specs.Steps.{grown_use};
+ghost use Rattle.store_model.specs.Steps.{grown_use};
 ghost use Rattle.sweep_phase.specs.Marked.{marked_below};
 
 use mark_phase::Marks;
-use store_core::Sizes;
+use store_model::Sizes;
 use term_model::Row;
 
 // 1 where the row is marked.

@@ -1,10 +1,10 @@
 //! A collection's first loads of each word.
 ghost use Rattle.std.specs.Prelude.{◌≡◌, ◌<◌, ◌≤◌, ◌+◌, ◌++◌, ◌∷◌, [], ℕ, Some, true};
-ghost use Rattle.store_core.specs.declared.view.Place.TheVariants.{InUse, FreePlace, Bucket, RowWord, Birth, Next, RootCount, Root};
-ghost use Rattle.store_core.specs.Machine.{widest};
-ghost use Rattle.store_core.specs.Shown.{in_table, index_of};
-ghost use Rattle.store_core.specs.Steps.{value_at};
-ghost use Rattle.store_core.specs.ByView.{IsLoaded};
+ghost use Rattle.store_model.specs.declared.view.Place.TheVariants.{InUse, FreePlace, Bucket, RowWord, Birth, Next, RootCount, Root};
+ghost use Rattle.store_model.specs.Machine.{widest};
+ghost use Rattle.store_model.specs.Shown.{in_table, index_of};
+ghost use Rattle.store_model.specs.Steps.{value_at};
+ghost use Rattle.store_model.specs.ByView.{IsLoaded};
 ghost use Rattle.sweep_phase.specs.Loaded.{HasRow, HasRoots, HasLists};
 ghost use Rattle.sweep_phase.specs.Gathered.{sizes_of, loads_of, Gathers, LoadsMore, HasGathered};
 
@@ -15,7 +15,7 @@ use node_rows::{
     NodeRows, bucket_word, free_place_word, in_use_word, load_any, root_count_word, root_word,
     word_in,
 };
-use store_core::{Place, Sizes};
+use store_model::{Place, Sizes};
 
 // Loads a word.
 pub(crate) fn load(sweep: &Sweep<'_>, seat: &mut Seat<NodeRows>, word: usize, place: Place) -> u64

@@ -1,8 +1,8 @@
 //! The rows that the protected rows of all passes reach are marked.
 ghost use Rattle.std.specs.Prelude.{◌≡◌, ◌<◌, ◌+◌, length};
-ghost use Rattle.store_core.specs.declared.view.Place.TheVariants.{RootCount};
-ghost use Rattle.store_core.specs.Marks.{MarksReached};
-ghost use Rattle.store_core.specs.Steps.{ReachesByWords};
+ghost use Rattle.store_model.specs.declared.view.Place.TheVariants.{RootCount};
+ghost use Rattle.store_model.specs.Marks.{MarksReached};
+ghost use Rattle.store_model.specs.Steps.{ReachesByWords};
 ghost use Rattle.sweep_phase.specs.Gathered.{sizes_of, words_of, HasGathered, LoadsAgain};
 ghost use Rattle.mark_phase.specs.Reachable.{IsClosed, AddsReached};
 ghost use Rattle.sweep_phase.specs.Marked.{MarksTo, children_of, row_of};

@@ -1,6 +1,6 @@
 //! A collection in an access of its own.
 ghost use Rattle.std.specs.Prelude.{◌≡◌, IfOk, IfErr, Err};
-ghost use Rattle.store_core.specs.Steps.{AreLastRoots};
+ghost use Rattle.store_model.specs.Steps.{AreLastRoots};
 ghost use Rattle.busy_forbidden.specs.Calls.{IsSame};
 ghost use Rattle.busy_forbidden.specs.Exclusive.{IsGranted, ShowsExclusive};
 ghost use Rattle.node_rows.specs.Belonging.{IsPassOf};

@@ -1,7 +1,7 @@
 //! Where the last words of a row stand, by what a store has worked out once.
 ghost use Rattle.std.specs.Prelude.{◌≡◌, ◌<◌, ◌^◌, true};
-ghost use Rattle.store_core.specs.declared.view.Place.TheVariants.{Birth, Next};
-ghost use Rattle.store_core.specs.Shown.{index_of, in_table, total};
+ghost use Rattle.store_model.specs.declared.view.Place.TheVariants.{Birth, Next};
+ghost use Rattle.store_model.specs.Shown.{index_of, in_table, total};
 
 use node_rows::{Store, word_in};
 

@@ -1,10 +1,10 @@
 //! A collection's loads of words that it has loaded before.
 ghost use Rattle.std.specs.Prelude.{◌≡◌, ◌<◌, ◌≤◌, ◌+◌, true};
-ghost use Rattle.store_core.specs.declared.view.Place.TheVariants.{FreePlace, Bucket, RowWord, Next, RootCount, Root};
-ghost use Rattle.store_core.specs.Machine.{widest};
-ghost use Rattle.store_core.specs.Shown.{in_table, index_of};
-ghost use Rattle.store_core.specs.ByView.{IsLoaded};
-ghost use Rattle.store_core.specs.Steps.{ReachesByWords};
+ghost use Rattle.store_model.specs.declared.view.Place.TheVariants.{FreePlace, Bucket, RowWord, Next, RootCount, Root};
+ghost use Rattle.store_model.specs.Machine.{widest};
+ghost use Rattle.store_model.specs.Shown.{in_table, index_of};
+ghost use Rattle.store_model.specs.ByView.{IsLoaded};
+ghost use Rattle.store_model.specs.Steps.{ReachesByWords};
 ghost use Rattle.sweep_phase.specs.Gathered.{sizes_of, loads_of, words_of, HasGathered, LoadsAgain};
 
 use crate::loading::load;
@@ -12,7 +12,7 @@ use crate::places::next_place;
 use crate::sweep::Sweep;
 use busy_forbidden::Seat;
 use node_rows::{NodeRows, bucket_word, free_place_word, root_count_word, root_word, word_in};
-use store_core::Place;
+use store_model::Place;
 
 // Loads a word again.
 fn reload(sweep: &Sweep<'_>, seat: &mut Seat<NodeRows>, word: usize, place: Place) -> u64

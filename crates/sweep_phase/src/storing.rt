@@ -1,11 +1,11 @@
 //! A collection's stores: of chains, buckets, free places and numbers, where they change.
 ghost use Rattle.std.specs.Prelude.{◌≡◌, ◌<◌, ◌≤◌, ◌+◌, ℕ, Bool, true, false, length, get_or, if◌then◌else◌};
-ghost use Rattle.store_core.specs.declared.view.Place.{Place};
-ghost use Rattle.store_core.specs.declared.view.Place.TheVariants.{FreePlace, Bucket, Next};
-ghost use Rattle.store_core.specs.Marks.{IsMarked};
-ghost use Rattle.store_core.specs.Shown.{in_table, index_of};
-ghost use Rattle.store_core.specs.Steps.{is_stored, is_storing};
-ghost use Rattle.store_core.specs.Words.{same_place, write};
+ghost use Rattle.store_model.specs.declared.view.Place.{Place};
+ghost use Rattle.store_model.specs.declared.view.Place.TheVariants.{FreePlace, Bucket, Next};
+ghost use Rattle.store_model.specs.Marks.{IsMarked};
+ghost use Rattle.store_model.specs.Shown.{in_table, index_of};
+ghost use Rattle.store_model.specs.Steps.{is_stored, is_storing};
+ghost use Rattle.store_model.specs.Words.{same_place, write};
 ghost use Rattle.node_rows.specs.Collecting.{HasSeen};
 ghost use Rattle.sweep_phase.specs.Gathered.{sizes_of};
 ghost use Rattle.sweep_phase.specs.Compared.{told_by, place_for};
@@ -19,7 +19,7 @@ use crate::turns::{Order, row_in_turn};
 use busy_forbidden::Seat;
 use mark_phase::Marks;
 use node_rows::{NodeRows, bucket_word, free_place_word, store_any};
-use store_core::Place;
+use store_model::Place;
 use term_model::Row;
 
 // Stores a word.

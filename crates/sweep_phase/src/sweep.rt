@@ -1,7 +1,7 @@
 //! What a collection is about, and what it answers.
 ghost use Rattle.std.specs.Prelude.{◌≡◌, ◌+◌, ◌≤◌, ◌^◌};
-ghost use Rattle.store_core.specs.Invariant.{span};
-ghost use Rattle.store_core.specs.StoreValue.{MaySize};
+ghost use Rattle.store_model.specs.Invariant.{span};
+ghost use Rattle.store_model.specs.NewStore.{MaySize};
 ghost use Rattle.node_rows.specs.Passes.{IsStore};
 ghost use Rattle.sweep_phase.specs.Loaded.{FitsRows};
 

@@ -4,7 +4,7 @@ ghost use Rattle.sweep_phase.specs.Gathered.{sizes_of};
 ghost use Rattle.sweep_phase.specs.Turns.{in_blocks, order_for, row_in_turn};
 
 use crate::sweep::Sweep;
-use store_core::Sizes;
+use store_model::Sizes;
 
 /// An order of the rows: they ascend, or those that come after each other stand apart.
 #[derive(Clone, Copy, Drop)]

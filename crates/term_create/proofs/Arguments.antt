@@ -5,7 +5,7 @@ use Rattle.std.proofs.lemmas.List.{length-map}
 use Rattle.term_model.specs.declared.Row.{Row}
 use Rattle.term_model.specs.declared.Head.{Head}
 use Rattle.term_model.specs.declared.Head.TheVariants.{App, Int, Nil, Cons}
-use Rattle.store_core.specs.Calls.{IsOver, words_of}
+use Rattle.store_model.specs.Calls.{IsOver, words_of}
 use Rattle.node_rows.specs.Rows.{names}
 use Rattle.node_rows.specs.Steps.{over}
 

@@ -4,15 +4,15 @@ use Rattle.term_model.specs.Tree.{Tree, Leaf, Node, Trees, End, More, root, argu
 use Rattle.term_model.specs.declared.Head.{Head}
 use Rattle.term_model.specs.declared.Head.TheVariants.{App, Int, Nil, Cons}
 use Rattle.hash_buckets.specs.Spelled.{spelled}
-use Rattle.store_core.specs.declared.view.KnownWord.{KnownWord}
-use Rattle.store_core.specs.declared.view.Sizes.{Sizes}
-use Rattle.store_core.specs.declared.view.View.{View}
-use Rattle.store_core.specs.Calls.{IsOver}
-use Rattle.store_core.specs.declared.view.Stay.TheVariants.{Away, Ready}
-use Rattle.store_core.specs.Steps.{IsAtRest}
-use Rattle.store_core.specs.Machine.{Each, In, widest}
-use Rattle.store_core.specs.ByView.{KnowsWord}
-use Rattle.store_core.proofs.Basics.{each_in}
+use Rattle.store_model.specs.declared.view.KnownWord.{KnownWord}
+use Rattle.store_model.specs.declared.view.Sizes.{Sizes}
+use Rattle.store_model.specs.declared.view.View.{View}
+use Rattle.store_model.specs.Calls.{IsOver}
+use Rattle.store_model.specs.declared.view.Stay.TheVariants.{Away, Ready}
+use Rattle.store_model.specs.Steps.{IsAtRest}
+use Rattle.store_model.specs.Machine.{Each, In, widest}
+use Rattle.store_model.specs.ByView.{KnowsWord}
+use Rattle.store_model.proofs.Basics.{each_in}
 use Rattle.node_rows.specs.Knowing.{KnowsRow, KnowsTree, KnowsTrees}
 use Rattle.node_rows.specs.declared.view.NodeView.{NodeView}
 use Rattle.node_rows.specs.Steps.{Known, with_store}

@@ -4,13 +4,13 @@ use Rattle.std.specs.Prelude.{MatchResult, IfOk, IfErr}
 use Rattle.term_model.specs.declared.Head.{Head}
 use Rattle.term_model.specs.declared.Row.{Row}
 use Rattle.history_core.specs.declared.entry.Entry.TheVariants as entry
-use Rattle.store_core.specs.declared.view.Call.{Call}
-use Rattle.store_core.specs.declared.view.Call.TheVariants.{Idle, Ended}
-use Rattle.store_core.specs.declared.view.Passed.{Passed}
-use Rattle.store_core.specs.declared.view.View.{View}
-use Rattle.store_core.specs.declared.view.Sizes.{Sizes}
-use Rattle.store_core.specs.declared.view.Stay.TheVariants.{Away, Ready}
-use Rattle.store_core.specs.Machine.{Each, with_call, with_path}
+use Rattle.store_model.specs.declared.view.Call.{Call}
+use Rattle.store_model.specs.declared.view.Call.TheVariants.{Idle, Ended}
+use Rattle.store_model.specs.declared.view.Passed.{Passed}
+use Rattle.store_model.specs.declared.view.View.{View}
+use Rattle.store_model.specs.declared.view.Sizes.{Sizes}
+use Rattle.store_model.specs.declared.view.Stay.TheVariants.{Away, Ready}
+use Rattle.store_model.specs.Machine.{Each, with_call, with_path}
 use Rattle.node_rows.specs.declared.view.NodeView.{NodeView}
 use Rattle.node_rows.specs.declared.store.Last.{Last}
 use Rattle.node_rows.specs.declared.store.Last.TheVariants as last

@@ -4,18 +4,18 @@ use Rattle.std.specs.Prelude.{nat_lt}
 use Rattle.std.proofs.lemmas.Bool.Decides.{nat_tests}
 use Rattle.term_model.specs.declared.Head.{Head}
 use Rattle.term_model.specs.declared.Head.TheVariants.{App, Int, Nil, Cons}
-use Rattle.store_core.specs.declared.view.Sizes.{Sizes}
-use Rattle.store_core.specs.declared.view.View.{View}
-use Rattle.store_core.specs.declared.view.Content.{Content}
-use Rattle.store_core.specs.declared.view.Passed.{Passed}
-use Rattle.store_core.specs.declared.view.Refusal.{Refusal}
-use Rattle.store_core.specs.declared.view.Call.{Call}
-use Rattle.store_core.specs.declared.view.Call.TheVariants.{Idle, Comparing, Passing, Ended, Counting, Drawing, Placing, Linking, Publishing}
-use Rattle.store_core.specs.Calls.{words_of, IsOver}
-use Rattle.store_core.specs.Machine.{with_call, with_path, gained, refusing, overdrawn, arrived, ended, passing, widest}
-use Rattle.store_core.specs.Seats.{Where, index}
-use Rattle.store_core.specs.Reads.{Differs, PathTo, IsRefusal}
-use Rattle.store_core.proofs.Basics.{choose}
+use Rattle.store_model.specs.declared.view.Sizes.{Sizes}
+use Rattle.store_model.specs.declared.view.View.{View}
+use Rattle.store_model.specs.declared.view.Content.{Content}
+use Rattle.store_model.specs.declared.view.Passed.{Passed}
+use Rattle.store_model.specs.declared.view.Refusal.{Refusal}
+use Rattle.store_model.specs.declared.view.Call.{Call}
+use Rattle.store_model.specs.declared.view.Call.TheVariants.{Idle, Comparing, Passing, Ended, Counting, Drawing, Placing, Linking, Publishing}
+use Rattle.store_model.specs.Calls.{words_of, IsOver}
+use Rattle.store_model.specs.Machine.{with_call, with_path, gained, refusing, overdrawn, arrived, ended, passing, widest}
+use Rattle.store_model.specs.Seats.{Where, index}
+use Rattle.store_model.specs.Reads.{Differs, PathTo, IsRefusal}
+use Rattle.store_model.proofs.Basics.{choose}
 use Rattle.node_rows.specs.declared.view.NodeView.{NodeView}
 use Rattle.node_rows.specs.Steps.{with_store, over, Known, Few}
 use Rattle.atomic_table.specs.declared.shared.Seat.{Seat}

@@ -1,7 +1,7 @@
 -- How many atomic steps a creation takes.
 use Rattle.std.specs.Prelude.{ℕ, ◌+◌, ◌*◌, ◌≤◌}
-use Rattle.store_core.specs.declared.view.Sizes.{Sizes}
-use Rattle.store_core.specs.Machine.{widest}
+use Rattle.store_model.specs.declared.view.Sizes.{Sizes}
+use Rattle.store_model.specs.Machine.{widest}
 
 -- those of a row that a walk passes: its words, and the link
 abbrev pub row_steps : Sizes → ℕ

@@ -3,15 +3,15 @@ use Rattle.std.specs.Prelude.{◌≡◌, ◌⊎◌, ℕ, ◌<◌, ◌≤◌, Som
 use Rattle.term_model.specs.declared.Head.{Head}
 use Rattle.history_core.specs.declared.entry.Entry.TheVariants.{Make, Find}
 use Rattle.hash_buckets.specs.Spelled.{spelled}
-use Rattle.store_core.specs.declared.view.Sizes.{Sizes}
-use Rattle.store_core.specs.declared.view.View.{View}
-use Rattle.store_core.specs.declared.view.Refusal.{Refusal}
-use Rattle.store_core.specs.declared.view.Passed.{Passed}
-use Rattle.store_core.specs.declared.view.Call.{Call}
-use Rattle.store_core.specs.Calls.{IsOver}
-use Rattle.store_core.specs.ByView.{KnowsSecond}
-use Rattle.store_core.specs.Machine.{Each, In, widest, words_known, with_call, with_path}
-use Rattle.store_core.specs.Reads.{IsRefusal}
+use Rattle.store_model.specs.declared.view.Sizes.{Sizes}
+use Rattle.store_model.specs.declared.view.View.{View}
+use Rattle.store_model.specs.declared.view.Refusal.{Refusal}
+use Rattle.store_model.specs.declared.view.Passed.{Passed}
+use Rattle.store_model.specs.declared.view.Call.{Call}
+use Rattle.store_model.specs.Calls.{IsOver}
+use Rattle.store_model.specs.ByView.{KnowsSecond}
+use Rattle.store_model.specs.Machine.{Each, In, widest, words_known, with_call, with_path}
+use Rattle.store_model.specs.Reads.{IsRefusal}
 use Rattle.node_rows.specs.declared.view.NodeView.{NodeView}
 use Rattle.node_rows.specs.Full.{IsFilled}
 use Rattle.node_rows.specs.Steps.{over, with_store}

@@ -3,8 +3,8 @@ use Rattle.std.specs.Prelude.{◌≡◌, ℕ, suc, ◌+◌, ◌<◌, List, [], �
 use Rattle.term_model.specs.declared.Head.{Head}
 use Rattle.term_model.specs.declared.Head.TheVariants.{App, Int, Nil, Cons}
 use Rattle.hash_buckets.specs.Spelled.{symbol_word}
-use Rattle.store_core.specs.declared.view.KnownWord.{KnownWord}
-use Rattle.store_core.specs.ByView.{KnowsWord}
+use Rattle.store_model.specs.declared.view.KnownWord.{KnownWord}
+use Rattle.store_model.specs.ByView.{KnowsWord}
 use Rattle.node_rows.specs.declared.view.NodeView.{NodeView}
 use Rattle.node_rows.specs.Steps.{with_store}
 

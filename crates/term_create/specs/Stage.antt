@@ -3,14 +3,14 @@ use Rattle.std.specs.Prelude.{◌≡◌, ◌≢◌, ◌⊎◌, ◌==◌, if◌th
 use Rattle.atomic_table.specs.declared.shared.Seat.{Seat}
 use Rattle.term_model.specs.declared.Head.{Head}
 use Rattle.history_core.specs.declared.entry.Entry.TheVariants.{Make, Find}
-use Rattle.store_core.specs.declared.view.View.{View}
-use Rattle.store_core.specs.declared.view.Content.{Content}
-use Rattle.store_core.specs.declared.view.Passed.{Passed}
-use Rattle.store_core.specs.declared.view.Call.{Call}
-use Rattle.store_core.specs.declared.view.Call.TheVariants.{Comparing, Passing, Finding, Filling, Numbering}
-use Rattle.store_core.specs.Calls.{words_of, bucket}
-use Rattle.store_core.specs.Machine.{with_call, with_path, passing, gained, refusing, overdrawn, arrived}
-use Rattle.store_core.specs.Reads.{Differs, PathTo}
+use Rattle.store_model.specs.declared.view.View.{View}
+use Rattle.store_model.specs.declared.view.Content.{Content}
+use Rattle.store_model.specs.declared.view.Passed.{Passed}
+use Rattle.store_model.specs.declared.view.Call.{Call}
+use Rattle.store_model.specs.declared.view.Call.TheVariants.{Comparing, Passing, Finding, Filling, Numbering}
+use Rattle.store_model.specs.Calls.{words_of, bucket}
+use Rattle.store_model.specs.Machine.{with_call, with_path, passing, gained, refusing, overdrawn, arrived}
+use Rattle.store_model.specs.Reads.{Differs, PathTo}
 use Rattle.busy_forbidden.specs.Calls.{IsSame}
 use Rattle.node_rows.specs.declared.view.NodeView.{NodeView}
 use Rattle.term_create.specs.Created.{WasFilled}

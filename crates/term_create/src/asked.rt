@@ -1,8 +1,8 @@
 //! What a creation asks for, where, and how it may end.
 ghost use Rattle.std.specs.Prelude.{◌≡◌, ◌+◌, ◌*◌, ◌<◌, get_or, length};
 ghost use Rattle.hash_buckets.specs.Spelled.{symbol_word};
-ghost use Rattle.store_core.specs.Calls.{words_of};
-ghost use Rattle.store_core.specs.Machine.{widest};
+ghost use Rattle.store_model.specs.Calls.{words_of};
+ghost use Rattle.store_model.specs.Machine.{widest};
 ghost use Rattle.node_rows.specs.Rows.{names};
 ghost use Rattle.node_rows.specs.Passes.{IsStore};
 ghost use Rattle.node_rows.specs.Steps.{over};

@@ -1,9 +1,9 @@
 //! Creations: a walk, and where it ends without the row, the making of one.
 ghost use Rattle.std.specs.Prelude.{◌≡◌, ◌<◌, ◌≤◌, ◌+◌, ◌*◌, true, None, [], MatchResult, IfOk, IfErr, get_or, length};
 ghost use Rattle.lock_core.specs.declared.parts.Phase.TheVariants.{Shared};
-ghost use Rattle.store_core.specs.Calls.{words_of, bucket};
-ghost use Rattle.store_core.specs.declared.view.Call.TheVariants.{Ended};
-ghost use Rattle.store_core.specs.Machine.{arrived, with_path, widest};
+ghost use Rattle.store_model.specs.Calls.{words_of, bucket};
+ghost use Rattle.store_model.specs.declared.view.Call.TheVariants.{Ended};
+ghost use Rattle.store_model.specs.Machine.{arrived, with_path, widest};
 ghost use Rattle.busy_forbidden.specs.Calls.{IsSame};
 ghost use Rattle.node_rows.specs.Rows.{names};
 ghost use Rattle.node_rows.specs.Full.{HoldsAll};

@@ -1,7 +1,7 @@
 //! Making a row where a walk ends without one: a draw, the words of the drawn row, and its publishing.
 ghost use Rattle.std.specs.Prelude.{◌≡◌, ◌≤◌, ◌+◌, ◌*◌, MatchResult, IfErr};
-ghost use Rattle.store_core.specs.declared.view.Call.TheVariants.{Ended, Filling, Linking};
-ghost use Rattle.store_core.specs.Machine.{widest};
+ghost use Rattle.store_model.specs.declared.view.Call.TheVariants.{Ended, Filling, Linking};
+ghost use Rattle.store_model.specs.Machine.{widest};
 ghost use Rattle.node_rows.specs.Rows.{names};
 ghost use Rattle.term_create.specs.Counted.{Takes};
 ghost use Rattle.term_create.specs.Stage.{IsAt, IsBased, SameSeat, Notes, IsFull, Relinks, HoldsAllAlone, FillsAfter, content, at_call};

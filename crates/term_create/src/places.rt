@@ -1,8 +1,8 @@
 //! Where the words of a row stand that a walk reads, by what a creation has worked out once.
 ghost use Rattle.std.specs.Prelude.{◌≡◌, ◌<◌, ◌+◌, ◌*◌, ◌^◌, true};
-ghost use Rattle.store_core.specs.declared.view.Place.TheVariants.{RowWord, Birth, Next};
-ghost use Rattle.store_core.specs.Machine.{widest};
-ghost use Rattle.store_core.specs.Shown.{index_of, in_table};
+ghost use Rattle.store_model.specs.declared.view.Place.TheVariants.{RowWord, Birth, Next};
+ghost use Rattle.store_model.specs.Machine.{widest};
+ghost use Rattle.store_model.specs.Shown.{index_of, in_table};
 
 use crate::asked::Asked;
 

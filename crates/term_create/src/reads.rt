@@ -2,10 +2,10 @@
 //! it reads an integer; none of them takes memory or waits.
 ghost use Rattle.std.specs.Prelude.{◌≡◌, ◌⊎◌, ◌<◌, ◌≤◌, ◌+◌, true, Some, [], ◌∷◌, length, get_or};
 ghost use Rattle.term_model.specs.Tree.{Tree, Leaf, root, arguments};
-ghost use Rattle.store_core.specs.ByView.{KnowsWord};
-ghost use Rattle.store_core.specs.Machine.{In, knowing, widest};
-ghost use Rattle.store_core.specs.declared.view.Place.TheVariants.{RowWord};
-ghost use Rattle.store_core.specs.Shown.{index_of, in_table};
+ghost use Rattle.store_model.specs.ByView.{KnowsWord};
+ghost use Rattle.store_model.specs.Machine.{In, knowing, widest};
+ghost use Rattle.store_model.specs.declared.view.Place.TheVariants.{RowWord};
+ghost use Rattle.store_model.specs.Shown.{index_of, in_table};
 ghost use Rattle.busy_forbidden.specs.Calls.{IsSame};
 ghost use Rattle.node_rows.specs.Inside.{IsInside};
 ghost use Rattle.node_rows.specs.Steps.{with_store};
@@ -14,7 +14,7 @@ ghost use Rattle.term_create.specs.Read.{Reads, ReadsChild, HasArgument, word, h
 
 use hash_buckets::INTEGER;
 use node_rows::{Pass, Store, read_argument, read_word, row_of, word_in};
-use store_core::Sizes;
+use store_model::Sizes;
 use term_model::{Head, Row, Symbol};
 
 // The symbol word of the empty list.

@@ -1,9 +1,9 @@
 //! The steps of a creation in order, each with what the own view says before it and after it.
 ghost use Rattle.std.specs.Prelude.{◌≡◌, ◌≢◌, ◌<◌, ◌≤◌, ◌+◌, ◌==◌, if◌then◌else◌, IfNone, IfSome, get_or, length, max, nat_lt, Some};
 ghost use Rattle.history_core.specs.declared.entry.Entry.TheVariants.{Make, Find};
-ghost use Rattle.store_core.specs.declared.view.Call.TheVariants.{Comparing, Passing, Finding, Ended, Counting, Drawing, Placing, Filling, Numbering, Linking, Publishing};
-ghost use Rattle.store_core.specs.Calls.{words_of};
-ghost use Rattle.store_core.specs.Machine.{arrived, filled, gained, refusing, overdrawn, with_call};
+ghost use Rattle.store_model.specs.declared.view.Call.TheVariants.{Comparing, Passing, Finding, Ended, Counting, Drawing, Placing, Filling, Numbering, Linking, Publishing};
+ghost use Rattle.store_model.specs.Calls.{words_of};
+ghost use Rattle.store_model.specs.Machine.{arrived, filled, gained, refusing, overdrawn, with_call};
 ghost use Rattle.node_rows.specs.Rows.{names};
 ghost use Rattle.node_rows.specs.Steps.{with_store};
 ghost use Rattle.term_create.specs.Stage.{IsAt, IsBased, SameSeat, IsOther, GoesOn, HoldsAllAlone, FillsAfter, content, at_call, stage};

@@ -8,7 +8,7 @@ ghost use Rattle.term_create.specs.Stage.{Notes, row_of};
 
 use crate::asked::Noted;
 use node_rows::Last;
-use store_core::Sizes;
+use store_model::Sizes;
 use term_model::Row;
 
 /// A row, the greatest number that the pass has seen then, and its last entry.

@@ -1,8 +1,8 @@
 //! The walk along a chain.
 ghost use Rattle.std.specs.Prelude.{◌≡◌, ◌≤◌, ◌+◌, ◌<◌, pred, get_or, length, MatchBool, MatchOption};
-ghost use Rattle.store_core.specs.declared.view.Call.TheVariants.{Comparing, Finding};
-ghost use Rattle.store_core.specs.Calls.{words_of};
-ghost use Rattle.store_core.specs.Machine.{arrived, ended, widest};
+ghost use Rattle.store_model.specs.declared.view.Call.TheVariants.{Comparing, Finding};
+ghost use Rattle.store_model.specs.Calls.{words_of};
+ghost use Rattle.store_model.specs.Machine.{arrived, ended, widest};
 ghost use Rattle.node_rows.specs.Rows.{names};
 ghost use Rattle.term_create.specs.Counted.{Takes};
 ghost use Rattle.term_create.specs.Stage.{IsAt, SameSeat, Notes, IsOther, HasPassed, content, at_call, stage};

@@ -2,7 +2,7 @@
 ghost use Rattle.std.specs.Prelude.{◌≡◌, ◌+◌, ◌<◌, ◌%◌, get_or, length};
 ghost use Rattle.hash_buckets.specs.Hash.{mixed, mixed_all, hash_of};
 ghost use Rattle.hash_buckets.specs.Spelled.{symbol_word};
-ghost use Rattle.store_core.specs.Calls.{words_of, bucket};
+ghost use Rattle.store_model.specs.Calls.{words_of, bucket};
 ghost use Rattle.node_rows.specs.Rows.{names};
 ghost use Rattle.node_rows.specs.Steps.{over};
 ghost use Rattle.term_create.specs.Stage.{content};

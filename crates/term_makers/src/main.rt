@@ -2,7 +2,7 @@
 #![tactic(auto)]
 
 ghost use Rattle.std.specs.Prelude.{◌≤◌, IfOk, IfSome, All};
-ghost use Rattle.store_core.specs.StoreValue.{MaySize};
+ghost use Rattle.store_model.specs.NewStore.{MaySize};
 ghost use Rattle.node_rows.specs.Passes.{IsStore, IsPass, IsOut};
 ghost use Rattle.node_rows.specs.Told.{Tells};
 
@@ -11,7 +11,7 @@ mod maker;
 use maker::{Tally, make_and_read};
 use node_rows::{Pass, Store};
 use std::{env, io, thread};
-use store_core::Sizes;
+use store_model::Sizes;
 use sweep_phase::collect_now;
 
 // The number in a word, and 0 where there is none.

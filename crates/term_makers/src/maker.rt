@@ -1,7 +1,7 @@
 //! What each thread does: it makes numbers, protects the last one, lets others collect, goes on, and reads them all.
 ghost use Rattle.std.specs.Prelude.{◌≡◌, ◌≤◌, ◌<◌, IfOk, length};
 ghost use Rattle.lock_core.specs.declared.parts.Phase.TheVariants.{Shared};
-ghost use Rattle.store_core.specs.Machine.{In, protected_in};
+ghost use Rattle.store_model.specs.Machine.{In, protected_in};
 ghost use Rattle.busy_forbidden.specs.Calls.{IsSame};
 ghost use Rattle.node_rows.specs.Inside.{IsInside};
 ghost use Rattle.node_rows.specs.Belonging.{IsPassOf};

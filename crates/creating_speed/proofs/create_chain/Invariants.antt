@@ -1,6 +1,6 @@
 use Rattle.std.specs.Prelude.{◌≡◌}
 use Rattle.lock_core.specs.declared.parts.Phase.TheVariants.{Shared}
-use Rattle.store_core.specs.Machine.{In}
+use Rattle.store_model.specs.Machine.{In}
 use Rattle.node_rows.specs.Inside.{IsInside}
 use Rattle.creating_speed.proofs.create_chain.Given as goal
 

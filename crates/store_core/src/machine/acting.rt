@@ -1,8 +1,8 @@
 //! The steps of a creation under way.
 ghost use Rattle.std.specs.Prelude.{◌≡◌, ◌↔◌, ◌+◌, IfOk, IsTrue};
-ghost use Rattle.store_core.specs.Words.{same_place};
-ghost use Rattle.store_core.specs.Machine as machine;
-ghost use Rattle.store_core.specs.StoreSteps.{act, row_place, Loads};
+ghost use Rattle.store_model.specs.Words.{same_place};
+ghost use Rattle.store_model.specs.Machine as machine;
+ghost use Rattle.store_model.specs.StoreSteps.{act, row_place, Loads};
 ghost use Rattle.store_core.specs.NextActs.{act_of};
 ghost use Rattle.store_core.specs.Planning.{PlansIf, sizes_seen};
 
@@ -11,8 +11,8 @@ use crate::machine::contents::{bucket_of, word_at, words_of};
 use crate::machine::copies::copy;
 use crate::machine::creation::{place_of, view_after, written};
 use crate::machine::moves::sum;
-use crate::view::{Call, Place, Sizes, View};
 use faults::Memory;
+use store_model::{Call, Place, Sizes, View};
 
 /// What the next action of a creation does to its word.
 #[derive(Drop)]

@@ -2,12 +2,12 @@
 ghost use Rattle.std.specs.Prelude.{◌≡◌, ◌⊎◌, ◌↔◌, ℕ, ◌<◌, ◌≤◌, false, length, get_or, IfOk, IsTrue};
 ghost use Rattle.std.specs.List.{list_all};
 ghost use Rattle.term_model.specs.declared.Head.TheVariants.{Cons};
-ghost use Rattle.store_core.specs.Calls.{IsOver};
-ghost use Rattle.store_core.specs.Machine.{IsListRow, SecondIsList, MayBegin, widest};
-ghost use Rattle.store_core.specs.Steps.{MayCreate};
-ghost use Rattle.store_core.specs.Shown.{shown};
+ghost use Rattle.store_model.specs.Calls.{IsOver};
+ghost use Rattle.store_model.specs.Machine.{IsListRow, SecondIsList, MayBegin, widest};
+ghost use Rattle.store_model.specs.Steps.{MayCreate};
+ghost use Rattle.store_model.specs.Shown.{shown};
 ghost use Rattle.store_core.specs.Planning.{PlansStep, state_seen};
-ghost use Rattle.store_core.specs.declared.step.StoreStep.TheVariants.{LoadBucket};
+ghost use Rattle.store_model.specs.declared.step.StoreStep.TheVariants.{LoadBucket};
 
 use crate::machine::change::{Change, Sight};
 use crate::machine::contents::bucket_of;
@@ -17,9 +17,9 @@ use crate::machine::naming::{is_named, named_rows};
 use crate::machine::rows::rows_of;
 use crate::machine::stages::begun;
 use crate::machine::table::Table;
-use crate::view::{Content, Place, Sizes};
 use faults::Memory;
 use lock_core::Phase;
+use store_model::{Content, Place, Sizes};
 use term_model::Head;
 
 /// The load that begins a creation.

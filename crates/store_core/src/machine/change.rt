@@ -2,8 +2,8 @@
 ghost use Rattle.std.specs.Prelude.{◌≡◌};
 
 use crate::machine::table::Table;
-use crate::view::{Place, View};
 use lock_core::LockState;
+use store_model::{Place, View};
 
 /// What one seat sees: the words, the lock, and its own view.
 #[derive(Drop)]

@@ -1,9 +1,9 @@
 //! The last store of a collection.
 ghost use Rattle.std.specs.Prelude.{◌≡◌, ◌++◌, ◌∷◌, [], if◌then◌else◌, IfOk, pred};
-ghost use Rattle.store_core.specs.Steps.{is_free, names_left};
-ghost use Rattle.store_core.specs.Collection.{collected};
-ghost use Rattle.store_core.specs.Shown.{shown};
-ghost use Rattle.store_core.specs.Words.{Base, InUse, FreePlace};
+ghost use Rattle.store_model.specs.Steps.{is_free, names_left};
+ghost use Rattle.store_model.specs.Collection.{collected};
+ghost use Rattle.store_model.specs.Shown.{shown};
+ghost use Rattle.store_model.specs.Words.{Base, InUse, FreePlace};
 ghost use Rattle.store_core.specs.Planning.{PlansClaim, PlansEnd};
 
 use crate::machine::change::{Change, Sight};
@@ -12,11 +12,11 @@ use crate::machine::ending::may_end;
 use crate::machine::moves::narrow;
 use crate::machine::staying::with_kept;
 use crate::machine::table::Table;
-use crate::view::{Call, Place, Stay, View};
 use faults::Memory;
 use history_core::Entry;
 use std::alloc::Global;
 use std::collections::LinkedList;
+use store_model::{Call, Place, Stay, View};
 
 /// The store of the claim, which ends a collection.
 pub(crate) fn plan_claim(sight: &Sight, value: u64) -> Result<Option<Change>, Memory>

@@ -2,13 +2,13 @@
 ghost use Rattle.std.specs.Prelude.{◌≡◌, ◌↔◌, ◌+◌, ◌^◌, ◌++◌, ◌∷◌, [], true, nat_lt, IfOk, IsTrue, length};
 ghost use Rattle.history_core.specs.Chronicle.{last_roots, roots_after};
 ghost use Rattle.lock_core.specs.Exclusion.{IsExclusive};
-ghost use Rattle.store_core.specs.Machine as machine;
-ghost use Rattle.store_core.specs.Steps.{loads, stores, worn_by, loading, is_stored, IsNextLoad, IsLoading, AreLastRoots, MayStore};
-ghost use Rattle.store_core.specs.Calls.{Ready, Storing};
-ghost use Rattle.store_core.specs.Invariant.{span};
-ghost use Rattle.store_core.specs.Shown.{shown, in_table};
+ghost use Rattle.store_model.specs.Machine as machine;
+ghost use Rattle.store_model.specs.Steps.{loads, stores, worn_by, loading, is_stored, IsNextLoad, IsLoading, AreLastRoots, MayStore};
+ghost use Rattle.store_model.specs.Calls.{Ready, Storing};
+ghost use Rattle.store_model.specs.Invariant.{span};
+ghost use Rattle.store_model.specs.Shown.{shown, in_table};
 ghost use Rattle.store_core.specs.Planning.{Plans, PlansStep};
-ghost use Rattle.store_core.specs.declared.step.StoreStep.TheVariants.{LoadAny};
+ghost use Rattle.store_model.specs.declared.step.StoreStep.TheVariants.{LoadAny};
 
 use crate::machine::acting::same_place;
 use crate::machine::change::{Change, Sight};
@@ -18,10 +18,10 @@ use crate::machine::moves::with_call;
 use crate::machine::rooting::protected_rows;
 use crate::machine::rows::{rows_of, words_in};
 use crate::machine::whole::{first_loaded, is_whole};
-use crate::view::{Call, Place, Sizes, Stay, View};
 use faults::Memory;
 use history_core::Entry;
 use std::collections::LinkedList;
+use store_model::{Call, Place, Sizes, Stay, View};
 
 /// A load.
 pub(crate) fn plan_load_any(sight: &Sight, place: Place) -> Result<Option<Change>, Memory>

@@ -1,13 +1,12 @@
 //! Collections step by step: which of them end, and what they keep.
 use crate::machine::driving::{Driven, constant, notes};
-use crate::step::StoreStep;
-use crate::view::Sizes;
 use faults::Memory;
 use history_core::Entry;
 use lock_core::LockStep;
 use std::alloc::Global;
 use std::collections::LinkedList;
 use std::test::Fail;
+use store_model::{Sizes, StoreStep};
 
 // Four rows, one bucket, two seats, each with room for one protected row.
 const ROOMS: Sizes = Sizes {

@@ -1,13 +1,13 @@
 //! The words and the bucket of a content.
 ghost use Rattle.std.specs.Prelude.{◌≡◌, [], ◌∷◌, ◌++◌, length, get_or, IfOk, vec_len};
 ghost use Rattle.hash_buckets.specs.Hash.{hash_of, mixed_all};
-ghost use Rattle.store_core.specs.Calls.{words_of, bucket};
+ghost use Rattle.store_model.specs.Calls.{words_of, bucket};
 
-use crate::view::Content;
 use faults::Memory;
 use hash_buckets::{hash, symbol_word, with_word};
 use std::alloc::Global;
 use std::collections::LinkedList;
+use store_model::Content;
 use term_model::Head;
 
 /// The words that a row has for a content: the symbol word, the count of arguments, and the arguments, or an integer's value.

@@ -1,11 +1,10 @@
 //! Copies of what a seat knows, and of its steps.
 ghost use Rattle.std.specs.Prelude.{◌≡◌, IfOk};
 
-use crate::step::StoreStep;
-use crate::view::{Call, Content, KnownWord, Passed, Place, Refusal, View};
 use history_core::Entry;
 use std::alloc::AllocError;
 use std::collections::LinkedList;
+use store_model::{Call, Content, KnownWord, Passed, Place, Refusal, StoreStep, View};
 
 /// The same view.
 pub(crate) fn copy(view: &View) -> Result<View, AllocError>

@@ -1,9 +1,9 @@
 //! The next atomic action of a creation.
 ghost use Rattle.std.specs.Prelude.{◌≡◌, suc, ◌+◌, ◌==◌, if◌then◌else◌, IfOk, OnOk, OnErr};
-ghost use Rattle.store_core.specs.Machine as machine;
+ghost use Rattle.store_model.specs.Machine as machine;
 ghost use Rattle.store_core.specs.Running.{Acts};
-ghost use Rattle.store_core.specs.Shown.{shown};
-ghost use Rattle.store_core.specs.Words.{write};
+ghost use Rattle.store_model.specs.Shown.{shown};
+ghost use Rattle.store_model.specs.Words.{write};
 
 use crate::machine::contents::{bucket_of, word_at, words_of};
 use crate::machine::copies::copy;
@@ -11,9 +11,9 @@ use crate::machine::gaining::{after_counted, after_drawn, after_found, after_pub
 use crate::machine::moves::{narrow, sum, with_call};
 use crate::machine::stages::{after_compared, after_filled, after_passed, begun};
 use crate::machine::table::Table;
-use crate::view::{Call, Content, Place, View};
 use faults::Memory;
 use std::mem;
+use store_model::{Call, Content, Place, View};
 
 /// The word that the action is on.
 pub(crate) fn place_of(view: &View) -> Result<Place, Memory>

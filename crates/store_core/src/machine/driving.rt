@@ -1,15 +1,14 @@
 //! A store with the steps that it was driven by.
-ghost use Rattle.store_core.specs.StoreValue.{MaySize};
+ghost use Rattle.store_model.specs.NewStore.{MaySize};
 
 use crate::machine::contents::{word_at, words_of};
 use crate::state::StoreState;
-use crate::step::StoreStep;
-use crate::view::{Call, Content, Place, Sizes, View};
 use faults::Memory;
 use history_core::Entry;
 use lock_core::LockStep;
 use std::alloc::Global;
 use std::collections::LinkedList;
+use store_model::{Call, Content, Place, Sizes, StoreStep, View};
 use term_model::{Head, Symbol};
 
 // Two rows, one bucket, two seats.

@@ -1,19 +1,19 @@
 //! Whether a collection may end.
 ghost use Rattle.std.specs.Prelude.{◌≡◌, ℕ, ◌↔◌, List, [], ◌∷◌, ◌++◌, IfOk, IsTrue, MatchOption};
-ghost use Rattle.store_core.specs.Machine.{State};
-ghost use Rattle.store_core.specs.Words.{Place};
-ghost use Rattle.store_core.specs.Shown.{shown};
-ghost use Rattle.store_core.specs.Steps.{MayEnd, grown_use, value_at};
-ghost use Rattle.store_core.specs.Ending.{BaseFollows, IsBroken, IsEnding, Keeps, UseFollows};
+ghost use Rattle.store_model.specs.Machine.{State};
+ghost use Rattle.store_model.specs.Words.{Place};
+ghost use Rattle.store_model.specs.Shown.{shown};
+ghost use Rattle.store_model.specs.Steps.{MayEnd, grown_use, value_at};
+ghost use Rattle.store_model.specs.Ending.{BaseFollows, IsBroken, IsEnding, Keeps, UseFollows};
 
 use crate::machine::marked_chains::chains_stand;
 use crate::machine::marking::{are_opposite, count_left, free_rows};
 use crate::machine::reached::reached_rows;
 use crate::machine::table::Table;
-use crate::view::{Place, Sizes};
 use faults::Memory;
 use std::alloc::Global;
 use std::collections::LinkedList;
+use store_model::{Place, Sizes};
 
 // Whether two places are the same.
 fn is_same(p: Place, q: Place) -> bool

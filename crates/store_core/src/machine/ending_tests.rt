@@ -1,10 +1,10 @@
 use crate::machine::ending::may_end;
 use crate::machine::table::Table;
-use crate::view::{Place, Sizes};
 use faults::Memory;
 use std::alloc::Global;
 use std::collections::LinkedList;
 use std::test::Fail;
+use store_model::{Place, Sizes};
 
 const SIZES: Sizes = Sizes {
     rows: 4,

@@ -1,11 +1,11 @@
 //! What the seats of a new store know.
 ghost use Rattle.std.specs.Prelude.{◌≡◌, IfOk, replicate};
-ghost use Rattle.store_core.specs.Steps.{newcomer};
+ghost use Rattle.store_model.specs.Steps.{newcomer};
 
-use crate::view::{Call, Sizes, Stay, View};
 use faults::Memory;
 use std::alloc::Global;
 use std::collections::LinkedList;
+use store_model::{Call, Sizes, Stay, View};
 
 /// A view for each seat, which has done nothing.
 pub(crate) fn new_views(alloc: Global, sizes: &Sizes) -> Result<Vec<View>, Memory>

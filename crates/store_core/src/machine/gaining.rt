@@ -1,18 +1,18 @@
 //! How a creation ends: with a row, or with Full.
 ghost use Rattle.std.specs.Prelude.{◌≡◌, ◌++◌, IfOk};
-ghost use Rattle.store_core.specs.Calls.{words_of};
-ghost use Rattle.store_core.specs.Machine as machine;
-ghost use Rattle.store_core.specs.declared.view.Content.{Content};
-ghost use Rattle.store_core.specs.declared.view.Call.TheVariants.{Finding, Counting, Drawing, Publishing};
+ghost use Rattle.store_model.specs.Calls.{words_of};
+ghost use Rattle.store_model.specs.Machine as machine;
+ghost use Rattle.store_model.specs.declared.view.Content.{Content};
+ghost use Rattle.store_model.specs.declared.view.Call.TheVariants.{Finding, Counting, Drawing, Publishing};
 
 use crate::machine::contents::words_of;
 use crate::machine::copies::copy_path;
 use crate::machine::moves::{narrow, sum, with_call};
 use crate::machine::stages::arrived;
-use crate::view::{Call, Content, KnownWord, Refusal, View};
 use faults::Memory;
 use history_core::Entry;
 use std::collections::LinkedList;
+use store_model::{Call, Content, KnownWord, Refusal, View};
 
 // The words of row r, before those that are known already.
 #[tactic(auto, using(crate::proofs::Contents::known_more, crate::proofs::Contents::known_none))]

@@ -1,14 +1,13 @@
 //! What a seat keeps over the collection of another.
 use crate::machine::driving::{Driven, constant, notes};
 use crate::state::replay;
-use crate::step::StoreStep;
-use crate::view::{Content, KnownWord, Sizes};
 use faults::Memory;
 use history_core::Entry;
 use lock_core::LockStep;
 use std::alloc::Global;
 use std::collections::LinkedList;
 use std::test::Fail;
+use store_model::{Content, KnownWord, Sizes, StoreStep};
 use term_model::{Head, Symbol};
 
 // Six rows, one bucket, two seats, each with room for two protected rows.

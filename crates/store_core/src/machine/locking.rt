@@ -3,20 +3,20 @@ ghost use Rattle.std.specs.Prelude.{◌≡◌, ◌≢◌, ◌⊎◌, ◌↔◌, 
 ghost use Rattle.lock_core.specs.Lock.{seat_of};
 ghost use Rattle.lock_core.specs.Exclusion.{IsExclusive};
 ghost use Rattle.lock_core.specs.declared.parts.Standing.TheVariants.{Held};
-ghost use Rattle.store_core.specs.Calls.{Idle, Away};
-ghost use Rattle.store_core.specs.Machine.{left, InAccess, LockAlone, LowerShared, UnaskSeat, GiveGranted, protected_in};
-ghost use Rattle.store_core.specs.Steps.{IsAtRest, MayLeave};
+ghost use Rattle.store_model.specs.Calls.{Idle, Away};
+ghost use Rattle.store_model.specs.Machine.{left, InAccess, LockAlone, LowerShared, UnaskSeat, GiveGranted, protected_in};
+ghost use Rattle.store_model.specs.Steps.{IsAtRest, MayLeave};
 ghost use Rattle.store_core.specs.Planning.{Plans, PlansStep};
-ghost use Rattle.store_core.specs.declared.step.StoreStep.TheVariants.{Lock, LoadBase, LoadInUse};
+ghost use Rattle.store_model.specs.declared.step.StoreStep.TheVariants.{Lock, LoadBase, LoadInUse};
 
 use crate::machine::change::{Change, Sight};
 use crate::machine::copies::copy;
 use crate::machine::moves::{based, leaving, left, narrow, ready};
 use crate::machine::rooting::protected_rows;
 use crate::machine::rows::list_of;
-use crate::view::{Call, Place, Stay, View};
 use faults::Memory;
 use lock_core::{LockState, LockStep, Phase, Standing};
+use store_model::{Call, Place, Stay, View};
 
 /// The phase of a seat; one that isn't there is out.
 pub(crate) fn phase_of(lock: &LockState, seat: u32) -> Phase

@@ -1,17 +1,17 @@
 //! The chains of the rows that are marked.
 ghost use Rattle.std.specs.Prelude.{◌≡◌, ◌⊎◌, ◌<◌, ◌≤◌, ◌↔◌, ℕ, IfOk, IsTrue, MatchBool, MatchOption, length, get_or};
-ghost use Rattle.store_core.specs.Shown.{shown};
-ghost use Rattle.store_core.specs.Words.{Claim, InUse, write};
-ghost use Rattle.store_core.specs.Meaning.{Meaning};
-ghost use Rattle.store_core.specs.Invariant.{ChainsHold};
-ghost use Rattle.store_core.specs.MarkedChains.{AllStand, ChainsMarked, IsChain, IsMeant, IsSound, NotMeant, OneStrays, StandInFirst, StandsIn, UsesBuckets};
+ghost use Rattle.store_model.specs.Shown.{shown};
+ghost use Rattle.store_model.specs.Words.{Claim, InUse, write};
+ghost use Rattle.store_model.specs.Meaning.{Meaning};
+ghost use Rattle.store_model.specs.Invariant.{ChainsHold};
+ghost use Rattle.store_model.specs.MarkedChains.{AllStand, ChainsMarked, IsChain, IsMeant, IsSound, NotMeant, OneStrays, StandInFirst, StandsIn, UsesBuckets};
 
 use crate::machine::marking::{are_marked, mark_rows, no_marks};
 use crate::machine::row_contents::stands_in;
 use crate::machine::table::Table;
-use crate::view::Place;
 use faults::Memory;
 use std::alloc::Global;
+use store_model::Place;
 
 // The rows of a bucket's chain; None where it doesn't end after rows of the store, each once.
 fn chain_of(alloc: Global, table: &Table, number: u32) -> Result<Option<Vec<u32>>, Memory>

@@ -1,15 +1,15 @@
 //! Marks of the rows in free places, and of those that are reached.
 ghost use Rattle.std.specs.Prelude.{◌≡◌, ◌<◌, ◌↔◌, ℕ, [], false, IfOk, IsTrue, OnOk, MatchBool, MatchOption, length, get_or, vec_len, replicate};
 ghost use Rattle.store_core.specs.RowLists.{count_place, item_place, IsPast};
-ghost use Rattle.store_core.specs.Shown.{shown};
-ghost use Rattle.store_core.specs.Steps.{rows_left};
-ghost use Rattle.store_core.specs.Marks.{Marks, Adds, AreNotApart, AreOpposite, Halfway, IsMarked, MarksFree, MarksPlaces, MarksReached, ReachesPast, Repeats};
+ghost use Rattle.store_model.specs.Shown.{shown};
+ghost use Rattle.store_model.specs.Steps.{rows_left};
+ghost use Rattle.store_model.specs.Marks.{Marks, Adds, AreNotApart, AreOpposite, Halfway, IsMarked, MarksFree, MarksPlaces, MarksReached, ReachesPast, Repeats};
 
 use crate::machine::row_lists::{RowList, rows_of};
 use crate::machine::table::Table;
-use crate::view::Place;
 use faults::Memory;
 use std::alloc::Global;
+use store_model::Place;
 
 /// No mark at any of so many rows.
 pub(crate) fn no_marks(alloc: Global, rows: u32) -> Result<Vec<bool>, Memory>

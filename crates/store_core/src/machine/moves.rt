@@ -1,13 +1,13 @@
 //! What a seat knows after it has entered, read a row, or left.
 ghost use Rattle.std.specs.Prelude.{◌≡◌, ◌+◌, ◌==◌, if◌then◌else◌, IfOk};
-ghost use Rattle.store_core.specs.Machine as machine;
-ghost use Rattle.store_core.specs.Machine.{rows_kept, words_kept};
+ghost use Rattle.store_model.specs.Machine as machine;
+ghost use Rattle.store_model.specs.Machine.{rows_kept, words_kept};
 
 use crate::machine::staying::with_kept;
-use crate::view::{Call, KnownWord, Stay, View};
 use faults::Memory;
 use history_core::Entry;
 use std::collections::LinkedList;
+use store_model::{Call, KnownWord, Stay, View};
 
 /// A word as the number of a row, or of a row and 1. Rows have numbers of 32 bits, so every word that is one fits.
 pub(crate) fn narrow(word: u64) -> Result<u32, Memory>

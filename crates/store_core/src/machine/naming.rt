@@ -1,16 +1,16 @@
 //! The rows that a seat may name.
 ghost use Rattle.std.specs.Prelude.{◌≡◌, ◌↔◌, ◌<◌, ℕ, List, [], ◌∷◌, false, get_or, IfOk, OnOk, replicate};
-ghost use Rattle.store_core.specs.Words.{RootCount, Root};
-ghost use Rattle.store_core.specs.Machine.{Each, MayName};
-ghost use Rattle.store_core.specs.Shown.{shown};
+ghost use Rattle.store_model.specs.Words.{RootCount, Root};
+ghost use Rattle.store_model.specs.Machine.{Each, MayName};
+ghost use Rattle.store_model.specs.Shown.{shown};
 ghost use Rattle.store_core.specs.Naming.{IsMarked, Halfway, Visits};
 
 use crate::machine::moves::narrow;
 use crate::machine::rows::rows_of;
 use crate::machine::table::Table;
-use crate::view::{Place, View};
 use faults::Memory;
 use std::alloc::Global;
+use store_model::{Place, View};
 
 /// Marked rows, and those of them whose arguments are still to be marked.
 #[derive(Drop)]

@@ -1,9 +1,9 @@
 //! The plan of any step of a seat, and its making.
 ghost use Rattle.std.specs.Prelude.{◌≡◌, ◌<◌, length, IfOk, IsTrue};
-ghost use Rattle.store_core.specs.Shown.{shown};
-ghost use Rattle.store_core.specs.StoreHolds.{StoreHolds};
+ghost use Rattle.store_model.specs.Shown.{shown};
+ghost use Rattle.store_model.specs.StoreHolds.{StoreHolds};
 ghost use Rattle.store_core.specs.Planning.{Serves, PlansStep, Planned, HasPlace, IsInside, state_by, changed, words_with, lock_with};
-ghost use Rattle.store_core.specs.declared.step.StoreStep.TheVariants.{StoreDrawn, Publish};
+ghost use Rattle.store_model.specs.declared.step.StoreStep.TheVariants.{StoreDrawn, Publish};
 
 use crate::machine::acting::{NextAct, plan_act, row_place};
 use crate::machine::beginning::plan_begin;
@@ -15,10 +15,9 @@ use crate::machine::protecting::{
     plan_load_root, plan_load_row, plan_store_count, plan_store_root,
 };
 use crate::machine::table::Table;
-use crate::step::StoreStep;
-use crate::view::{Place, View};
 use faults::Memory;
 use lock_core::LockState;
+use store_model::{Place, StoreStep, View};
 
 // The plan of a step, by what the seat sees.
 fn plan(sight: &Sight, step: StoreStep) -> Result<Option<Change>, Memory>

@@ -1,13 +1,13 @@
 //! The steps on the own protected rows, and the reads of a row.
 ghost use Rattle.std.specs.Prelude.{◌≡◌, ◌⊎◌, ◌↔◌, ℕ, ◌-◌, ◌<◌, ◌≤◌, IfOk, IsTrue, MatchBool};
-ghost use Rattle.store_core.specs.Words.{RowWord, Root};
-ghost use Rattle.store_core.specs.Machine.{MayName, ReadWord, ReadArgument};
-ghost use Rattle.store_core.specs.Steps.{MayRead};
-ghost use Rattle.store_core.specs.Shown.{shown};
-ghost use Rattle.store_core.specs.StoreSteps.{read_meant};
+ghost use Rattle.store_model.specs.Words.{RowWord, Root};
+ghost use Rattle.store_model.specs.Machine.{MayName, ReadWord, ReadArgument};
+ghost use Rattle.store_model.specs.Steps.{MayRead};
+ghost use Rattle.store_model.specs.Shown.{shown};
+ghost use Rattle.store_model.specs.StoreSteps.{read_meant};
 ghost use Rattle.store_core.specs.Planning.{Plans, PlansStep};
 ghost use Rattle.store_core.specs.Naming.{IsMarked};
-ghost use Rattle.store_core.specs.declared.step.StoreStep.TheVariants.{StoreRoot, StoreRootCount, LoadRoot, LoadRow};
+ghost use Rattle.store_model.specs.declared.step.StoreStep.TheVariants.{StoreRoot, StoreRootCount, LoadRoot, LoadRow};
 
 use crate::machine::acting::{NextAct, plan_act, row_place};
 use crate::machine::change::{Change, Sight};
@@ -17,8 +17,8 @@ use crate::machine::moves::{knowing, narrow, with_got};
 use crate::machine::naming::{is_named, named_rows};
 use crate::machine::rooting::{root_counted, rooted};
 use crate::machine::table::Table;
-use crate::view::Place;
 use faults::Memory;
+use store_model::Place;
 
 /// The load of an own protected row.
 pub(crate) fn plan_load_root(sight: &Sight, k: u32) -> Result<Option<Change>, Memory>

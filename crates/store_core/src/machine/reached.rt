@@ -1,8 +1,8 @@
 //! The rows that are reached from every seat's protected rows.
 ghost use Rattle.std.specs.Prelude.{◌≡◌, ◌<◌, ℕ, [], false, IfOk, OnOk, MatchBool, MatchOption, length, get_or, replicate};
 ghost use Rattle.store_core.specs.RowLists.{count_place, item_place, IsPast};
-ghost use Rattle.store_core.specs.Shown.{shown};
-ghost use Rattle.store_core.specs.Marks.{Adds, Halfway, MarksReached, ReachesPast};
+ghost use Rattle.store_model.specs.Shown.{shown};
+ghost use Rattle.store_model.specs.Marks.{Adds, Halfway, MarksReached, ReachesPast};
 
 use crate::machine::marking::no_marks;
 use crate::machine::row_lists::{RowList, rows_of};

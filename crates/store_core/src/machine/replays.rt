@@ -2,13 +2,13 @@
 use crate::machine::driving::{Driven, SMALL, notes};
 use crate::machine::locking::phase_of;
 use crate::state::{StoreState, replay};
-use crate::step::StoreStep;
 use faults::Memory;
 use history_core::Entry;
 use lock_core::{LockStep, Phase};
 use std::alloc::Global;
 use std::collections::LinkedList;
 use std::test::Fail;
+use store_model::StoreStep;
 use term_model::{Head, Symbol};
 
 fn list(alloc: Global, one: Entry, other: Entry) -> Result<LinkedList<Entry>, Memory> {

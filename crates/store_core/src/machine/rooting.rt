@@ -1,12 +1,12 @@
 //! What a seat knows after a store of its protected rows.
 ghost use Rattle.std.specs.Prelude.{◌≡◌, ◌≤◌, ◌++◌, IfOk, length, drop};
-ghost use Rattle.store_core.specs.Machine as machine;
-ghost use Rattle.store_core.specs.Machine.{protected_in};
+ghost use Rattle.store_model.specs.Machine as machine;
+ghost use Rattle.store_model.specs.Machine.{protected_in};
 
 use crate::machine::rows::{list_of, rows_of};
-use crate::view::View;
 use faults::Memory;
 use std::collections::LinkedList;
+use store_model::View;
 
 /// Another row is stored as a protected one: the row before it was protected in this epoch.
 pub(crate) fn rooted(mut view: View, k: u32, row: u32) -> Result<View, Memory>

@@ -3,17 +3,17 @@ ghost use Rattle.std.specs.Prelude.{◌≡◌, ℕ, IfOk, MatchBool, MatchOption
 ghost use Rattle.term_model.specs.declared.Head.{Head};
 ghost use Rattle.store_core.specs.RowLists.{IsList};
 ghost use Rattle.store_core.specs.declared.machine.row_lists.RowList.TheVariants.{Arguments};
-ghost use Rattle.store_core.specs.Shown.{shown};
-ghost use Rattle.store_core.specs.MarkedChains.{HasWords, HasContent, HasNone, StandsIn, Strays};
+ghost use Rattle.store_model.specs.Shown.{shown};
+ghost use Rattle.store_model.specs.MarkedChains.{HasWords, HasContent, HasNone, StandsIn, Strays};
 
 use crate::machine::contents::bucket_of;
 use crate::machine::row_lists::{RowList, rows_of};
 use crate::machine::table::Table;
-use crate::view::{Content, Place};
 use faults::Memory;
 use hash_buckets::symbol_word;
 use std::alloc::Global;
 use std::collections::LinkedList;
+use store_model::{Content, Place};
 use term_model::{Head, Symbol};
 
 // The head with these words and so many arguments.

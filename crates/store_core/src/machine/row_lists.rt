@@ -1,13 +1,13 @@
 //! Lists of rows in the words of a store, each with its count.
 ghost use Rattle.std.specs.Prelude.{◌≡◌, MatchOption, IfOk};
-ghost use Rattle.store_core.specs.Shown.{shown};
+ghost use Rattle.store_model.specs.Shown.{shown};
 ghost use Rattle.store_core.specs.RowLists.{count_place, item_place, IsList, IsPast};
 
 use crate::machine::moves::narrow;
 use crate::machine::table::Table;
-use crate::view::Place;
 use faults::Memory;
 use std::alloc::Global;
+use store_model::Place;
 
 /// A list of rows in the words.
 #[derive(Clone, Copy, Drop)]

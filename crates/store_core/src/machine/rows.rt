@@ -1,10 +1,10 @@
 //! Lists of rows as vectors, and back.
 ghost use Rattle.std.specs.Prelude.{◌≡◌, IfOk};
 
-use crate::view::Place;
 use faults::Memory;
 use std::alloc::Global;
 use std::collections::LinkedList;
+use store_model::Place;
 
 /// The rows of a list.
 pub(crate) fn rows_of(list: &LinkedList<u32>) -> Result<Vec<u32>, Memory>

@@ -3,13 +3,12 @@ use crate::machine::driving::next_step;
 use crate::machine::locking::phase_of;
 use crate::machine::sweeping::{load_or_store, nth_store, stores_for};
 use crate::state::StoreState;
-use crate::step::StoreStep;
-use crate::view::{Call, Content, Place, Sizes, Stay, View};
 use faults::Memory;
 use history_core::Entry;
 use lock_core::{LockStep, Phase, Standing};
 use std::alloc::Global;
 use std::collections::LinkedList;
+use store_model::{Call, Content, Place, Sizes, Stay, StoreStep, View};
 use term_model::{Head, Symbol};
 
 // Two rows, one bucket, two seats, each with room for one protected row.

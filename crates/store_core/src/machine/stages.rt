@@ -1,13 +1,13 @@
 //! What a seat knows after a stage of a creation, by what it knew and the word that it found.
 ghost use Rattle.std.specs.Prelude.{◌≡◌, suc, IfOk};
-ghost use Rattle.store_core.specs.Machine as machine;
-ghost use Rattle.store_core.specs.declared.view.Call.TheVariants.{Comparing, Passing, Filling};
+ghost use Rattle.store_model.specs.Machine as machine;
+ghost use Rattle.store_model.specs.declared.view.Call.TheVariants.{Comparing, Passing, Filling};
 
 use crate::machine::contents::{word_at, words_of};
 use crate::machine::moves::{narrow, with_call};
-use crate::view::{Call, Content, Passed, View};
 use faults::Memory;
 use std::collections::LinkedList;
+use store_model::{Call, Content, Passed, View};
 
 // The next number.
 fn next(n: u32) -> Result<u32, Memory>

@@ -1,16 +1,16 @@
 //! What a seat still knows when its epoch ends: what its protected rows lead to by the words that it knows.
 ghost use Rattle.std.specs.Prelude.{◌≡◌, ◌∷◌, ◌++◌, [], if◌then◌else◌, IfOk, nat_lt, ◌+◌};
 ghost use Rattle.std.specs.List.{list_any};
-ghost use Rattle.store_core.specs.Machine.{rows_kept, words_kept};
-ghost use Rattle.store_core.specs.Staying.{is_among, is_argument, is_next, is_within, joined, led_to, words_of_rows};
+ghost use Rattle.store_model.specs.Machine.{rows_kept, words_kept};
+ghost use Rattle.store_model.specs.Staying.{is_among, is_argument, is_next, is_within, joined, led_to, words_of_rows};
 
 use crate::machine::moves::narrow;
 use crate::machine::rooting::protected_rows;
 use crate::machine::rows::list_of;
-use crate::view::{KnownWord, View};
 use faults::Memory;
 use std::alloc::Global;
 use std::collections::LinkedList;
+use store_model::{KnownWord, View};
 
 /// The view with what it keeps alone: the rows, and their words.
 pub(crate) fn with_kept(mut view: View) -> Result<View, Memory>

@@ -1,11 +1,10 @@
 //! What a collection of constants loads and stores, in a store of two rows, one bucket and two seats.
 use crate::machine::acting::same_place;
 use crate::machine::copies::copy_step;
-use crate::step::StoreStep;
-use crate::view::Place;
 use faults::Memory;
 use std::alloc::Global;
 use std::collections::LinkedList;
+use store_model::{Place, StoreStep};
 
 // The words that a collection loads, in its order.
 fn places(alloc: Global) -> Result<Vec<Place>, Memory> {

@@ -1,15 +1,15 @@
 //! The words of a store, in their places.
 ghost use Rattle.std.specs.Prelude.{◌≡◌, ◌+◌, ◌*◌, ◌<◌, ◌≤◌, ◌^◌, true, false, length, vec_len, slice_index, slice_set, replicate, MatchOption, IfOk};
-ghost use Rattle.store_core.specs.Shown.{in_table, index_of, shown, total};
-ghost use Rattle.store_core.specs.Machine.{widest};
+ghost use Rattle.store_model.specs.Shown.{in_table, index_of, shown, total};
+ghost use Rattle.store_model.specs.Machine.{widest};
 ghost use Rattle.store_core.specs.Table.{IsPlaceOf};
 ghost use Rattle.store_core.specs.Running.{IsBegun};
-ghost use Rattle.store_core.specs.Words.{Place, write};
-ghost use Rattle.store_core.specs.declared.view.Place.TheVariants.{FreePlace, Bucket, RowWord, Birth, Next, RootCount, Root};
+ghost use Rattle.store_model.specs.Words.{Place, write};
+ghost use Rattle.store_model.specs.declared.view.Place.TheVariants.{FreePlace, Bucket, RowWord, Birth, Next, RootCount, Root};
 
-use crate::view::{Place, Sizes};
 use faults::Memory;
 use std::alloc::Global;
+use store_model::{Place, Sizes};
 
 /// The words of a store. Those of the lock, before them, stay 0: the machine has the lock beside them.
 #[derive(Drop)]

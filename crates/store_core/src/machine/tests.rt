@@ -2,12 +2,12 @@ use crate::machine::copies::copy;
 use crate::machine::creation::{begin, go};
 use crate::machine::moves::{based, ready};
 use crate::machine::table::Table;
-use crate::view::{Call, Content, Place, Sizes, Stay, View};
 use faults::Memory;
 use history_core::Entry;
 use std::alloc::Global;
 use std::collections::LinkedList;
 use std::test::Fail;
+use store_model::{Call, Content, Place, Sizes, Stay, View};
 use term_model::{Head, Symbol};
 
 const SIZES: Sizes = Sizes {

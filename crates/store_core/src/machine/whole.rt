@@ -1,8 +1,8 @@
 //! Whether a collection has loaded all words.
 ghost use Rattle.std.specs.Prelude.{◌≡◌, ◌↔◌, ℕ, ◌<◌, IfOk, IsTrue, MatchBool};
-ghost use Rattle.store_core.specs.Steps.{value_at, IsWhole};
-ghost use Rattle.store_core.specs.Shown.{shown};
-ghost use Rattle.store_core.specs.Words.{Base, Claim, FreeCount, InUse, RootCount};
+ghost use Rattle.store_model.specs.Steps.{value_at, IsWhole};
+ghost use Rattle.store_model.specs.Shown.{shown};
+ghost use Rattle.store_model.specs.Words.{Base, Claim, FreeCount, InUse, RootCount};
 ghost use Rattle.store_core.specs.Lines.{place_on, IsLoadedRight, LoadsLine};
 ghost use Rattle.store_core.specs.declared.machine.whole.Line.TheVariants.{FreePlaces, Buckets, Births, Nexts, RootCounts, Words, Roots};
 
@@ -10,8 +10,8 @@ use crate::machine::acting::same_place;
 use crate::machine::beginning::widest_of;
 use crate::machine::moves::narrow;
 use crate::machine::table::Table;
-use crate::view::Place;
 use faults::Memory;
+use store_model::Place;
 
 /// Words that stand side by side.
 #[derive(Clone, Copy, Drop)]

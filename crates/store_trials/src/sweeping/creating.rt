@@ -1,7 +1,7 @@
 //! Creations after a collection, in stores with answers worked out by hand.
 ghost use Rattle.std.specs.Prelude.{◌≡◌, true, IfOk};
 ghost use Rattle.lock_core.specs.declared.parts.Phase.TheVariants.{Shared};
-ghost use Rattle.store_core.specs.Machine.{In};
+ghost use Rattle.store_model.specs.Machine.{In};
 ghost use Rattle.busy_forbidden.specs.Exclusive.{IsGranted};
 ghost use Rattle.node_rows.specs.Inside.{IsInside};
 ghost use Rattle.node_rows.specs.Told.{Tells};
@@ -12,7 +12,7 @@ use node_rows::{Last, Pass, Store, last};
 use root_sets::root_at;
 use std::process::Abort;
 use std::test::Fail;
-use store_core::Sizes;
+use store_model::Sizes;
 use sweep_phase::{Kept, TryCollect, collect, collect_now, create_exclusive};
 use term_create::{Full, create};
 use term_model::{Head, Row, Symbol};

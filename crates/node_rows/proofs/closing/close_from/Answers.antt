@@ -3,12 +3,12 @@ use Rattle.std.proofs.lemmas.List.{length-map}
 use Rattle.std.proofs.lemmas.List.Elements.{All-from_recursion}
 use Rattle.history_core.specs.declared.entry.Entry.{Entry}
 use Rattle.history_core.specs.Chronicle.{chronicle, IsLegal}
-use Rattle.store_core.specs.declared.view.Sizes.{Sizes}
-use Rattle.store_core.specs.Bases.{StaysBelow, collect_numbers}
-use Rattle.store_core.specs.Invariant.{span}
-use Rattle.store_core.specs.Machine.{Each}
-use Rattle.store_core.specs.Recalls.{EntriesRecalled}
-use Rattle.store_core.proofs.Histories.{listed_length}
+use Rattle.store_model.specs.declared.view.Sizes.{Sizes}
+use Rattle.store_model.specs.Bases.{StaysBelow, collect_numbers}
+use Rattle.store_model.specs.Invariant.{span}
+use Rattle.store_model.specs.Machine.{Each}
+use Rattle.store_model.specs.Recalls.{EntriesRecalled}
+use Rattle.store_model.proofs.Histories.{listed_length}
 use Rattle.node_rows.specs.declared.view.NodeView.{NodeView}
 use Rattle.node_rows.specs.Joining.{gathered, HasBase}
 use Rattle.node_rows.specs.Crowding.{IsCrowd}

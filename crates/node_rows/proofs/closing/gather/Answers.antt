@@ -1,6 +1,6 @@
 use Rattle.std.proofs.Common.{sym, ap, subst, arith}
 use Rattle.atomic_table.specs.Table.{Joins}
-use Rattle.store_core.specs.declared.view.Sizes.{Sizes}
+use Rattle.store_model.specs.declared.view.Sizes.{Sizes}
 use Rattle.node_rows.specs.Joining.{ShowsJoined, both_views, spent_view}
 use Rattle.node_rows.proofs.Joins.{joins_seat}
 use Rattle.node_rows.proofs.closing.gather.Goals as goal

@@ -1,6 +1,6 @@
 use Rattle.std.proofs.Common.{◌≡◌, sym, ap, subst, arith}
 use Rattle.atomic_table.specs.Table.{Allows}
-use Rattle.store_core.specs.declared.view.Sizes.{Sizes}
+use Rattle.store_model.specs.declared.view.Sizes.{Sizes}
 use Rattle.node_rows.specs.Joining.{ShowsJoined, TellsAll}
 use Rattle.node_rows.proofs.Joins.{looks_at}
 use Rattle.node_rows.proofs.closing.look.Goals as goal

@@ -1,4 +1,4 @@
-use Rattle.store_core.specs.Machine.{LoadAny}
+use Rattle.store_model.specs.Machine.{LoadAny}
 use Rattle.node_rows.proofs.collecting.load_any.Given as goal
 
 abbrev pub ghosts-load_place : goal.ghosts-load_place

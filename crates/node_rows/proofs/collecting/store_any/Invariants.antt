@@ -1,4 +1,4 @@
-use Rattle.store_core.specs.Machine.{StoreAny}
+use Rattle.store_model.specs.Machine.{StoreAny}
 use Rattle.node_rows.proofs.collecting.store_any.Given as goal
 
 abbrev pub ghosts-store_place : goal.ghosts-store_place

@@ -1,6 +1,6 @@
 use Rattle.std.proofs.Common.{refl, ap, subst}
-use Rattle.store_core.specs.declared.view.Sizes.{Sizes}
-use Rattle.store_core.specs.declared.view.Place.TheVariants.{Claim}
+use Rattle.store_model.specs.declared.view.Sizes.{Sizes}
+use Rattle.store_model.specs.declared.view.Place.TheVariants.{Claim}
 use Rattle.node_rows.specs.Collecting.{HasStore}
 use Rattle.node_rows.specs.Crowding.{HasCrowd}
 use Rattle.node_rows.proofs.Crowding.{ended_kept}

@@ -1,7 +1,7 @@
 use Rattle.std.proofs.Common.{ℕ, sym, subst}
 use Rattle.atomic_table.specs.Table.{Allows}
-use Rattle.store_core.specs.declared.view.Sizes.{Sizes}
-use Rattle.store_core.specs.Machine.{Step, StoreAny}
+use Rattle.store_model.specs.declared.view.Sizes.{Sizes}
+use Rattle.store_model.specs.Machine.{Step, StoreAny}
 use Rattle.node_rows.specs.Joining.{ShowsJoined}
 use Rattle.node_rows.specs.Collecting.{MayCollect}
 use Rattle.node_rows.proofs.Plays.{word_fits}

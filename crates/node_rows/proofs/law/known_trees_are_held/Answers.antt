@@ -1,7 +1,7 @@
 use Rattle.std.proofs.Common.{ℕ, sym, subst}
-use Rattle.store_core.specs.declared.view.View.{View}
-use Rattle.store_core.specs.Steps.{IsAtRest}
-use Rattle.store_core.proofs.Eight.{inductive}
+use Rattle.store_model.specs.declared.view.View.{View}
+use Rattle.store_model.specs.Steps.{IsAtRest}
+use Rattle.store_model.proofs.Eight.{inductive}
 use Rattle.node_rows.specs.Knowing.{KnowsTree}
 use Rattle.node_rows.specs.Shown.{state_of}
 use Rattle.node_rows.specs.Locking.{store_here}

@@ -1,8 +1,8 @@
 use Rattle.std.proofs.Common.{ℕ, sym, subst}
-use Rattle.store_core.specs.declared.view.View.{View}
-use Rattle.store_core.specs.Machine.{In, has_got}
-use Rattle.store_core.specs.Steps.{IsAtRest}
-use Rattle.store_core.proofs.RecallsHold.{named_are_recalled}
+use Rattle.store_model.specs.declared.view.View.{View}
+use Rattle.store_model.specs.Machine.{In, has_got}
+use Rattle.store_model.specs.Steps.{IsAtRest}
+use Rattle.store_model.proofs.RecallsHold.{named_are_recalled}
 use Rattle.node_rows.specs.Joining.{with_views}
 use Rattle.node_rows.specs.Shown.{state_of}
 use Rattle.node_rows.specs.Recalling.{HoldsTold}

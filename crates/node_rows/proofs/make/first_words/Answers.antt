@@ -1,6 +1,6 @@
 use Rattle.std.proofs.Common.{◌≡◌, ℕ, suc, ◌+◌, set, sym, subst, arith}
-use Rattle.store_core.specs.declared.view.Place.TheVariants.{FreePlace}
-use Rattle.store_core.specs.Shown.{index_of}
+use Rattle.store_model.specs.declared.view.Place.TheVariants.{FreePlace}
+use Rattle.store_model.specs.Shown.{index_of}
 use Rattle.node_rows.specs.Opening.{UpTo}
 use Rattle.node_rows.proofs.Opens.{up_to_next}
 use Rattle.node_rows.proofs.make.first_words.Goals as goal

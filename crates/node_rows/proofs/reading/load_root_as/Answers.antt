@@ -1,4 +1,4 @@
-use Rattle.store_core.specs.Machine.{LoadRoot}
+use Rattle.store_model.specs.Machine.{LoadRoot}
 use Rattle.node_rows.specs.Steps.{place_of}
 use Rattle.node_rows.proofs.Plays.{word_fits, own_roots}
 use Rattle.node_rows.proofs.reading.load_root_as.Goals as goal

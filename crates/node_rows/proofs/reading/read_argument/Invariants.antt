@@ -1,4 +1,4 @@
-use Rattle.store_core.specs.Machine.{ReadArgument}
+use Rattle.store_model.specs.Machine.{ReadArgument}
 use Rattle.node_rows.proofs.reading.read_argument.Given as goal
 
 abbrev pub ghosts-load_chosen : goal.ghosts-load_chosen

@@ -1,4 +1,4 @@
-use Rattle.store_core.specs.Machine.{ReadWord}
+use Rattle.store_model.specs.Machine.{ReadWord}
 use Rattle.node_rows.proofs.reading.read_word.Given as goal
 
 abbrev pub ghosts-load_chosen : goal.ghosts-load_chosen

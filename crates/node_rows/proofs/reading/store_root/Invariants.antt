@@ -1,4 +1,4 @@
-use Rattle.store_core.specs.Machine.{StoreRoot}
+use Rattle.store_model.specs.Machine.{StoreRoot}
 use Rattle.node_rows.proofs.reading.store_root.Given as goal
 
 abbrev pub ghosts-store_chosen : goal.ghosts-store_chosen

@@ -1,4 +1,4 @@
-use Rattle.store_core.specs.Machine.{StoreCount}
+use Rattle.store_model.specs.Machine.{StoreCount}
 use Rattle.node_rows.proofs.reading.store_root_count.Given as goal
 
 abbrev pub ghosts-store_chosen : goal.ghosts-store_chosen

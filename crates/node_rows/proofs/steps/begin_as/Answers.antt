@@ -1,6 +1,6 @@
 use Rattle.std.proofs.Common.{sym, subst}
-use Rattle.store_core.specs.declared.view.Place.TheVariants.{Bucket}
-use Rattle.store_core.specs.Calls.{bucket}
+use Rattle.store_model.specs.declared.view.Place.TheVariants.{Bucket}
+use Rattle.store_model.specs.Calls.{bucket}
 use Rattle.node_rows.specs.Steps.{over, MayMake}
 use Rattle.term_model.specs.declared.Head.{Head}
 use Rattle.std.specs.Prelude.{ℕ, List}

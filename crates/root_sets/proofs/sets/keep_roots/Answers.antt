@@ -1,7 +1,7 @@
 use Rattle.std.proofs.Common.{◌≡◌, ◌∙◌, ◌+◌, ◌-◌, ◌<◌, ◌≤◌, inl, length, sym, ap, arith}
 use Rattle.std.proofs.lemmas.Bool.Decides.{nat_tests}
 use Rattle.node_rows.specs.declared.view.NodeView.{NodeView}
-use Rattle.store_core.specs.Machine.{protected_in}
+use Rattle.store_model.specs.Machine.{protected_in}
 use Rattle.root_sets.proofs.Keeping.{keeps_all, keeps_on, keeps_counted}
 use Rattle.root_sets.proofs.Ends.{ends_moved, ends_all}
 use Rattle.root_sets.proofs.Pushing.{counted}

@@ -1,6 +1,6 @@
 use Rattle.std.proofs.Common.{◌≡◌, ◌∙◌, ◌+◌, ◌<◌, length, sym, refl, true≢false, arith}
 use Rattle.std.proofs.lemmas.Bool.Decides.{nat_tests}
-use Rattle.store_core.specs.Machine.{protected_in}
+use Rattle.store_model.specs.Machine.{protected_in}
 use Rattle.root_sets.proofs.Keeping.{keeps_all, keeps_on, keeps_rooted, keeps_counted}
 use Rattle.root_sets.proofs.Pushing.{counted, push_uses, push_rows}
 use Rattle.root_sets.proofs.sets.push_root.Goals as goal

@@ -1,5 +1,5 @@
 use Rattle.std.proofs.Common.{◌≡◌, ◌∙◌, ◌<◌, ◌≤◌, ℕ, length, set, refl, sym, ap, subst, arith}
-use Rattle.store_core.specs.Machine.{In}
+use Rattle.store_model.specs.Machine.{In}
 use Rattle.node_rows.specs.Rows.{names}
 use Rattle.root_sets.proofs.Keeping.{keeps_all, keeps_on, each_kept, each_got}
 use Rattle.root_sets.proofs.Ends.{put_more}

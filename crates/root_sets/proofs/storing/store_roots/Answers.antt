@@ -1,7 +1,7 @@
 use Rattle.std.proofs.Common.{ℕ, List, ◌∙◌, ap, take, length, arith}
 use Rattle.node_rows.specs.Rows.{names}
 use Rattle.node_rows.specs.declared.view.NodeView.{NodeView}
-use Rattle.store_core.specs.Machine.{protected_in}
+use Rattle.store_model.specs.Machine.{protected_in}
 use Rattle.root_sets.proofs.Keeping.{keeps_on, keeps_counted, each_kept}
 use Rattle.root_sets.proofs.Pushing.{rows_use}
 use Rattle.root_sets.proofs.Numbers.{names_long}

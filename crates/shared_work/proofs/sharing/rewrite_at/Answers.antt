@@ -1,6 +1,6 @@
 use Rattle.std.proofs.Common.{List, sym, ap, subst, ◌∙◌}
 use Rattle.history_core.specs.Chronicle.{chronicle, IsLegal}
-use Rattle.store_core.specs.declared.view.Sizes.{Sizes}
+use Rattle.store_model.specs.declared.view.Sizes.{Sizes}
 use Rattle.std.specs.Prelude.{All, IfSome}
 use Rattle.shared_work.specs.Fronts.{NamesFronts}
 use Rattle.node_rows.specs.declared.store.Pass.{Pass}

@@ -1,9 +1,10 @@
 use Rattle.std.proofs.Common.{◌≡◌, ◌<◌, true, false, List, ℕ, length, subst, rules, arith}
 use Rattle.std.proofs.lemmas.Grind.{common_steps}
 use Rattle.std.proofs.lemmas.List.{take_all}
-use Rattle.store_core.specs.StoreSteps.{Leads}
-use Rattle.store_core.specs.StoreValue.{start_of, state_of, Stepped, Stayed}
-use Rattle.store_core.specs.declared.step.StoreStep.{StoreStep}
+use Rattle.store_model.specs.StoreSteps.{Leads}
+use Rattle.store_model.specs.NewStore.{start_of}
+use Rattle.store_core.specs.StoreValue.{state_of, Stepped, Stayed}
+use Rattle.store_model.specs.declared.step.StoreStep.{StoreStep}
 use Rattle.store_core.proofs.Applied.{replays_more, replays_stop, if_made, if_not_made}
 use Rattle.store_core.proofs.state.replay.Goals as goal
 

@@ -1,6 +1,7 @@
 use Rattle.std.proofs.Common.{◌≡◌, take}
-use Rattle.store_core.specs.StoreSteps.{Leads}
-use Rattle.store_core.specs.StoreValue.{start_of, state_of}
+use Rattle.store_model.specs.StoreSteps.{Leads}
+use Rattle.store_model.specs.NewStore.{start_of}
+use Rattle.store_core.specs.StoreValue.{state_of}
 use Rattle.store_core.proofs.state.replay.Given as goal
 
 abbrev pub invariant-loop-seat : goal.invariant-loop-seat

@@ -1,6 +1,6 @@
 use Rattle.std.proofs.Common.{◌≡◌, inl, ◌<◌, arith, subst, sym, refl}
 use Rattle.std.proofs.lemmas.Bool.Decides.{nat_tests}
-use Rattle.store_core.specs.ByView.{KnowsWord}
+use Rattle.store_model.specs.ByView.{KnowsWord}
 use Rattle.node_rows.specs.declared.view.NodeView.{NodeView}
 use Rattle.store_trials.proofs.creating.read_child.Goals as goal
 

@@ -1,5 +1,5 @@
 use Rattle.std.proofs.Common.{ℕ, List, inl, inr, refl, sym, subst}
-use Rattle.store_core.specs.Machine.{In}
+use Rattle.store_model.specs.Machine.{In}
 use Rattle.store_trials.proofs.roots.protect_constant.Goals as goal
 
 pub returns-clause-uses : goal.returns-clause-uses

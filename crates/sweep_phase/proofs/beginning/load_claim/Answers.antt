@@ -1,9 +1,9 @@
 use Rattle.std.proofs.Common.{◌≡◌, ◌+◌, ◌≤◌, [], ◌∷◌, ◌++◌, ap, ◌∙◌, subst}
-use Rattle.store_core.specs.declared.view.Place.TheVariants.{Base, Claim}
-use Rattle.store_core.specs.declared.view.Sizes.{Sizes}
-use Rattle.store_core.specs.declared.view.Call.{Call}
-use Rattle.store_core.specs.Machine.{with_call}
-use Rattle.store_core.specs.Steps.{loads, loading}
+use Rattle.store_model.specs.declared.view.Place.TheVariants.{Base, Claim}
+use Rattle.store_model.specs.declared.view.Sizes.{Sizes}
+use Rattle.store_model.specs.declared.view.Call.{Call}
+use Rattle.store_model.specs.Machine.{with_call}
+use Rattle.store_model.specs.Steps.{loads, loading}
 use Rattle.node_rows.specs.Collecting.{HasStore}
 use Rattle.node_rows.specs.declared.view.NodeView.{NodeView}
 use Rattle.sweep_phase.proofs.Begins.{begin_alone, begin_call, begun_loading, begin_claim, claim_loads}

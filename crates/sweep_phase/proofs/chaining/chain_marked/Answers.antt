@@ -1,13 +1,13 @@
 use Rattle.std.proofs.Common.{◌≡◌, ◌≢◌, ℕ, suc, ◌+◌, ◌<◌, ◌≤◌, Bool, true, false, List, length, get_or, set, refl, sym, ap, ◌∙◌, subst, arith}
 use Rattle.std.specs.Prelude.{replicate, ◌%◌}
 use Rattle.hash_buckets.specs.Hash.{mixed, mixed_all}
-use Rattle.store_core.specs.declared.view.Sizes.{Sizes}
-use Rattle.store_core.specs.declared.view.Place.{Place}
-use Rattle.store_core.specs.declared.view.Place.TheVariants.{RowWord}
-use Rattle.store_core.specs.Machine.{widest}
-use Rattle.store_core.specs.Marks.{IsMarked, MarksReached}
-use Rattle.store_core.specs.MarkedChains.{StandsIn}
-use Rattle.store_core.specs.Steps.{ReachesByWords}
+use Rattle.store_model.specs.declared.view.Sizes.{Sizes}
+use Rattle.store_model.specs.declared.view.Place.{Place}
+use Rattle.store_model.specs.declared.view.Place.TheVariants.{RowWord}
+use Rattle.store_model.specs.Machine.{widest}
+use Rattle.store_model.specs.Marks.{IsMarked, MarksReached}
+use Rattle.store_model.specs.MarkedChains.{StandsIn}
+use Rattle.store_model.specs.Steps.{ReachesByWords}
 use Rattle.sweep_phase.specs.Gathered.{sizes_of, loads_of, words_of}
 use Rattle.sweep_phase.specs.Chained.{numbers_of, IsHashed, ChainsTo}
 use Rattle.sweep_phase.specs.Read.{again_itself, again_in_turn}

@@ -1,9 +1,9 @@
 use Rattle.std.proofs.Common.{◌≡◌, ℕ, get_or, refl, sym, ap, ◌∙◌, subst}
-use Rattle.store_core.specs.declared.view.Place.TheVariants.{FreeCount, InUse, FreePlace, Bucket, Next}
-use Rattle.store_core.specs.declared.view.Call.{Call}
-use Rattle.store_core.specs.Steps.{loads}
+use Rattle.store_model.specs.declared.view.Place.TheVariants.{FreeCount, InUse, FreePlace, Bucket, Next}
+use Rattle.store_model.specs.declared.view.Call.{Call}
+use Rattle.store_model.specs.Steps.{loads}
 use Rattle.sweep_phase.specs.Loaded.{found}
-use Rattle.store_core.specs.declared.view.Sizes.{Sizes}
+use Rattle.store_model.specs.declared.view.Sizes.{Sizes}
 use Rattle.sweep_phase.specs.Gathered.{sizes_of, words_of}
 use Rattle.sweep_phase.specs.Read.{stays_in_turn}
 use Rattle.sweep_phase.specs.Compared.{told_by, place_for, Notes}

@@ -1,9 +1,9 @@
 use Rattle.std.proofs.Common.{◌≡◌, ℕ, ◌<◌, ◌≤◌, refl, sym, ap, ◌∙◌, subst, arith}
-use Rattle.store_core.specs.declared.view.Sizes.{Sizes}
-use Rattle.store_core.specs.declared.view.Place.{Place}
-use Rattle.store_core.specs.declared.view.Place.TheVariants.{InUse}
-use Rattle.store_core.specs.Marks.{MarksReached}
-use Rattle.store_core.specs.Steps.{grown_use}
+use Rattle.store_model.specs.declared.view.Sizes.{Sizes}
+use Rattle.store_model.specs.declared.view.Place.{Place}
+use Rattle.store_model.specs.declared.view.Place.TheVariants.{InUse}
+use Rattle.store_model.specs.Marks.{MarksReached}
+use Rattle.store_model.specs.Steps.{grown_use}
 use Rattle.node_rows.specs.declared.view.NodeView.{NodeView}
 use Rattle.sweep_phase.specs.Gathered.{sizes_of, words_of}
 use Rattle.sweep_phase.specs.Chained.{ChainsTo}

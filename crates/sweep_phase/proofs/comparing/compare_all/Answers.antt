@@ -1,5 +1,5 @@
 use Rattle.std.proofs.Common.{◌≡◌, sym, ap, ◌∙◌, subst, arith}
-use Rattle.store_core.specs.declared.view.Sizes.{Sizes}
+use Rattle.store_model.specs.declared.view.Sizes.{Sizes}
 use Rattle.sweep_phase.specs.Gathered.{sizes_of}
 use Rattle.sweep_phase.specs.Read.{stays_in_turn}
 use Rattle.sweep_phase.proofs.Compares.{heads_few, nexts_few, all_compared}

@@ -1,7 +1,7 @@
 use Rattle.std.proofs.Common.{◌≡◌, ℕ, ◌+◌, ◌<◌, ◌≤◌, get_or, refl, sym, ap, ◌∙◌, subst, ⊎_elim, arith}
 use Rattle.std.proofs.lemmas.Bool.{cases_lt}
-use Rattle.store_core.specs.declared.view.Place.{Place}
-use Rattle.store_core.specs.declared.view.Place.TheVariants.{Bucket}
+use Rattle.store_model.specs.declared.view.Place.{Place}
+use Rattle.store_model.specs.declared.view.Place.TheVariants.{Bucket}
 use Rattle.sweep_phase.specs.Gathered.{words_of}
 use Rattle.sweep_phase.specs.Read.{again_itself, again_in_turn}
 use Rattle.sweep_phase.specs.Compared.{told_by}

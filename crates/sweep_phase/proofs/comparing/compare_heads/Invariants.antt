@@ -1,5 +1,5 @@
 use Rattle.std.specs.Prelude.{◌≡◌, ℕ, ◌<◌, ◌≤◌, length, get_or}
-use Rattle.store_core.specs.declared.view.Place.TheVariants.{Bucket}
+use Rattle.store_model.specs.declared.view.Place.TheVariants.{Bucket}
 use Rattle.sweep_phase.specs.Gathered.{words_of, HasGathered, LoadsAgain}
 use Rattle.sweep_phase.specs.Compared.{told_by}
 use Rattle.sweep_phase.proofs.comparing.compare_heads.Given as goal

@@ -1,7 +1,7 @@
 use Rattle.std.proofs.Common.{◌≡◌, ℕ, ◌+◌, ◌<◌, false, cond, get_or, refl, ap, ◌∙◌, subst, arith}
-use Rattle.store_core.specs.declared.view.Place.{Place}
-use Rattle.store_core.specs.declared.view.Place.TheVariants.{FreePlace, Next}
-use Rattle.store_core.specs.Marks.{IsMarked}
+use Rattle.store_model.specs.declared.view.Place.{Place}
+use Rattle.store_model.specs.declared.view.Place.TheVariants.{FreePlace, Next}
+use Rattle.store_model.specs.Marks.{IsMarked}
 use Rattle.sweep_phase.specs.Gathered.{sizes_of, words_of}
 use Rattle.sweep_phase.specs.Read.{again_itself, again_in_turn}
 use Rattle.sweep_phase.specs.Compared.{told_by}

@@ -1,4 +1,4 @@
-use Rattle.store_core.specs.Steps.{loads}
+use Rattle.store_model.specs.Steps.{loads}
 use Rattle.sweep_phase.specs.Gathered.{sizes_of, loads_of}
 use Rattle.sweep_phase.proofs.Gathering.{all_loaded}
 use Rattle.sweep_phase.proofs.Loads.{more_in_turn}

@@ -1,6 +1,6 @@
 use Rattle.std.specs.Prelude.{◌≡◌, ℕ, ◌<◌, Some}
-use Rattle.store_core.specs.declared.view.Place.TheVariants.{FreePlace}
-use Rattle.store_core.specs.ByView.{IsLoaded}
+use Rattle.store_model.specs.declared.view.Place.TheVariants.{FreePlace}
+use Rattle.store_model.specs.ByView.{IsLoaded}
 use Rattle.sweep_phase.specs.Gathered.{loads_of, Gathers, LoadsMore}
 use Rattle.sweep_phase.proofs.loading.load_places.Given as goal
 

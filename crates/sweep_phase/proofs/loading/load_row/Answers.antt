@@ -1,4 +1,4 @@
-use Rattle.store_core.specs.declared.view.Place.TheVariants.{RowWord}
+use Rattle.store_model.specs.declared.view.Place.TheVariants.{RowWord}
 use Rattle.sweep_phase.specs.Gathered.{sizes_of, loads_of}
 use Rattle.sweep_phase.proofs.Gathering.{loaded_on}
 use Rattle.sweep_phase.proofs.Loads.{more_in_turn}

@@ -1,5 +1,5 @@
 use Rattle.std.proofs.Common.{◌≡◌, ℕ, suc, ◌+◌, ◌<◌, ap, arith}
-use Rattle.store_core.specs.declared.view.Sizes.{Sizes}
+use Rattle.store_model.specs.declared.view.Sizes.{Sizes}
 use Rattle.sweep_phase.specs.Loaded.{HasRow}
 use Rattle.sweep_phase.specs.Gathered.{loads_of, sizes_of}
 use Rattle.sweep_phase.proofs.Loads.{more_itself, more_in_turn}

@@ -1,7 +1,7 @@
 use Rattle.std.specs.Prelude.{◌≡◌, ℕ, ◌<◌, Some}
-use Rattle.store_core.specs.declared.view.Place.TheVariants.{Root, RootCount}
-use Rattle.store_core.specs.ByView.{IsLoaded}
-use Rattle.store_core.specs.Steps.{value_at}
+use Rattle.store_model.specs.declared.view.Place.TheVariants.{Root, RootCount}
+use Rattle.store_model.specs.ByView.{IsLoaded}
+use Rattle.store_model.specs.Steps.{value_at}
 use Rattle.sweep_phase.specs.Gathered.{loads_of, Gathers, LoadsMore}
 use Rattle.sweep_phase.proofs.loading.load_seat.Given as goal
 

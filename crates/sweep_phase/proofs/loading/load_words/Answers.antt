@@ -1,7 +1,7 @@
 use Rattle.std.proofs.Common.{◌≡◌, ℕ, suc, ◌+◌, ◌<◌, ap, arith}
-use Rattle.store_core.specs.declared.view.Sizes.{Sizes}
-use Rattle.store_core.specs.declared.view.Place.TheVariants.{RowWord}
-use Rattle.store_core.specs.ByView.{IsLoaded}
+use Rattle.store_model.specs.declared.view.Sizes.{Sizes}
+use Rattle.store_model.specs.declared.view.Place.TheVariants.{RowWord}
+use Rattle.store_model.specs.ByView.{IsLoaded}
 use Rattle.sweep_phase.specs.Gathered.{loads_of, sizes_of}
 use Rattle.sweep_phase.proofs.Loads.{more_itself, more_in_turn}
 use Rattle.sweep_phase.proofs.Gathering.{below_more, loaded_on, row_on, roots_on}

@@ -1,7 +1,7 @@
 use Rattle.std.proofs.Common.{◌≡◌, ℕ, ◌+◌, ◌<◌, ◌≤◌, Bool, false, length, List, refl, sym, ap, ◌∙◌, subst, arith}
 use Rattle.std.specs.Prelude.{replicate}
-use Rattle.store_core.specs.declared.view.Sizes.{Sizes}
-use Rattle.store_core.specs.declared.view.Place.{Place}
+use Rattle.store_model.specs.declared.view.Sizes.{Sizes}
+use Rattle.store_model.specs.declared.view.Place.{Place}
 use Rattle.sweep_phase.specs.Gathered.{sizes_of, words_of}
 use Rattle.sweep_phase.specs.Marked.{MarksTo}
 use Rattle.sweep_phase.specs.Read.{again_itself, again_in_turn}

@@ -1,11 +1,11 @@
 use Rattle.std.proofs.Common.{◌≡◌, ◌≢◌, ℕ, suc, ◌+◌, ◌<◌, ◌≤◌, Option, Some, List, length, refl, sym, ap, ◌∙◌, subst, arith}
 use Rattle.term_model.specs.declared.Row.{Row}
 use Rattle.mark_phase.specs.Reachable.{Reaches}
-use Rattle.store_core.specs.declared.view.Sizes.{Sizes}
-use Rattle.store_core.specs.declared.view.Place.{Place}
-use Rattle.store_core.specs.declared.view.Place.TheVariants.{RowWord, RootCount, Root}
-use Rattle.store_core.specs.Machine.{widest}
-use Rattle.store_core.specs.Steps.{ReachesByWords, protected_row, argument_row}
+use Rattle.store_model.specs.declared.view.Sizes.{Sizes}
+use Rattle.store_model.specs.declared.view.Place.{Place}
+use Rattle.store_model.specs.declared.view.Place.TheVariants.{RowWord, RootCount, Root}
+use Rattle.store_model.specs.Machine.{widest}
+use Rattle.store_model.specs.Steps.{ReachesByWords, protected_row, argument_row}
 use Rattle.sweep_phase.specs.Gathered.{sizes_of, loads_of, words_of}
 use Rattle.sweep_phase.specs.Marked.{row_of, children_of}
 use Rattle.sweep_phase.proofs.Gathering.{root_words_few}

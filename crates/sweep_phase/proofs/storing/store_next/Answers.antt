@@ -1,5 +1,5 @@
 use Rattle.std.proofs.Common.{◌≡◌, ℕ, false, get_or}
-use Rattle.store_core.specs.declared.view.Place.TheVariants.{Next}
+use Rattle.store_model.specs.declared.view.Place.TheVariants.{Next}
 use Rattle.sweep_phase.specs.Compared.{told_by}
 use Rattle.sweep_phase.specs.Stored.{seen_of}
 use Rattle.sweep_phase.proofs.Writes.{written_here, written_other}

@@ -1,7 +1,7 @@
 use Rattle.std.specs.Prelude.{◌≡◌, ℕ, ◌<◌, ◌≤◌, false, get_or}
-use Rattle.store_core.specs.declared.view.Place.{Place}
-use Rattle.store_core.specs.declared.view.Place.TheVariants.{Next}
-use Rattle.store_core.specs.Marks.{IsMarked}
+use Rattle.store_model.specs.declared.view.Place.{Place}
+use Rattle.store_model.specs.declared.view.Place.TheVariants.{Next}
+use Rattle.store_model.specs.Marks.{IsMarked}
 use Rattle.sweep_phase.specs.Compared.{told_by}
 use Rattle.sweep_phase.specs.Stored.{Stores, StoresMore, seen_of, is_next}
 use Rattle.sweep_phase.proofs.storing.store_nexts.Given as goal

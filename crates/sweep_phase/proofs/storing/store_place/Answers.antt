@@ -1,6 +1,6 @@
 use Rattle.std.proofs.Common.{◌≡◌, ℕ, false, refl, sym, ap, ◌∙◌, subst, ⊎_elim, get_or, true≢false}
-use Rattle.store_core.proofs.NamesLeft.{by_bool}
-use Rattle.store_core.specs.declared.view.Place.TheVariants.{FreePlace}
+use Rattle.store_model.proofs.NamesLeft.{by_bool}
+use Rattle.store_model.specs.declared.view.Place.TheVariants.{FreePlace}
 use Rattle.node_rows.specs.Collecting.{HasSeen}
 use Rattle.sweep_phase.specs.Gathered.{sizes_of}
 use Rattle.sweep_phase.specs.Stored.{seen_of}

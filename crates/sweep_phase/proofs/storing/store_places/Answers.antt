@@ -1,6 +1,6 @@
 use Rattle.std.proofs.Common.{◌≡◌, ℕ, refl, sym, ap, ◌∙◌, subst, arith}
-use Rattle.store_core.specs.declared.view.Sizes.{Sizes}
-use Rattle.store_core.specs.declared.view.Place.TheVariants.{FreePlace}
+use Rattle.store_model.specs.declared.view.Sizes.{Sizes}
+use Rattle.store_model.specs.declared.view.Place.TheVariants.{FreePlace}
 use Rattle.sweep_phase.specs.Gathered.{sizes_of}
 use Rattle.node_rows.specs.Collecting.{HasSeen}
 use Rattle.sweep_phase.specs.Turns.{row_in_turn}

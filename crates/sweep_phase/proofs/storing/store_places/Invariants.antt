@@ -1,6 +1,6 @@
 use Rattle.std.specs.Prelude.{◌≡◌, ℕ, ◌<◌, ◌≤◌, false}
-use Rattle.store_core.specs.declared.view.Place.{Place}
-use Rattle.store_core.specs.declared.view.Place.TheVariants.{FreePlace}
+use Rattle.store_model.specs.declared.view.Place.{Place}
+use Rattle.store_model.specs.declared.view.Place.TheVariants.{FreePlace}
 use Rattle.node_rows.specs.Collecting.{HasSeen}
 use Rattle.sweep_phase.specs.Gathered.{sizes_of}
 use Rattle.sweep_phase.specs.Compared.{unmarked_before}

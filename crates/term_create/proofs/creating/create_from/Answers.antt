@@ -1,6 +1,6 @@
 use Rattle.std.proofs.Common.{◌++◌, subst}
 use Rattle.std.specs.Prelude.{◌≡◌, IfErr}
-use Rattle.store_core.specs.declared.view.Call.TheVariants.{Ended}
+use Rattle.store_model.specs.declared.view.Call.TheVariants.{Ended}
 use Rattle.node_rows.specs.Full.{HoldsAll}
 use Rattle.node_rows.specs.Rows.{names}
 use Rattle.node_rows.specs.declared.view.NodeView.{NodeView}

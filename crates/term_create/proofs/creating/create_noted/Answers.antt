@@ -1,6 +1,6 @@
 use Rattle.std.proofs.Common.{◌≡◌, None, [], subst}
 use Rattle.std.specs.Prelude.{IfErr}
-use Rattle.store_core.specs.Machine.{arrived, widest}
+use Rattle.store_model.specs.Machine.{arrived, widest}
 use Rattle.node_rows.specs.Rows.{names}
 use Rattle.node_rows.specs.declared.view.NodeView.{NodeView}
 use Rattle.node_rows.specs.Full.{HoldsAll}

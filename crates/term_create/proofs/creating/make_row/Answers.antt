@@ -1,5 +1,5 @@
 use Rattle.std.proofs.Common.{◌∙◌, ap}
-use Rattle.store_core.specs.declared.view.Call.TheVariants.{Linking}
+use Rattle.store_model.specs.declared.view.Call.TheVariants.{Linking}
 use Rattle.node_rows.specs.Rows.{names}
 use Rattle.node_rows.specs.declared.view.NodeView.{NodeView}
 use Rattle.node_rows.specs.Steps.{over}

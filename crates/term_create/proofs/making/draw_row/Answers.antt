@@ -1,5 +1,5 @@
 use Rattle.std.proofs.Common.{arith, ℕ, ◌≤◌, ◌<◌, ◌∙◌, subst}
-use Rattle.store_core.specs.declared.view.Call.TheVariants.{Counting}
+use Rattle.store_model.specs.declared.view.Call.TheVariants.{Counting}
 use Rattle.std.proofs.lemmas.Bool.Decides.{nat_tests}
 use Rattle.term_create.specs.Stage.{HoldsAllAlone, content}
 use Rattle.term_create.proofs.Whole.{full_count, full_draw, count_holds, filled_before, count_fills}

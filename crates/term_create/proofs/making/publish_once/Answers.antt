@@ -1,7 +1,7 @@
 use Rattle.std.proofs.Common.{◌≡◌, ◌∙◌, ◌+◌, Bool, false, cond, eqb, Some, ap, arith}
 use Rattle.std.proofs.lemmas.Bool.Decides.{nat_tests}
 use Rattle.history_core.specs.declared.entry.Entry.TheVariants.{Make}
-use Rattle.store_core.specs.Machine.{arrived, gained, with_call}
+use Rattle.store_model.specs.Machine.{arrived, gained, with_call}
 use Rattle.node_rows.specs.Rows.{names}
 use Rattle.node_rows.specs.declared.view.NodeView.{NodeView}
 use Rattle.node_rows.specs.Steps.{with_store}

@@ -1,7 +1,7 @@
 use Rattle.std.proofs.Common.{refl, arith, ◌≤◌, ◌+◌}
-use Rattle.store_core.specs.declared.view.Call.{Call}
+use Rattle.store_model.specs.declared.view.Call.{Call}
 use Rattle.std.proofs.Common.{ap}
-use Rattle.store_core.specs.declared.view.Call.TheVariants.{Linking}
+use Rattle.store_model.specs.declared.view.Call.TheVariants.{Linking}
 use Rattle.node_rows.specs.Rows.{names}
 use Rattle.term_create.specs.Stage.{at_call, content}
 use Rattle.term_create.proofs.Told.{notes_on}

@@ -1,6 +1,6 @@
 use Rattle.std.specs.Prelude.{◌≡◌, ℕ, ◌+◌, ◌*◌, ◌≤◌, List}
-use Rattle.store_core.specs.declared.view.Passed.{Passed}
-use Rattle.store_core.specs.declared.view.Call.TheVariants.{Linking}
+use Rattle.store_model.specs.declared.view.Passed.{Passed}
+use Rattle.store_model.specs.declared.view.Call.TheVariants.{Linking}
 use Rattle.term_create.specs.Counted.{Takes}
 use Rattle.term_create.specs.Stage.{IsAt, SameSeat, content, at_walk}
 use Rattle.term_create.proofs.making.publish_row.Given as goal

@@ -1,7 +1,7 @@
 use Rattle.std.proofs.Common.{ℕ, ◌≡◌, ◌+◌, ◌<◌, suc, eqb, false, refl, sym, ap, ◌∙◌, arith, subst}
-use Rattle.store_core.specs.Machine.{widest}
+use Rattle.store_model.specs.Machine.{widest}
 use Rattle.std.proofs.lemmas.Bool.Decides.{nat_tests}
-use Rattle.store_core.specs.declared.view.Call.{Call}
+use Rattle.store_model.specs.declared.view.Call.{Call}
 use Rattle.node_rows.specs.Steps.{Stands, Few}
 use Rattle.node_rows.specs.declared.view.NodeView.{NodeView}
 use Rattle.term_create.specs.Stage.{content}

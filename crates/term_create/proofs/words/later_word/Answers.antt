@@ -1,6 +1,6 @@
 use Rattle.std.proofs.Common.{length, get_or, sym, ap, ◌∙◌}
 use Rattle.term_model.specs.declared.Head.{Head}
-use Rattle.store_core.specs.Calls.{words_of}
+use Rattle.store_model.specs.Calls.{words_of}
 use Rattle.node_rows.specs.Rows.{names}
 use Rattle.node_rows.specs.Steps.{over}
 use Rattle.term_create.proofs.Arguments.{argument_at}

@@ -1,6 +1,6 @@
 use Rattle.std.specs.Prelude.{◌≡◌}
 use Rattle.lock_core.specs.declared.parts.Phase.TheVariants.{Shared}
-use Rattle.store_core.specs.Machine.{In, protected_in}
+use Rattle.store_model.specs.Machine.{In, protected_in}
 use Rattle.node_rows.specs.Inside.{IsInside}
 use Rattle.term_makers.proofs.maker.make_more.Given as goal
 

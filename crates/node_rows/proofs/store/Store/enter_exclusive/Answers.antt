@@ -1,7 +1,7 @@
-use Rattle.store_core.specs.declared.view.Sizes.{Sizes}
+use Rattle.store_model.specs.declared.view.Sizes.{Sizes}
 use Rattle.node_rows.proofs.Tellings.{told_same}
 use Rattle.std.proofs.Common.{sym, ap, ◌∙◌}
-use Rattle.store_core.specs.declared.view.View.{View}
+use Rattle.store_model.specs.declared.view.View.{View}
 use Rattle.node_rows.proofs.Entering.{came_from, enters_exclusive_stays, came_last}
 use Rattle.node_rows.proofs.store.Store.enter_exclusive.Goals as goal
 

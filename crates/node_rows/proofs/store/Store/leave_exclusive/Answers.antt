@@ -1,7 +1,7 @@
-use Rattle.store_core.specs.declared.view.Sizes.{Sizes}
+use Rattle.store_model.specs.declared.view.Sizes.{Sizes}
 use Rattle.node_rows.proofs.Tellings.{told_left_as}
 use Rattle.std.proofs.Common.{◌∙◌, sym, ap}
-use Rattle.store_core.specs.declared.view.View.{View}
+use Rattle.store_model.specs.declared.view.View.{View}
 use Rattle.node_rows.proofs.Entering.{ends_exclusive, granted_closed, may_release, left_last}
 use Rattle.node_rows.proofs.store.Store.leave_exclusive.Goals as goal
 

@@ -2,7 +2,7 @@ use Rattle.std.proofs.lemmas.List.Elements.{All-cons, All-push}
 use Rattle.std.proofs.Common.{◌≡◌, ◌+◌, ℕ, refl, sym, ap, subst, arith}
 use Rattle.busy_forbidden.specs.Dealt.{EachPlace}
 use Rattle.busy_forbidden.proofs.Dealing.{each_push, each_front, each_all}
-use Rattle.store_core.specs.declared.view.Sizes.{Sizes}
+use Rattle.store_model.specs.declared.view.Sizes.{Sizes}
 use Rattle.std.specs.Prelude.{All}
 use Rattle.node_rows.specs.Told.{Tells}
 use Rattle.node_rows.specs.Opening.{IsNew}

@@ -1,7 +1,7 @@
-use Rattle.store_core.specs.declared.view.Sizes.{Sizes}
+use Rattle.store_model.specs.declared.view.Sizes.{Sizes}
 use Rattle.node_rows.proofs.Tellings.{told_same}
 use Rattle.std.proofs.Common.{sym, ap, ◌∙◌, Ok, Err}
-use Rattle.store_core.specs.declared.view.View.{View}
+use Rattle.store_model.specs.declared.view.View.{View}
 use Rattle.node_rows.proofs.Entering.{came_from, tries_exclusive_stays, stayed_last, came_last}
 use Rattle.node_rows.proofs.store.Store.try_enter_exclusive.Goals as goal
 

@@ -1,14 +1,14 @@
 use Rattle.std.proofs.Common.{◌≡◌, ◌∙◌, ◌⊎◌, ◌≤◌, true, List, length, ap, sym, subst, arith}
 use Rattle.std.specs.Prelude.{All}
 use Rattle.terms_api.specs.Terms.{IsHeld}
-use Rattle.store_core.specs.Machine.{In}
+use Rattle.store_model.specs.Machine.{In}
 use Rattle.shared_desk.specs.Pass.{PassView, own}
 use Rattle.term_model.specs.declared.Row.{Row}
 use Rattle.shared_desk.specs.Passes.{in_shared, in_exclusive, store_of, pass_of, seen_of}
 use Rattle.node_rows.specs.Rows.{names}
 use Rattle.node_rows.specs.declared.view.NodeView.{NodeView}
 use Rattle.node_rows.specs.Told.{view_of}
-use Rattle.store_core.proofs.Basics.{each_map}
+use Rattle.store_model.proofs.Basics.{each_map}
 use Rattle.shared_desk.specs.Held.{Has}
 use Rattle.shared_desk.proofs.Views.{each_held}
 use Rattle.std.proofs.lemmas.List.{length-map}

@@ -1,7 +1,7 @@
 use Rattle.std.proofs.Common.{ap, ◌∙◌, rules, arith}
 use Rattle.std.proofs.lemmas.Grind.{common_steps}
-use Rattle.store_core.specs.Calls.{View}
-use Rattle.store_core.specs.Machine.{action}
+use Rattle.store_model.specs.Calls.{View}
+use Rattle.store_model.specs.Machine.{action}
 use Rattle.store_core.proofs.Made.{went_view}
 use Rattle.store_core.proofs.machine.acting.plan_act.Goals as goal
 

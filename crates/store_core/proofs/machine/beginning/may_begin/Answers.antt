@@ -1,9 +1,9 @@
 use Rattle.std.proofs.Common.{List, Bool, ◌≤◌, false, get_or, length, ◌∙◌, ap, rules, arith}
 use Rattle.std.specs.List.{list_all}
 use Rattle.std.proofs.lemmas.Grind.{common_steps}
-use Rattle.store_core.specs.Calls.{IsOver}
-use Rattle.store_core.specs.Machine.{widest, SecondIsList}
-use Rattle.store_core.specs.Shown.{shown}
+use Rattle.store_model.specs.Calls.{IsOver}
+use Rattle.store_model.specs.Machine.{widest, SecondIsList}
+use Rattle.store_model.specs.Shown.{shown}
 use Rattle.store_core.proofs.Deciding.{may_begin_by}
 use Rattle.store_core.proofs.machine.beginning.may_begin.Goals as goal
 

@@ -1,13 +1,13 @@
 use Rattle.std.proofs.Common.{◌≡◌, ℕ, refl, ap, ◌∙◌, rules, arith}
 use Rattle.std.proofs.lemmas.Grind.{common_steps}
-use Rattle.store_core.specs.Words.{Bucket}
-use Rattle.store_core.specs.Calls.{View}
-use Rattle.store_core.specs.Machine as machine
-use Rattle.store_core.specs.Machine.{action, begins, based, ready, with_got, knowing, with_call}
+use Rattle.store_model.specs.Words.{Bucket}
+use Rattle.store_model.specs.Calls.{View}
+use Rattle.store_model.specs.Machine as machine
+use Rattle.store_model.specs.Machine.{action, begins, based, ready, with_got, knowing, with_call}
 use Rattle.store_core.specs.Planning.{state_seen}
-use Rattle.store_core.proofs.Basics.{write_same}
+use Rattle.store_model.proofs.Basics.{write_same}
 use Rattle.store_core.proofs.Made.{made_view}
-use Rattle.store_core.specs.Calls.{bucket}
+use Rattle.store_model.specs.Calls.{bucket}
 use Rattle.store_core.proofs.machine.beginning.plan_begin.Goals as goal
 
 pub returns : goal.returns

@@ -1,6 +1,6 @@
 use Rattle.std.proofs.Common.{sym, ◌∙◌}
-use Rattle.store_core.specs.Words.{FreePlace}
-use Rattle.store_core.specs.Shown.{shown}
+use Rattle.store_model.specs.Words.{FreePlace}
+use Rattle.store_model.specs.Shown.{shown}
 use Rattle.store_core.proofs.Deciding.{free_here}
 use Rattle.store_core.proofs.machine.claiming.is_free.Goals as goal
 

@@ -1,7 +1,7 @@
 use Rattle.std.proofs.Common.{◌≡◌, false}
-use Rattle.store_core.specs.Words.{FreePlace}
-use Rattle.store_core.specs.Steps.{is_free}
-use Rattle.store_core.specs.Shown.{shown}
+use Rattle.store_model.specs.Words.{FreePlace}
+use Rattle.store_model.specs.Steps.{is_free}
+use Rattle.store_model.specs.Shown.{shown}
 use Rattle.store_core.proofs.machine.claiming.is_free.Given as goal
 
 abbrev pub invariant-loop-i : goal.invariant-loop-i

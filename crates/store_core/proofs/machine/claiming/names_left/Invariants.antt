@@ -1,7 +1,7 @@
 use Rattle.std.proofs.Common.{◌≡◌}
-use Rattle.store_core.specs.Words.{FreePlace}
-use Rattle.store_core.specs.Steps.{rows_left}
-use Rattle.store_core.specs.Shown.{shown}
+use Rattle.store_model.specs.Words.{FreePlace}
+use Rattle.store_model.specs.Steps.{rows_left}
+use Rattle.store_model.specs.Shown.{shown}
 use Rattle.store_core.proofs.machine.claiming.names_left.Given as goal
 
 abbrev pub invariant-loop-row : goal.invariant-loop-row

@@ -1,13 +1,13 @@
 use Rattle.std.proofs.Common.{refl, ap, ◌∙◌, rules, arith}
 use Rattle.std.proofs.lemmas.Grind.{common_steps}
-use Rattle.store_core.specs.Words.{Base, InUse, Claim}
-use Rattle.store_core.specs.Calls.{View}
-use Rattle.store_core.specs.Machine as machine
-use Rattle.store_core.specs.Machine.{action, begins, based, ready, with_got, knowing, with_call}
+use Rattle.store_model.specs.Words.{Base, InUse, Claim}
+use Rattle.store_model.specs.Calls.{View}
+use Rattle.store_model.specs.Machine as machine
+use Rattle.store_model.specs.Machine.{action, begins, based, ready, with_got, knowing, with_call}
 use Rattle.store_core.specs.Planning.{state_seen}
 use Rattle.store_core.proofs.Made.{made_word}
 use Rattle.std.specs.Prelude.{IsTrue, pred}
-use Rattle.store_core.specs.Collection.{collected}
+use Rattle.store_model.specs.Collection.{collected}
 use Rattle.store_core.proofs.machine.claiming.plan_end.Goals as goal
 
 pub returns : goal.returns

@@ -1,12 +1,12 @@
 use Rattle.std.proofs.Common.{ℕ, refl, ap, ◌∙◌, rules, arith}
 use Rattle.std.proofs.lemmas.Grind.{common_steps}
-use Rattle.store_core.specs.Machine as machine
-use Rattle.store_core.specs.Machine.{action, begins, based, ready, with_got, knowing, with_call}
+use Rattle.store_model.specs.Machine as machine
+use Rattle.store_model.specs.Machine.{action, begins, based, ready, with_got, knowing, with_call}
 use Rattle.store_core.specs.Planning.{state_seen}
-use Rattle.store_core.proofs.Basics.{write_same}
+use Rattle.store_model.proofs.Basics.{write_same}
 use Rattle.store_core.proofs.Made.{made_view}
 use Rattle.std.proofs.Common.{◌++◌, ◌∷◌, []}
-use Rattle.store_core.specs.Steps.{loading, loads}
+use Rattle.store_model.specs.Steps.{loading, loads}
 use Rattle.store_core.proofs.machine.collecting.plan_load_any.Goals as goal
 
 pub returns : goal.returns

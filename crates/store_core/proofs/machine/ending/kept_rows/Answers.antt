@@ -1,9 +1,9 @@
 use Rattle.std.proofs.Common.{ℕ, List, sym, subst}
 use Rattle.std.specs.Prelude.{Bool}
-use Rattle.store_core.specs.Words.{Place}
-use Rattle.store_core.specs.Shown.{shown}
-use Rattle.store_core.specs.Marks.{MarksReached, MarksFree}
-use Rattle.store_core.proofs.Ending.{broken_apart, broken_chains, whole_opposite}
+use Rattle.store_model.specs.Words.{Place}
+use Rattle.store_model.specs.Shown.{shown}
+use Rattle.store_model.specs.Marks.{MarksReached, MarksFree}
+use Rattle.store_model.proofs.Ending.{broken_apart, broken_chains, whole_opposite}
 use Rattle.store_core.proofs.Outcomes.{at_false, at_none, at_some, never}
 use Rattle.store_core.proofs.machine.ending.kept_rows.Goals as goal
 

@@ -1,5 +1,5 @@
 use Rattle.std.proofs.Common.{refl}
-use Rattle.store_core.proofs.Ending.{ends_by, base_followed, use_followed, ends_whole}
+use Rattle.store_model.proofs.Ending.{ends_by, base_followed, use_followed, ends_whole}
 use Rattle.store_core.proofs.Outcomes.{at_none, at_some, never}
 use Rattle.store_core.proofs.machine.ending.may_end.Goals as goal
 

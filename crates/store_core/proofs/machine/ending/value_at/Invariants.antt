@@ -1,5 +1,5 @@
 use Rattle.std.proofs.Common.{◌≡◌, map}
-use Rattle.store_core.specs.Steps.{value_at}
+use Rattle.store_model.specs.Steps.{value_at}
 use Rattle.store_core.proofs.machine.ending.value_at.Given as goal
 
 abbrev pub invariant-loop-load : goal.invariant-loop-load

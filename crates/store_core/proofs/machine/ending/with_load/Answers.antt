@@ -1,4 +1,4 @@
-use Rattle.store_core.proofs.Ending.{value_old, value_here, value_none}
+use Rattle.store_model.proofs.Ending.{value_old, value_here, value_none}
 use Rattle.store_core.proofs.machine.ending.with_load.Goals as goal
 
 pub returns-then-is_some : goal.returns-then-is_some

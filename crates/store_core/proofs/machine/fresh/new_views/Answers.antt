@@ -1,4 +1,4 @@
-use Rattle.store_core.specs.Steps.{newcomer}
+use Rattle.store_model.specs.Steps.{newcomer}
 use Rattle.store_core.proofs.Deciding.{views_more}
 use Rattle.store_core.proofs.machine.fresh.new_views.Goals as goal
 

@@ -1,5 +1,5 @@
 use Rattle.std.proofs.Common.{◌≡◌, replicate}
-use Rattle.store_core.specs.Steps.{newcomer}
+use Rattle.store_model.specs.Steps.{newcomer}
 use Rattle.store_core.proofs.machine.fresh.new_views.Given as goal
 
 abbrev pub invariant-loop-seat : goal.invariant-loop-seat

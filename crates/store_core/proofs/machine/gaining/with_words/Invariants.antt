@@ -1,5 +1,5 @@
 use Rattle.std.proofs.Common.{◌≡◌, ◌≤◌, ◌++◌, drop, length}
-use Rattle.store_core.specs.Machine.{words_known}
+use Rattle.store_model.specs.Machine.{words_known}
 use Rattle.store_core.proofs.machine.gaining.with_words.Given as goal
 
 abbrev pub invariant-loop-word : goal.invariant-loop-word

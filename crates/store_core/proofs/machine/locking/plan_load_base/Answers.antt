@@ -1,10 +1,10 @@
 use Rattle.std.proofs.Common.{refl, ◌∙◌, rules, arith}
 use Rattle.std.proofs.lemmas.Grind.{common_steps}
-use Rattle.store_core.specs.Words.{Base}
-use Rattle.store_core.specs.Machine as machine
-use Rattle.store_core.specs.Machine.{action, begins, based, ready, with_got, knowing, with_call}
+use Rattle.store_model.specs.Words.{Base}
+use Rattle.store_model.specs.Machine as machine
+use Rattle.store_model.specs.Machine.{action, begins, based, ready, with_got, knowing, with_call}
 use Rattle.store_core.specs.Planning.{state_seen}
-use Rattle.store_core.proofs.Basics.{write_same}
+use Rattle.store_model.proofs.Basics.{write_same}
 use Rattle.store_core.proofs.Made.{two, made_view}
 use Rattle.store_core.proofs.machine.locking.plan_load_base.Goals as goal
 

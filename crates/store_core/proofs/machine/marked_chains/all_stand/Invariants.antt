@@ -1,6 +1,6 @@
 use Rattle.std.proofs.Common.{ℕ, ◌<◌, get_or}
-use Rattle.store_core.specs.Shown.{shown}
-use Rattle.store_core.specs.MarkedChains.{StandsIn}
+use Rattle.store_model.specs.Shown.{shown}
+use Rattle.store_model.specs.MarkedChains.{StandsIn}
 use Rattle.store_core.proofs.machine.marked_chains.all_stand.Given as goal
 
 abbrev pub invariant-loop-row : goal.invariant-loop-row

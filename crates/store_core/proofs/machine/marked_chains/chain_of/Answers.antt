@@ -1,7 +1,7 @@
 use Rattle.std.proofs.Common.{◌≡◌, ℕ, suc, ◌-◌, ◌<◌, List, length, sym, subst, arith}
-use Rattle.store_core.specs.Words.{Place, Bucket, Next}
-use Rattle.store_core.specs.Shown.{shown}
-use Rattle.store_core.specs.MarkedChains.{HasPassed}
+use Rattle.store_model.specs.Words.{Place, Bucket, Next}
+use Rattle.store_model.specs.Shown.{shown}
+use Rattle.store_model.specs.MarkedChains.{HasPassed}
 use Rattle.store_core.proofs.Chained.{passed_more, passed_all, passed_past, passed_long}
 use Rattle.store_core.proofs.machine.marked_chains.chain_of.Goals.{then-at-from-via-then-at-from, then-at-from-via-else-at-from+then-len-table}
 use Rattle.store_core.proofs.machine.marked_chains.chain_of.Goals as goal

@@ -1,7 +1,7 @@
 use Rattle.std.proofs.Common.{◌-◌, length}
-use Rattle.store_core.specs.Shown.{shown}
-use Rattle.store_core.specs.Words.{Bucket}
-use Rattle.store_core.specs.MarkedChains.{HasPassed}
+use Rattle.store_model.specs.Shown.{shown}
+use Rattle.store_model.specs.Words.{Bucket}
+use Rattle.store_model.specs.MarkedChains.{HasPassed}
 use Rattle.store_core.proofs.machine.marked_chains.chain_of.Given as goal
 
 abbrev pub invariant-loop-at : goal.invariant-loop-at

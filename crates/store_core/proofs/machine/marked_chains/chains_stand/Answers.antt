@@ -1,8 +1,8 @@
 use Rattle.std.proofs.Common.{ℕ, List, sym, subst}
 use Rattle.std.specs.Prelude.{Bool}
-use Rattle.store_core.specs.Words.{Place}
-use Rattle.store_core.specs.Shown.{shown}
-use Rattle.store_core.specs.MarkedChains.{StandInFirst}
+use Rattle.store_model.specs.Words.{Place}
+use Rattle.store_model.specs.Shown.{shown}
+use Rattle.store_model.specs.MarkedChains.{StandInFirst}
 use Rattle.store_core.proofs.Chained.{chains_by, meant_uses}
 use Rattle.store_core.proofs.Outcomes.{at_none, at_some}
 use Rattle.store_core.proofs.machine.marked_chains.chains_stand.Goals as goal

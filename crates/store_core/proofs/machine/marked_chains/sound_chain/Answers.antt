@@ -1,7 +1,7 @@
 use Rattle.std.proofs.Common.{ℕ, List, sym, subst}
-use Rattle.store_core.specs.Words.{Place}
-use Rattle.store_core.specs.Shown.{shown}
-use Rattle.store_core.specs.MarkedChains.{IsChain, OneStrays}
+use Rattle.store_model.specs.Words.{Place}
+use Rattle.store_model.specs.Shown.{shown}
+use Rattle.store_model.specs.MarkedChains.{IsChain, OneStrays}
 use Rattle.store_core.proofs.Chained.{meant_marked, meant_stands}
 use Rattle.store_core.proofs.Outcomes.{at_false, at_none, at_some, never}
 use Rattle.store_core.proofs.machine.marked_chains.sound_chain.Goals as goal

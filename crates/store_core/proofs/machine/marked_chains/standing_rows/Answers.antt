@@ -1,9 +1,9 @@
 use Rattle.std.proofs.Common.{◌≡◌, ◌+◌, ℕ, List, sym, subst, length, take, drop, ◌++◌, get_or}
 use Rattle.std.specs.Prelude.{Bool}
-use Rattle.store_core.specs.Words.{Place}
-use Rattle.store_core.specs.Shown.{shown}
-use Rattle.store_core.specs.Marks.{Marks}
-use Rattle.store_core.specs.MarkedChains.{IsSound, StandInFirst}
+use Rattle.store_model.specs.Words.{Place}
+use Rattle.store_model.specs.Shown.{shown}
+use Rattle.store_model.specs.Marks.{Marks}
+use Rattle.store_model.specs.MarkedChains.{IsSound, StandInFirst}
 use Rattle.store_core.proofs.Chained.{first_more, whole}
 use Rattle.store_core.proofs.Outcomes.{at_some}
 use Rattle.store_core.proofs.machine.marked_chains.standing_rows.Goals as goal

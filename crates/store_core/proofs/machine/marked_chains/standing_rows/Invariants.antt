@@ -1,5 +1,5 @@
-use Rattle.store_core.specs.Shown.{shown}
-use Rattle.store_core.specs.MarkedChains.{StandInFirst}
+use Rattle.store_model.specs.Shown.{shown}
+use Rattle.store_model.specs.MarkedChains.{StandInFirst}
 use Rattle.store_core.proofs.machine.marked_chains.standing_rows.Given as goal
 
 abbrev pub invariant-loop-number : goal.invariant-loop-number

@@ -1,6 +1,6 @@
 use Rattle.std.proofs.Common.{◌≡◌, ℕ, ◌≤◌, length}
-use Rattle.store_core.specs.Steps.{rows_left}
-use Rattle.store_core.specs.Marks.{MarksPlaces}
+use Rattle.store_model.specs.Steps.{rows_left}
+use Rattle.store_model.specs.Marks.{MarksPlaces}
 use Rattle.store_core.proofs.machine.marking.count_left.Given as goal
 
 abbrev pub invariant-loop-row : goal.invariant-loop-row

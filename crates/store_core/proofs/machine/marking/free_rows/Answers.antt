@@ -1,6 +1,6 @@
 use Rattle.std.proofs.Common.{ℕ, List, sym, subst, arith}
-use Rattle.store_core.specs.Words.{Place}
-use Rattle.store_core.specs.Shown.{shown}
+use Rattle.store_model.specs.Words.{Place}
+use Rattle.store_model.specs.Shown.{shown}
 use Rattle.store_core.specs.RowLists.{IsList}
 use Rattle.store_core.specs.declared.machine.row_lists.RowList.TheVariants.{Free}
 use Rattle.store_core.proofs.Outcomes.{if_ok_option, at_some}

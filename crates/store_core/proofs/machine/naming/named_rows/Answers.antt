@@ -1,6 +1,6 @@
 use Rattle.std.proofs.Common.{List, ℕ, ◌≡◌, [], length, subst, arith}
-use Rattle.store_core.specs.Words.{Root}
-use Rattle.store_core.specs.Shown.{shown}
+use Rattle.store_model.specs.Words.{Root}
+use Rattle.store_model.specs.Shown.{shown}
 use Rattle.store_core.specs.Naming.{Halfway}
 use Rattle.store_core.proofs.Naming.{waits_named, taken, got_kept, named, no_items}
 use Rattle.store_core.proofs.machine.naming.named_rows.Goals as goal

@@ -1,7 +1,7 @@
 use Rattle.std.proofs.Common.{ℕ, ◌+◌, ◌*◌, ◌<◌, [], length}
-use Rattle.store_core.specs.Words.{RootCount, Root}
-use Rattle.store_core.specs.Machine.{Each}
-use Rattle.store_core.specs.Shown.{shown}
+use Rattle.store_model.specs.Words.{RootCount, Root}
+use Rattle.store_model.specs.Machine.{Each}
+use Rattle.store_model.specs.Shown.{shown}
 use Rattle.store_core.specs.Naming.{IsMarked, unmarked, Halfway}
 use Rattle.store_core.proofs.machine.naming.named_rows.Given as goal
 

@@ -1,7 +1,7 @@
 use Rattle.std.proofs.Common.{◌≡◌, ℕ, ◌<◌, Option, length, get_or, sym, subst, arith}
 use Rattle.std.proofs.lemmas.List.{get_or_read}
-use Rattle.store_core.specs.Calls.{View}
-use Rattle.store_core.specs.Steps.{newcomer}
+use Rattle.store_model.specs.Calls.{View}
+use Rattle.store_model.specs.Steps.{newcomer}
 use Rattle.store_core.specs.Planning.{IsPlanOf, HasPlace, state_by}
 use Rattle.store_core.specs.declared.machine.change.Change.{Change}
 use Rattle.store_core.specs.declared.machine.change.Sight.{Sight}

@@ -1,5 +1,5 @@
 use Rattle.std.proofs.Common.{List, ℕ, true, false, sym, subst, set}
-use Rattle.store_core.specs.Marks.{Adds}
+use Rattle.store_model.specs.Marks.{Adds}
 use Rattle.store_core.proofs.MarkedPlaces.{read_mark}
 use Rattle.store_core.proofs.Reached.{adds_new}
 use Rattle.store_core.proofs.machine.reached.mark.Goals as goal

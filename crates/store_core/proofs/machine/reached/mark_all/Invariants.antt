@@ -1,5 +1,5 @@
 use Rattle.std.proofs.Common.{get_or}
-use Rattle.store_core.specs.Marks.{Adds}
+use Rattle.store_model.specs.Marks.{Adds}
 use Rattle.store_core.proofs.machine.reached.mark_all.Given as goal
 
 abbrev pub invariant-loop-row : goal.invariant-loop-row

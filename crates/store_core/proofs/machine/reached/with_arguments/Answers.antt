@@ -1,7 +1,7 @@
 use Rattle.std.proofs.Common.{◌≡◌, ℕ, List, [], ◌∷◌, ◌++◌, subst, arith}
-use Rattle.store_core.specs.Words.{Place}
-use Rattle.store_core.specs.Shown.{shown}
-use Rattle.store_core.specs.Marks.{Halfway}
+use Rattle.store_model.specs.Words.{Place}
+use Rattle.store_model.specs.Shown.{shown}
+use Rattle.store_model.specs.Marks.{Halfway}
 use Rattle.store_core.proofs.Outcomes.{at_false, at_true}
 use Rattle.store_core.proofs.HasContents.{none_of}
 use Rattle.store_core.proofs.Reached.{halfway_row, halfway_done, argument_past, no_roots}

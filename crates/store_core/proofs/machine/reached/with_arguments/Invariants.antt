@@ -1,6 +1,6 @@
 use Rattle.std.proofs.Common.{◌+◌, length}
-use Rattle.store_core.specs.Shown.{shown}
-use Rattle.store_core.specs.Marks.{Halfway, unmarked}
+use Rattle.store_model.specs.Shown.{shown}
+use Rattle.store_model.specs.Marks.{Halfway, unmarked}
 use Rattle.store_core.proofs.machine.reached.with_arguments.Given as goal
 
 abbrev pub invariant-loop-row : goal.invariant-loop-row

@@ -1,6 +1,6 @@
 use Rattle.std.proofs.Common.{ℕ}
-use Rattle.store_core.specs.Words.{Place}
-use Rattle.store_core.specs.Shown.{shown}
+use Rattle.store_model.specs.Words.{Place}
+use Rattle.store_model.specs.Shown.{shown}
 use Rattle.store_core.proofs.Outcomes.{at_false, at_true}
 use Rattle.store_core.proofs.Reached.{halfway_root, protected_past}
 use Rattle.store_core.proofs.machine.reached.with_protected.Goals as goal

@@ -1,5 +1,5 @@
-use Rattle.store_core.specs.Shown.{shown}
-use Rattle.store_core.specs.Marks.{Halfway}
+use Rattle.store_model.specs.Shown.{shown}
+use Rattle.store_model.specs.Marks.{Halfway}
 use Rattle.store_core.proofs.machine.reached.with_protected.Given as goal
 
 abbrev pub invariant-loop-seat : goal.invariant-loop-seat

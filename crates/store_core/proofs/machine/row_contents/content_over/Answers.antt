@@ -1,8 +1,8 @@
 use Rattle.std.proofs.Common.{ℕ, List, length, sym, subst}
 use Rattle.term_model.specs.declared.Head.{Head}
-use Rattle.store_core.specs.Words.{Place, RowWord}
-use Rattle.store_core.specs.Shown.{shown}
-use Rattle.store_core.specs.MarkedChains.{HasWords, HasContent}
+use Rattle.store_model.specs.Words.{Place, RowWord}
+use Rattle.store_model.specs.Shown.{shown}
+use Rattle.store_model.specs.MarkedChains.{HasWords, HasContent}
 use Rattle.store_core.proofs.HasContents.{has_content, content, none_by_words}
 use Rattle.store_core.proofs.Outcomes.{at_none}
 use Rattle.store_core.proofs.machine.row_contents.content_over.Goals as goal

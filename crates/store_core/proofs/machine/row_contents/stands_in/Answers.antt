@@ -1,6 +1,6 @@
 use Rattle.std.proofs.Common.{ℕ}
-use Rattle.store_core.specs.Words.{Place}
-use Rattle.store_core.specs.Shown.{shown}
+use Rattle.store_model.specs.Words.{Place}
+use Rattle.store_model.specs.Shown.{shown}
 use Rattle.store_core.proofs.HasContents.{stands_by}
 use Rattle.store_core.proofs.Outcomes.{at_some}
 use Rattle.store_core.proofs.machine.row_contents.stands_in.Goals as goal

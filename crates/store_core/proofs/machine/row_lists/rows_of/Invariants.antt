@@ -1,4 +1,4 @@
-use Rattle.store_core.specs.Shown.{shown}
+use Rattle.store_model.specs.Shown.{shown}
 use Rattle.store_core.specs.RowLists.{item_place, AreListed}
 use Rattle.store_core.proofs.machine.row_lists.rows_of.Given as goal
 

@@ -1,4 +1,4 @@
-use Rattle.store_core.proofs.Staying.{joined_more}
+use Rattle.store_model.proofs.Staying.{joined_more}
 use Rattle.store_core.proofs.machine.staying.look_on.Goals as goal
 
 pub loop-word-preserved : goal.loop-word-preserved

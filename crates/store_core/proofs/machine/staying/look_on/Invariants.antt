@@ -1,5 +1,5 @@
 use Rattle.std.proofs.Common.{◌≡◌, take}
-use Rattle.store_core.specs.Staying.{joined}
+use Rattle.store_model.specs.Staying.{joined}
 use Rattle.store_core.proofs.machine.staying.look_on.Given as goal
 
 abbrev pub invariant-loop-word : goal.invariant-loop-word

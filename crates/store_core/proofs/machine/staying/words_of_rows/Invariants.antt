@@ -1,5 +1,5 @@
 use Rattle.std.proofs.Common.{◌≡◌, take}
-use Rattle.store_core.specs.Staying.{words_of_rows}
+use Rattle.store_model.specs.Staying.{words_of_rows}
 use Rattle.store_core.proofs.machine.staying.words_of_rows.Given as goal
 
 abbrev pub invariant-loop-word : goal.invariant-loop-word

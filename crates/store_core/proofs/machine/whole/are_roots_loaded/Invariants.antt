@@ -1,6 +1,6 @@
 use Rattle.std.proofs.Common.{ℕ, ◌<◌}
-use Rattle.store_core.specs.Words.{RootCount}
-use Rattle.store_core.specs.Shown.{shown}
+use Rattle.store_model.specs.Words.{RootCount}
+use Rattle.store_model.specs.Shown.{shown}
 use Rattle.store_core.specs.Lines.{LoadsLine}
 use Rattle.store_core.specs.declared.machine.whole.Line.TheVariants.{Roots}
 use Rattle.store_core.proofs.machine.whole.are_roots_loaded.Given as goal

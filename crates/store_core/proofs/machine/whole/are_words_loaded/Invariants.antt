@@ -1,5 +1,5 @@
 use Rattle.std.proofs.Common.{ℕ, ◌<◌}
-use Rattle.store_core.specs.Shown.{shown}
+use Rattle.store_model.specs.Shown.{shown}
 use Rattle.store_core.specs.Lines.{LoadsLine}
 use Rattle.store_core.specs.declared.machine.whole.Line.TheVariants.{Words}
 use Rattle.store_core.proofs.machine.whole.are_words_loaded.Given as goal

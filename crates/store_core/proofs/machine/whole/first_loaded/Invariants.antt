@@ -1,5 +1,5 @@
 use Rattle.std.proofs.Common.{◌≡◌, drop}
-use Rattle.store_core.specs.Steps.{value_at}
+use Rattle.store_model.specs.Steps.{value_at}
 use Rattle.store_core.proofs.machine.whole.first_loaded.Given as goal
 
 abbrev pub invariant-loop-from : goal.invariant-loop-from

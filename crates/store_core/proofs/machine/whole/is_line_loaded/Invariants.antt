@@ -1,4 +1,4 @@
-use Rattle.store_core.specs.Shown.{shown}
+use Rattle.store_model.specs.Shown.{shown}
 use Rattle.store_core.specs.Lines.{LoadsLine}
 use Rattle.store_core.proofs.machine.whole.is_line_loaded.Given as goal
 

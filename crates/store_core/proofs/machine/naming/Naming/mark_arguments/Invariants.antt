@@ -1,6 +1,6 @@
 use Rattle.std.proofs.Common.{ℕ, ◌+◌, ◌<◌, [], ◌∷◌}
-use Rattle.store_core.specs.Words.{RowWord}
-use Rattle.store_core.specs.Shown.{shown}
+use Rattle.store_model.specs.Words.{RowWord}
+use Rattle.store_model.specs.Shown.{shown}
 use Rattle.store_core.specs.Naming.{IsMarked, Halfway, Visits}
 use Rattle.store_core.proofs.machine.naming.Naming.mark_arguments.Given as goal
 

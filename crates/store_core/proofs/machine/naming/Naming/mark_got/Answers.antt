@@ -1,5 +1,5 @@
 use Rattle.std.proofs.Common.{◌<◌, length, arith}
-use Rattle.store_core.specs.Shown.{shown}
+use Rattle.store_model.specs.Shown.{shown}
 use Rattle.store_core.proofs.Naming.{got_read}
 use Rattle.store_core.proofs.machine.naming.Naming.mark_got.Goals as goal
 

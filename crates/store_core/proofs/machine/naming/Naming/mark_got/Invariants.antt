@@ -1,5 +1,5 @@
 use Rattle.std.proofs.Common.{◌≡◌, ℕ, ◌<◌, [], get_or}
-use Rattle.store_core.specs.Shown.{shown}
+use Rattle.store_model.specs.Shown.{shown}
 use Rattle.store_core.specs.Naming.{IsMarked, Halfway}
 use Rattle.store_core.proofs.machine.naming.Naming.mark_got.Given as goal
 

@@ -1,6 +1,6 @@
 use Rattle.std.proofs.Common.{◌<◌, arith}
-use Rattle.store_core.specs.Words.{RootCount}
-use Rattle.store_core.specs.Shown.{shown}
+use Rattle.store_model.specs.Words.{RootCount}
+use Rattle.store_model.specs.Shown.{shown}
 use Rattle.store_core.proofs.Naming.{root_named}
 use Rattle.store_core.proofs.machine.naming.Naming.mark_protected.Goals as goal
 

@@ -1,6 +1,6 @@
 use Rattle.std.proofs.Common.{ℕ, ◌<◌, []}
-use Rattle.store_core.specs.Words.{Root}
-use Rattle.store_core.specs.Shown.{shown}
+use Rattle.store_model.specs.Words.{Root}
+use Rattle.store_model.specs.Shown.{shown}
 use Rattle.store_core.specs.Naming.{IsMarked, Halfway}
 use Rattle.store_core.proofs.machine.naming.Naming.mark_protected.Given as goal
 

@@ -1,6 +1,6 @@
 use Rattle.std.proofs.Common.{List, ℕ, ◌≡◌, ◌<◌, Bool, true, false, length, get_or, set, sym, subst, arith}
-use Rattle.store_core.specs.Machine.{MayName}
-use Rattle.store_core.specs.Shown.{shown}
+use Rattle.store_model.specs.Machine.{MayName}
+use Rattle.store_model.specs.Shown.{shown}
 use Rattle.store_core.specs.Naming.{Visits, Halfway}
 use Rattle.store_core.proofs.Naming.{visits_one, visited}
 use Rattle.store_core.proofs.machine.naming.Naming.visit.Goals as goal

@@ -1,5 +1,5 @@
 use Rattle.std.proofs.Common.{◌≡◌}
-use Rattle.store_core.specs.Shown.{shown}
+use Rattle.store_model.specs.Shown.{shown}
 use Rattle.store_core.specs.Running.{IsBegun}
 use Rattle.store_core.proofs.machine.table.Table.with_free_places.Given as goal
 
