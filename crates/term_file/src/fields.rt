@@ -10,7 +10,7 @@ ghost use Rattle.term_file.specs.Outcome.{Gives};
 
 use byteorder::{BigEndian, ByteOrder};
 use faults::kinds;
-use read_faults::ReadFail;
+use read_faults::{ReadFail, refused};
 
 /// The kind of a field that breaks its rule.
 const BAD_FILE: u8 = 18;
