@@ -1,5 +1,5 @@
 //! A new store, and its passes.
-ghost use Rattle.std.specs.Prelude.{◌≡◌, ℕ, ◌+◌, ◌<◌, ◌^◌, IfOk, All, false, replicate, length};
+ghost use Rattle.std.specs.Prelude.{◌≡◌, ℕ, ◌+◌, ◌<◌, ◌≤◌, ◌^◌, IfOk, All, false, replicate, vec_capacity};
 ghost use Rattle.store_model.specs.Shown.{total};
 ghost use Rattle.busy_forbidden.specs.Dealt.{EachPlace};
 ghost use Rattle.store_model.specs.Steps.{newcomer};
@@ -48,7 +48,7 @@ fn first_words(alloc: Global, sizes: &Sizes) -> Result<Vec<u64>, Memory>
     Ok(words)
 }
 
-// What a collection needs: a mark for each row, the next word of each row, and the head of each bucket.
+// What a collection needs: a mark for each row, and room for the next word of each row and for the head of each bucket.
 #[derive(Drop)]
 struct Room {
     marks: Marks,
@@ -58,13 +58,13 @@ struct Room {
 
 fn take_room(alloc: Global, sizes: &Sizes) -> Result<Room, Memory>
     ensures marks { IfOk result (λ r. r.marks ≡ replicate sizes.now.rows false) }
-    ensures nexts { IfOk result (λ r. length r.nexts.items ≡ sizes.now.rows) }
-    ensures heads { IfOk result (λ r. length r.heads.items ≡ sizes.now.buckets) }
+    ensures nexts { IfOk result (λ r. sizes.now.rows ≤ vec_capacity r.nexts) }
+    ensures heads { IfOk result (λ r. sizes.now.buckets ≤ vec_capacity r.heads) }
 {
     Ok(Room {
         marks: Marks::new(alloc, sizes.rows)?,
-        nexts: Vec::from_elem(alloc, 0u32, sizes.rows as usize)?,
-        heads: Vec::from_elem(alloc, 0u32, sizes.buckets as usize)?,
+        nexts: Vec::with_capacity(alloc, sizes.rows as usize)?,
+        heads: Vec::with_capacity(alloc, sizes.buckets as usize)?,
     })
 }
 
@@ -72,8 +72,8 @@ fn take_room(alloc: Global, sizes: &Sizes) -> Result<Room, Memory>
 fn new_pass(seat: Seat<NodeRows>, rows: u32, room: Room) -> Pass
     requires count { seat.seat.me.0.store.root_count ≡ 0 }
     requires rows { seat.seat.me.0.sizes.rows ≡ rows }
-    requires nexts { length room.nexts.items ≡ rows }
-    requires heads { length room.heads.items ≡ seat.seat.me.0.sizes.buckets }
+    requires nexts { rows ≤ vec_capacity room.nexts }
+    requires heads { seat.seat.me.0.sizes.buckets ≤ vec_capacity room.heads }
     ensures seat { result.seat ≡ seat }
     ensures told { seat.seat.me.0.store ≡ newcomer seat.seat.me.0.sizes → room.marks ≡ replicate rows false → Tells result }
 {
@@ -126,8 +126,8 @@ fn next_pass(store: &Store, first: &mut Pass, k: u32, room: Room) -> Pass
     requires below { k < store.now.sizes.seats }
     requires first { IsNew store.now.table.shared.table_id store.now.sizes 0 first.old.seat.seat first.old.seat.number first.old.seat.seats × IsFirst k first.old.seat.seat }
     requires marks { room.marks ≡ replicate store.now.sizes.rows false }
-    requires nexts { length room.nexts.items ≡ store.now.sizes.rows }
-    requires heads { length room.heads.items ≡ store.now.sizes.buckets }
+    requires nexts { store.now.sizes.rows ≤ vec_capacity room.nexts }
+    requires heads { store.now.sizes.buckets ≤ vec_capacity room.heads }
     ensures first { IsNew store.now.table.shared.table_id store.now.sizes 0 first.new.seat.seat first.new.seat.number first.new.seat.seats × IsFirst (k + 1) first.new.seat.seat }
     ensures told { Tells first.old → Tells first.new }
     ensures new { IsNew store.now.table.shared.table_id store.now.sizes k result.seat.seat result.seat.number result.seat.seats }

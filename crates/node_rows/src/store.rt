@@ -1,5 +1,5 @@
 //! A store, its passes, and their accesses.
-ghost use Rattle.std.specs.Prelude.{◌≡◌, ◌+◌, ◌*◌, IfOk, IfErr, MatchResult, Err, length};
+ghost use Rattle.std.specs.Prelude.{◌≡◌, ◌+◌, ◌*◌, ◌≤◌, IfOk, IfErr, MatchResult, Err, vec_capacity};
 ghost use Rattle.lock_core.specs.declared.parts.Phase.TheVariants.{Shared};
 ghost use Rattle.store_model.specs.Machine.{widest};
 ghost use Rattle.store_model.specs.Steps.{AreLastRoots};
@@ -55,13 +55,13 @@ pub struct Pass {
     /// A mark for each row: those that the pass's last collection kept. A collection marks here what it reaches.
     pub marks: Marks,
     /// For each row the next word of its new chain, and for each bucket the new head: a collection works them out here before it
-    /// stores.
+    /// stores. Their memory is taken when the pass is made, and the pass's first collection fills it.
     pub nexts: Vec<u32>,
     pub heads: Vec<u32>,
     ghost counted: { root_count ≡ seat.seat.me.0.store.root_count },
     ghost sized: { rows ≡ seat.seat.me.0.sizes.rows },
-    ghost nexts_are: { length nexts.items ≡ seat.seat.me.0.sizes.rows },
-    ghost heads_are: { length heads.items ≡ seat.seat.me.0.sizes.buckets },
+    ghost nexts_fit: { rows ≤ vec_capacity nexts },
+    ghost heads_fit: { seat.seat.me.0.sizes.buckets ≤ vec_capacity heads },
 }
 
 impl Store {

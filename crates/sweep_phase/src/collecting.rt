@@ -1,5 +1,5 @@
 //! A whole collection.
-ghost use Rattle.std.specs.Prelude.{◌≡◌, ◌<◌, ◌≤◌, ◌+◌, ◌↔◌, ℕ, List, Contains, true, false, IfOk, IfErr, length};
+ghost use Rattle.std.specs.Prelude.{◌≡◌, ◌<◌, ◌≤◌, ◌+◌, ◌↔◌, ℕ, List, Contains, true, false, IfOk, IfErr, length, vec_capacity};
 ghost use Rattle.term_model.specs.declared.Row.{Row};
 ghost use Rattle.store_model.specs.declared.view.Place.{Place};
 ghost use Rattle.store_model.specs.declared.view.Place.TheVariants.{Base, FreeCount, InUse};
@@ -178,7 +178,17 @@ fn sweep_all(
     kept
 }
 
-// Goes on with the collection of a pass that isn't worn, and tells it.
+// Fills a list up to so many words, for which it has room.
+fn fill_up(words: &mut Vec<u32>, count: u32)
+    requires room { count ≤ vec_capacity words.old }
+    ensures length { length words.new.items ≡ count }
+    ensures capacity { vec_capacity words.old ≤ vec_capacity words.new }
+{
+    let _filled = words.resize(count as usize, 0);
+}
+
+// Goes on with the collection of a pass that isn't worn, and tells it. The pass's first collection fills the room of its new
+// chains.
 fn collect_on(sweep: &Sweep<'_>, pass: &mut Pass, in_use: u32) -> Kept
     requires at { Gathers sweep.now pass.old.seat.seat pass.old.seat.number pass.old.seat.seats }
     requires in_use { in_use ≡ pass.old.seat.seat.me.0.store.in_use }
@@ -188,6 +198,8 @@ fn collect_on(sweep: &Sweep<'_>, pass: &mut Pass, in_use: u32) -> Kept
     ensures in_use { pass.new.in_use ≡ result.buckets }
     ensures told { Tells pass.new }
 {
+    fill_up(&mut pass.nexts, sweep.store.sizes.rows);
+    fill_up(&mut pass.heads, sweep.store.sizes.buckets);
     let kept = sweep_all(
         sweep,
         &mut pass.seat,

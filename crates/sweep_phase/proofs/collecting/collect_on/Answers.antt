@@ -9,11 +9,19 @@ use Rattle.sweep_phase.proofs.collecting.collect_on.Goals as goal
 pub sweep_all-kept-requires-clause-size : goal.sweep_all-kept-requires-clause-size
 sweep_all-kept-requires-clause-size c = let p = c.args.pass.now in c.requires.size ∙ (p.sized ∙ ap (λ (z : Sizes). z.rows) c.requires.at.alone.of.sizes)
 
+pub fill_up-requires : goal.fill_up-requires
+fill_up-requires c =
+    let p = c.args.pass.now in
+    let of = ap (λ (z : Sizes). z.rows) c.requires.at.alone.of.sizes in
+    let told = ap (λ (z : Sizes). z.rows) c.args.sweep.now.at.told in omega (arith, p.nexts_fit, p.sized, of, told)
+
 pub sweep_all-kept-requires-clause-nexts : goal.sweep_all-kept-requires-clause-nexts
-sweep_all-kept-requires-clause-nexts c = let p = c.args.pass.now in ap length c.deref_mut.ensures.value ∙ (p.nexts_are ∙ ap (λ (z : Sizes). z.rows) c.requires.at.alone.of.sizes)
+sweep_all-kept-requires-clause-nexts c =
+    ap length c.deref_mut.ensures.value ∙ (c.fill_up.ensures.length ∙ sym (ap (λ (z : Sizes). z.rows) c.args.sweep.now.at.told))
 
 pub sweep_all-kept-requires-clause-heads : goal.sweep_all-kept-requires-clause-heads
-sweep_all-kept-requires-clause-heads c = let p = c.args.pass.now in ap length c.deref_mut-2.ensures.value ∙ (p.heads_are ∙ ap (λ (z : Sizes). z.buckets) c.requires.at.alone.of.sizes)
+sweep_all-kept-requires-clause-heads c =
+    ap length c.deref_mut-2.ensures.value ∙ (c.fill_up-2.ensures.length ∙ sym (ap (λ (z : Sizes). z.buckets) c.args.sweep.now.at.told))
 
 pub returns-clause-told : goal.returns-clause-told
 returns-clause-told c =

@@ -1,6 +1,6 @@
 use Rattle.store_model.specs.declared.view.Sizes.{Sizes}
 use Rattle.node_rows.proofs.Tellings.{told_same}
-use Rattle.std.proofs.Common.{sym, ap, ◌∙◌}
+use Rattle.std.proofs.Common.{◌≤◌, vec_capacity, subst, sym, ap, ◌∙◌}
 use Rattle.store_model.specs.declared.view.View.{View}
 use Rattle.node_rows.proofs.Entering.{came_from, enters_exclusive_stays, came_last}
 use Rattle.node_rows.proofs.store.Store.enter_exclusive.Goals as goal
@@ -22,8 +22,8 @@ pub invariant_of-pass : goal.invariant_of-pass
 invariant_of-pass g c = record {
   counted = c.args.pass.now.counted ∙ ap (λ (v : View). v.root_count) (sym (enters_exclusive_stays c.args.pass.now.seat.number c.args.pass.now.seat.seats c.args.pass.now.seat.seat.me.0 c.enter_exclusive.new.seat.seat.me.0 c.enter_exclusive.ensures.steps c.requires.out.away).store);
   sized = c.args.pass.now.sized ∙ ap (λ (z : Sizes). z.rows) (sym (enters_exclusive_stays c.args.pass.now.seat.number c.args.pass.now.seat.seats c.args.pass.now.seat.seat.me.0 c.enter_exclusive.new.seat.seat.me.0 c.enter_exclusive.ensures.steps c.requires.out.away).sizes);
-  nexts_are = c.args.pass.now.nexts_are ∙ ap (λ (z : Sizes). z.rows) (sym (enters_exclusive_stays c.args.pass.now.seat.number c.args.pass.now.seat.seats c.args.pass.now.seat.seat.me.0 c.enter_exclusive.new.seat.seat.me.0 c.enter_exclusive.ensures.steps c.requires.out.away).sizes);
-  heads_are = c.args.pass.now.heads_are ∙ ap (λ (z : Sizes). z.buckets) (sym (enters_exclusive_stays c.args.pass.now.seat.number c.args.pass.now.seat.seats c.args.pass.now.seat.seat.me.0 c.enter_exclusive.new.seat.seat.me.0 c.enter_exclusive.ensures.steps c.requires.out.away).sizes);
+  nexts_fit = c.args.pass.now.nexts_fit;
+  heads_fit = subst (λ (z : Sizes). z.buckets ≤ vec_capacity c.args.pass.now.heads) (sym (enters_exclusive_stays c.args.pass.now.seat.number c.args.pass.now.seat.seats c.args.pass.now.seat.seat.me.0 c.enter_exclusive.new.seat.seat.me.0 c.enter_exclusive.ensures.steps c.requires.out.away).sizes) c.args.pass.now.heads_fit;
 }
 
 pub returns-clause-told : goal.returns-clause-told

@@ -1,6 +1,6 @@
 use Rattle.store_model.specs.declared.view.Sizes.{Sizes}
 use Rattle.node_rows.proofs.Tellings.{told_left_as}
-use Rattle.std.proofs.Common.{◌∙◌, sym, ap}
+use Rattle.std.proofs.Common.{◌≤◌, vec_capacity, subst, ◌∙◌, sym, ap}
 use Rattle.store_model.specs.declared.view.View.{View}
 use Rattle.node_rows.proofs.Entering.{ends_exclusive, granted_closed, may_release, left_last}
 use Rattle.node_rows.proofs.store.Store.leave_exclusive.Goals as goal
@@ -25,8 +25,8 @@ pub invariant_of-pass : goal.invariant_of-pass
 invariant_of-pass c = record {
   counted = c.args.pass.now.counted ∙ ap (λ (v : View). v.root_count) (sym (ends_exclusive c.args.pass.now.seat.number c.args.pass.now.seat.seats c.args.pass.now.seat.seat.me.0 c.leave_exclusive.new.seat.seat.me.0 c.requires.ready.rest c.leave_exclusive.ensures.view).store);
   sized = c.args.pass.now.sized ∙ ap (λ (z : Sizes). z.rows) (sym (ends_exclusive c.args.pass.now.seat.number c.args.pass.now.seat.seats c.args.pass.now.seat.seat.me.0 c.leave_exclusive.new.seat.seat.me.0 c.requires.ready.rest c.leave_exclusive.ensures.view).sizes);
-  nexts_are = c.args.pass.now.nexts_are ∙ ap (λ (z : Sizes). z.rows) (sym (ends_exclusive c.args.pass.now.seat.number c.args.pass.now.seat.seats c.args.pass.now.seat.seat.me.0 c.leave_exclusive.new.seat.seat.me.0 c.requires.ready.rest c.leave_exclusive.ensures.view).sizes);
-  heads_are = c.args.pass.now.heads_are ∙ ap (λ (z : Sizes). z.buckets) (sym (ends_exclusive c.args.pass.now.seat.number c.args.pass.now.seat.seats c.args.pass.now.seat.seat.me.0 c.leave_exclusive.new.seat.seat.me.0 c.requires.ready.rest c.leave_exclusive.ensures.view).sizes);
+  nexts_fit = c.args.pass.now.nexts_fit;
+  heads_fit = subst (λ (z : Sizes). z.buckets ≤ vec_capacity c.args.pass.now.heads) (sym (ends_exclusive c.args.pass.now.seat.number c.args.pass.now.seat.seats c.args.pass.now.seat.seat.me.0 c.leave_exclusive.new.seat.seat.me.0 c.requires.ready.rest c.leave_exclusive.ensures.view).sizes) c.args.pass.now.heads_fit;
 }
 
 pub returns-clause-told : goal.returns-clause-told

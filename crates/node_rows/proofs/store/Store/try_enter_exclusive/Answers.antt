@@ -1,6 +1,6 @@
 use Rattle.store_model.specs.declared.view.Sizes.{Sizes}
 use Rattle.node_rows.proofs.Tellings.{told_same}
-use Rattle.std.proofs.Common.{sym, ap, ◌∙◌, Ok, Err}
+use Rattle.std.proofs.Common.{◌≤◌, vec_capacity, subst, sym, ap, ◌∙◌, Ok, Err}
 use Rattle.store_model.specs.declared.view.View.{View}
 use Rattle.node_rows.proofs.Entering.{came_from, tries_exclusive_stays, stayed_last, came_last}
 use Rattle.node_rows.proofs.store.Store.try_enter_exclusive.Goals as goal
@@ -37,8 +37,8 @@ pub invariant_of-pass : goal.invariant_of-pass
 invariant_of-pass c = record {
   counted = c.args.pass.now.counted ∙ ap (λ (v : View). v.root_count) (sym (tries_exclusive_stays c.args.pass.now.seat.number c.args.pass.now.seat.seats c.args.pass.now.seat.seat.me.0 c.try_enter_exclusive.new.seat.seat.me.0 c.try_enter_exclusive.result c.try_enter_exclusive.ensures.steps c.requires.out.away).store);
   sized = c.args.pass.now.sized ∙ ap (λ (z : Sizes). z.rows) (sym (tries_exclusive_stays c.args.pass.now.seat.number c.args.pass.now.seat.seats c.args.pass.now.seat.seat.me.0 c.try_enter_exclusive.new.seat.seat.me.0 c.try_enter_exclusive.result c.try_enter_exclusive.ensures.steps c.requires.out.away).sizes);
-  nexts_are = c.args.pass.now.nexts_are ∙ ap (λ (z : Sizes). z.rows) (sym (tries_exclusive_stays c.args.pass.now.seat.number c.args.pass.now.seat.seats c.args.pass.now.seat.seat.me.0 c.try_enter_exclusive.new.seat.seat.me.0 c.try_enter_exclusive.result c.try_enter_exclusive.ensures.steps c.requires.out.away).sizes);
-  heads_are = c.args.pass.now.heads_are ∙ ap (λ (z : Sizes). z.buckets) (sym (tries_exclusive_stays c.args.pass.now.seat.number c.args.pass.now.seat.seats c.args.pass.now.seat.seat.me.0 c.try_enter_exclusive.new.seat.seat.me.0 c.try_enter_exclusive.result c.try_enter_exclusive.ensures.steps c.requires.out.away).sizes);
+  nexts_fit = c.args.pass.now.nexts_fit;
+  heads_fit = subst (λ (z : Sizes). z.buckets ≤ vec_capacity c.args.pass.now.heads) (sym (tries_exclusive_stays c.args.pass.now.seat.number c.args.pass.now.seat.seats c.args.pass.now.seat.seat.me.0 c.try_enter_exclusive.new.seat.seat.me.0 c.try_enter_exclusive.result c.try_enter_exclusive.ensures.steps c.requires.out.away).sizes) c.args.pass.now.heads_fit;
 }
 
 pub returns-in-Ok-clause-told : goal.returns-in-Ok-clause-told
