@@ -4,9 +4,10 @@
 ghost use Rattle.std.specs.Prelude.{◌≡◌, IfOk, All};
 ghost use Rattle.lock_core.specs.declared.parts.Phase.TheVariants.{Shared};
 ghost use Rattle.store_model.specs.Machine.{In};
+ghost use Rattle.node_rows.specs.Belonging.{IsSeated, IsOpen};
 ghost use Rattle.node_rows.specs.Inside.{IsInside};
-ghost use Rattle.node_rows.specs.Told.{Tells};
-ghost use Rattle.node_rows.specs.Passes.{IsStore, IsPass, IsOut};
+ghost use Rattle.node_rows.specs.Told.{Tells, view_of};
+ghost use Rattle.node_rows.specs.Passes.{IsOut};
 
 use node_rows::{Pass, Store};
 use std::{env, io, thread};
@@ -32,9 +33,9 @@ struct Work {
 // Creates a chain of so many terms, a symbol over a symbol, and says how many there are: fewer where the rows don't suffice.
 fn create_chain(store: &Store, pass: &mut Pass, symbol: u32, count: u32) -> u64
     requires inside { IsInside store.now pass.old }
-    requires shared { pass.old.seat.seat.me.0.lock.phase ≡ Shared }
+    requires shared { (view_of pass.old).lock.phase ≡ Shared }
     ensures inside { IsInside store.now pass.new }
-    ensures shared { pass.new.seat.seat.me.0.lock.phase ≡ Shared }
+    ensures shared { (view_of pass.new).lock.phase ≡ Shared }
 {
     let Ok(mut row) = create(store, pass, Head::App(Symbol(symbol)), &[]) else {
         return 0;
@@ -52,8 +53,8 @@ fn create_chain(store: &Store, pass: &mut Pass, symbol: u32, count: u32) -> u64
 
 // The laps of one thread: how many terms it has created.
 fn create_laps(store: &Store, mut pass: Pass, work: Work) -> u64
-    requires store { IsStore store.now.table.shared.table_id store.now.table.shared.key store.now.sizes }
-    requires pass { IsPass store.now.table.shared.table_id store.now.sizes pass.seat.seat pass.seat.seats × IsOut pass.seat.seat.me.0 × Tells pass }
+    requires store { IsOpen store.now }
+    requires pass { IsSeated store.now pass × IsOut (view_of pass) × Tells pass }
 {
     let symbol = if work.own { pass.seat.number } else { 0 };
     let mut created: u64 = 0;
@@ -96,8 +97,8 @@ fn main(rt: HostRuntime) -> io::Result<()> {
     let work = Work { own, count, laps };
     let shared = &store;
     let job = |pass: Pass| -> u64
-        requires { IsStore shared.now.table.shared.table_id shared.now.table.shared.key shared.now.sizes
-            × IsPass shared.now.table.shared.table_id shared.now.sizes pass.seat.seat pass.seat.seats × IsOut pass.seat.seat.me.0 × Tells pass }
+        requires { IsOpen shared.now
+            × IsSeated shared.now pass × IsOut (view_of pass) × Tells pass }
     { create_laps(shared, pass, work) };
     let Ok(counts) = thread::map_vec(&rt, passes, &job) else {
         return println!(rt; "out of memory");

@@ -1,10 +1,11 @@
 //! What each granted access loads first.
 ghost use Rattle.std.specs.Prelude.{◌≡◌, max, pred};
 ghost use Rattle.busy_forbidden.specs.Calls.{IsSame};
+ghost use Rattle.node_rows.specs.Belonging.{IsPrepared, IsSeated, IsOpen};
 ghost use Rattle.node_rows.specs.Steps.{MayLoad};
 ghost use Rattle.node_rows.specs.Shown.{IsAway};
-ghost use Rattle.node_rows.specs.Passes.{IsStore, IsPass, IsReady, Came};
-ghost use Rattle.node_rows.specs.Told.{Tells};
+ghost use Rattle.node_rows.specs.Passes.{Came};
+ghost use Rattle.node_rows.specs.Told.{Tells, view_of};
 
 use crate::places::{base_word, in_use_word};
 use crate::steps::{load_base, load_in_use};
@@ -23,18 +24,18 @@ fn later(seen: u64, base: u64) -> u64
 
 // Loads what each granted access loads first.
 pub(crate) fn arrive(store: &Store, pass: &mut Pass)
-    requires store { IsStore store.now.table.shared.table_id store.now.table.shared.key store.now.sizes }
-    requires pass { IsPass store.now.table.shared.table_id store.now.sizes pass.old.seat.seat pass.old.seat.seats }
-    requires away { IsAway pass.old.seat.seat.me.0.store }
-    requires granted { MayLoad pass.old.seat.seat.me.0.lock pass.old.seat.number pass.old.seat.seats }
-    ensures pass { IsPass store.now.table.shared.table_id store.now.sizes pass.new.seat.seat pass.new.seat.seats }
+    requires store { IsOpen store.now }
+    requires pass { IsSeated store.now pass.old }
+    requires away { IsAway (view_of pass.old).store }
+    requires granted { MayLoad (view_of pass.old).lock pass.old.seat.number pass.old.seat.seats }
+    ensures pass { IsSeated store.now pass.new }
     ensures same { IsSame pass.old.seat.seat pass.new.seat.seat
         × (pass.new.seat.number ≡ pass.old.seat.number) × (pass.new.seat.seats ≡ pass.old.seat.seats) }
-    ensures lock { pass.new.seat.seat.me.0.lock ≡ pass.old.seat.seat.me.0.lock }
-    ensures came { Came pass.old.seat.seat.me.0 pass.new.seat.seat.me.0 pass.new.base pass.new.in_use }
-    ensures ready { IsReady store.now.sizes pass.new.seat.seat.me.0.store pass.new.base pass.new.in_use }
+    ensures lock { (view_of pass.new).lock ≡ (view_of pass.old).lock }
+    ensures came { Came (view_of pass.old) (view_of pass.new) pass.new.base pass.new.in_use }
+    ensures ready { IsPrepared store.now pass.new }
     ensures told { Tells pass.old → Tells pass.new }
-    ensures crowd { pass.new.seat.seat.me.0.crowd ≡ pass.old.seat.seat.me.0.crowd }
+    ensures crowd { (view_of pass.new).crowd ≡ (view_of pass.old).crowd }
 {
     pass.base = load_base(&store.table, &mut pass.seat, base_word(&store.sizes));
     pass.seen = later(pass.seen, pass.base);

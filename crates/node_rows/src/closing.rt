@@ -3,7 +3,8 @@ ghost use Rattle.std.specs.Prelude.{◌≡◌, ◌+◌, [], All, length, map};
 ghost use Rattle.history_core.specs.Chronicle.{chronicle, IsLegal};
 ghost use Rattle.store_model.specs.Bases.{StaysBelow, collect_numbers};
 ghost use Rattle.store_model.specs.Invariant.{span};
-ghost use Rattle.node_rows.specs.Passes.{IsStore, IsPass, IsOut};
+ghost use Rattle.node_rows.specs.Belonging.{IsSeated, IsOpen};
+ghost use Rattle.node_rows.specs.Passes.{IsOut};
 ghost use Rattle.node_rows.specs.Joining.{HasBase, TellsAll, all_views, both_views, lists_in};
 ghost use Rattle.node_rows.specs.Told.{HasEntries, KeepsOrder, HasRisingKeys, TellsTrees, TellsCrowd, view_of};
 
@@ -41,10 +42,10 @@ impl Chronicle {
 
 // Joins a pass that is out into another.
 fn gather(store: &Store, first: &mut Pass, other: Pass)
-    requires store { IsStore store.now.table.shared.table_id store.now.table.shared.key store.now.sizes }
-    requires first { IsPass store.now.table.shared.table_id store.now.sizes first.old.seat.seat first.old.seat.seats }
-    requires other { IsPass store.now.table.shared.table_id store.now.sizes other.seat.seat other.seat.seats × IsOut other.seat.seat.me.0 }
-    ensures first { IsPass store.now.table.shared.table_id store.now.sizes first.new.seat.seat first.new.seat.seats }
+    requires store { IsOpen store.now }
+    requires first { IsSeated store.now first.old }
+    requires other { IsSeated store.now other × IsOut (view_of other) }
+    ensures first { IsSeated store.now first.new }
     ensures number { first.new.seat.number ≡ first.old.seat.number }
     ensures view { view_of first.new ≡ both_views (view_of first.old) (view_of other) }
 {
@@ -73,10 +74,10 @@ fn gather(store: &Store, first: &mut Pass, other: Pass)
 
 // Joins passes that are out into another, the last one first.
 fn gather_all(store: &Store, first: &mut Pass, passes: Vec<Pass>)
-    requires store { IsStore store.now.table.shared.table_id store.now.table.shared.key store.now.sizes }
-    requires first { IsPass store.now.table.shared.table_id store.now.sizes first.old.seat.seat first.old.seat.seats }
-    requires passes { All (λ p. IsPass store.now.table.shared.table_id store.now.sizes p.seat.seat p.seat.seats × IsOut p.seat.seat.me.0) passes.items }
-    ensures first { IsPass store.now.table.shared.table_id store.now.sizes first.new.seat.seat first.new.seat.seats }
+    requires store { IsOpen store.now }
+    requires first { IsSeated store.now first.old }
+    requires passes { All (λ p. IsSeated store.now p × IsOut (view_of p)) passes.items }
+    ensures first { IsSeated store.now first.new }
     ensures number { first.new.seat.number ≡ first.old.seat.number }
     ensures view { view_of first.new ≡ all_views (view_of first.old) (map view_of passes.items) }
 {
@@ -88,8 +89,8 @@ fn gather_all(store: &Store, first: &mut Pass, passes: Vec<Pass>)
 
 // What a pass knows of all that were joined into it.
 fn look(store: &Store, pass: &mut Pass)
-    requires store { IsStore store.now.table.shared.table_id store.now.table.shared.key store.now.sizes }
-    requires pass { IsPass store.now.table.shared.table_id store.now.sizes pass.old.seat.seat pass.old.seat.seats }
+    requires store { IsOpen store.now }
+    requires pass { IsSeated store.now pass.old }
     ensures number { pass.new.seat.number ≡ pass.old.seat.number }
     ensures view { view_of pass.new ≡ view_of pass.old }
     ensures tells { TellsAll store.now.sizes (view_of pass.old) }
@@ -123,9 +124,9 @@ fn chronicle_of(pass: Pass) -> Chronicle
 
 // Ends a store whose passes are these.
 fn close_from(store: &Store, mut first: Pass, rest: Vec<Pass>) -> Chronicle
-    requires store { IsStore store.now.table.shared.table_id store.now.table.shared.key store.now.sizes }
-    requires first { IsPass store.now.table.shared.table_id store.now.sizes first.seat.seat first.seat.seats }
-    requires rest { All (λ p. IsPass store.now.table.shared.table_id store.now.sizes p.seat.seat p.seat.seats × IsOut p.seat.seat.me.0) rest.items }
+    requires store { IsOpen store.now }
+    requires first { IsSeated store.now first }
+    requires rest { All (λ p. IsSeated store.now p × IsOut (view_of p)) rest.items }
     requires all { length rest.items + 1 ≡ store.now.sizes.seats }
     ensures count { length result ≡ store.now.sizes.seats }
     ensures own { HasEntries result first × All (HasEntries result) rest.items }
@@ -151,8 +152,8 @@ impl Store {
     /// those that the pass's own entries tell. Of the trees that a pass's Collects kept in the chronicle, each at its place, its
     /// crowd is the last.
     pub fn close(self, passes: Vec<Pass>) -> Chronicle
-        requires store { IsStore self.table.shared.table_id self.table.shared.key self.sizes }
-        requires passes { All (λ p. IsPass self.table.shared.table_id self.sizes p.seat.seat p.seat.seats × IsOut p.seat.seat.me.0) passes.items }
+        requires store { IsOpen self }
+        requires passes { All (λ p. IsSeated self p × IsOut (view_of p)) passes.items }
         requires all { length passes.items ≡ self.sizes.seats }
         ensures count { length result ≡ self.sizes.seats }
         ensures own { All (HasEntries result) passes.items }

@@ -4,8 +4,9 @@ ghost use Rattle.store_model.specs.Shown.{total};
 ghost use Rattle.busy_forbidden.specs.Dealt.{EachPlace};
 ghost use Rattle.store_model.specs.Steps.{newcomer};
 ghost use Rattle.store_model.specs.NewStore.{MaySize};
-ghost use Rattle.node_rows.specs.Passes.{IsStore, IsPass, IsOut};
-ghost use Rattle.node_rows.specs.Told.{Tells};
+ghost use Rattle.node_rows.specs.Belonging.{IsSeated, IsOpen};
+ghost use Rattle.node_rows.specs.Passes.{IsOut};
+ghost use Rattle.node_rows.specs.Told.{Tells, view_of};
 ghost use Rattle.node_rows.specs.Opening.{UpTo, IsNew, IsFirst};
 
 use crate::places::{
@@ -99,7 +100,7 @@ fn new_pass(seat: Seat<NodeRows>, rows: u32, room: Room) -> Pass
 fn first_pass(alloc: Global, sizes: &Sizes) -> Result<(Store, Pass), Memory>
     requires small { total sizes.now < 2 ^ 62 }
     requires sizes { MaySize sizes.now }
-    ensures store { IfOk result (λ t. IsStore t.0.table.shared.table_id t.0.table.shared.key t.0.sizes × (t.0.sizes ≡ sizes.now)) }
+    ensures store { IfOk result (λ t. IsOpen t.0 × (t.0.sizes ≡ sizes.now)) }
     ensures pass { IfOk result (λ t. IsNew t.0.table.shared.table_id sizes.now 0 t.1.seat.seat t.1.seat.number t.1.seat.seats × IsFirst 1 t.1.seat.seat) }
     ensures told { IfOk result (λ t. Tells t.1) }
 {
@@ -122,7 +123,7 @@ fn first_pass(alloc: Global, sizes: &Sizes) -> Result<(Store, Pass), Memory>
 
 // Pass k, split off the first.
 fn next_pass(store: &Store, first: &mut Pass, k: u32, room: Room) -> Pass
-    requires store { IsStore store.now.table.shared.table_id store.now.table.shared.key store.now.sizes }
+    requires store { IsOpen store.now }
     requires below { k < store.now.sizes.seats }
     requires first { IsNew store.now.table.shared.table_id store.now.sizes 0 first.old.seat.seat first.old.seat.number first.old.seat.seats × IsFirst k first.old.seat.seat }
     requires marks { room.marks ≡ replicate store.now.sizes.rows false }
@@ -147,9 +148,9 @@ impl Store {
     /// and as many buckets, 16 passes, 65,536 protected rows of each pass, and 16 arguments of a term.
     pub fn make(alloc: Global, sizes: Sizes) -> Result<(Store, Vec<Pass>), Memory>
         requires { MaySize sizes }
-        ensures store { IfOk result (λ t. IsStore t.0.table.shared.table_id t.0.table.shared.key t.0.sizes × (t.0.sizes ≡ sizes)) }
+        ensures store { IfOk result (λ t. IsOpen t.0 × (t.0.sizes ≡ sizes)) }
         ensures passes { IfOk result (λ t. EachPlace (λ j p. IsNew t.0.table.shared.table_id sizes j p.seat.seat p.seat.number p.seat.seats) sizes.seats t.1.items) }
-        ensures ready { IfOk result (λ t. All (λ p. IsPass t.0.table.shared.table_id t.0.sizes p.seat.seat p.seat.seats × IsOut p.seat.seat.me.0) t.1.items) }
+        ensures ready { IfOk result (λ t. All (λ p. IsSeated t.0 p × IsOut (view_of p)) t.1.items) }
         ensures told { IfOk result (λ t. All Tells t.1.items) }
     {
         let (store, mut first) = first_pass(alloc, &sizes)?;

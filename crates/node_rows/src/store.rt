@@ -3,11 +3,10 @@ ghost use Rattle.std.specs.Prelude.{◌≡◌, ◌+◌, ◌*◌, ◌≤◌, IfOk
 ghost use Rattle.lock_core.specs.declared.parts.Phase.TheVariants.{Shared};
 ghost use Rattle.store_model.specs.Machine.{widest};
 ghost use Rattle.store_model.specs.Steps.{AreLastRoots};
-ghost use Rattle.busy_forbidden.specs.Calls.{IsSame};
 ghost use Rattle.busy_forbidden.specs.Entries.{ShowsShared};
-ghost use Rattle.busy_forbidden.specs.Exclusive.{IsGranted, ShowsExclusive, TriesExclusive};
+ghost use Rattle.busy_forbidden.specs.Exclusive.{ShowsExclusive, TriesExclusive};
 ghost use Rattle.node_rows.specs.Shown.{node_next};
-ghost use Rattle.node_rows.specs.Passes.{IsPass, IsOut, IsReady, Came, Stayed, Left};
+ghost use Rattle.node_rows.specs.Passes.{IsOut, Came, Stayed, Left};
 
 use crate::arriving::arrive;
 use crate::rule::NodeRows;
@@ -65,25 +64,25 @@ pub struct Pass {
 }
 
 impl Store {
-    ghost use Rattle.node_rows.specs.Belonging.{IsPassOf};
-    ghost use Rattle.node_rows.specs.Told.{Tells};
+    ghost use Rattle.node_rows.specs.Belonging.{IsPassOf, IsExclusive, IsPrepared, IsSamePass, IsSeated};
+    ghost use Rattle.node_rows.specs.Told.{Tells, view_of};
 
     /// Enters shared access, without a wait. `Busy::Forbidden` comes exactly where this call read the own forbidden word as
     /// set; the pass is then out. An entry loads the base and then the number of buckets in use.
     pub fn try_enter_shared(&self, pass: &mut Pass) -> Result<(), Busy>
         requires of { IsPassOf self.now pass.old }
-        requires out { IsOut pass.old.seat.seat.me.0 }
-        ensures pass { IsPass self.now.table.shared.table_id self.now.sizes pass.new.seat.seat pass.new.seat.seats }
-        ensures same { IsSame pass.old.seat.seat pass.new.seat.seat × (pass.new.seat.number ≡ pass.old.seat.number) }
-        ensures reads { ShowsShared pass.old.seat.seat.me.0.lock pass.new.seat.seat.me.0.lock result }
+        requires out { IsOut (view_of pass.old) }
+        ensures pass { IsSeated self.now pass.new }
+        ensures same { IsSamePass pass.old pass.new }
+        ensures reads { ShowsShared (view_of pass.old).lock (view_of pass.new).lock result }
         ensures came { MatchResult result
-            (λ _. Came pass.old.seat.seat.me.0 pass.new.seat.seat.me.0 pass.new.base pass.new.in_use)
-            (λ _. Stayed pass.old.seat.seat.me.0 pass.new.seat.seat.me.0) }
+            (λ _. Came (view_of pass.old) (view_of pass.new) pass.new.base pass.new.in_use)
+            (λ _. Stayed (view_of pass.old) (view_of pass.new)) }
         ensures access { MatchResult result
-            (λ _. IsReady self.now.sizes pass.new.seat.seat.me.0.store pass.new.base pass.new.in_use)
-            (λ _. IsOut pass.new.seat.seat.me.0) }
+            (λ _. IsPrepared self.now pass.new)
+            (λ _. IsOut (view_of pass.new)) }
         ensures told { Tells pass.old → Tells pass.new }
-        ensures crowd { pass.new.seat.seat.me.0.crowd ≡ pass.old.seat.seat.me.0.crowd }
+        ensures crowd { (view_of pass.new).crowd ≡ (view_of pass.old).crowd }
     {
         match busy_forbidden::try_enter_shared(&self.table, &mut pass.seat) {
             Ok(()) => {
@@ -97,14 +96,14 @@ impl Store {
     /// Enters shared access; it may wait.
     pub fn enter_shared<R: Wait>(&self, rt: &R, pass: &mut Pass)
         requires of { IsPassOf self.now pass.old }
-        requires out { IsOut pass.old.seat.seat.me.0 }
-        ensures pass { IsPass self.now.table.shared.table_id self.now.sizes pass.new.seat.seat pass.new.seat.seats }
-        ensures same { IsSame pass.old.seat.seat pass.new.seat.seat × (pass.new.seat.number ≡ pass.old.seat.number) }
-        ensures shared { pass.new.seat.seat.me.0.lock.phase ≡ Shared }
-        ensures came { Came pass.old.seat.seat.me.0 pass.new.seat.seat.me.0 pass.new.base pass.new.in_use }
-        ensures ready { IsReady self.now.sizes pass.new.seat.seat.me.0.store pass.new.base pass.new.in_use }
+        requires out { IsOut (view_of pass.old) }
+        ensures pass { IsSeated self.now pass.new }
+        ensures same { IsSamePass pass.old pass.new }
+        ensures shared { (view_of pass.new).lock.phase ≡ Shared }
+        ensures came { Came (view_of pass.old) (view_of pass.new) pass.new.base pass.new.in_use }
+        ensures ready { IsPrepared self.now pass.new }
         ensures told { Tells pass.old → Tells pass.new }
-        ensures crowd { pass.new.seat.seat.me.0.crowd ≡ pass.old.seat.seat.me.0.crowd }
+        ensures crowd { (view_of pass.new).crowd ≡ (view_of pass.old).crowd }
     {
         busy_forbidden::enter_shared(rt, &self.table, &mut pass.seat);
         arrive(self, pass);
@@ -113,14 +112,14 @@ impl Store {
     /// Ends shared access, and notes the rows that the pass protects.
     pub fn leave_shared(&self, pass: &mut Pass)
         requires of { IsPassOf self.now pass.old }
-        requires shared { pass.old.seat.seat.me.0.lock.phase ≡ Shared }
-        requires ready { IsReady self.now.sizes pass.old.seat.seat.me.0.store pass.old.base pass.old.in_use }
-        ensures pass { IsPass self.now.table.shared.table_id self.now.sizes pass.new.seat.seat pass.new.seat.seats }
-        ensures same { IsSame pass.old.seat.seat pass.new.seat.seat × (pass.new.seat.number ≡ pass.old.seat.number) }
-        ensures left { Left pass.old.seat.seat.me.0 pass.new.seat.seat.me.0 }
-        ensures out { IsOut pass.new.seat.seat.me.0 }
+        requires shared { (view_of pass.old).lock.phase ≡ Shared }
+        requires ready { IsPrepared self.now pass.old }
+        ensures pass { IsSeated self.now pass.new }
+        ensures same { IsSamePass pass.old pass.new }
+        ensures left { Left (view_of pass.old) (view_of pass.new) }
+        ensures out { IsOut (view_of pass.new) }
         ensures told { Tells pass.old → Tells pass.new }
-        ensures crowd { pass.new.seat.seat.me.0.crowd ≡ pass.old.seat.seat.me.0.crowd }
+        ensures crowd { (view_of pass.new).crowd ≡ (view_of pass.old).crowd }
     {
         busy_forbidden::leave_shared(&self.table, &mut pass.seat);
         pass.last = Last::Roots(pass.seen);
@@ -131,20 +130,20 @@ impl Store {
     /// set is cleared. An entry loads the base and then the number of buckets in use.
     pub fn try_enter_exclusive(&self, pass: &mut Pass) -> Result<(), Busy>
         requires of { IsPassOf self.now pass.old }
-        requires out { IsOut pass.old.seat.seat.me.0 }
-        ensures pass { IsPass self.now.table.shared.table_id self.now.sizes pass.new.seat.seat pass.new.seat.seats }
-        ensures same { IsSame pass.old.seat.seat pass.new.seat.seat × (pass.new.seat.number ≡ pass.old.seat.number) }
-        ensures reads { ShowsExclusive pass.new.seat.number pass.new.seat.seats pass.old.seat.seat.me.0.lock pass.new.seat.seat.me.0.lock result }
-        ensures refused { IfErr result (λ b. TriesExclusive node_next pass.old.seat.number pass.old.seat.seats pass.old.seat.seat.me.0 pass.new.seat.seat.me.0 (Err b)) }
+        requires out { IsOut (view_of pass.old) }
+        ensures pass { IsSeated self.now pass.new }
+        ensures same { IsSamePass pass.old pass.new }
+        ensures reads { ShowsExclusive pass.new.seat.number pass.new.seat.seats (view_of pass.old).lock (view_of pass.new).lock result }
+        ensures refused { IfErr result (λ b. TriesExclusive node_next pass.old.seat.number pass.old.seat.seats (view_of pass.old) (view_of pass.new) (Err b)) }
         ensures came { MatchResult result
-            (λ _. Came pass.old.seat.seat.me.0 pass.new.seat.seat.me.0 pass.new.base pass.new.in_use)
-            (λ _. Stayed pass.old.seat.seat.me.0 pass.new.seat.seat.me.0) }
+            (λ _. Came (view_of pass.old) (view_of pass.new) pass.new.base pass.new.in_use)
+            (λ _. Stayed (view_of pass.old) (view_of pass.new)) }
         ensures access { MatchResult result
-            (λ _. IsReady self.now.sizes pass.new.seat.seat.me.0.store pass.new.base pass.new.in_use)
-            (λ _. IsOut pass.new.seat.seat.me.0) }
-        ensures last_roots { IfOk result (λ _. AreLastRoots pass.new.seat.seat.me.0.store) }
+            (λ _. IsPrepared self.now pass.new)
+            (λ _. IsOut (view_of pass.new)) }
+        ensures last_roots { IfOk result (λ _. AreLastRoots (view_of pass.new).store) }
         ensures told { Tells pass.old → Tells pass.new }
-        ensures crowd { pass.new.seat.seat.me.0.crowd ≡ pass.old.seat.seat.me.0.crowd }
+        ensures crowd { (view_of pass.new).crowd ≡ (view_of pass.old).crowd }
     {
         match busy_forbidden::try_enter_exclusive(&self.table, &mut pass.seat) {
             Ok(()) => {
@@ -158,15 +157,15 @@ impl Store {
     /// Enters exclusive access; it may wait.
     pub fn enter_exclusive<R: Wait>(&self, rt: &R, pass: &mut Pass)
         requires of { IsPassOf self.now pass.old }
-        requires out { IsOut pass.old.seat.seat.me.0 }
-        ensures pass { IsPass self.now.table.shared.table_id self.now.sizes pass.new.seat.seat pass.new.seat.seats }
-        ensures same { IsSame pass.old.seat.seat pass.new.seat.seat × (pass.new.seat.number ≡ pass.old.seat.number) }
-        ensures granted { IsGranted pass.new.seat.seat.me.0.lock pass.new.seat.number pass.new.seat.seats }
-        ensures came { Came pass.old.seat.seat.me.0 pass.new.seat.seat.me.0 pass.new.base pass.new.in_use }
-        ensures ready { IsReady self.now.sizes pass.new.seat.seat.me.0.store pass.new.base pass.new.in_use }
-        ensures last_roots { AreLastRoots pass.new.seat.seat.me.0.store }
+        requires out { IsOut (view_of pass.old) }
+        ensures pass { IsSeated self.now pass.new }
+        ensures same { IsSamePass pass.old pass.new }
+        ensures granted { IsExclusive pass.new }
+        ensures came { Came (view_of pass.old) (view_of pass.new) pass.new.base pass.new.in_use }
+        ensures ready { IsPrepared self.now pass.new }
+        ensures last_roots { AreLastRoots (view_of pass.new).store }
         ensures told { Tells pass.old → Tells pass.new }
-        ensures crowd { pass.new.seat.seat.me.0.crowd ≡ pass.old.seat.seat.me.0.crowd }
+        ensures crowd { (view_of pass.new).crowd ≡ (view_of pass.old).crowd }
     {
         busy_forbidden::enter_exclusive(rt, &self.table, &mut pass.seat);
         arrive(self, pass);
@@ -175,14 +174,14 @@ impl Store {
     /// Ends exclusive access, and notes the rows that the pass protects.
     pub fn leave_exclusive(&self, pass: &mut Pass)
         requires of { IsPassOf self.now pass.old }
-        requires granted { IsGranted pass.old.seat.seat.me.0.lock pass.old.seat.number pass.old.seat.seats }
-        requires ready { IsReady self.now.sizes pass.old.seat.seat.me.0.store pass.old.base pass.old.in_use }
-        ensures pass { IsPass self.now.table.shared.table_id self.now.sizes pass.new.seat.seat pass.new.seat.seats }
-        ensures same { IsSame pass.old.seat.seat pass.new.seat.seat × (pass.new.seat.number ≡ pass.old.seat.number) }
-        ensures left { Left pass.old.seat.seat.me.0 pass.new.seat.seat.me.0 }
-        ensures out { IsOut pass.new.seat.seat.me.0 }
+        requires granted { IsExclusive pass.old }
+        requires ready { IsPrepared self.now pass.old }
+        ensures pass { IsSeated self.now pass.new }
+        ensures same { IsSamePass pass.old pass.new }
+        ensures left { Left (view_of pass.old) (view_of pass.new) }
+        ensures out { IsOut (view_of pass.new) }
         ensures told { Tells pass.old → Tells pass.new }
-        ensures crowd { pass.new.seat.seat.me.0.crowd ≡ pass.old.seat.seat.me.0.crowd }
+        ensures crowd { (view_of pass.new).crowd ≡ (view_of pass.old).crowd }
     {
         busy_forbidden::leave_exclusive(&self.table, &mut pass.seat);
         pass.last = Last::Roots(pass.seen);

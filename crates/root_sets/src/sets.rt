@@ -1,7 +1,8 @@
 //! Calls on the protected rows of a pass. Each is made in shared or exclusive access, and none takes memory or waits.
 ghost use Rattle.std.specs.Prelude.{◌≡◌, ◌<◌, ◌≤◌, ◌+◌, ◌-◌, ◌↔◌, ℕ, [], ◌∷◌, ◌++◌, IfOk, IfErr, IsErr, length, get_or, set};
 ghost use Rattle.store_model.specs.Machine.{In, with_got, protected_in};
-ghost use Rattle.busy_forbidden.specs.Calls.{IsSame};
+ghost use Rattle.node_rows.specs.Belonging.{IsSamePass};
+ghost use Rattle.node_rows.specs.Told.{view_of};
 ghost use Rattle.node_rows.specs.Inside.{IsInside};
 ghost use Rattle.node_rows.specs.Steps.{with_store};
 ghost use Rattle.root_sets.specs.Protected.{Keeps, Moved, ends_of};
@@ -15,14 +16,14 @@ use terms_api::Deep;
 /// room for; nothing has changed then.
 pub fn push_root(store: &Store, pass: &mut Pass, row: Row) -> Result<(), Deep>
     requires inside { IsInside store.now pass.old }
-    requires uses { In row.0 pass.old.seat.seat.me.0.store.got }
+    requires uses { In row.0 (view_of pass.old).store.got }
     ensures inside { IsInside store.now pass.new }
-    ensures same { IsSame pass.old.seat.seat pass.new.seat.seat × (pass.new.seat.number ≡ pass.old.seat.number) }
-    ensures rows { IfOk result (λ _. protected_in pass.new.seat.seat.me.0.store
-        ≡ protected_in pass.old.seat.seat.me.0.store ++ row.0 ∷ []) }
-    ensures deep { IsErr result ↔ (length (protected_in pass.old.seat.seat.me.0.store) ≡ store.now.sizes.depth) }
-    ensures unchanged { IfErr result (λ _. pass.new.seat.seat.me.0 ≡ pass.old.seat.seat.me.0) }
-    ensures keeps { Keeps pass.old.seat.seat.me.0 pass.new.seat.seat.me.0 }
+    ensures same { IsSamePass pass.old pass.new }
+    ensures rows { IfOk result (λ _. protected_in (view_of pass.new).store
+        ≡ protected_in (view_of pass.old).store ++ row.0 ∷ []) }
+    ensures deep { IsErr result ↔ (length (protected_in (view_of pass.old).store) ≡ store.now.sizes.depth) }
+    ensures unchanged { IfErr result (λ _. (view_of pass.new) ≡ view_of pass.old) }
+    ensures keeps { Keeps (view_of pass.old) (view_of pass.new) }
 {
     if pass.root_count == store.sizes.depth {
         return Err(Deep);
@@ -36,11 +37,11 @@ pub fn push_root(store: &Store, pass: &mut Pass, row: Row) -> Result<(), Deep>
 /// The i-th protected row, which the pass may use then.
 pub fn root_at(store: &Store, pass: &mut Pass, i: u32) -> Row
     requires inside { IsInside store.now pass.old }
-    requires below { i < length (protected_in pass.old.seat.seat.me.0.store) }
+    requires below { i < length (protected_in (view_of pass.old).store) }
     ensures inside { IsInside store.now pass.new }
-    ensures same { IsSame pass.old.seat.seat pass.new.seat.seat × (pass.new.seat.number ≡ pass.old.seat.number) }
-    ensures row { result.0 ≡ get_or (protected_in pass.old.seat.seat.me.0.store) i 0 }
-    ensures gets { pass.new.seat.seat.me.0 ≡ with_store pass.old.seat.seat.me.0 (with_got pass.old.seat.seat.me.0.store result.0) }
+    ensures same { IsSamePass pass.old pass.new }
+    ensures row { result.0 ≡ get_or (protected_in (view_of pass.old).store) i 0 }
+    ensures gets { view_of pass.new ≡ with_store (view_of pass.old) (with_got (view_of pass.old).store result.0) }
 {
     let row = load_root(store, pass, i);
     row_of(&store.sizes, row)
@@ -51,10 +52,10 @@ fn copy_root(store: &Store, pass: &mut Pass, k: u32, to: u32)
     requires inside { IsInside store.now pass.old }
     requires below { (k < pass.old.root_count) × (to ≤ k) }
     ensures inside { IsInside store.now pass.new }
-    ensures same { IsSame pass.old.seat.seat pass.new.seat.seat × (pass.new.seat.number ≡ pass.old.seat.number) }
+    ensures same { IsSamePass pass.old pass.new }
     ensures count { pass.new.root_count ≡ pass.old.root_count }
-    ensures roots { pass.new.seat.seat.me.0.store.roots ≡ set pass.old.seat.seat.me.0.store.roots to (get_or pass.old.seat.seat.me.0.store.roots k 0) }
-    ensures keeps { Keeps pass.old.seat.seat.me.0 pass.new.seat.seat.me.0 }
+    ensures roots { (view_of pass.new).store.roots ≡ set (view_of pass.old).store.roots to (get_or (view_of pass.old).store.roots k 0) }
+    ensures keeps { Keeps (view_of pass.old) (view_of pass.new) }
 {
     let row = load_root(store, pass, k);
     set_root(store, pass, to, row);
@@ -65,11 +66,11 @@ fn copy_roots(store: &Store, pass: &mut Pass, from: u32, top: u32)
     requires inside { IsInside store.now pass.old }
     requires below { from + top < pass.old.root_count }
     ensures inside { IsInside store.now pass.new }
-    ensures same { IsSame pass.old.seat.seat pass.new.seat.seat × (pass.new.seat.number ≡ pass.old.seat.number) }
+    ensures same { IsSamePass pass.old pass.new }
     ensures count { pass.new.root_count ≡ pass.old.root_count }
-    ensures moved { Moved pass.old.seat.seat.me.0.store.roots pass.new.seat.seat.me.0.store.roots
+    ensures moved { Moved (view_of pass.old).store.roots (view_of pass.new).store.roots
         (pass.old.root_count - top) from top }
-    ensures keeps { Keeps pass.old.seat.seat.me.0 pass.new.seat.seat.me.0 }
+    ensures keeps { Keeps (view_of pass.old) (view_of pass.new) }
 {
     let last = pass.root_count - top;
     for k in 0..top {
@@ -80,12 +81,12 @@ fn copy_roots(store: &Store, pass: &mut Pass, from: u32, top: u32)
 /// Keeps the lowest `from` and the last `top` of the protected rows.
 pub fn keep_roots(store: &Store, pass: &mut Pass, from: u32, top: u32)
     requires inside { IsInside store.now pass.old }
-    requires within { from + top ≤ length (protected_in pass.old.seat.seat.me.0.store) }
+    requires within { from + top ≤ length (protected_in (view_of pass.old).store) }
     ensures inside { IsInside store.now pass.new }
-    ensures same { IsSame pass.old.seat.seat pass.new.seat.seat × (pass.new.seat.number ≡ pass.old.seat.number) }
-    ensures rows { let rows = protected_in pass.old.seat.seat.me.0.store in
-        protected_in pass.new.seat.seat.me.0.store ≡ ends_of rows (length rows) from top }
-    ensures keeps { Keeps pass.old.seat.seat.me.0 pass.new.seat.seat.me.0 }
+    ensures same { IsSamePass pass.old pass.new }
+    ensures rows { let rows = protected_in (view_of pass.old).store in
+        protected_in (view_of pass.new).store ≡ ends_of rows (length rows) from top }
+    ensures keeps { Keeps (view_of pass.old) (view_of pass.new) }
 {
     let count = pass.root_count;
     if from + top == count {

@@ -1,7 +1,8 @@
 //! The protected rows of a pass that keeps its stack in plain memory.
 ghost use Rattle.std.specs.Prelude.{◌≡◌, ◌<◌, ◌≤◌, IsTrue, length, get_or, set, take};
 ghost use Rattle.store_model.specs.Machine.{In, Each, protected_in};
-ghost use Rattle.busy_forbidden.specs.Calls.{IsSame};
+ghost use Rattle.node_rows.specs.Belonging.{IsSamePass};
+ghost use Rattle.node_rows.specs.Told.{view_of};
 ghost use Rattle.node_rows.specs.Inside.{IsInside};
 ghost use Rattle.node_rows.specs.Rows.{names};
 ghost use Rattle.root_sets.specs.Protected.{Keeps};
@@ -15,11 +16,11 @@ use term_model::Row;
 fn has_root(store: &Store, pass: &mut Pass, k: u32, row: u64) -> bool
     requires inside { IsInside store.now pass.old }
     ensures inside { IsInside store.now pass.new }
-    ensures same { IsSame pass.old.seat.seat pass.new.seat.seat × (pass.new.seat.number ≡ pass.old.seat.number) }
+    ensures same { IsSamePass pass.old pass.new }
     ensures count { pass.new.root_count ≡ pass.old.root_count }
-    ensures roots { pass.new.seat.seat.me.0.store.roots ≡ pass.old.seat.seat.me.0.store.roots }
-    ensures has { IsTrue result → get_or pass.old.seat.seat.me.0.store.roots k 0 ≡ row }
-    ensures keeps { Keeps pass.old.seat.seat.me.0 pass.new.seat.seat.me.0 }
+    ensures roots { (view_of pass.new).store.roots ≡ (view_of pass.old).store.roots }
+    ensures has { IsTrue result → get_or (view_of pass.old).store.roots k 0 ≡ row }
+    ensures keeps { Keeps (view_of pass.old) (view_of pass.new) }
 {
     if k >= pass.root_count {
         return false;
@@ -31,12 +32,12 @@ fn has_root(store: &Store, pass: &mut Pass, k: u32, row: u64) -> bool
 fn put_root(store: &Store, pass: &mut Pass, k: u32, row: u64)
     requires inside { IsInside store.now pass.old }
     requires below { k < store.now.sizes.depth }
-    requires uses { In row pass.old.seat.seat.me.0.store.got }
+    requires uses { In row (view_of pass.old).store.got }
     ensures inside { IsInside store.now pass.new }
-    ensures same { IsSame pass.old.seat.seat pass.new.seat.seat × (pass.new.seat.number ≡ pass.old.seat.number) }
+    ensures same { IsSamePass pass.old pass.new }
     ensures count { pass.new.root_count ≡ pass.old.root_count }
-    ensures roots { pass.new.seat.seat.me.0.store.roots ≡ set pass.old.seat.seat.me.0.store.roots k row }
-    ensures keeps { Keeps pass.old.seat.seat.me.0 pass.new.seat.seat.me.0 }
+    ensures roots { (view_of pass.new).store.roots ≡ set (view_of pass.old).store.roots k row }
+    ensures keeps { Keeps (view_of pass.old) (view_of pass.new) }
 {
     if has_root(store, pass, k, row) {
         return;
@@ -56,12 +57,12 @@ fn count_rows(sizes: &Sizes, rows: &[Row]) -> u32
 fn put_roots(store: &Store, pass: &mut Pass, rows: &[Row])
     requires inside { IsInside store.now pass.old }
     requires few { length rows.now ≤ store.now.sizes.depth }
-    requires uses { Each (λ r. In r pass.old.seat.seat.me.0.store.got) (names rows.now) }
+    requires uses { Each (λ r. In r (view_of pass.old).store.got) (names rows.now) }
     ensures inside { IsInside store.now pass.new }
-    ensures same { IsSame pass.old.seat.seat pass.new.seat.seat × (pass.new.seat.number ≡ pass.old.seat.number) }
+    ensures same { IsSamePass pass.old pass.new }
     ensures count { pass.new.root_count ≡ pass.old.root_count }
-    ensures roots { take (length rows.now) pass.new.seat.seat.me.0.store.roots ≡ names rows.now }
-    ensures keeps { Keeps pass.old.seat.seat.me.0 pass.new.seat.seat.me.0 }
+    ensures roots { take (length rows.now) (view_of pass.new).store.roots ≡ names rows.now }
+    ensures keeps { Keeps (view_of pass.old) (view_of pass.new) }
 {
     for k in 0..count_rows(&store.sizes, rows) {
         put_root(store, pass, k, rows[k as usize].0 as u64);
@@ -73,11 +74,11 @@ fn put_roots(store: &Store, pass: &mut Pass, rows: &[Row])
 pub fn store_roots(store: &Store, pass: &mut Pass, rows: &[Row])
     requires inside { IsInside store.now pass.old }
     requires few { length rows.now ≤ store.now.sizes.depth }
-    requires uses { Each (λ r. In r pass.old.seat.seat.me.0.store.got) (names rows.now) }
+    requires uses { Each (λ r. In r (view_of pass.old).store.got) (names rows.now) }
     ensures inside { IsInside store.now pass.new }
-    ensures same { IsSame pass.old.seat.seat pass.new.seat.seat × (pass.new.seat.number ≡ pass.old.seat.number) }
-    ensures rows { protected_in pass.new.seat.seat.me.0.store ≡ names rows.now }
-    ensures keeps { Keeps pass.old.seat.seat.me.0 pass.new.seat.seat.me.0 }
+    ensures same { IsSamePass pass.old pass.new }
+    ensures rows { protected_in (view_of pass.new).store ≡ names rows.now }
+    ensures keeps { Keeps (view_of pass.old) (view_of pass.new) }
 {
     put_roots(store, pass, rows);
     set_count(store, pass, count_rows(&store.sizes, rows));

@@ -3,7 +3,7 @@ ghost use Rattle.std.specs.Prelude.{◌≡◌, ℕ, ◌≤◌, [], IfOk, All, fa
 ghost use Rattle.settings.specs.Words.{AreInRange};
 ghost use Rattle.busy_forbidden.specs.Dealt.{EachPlace};
 ghost use Rattle.store_model.specs.NewStore.{MaySize};
-ghost use Rattle.node_rows.specs.Passes.{IsStore};
+ghost use Rattle.node_rows.specs.Belonging.{IsOpen};
 ghost use Rattle.node_rows.specs.Told.{view_of};
 ghost use Rattle.shared_desk.specs.Desk.{store_of};
 ghost use Rattle.shared_desk.specs.Telling.{MayHaveDesk};
@@ -40,7 +40,7 @@ fn sizes_of(work: &Work) -> Sizes
 pub(crate) fn store_for(alloc: Global, work: &Work) -> Result<(Store, Vec<Pass>), Memory>
     requires in_range { AreInRange work.now.settings }
     requires width { work.now.plan.now.widest ≤ 16 }
-    ensures store { IfOk result (λ t. IsStore t.0.table.shared.table_id t.0.table.shared.key t.0.sizes) }
+    ensures store { IfOk result (λ t. IsOpen t.0) }
     ensures sizes { IfOk result (λ t. t.0.sizes ≡ sizes_for work.now.settings work.now.plan.now) }
     ensures may { IfOk result (λ t. All (MayHaveDesk t.0) t.1.items) }
     ensures new { IfOk result (λ t. EachPlace (IsNewPass t.0) t.0.sizes.seats t.1.items) }

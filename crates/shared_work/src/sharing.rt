@@ -4,7 +4,7 @@ ghost use Rattle.std.specs.List.{AllByRecursion};
 ghost use Rattle.settings.specs.Words.{AreInRange};
 ghost use Rattle.busy_forbidden.specs.Dealt.{EachPlace};
 ghost use Rattle.history_core.specs.Chronicle.{chronicle, IsLegal};
-ghost use Rattle.node_rows.specs.Passes.{IsStore};
+ghost use Rattle.node_rows.specs.Belonging.{IsOpen};
 ghost use Rattle.rewrite_workers.specs.Lined.{said, worker_of, line_of, trace_of};
 ghost use Rattle.rewrite_workers.specs.Works.{MayWork};
 ghost use Rattle.log_text.specs.Keys.{HaveKeys};
@@ -182,7 +182,7 @@ fn rewrite_at<R: Threads + Wait + Sync, G: Gate>(
 ) -> Rewritten
     requires in_range { AreInRange work.now.settings }
     requires may { MayWork work.now.plan.now work.now.symbols.now work.now.terms.now }
-    requires store { IsStore store.table.shared.table_id store.table.shared.key store.sizes }
+    requires store { IsOpen store }
     requires sizes { store.sizes ≡ sizes_for work.now.settings work.now.plan.now }
     requires passes { All (MayHaveDesk store) passes.items }
     requires new { EachPlace (IsNewPass store) store.sizes.seats passes.items }

@@ -2,9 +2,10 @@
 ghost use Rattle.std.specs.Prelude.{◌≡◌, ◌<◌, ◌+◌, All, IfOk};
 ghost use Rattle.lock_core.specs.declared.parts.Phase.TheVariants.{Shared};
 ghost use Rattle.store_model.specs.Machine.{In};
+ghost use Rattle.node_rows.specs.Belonging.{IsSeated, IsOpen};
 ghost use Rattle.node_rows.specs.Inside.{IsInside};
-ghost use Rattle.node_rows.specs.Told.{Tells};
-ghost use Rattle.node_rows.specs.Passes.{IsStore, IsPass, IsReady, IsOut};
+ghost use Rattle.node_rows.specs.Told.{Tells, view_of};
+ghost use Rattle.node_rows.specs.Passes.{IsOut};
 
 use node_rows::{Pass, Store};
 use std::hint::spin_loop;
@@ -20,11 +21,11 @@ mod four;
 
 // The last of the passes that are left.
 fn last_pass(rt: &impl Abort, store: &Store, passes: &mut Vec<Pass>) -> Pass
-    requires passes { All (λ p. IsPass store.now.table.shared.table_id store.now.sizes p.seat.seat p.seat.seats × IsOut p.seat.seat.me.0) passes.old.items }
+    requires passes { All (λ p. IsSeated store.now p × IsOut (view_of p)) passes.old.items }
     requires told { All Tells passes.old.items }
     ensures told { All Tells passes.new.items }
-    ensures left { All (λ p. IsPass store.now.table.shared.table_id store.now.sizes p.seat.seat p.seat.seats × IsOut p.seat.seat.me.0) passes.new.items }
-    ensures pass { IsPass store.now.table.shared.table_id store.now.sizes result.seat.seat result.seat.seats × IsOut result.seat.seat.me.0 × Tells result }
+    ensures left { All (λ p. IsSeated store.now p × IsOut (view_of p)) passes.new.items }
+    ensures pass { IsSeated store.now result × IsOut (view_of result) × Tells result }
 {
     match passes.pop() {
         Some(pass) => pass,
@@ -34,10 +35,10 @@ fn last_pass(rt: &impl Abort, store: &Store, passes: &mut Vec<Pass>) -> Pass
 
 // Enters shared access.
 fn enter(rt: &impl Abort, store: &Store, pass: &mut Pass)
-    requires store { IsStore store.now.table.shared.table_id store.now.table.shared.key store.now.sizes }
-    requires pass { IsPass store.now.table.shared.table_id store.now.sizes pass.old.seat.seat pass.old.seat.seats × IsOut pass.old.seat.seat.me.0 × Tells pass.old }
+    requires store { IsOpen store.now }
+    requires pass { IsSeated store.now pass.old × IsOut (view_of pass.old) × Tells pass.old }
     ensures inside { IsInside store.now pass.new }
-    ensures shared { pass.new.seat.seat.me.0.lock.phase ≡ Shared }
+    ensures shared { (view_of pass.new).lock.phase ≡ Shared }
 {
     match store.try_enter_shared(pass) {
         Ok(()) => {}
@@ -48,10 +49,10 @@ fn enter(rt: &impl Abort, store: &Store, pass: &mut Pass)
 // Creates a symbol over an integer and the empty list.
 fn create_three(store: &Store, pass: &mut Pass) -> Result<Row, Full>
     requires inside { IsInside store.now pass.old }
-    requires shared { pass.old.seat.seat.me.0.lock.phase ≡ Shared }
+    requires shared { (view_of pass.old).lock.phase ≡ Shared }
     ensures inside { IsInside store.now pass.new }
-    ensures shared { pass.new.seat.seat.me.0.lock.phase ≡ Shared }
-    ensures gets { IfOk result (λ row. In row.0 pass.new.seat.seat.me.0.store.got) }
+    ensures shared { (view_of pass.new).lock.phase ≡ Shared }
+    ensures gets { IfOk result (λ row. In row.0 (view_of pass.new).store.got) }
 {
     let a = create(store, pass, Head::Int(5), &[])?;
     let b = create(store, pass, Head::Nil, &[])?;
@@ -60,9 +61,9 @@ fn create_three(store: &Store, pass: &mut Pass) -> Result<Row, Full>
 
 // The same in one shared access.
 fn visit(rt: &impl Abort, store: &Store, pass: &mut Pass) -> Result<Row, Full>
-    requires store { IsStore store.now.table.shared.table_id store.now.table.shared.key store.now.sizes }
-    requires pass { IsPass store.now.table.shared.table_id store.now.sizes pass.old.seat.seat pass.old.seat.seats × IsOut pass.old.seat.seat.me.0 × Tells pass.old }
-    ensures pass { IsPass store.now.table.shared.table_id store.now.sizes pass.new.seat.seat pass.new.seat.seats × IsOut pass.new.seat.seat.me.0 × Tells pass.new }
+    requires store { IsOpen store.now }
+    requires pass { IsSeated store.now pass.old × IsOut (view_of pass.old) × Tells pass.old }
+    ensures pass { IsSeated store.now pass.new × IsOut (view_of pass.new) × Tells pass.new }
 {
     enter(rt, store, pass);
     let row = create_three(store, pass);
@@ -93,8 +94,8 @@ fn two_passes_share_a_term(rt: HostRuntime) -> Result<(), Fail> {
 // In one shared access: a symbol over an integer and the empty list, which fills three rows; a constant, which is Full; and the first
 // again.
 fn fill(rt: &impl Abort, store: &Store, pass: &mut Pass) -> [Result<Row, Full>; 3]
-    requires store { IsStore store.now.table.shared.table_id store.now.table.shared.key store.now.sizes }
-    requires pass { IsPass store.now.table.shared.table_id store.now.sizes pass.old.seat.seat pass.old.seat.seats × IsOut pass.old.seat.seat.me.0 × Tells pass.old }
+    requires store { IsOpen store.now }
+    requires pass { IsSeated store.now pass.old × IsOut (view_of pass.old) × Tells pass.old }
 {
     enter(rt, store, pass);
     let made = create_three(store, pass);
@@ -127,10 +128,10 @@ fn one_pass_is_full_where_each_row_has_a_tree(rt: HostRuntime) -> Result<(), Fai
 // The head of a row, and its count of arguments.
 fn read_row(store: &Store, pass: &mut Pass, row: Row) -> (Head, u32)
     requires inside { IsInside store.now pass.old }
-    requires shared { pass.old.seat.seat.me.0.lock.phase ≡ Shared }
-    requires uses { In row.0 pass.old.seat.seat.me.0.store.got }
+    requires shared { (view_of pass.old).lock.phase ≡ Shared }
+    requires uses { In row.0 (view_of pass.old).store.got }
     ensures inside { IsInside store.now pass.new }
-    ensures shared { pass.new.seat.seat.me.0.lock.phase ≡ Shared }
+    ensures shared { (view_of pass.new).lock.phase ≡ Shared }
 {
     let head = head_of(store, pass, row);
     (head, count_of(store, pass, row))
@@ -139,10 +140,10 @@ fn read_row(store: &Store, pass: &mut Pass, row: Row) -> (Head, u32)
 // The head of argument `j`, where there are so many.
 fn read_child(store: &Store, pass: &mut Pass, row: Row, j: u32) -> Option<Head>
     requires inside { IsInside store.now pass.old }
-    requires shared { pass.old.seat.seat.me.0.lock.phase ≡ Shared }
-    requires uses { In row.0 pass.old.seat.seat.me.0.store.got }
+    requires shared { (view_of pass.old).lock.phase ≡ Shared }
+    requires uses { In row.0 (view_of pass.old).store.got }
     ensures inside { IsInside store.now pass.new }
-    ensures shared { pass.new.seat.seat.me.0.lock.phase ≡ Shared }
+    ensures shared { (view_of pass.new).lock.phase ≡ Shared }
 {
     if j >= count_of(store, pass, row) {
         return None;
@@ -153,9 +154,9 @@ fn read_child(store: &Store, pass: &mut Pass, row: Row, j: u32) -> Option<Head>
 
 // In one shared access: a symbol over an integer and the empty list, its head, and its count of arguments.
 fn visit_row(rt: &impl Abort, store: &Store, pass: &mut Pass) -> (Head, u32)
-    requires store { IsStore store.now.table.shared.table_id store.now.table.shared.key store.now.sizes }
-    requires pass { IsPass store.now.table.shared.table_id store.now.sizes pass.old.seat.seat pass.old.seat.seats × IsOut pass.old.seat.seat.me.0 × Tells pass.old }
-    ensures pass { IsPass store.now.table.shared.table_id store.now.sizes pass.new.seat.seat pass.new.seat.seats × IsOut pass.new.seat.seat.me.0 × Tells pass.new }
+    requires store { IsOpen store.now }
+    requires pass { IsSeated store.now pass.old × IsOut (view_of pass.old) × Tells pass.old }
+    ensures pass { IsSeated store.now pass.new × IsOut (view_of pass.new) × Tells pass.new }
 {
     enter(rt, store, pass);
     let Ok(row) = create_three(store, pass) else {
@@ -168,9 +169,9 @@ fn visit_row(rt: &impl Abort, store: &Store, pass: &mut Pass) -> (Head, u32)
 
 // The same, and the head of its argument `j`.
 fn visit_child(rt: &impl Abort, store: &Store, pass: &mut Pass, j: u32) -> Option<Head>
-    requires store { IsStore store.now.table.shared.table_id store.now.table.shared.key store.now.sizes }
-    requires pass { IsPass store.now.table.shared.table_id store.now.sizes pass.old.seat.seat pass.old.seat.seats × IsOut pass.old.seat.seat.me.0 × Tells pass.old }
-    ensures pass { IsPass store.now.table.shared.table_id store.now.sizes pass.new.seat.seat pass.new.seat.seats × IsOut pass.new.seat.seat.me.0 × Tells pass.new }
+    requires store { IsOpen store.now }
+    requires pass { IsSeated store.now pass.old × IsOut (view_of pass.old) × Tells pass.old }
+    ensures pass { IsSeated store.now pass.new × IsOut (view_of pass.new) × Tells pass.new }
 {
     enter(rt, store, pass);
     let Ok(row) = create_three(store, pass) else {
@@ -206,9 +207,9 @@ fn reads_give_what_was_created(rt: HostRuntime) -> Result<(), Fail> {
 
 // In one shared access: a constant, and its row.
 fn constant(rt: &impl Abort, store: &Store, pass: &mut Pass, symbol: u32) -> Result<Row, Full>
-    requires store { IsStore store.now.table.shared.table_id store.now.table.shared.key store.now.sizes }
-    requires pass { IsPass store.now.table.shared.table_id store.now.sizes pass.old.seat.seat pass.old.seat.seats × IsOut pass.old.seat.seat.me.0 × Tells pass.old }
-    ensures pass { IsPass store.now.table.shared.table_id store.now.sizes pass.new.seat.seat pass.new.seat.seats × IsOut pass.new.seat.seat.me.0 × Tells pass.new }
+    requires store { IsOpen store.now }
+    requires pass { IsSeated store.now pass.old × IsOut (view_of pass.old) × Tells pass.old }
+    ensures pass { IsSeated store.now pass.new × IsOut (view_of pass.new) × Tells pass.new }
 {
     enter(rt, store, pass);
     let row = create(store, pass, Head::App(Symbol(symbol)), &[]);
@@ -218,8 +219,8 @@ fn constant(rt: &impl Abort, store: &Store, pass: &mut Pass, symbol: u32) -> Res
 
 // In one shared access: the constants of ten symbols in order, and their rows.
 fn create_ten<R: Abort>(rt: &R, store: &Store, mut pass: Pass) -> [Row; 10]
-    requires store { IsStore store.now.table.shared.table_id store.now.table.shared.key store.now.sizes }
-    requires pass { IsPass store.now.table.shared.table_id store.now.sizes pass.seat.seat pass.seat.seats × IsOut pass.seat.seat.me.0 × Tells pass }
+    requires store { IsOpen store.now }
+    requires pass { IsSeated store.now pass × IsOut (view_of pass) × Tells pass }
 {
     let mut rows = [Row(0); 10];
     for symbol in 0..10 {
@@ -265,12 +266,12 @@ fn two_threads_at_once_share_ten_constants(rt: HostRuntime) -> Result<(), Fail> 
     let ((first_ran, first), (second_ran, second)) = thread::join(
         handle,
         move || -> (bool, [Row; 10])
-            requires { IsStore shared.now.table.shared.table_id shared.now.table.shared.key shared.now.sizes
-                × IsPass shared.now.table.shared.table_id shared.now.sizes one.seat.seat one.seat.seats × IsOut one.seat.seat.me.0 × Tells one }
+            requires { IsOpen shared.now
+                × IsSeated shared.now one × IsOut (view_of one) × Tells one }
         { (meet(came, went), create_ten(handle, shared, one)) },
         move || -> (bool, [Row; 10])
-            requires { IsStore shared.now.table.shared.table_id shared.now.table.shared.key shared.now.sizes
-                × IsPass shared.now.table.shared.table_id shared.now.sizes two.seat.seat two.seat.seats × IsOut two.seat.seat.me.0 × Tells two }
+            requires { IsOpen shared.now
+                × IsSeated shared.now two × IsOut (view_of two) × Tells two }
         { (meet(went, came), create_ten(handle, shared, two)) },
     );
     assert!(rt; first_ran && second_ran, "both threads run at once");

@@ -1,7 +1,8 @@
 //! Passes of one store, on one thread.
 ghost use Rattle.std.specs.Prelude.{All};
-ghost use Rattle.node_rows.specs.Passes.{IsStore, IsPass, IsOut};
-ghost use Rattle.node_rows.specs.Told.{Tells};
+ghost use Rattle.node_rows.specs.Belonging.{IsSeated, IsOpen};
+ghost use Rattle.node_rows.specs.Passes.{IsOut};
+ghost use Rattle.node_rows.specs.Told.{Tells, view_of};
 
 use busy_forbidden::Busy;
 use node_rows::{Last, Pass, Store, kept, last};
@@ -22,11 +23,11 @@ const SMALL: Sizes = Sizes {
 
 // The last of the passes that are left.
 fn last_pass(rt: &impl Abort, store: &Store, passes: &mut Vec<Pass>) -> Pass
-    requires passes { All (λ p. IsPass store.now.table.shared.table_id store.now.sizes p.seat.seat p.seat.seats × IsOut p.seat.seat.me.0) passes.old.items }
+    requires passes { All (λ p. IsSeated store.now p × IsOut (view_of p)) passes.old.items }
     requires told { All Tells passes.old.items }
-    ensures left { All (λ p. IsPass store.now.table.shared.table_id store.now.sizes p.seat.seat p.seat.seats × IsOut p.seat.seat.me.0) passes.new.items }
+    ensures left { All (λ p. IsSeated store.now p × IsOut (view_of p)) passes.new.items }
     ensures left_told { All Tells passes.new.items }
-    ensures pass { IsPass store.now.table.shared.table_id store.now.sizes result.seat.seat result.seat.seats × IsOut result.seat.seat.me.0 }
+    ensures pass { IsSeated store.now result × IsOut (view_of result) }
     ensures told { Tells result }
 {
     match passes.pop() {
@@ -37,9 +38,9 @@ fn last_pass(rt: &impl Abort, store: &Store, passes: &mut Vec<Pass>) -> Pass
 
 // Enters and leaves shared access, and gives the base and the number of buckets in use that the entry loaded.
 fn visit(rt: &impl Abort, store: &Store, pass: &mut Pass) -> (u64, u64)
-    requires store { IsStore store.now.table.shared.table_id store.now.table.shared.key store.now.sizes }
-    requires pass { IsPass store.now.table.shared.table_id store.now.sizes pass.old.seat.seat pass.old.seat.seats × IsOut pass.old.seat.seat.me.0 }
-    ensures pass { IsPass store.now.table.shared.table_id store.now.sizes pass.new.seat.seat pass.new.seat.seats × IsOut pass.new.seat.seat.me.0 }
+    requires store { IsOpen store.now }
+    requires pass { IsSeated store.now pass.old × IsOut (view_of pass.old) }
+    ensures pass { IsSeated store.now pass.new × IsOut (view_of pass.new) }
     ensures told { Tells pass.old → Tells pass.new }
 {
     match store.try_enter_shared(pass) {
@@ -53,11 +54,11 @@ fn visit(rt: &impl Abort, store: &Store, pass: &mut Pass) -> (u64, u64)
 
 // While the first pass is in exclusive access, the second one is refused both ways.
 fn refuses(rt: &impl Abort, store: &Store, first: &mut Pass, second: &mut Pass) -> (Busy, Busy)
-    requires store { IsStore store.now.table.shared.table_id store.now.table.shared.key store.now.sizes }
-    requires first { IsPass store.now.table.shared.table_id store.now.sizes first.old.seat.seat first.old.seat.seats × IsOut first.old.seat.seat.me.0 }
-    requires second { IsPass store.now.table.shared.table_id store.now.sizes second.old.seat.seat second.old.seat.seats × IsOut second.old.seat.seat.me.0 }
-    ensures first { IsPass store.now.table.shared.table_id store.now.sizes first.new.seat.seat first.new.seat.seats × IsOut first.new.seat.seat.me.0 }
-    ensures second { IsPass store.now.table.shared.table_id store.now.sizes second.new.seat.seat second.new.seat.seats × IsOut second.new.seat.seat.me.0 }
+    requires store { IsOpen store.now }
+    requires first { IsSeated store.now first.old × IsOut (view_of first.old) }
+    requires second { IsSeated store.now second.old × IsOut (view_of second.old) }
+    ensures first { IsSeated store.now first.new × IsOut (view_of first.new) }
+    ensures second { IsSeated store.now second.new × IsOut (view_of second.new) }
 {
     match store.try_enter_exclusive(first) {
         Ok(()) => {}

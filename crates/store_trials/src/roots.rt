@@ -2,10 +2,11 @@
 ghost use Rattle.std.specs.Prelude.{◌≡◌, ◌<◌, ℕ, All, IfOk, length};
 ghost use Rattle.lock_core.specs.declared.parts.Phase.TheVariants.{Shared};
 ghost use Rattle.store_model.specs.Machine.{In, Each, protected_in};
+ghost use Rattle.node_rows.specs.Belonging.{IsSeated, IsOpen};
 ghost use Rattle.node_rows.specs.Inside.{IsInside};
 ghost use Rattle.node_rows.specs.Rows.{names};
-ghost use Rattle.node_rows.specs.Told.{Tells};
-ghost use Rattle.node_rows.specs.Passes.{IsStore, IsPass, IsOut};
+ghost use Rattle.node_rows.specs.Told.{Tells, view_of};
+ghost use Rattle.node_rows.specs.Passes.{IsOut};
 
 use busy_forbidden::Busy;
 use node_rows::{Pass, Store};
@@ -30,11 +31,11 @@ const SMALL: Sizes = Sizes {
 
 // The last of the passes that are left.
 fn last_pass(rt: &impl Abort, store: &Store, passes: &mut Vec<Pass>) -> Pass
-    requires passes { All (λ p. IsPass store.now.table.shared.table_id store.now.sizes p.seat.seat p.seat.seats × IsOut p.seat.seat.me.0) passes.old.items }
+    requires passes { All (λ p. IsSeated store.now p × IsOut (view_of p)) passes.old.items }
     requires told { All Tells passes.old.items }
     ensures told { All Tells passes.new.items }
-    ensures left { All (λ p. IsPass store.now.table.shared.table_id store.now.sizes p.seat.seat p.seat.seats × IsOut p.seat.seat.me.0) passes.new.items }
-    ensures pass { IsPass store.now.table.shared.table_id store.now.sizes result.seat.seat result.seat.seats × IsOut result.seat.seat.me.0 × Tells result }
+    ensures left { All (λ p. IsSeated store.now p × IsOut (view_of p)) passes.new.items }
+    ensures pass { IsSeated store.now result × IsOut (view_of result) × Tells result }
 {
     match passes.pop() {
         Some(pass) => pass,
@@ -44,10 +45,10 @@ fn last_pass(rt: &impl Abort, store: &Store, passes: &mut Vec<Pass>) -> Pass
 
 // Enters shared access.
 fn enter(rt: &impl Abort, store: &Store, pass: &mut Pass)
-    requires store { IsStore store.now.table.shared.table_id store.now.table.shared.key store.now.sizes }
-    requires pass { IsPass store.now.table.shared.table_id store.now.sizes pass.old.seat.seat pass.old.seat.seats × IsOut pass.old.seat.seat.me.0 × Tells pass.old }
+    requires store { IsOpen store.now }
+    requires pass { IsSeated store.now pass.old × IsOut (view_of pass.old) × Tells pass.old }
     ensures inside { IsInside store.now pass.new }
-    ensures shared { pass.new.seat.seat.me.0.lock.phase ≡ Shared }
+    ensures shared { (view_of pass.new).lock.phase ≡ Shared }
 {
     match store.try_enter_shared(pass) {
         Ok(()) => {}
@@ -58,11 +59,11 @@ fn enter(rt: &impl Abort, store: &Store, pass: &mut Pass)
 // A constant, whose row is then protected.
 fn protect_constant(rt: &impl Abort, store: &Store, pass: &mut Pass, symbol: u32) -> Row
     requires inside { IsInside store.now pass.old }
-    requires shared { pass.old.seat.seat.me.0.lock.phase ≡ Shared }
+    requires shared { (view_of pass.old).lock.phase ≡ Shared }
     ensures inside { IsInside store.now pass.new }
-    ensures shared { pass.new.seat.seat.me.0.lock.phase ≡ Shared }
-    ensures uses { In result.0 pass.new.seat.seat.me.0.store.got }
-    ensures keeps { (r : ℕ) → In r pass.old.seat.seat.me.0.store.got → In r pass.new.seat.seat.me.0.store.got }
+    ensures shared { (view_of pass.new).lock.phase ≡ Shared }
+    ensures uses { In result.0 (view_of pass.new).store.got }
+    ensures keeps { (r : ℕ) → In r (view_of pass.old).store.got → In r (view_of pass.new).store.got }
 {
     match create(store, pass, Head::App(Symbol(symbol)), &[]) {
         Ok(row) => {
@@ -77,13 +78,13 @@ fn protect_constant(rt: &impl Abort, store: &Store, pass: &mut Pass, symbol: u32
 // Two constants, whose rows are then protected.
 fn protect_two(rt: &impl Abort, store: &Store, pass: &mut Pass, symbol: u32) -> (Row, Row)
     requires inside { IsInside store.now pass.old }
-    requires shared { pass.old.seat.seat.me.0.lock.phase ≡ Shared }
+    requires shared { (view_of pass.old).lock.phase ≡ Shared }
     requires below { symbol < 8 }
     ensures inside { IsInside store.now pass.new }
-    ensures shared { pass.new.seat.seat.me.0.lock.phase ≡ Shared }
-    ensures first { In result.0.0 pass.new.seat.seat.me.0.store.got }
-    ensures second { In result.1.0 pass.new.seat.seat.me.0.store.got }
-    ensures keeps { (r : ℕ) → In r pass.old.seat.seat.me.0.store.got → In r pass.new.seat.seat.me.0.store.got }
+    ensures shared { (view_of pass.new).lock.phase ≡ Shared }
+    ensures first { In result.0.0 (view_of pass.new).store.got }
+    ensures second { In result.1.0 (view_of pass.new).store.got }
+    ensures keeps { (r : ℕ) → In r (view_of pass.old).store.got → In r (view_of pass.new).store.got }
 {
     let first = protect_constant(rt, store, pass, symbol);
     let second = protect_constant(rt, store, pass, symbol + 1);
@@ -93,10 +94,10 @@ fn protect_two(rt: &impl Abort, store: &Store, pass: &mut Pass, symbol: u32) -> 
 // Four constants, whose rows are then protected in order.
 fn protect_four(rt: &impl Abort, store: &Store, pass: &mut Pass) -> [Row; 4]
     requires inside { IsInside store.now pass.old }
-    requires shared { pass.old.seat.seat.me.0.lock.phase ≡ Shared }
+    requires shared { (view_of pass.old).lock.phase ≡ Shared }
     ensures inside { IsInside store.now pass.new }
-    ensures shared { pass.new.seat.seat.me.0.lock.phase ≡ Shared }
-    ensures uses { Each (λ r. In r pass.new.seat.seat.me.0.store.got) (names result) }
+    ensures shared { (view_of pass.new).lock.phase ≡ Shared }
+    ensures uses { Each (λ r. In r (view_of pass.new).store.got) (names result) }
 {
     let (a, b) = protect_two(rt, store, pass, 0);
     let (c, d) = protect_two(rt, store, pass, 2);
@@ -107,10 +108,10 @@ fn protect_four(rt: &impl Abort, store: &Store, pass: &mut Pass) -> [Row; 4]
 fn keep_two(store: &Store, pass: &mut Pass, rows: &[Row])
     requires inside { IsInside store.now pass.old }
     requires four { (length rows.now ≡ 4) × (store.now.sizes.depth ≡ 4) }
-    requires uses { Each (λ r. In r pass.old.seat.seat.me.0.store.got) (names rows.now) }
+    requires uses { Each (λ r. In r (view_of pass.old).store.got) (names rows.now) }
     ensures inside { IsInside store.now pass.new }
-    ensures lock { pass.new.seat.seat.me.0.lock ≡ pass.old.seat.seat.me.0.lock }
-    ensures two { length (protected_in pass.new.seat.seat.me.0.store) ≡ 2 }
+    ensures lock { (view_of pass.new).lock ≡ (view_of pass.old).lock }
+    ensures two { length (protected_in (view_of pass.new).store) ≡ 2 }
 {
     store_roots(store, pass, rows);
     keep_roots(store, pass, 1, 1);
@@ -119,9 +120,9 @@ fn keep_two(store: &Store, pass: &mut Pass, rows: &[Row])
 // The two protected rows.
 fn two_roots(store: &Store, pass: &mut Pass) -> (Row, Row)
     requires inside { IsInside store.now pass.old }
-    requires two { length (protected_in pass.old.seat.seat.me.0.store) ≡ 2 }
+    requires two { length (protected_in (view_of pass.old).store) ≡ 2 }
     ensures inside { IsInside store.now pass.new }
-    ensures lock { pass.new.seat.seat.me.0.lock ≡ pass.old.seat.seat.me.0.lock }
+    ensures lock { (view_of pass.new).lock ≡ (view_of pass.old).lock }
 {
     let first = root_at(store, pass, 0);
     let second = root_at(store, pass, 1);
@@ -132,9 +133,9 @@ fn two_roots(store: &Store, pass: &mut Pass) -> (Row, Row)
 // Full.
 fn create_past_the_room(rt: &impl Abort, store: &Store, pass: &mut Pass, row: Row)
     requires inside { IsInside store.now pass.old }
-    requires shared { pass.old.seat.seat.me.0.lock.phase ≡ Shared }
+    requires shared { (view_of pass.old).lock.phase ≡ Shared }
     ensures inside { IsInside store.now pass.new }
-    ensures shared { pass.new.seat.seat.me.0.lock.phase ≡ Shared }
+    ensures shared { (view_of pass.new).lock.phase ≡ Shared }
 {
     let same = protect_constant(rt, store, pass, 0);
     assert_eq!(rt; same, row);

@@ -3,10 +3,10 @@ ghost use Rattle.std.specs.Prelude.{◌≡◌, All, IfOk};
 ghost use Rattle.lock_core.specs.declared.parts.Phase.TheVariants.{Shared};
 ghost use Rattle.store_model.specs.Machine.{In};
 ghost use Rattle.store_model.specs.Steps.{AreLastRoots};
-ghost use Rattle.busy_forbidden.specs.Exclusive.{IsGranted};
+ghost use Rattle.node_rows.specs.Belonging.{IsSeated, IsOpen};
 ghost use Rattle.node_rows.specs.Inside.{IsInside};
-ghost use Rattle.node_rows.specs.Told.{Tells};
-ghost use Rattle.node_rows.specs.Passes.{IsStore, IsPass, IsOut};
+ghost use Rattle.node_rows.specs.Told.{Tells, view_of};
+ghost use Rattle.node_rows.specs.Passes.{IsOut};
 
 use busy_forbidden::Busy;
 use node_rows::{Last, Pass, Store, kept, last};
@@ -37,11 +37,11 @@ const fn worn_sizes(first: u64) -> Sizes
 
 // The last of the passes that are left.
 fn last_pass(rt: &impl Abort, store: &Store, passes: &mut Vec<Pass>) -> Pass
-    requires passes { All (λ p. IsPass store.now.table.shared.table_id store.now.sizes p.seat.seat p.seat.seats × IsOut p.seat.seat.me.0) passes.old.items }
+    requires passes { All (λ p. IsSeated store.now p × IsOut (view_of p)) passes.old.items }
     requires told { All Tells passes.old.items }
     ensures told { All Tells passes.new.items }
-    ensures left { All (λ p. IsPass store.now.table.shared.table_id store.now.sizes p.seat.seat p.seat.seats × IsOut p.seat.seat.me.0) passes.new.items }
-    ensures pass { IsPass store.now.table.shared.table_id store.now.sizes result.seat.seat result.seat.seats × IsOut result.seat.seat.me.0 × Tells result }
+    ensures left { All (λ p. IsSeated store.now p × IsOut (view_of p)) passes.new.items }
+    ensures pass { IsSeated store.now result × IsOut (view_of result) × Tells result }
 {
     match passes.pop() {
         Some(pass) => pass,
@@ -51,10 +51,10 @@ fn last_pass(rt: &impl Abort, store: &Store, passes: &mut Vec<Pass>) -> Pass
 
 // Enters shared access.
 fn enter(rt: &impl Abort, store: &Store, pass: &mut Pass)
-    requires store { IsStore store.now.table.shared.table_id store.now.table.shared.key store.now.sizes }
-    requires pass { IsPass store.now.table.shared.table_id store.now.sizes pass.old.seat.seat pass.old.seat.seats × IsOut pass.old.seat.seat.me.0 × Tells pass.old }
+    requires store { IsOpen store.now }
+    requires pass { IsSeated store.now pass.old × IsOut (view_of pass.old) × Tells pass.old }
     ensures inside { IsInside store.now pass.new }
-    ensures shared { pass.new.seat.seat.me.0.lock.phase ≡ Shared }
+    ensures shared { (view_of pass.new).lock.phase ≡ Shared }
 {
     match store.try_enter_shared(pass) {
         Ok(()) => {}
@@ -65,9 +65,9 @@ fn enter(rt: &impl Abort, store: &Store, pass: &mut Pass)
 // A constant, whose row is then protected.
 fn protect_constant(rt: &impl Abort, store: &Store, pass: &mut Pass, symbol: u32) -> Row
     requires inside { IsInside store.now pass.old }
-    requires shared { pass.old.seat.seat.me.0.lock.phase ≡ Shared }
+    requires shared { (view_of pass.old).lock.phase ≡ Shared }
     ensures inside { IsInside store.now pass.new }
-    ensures shared { pass.new.seat.seat.me.0.lock.phase ≡ Shared }
+    ensures shared { (view_of pass.new).lock.phase ≡ Shared }
 {
     match create(store, pass, Head::App(Symbol(symbol)), &[]) {
         Ok(row) => {
@@ -81,9 +81,9 @@ fn protect_constant(rt: &impl Abort, store: &Store, pass: &mut Pass, symbol: u32
 
 // A collection in an access of its own, and the last entry before the leave.
 fn collect_and_tell(rt: &impl Abort, store: &Store, pass: &mut Pass) -> (Result<Kept, Worn>, Last)
-    requires store { IsStore store.now.table.shared.table_id store.now.table.shared.key store.now.sizes }
-    requires pass { IsPass store.now.table.shared.table_id store.now.sizes pass.old.seat.seat pass.old.seat.seats × IsOut pass.old.seat.seat.me.0 × Tells pass.old }
-    ensures pass { IsPass store.now.table.shared.table_id store.now.sizes pass.new.seat.seat pass.new.seat.seats × IsOut pass.new.seat.seat.me.0 × Tells pass.new }
+    requires store { IsOpen store.now }
+    requires pass { IsSeated store.now pass.old × IsOut (view_of pass.old) × Tells pass.old }
+    ensures pass { IsSeated store.now pass.new × IsOut (view_of pass.new) × Tells pass.new }
 {
     let Ok(()) = store.try_enter_exclusive(pass) else {
         panic!(rt; "nobody is in");

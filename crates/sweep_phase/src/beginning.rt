@@ -5,8 +5,8 @@ ghost use Rattle.store_model.specs.declared.view.Place.TheVariants.{Base, Claim,
 ghost use Rattle.store_model.specs.Invariant.{span};
 ghost use Rattle.store_model.specs.Machine.{with_call};
 ghost use Rattle.store_model.specs.Steps.{loading};
+ghost use Rattle.node_rows.specs.Belonging.{IsOpen};
 ghost use Rattle.node_rows.specs.Collecting.{HasStore};
-ghost use Rattle.node_rows.specs.Passes.{IsStore};
 ghost use Rattle.node_rows.specs.Steps.{with_store, Known};
 ghost use Rattle.sweep_phase.specs.Loaded.{begun};
 ghost use Rattle.sweep_phase.specs.Gathered.{IsAlone, Gathers, StaysSeat, LoadsClaim, IsWorn};
@@ -18,7 +18,7 @@ use store_model::{Place, Sizes};
 
 // Loads the base, which is that of the access.
 fn load_base(store: &Store, seat: &mut Seat<NodeRows>) -> u64
-    requires store { IsStore store.now.table.shared.table_id store.now.table.shared.key store.now.sizes }
+    requires store { IsOpen store.now }
     requires alone { IsAlone store.now seat.old.seat seat.old.number seat.old.seats }
     requires call { seat.old.seat.me.0.store.call ≡ Idle }
     ensures alone { IsAlone store.now seat.new.seat seat.new.number seat.new.seats }
@@ -32,7 +32,7 @@ fn load_base(store: &Store, seat: &mut Seat<NodeRows>) -> u64
 
 // Loads the claim after the base.
 fn load_claim(store: &Store, seat: &mut Seat<NodeRows>, base: u64) -> u64
-    requires store { IsStore store.now.table.shared.table_id store.now.table.shared.key store.now.sizes }
+    requires store { IsOpen store.now }
     requires alone { IsAlone store.now seat.old.seat seat.old.number seat.old.seats }
     requires call { seat.old.seat.me.0.store.call ≡ Loading ((Base, base) ∷ []) }
     requires base { base ≡ seat.old.seat.me.0.store.base }
@@ -48,7 +48,7 @@ fn load_claim(store: &Store, seat: &mut Seat<NodeRows>, base: u64) -> u64
 
 // Loads the free count after the claim. With it the collection is worn, or not.
 fn load_free_count(store: &Store, seat: &mut Seat<NodeRows>, base: u64, claim: u64) -> u64
-    requires store { IsStore store.now.table.shared.table_id store.now.table.shared.key store.now.sizes }
+    requires store { IsOpen store.now }
     requires alone { IsAlone store.now seat.old.seat seat.old.number seat.old.seats }
     requires call { seat.old.seat.me.0.store.call ≡ Loading ((Base, base) ∷ (Claim, claim) ∷ []) }
     ensures alone { IsAlone store.now seat.new.seat seat.new.number seat.new.seats }
@@ -73,7 +73,7 @@ fn is_worn(sizes: &Sizes, base: u64, claim: u64) -> bool
 /// Begins a collection in exclusive access. `Worn` comes exactly where the base and the claim that are loaded leave no room for
 /// another epoch; nothing has changed then.
 pub(crate) fn begin<'a>(store: &'a Store, seat: &mut Seat<NodeRows>) -> Result<Sweep<'a>, Worn>
-    requires store { IsStore store.now.table.shared.table_id store.now.table.shared.key store.now.sizes }
+    requires store { IsOpen store.now }
     requires alone { IsAlone store.now seat.old.seat seat.old.number seat.old.seats }
     requires call { seat.old.seat.me.0.store.call ≡ Idle }
     requires known { Known store.now.table.shared.key seat.old.seat.me.0.store }

@@ -5,11 +5,10 @@ ghost use Rattle.store_model.specs.declared.view.Place.{Place};
 ghost use Rattle.store_model.specs.declared.view.Place.TheVariants.{Base, FreeCount, InUse};
 ghost use Rattle.store_model.specs.Marks.{MarksReached, IsMarked};
 ghost use Rattle.store_model.specs.Steps.{AreLastRoots, grown_use, is_storing};
-ghost use Rattle.busy_forbidden.specs.Calls.{IsSame};
-ghost use Rattle.busy_forbidden.specs.Exclusive.{IsGranted};
+ghost use Rattle.node_rows.specs.Belonging.{IsExclusive, IsSamePass};
 ghost use Rattle.node_rows.specs.Collecting.{HasSeen};
 ghost use Rattle.node_rows.specs.Inside.{IsInside};
-ghost use Rattle.node_rows.specs.Told.{Tells};
+ghost use Rattle.node_rows.specs.Told.{Tells, view_of};
 ghost use Rattle.node_rows.specs.Crowding.{swept};
 ghost use Rattle.node_rows.specs.Steps.{Known};
 ghost use Rattle.sweep_phase.specs.Gathered.{sizes_of, words_of, Gathers, HasGathered, StaysSeat, IsWorn, IsAlone};
@@ -191,7 +190,7 @@ fn fill_up(words: &mut Vec<u32>, count: u32)
 // chains.
 fn collect_on(sweep: &Sweep<'_>, pass: &mut Pass, in_use: u32) -> Kept
     requires at { Gathers sweep.now pass.old.seat.seat pass.old.seat.number pass.old.seat.seats }
-    requires in_use { in_use ≡ pass.old.seat.seat.me.0.store.in_use }
+    requires in_use { in_use ≡ (view_of pass.old).store.in_use }
     requires size { length pass.old.marks ≡ pass.old.rows }
     ensures ends { EndsSo sweep.now pass.old.seat.seat pass.old.seat.number pass.old.seat.seats pass.new.seat.seat pass.new.seat.number pass.new.seat.seats result.live result.buckets }
     ensures base { pass.new.base ≡ sweep.now.base + sweep.now.claim + 1 }
@@ -218,17 +217,17 @@ fn collect_on(sweep: &Sweep<'_>, pass: &mut Pass, in_use: u32) -> Kept
 /// nothing has changed then.
 pub fn collect(store: &Store, pass: &mut Pass) -> Result<Kept, Worn>
     requires inside { IsInside store.now pass.old }
-    requires granted { IsGranted pass.old.seat.seat.me.0.lock pass.old.seat.number pass.old.seat.seats }
-    requires last_roots { AreLastRoots pass.old.seat.seat.me.0.store }
+    requires granted { IsExclusive pass.old }
+    requires last_roots { AreLastRoots (view_of pass.old).store }
     ensures inside { IsInside store.now pass.new }
-    ensures same { IsSame pass.old.seat.seat pass.new.seat.seat × (pass.new.seat.number ≡ pass.old.seat.number) }
+    ensures same { IsSamePass pass.old pass.new }
     ensures seats { pass.new.seat.seats ≡ pass.old.seat.seats }
-    ensures only { pass.new.seat.seat.me.0 ≡ swept pass.old.seat.seat.me.0 pass.new.seat.seat.me.0.store pass.new.seat.seat.me.0.crowd }
+    ensures only { view_of pass.new ≡ swept (view_of pass.old) (view_of pass.new).store (view_of pass.new).crowd }
     ensures collects { IfOk result (λ kept. Collects store.now.sizes pass.old.seat.number
-        pass.old.seat.seat.me.0.store pass.new.seat.seat.me.0.store kept.live kept.buckets) }
-    ensures crowd { IfOk result (λ kept. HasKept pass.new.seat.seat.me.0 kept.live) }
-    ensures worn { IfErr result (λ _. IsWorn store.now.sizes pass.old.seat.number pass.old.seat.seat.me.0.store) }
-    ensures unchanged { IfErr result (λ _. pass.new.seat.seat.me.0 ≡ pass.old.seat.seat.me.0) }
+        (view_of pass.old).store (view_of pass.new).store kept.live kept.buckets) }
+    ensures crowd { IfOk result (λ kept. HasKept (view_of pass.new) kept.live) }
+    ensures worn { IfErr result (λ _. IsWorn store.now.sizes pass.old.seat.number (view_of pass.old).store) }
+    ensures unchanged { IfErr result (λ _. (view_of pass.new) ≡ view_of pass.old) }
 {
     let in_use = pass.in_use as u32;
     match begin(store, &mut pass.seat) {

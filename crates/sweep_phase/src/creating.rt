@@ -1,6 +1,7 @@
 //! Creations after a collection, in its exclusive access.
 ghost use Rattle.std.specs.Prelude.{◌≡◌, true, IfOk, IfErr};
-ghost use Rattle.busy_forbidden.specs.Calls.{IsSame};
+ghost use Rattle.node_rows.specs.Belonging.{IsSamePass};
+ghost use Rattle.node_rows.specs.Told.{view_of};
 ghost use Rattle.node_rows.specs.Inside.{IsInside};
 ghost use Rattle.node_rows.specs.Crowding.{IsSwept};
 ghost use Rattle.node_rows.specs.CrowdFull.{IsCrowded};
@@ -23,27 +24,27 @@ pub fn create_exclusive(
     args: &[Row],
 ) -> Result<Row, Full>
     requires inside { IsInside store.now pass.old }
-    requires fresh { pass.old.seat.seat.me.0.store.fresh ≡ true }
-    requires may { MayCreate store.now.sizes pass.old.seat.seat.me.0.store head (names args.now) }
+    requires fresh { (view_of pass.old).store.fresh ≡ true }
+    requires may { MayCreate store.now.sizes (view_of pass.old).store head (names args.now) }
     ensures inside { IsInside store.now pass.new }
-    ensures same { IsSame pass.old.seat.seat pass.new.seat.seat × (pass.new.seat.number ≡ pass.old.seat.number) }
+    ensures same { IsSamePass pass.old pass.new }
     ensures seats { pass.new.seat.seats ≡ pass.old.seat.seats }
-    ensures only { pass.new.seat.seat.me.0 ≡ with_store pass.old.seat.seat.me.0 pass.new.seat.seat.me.0.store }
+    ensures only { view_of pass.new ≡ with_store (view_of pass.old) (view_of pass.new).store }
     ensures notes { IfOk result (λ row.
-        NotesOne pass.old.seat.seat.me.0.store pass.new.seat.seat.me.0.store
+        NotesOne (view_of pass.old).store (view_of pass.new).store
         head (names args.now) row.0) }
     ensures gets { IfOk result (λ row.
-        Gets pass.old.seat.seat.me.0.store pass.new.seat.seat.me.0.store
+        Gets (view_of pass.old).store (view_of pass.new).store
         head (names args.now) row.0) }
     ensures full_only_where_filled { IfErr result (λ _.
-        WasFilled store.now.sizes pass.old.seat.number pass.old.seat.seat.me.0 head (names args.now)) }
-    ensures full_only_where_crowded { IfErr result (λ _. IsSwept pass.old.seat.seat.me.0.store →
-        IsCrowded store.now.sizes pass.old.seat.seat.me.0 (over head (names args.now))) }
+        WasFilled store.now.sizes pass.old.seat.number (view_of pass.old) head (names args.now)) }
+    ensures full_only_where_crowded { IfErr result (λ _. IsSwept (view_of pass.old).store →
+        IsCrowded store.now.sizes (view_of pass.old) (over head (names args.now))) }
     ensures full_only_where_read_full { IfErr result (λ _.
-        KeepsCause pass.old.seat.seat.me.0.store pass.new.seat.seat.me.0.store
+        KeepsCause (view_of pass.old).store (view_of pass.new).store
         head (names args.now)) }
-    ensures full_gets_none { IfErr result (λ _. GetsNone pass.old.seat.seat.me.0.store pass.new.seat.seat.me.0.store) }
-    ensures rest { KeepsRest pass.old.seat.seat.me.0.store pass.new.seat.seat.me.0.store }
+    ensures full_gets_none { IfErr result (λ _. GetsNone (view_of pass.old).store (view_of pass.new).store) }
+    ensures rest { KeepsRest (view_of pass.old).store (view_of pass.new).store }
 {
     create_inside(store, pass, head, args)
 }

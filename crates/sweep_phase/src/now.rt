@@ -1,12 +1,11 @@
 //! A collection in an access of its own.
 ghost use Rattle.std.specs.Prelude.{◌≡◌, IfOk, IfErr, Err};
 ghost use Rattle.store_model.specs.Steps.{AreLastRoots};
-ghost use Rattle.busy_forbidden.specs.Calls.{IsSame};
-ghost use Rattle.busy_forbidden.specs.Exclusive.{IsGranted, ShowsExclusive};
-ghost use Rattle.node_rows.specs.Belonging.{IsPassOf};
+ghost use Rattle.busy_forbidden.specs.Exclusive.{ShowsExclusive};
+ghost use Rattle.node_rows.specs.Belonging.{IsPassOf, IsExclusive, IsSamePass, IsSeated};
 ghost use Rattle.node_rows.specs.Inside.{IsInside};
-ghost use Rattle.node_rows.specs.Passes.{IsPass, IsOut, Stayed};
-ghost use Rattle.node_rows.specs.Told.{Tells};
+ghost use Rattle.node_rows.specs.Passes.{IsOut, Stayed};
+ghost use Rattle.node_rows.specs.Told.{Tells, view_of};
 ghost use Rattle.sweep_phase.specs.Collected.{HasKept};
 ghost use Rattle.sweep_phase.specs.Now.{CollectsNow, Answers, Leaves};
 
@@ -17,15 +16,15 @@ use node_rows::{Pass, Store};
 // Collects in exclusive access, and ends it.
 fn collect_and_leave(store: &Store, pass: &mut Pass) -> Result<Kept, Worn>
     requires inside { IsInside store.now pass.old }
-    requires granted { IsGranted pass.old.seat.seat.me.0.lock pass.old.seat.number pass.old.seat.seats }
-    requires last_roots { AreLastRoots pass.old.seat.seat.me.0.store }
-    ensures pass { IsPass store.now.table.shared.table_id store.now.sizes pass.new.seat.seat pass.new.seat.seats }
-    ensures same { IsSame pass.old.seat.seat pass.new.seat.seat × (pass.new.seat.number ≡ pass.old.seat.number) }
-    ensures out { IsOut pass.new.seat.seat.me.0 }
+    requires granted { IsExclusive pass.old }
+    requires last_roots { AreLastRoots (view_of pass.old).store }
+    ensures pass { IsSeated store.now pass.new }
+    ensures same { IsSamePass pass.old pass.new }
+    ensures out { IsOut (view_of pass.new) }
     ensures told { Tells pass.new }
-    ensures leaves { Leaves store.now.sizes pass.new.seat.number pass.old.seat.seat.me.0.store pass.new.seat.seat.me.0.store result }
-    ensures crowd { IfOk result (λ kept. HasKept pass.new.seat.seat.me.0 kept.live) }
-    ensures same_crowd { IfErr result (λ _. pass.new.seat.seat.me.0.crowd ≡ pass.old.seat.seat.me.0.crowd) }
+    ensures leaves { Leaves store.now.sizes pass.new.seat.number (view_of pass.old).store (view_of pass.new).store result }
+    ensures crowd { IfOk result (λ kept. HasKept (view_of pass.new) kept.live) }
+    ensures same_crowd { IfErr result (λ _. (view_of pass.new).crowd ≡ (view_of pass.old).crowd) }
 {
     let result = collect(store, pass);
     store.leave_exclusive(pass);
@@ -36,15 +35,15 @@ fn collect_and_leave(store: &Store, pass: &mut Pass) -> Result<Kept, Worn>
 /// the store is known then that wasn't before; `Worn` as in `collect`. A granted entry notes Roots at its end, after a `Worn` too.
 pub fn collect_now(store: &Store, pass: &mut Pass) -> Result<Kept, TryCollect>
     requires of { IsPassOf store.now pass.old }
-    requires out { IsOut pass.old.seat.seat.me.0 }
+    requires out { IsOut (view_of pass.old) }
     requires told { Tells pass.old }
-    ensures pass { IsPass store.now.table.shared.table_id store.now.sizes pass.new.seat.seat pass.new.seat.seats }
-    ensures same { IsSame pass.old.seat.seat pass.new.seat.seat × (pass.new.seat.number ≡ pass.old.seat.number) }
-    ensures out { IsOut pass.new.seat.seat.me.0 }
+    ensures pass { IsSeated store.now pass.new }
+    ensures same { IsSamePass pass.old pass.new }
+    ensures out { IsOut (view_of pass.new) }
     ensures told { Tells pass.new }
-    ensures answers { Answers store.now.sizes pass.new.seat.number pass.new.seat.seats pass.old.seat.seat.me.0 pass.new.seat.seat.me.0 result }
-    ensures crowd { IfOk result (λ kept. HasKept pass.new.seat.seat.me.0 kept.live) }
-    ensures same_crowd { IfErr result (λ _. pass.new.seat.seat.me.0.crowd ≡ pass.old.seat.seat.me.0.crowd) }
+    ensures answers { Answers store.now.sizes pass.new.seat.number pass.new.seat.seats (view_of pass.old) (view_of pass.new) result }
+    ensures crowd { IfOk result (λ kept. HasKept (view_of pass.new) kept.live) }
+    ensures same_crowd { IfErr result (λ _. (view_of pass.new).crowd ≡ (view_of pass.old).crowd) }
 {
     match store.try_enter_exclusive(pass) {
         Err(busy) => return Err(TryCollect::Busy(busy)),

@@ -2,7 +2,7 @@
 ghost use Rattle.std.specs.Prelude.{◌≡◌, ◌+◌, ◌≤◌, ◌^◌};
 ghost use Rattle.store_model.specs.Invariant.{span};
 ghost use Rattle.store_model.specs.NewStore.{MaySize};
-ghost use Rattle.node_rows.specs.Passes.{IsStore};
+ghost use Rattle.node_rows.specs.Belonging.{IsOpen};
 ghost use Rattle.sweep_phase.specs.Loaded.{FitsRows};
 
 use busy_forbidden::Busy;
@@ -33,7 +33,7 @@ pub(crate) struct Sweep<'a> {
     pub(crate) base: u64,
     pub(crate) claim: u64,
     pub(crate) count: u64,
-    ghost at: { IsStore store.now.table.shared.table_id store.now.table.shared.key store.now.sizes },
+    ghost at: { IsOpen store.now },
     ghost room: { base + claim + 1 + span store.now.sizes ≤ 2 ^ 62 },
     ghost few: { count ≤ store.now.sizes.rows },
     ghost may: { MaySize store.now.sizes },

@@ -3,8 +3,8 @@ ghost use Rattle.std.specs.Prelude.{◌≡◌, ◌+◌, ◌*◌, ◌<◌, get_or
 ghost use Rattle.hash_buckets.specs.Spelled.{symbol_word};
 ghost use Rattle.store_model.specs.Calls.{words_of};
 ghost use Rattle.store_model.specs.Machine.{widest};
+ghost use Rattle.node_rows.specs.Belonging.{IsOpen};
 ghost use Rattle.node_rows.specs.Rows.{names};
-ghost use Rattle.node_rows.specs.Passes.{IsStore};
 ghost use Rattle.node_rows.specs.Steps.{over};
 ghost use Rattle.term_create.specs.Fitting.{Fits};
 
@@ -23,7 +23,7 @@ pub(crate) struct Asked<'a> {
     pub(crate) place: u64,
     pub(crate) first_row: usize,
     pub(crate) row_size: usize,
-    ghost at: { IsStore store.now.table.shared.table_id store.now.table.shared.key store.now.sizes },
+    ghost at: { IsOpen store.now },
     ghost symbol_is: { symbol ≡ symbol_word head },
     ghost second: { length args.now ≡ get_or (words_of (over head (names args.now))) 1 0 },
     ghost fits: { Fits store.now.sizes head (names args.now) },

@@ -4,18 +4,17 @@ ghost use Rattle.lock_core.specs.declared.parts.Phase.TheVariants.{Shared};
 ghost use Rattle.store_model.specs.Calls.{words_of, bucket};
 ghost use Rattle.store_model.specs.declared.view.Call.TheVariants.{Ended};
 ghost use Rattle.store_model.specs.Machine.{arrived, with_path, widest};
-ghost use Rattle.busy_forbidden.specs.Calls.{IsSame};
+ghost use Rattle.node_rows.specs.Belonging.{IsSamePass, IsSeated, IsOpen};
 ghost use Rattle.node_rows.specs.Rows.{names};
 ghost use Rattle.node_rows.specs.Full.{HoldsAll};
 ghost use Rattle.node_rows.specs.Knowing.{IsAbsent};
 ghost use Rattle.node_rows.specs.Steps.{over, with_store, IsOf, Known, MayCreateBy};
-ghost use Rattle.node_rows.specs.Passes.{IsPass, IsStore};
 ghost use Rattle.node_rows.specs.Inside.{IsInside};
 ghost use Rattle.term_create.specs.Counted.{row_steps, Takes};
 ghost use Rattle.term_create.specs.Fitting.{Fits};
 ghost use Rattle.term_create.specs.Stage.{IsAt, IsBased, SameSeat, Notes, IsFull, IsRefused, HoldsAllAlone, FillsAfter, content};
 ghost use Rattle.term_create.specs.Ended.{Ends, SamePlain};
-ghost use Rattle.node_rows.specs.Told.{Tells};
+ghost use Rattle.node_rows.specs.Told.{Tells, view_of};
 ghost use Rattle.term_create.specs.Created.{MayCreate, NotesOne, Gets, KeepsCause, WasFilled, GetsNone, KeepsRest};
 
 use crate::asked::{Asked, Full, Noted, Walk};
@@ -44,7 +43,7 @@ fn make_row<L: Ledger>(
     steps: &mut Steps<L>,
     from: u64,
 ) -> Result<Noted, Full>
-    requires store { IsStore store.now.table.shared.table_id store.now.table.shared.key store.now.sizes }
+    requires store { IsOpen store.now }
     requires second { length args.now ≡ get_or (words_of (over head (names args.now))) 1 0 }
     requires fits { Fits store.now.sizes head (names args.now) }
     requires within { place < store.now.sizes.buckets }
@@ -140,23 +139,23 @@ fn create_noted<L: Ledger>(
     steps: &mut Steps<L>,
 ) -> Result<Noted, Full>
     requires inside { IsInside store.now pass.old }
-    requires access { MayCreateBy pass.old.seat.seat.me.0 }
-    requires may { MayCreate store.now.sizes pass.old.seat.seat.me.0.store head (names args.now) }
-    ensures pass { IsPass store.now.table.shared.table_id store.now.sizes pass.new.seat.seat pass.new.seat.seats }
+    requires access { MayCreateBy (view_of pass.old) }
+    requires may { MayCreate store.now.sizes (view_of pass.old).store head (names args.now) }
+    ensures pass { IsSeated store.now pass.new }
     ensures same { SameSeat pass.old.seat.seat pass.new.seat.seat
         pass.old.seat.number pass.new.seat.number pass.old.seat.seats pass.new.seat.seats }
     ensures loaded { (pass.new.base ≡ pass.old.base) × (pass.new.in_use ≡ pass.old.in_use) }
     ensures plain { SamePlain pass.old pass.new }
-    ensures known { Known store.now.sizes pass.new.seat.seat.me.0.store }
-    ensures view { let v = pass.old.seat.seat.me.0 in let w = pass.new.seat.seat.me.0 in MatchResult result
+    ensures known { Known store.now.sizes (view_of pass.new).store }
+    ensures view { let v = view_of pass.old in let w = view_of pass.new in MatchResult result
         (Notes v w head (names args.now))
         (λ _. IsRefused (with_store v (with_path v.store 0 [])) w (over head (names args.now))) }
     ensures alone { IfErr result (λ _. store.now.sizes.seats ≡ 1 →
-        IsAbsent pass.old.seat.seat.me.0.store.entries (over head (names args.now))) }
+        IsAbsent (view_of pass.old).store.entries (over head (names args.now))) }
     ensures all { IfErr result (λ _. store.now.sizes.seats ≡ 1 →
-        HoldsAll store.now.sizes.rows pass.old.seat.seat.me.0.store.entries) }
-    ensures filled { IfErr result (λ _. pass.old.seat.seat.me.0.store.fresh ≡ true →
-        WasFilled store.now.sizes pass.old.seat.number pass.old.seat.seat.me.0 head (names args.now)) }
+        HoldsAll store.now.sizes.rows (view_of pass.old).store.entries) }
+    ensures filled { IfErr result (λ _. (view_of pass.old).store.fresh ≡ true →
+        WasFilled store.now.sizes pass.old.seat.number (view_of pass.old) head (names args.now)) }
     ensures cost { steps.new ≤ steps.old + (widest store.now.sizes + 8) * (store.now.sizes.rows + 2) }
 {
     let symbol = symbol_word(head);
@@ -186,21 +185,21 @@ fn create_whole<L: Ledger>(
     steps: &mut Steps<L>,
 ) -> Result<Row, Full>
     requires inside { IsInside store.now pass.old }
-    requires access { MayCreateBy pass.old.seat.seat.me.0 }
-    requires may { MayCreate store.now.sizes pass.old.seat.seat.me.0.store head (names args.now) }
-    ensures pass { IsPass store.now.table.shared.table_id store.now.sizes pass.new.seat.seat pass.new.seat.seats }
+    requires access { MayCreateBy (view_of pass.old) }
+    requires may { MayCreate store.now.sizes (view_of pass.old).store head (names args.now) }
+    ensures pass { IsSeated store.now pass.new }
     ensures same { SameSeat pass.old.seat.seat pass.new.seat.seat
         pass.old.seat.number pass.new.seat.number pass.old.seat.seats pass.new.seat.seats }
     ensures loaded { (pass.new.base ≡ pass.old.base) × (pass.new.in_use ≡ pass.old.in_use) }
-    ensures known { Known store.now.sizes pass.new.seat.seat.me.0.store }
-    ensures view { Ends pass.old.seat.seat.me.0 pass.new.seat.seat.me.0 head (names args.now) result }
+    ensures known { Known store.now.sizes (view_of pass.new).store }
+    ensures view { Ends (view_of pass.old) (view_of pass.new) head (names args.now) result }
     ensures told { Tells pass.new }
     ensures alone { IfErr result (λ _. store.now.sizes.seats ≡ 1 →
-        IsAbsent pass.old.seat.seat.me.0.store.entries (over head (names args.now))) }
+        IsAbsent (view_of pass.old).store.entries (over head (names args.now))) }
     ensures all { IfErr result (λ _. store.now.sizes.seats ≡ 1 →
-        HoldsAll store.now.sizes.rows pass.old.seat.seat.me.0.store.entries) }
-    ensures filled { IfErr result (λ _. pass.old.seat.seat.me.0.store.fresh ≡ true →
-        WasFilled store.now.sizes pass.old.seat.number pass.old.seat.seat.me.0 head (names args.now)) }
+        HoldsAll store.now.sizes.rows (view_of pass.old).store.entries) }
+    ensures filled { IfErr result (λ _. (view_of pass.old).store.fresh ≡ true →
+        WasFilled store.now.sizes pass.old.seat.number (view_of pass.old) head (names args.now)) }
     ensures cost { steps.new ≤ steps.old + (widest store.now.sizes + 8) * (store.now.sizes.rows + 2) }
 {
     match create_noted(store, pass, head, args, steps) {
@@ -228,28 +227,28 @@ pub fn create_counted<L: Ledger>(
     steps: &mut Steps<L>,
 ) -> Result<Row, Full>
     requires inside { IsInside store.now pass.old }
-    requires access { MayCreateBy pass.old.seat.seat.me.0 }
-    requires may { MayCreate store.now.sizes pass.old.seat.seat.me.0.store head (names args.now) }
+    requires access { MayCreateBy (view_of pass.old) }
+    requires may { MayCreate store.now.sizes (view_of pass.old).store head (names args.now) }
     ensures inside { IsInside store.now pass.new }
-    ensures same { IsSame pass.old.seat.seat pass.new.seat.seat × (pass.new.seat.number ≡ pass.old.seat.number) }
-    ensures only { pass.new.seat.seat.me.0 ≡ with_store pass.old.seat.seat.me.0 pass.new.seat.seat.me.0.store }
+    ensures same { IsSamePass pass.old pass.new }
+    ensures only { view_of pass.new ≡ with_store (view_of pass.old) (view_of pass.new).store }
     ensures notes { IfOk result (λ row.
-        NotesOne pass.old.seat.seat.me.0.store pass.new.seat.seat.me.0.store
+        NotesOne (view_of pass.old).store (view_of pass.new).store
         head (names args.now) row.0) }
     ensures gets { IfOk result (λ row.
-        Gets pass.old.seat.seat.me.0.store pass.new.seat.seat.me.0.store
+        Gets (view_of pass.old).store (view_of pass.new).store
         head (names args.now) row.0) }
     ensures full_only_where_read_full { IfErr result (λ _.
-        KeepsCause pass.old.seat.seat.me.0.store pass.new.seat.seat.me.0.store
+        KeepsCause (view_of pass.old).store (view_of pass.new).store
         head (names args.now)) }
     ensures full_alone_only_where_absent { IfErr result (λ _. store.now.sizes.seats ≡ 1 →
-        IsAbsent pass.old.seat.seat.me.0.store.entries (over head (names args.now))) }
+        IsAbsent (view_of pass.old).store.entries (over head (names args.now))) }
     ensures full_alone_only_where_all_rows_are_held { IfErr result (λ _. store.now.sizes.seats ≡ 1 →
-        HoldsAll store.now.sizes.rows pass.old.seat.seat.me.0.store.entries) }
-    ensures full_after_collection_only_where_filled { IfErr result (λ _. pass.old.seat.seat.me.0.store.fresh ≡ true →
-        WasFilled store.now.sizes pass.old.seat.number pass.old.seat.seat.me.0 head (names args.now)) }
-    ensures full_gets_none { IfErr result (λ _. GetsNone pass.old.seat.seat.me.0.store pass.new.seat.seat.me.0.store) }
-    ensures rest { KeepsRest pass.old.seat.seat.me.0.store pass.new.seat.seat.me.0.store }
+        HoldsAll store.now.sizes.rows (view_of pass.old).store.entries) }
+    ensures full_after_collection_only_where_filled { IfErr result (λ _. (view_of pass.old).store.fresh ≡ true →
+        WasFilled store.now.sizes pass.old.seat.number (view_of pass.old) head (names args.now)) }
+    ensures full_gets_none { IfErr result (λ _. GetsNone (view_of pass.old).store (view_of pass.new).store) }
+    ensures rest { KeepsRest (view_of pass.old).store (view_of pass.new).store }
     ensures bound { steps.new ≤ steps.old + (widest store.now.sizes + 8) * (store.now.sizes.rows + 2) }
 {
     create_whole(store, pass, head, args, steps)
@@ -267,28 +266,28 @@ fn create_uncounted<L: Ledger>(
     requires name { blank.name ≡ L.name }
     requires parts { (blank.parts ≡ L.parts) × (0 < L.parts) }
     requires inside { IsInside store.now pass.old }
-    requires access { MayCreateBy pass.old.seat.seat.me.0 }
-    requires may { MayCreate store.now.sizes pass.old.seat.seat.me.0.store head (names args.now) }
+    requires access { MayCreateBy (view_of pass.old) }
+    requires may { MayCreate store.now.sizes (view_of pass.old).store head (names args.now) }
     ensures inside { IsInside store.now pass.new }
-    ensures same { IsSame pass.old.seat.seat pass.new.seat.seat × (pass.new.seat.number ≡ pass.old.seat.number) }
-    ensures only { pass.new.seat.seat.me.0 ≡ with_store pass.old.seat.seat.me.0 pass.new.seat.seat.me.0.store }
+    ensures same { IsSamePass pass.old pass.new }
+    ensures only { view_of pass.new ≡ with_store (view_of pass.old) (view_of pass.new).store }
     ensures notes { IfOk result (λ row.
-        NotesOne pass.old.seat.seat.me.0.store pass.new.seat.seat.me.0.store
+        NotesOne (view_of pass.old).store (view_of pass.new).store
         head (names args.now) row.0) }
     ensures gets { IfOk result (λ row.
-        Gets pass.old.seat.seat.me.0.store pass.new.seat.seat.me.0.store
+        Gets (view_of pass.old).store (view_of pass.new).store
         head (names args.now) row.0) }
     ensures full_only_where_read_full { IfErr result (λ _.
-        KeepsCause pass.old.seat.seat.me.0.store pass.new.seat.seat.me.0.store
+        KeepsCause (view_of pass.old).store (view_of pass.new).store
         head (names args.now)) }
     ensures full_alone_only_where_absent { IfErr result (λ _. store.now.sizes.seats ≡ 1 →
-        IsAbsent pass.old.seat.seat.me.0.store.entries (over head (names args.now))) }
+        IsAbsent (view_of pass.old).store.entries (over head (names args.now))) }
     ensures full_alone_only_where_all_rows_are_held { IfErr result (λ _. store.now.sizes.seats ≡ 1 →
-        HoldsAll store.now.sizes.rows pass.old.seat.seat.me.0.store.entries) }
-    ensures full_after_collection_only_where_filled { IfErr result (λ _. pass.old.seat.seat.me.0.store.fresh ≡ true →
-        WasFilled store.now.sizes pass.old.seat.number pass.old.seat.seat.me.0 head (names args.now)) }
-    ensures full_gets_none { IfErr result (λ _. GetsNone pass.old.seat.seat.me.0.store pass.new.seat.seat.me.0.store) }
-    ensures rest { KeepsRest pass.old.seat.seat.me.0.store pass.new.seat.seat.me.0.store }
+        HoldsAll store.now.sizes.rows (view_of pass.old).store.entries) }
+    ensures full_after_collection_only_where_filled { IfErr result (λ _. (view_of pass.old).store.fresh ≡ true →
+        WasFilled store.now.sizes pass.old.seat.number (view_of pass.old) head (names args.now)) }
+    ensures full_gets_none { IfErr result (λ _. GetsNone (view_of pass.old).store (view_of pass.new).store) }
+    ensures rest { KeepsRest (view_of pass.old).store (view_of pass.new).store }
 {
     create_counted(store, pass, head, args, &mut Steps::<L>::new(blank))
 }
@@ -297,28 +296,28 @@ fn create_uncounted<L: Ledger>(
 #[inline(always)]
 pub fn create_inside(store: &Store, pass: &mut Pass, head: Head, args: &[Row]) -> Result<Row, Full>
     requires inside { IsInside store.now pass.old }
-    requires access { MayCreateBy pass.old.seat.seat.me.0 }
-    requires may { MayCreate store.now.sizes pass.old.seat.seat.me.0.store head (names args.now) }
+    requires access { MayCreateBy (view_of pass.old) }
+    requires may { MayCreate store.now.sizes (view_of pass.old).store head (names args.now) }
     ensures inside { IsInside store.now pass.new }
-    ensures same { IsSame pass.old.seat.seat pass.new.seat.seat × (pass.new.seat.number ≡ pass.old.seat.number) }
-    ensures only { pass.new.seat.seat.me.0 ≡ with_store pass.old.seat.seat.me.0 pass.new.seat.seat.me.0.store }
+    ensures same { IsSamePass pass.old pass.new }
+    ensures only { view_of pass.new ≡ with_store (view_of pass.old) (view_of pass.new).store }
     ensures notes { IfOk result (λ row.
-        NotesOne pass.old.seat.seat.me.0.store pass.new.seat.seat.me.0.store
+        NotesOne (view_of pass.old).store (view_of pass.new).store
         head (names args.now) row.0) }
     ensures gets { IfOk result (λ row.
-        Gets pass.old.seat.seat.me.0.store pass.new.seat.seat.me.0.store
+        Gets (view_of pass.old).store (view_of pass.new).store
         head (names args.now) row.0) }
     ensures full_only_where_read_full { IfErr result (λ _.
-        KeepsCause pass.old.seat.seat.me.0.store pass.new.seat.seat.me.0.store
+        KeepsCause (view_of pass.old).store (view_of pass.new).store
         head (names args.now)) }
     ensures full_alone_only_where_absent { IfErr result (λ _. store.now.sizes.seats ≡ 1 →
-        IsAbsent pass.old.seat.seat.me.0.store.entries (over head (names args.now))) }
+        IsAbsent (view_of pass.old).store.entries (over head (names args.now))) }
     ensures full_alone_only_where_all_rows_are_held { IfErr result (λ _. store.now.sizes.seats ≡ 1 →
-        HoldsAll store.now.sizes.rows pass.old.seat.seat.me.0.store.entries) }
-    ensures full_after_collection_only_where_filled { IfErr result (λ _. pass.old.seat.seat.me.0.store.fresh ≡ true →
-        WasFilled store.now.sizes pass.old.seat.number pass.old.seat.seat.me.0 head (names args.now)) }
-    ensures full_gets_none { IfErr result (λ _. GetsNone pass.old.seat.seat.me.0.store pass.new.seat.seat.me.0.store) }
-    ensures rest { KeepsRest pass.old.seat.seat.me.0.store pass.new.seat.seat.me.0.store }
+        HoldsAll store.now.sizes.rows (view_of pass.old).store.entries) }
+    ensures full_after_collection_only_where_filled { IfErr result (λ _. (view_of pass.old).store.fresh ≡ true →
+        WasFilled store.now.sizes pass.old.seat.number (view_of pass.old) head (names args.now)) }
+    ensures full_gets_none { IfErr result (λ _. GetsNone (view_of pass.old).store (view_of pass.new).store) }
+    ensures rest { KeepsRest (view_of pass.old).store (view_of pass.new).store }
 {
     create_uncounted::<Brand>(store, pass, head, args, Blank::new(1))
 }
@@ -327,26 +326,26 @@ pub fn create_inside(store: &Store, pass: &mut Pass, head: Head, args: &[Row]) -
 #[inline(always)]
 pub fn create(store: &Store, pass: &mut Pass, head: Head, args: &[Row]) -> Result<Row, Full>
     requires inside { IsInside store.now pass.old }
-    requires shared { pass.old.seat.seat.me.0.lock.phase ≡ Shared }
-    requires may { MayCreate store.now.sizes pass.old.seat.seat.me.0.store head (names args.now) }
+    requires shared { (view_of pass.old).lock.phase ≡ Shared }
+    requires may { MayCreate store.now.sizes (view_of pass.old).store head (names args.now) }
     ensures inside { IsInside store.now pass.new }
-    ensures same { IsSame pass.old.seat.seat pass.new.seat.seat × (pass.new.seat.number ≡ pass.old.seat.number) }
-    ensures only { pass.new.seat.seat.me.0 ≡ with_store pass.old.seat.seat.me.0 pass.new.seat.seat.me.0.store }
+    ensures same { IsSamePass pass.old pass.new }
+    ensures only { view_of pass.new ≡ with_store (view_of pass.old) (view_of pass.new).store }
     ensures notes { IfOk result (λ row.
-        NotesOne pass.old.seat.seat.me.0.store pass.new.seat.seat.me.0.store
+        NotesOne (view_of pass.old).store (view_of pass.new).store
         head (names args.now) row.0) }
     ensures gets { IfOk result (λ row.
-        Gets pass.old.seat.seat.me.0.store pass.new.seat.seat.me.0.store
+        Gets (view_of pass.old).store (view_of pass.new).store
         head (names args.now) row.0) }
     ensures full_only_where_read_full { IfErr result (λ _.
-        KeepsCause pass.old.seat.seat.me.0.store pass.new.seat.seat.me.0.store
+        KeepsCause (view_of pass.old).store (view_of pass.new).store
         head (names args.now)) }
     ensures full_alone_only_where_absent { IfErr result (λ _. store.now.sizes.seats ≡ 1 →
-        IsAbsent pass.old.seat.seat.me.0.store.entries (over head (names args.now))) }
+        IsAbsent (view_of pass.old).store.entries (over head (names args.now))) }
     ensures full_alone_only_where_all_rows_are_held { IfErr result (λ _. store.now.sizes.seats ≡ 1 →
-        HoldsAll store.now.sizes.rows pass.old.seat.seat.me.0.store.entries) }
-    ensures full_gets_none { IfErr result (λ _. GetsNone pass.old.seat.seat.me.0.store pass.new.seat.seat.me.0.store) }
-    ensures rest { KeepsRest pass.old.seat.seat.me.0.store pass.new.seat.seat.me.0.store }
+        HoldsAll store.now.sizes.rows (view_of pass.old).store.entries) }
+    ensures full_gets_none { IfErr result (λ _. GetsNone (view_of pass.old).store (view_of pass.new).store) }
+    ensures rest { KeepsRest (view_of pass.old).store (view_of pass.new).store }
 {
     create_inside(store, pass, head, args)
 }

@@ -6,7 +6,8 @@ ghost use Rattle.store_model.specs.ByView.{KnowsWord};
 ghost use Rattle.store_model.specs.Machine.{In, knowing, widest};
 ghost use Rattle.store_model.specs.declared.view.Place.TheVariants.{RowWord};
 ghost use Rattle.store_model.specs.Shown.{index_of, in_table};
-ghost use Rattle.busy_forbidden.specs.Calls.{IsSame};
+ghost use Rattle.node_rows.specs.Belonging.{IsSamePass};
+ghost use Rattle.node_rows.specs.Told.{view_of};
 ghost use Rattle.node_rows.specs.Inside.{IsInside};
 ghost use Rattle.node_rows.specs.Steps.{with_store};
 ghost use Rattle.node_rows.specs.Knowing.{KnowsTree};
@@ -23,7 +24,7 @@ const EMPTY_LIST: u64 = INTEGER + 1;
 // The place of a word of a row that the pass may use.
 fn place_of(store: &Store, pass: &Pass, row: Row, k: usize) -> usize
     requires inside { IsInside store.now pass.now }
-    requires uses { In row.0 pass.now.seat.seat.me.0.store.got }
+    requires uses { In row.0 (view_of pass.now).store.got }
     requires within { k < widest store.now.sizes + 2 }
     ensures word { result ≡ index_of store.now.sizes (RowWord row.0 k) }
     ensures there { in_table store.now.sizes (RowWord row.0 k) ≡ true }
@@ -34,11 +35,11 @@ fn place_of(store: &Store, pass: &Pass, row: Row, k: usize) -> usize
 // Loads word k of a row that the pass may use.
 fn read(store: &Store, pass: &mut Pass, row: Row, k: u64) -> u64
     requires inside { IsInside store.now pass.old }
-    requires uses { In row.0 pass.old.seat.seat.me.0.store.got }
-    requires may { (k < 2) ⊎ ((k ≡ 2) × KnowsWord row.0 0 4294967296 pass.old.seat.seat.me.0.store.knows) }
+    requires uses { In row.0 (view_of pass.old).store.got }
+    requires may { (k < 2) ⊎ ((k ≡ 2) × KnowsWord row.0 0 4294967296 (view_of pass.old).store.knows) }
     ensures inside { IsInside store.now pass.new }
-    ensures same { IsSame pass.old.seat.seat pass.new.seat.seat × (pass.new.seat.number ≡ pass.old.seat.number) }
-    ensures view { pass.new.seat.seat.me.0 ≡ with_store pass.old.seat.seat.me.0 (knowing pass.old.seat.seat.me.0.store row.0 k result) }
+    ensures same { IsSamePass pass.old pass.new }
+    ensures view { view_of pass.new ≡ with_store (view_of pass.old) (knowing (view_of pass.old).store row.0 k result) }
 {
     let place = place_of(store, pass, row, k as usize);
     read_word(&store.table, &mut pass.seat, place, row.0 as u64, k)
@@ -56,11 +57,11 @@ fn narrow(sizes: &Sizes, count: u64) -> u32
 /// The head of a row that the pass may use: exactly that of its tree, where the pass knows the tree.
 pub fn head_of(store: &Store, pass: &mut Pass, row: Row) -> Head
     requires inside { IsInside store.now pass.old }
-    requires uses { In row.0 pass.old.seat.seat.me.0.store.got }
+    requires uses { In row.0 (view_of pass.old).store.got }
     ensures inside { IsInside store.now pass.new }
-    ensures same { IsSame pass.old.seat.seat pass.new.seat.seat × (pass.new.seat.number ≡ pass.old.seat.number) }
-    ensures reads { Reads pass.old.seat.seat.me.0 pass.new.seat.seat.me.0 (head_words row.0 result) }
-    ensures tree { (t : Tree) → KnowsTree pass.old.seat.seat.me.0.store.knows row.0 t → root t ≡ Some result }
+    ensures same { IsSamePass pass.old pass.new }
+    ensures reads { Reads (view_of pass.old) (view_of pass.new) (head_words row.0 result) }
+    ensures tree { (t : Tree) → KnowsTree (view_of pass.old).store.knows row.0 t → root t ≡ Some result }
 {
     let word = read(store, pass, row, 0);
     if word < INTEGER {
@@ -77,12 +78,12 @@ pub fn head_of(store: &Store, pass: &mut Pass, row: Row) -> Head
 /// How many arguments a row has that the pass may use: exactly as many as its tree, where the pass knows the tree.
 pub fn count_of(store: &Store, pass: &mut Pass, row: Row) -> u32
     requires inside { IsInside store.now pass.old }
-    requires uses { In row.0 pass.old.seat.seat.me.0.store.got }
+    requires uses { In row.0 (view_of pass.old).store.got }
     ensures inside { IsInside store.now pass.new }
-    ensures same { IsSame pass.old.seat.seat pass.new.seat.seat × (pass.new.seat.number ≡ pass.old.seat.number) }
-    ensures reads { Reads pass.old.seat.seat.me.0 pass.new.seat.seat.me.0 (word row.0 1 result ∷ []) }
+    ensures same { IsSamePass pass.old pass.new }
+    ensures reads { Reads (view_of pass.old) (view_of pass.new) (word row.0 1 result ∷ []) }
     ensures within { result ≤ widest store.now.sizes }
-    ensures tree { (t : Tree) → KnowsTree pass.old.seat.seat.me.0.store.knows row.0 t → length (arguments t) ≡ result }
+    ensures tree { (t : Tree) → KnowsTree (view_of pass.old).store.knows row.0 t → length (arguments t) ≡ result }
 {
     let count = read(store, pass, row, 1);
     narrow(&store.sizes, count)
@@ -92,13 +93,13 @@ pub fn count_of(store: &Store, pass: &mut Pass, row: Row) -> u32
 /// the pass knows the tree. The pass has to know the count of arguments, which `count_of` reads.
 pub fn child_of(store: &Store, pass: &mut Pass, row: Row, j: u32) -> Row
     requires inside { IsInside store.now pass.old }
-    requires uses { In row.0 pass.old.seat.seat.me.0.store.got }
-    requires argument { HasArgument pass.old.seat.seat.me.0.store.knows row.0 j }
+    requires uses { In row.0 (view_of pass.old).store.got }
+    requires argument { HasArgument (view_of pass.old).store.knows row.0 j }
     ensures inside { IsInside store.now pass.new }
-    ensures same { IsSame pass.old.seat.seat pass.new.seat.seat × (pass.new.seat.number ≡ pass.old.seat.number) }
-    ensures reads { ReadsChild pass.old.seat.seat.me.0 pass.new.seat.seat.me.0 row.0 j result.0 }
-    ensures tree { (t : Tree) → KnowsTree pass.old.seat.seat.me.0.store.knows row.0 t
-        → KnowsTree pass.new.seat.seat.me.0.store.knows result.0 (get_or (arguments t) j (Leaf 0)) }
+    ensures same { IsSamePass pass.old pass.new }
+    ensures reads { ReadsChild (view_of pass.old) (view_of pass.new) row.0 j result.0 }
+    ensures tree { (t : Tree) → KnowsTree (view_of pass.old).store.knows row.0 t
+        → KnowsTree (view_of pass.new).store.knows result.0 (get_or (arguments t) j (Leaf 0)) }
 {
     let number = row.0 as u64;
     let place = place_of(store, pass, row, j as usize + 2);

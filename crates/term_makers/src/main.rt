@@ -3,8 +3,9 @@
 
 ghost use Rattle.std.specs.Prelude.{◌≤◌, IfOk, IfSome, All};
 ghost use Rattle.store_model.specs.NewStore.{MaySize};
-ghost use Rattle.node_rows.specs.Passes.{IsStore, IsPass, IsOut};
-ghost use Rattle.node_rows.specs.Told.{Tells};
+ghost use Rattle.node_rows.specs.Belonging.{IsSeated, IsOpen};
+ghost use Rattle.node_rows.specs.Passes.{IsOut};
+ghost use Rattle.node_rows.specs.Told.{Tells, view_of};
 
 mod maker;
 
@@ -41,11 +42,11 @@ fn sizes_for(threads: u32, terms: u32) -> Sizes
 
 // The last pass, for the thread that waits for the others.
 fn last_pass(store: &Store, passes: &mut Vec<Pass>) -> Option<Pass>
-    requires passes { All (λ p. IsPass store.now.table.shared.table_id store.now.sizes p.seat.seat p.seat.seats × IsOut p.seat.seat.me.0) passes.old.items }
+    requires passes { All (λ p. IsSeated store.now p × IsOut (view_of p)) passes.old.items }
     requires told { All Tells passes.old.items }
-    ensures left { All (λ p. IsPass store.now.table.shared.table_id store.now.sizes p.seat.seat p.seat.seats × IsOut p.seat.seat.me.0) passes.new.items }
+    ensures left { All (λ p. IsSeated store.now p × IsOut (view_of p)) passes.new.items }
     ensures left_told { All Tells passes.new.items }
-    ensures pass { IfSome result (λ p. IsPass store.now.table.shared.table_id store.now.sizes p.seat.seat p.seat.seats × IsOut p.seat.seat.me.0 × Tells p) }
+    ensures pass { IfSome result (λ p. IsSeated store.now p × IsOut (view_of p) × Tells p) }
 {
     passes.pop()
 }
@@ -62,8 +63,8 @@ fn main(rt: HostRuntime) -> io::Result<()> {
     };
     let shared = &store;
     let job = |pass: Pass| -> Tally
-        requires { IsStore shared.now.table.shared.table_id shared.now.table.shared.key shared.now.sizes
-            × IsPass shared.now.table.shared.table_id shared.now.sizes pass.seat.seat pass.seat.seats × IsOut pass.seat.seat.me.0 × Tells pass }
+        requires { IsOpen shared.now
+            × IsSeated shared.now pass × IsOut (view_of pass) × Tells pass }
     { make_and_read(&rt, shared, pass, terms) };
     let Ok(tallies) = thread::map_vec(&rt, passes, &job) else {
         return println!(rt; "out of memory");

@@ -2,11 +2,10 @@
 ghost use Rattle.std.specs.Prelude.{◌≡◌, ◌≤◌, ◌<◌, IfOk, length};
 ghost use Rattle.lock_core.specs.declared.parts.Phase.TheVariants.{Shared};
 ghost use Rattle.store_model.specs.Machine.{In, protected_in};
-ghost use Rattle.busy_forbidden.specs.Calls.{IsSame};
 ghost use Rattle.node_rows.specs.Inside.{IsInside};
 ghost use Rattle.node_rows.specs.Belonging.{IsPassOf};
-ghost use Rattle.node_rows.specs.Passes.{IsPass, IsOut};
-ghost use Rattle.node_rows.specs.Told.{Tells};
+ghost use Rattle.node_rows.specs.Passes.{IsOut};
+ghost use Rattle.node_rows.specs.Told.{Tells, view_of};
 
 use node_rows::{Last, Pass, Store, last};
 use root_sets::{keep_roots, push_root, root_at};
@@ -57,12 +56,12 @@ impl Tally {
 // Makes so many successors of a number, and gives the last one, or the one before which the store was full.
 fn make_more(store: &Store, pass: &mut Pass, from: Row, count: u32, tally: &mut Tally) -> Row
     requires inside { IsInside store.now pass.old }
-    requires shared { pass.old.seat.seat.me.0.lock.phase ≡ Shared }
-    requires uses { In from.0 pass.old.seat.seat.me.0.store.got }
+    requires shared { (view_of pass.old).lock.phase ≡ Shared }
+    requires uses { In from.0 (view_of pass.old).store.got }
     ensures inside { IsInside store.now pass.new }
-    ensures shared { pass.new.seat.seat.me.0.lock.phase ≡ Shared }
-    ensures roots { protected_in pass.new.seat.seat.me.0.store ≡ protected_in pass.old.seat.seat.me.0.store }
-    ensures uses { In result.0 pass.new.seat.seat.me.0.store.got }
+    ensures shared { (view_of pass.new).lock.phase ≡ Shared }
+    ensures roots { protected_in (view_of pass.new).store ≡ protected_in (view_of pass.old).store }
+    ensures uses { In result.0 (view_of pass.new).store.got }
 {
     let mut row = from;
     for _ in 0..count {
@@ -78,10 +77,10 @@ fn make_more(store: &Store, pass: &mut Pass, from: Row, count: u32, tally: &mut 
 // Makes zero and so many numbers after it, and protects the last one. Where the store is full at once, nothing is protected.
 fn begin(rt: &impl Wait, store: &Store, pass: &mut Pass, count: u32, tally: &mut Tally)
     requires of { IsPassOf store.now pass.old }
-    requires out { IsOut pass.old.seat.seat.me.0 }
+    requires out { IsOut (view_of pass.old) }
     requires told { Tells pass.old }
     ensures of { IsPassOf store.now pass.new }
-    ensures out { IsOut pass.new.seat.seat.me.0 }
+    ensures out { IsOut (view_of pass.new) }
     ensures told { Tells pass.new }
 {
     store.enter_shared(rt, pass);
@@ -96,11 +95,11 @@ fn begin(rt: &impl Wait, store: &Store, pass: &mut Pass, count: u32, tally: &mut
 // Protects a row in place of those that were protected.
 fn protect(store: &Store, pass: &mut Pass, row: Row)
     requires inside { IsInside store.now pass.old }
-    requires shared { pass.old.seat.seat.me.0.lock.phase ≡ Shared }
-    requires uses { In row.0 pass.old.seat.seat.me.0.store.got }
+    requires shared { (view_of pass.old).lock.phase ≡ Shared }
+    requires uses { In row.0 (view_of pass.old).store.got }
     ensures inside { IsInside store.now pass.new }
-    ensures shared { pass.new.seat.seat.me.0.lock.phase ≡ Shared }
-    ensures uses { In row.0 pass.new.seat.seat.me.0.store.got }
+    ensures shared { (view_of pass.new).lock.phase ≡ Shared }
+    ensures uses { In row.0 (view_of pass.new).store.got }
 {
     if push_root(store, pass, row).is_ok() {
         keep_roots(store, pass, 0, 1);
@@ -110,7 +109,7 @@ fn protect(store: &Store, pass: &mut Pass, row: Row)
 // Goes on from the number that is protected, protects the last one in its place, and reads all numbers down to zero.
 fn go_on(rt: &impl Wait, store: &Store, pass: &mut Pass, count: u32, most: u32, tally: &mut Tally)
     requires of { IsPassOf store.now pass.old }
-    requires out { IsOut pass.old.seat.seat.me.0 }
+    requires out { IsOut (view_of pass.old) }
     requires told { Tells pass.old }
 {
     store.enter_shared(rt, pass);
@@ -126,10 +125,10 @@ fn go_on(rt: &impl Wait, store: &Store, pass: &mut Pass, count: u32, most: u32, 
 // Reads a number down to zero: how many terms there are, at most so many.
 fn read_down(store: &Store, pass: &mut Pass, from: Row, most: u32) -> u64
     requires inside { IsInside store.now pass.old }
-    requires shared { pass.old.seat.seat.me.0.lock.phase ≡ Shared }
-    requires uses { In from.0 pass.old.seat.seat.me.0.store.got }
+    requires shared { (view_of pass.old).lock.phase ≡ Shared }
+    requires uses { In from.0 (view_of pass.old).store.got }
     ensures inside { IsInside store.now pass.new }
-    ensures shared { pass.new.seat.seat.me.0.lock.phase ≡ Shared }
+    ensures shared { (view_of pass.new).lock.phase ≡ Shared }
 {
     let mut row = from;
     let mut read: u64 = 0;
@@ -147,7 +146,7 @@ fn read_down(store: &Store, pass: &mut Pass, from: Row, most: u32) -> u64
 /// collection is refused where another pass is inside.
 pub fn make_and_read(rt: &impl Wait, store: &Store, mut pass: Pass, terms: u32) -> Tally
     requires of { IsPassOf store.now pass }
-    requires out { IsOut pass.seat.seat.me.0 }
+    requires out { IsOut (view_of pass) }
     requires told { Tells pass }
 {
     let mut tally = Tally::NONE;

@@ -2,10 +2,10 @@
 ghost use Rattle.std.specs.Prelude.{◌≡◌, true, IfOk};
 ghost use Rattle.lock_core.specs.declared.parts.Phase.TheVariants.{Shared};
 ghost use Rattle.store_model.specs.Machine.{In};
-ghost use Rattle.busy_forbidden.specs.Exclusive.{IsGranted};
+ghost use Rattle.node_rows.specs.Belonging.{IsExclusive, IsSeated, IsOpen};
 ghost use Rattle.node_rows.specs.Inside.{IsInside};
-ghost use Rattle.node_rows.specs.Told.{Tells};
-ghost use Rattle.node_rows.specs.Passes.{IsStore, IsPass, IsOut};
+ghost use Rattle.node_rows.specs.Told.{Tells, view_of};
+ghost use Rattle.node_rows.specs.Passes.{IsOut};
 
 use crate::sweeping::{enter, last_pass, protect_constant};
 use node_rows::{Last, Pass, Store, last};
@@ -19,11 +19,11 @@ use term_model::{Head, Row, Symbol};
 
 // Enters exclusive access and collects.
 fn collect_here(rt: &impl Abort, store: &Store, pass: &mut Pass) -> Kept
-    requires store { IsStore store.now.table.shared.table_id store.now.table.shared.key store.now.sizes }
-    requires pass { IsPass store.now.table.shared.table_id store.now.sizes pass.old.seat.seat pass.old.seat.seats × IsOut pass.old.seat.seat.me.0 × Tells pass.old }
+    requires store { IsOpen store.now }
+    requires pass { IsSeated store.now pass.old × IsOut (view_of pass.old) × Tells pass.old }
     ensures inside { IsInside store.now pass.new }
-    ensures granted { IsGranted pass.new.seat.seat.me.0.lock pass.new.seat.number pass.new.seat.seats }
-    ensures fresh { pass.new.seat.seat.me.0.store.fresh ≡ true }
+    ensures granted { IsExclusive pass.new }
+    ensures fresh { (view_of pass.new).store.fresh ≡ true }
 {
     let Ok(()) = store.try_enter_exclusive(pass) else {
         panic!(rt; "nobody is in");
@@ -37,11 +37,11 @@ fn collect_here(rt: &impl Abort, store: &Store, pass: &mut Pass) -> Kept
 // A constant, after a collection.
 fn make_constant(store: &Store, pass: &mut Pass, symbol: u32) -> Result<Row, Full>
     requires inside { IsInside store.now pass.old }
-    requires granted { IsGranted pass.old.seat.seat.me.0.lock pass.old.seat.number pass.old.seat.seats }
-    requires fresh { pass.old.seat.seat.me.0.store.fresh ≡ true }
+    requires granted { IsExclusive pass.old }
+    requires fresh { (view_of pass.old).store.fresh ≡ true }
     ensures inside { IsInside store.now pass.new }
-    ensures granted { IsGranted pass.new.seat.seat.me.0.lock pass.new.seat.number pass.new.seat.seats }
-    ensures fresh { pass.new.seat.seat.me.0.store.fresh ≡ true }
+    ensures granted { IsExclusive pass.new }
+    ensures fresh { (view_of pass.new).store.fresh ≡ true }
 {
     create_exclusive(store, pass, Head::App(Symbol(symbol)), &[])
 }
@@ -49,11 +49,11 @@ fn make_constant(store: &Store, pass: &mut Pass, symbol: u32) -> Result<Row, Ful
 // A symbol over the first protected row, after a collection.
 fn make_over_root(rt: &impl Abort, store: &Store, pass: &mut Pass, symbol: u32) -> Result<Row, Full>
     requires inside { IsInside store.now pass.old }
-    requires granted { IsGranted pass.old.seat.seat.me.0.lock pass.old.seat.number pass.old.seat.seats }
-    requires fresh { pass.old.seat.seat.me.0.store.fresh ≡ true }
+    requires granted { IsExclusive pass.old }
+    requires fresh { (view_of pass.old).store.fresh ≡ true }
     ensures inside { IsInside store.now pass.new }
-    ensures granted { IsGranted pass.new.seat.seat.me.0.lock pass.new.seat.number pass.new.seat.seats }
-    ensures fresh { pass.new.seat.seat.me.0.store.fresh ≡ true }
+    ensures granted { IsExclusive pass.new }
+    ensures fresh { (view_of pass.new).store.fresh ≡ true }
 {
     assert!(rt; pass.root_count > 0);
     let root = root_at(store, pass, 0);
@@ -64,9 +64,9 @@ fn make_over_root(rt: &impl Abort, store: &Store, pass: &mut Pass, symbol: u32) 
 // another one, which is not. Then no row is free.
 fn fill(rt: &impl Abort, store: &Store, pass: &mut Pass, row: Row) -> Row
     requires inside { IsInside store.now pass.old }
-    requires shared { pass.old.seat.seat.me.0.lock.phase ≡ Shared }
+    requires shared { (view_of pass.old).lock.phase ≡ Shared }
     ensures inside { IsInside store.now pass.new }
-    ensures shared { pass.new.seat.seat.me.0.lock.phase ≡ Shared }
+    ensures shared { (view_of pass.new).lock.phase ≡ Shared }
 {
     let same = protect_constant(rt, store, pass, 0);
     assert_eq!(rt; same, row);
