@@ -30,7 +30,8 @@ pub(crate) fn arrive(store: &Store, pass: &mut Pass)
     requires granted { MayLoad (view_of pass.old).lock pass.old.seat.number pass.old.seat.seats }
     ensures pass { IsSeated store.now pass.new }
     ensures same { IsSame pass.old.seat.seat pass.new.seat.seat
-        × (pass.new.seat.number ≡ pass.old.seat.number) × (pass.new.seat.seats ≡ pass.old.seat.seats) }
+        × (pass.new.seat.number ≡ pass.old.seat.number)
+        × (pass.new.seat.seats ≡ pass.old.seat.seats) }
     ensures lock { (view_of pass.new).lock ≡ (view_of pass.old).lock }
     ensures came { Came (view_of pass.old) (view_of pass.new) pass.new.base pass.new.in_use }
     ensures ready { IsPrepared store.now pass.new }

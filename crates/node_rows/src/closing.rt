@@ -14,8 +14,8 @@ use crate::view::NodeView;
 use busy_forbidden::Seat;
 use std::marker::Model;
 
-/// The entries of every pass of a store that was closed, pass by pass; or of none. A program keeps no entry of it: contracts see the
-/// lists.
+/// The entries of every pass of a store that was closed, pass by pass; or of none. A program keeps
+/// no entry of it: contracts see the lists.
 #[derive(Drop)]
 pub struct Chronicle {
     seat: Option<atomic_table::Seat<(), NodeView>>,
@@ -133,8 +133,10 @@ fn close_from(store: &Store, mut first: Pass, rest: Vec<Pass>) -> Chronicle
     ensures order { KeepsOrder result first × All (KeepsOrder result) rest.items }
     ensures rises { HasRisingKeys result first × All (HasRisingKeys result) rest.items }
     ensures legal { IsLegal store.now.sizes.rows (chronicle result) }
-    ensures numbers { StaysBelow store.now.sizes.first (span store.now.sizes) 1 (collect_numbers (chronicle result)) }
-    ensures bases { HasBase store.now.sizes result (view_of first).store.base × All (λ p. HasBase store.now.sizes result (view_of p).store.base) rest.items }
+    ensures numbers { StaysBelow store.now.sizes.first (span store.now.sizes) 1
+        (collect_numbers (chronicle result)) }
+    ensures bases { HasBase store.now.sizes result (view_of first).store.base
+        × All (λ p. HasBase store.now.sizes result (view_of p).store.base) rest.items }
     ensures told { TellsTrees result first × All (TellsTrees result) rest.items }
     ensures crowds { TellsCrowd result first × All (TellsCrowd result) rest.items }
 {
@@ -144,13 +146,15 @@ fn close_from(store: &Store, mut first: Pass, rest: Vec<Pass>) -> Chronicle
 }
 
 impl Store {
-    /// Ends a store. It needs all of its passes, each out, in whatever order, and takes no memory. The chronicle has the entries
-    /// of each pass under its number, and their keys rise: none is below an earlier one, and those of Make and Collect are above
-    /// all earlier ones. Merged, each pass's in its own order, they are a legal history of one thread. The number of its c-th
-    /// collection is below `first` and c times `rows + seats + 1`; each pass's base is `first`, or one more than such a number, or 0 where it
-    /// has entered nothing. The trees that each pass's Make and Find entries name in the chronicle, and those of its Roots, are
-    /// those that the pass's own entries tell. Of the trees that a pass's Collects kept in the chronicle, each at its place, its
-    /// crowd is the last.
+    /// Ends a store. It needs all of its passes, each out, in whatever order, and takes no memory.
+    /// The chronicle has the entries of each pass under its number, and their keys rise: none is
+    /// below an earlier one, and those of Make and Collect are above all earlier ones. Merged, each
+    /// pass's in its own order, they are a legal history of one thread. The number of its c-th
+    /// collection is below `first` and c times `rows + seats + 1`; each pass's base is `first`, or
+    /// one more than such a number, or 0 where it has entered nothing. The trees that each pass's
+    /// Make and Find entries name in the chronicle, and those of its Roots, are those that the
+    /// pass's own entries tell. Of the trees that a pass's Collects kept in the chronicle, each at
+    /// its place, its crowd is the last.
     pub fn close(self, passes: Vec<Pass>) -> Chronicle
         requires store { IsOpen self }
         requires passes { All (λ p. IsSeated self p × IsOut (view_of p)) passes.items }
@@ -160,7 +164,8 @@ impl Store {
         ensures order { All (KeepsOrder result) passes.items }
         ensures rises { All (HasRisingKeys result) passes.items }
         ensures legal { IsLegal self.sizes.rows (chronicle result) }
-        ensures numbers { StaysBelow self.sizes.first (span self.sizes) 1 (collect_numbers (chronicle result)) }
+        ensures numbers { StaysBelow self.sizes.first (span self.sizes) 1
+            (collect_numbers (chronicle result)) }
         ensures bases { All (λ p. HasBase self.sizes result (view_of p).store.base) passes.items }
         ensures told { All (TellsTrees result) passes.items }
         ensures crowds { All (TellsCrowd result) passes.items }

@@ -49,7 +49,8 @@ fn first_words(alloc: Global, sizes: &Sizes) -> Result<Vec<u64>, Memory>
     Ok(words)
 }
 
-// What a collection needs: a mark for each row, and room for the next word of each row and for the head of each bucket.
+// What a collection needs: a mark for each row, and room for the next word of each row and for the
+// head of each bucket.
 #[derive(Drop)]
 struct Room {
     marks: Marks,
@@ -76,7 +77,8 @@ fn new_pass(seat: Seat<NodeRows>, rows: u32, room: Room) -> Pass
     requires nexts { rows ≤ vec_capacity room.nexts }
     requires heads { seat.seat.me.0.sizes.buckets ≤ vec_capacity room.heads }
     ensures seat { result.seat ≡ seat }
-    ensures told { seat.seat.me.0.store ≡ newcomer seat.seat.me.0.sizes → room.marks ≡ replicate rows false → Tells result }
+    ensures told { seat.seat.me.0.store ≡ newcomer seat.seat.me.0.sizes
+        → room.marks ≡ replicate rows false → Tells result }
 {
     let Room {
         marks,
@@ -101,7 +103,9 @@ fn first_pass(alloc: Global, sizes: &Sizes) -> Result<(Store, Pass), Memory>
     requires small { total sizes.now < 2 ^ 62 }
     requires sizes { MaySize sizes.now }
     ensures store { IfOk result (λ t. IsOpen t.0 × (t.0.sizes ≡ sizes.now)) }
-    ensures pass { IfOk result (λ t. IsNew t.0.table.shared.table_id sizes.now 0 t.1.seat.seat t.1.seat.number t.1.seat.seats × IsFirst 1 t.1.seat.seat) }
+    ensures pass { IfOk result
+        (λ t. IsNew t.0.table.shared.table_id sizes.now 0 t.1.seat.seat t.1.seat.number
+        t.1.seat.seats × IsFirst 1 t.1.seat.seat) }
     ensures told { IfOk result (λ t. Tells t.1) }
 {
     let words = first_words(alloc, sizes)?;
@@ -125,13 +129,16 @@ fn first_pass(alloc: Global, sizes: &Sizes) -> Result<(Store, Pass), Memory>
 fn next_pass(store: &Store, first: &mut Pass, k: u32, room: Room) -> Pass
     requires store { IsOpen store.now }
     requires below { k < store.now.sizes.seats }
-    requires first { IsNew store.now.table.shared.table_id store.now.sizes 0 first.old.seat.seat first.old.seat.number first.old.seat.seats × IsFirst k first.old.seat.seat }
+    requires first { IsNew store.now.table.shared.table_id store.now.sizes 0 first.old.seat.seat
+        first.old.seat.number first.old.seat.seats × IsFirst k first.old.seat.seat }
     requires marks { room.marks ≡ replicate store.now.sizes.rows false }
     requires nexts { store.now.sizes.rows ≤ vec_capacity room.nexts }
     requires heads { store.now.sizes.buckets ≤ vec_capacity room.heads }
-    ensures first { IsNew store.now.table.shared.table_id store.now.sizes 0 first.new.seat.seat first.new.seat.number first.new.seat.seats × IsFirst (k + 1) first.new.seat.seat }
+    ensures first { IsNew store.now.table.shared.table_id store.now.sizes 0 first.new.seat.seat
+        first.new.seat.number first.new.seat.seats × IsFirst (k + 1) first.new.seat.seat }
     ensures told { Tells first.old → Tells first.new }
-    ensures new { IsNew store.now.table.shared.table_id store.now.sizes k result.seat.seat result.seat.number result.seat.seats }
+    ensures new { IsNew store.now.table.shared.table_id store.now.sizes k result.seat.seat
+        result.seat.number result.seat.seats }
     ensures new_told { Tells result }
 {
     let seat = store.table.shared.split_seat::<Deal>(&mut first.seat.seat);
@@ -144,12 +151,16 @@ fn next_pass(store: &Store, first: &mut Pass, k: u32, room: Room) -> Pass
 }
 
 impl Store {
-    /// A new store of these sizes, without terms, and its passes in order, each of them out. There are at most 262,144 rows
-    /// and as many buckets, 16 passes, 65,536 protected rows of each pass, and 16 arguments of a term.
+    /// A new store of these sizes, without terms, and its passes in order, each of them out. There
+    /// are at most 262,144 rows and as many buckets, 16 passes, 65,536 protected rows of each pass,
+    /// and 16 arguments of a term.
     pub fn make(alloc: Global, sizes: Sizes) -> Result<(Store, Vec<Pass>), Memory>
         requires { MaySize sizes }
         ensures store { IfOk result (λ t. IsOpen t.0 × (t.0.sizes ≡ sizes)) }
-        ensures passes { IfOk result (λ t. EachPlace (λ j p. IsNew t.0.table.shared.table_id sizes j p.seat.seat p.seat.number p.seat.seats) sizes.seats t.1.items) }
+        ensures passes { IfOk result
+            (λ t. EachPlace
+            (λ j p. IsNew t.0.table.shared.table_id sizes j p.seat.seat p.seat.number p.seat.seats)
+            sizes.seats t.1.items) }
         ensures ready { IfOk result (λ t. All (λ p. IsSeated t.0 p × IsOut (view_of p)) t.1.items) }
         ensures told { IfOk result (λ t. All Tells t.1.items) }
     {

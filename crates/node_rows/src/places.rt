@@ -96,7 +96,8 @@ pub(crate) fn row_size(sizes: &Sizes) -> usize
 // Where a row begins.
 fn row_start(sizes: &Sizes, row: u64) -> usize
     requires { (total sizes.now < 2 ^ 62) × (row < sizes.now.rows) }
-    ensures word { result ≡ 1 + 2 * sizes.now.seats + 4 + sizes.now.rows + sizes.now.buckets + row * (widest sizes.now + 4) }
+    ensures word { result ≡ 1 + 2 * sizes.now.seats + 4 + sizes.now.rows + sizes.now.buckets
+        + row * (widest sizes.now + 4) }
     ensures room { result + widest sizes.now + 4 < 2 ^ 62 }
 {
     first_word(sizes)
@@ -118,7 +119,8 @@ pub fn row_word(sizes: &Sizes, row: u64, k: usize) -> usize
 /// The same word of a row, by what the store has worked out once.
 #[inline]
 pub fn word_in(store: &Store, row: u64, k: usize) -> usize
-    requires { (total store.now.sizes < 2 ^ 62) × (row < store.now.sizes.rows) × (k < widest store.now.sizes + 2) }
+    requires { (total store.now.sizes < 2 ^ 62) × (row < store.now.sizes.rows)
+        × (k < widest store.now.sizes + 2) }
     ensures word { result ≡ index_of store.now.sizes (RowWord row k) }
     ensures there { in_table store.now.sizes (RowWord row k) ≡ true }
 {

@@ -1,4 +1,5 @@
-//! The steps on a pass's protected rows, and its reads of rows, each one atomic action on one word of the table.
+//! The steps on a pass's protected rows, and its reads of rows, each one atomic action on one word
+//! of the table.
 ghost use Rattle.std.specs.Prelude.{◌≡◌, ℕ, get_or};
 ghost use Rattle.store_model.specs.Machine.{Step, Go, LoadRoot, StoreRoot, StoreCount, ReadWord, ReadArgument};
 ghost use Rattle.busy_forbidden.specs.Calls.{IsSame};
@@ -52,11 +53,13 @@ fn load_root_as<X: ChosenRoot>(
     _place: u64,
 ) -> u64
     requires of { IsOf table.now.shared.table_id table.now.shared.key seat.old.seat }
-    requires may { MayStepOn table.now.shared.key seat.old.number seat.old.seat.me.0 (LoadRoot X.place) word }
+    requires may { MayStepOn table.now.shared.key seat.old.number seat.old.seat.me.0
+        (LoadRoot X.place) word }
     ensures of { IsOf table.now.shared.table_id table.now.shared.key seat.new.seat }
     ensures same { IsSame seat.old.seat seat.new.seat
         × (seat.new.number ≡ seat.old.number) × (seat.new.seats ≡ seat.old.seats) }
-    ensures view { seat.new.seat.me.0 ≡ with_store seat.old.seat.me.0 (moved_by (LoadRoot X.place) seat.old.seat.me.0.store result) }
+    ensures view { seat.new.seat.me.0 ≡ with_store seat.old.seat.me.0
+        (moved_by (LoadRoot X.place) seat.old.seat.me.0.store result) }
     ensures known { Known table.now.shared.key seat.new.seat.me.0.store }
     ensures row { result ≡ get_or seat.old.seat.me.0.store.roots X.place 0 }
 {
@@ -76,7 +79,8 @@ fn load_chosen<X: Chosen>(
     ensures of { IsOf table.now.shared.table_id table.now.shared.key seat.new.seat }
     ensures same { IsSame seat.old.seat seat.new.seat
         × (seat.new.number ≡ seat.old.number) × (seat.new.seats ≡ seat.old.seats) }
-    ensures view { seat.new.seat.me.0 ≡ with_store seat.old.seat.me.0 (moved_by X.step seat.old.seat.me.0.store result) }
+    ensures view { seat.new.seat.me.0 ≡ with_store seat.old.seat.me.0
+        (moved_by X.step seat.old.seat.me.0.store result) }
     ensures known { Known table.now.shared.key seat.new.seat.me.0.store }
 {
     table.shared.load::<OnChosen<X>>(&mut seat.seat, word)
@@ -93,11 +97,13 @@ fn store_chosen<X: Chosen>(
     requires of { IsOf table.now.shared.table_id table.now.shared.key seat.old.seat }
     requires may { MayStepOn table.now.shared.key seat.old.number seat.old.seat.me.0 X.step word }
     requires stores { (n : ℕ) → written_by X.step seat.old.seat.me.0.store n ≡ value }
-    requires moves { (m n : ℕ) → moved_by X.step seat.old.seat.me.0.store m ≡ moved_by X.step seat.old.seat.me.0.store n }
+    requires moves { (m n : ℕ) → moved_by X.step seat.old.seat.me.0.store m ≡ moved_by X.step
+        seat.old.seat.me.0.store n }
     ensures of { IsOf table.now.shared.table_id table.now.shared.key seat.new.seat }
     ensures same { IsSame seat.old.seat seat.new.seat
         × (seat.new.number ≡ seat.old.number) × (seat.new.seats ≡ seat.old.seats) }
-    ensures view { seat.new.seat.me.0 ≡ with_store seat.old.seat.me.0 (moved_by X.step seat.old.seat.me.0.store 0) }
+    ensures view { seat.new.seat.me.0 ≡ with_store seat.old.seat.me.0
+        (moved_by X.step seat.old.seat.me.0.store 0) }
     ensures known { Known table.now.shared.key seat.new.seat.me.0.store }
 {
     table
@@ -108,11 +114,13 @@ fn store_chosen<X: Chosen>(
 /// Loads the k-th own protected row, which the pass may use then.
 pub fn load_root(table: &Table<NodeRows>, seat: &mut Seat<NodeRows>, word: usize, k: u64) -> u64
     requires of { IsOf table.now.shared.table_id table.now.shared.key seat.old.seat }
-    requires may { MayStepOn table.now.shared.key seat.old.number seat.old.seat.me.0 (LoadRoot k) word }
+    requires may { MayStepOn table.now.shared.key seat.old.number seat.old.seat.me.0 (LoadRoot k)
+        word }
     ensures of { IsOf table.now.shared.table_id table.now.shared.key seat.new.seat }
     ensures same { IsSame seat.old.seat seat.new.seat
         × (seat.new.number ≡ seat.old.number) × (seat.new.seats ≡ seat.old.seats) }
-    ensures view { seat.new.seat.me.0 ≡ with_store seat.old.seat.me.0 (moved_by (LoadRoot k) seat.old.seat.me.0.store result) }
+    ensures view { seat.new.seat.me.0 ≡ with_store seat.old.seat.me.0
+        (moved_by (LoadRoot k) seat.old.seat.me.0.store result) }
     ensures known { Known table.now.shared.key seat.new.seat.me.0.store }
     ensures row { result ≡ get_or seat.old.seat.me.0.store.roots k 0 }
 {
@@ -122,11 +130,13 @@ pub fn load_root(table: &Table<NodeRows>, seat: &mut Seat<NodeRows>, word: usize
 /// Stores a row as the k-th own protected row.
 pub fn store_root(table: &Table<NodeRows>, seat: &mut Seat<NodeRows>, word: usize, k: u64, row: u64)
     requires of { IsOf table.now.shared.table_id table.now.shared.key seat.old.seat }
-    requires may { MayStepOn table.now.shared.key seat.old.number seat.old.seat.me.0 (StoreRoot k row) word }
+    requires may { MayStepOn table.now.shared.key seat.old.number seat.old.seat.me.0
+        (StoreRoot k row) word }
     ensures of { IsOf table.now.shared.table_id table.now.shared.key seat.new.seat }
     ensures same { IsSame seat.old.seat seat.new.seat
         × (seat.new.number ≡ seat.old.number) × (seat.new.seats ≡ seat.old.seats) }
-    ensures view { seat.new.seat.me.0 ≡ with_store seat.old.seat.me.0 (moved_by (StoreRoot k row) seat.old.seat.me.0.store 0) }
+    ensures view { seat.new.seat.me.0 ≡ with_store seat.old.seat.me.0
+        (moved_by (StoreRoot k row) seat.old.seat.me.0.store 0) }
     ensures known { Known table.now.shared.key seat.new.seat.me.0.store }
 {
     store_chosen::<Brand>(table, seat, word, row, k);
@@ -135,17 +145,20 @@ pub fn store_root(table: &Table<NodeRows>, seat: &mut Seat<NodeRows>, word: usiz
 /// Stores how many rows the pass protects.
 pub fn store_root_count(table: &Table<NodeRows>, seat: &mut Seat<NodeRows>, word: usize, count: u64)
     requires of { IsOf table.now.shared.table_id table.now.shared.key seat.old.seat }
-    requires may { MayStepOn table.now.shared.key seat.old.number seat.old.seat.me.0 (StoreCount count) word }
+    requires may { MayStepOn table.now.shared.key seat.old.number seat.old.seat.me.0
+        (StoreCount count) word }
     ensures of { IsOf table.now.shared.table_id table.now.shared.key seat.new.seat }
     ensures same { IsSame seat.old.seat seat.new.seat
         × (seat.new.number ≡ seat.old.number) × (seat.new.seats ≡ seat.old.seats) }
-    ensures view { seat.new.seat.me.0 ≡ with_store seat.old.seat.me.0 (moved_by (StoreCount count) seat.old.seat.me.0.store 0) }
+    ensures view { seat.new.seat.me.0 ≡ with_store seat.old.seat.me.0
+        (moved_by (StoreCount count) seat.old.seat.me.0.store 0) }
     ensures known { Known table.now.shared.key seat.new.seat.me.0.store }
 {
     store_chosen::<Brand>(table, seat, word, count, 0);
 }
 
-/// Loads the k-th word of a row that the pass may use: its symbol word, its count of arguments, or an integer's value.
+/// Loads the k-th word of a row that the pass may use: its symbol word, its count of arguments, or
+/// an integer's value.
 pub fn read_word(
     table: &Table<NodeRows>,
     seat: &mut Seat<NodeRows>,
@@ -154,11 +167,13 @@ pub fn read_word(
     k: u64,
 ) -> u64
     requires of { IsOf table.now.shared.table_id table.now.shared.key seat.old.seat }
-    requires may { MayStepOn table.now.shared.key seat.old.number seat.old.seat.me.0 (ReadWord row k) word }
+    requires may { MayStepOn table.now.shared.key seat.old.number seat.old.seat.me.0
+        (ReadWord row k) word }
     ensures of { IsOf table.now.shared.table_id table.now.shared.key seat.new.seat }
     ensures same { IsSame seat.old.seat seat.new.seat
         × (seat.new.number ≡ seat.old.number) × (seat.new.seats ≡ seat.old.seats) }
-    ensures view { seat.new.seat.me.0 ≡ with_store seat.old.seat.me.0 (moved_by (ReadWord row k) seat.old.seat.me.0.store result) }
+    ensures view { seat.new.seat.me.0 ≡ with_store seat.old.seat.me.0
+        (moved_by (ReadWord row k) seat.old.seat.me.0.store result) }
     ensures known { Known table.now.shared.key seat.new.seat.me.0.store }
 {
     load_chosen::<Brand>(table, seat, word, (row, k))
@@ -173,11 +188,13 @@ pub fn read_argument(
     j: u64,
 ) -> u64
     requires of { IsOf table.now.shared.table_id table.now.shared.key seat.old.seat }
-    requires may { MayStepOn table.now.shared.key seat.old.number seat.old.seat.me.0 (ReadArgument row j) word }
+    requires may { MayStepOn table.now.shared.key seat.old.number seat.old.seat.me.0
+        (ReadArgument row j) word }
     ensures of { IsOf table.now.shared.table_id table.now.shared.key seat.new.seat }
     ensures same { IsSame seat.old.seat seat.new.seat
         × (seat.new.number ≡ seat.old.number) × (seat.new.seats ≡ seat.old.seats) }
-    ensures view { seat.new.seat.me.0 ≡ with_store seat.old.seat.me.0 (moved_by (ReadArgument row j) seat.old.seat.me.0.store result) }
+    ensures view { seat.new.seat.me.0 ≡ with_store seat.old.seat.me.0
+        (moved_by (ReadArgument row j) seat.old.seat.me.0.store result) }
     ensures known { Known table.now.shared.key seat.new.seat.me.0.store }
 {
     load_chosen::<Brand>(table, seat, word, (row, j))

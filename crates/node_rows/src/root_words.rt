@@ -10,7 +10,8 @@ use store_model::Sizes;
 // Where the words of the first pass begin.
 fn first_root_word(sizes: &Sizes) -> usize
     requires { total sizes.now < 2 ^ 62 }
-    ensures { result ≡ 1 + 2 * sizes.now.seats + 4 + sizes.now.rows + sizes.now.buckets + sizes.now.rows * (widest sizes.now + 4) }
+    ensures { result ≡ 1 + 2 * sizes.now.seats + 4 + sizes.now.rows + sizes.now.buckets
+        + sizes.now.rows * (widest sizes.now + 4) }
 {
     1 + 2 * sizes.seats as usize
         + 4

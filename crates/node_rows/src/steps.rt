@@ -1,4 +1,5 @@
-//! The steps of a creation, and those that begin an access, each one atomic action on one word of the table.
+//! The steps of a creation, and those that begin an access, each one atomic action on one word of
+//! the table.
 ghost use Rattle.std.specs.Prelude.{◌≡◌, ◌≤◌, ℕ, List, []};
 ghost use Rattle.term_model.specs.declared.Head.{Head};
 ghost use Rattle.term_model.specs.declared.Head.TheVariants.{Nil};
@@ -66,8 +67,9 @@ impl<X: Wanted> Play<(), NodeView> for OnBegin<X> {
     ghost then = { begins_with X.head X.arguments };
 }
 
-/// Loads the word that a creation reads next. Where the only pass so finds no row free, each row has a tree; so too where a pass
-/// has collected in its exclusive access, and then no row has the tree that it asks for.
+/// Loads the word that a creation reads next. Where the only pass so finds no row free, each row
+/// has a tree; so too where a pass has collected in its exclusive access, and then no row has the
+/// tree that it asks for.
 pub fn go_load(table: &Table<NodeRows>, seat: &mut Seat<NodeRows>, word: usize) -> u64
     requires of { IsOf table.now.shared.table_id table.now.shared.key seat.old.seat }
     requires goes { Goes table.now.shared.key seat.old.seat.me.0.store word }
@@ -75,10 +77,13 @@ pub fn go_load(table: &Table<NodeRows>, seat: &mut Seat<NodeRows>, word: usize) 
     ensures of { IsOf table.now.shared.table_id table.now.shared.key seat.new.seat }
     ensures same { IsSame seat.old.seat seat.new.seat
         × (seat.new.number ≡ seat.old.number) × (seat.new.seats ≡ seat.old.seats) }
-    ensures view { seat.new.seat.me.0 ≡ with_store seat.old.seat.me.0 (went seat.old.seat.me.0.store result) }
+    ensures view { seat.new.seat.me.0 ≡ with_store seat.old.seat.me.0
+        (went seat.old.seat.me.0.store result) }
     ensures known { Known table.now.shared.key seat.new.seat.me.0.store }
-    ensures full { FullAlone table.now.shared.key seat.old.seat.me.0.store.entries seat.old.seat.me.0.store.call result }
-    ensures filled { FullAfter table.now.shared.key seat.old.number seat.old.seat.me.0 seat.old.seat.me.0.store.call result }
+    ensures full { FullAlone table.now.shared.key seat.old.seat.me.0.store.entries
+        seat.old.seat.me.0.store.call result }
+    ensures filled { FullAfter table.now.shared.key seat.old.number seat.old.seat.me.0
+        seat.old.seat.me.0.store.call result }
 {
     table.shared.load::<OnRead>(&mut seat.seat, word)
 }
@@ -91,13 +96,15 @@ pub fn go_store(table: &Table<NodeRows>, seat: &mut Seat<NodeRows>, word: usize,
     ensures of { IsOf table.now.shared.table_id table.now.shared.key seat.new.seat }
     ensures same { IsSame seat.old.seat seat.new.seat
         × (seat.new.number ≡ seat.old.number) × (seat.new.seats ≡ seat.old.seats) }
-    ensures view { seat.new.seat.me.0 ≡ with_store seat.old.seat.me.0 (went seat.old.seat.me.0.store 0) }
+    ensures view { seat.new.seat.me.0 ≡ with_store seat.old.seat.me.0
+        (went seat.old.seat.me.0.store 0) }
     ensures known { Known table.now.shared.key seat.new.seat.me.0.store }
 {
     table.shared.store::<OnGo>(&mut seat.seat, word, new);
 }
 
-/// Draws a number, and gives what the claim was. Where a pass so finds no row free, the same holds as in `go_load`.
+/// Draws a number, and gives what the claim was. Where a pass so finds no row free, the same holds
+/// as in `go_load`.
 pub fn go_draw(table: &Table<NodeRows>, seat: &mut Seat<NodeRows>, word: usize) -> u64
     requires of { IsOf table.now.shared.table_id table.now.shared.key seat.old.seat }
     requires goes { Goes table.now.shared.key seat.old.seat.me.0.store word }
@@ -105,10 +112,13 @@ pub fn go_draw(table: &Table<NodeRows>, seat: &mut Seat<NodeRows>, word: usize) 
     ensures of { IsOf table.now.shared.table_id table.now.shared.key seat.new.seat }
     ensures same { IsSame seat.old.seat seat.new.seat
         × (seat.new.number ≡ seat.old.number) × (seat.new.seats ≡ seat.old.seats) }
-    ensures view { seat.new.seat.me.0 ≡ with_store seat.old.seat.me.0 (went seat.old.seat.me.0.store result) }
+    ensures view { seat.new.seat.me.0 ≡ with_store seat.old.seat.me.0
+        (went seat.old.seat.me.0.store result) }
     ensures known { Known table.now.shared.key seat.new.seat.me.0.store }
-    ensures full { FullAlone table.now.shared.key seat.old.seat.me.0.store.entries seat.old.seat.me.0.store.call result }
-    ensures filled { FullAfter table.now.shared.key seat.old.number seat.old.seat.me.0 seat.old.seat.me.0.store.call result }
+    ensures full { FullAlone table.now.shared.key seat.old.seat.me.0.store.entries
+        seat.old.seat.me.0.store.call result }
+    ensures filled { FullAfter table.now.shared.key seat.old.number seat.old.seat.me.0
+        seat.old.seat.me.0.store.call result }
 {
     table.shared.fetch_add::<OnRead>(&mut seat.seat, word, 1)
 }
@@ -127,7 +137,8 @@ pub fn go_publish(
     ensures of { IsOf table.now.shared.table_id table.now.shared.key seat.new.seat }
     ensures same { IsSame seat.old.seat seat.new.seat
         × (seat.new.number ≡ seat.old.number) × (seat.new.seats ≡ seat.old.seats) }
-    ensures view { seat.new.seat.me.0 ≡ with_store seat.old.seat.me.0 (went seat.old.seat.me.0.store result) }
+    ensures view { seat.new.seat.me.0 ≡ with_store seat.old.seat.me.0
+        (went seat.old.seat.me.0.store result) }
     ensures known { Known table.now.shared.key seat.new.seat.me.0.store }
 {
     table
@@ -140,11 +151,13 @@ pub fn load_base(table: &Table<NodeRows>, seat: &mut Seat<NodeRows>, word: usize
     requires of { IsOf table.now.shared.table_id table.now.shared.key seat.old.seat }
     requires word { word ≡ index_of table.now.shared.key Base }
     requires away { IsAway seat.old.seat.me.0.store }
-    requires granted { MayLoad seat.old.seat.me.0.lock seat.old.number seat.old.seats × (seat.old.seats ≡ table.now.shared.key.seats) }
+    requires granted { MayLoad seat.old.seat.me.0.lock seat.old.number seat.old.seats
+        × (seat.old.seats ≡ table.now.shared.key.seats) }
     ensures of { IsOf table.now.shared.table_id table.now.shared.key seat.new.seat }
     ensures same { IsSame seat.old.seat seat.new.seat
         × (seat.new.number ≡ seat.old.number) × (seat.new.seats ≡ seat.old.seats) }
-    ensures view { seat.new.seat.me.0 ≡ with_store seat.old.seat.me.0 (based seat.old.seat.me.0.store result) }
+    ensures view { seat.new.seat.me.0 ≡ with_store seat.old.seat.me.0
+        (based seat.old.seat.me.0.store result) }
     ensures known { Known table.now.shared.key seat.new.seat.me.0.store }
     ensures later { seat.old.seat.me.0.store.base ≤ result }
 {
@@ -155,11 +168,13 @@ pub fn load_base(table: &Table<NodeRows>, seat: &mut Seat<NodeRows>, word: usize
 pub fn load_in_use(table: &Table<NodeRows>, seat: &mut Seat<NodeRows>, word: usize) -> u64
     requires of { IsOf table.now.shared.table_id table.now.shared.key seat.old.seat }
     requires word { word ≡ index_of table.now.shared.key InUse }
-    requires based { (seat.old.seat.me.0.store.call ≡ Idle) × (seat.old.seat.me.0.store.stay ≡ Based) }
+    requires based { (seat.old.seat.me.0.store.call ≡ Idle)
+        × (seat.old.seat.me.0.store.stay ≡ Based) }
     ensures of { IsOf table.now.shared.table_id table.now.shared.key seat.new.seat }
     ensures same { IsSame seat.old.seat seat.new.seat
         × (seat.new.number ≡ seat.old.number) × (seat.new.seats ≡ seat.old.seats) }
-    ensures view { seat.new.seat.me.0 ≡ with_store seat.old.seat.me.0 (ready seat.old.seat.me.0.store result) }
+    ensures view { seat.new.seat.me.0 ≡ with_store seat.old.seat.me.0
+        (ready seat.old.seat.me.0.store result) }
     ensures known { Known table.now.shared.key seat.new.seat.me.0.store }
 {
     table.shared.load::<OnInUse>(&mut seat.seat, word)
@@ -178,7 +193,8 @@ fn begin_as<X: Wanted>(
     ensures of { IsOf table.now.shared.table_id table.now.shared.key seat.new.seat }
     ensures same { IsSame seat.old.seat seat.new.seat
         × (seat.new.number ≡ seat.old.number) × (seat.new.seats ≡ seat.old.seats) }
-    ensures view { seat.new.seat.me.0 ≡ with_store seat.old.seat.me.0 (begun seat.old.seat.me.0.store head (names arguments.now) result) }
+    ensures view { seat.new.seat.me.0 ≡ with_store seat.old.seat.me.0
+        (begun seat.old.seat.me.0.store head (names arguments.now) result) }
     ensures known { Known table.now.shared.key seat.new.seat.me.0.store }
 {
     table.shared.load::<OnBegin<X>>(&mut seat.seat, word)
@@ -197,7 +213,8 @@ pub fn begin(
     ensures of { IsOf table.now.shared.table_id table.now.shared.key seat.new.seat }
     ensures same { IsSame seat.old.seat seat.new.seat
         × (seat.new.number ≡ seat.old.number) × (seat.new.seats ≡ seat.old.seats) }
-    ensures view { seat.new.seat.me.0 ≡ with_store seat.old.seat.me.0 (begun seat.old.seat.me.0.store head (names arguments.now) result) }
+    ensures view { seat.new.seat.me.0 ≡ with_store seat.old.seat.me.0
+        (begun seat.old.seat.me.0.store head (names arguments.now) result) }
     ensures known { Known table.now.shared.key seat.new.seat.me.0.store }
 {
     begin_as::<Brand>(table, seat, word, head, arguments)

@@ -15,12 +15,14 @@ use mark_phase::Marks;
 use std::sync::Wait;
 use store_model::Sizes;
 
-/// A store of terms that threads share. Its fields are public because the crates above make their own steps on its table.
+/// A store of terms that threads share. Its fields are public because the crates above make their
+/// own steps on its table.
 #[derive(Drop)]
 pub struct Store {
     pub table: Table<NodeRows>,
     pub sizes: Sizes,
-    /// The word where the rows begin, and how many words a row has, worked out once, since each read of a row needs them.
+    /// The word where the rows begin, and how many words a row has, worked out once, since each
+    /// read of a row needs them.
     pub first_row: usize,
     pub row_size: usize,
     ghost rows_begin: { first_row ≡ 1 + 2 * sizes.seats + 4 + sizes.rows + sizes.buckets },
@@ -37,8 +39,9 @@ pub enum Last {
     Collect(u64),
 }
 
-/// A seat of a store, with what its access has loaded, how many rows it protects, what it tells of its entries, and the room that a
-/// collection needs. Its fields are public because the crates above make their own steps by its seat, and keep the rest true.
+/// A seat of a store, with what its access has loaded, how many rows it protects, what it tells of
+/// its entries, and the room that a collection needs. Its fields are public because the crates
+/// above make their own steps by its seat, and keep the rest true.
 #[derive(Drop)]
 pub struct Pass {
     pub seat: Seat<NodeRows>,
@@ -51,10 +54,12 @@ pub struct Pass {
     /// The greatest number that the pass has seen.
     pub seen: u64,
     pub last: Last,
-    /// A mark for each row: those that the pass's last collection kept. A collection marks here what it reaches.
+    /// A mark for each row: those that the pass's last collection kept. A collection marks here
+    /// what it reaches.
     pub marks: Marks,
-    /// For each row the next word of its new chain, and for each bucket the new head: a collection works them out here before it
-    /// stores. Their memory is taken when the pass is made, and the pass's first collection fills it.
+    /// For each row the next word of its new chain, and for each bucket the new head: a collection
+    /// works them out here before it stores. Their memory is taken when the pass is made, and the
+    /// pass's first collection fills it.
     pub nexts: Vec<u32>,
     pub heads: Vec<u32>,
     ghost counted: { root_count ≡ seat.seat.me.0.store.root_count },
@@ -67,8 +72,9 @@ impl Store {
     ghost use Rattle.node_rows.specs.Belonging.{IsPassOf, IsExclusive, IsPrepared, IsSamePass, IsSeated};
     ghost use Rattle.node_rows.specs.Told.{Tells, view_of};
 
-    /// Enters shared access, without a wait. `Busy::Forbidden` comes exactly where this call read the own forbidden word as
-    /// set; the pass is then out. An entry loads the base and then the number of buckets in use.
+    /// Enters shared access, without a wait. `Busy::Forbidden` comes exactly where this call read
+    /// the own forbidden word as set; the pass is then out. An entry loads the base and then the
+    /// number of buckets in use.
     pub fn try_enter_shared(&self, pass: &mut Pass) -> Result<(), Busy>
         requires of { IsPassOf self.now pass.old }
         requires out { IsOut (view_of pass.old) }
@@ -125,16 +131,20 @@ impl Store {
         pass.last = Last::Roots(pass.seen);
     }
 
-    /// Enters exclusive access, without a wait. `Busy::Mutex` comes exactly where this call read the mutex as held, and
-    /// `Busy::Seat(j)` exactly where it read the busy word of seat j as set; the pass is then out, and each flag that the call
-    /// set is cleared. An entry loads the base and then the number of buckets in use.
+    /// Enters exclusive access, without a wait. `Busy::Mutex` comes exactly where this call read
+    /// the mutex as held, and `Busy::Seat(j)` exactly where it read the busy word of seat j as set;
+    /// the pass is then out, and each flag that the call set is cleared. An entry loads the base
+    /// and then the number of buckets in use.
     pub fn try_enter_exclusive(&self, pass: &mut Pass) -> Result<(), Busy>
         requires of { IsPassOf self.now pass.old }
         requires out { IsOut (view_of pass.old) }
         ensures pass { IsSeated self.now pass.new }
         ensures same { IsSamePass pass.old pass.new }
-        ensures reads { ShowsExclusive pass.new.seat.number pass.new.seat.seats (view_of pass.old).lock (view_of pass.new).lock result }
-        ensures refused { IfErr result (λ b. TriesExclusive node_next pass.old.seat.number pass.old.seat.seats (view_of pass.old) (view_of pass.new) (Err b)) }
+        ensures reads { ShowsExclusive pass.new.seat.number pass.new.seat.seats
+            (view_of pass.old).lock (view_of pass.new).lock result }
+        ensures refused { IfErr result
+            (λ b. TriesExclusive node_next pass.old.seat.number pass.old.seat.seats
+            (view_of pass.old) (view_of pass.new) (Err b)) }
         ensures came { MatchResult result
             (λ _. Came (view_of pass.old) (view_of pass.new) pass.new.base pass.new.in_use)
             (λ _. Stayed (view_of pass.old) (view_of pass.new)) }

@@ -18,7 +18,8 @@ pub fn last(pass: &Pass) -> Last
     pass.last
 }
 
-/// Whether the pass's last collection kept the row; false where it made none, and for a row that isn't below the rows.
+/// Whether the pass's last collection kept the row; false where it made none, and for a row that
+/// isn't below the rows.
 pub fn kept(pass: &Pass, row: Row) -> bool
     requires told { Tells pass.now }
     ensures kept { IsTrue result ↔ Contains (kept_in (view_of pass.now).store.entries) row.0 }
@@ -27,12 +28,15 @@ pub fn kept(pass: &Pass, row: Row) -> bool
     row.0 < pass.rows && pass.marks.has(row)
 }
 
-/// Keeps as plain data that the pass has just ended a collection, which stored this base and this number of buckets in use: its
-/// Collect has the number before the base. The rows that it kept have to be those that are marked.
+/// Keeps as plain data that the pass has just ended a collection, which stored this base and this
+/// number of buckets in use: its Collect has the number before the base. The rows that it kept have
+/// to be those that are marked.
 pub fn tell_collect(pass: &mut Pass, base: u64, in_use: u64)
     requires base { 0 < base }
-    ensures seat { (pass.new.seat ≡ pass.old.seat) × (pass.new.base ≡ base) × (pass.new.in_use ≡ in_use) }
-    ensures told { (es : List Entry) (kept : List ℕ) → (view_of pass.old).store.entries ≡ es ++ entry.Collect (pred base) kept ∷ []
+    ensures seat { (pass.new.seat ≡ pass.old.seat) × (pass.new.base ≡ base)
+        × (pass.new.in_use ≡ in_use) }
+    ensures told { (es : List Entry) (kept : List ℕ) → (view_of pass.old).store.entries ≡ es
+        ++ entry.Collect (pred base) kept ∷ []
         → pred base ≡ (view_of pass.old).store.seen → length pass.old.marks ≡ pass.old.rows
         → ((r : Row) → IsMarked pass.old.marks r ↔ Contains kept r.0) → Tells pass.new }
 {

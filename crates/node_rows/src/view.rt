@@ -4,7 +4,8 @@ use std::collections::LinkedList;
 use store_model::{Sizes, View};
 use term_model::Flat;
 
-/// What is known of a seat that was joined into another: its number, what it knew of the store, and its crowd.
+/// What is known of a seat that was joined into another: its number, what it knew of the store, and
+/// its crowd.
 pub struct JoinedSeat {
     pub seat: u32,
     pub store: View,

@@ -1,4 +1,5 @@
-//! Calls on the protected rows of a pass. Each is made in shared or exclusive access, and none takes memory or waits.
+//! Calls on the protected rows of a pass. Each is made in shared or exclusive access, and none
+//! takes memory or waits.
 ghost use Rattle.std.specs.Prelude.{◌≡◌, ◌<◌, ◌≤◌, ◌+◌, ◌-◌, ◌↔◌, ℕ, [], ◌∷◌, ◌++◌, IfOk, IfErr, IsErr, length, get_or, set};
 ghost use Rattle.store_model.specs.Machine.{In, with_got, protected_in};
 ghost use Rattle.node_rows.specs.Belonging.{IsSamePass};
@@ -12,8 +13,8 @@ use node_rows::{Pass, Store, row_of};
 use term_model::Row;
 use terms_api::Deep;
 
-/// Protects a row that the pass may use, after the others. `Deep` comes exactly where as many rows are protected as the store has
-/// room for; nothing has changed then.
+/// Protects a row that the pass may use, after the others. `Deep` comes exactly where as many rows
+/// are protected as the store has room for; nothing has changed then.
 pub fn push_root(store: &Store, pass: &mut Pass, row: Row) -> Result<(), Deep>
     requires inside { IsInside store.now pass.old }
     requires uses { In row.0 (view_of pass.old).store.got }
@@ -21,7 +22,8 @@ pub fn push_root(store: &Store, pass: &mut Pass, row: Row) -> Result<(), Deep>
     ensures same { IsSamePass pass.old pass.new }
     ensures rows { IfOk result (λ _. protected_in (view_of pass.new).store
         ≡ protected_in (view_of pass.old).store ++ row.0 ∷ []) }
-    ensures deep { IsErr result ↔ (length (protected_in (view_of pass.old).store) ≡ store.now.sizes.depth) }
+    ensures deep { IsErr result
+        ↔ (length (protected_in (view_of pass.old).store) ≡ store.now.sizes.depth) }
     ensures unchanged { IfErr result (λ _. (view_of pass.new) ≡ view_of pass.old) }
     ensures keeps { Keeps (view_of pass.old) (view_of pass.new) }
 {
@@ -41,7 +43,8 @@ pub fn root_at(store: &Store, pass: &mut Pass, i: u32) -> Row
     ensures inside { IsInside store.now pass.new }
     ensures same { IsSamePass pass.old pass.new }
     ensures row { result.0 ≡ get_or (protected_in (view_of pass.old).store) i 0 }
-    ensures gets { view_of pass.new ≡ with_store (view_of pass.old) (with_got (view_of pass.old).store result.0) }
+    ensures gets { view_of pass.new ≡ with_store (view_of pass.old)
+        (with_got (view_of pass.old).store result.0) }
 {
     let row = load_root(store, pass, i);
     row_of(&store.sizes, row)
@@ -54,7 +57,8 @@ fn copy_root(store: &Store, pass: &mut Pass, k: u32, to: u32)
     ensures inside { IsInside store.now pass.new }
     ensures same { IsSamePass pass.old pass.new }
     ensures count { pass.new.root_count ≡ pass.old.root_count }
-    ensures roots { (view_of pass.new).store.roots ≡ set (view_of pass.old).store.roots to (get_or (view_of pass.old).store.roots k 0) }
+    ensures roots { (view_of pass.new).store.roots ≡ set (view_of pass.old).store.roots to
+        (get_or (view_of pass.old).store.roots k 0) }
     ensures keeps { Keeps (view_of pass.old) (view_of pass.new) }
 {
     let row = load_root(store, pass, k);

@@ -69,8 +69,8 @@ fn put_roots(store: &Store, pass: &mut Pass, rows: &[Row])
     }
 }
 
-/// Makes the protected rows exactly these, at most as many as the store has room for, each of which the pass may use: stores those
-/// that differ, and then the count.
+/// Makes the protected rows exactly these, at most as many as the store has room for, each of which
+/// the pass may use: stores those that differ, and then the count.
 pub fn store_roots(store: &Store, pass: &mut Pass, rows: &[Row])
     requires inside { IsInside store.now pass.old }
     requires few { length rows.now ≤ store.now.sizes.depth }

@@ -15,7 +15,8 @@ pub(crate) fn load_root(store: &Store, pass: &mut Pass, k: u32) -> u64
     ensures inside { IsInside store.now pass.new }
     ensures same { IsSamePass pass.old pass.new }
     ensures count { pass.new.root_count ≡ pass.old.root_count }
-    ensures view { view_of pass.new ≡ with_store (view_of pass.old) (with_got (view_of pass.old).store result) }
+    ensures view { view_of pass.new ≡ with_store (view_of pass.old)
+        (with_got (view_of pass.old).store result) }
     ensures row { result ≡ get_or (view_of pass.old).store.roots k 0 }
 {
     let word = root_word(&store.sizes, pass.seat.number, k as u64);
@@ -30,7 +31,8 @@ pub(crate) fn set_root(store: &Store, pass: &mut Pass, k: u32, row: u64)
     ensures inside { IsInside store.now pass.new }
     ensures same { IsSamePass pass.old pass.new }
     ensures count { pass.new.root_count ≡ pass.old.root_count }
-    ensures view { view_of pass.new ≡ with_store (view_of pass.old) (rooted (view_of pass.old).store k row) }
+    ensures view { view_of pass.new ≡ with_store (view_of pass.old)
+        (rooted (view_of pass.old).store k row) }
 {
     let word = root_word(&store.sizes, pass.seat.number, k as u64);
     node_rows::store_root(&store.table, &mut pass.seat, word, k as u64, row);
@@ -45,7 +47,8 @@ pub(crate) fn set_count(store: &Store, pass: &mut Pass, count: u32)
     ensures inside { IsInside store.now pass.new }
     ensures same { IsSamePass pass.old pass.new }
     ensures count { pass.new.root_count ≡ count }
-    ensures view { view_of pass.new ≡ with_store (view_of pass.old) (root_counted (view_of pass.old).store count) }
+    ensures view { view_of pass.new ≡ with_store (view_of pass.old)
+        (root_counted (view_of pass.old).store count) }
 {
     let word = root_count_word(&store.sizes, pass.seat.number);
     node_rows::store_root_count(&store.table, &mut pass.seat, word, count as u64);

@@ -21,7 +21,8 @@ fn try_create<S: SharedPass>(
     requires inside { IsIn (S.view pass.old) places.old }
     requires may { MayBuild (store (S.view pass.old) places.old.items) head n }
     requires place { NeedsPlace (store (S.view pass.old) places.old.items) n → ⊥ }
-    ensures placed { OnOk result (Creates (S.view pass.old) (S.view pass.new) places.old.items places.new.items head n) }
+    ensures placed { OnOk result
+        (Creates (S.view pass.old) (S.view pass.new) places.old.items places.new.items head n) }
     ensures unchanged { OnErr result (S.view pass.new ≡ S.view pass.old) }
     ensures stack { OnErr result (places.new ≡ places.old) }
     ensures inside { IsIn (S.view pass.new) places.new }
@@ -70,7 +71,8 @@ fn create_alone<S: SharedPass>(
     requires fresh { (S.view pass.old).fresh ≡ true }
     requires may { MayBuild (store (S.view pass.old) places.old.items) head n }
     requires place { NeedsPlace (store (S.view pass.old) places.old.items) n → ⊥ }
-    ensures placed { OnOk result (Creates (S.view pass.old) (S.view pass.new) places.old.items places.new.items head n) }
+    ensures placed { OnOk result
+        (Creates (S.view pass.old) (S.view pass.new) places.old.items places.new.items head n) }
     ensures unchanged { OnErr result (S.view pass.new ≡ S.view pass.old) }
     ensures stack { OnErr result (places.new ≡ places.old) }
     ensures filled { OnErr result (IsFilled (S.view pass.old) head (last n places.old.items)) }
@@ -96,7 +98,8 @@ fn sweep<S: SharedPass>(
     requires ready { IsReady (S.view pass.old) places.old }
     requires may { MayBuild (store (S.view pass.old) places.old.items) head n }
     requires place { NeedsPlace (store (S.view pass.old) places.old.items) n → ⊥ }
-    ensures outcome { Outcome (S.view pass.old) (S.view pass.new) places.old.items places.new.items head n result }
+    ensures outcome { Outcome (S.view pass.old) (S.view pass.new) places.old.items places.new.items
+        head n result }
     ensures inside { IsIn (S.view pass.new) places.new }
 {
     match pass.collect() {
@@ -128,7 +131,8 @@ fn try_again<S: SharedPass>(
     requires ready { IsReady (S.view pass.old) places.old }
     requires may { MayBuild (store (S.view pass.old) places.old.items) head n }
     requires place { NeedsPlace (store (S.view pass.old) places.old.items) n → ⊥ }
-    ensures placed { OnOk result (Creates (S.view pass.old) (S.view pass.new) places.old.items places.new.items head n) }
+    ensures placed { OnOk result
+        (Creates (S.view pass.old) (S.view pass.new) places.old.items places.new.items head n) }
     ensures inside { OnOk result (IsIn (S.view pass.new) places.new) }
     ensures passed { OnErr result (Passed 0 (S.view pass.old) (S.view pass.new) places.old.items) }
     ensures stack { OnErr result (places.new ≡ places.old) }
@@ -159,7 +163,8 @@ fn go_round<S: SharedPass>(pass: &mut S, places: &Stack)
     pass.enter_shared();
 }
 
-// Where the store was full: creates once more if another pass has collected meanwhile, and else collects and creates.
+// Where the store was full: creates once more if another pass has collected meanwhile, and else
+// collects and creates.
 fn build_again<S: SharedPass>(
     pass: &mut S,
     places: &mut Stack,
@@ -169,7 +174,8 @@ fn build_again<S: SharedPass>(
     requires inside { IsIn (S.view pass.old) places.old }
     requires may { MayBuild (store (S.view pass.old) places.old.items) head n }
     requires place { NeedsPlace (store (S.view pass.old) places.old.items) n → ⊥ }
-    ensures outcome { Outcome (S.view pass.old) (S.view pass.new) places.old.items places.new.items head n result }
+    ensures outcome { Outcome (S.view pass.old) (S.view pass.new) places.old.items places.new.items
+        head n result }
     ensures inside { IsIn (S.view pass.new) places.new }
 {
     let before = pass.base();
@@ -180,7 +186,8 @@ fn build_again<S: SharedPass>(
     }
 }
 
-// Where the store was full: lets another pass collect that is about to, and creates once more; and else builds again.
+// Where the store was full: lets another pass collect that is about to, and creates once more; and
+// else builds again.
 #[cold]
 #[inline(never)]
 fn build_late<S: SharedPass>(
@@ -192,7 +199,8 @@ fn build_late<S: SharedPass>(
     requires inside { IsIn (S.view pass.old) places.old }
     requires may { MayBuild (store (S.view pass.old) places.old.items) head n }
     requires place { NeedsPlace (store (S.view pass.old) places.old.items) n → ⊥ }
-    ensures outcome { Outcome (S.view pass.old) (S.view pass.new) places.old.items places.new.items head n result }
+    ensures outcome { Outcome (S.view pass.old) (S.view pass.new) places.old.items places.new.items
+        head n result }
     ensures inside { IsIn (S.view pass.new) places.new }
 {
     if !pass.gives_way() {
@@ -216,7 +224,8 @@ pub(crate) fn build_row<S: SharedPass>(
     requires inside { IsIn (S.view pass.old) places.old }
     requires may { MayBuild (store (S.view pass.old) places.old.items) head n }
     requires place { NeedsPlace (store (S.view pass.old) places.old.items) n → ⊥ }
-    ensures outcome { Outcome (S.view pass.old) (S.view pass.new) places.old.items places.new.items head n result }
+    ensures outcome { Outcome (S.view pass.old) (S.view pass.new) places.old.items places.new.items
+        head n result }
     ensures inside { IsIn (S.view pass.new) places.new }
 {
     match try_create(pass, places, head, n) {

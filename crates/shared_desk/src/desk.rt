@@ -13,8 +13,9 @@ use std::alloc::Global;
 use std::marker::Model;
 use std::sync::Wait;
 
-/// A store of terms for one caller, over a pass of a shared store, with a stack of its own. `apart` is there so that desks which
-/// stand side by side share no cache line: each build writes to its desk.
+/// A store of terms for one caller, over a pass of a shared store, with a stack of its own. `apart`
+/// is there so that desks which stand side by side share no cache line: each build writes to its
+/// desk.
 #[derive(Drop)]
 pub struct Desk<S: SharedPass> {
     pub(crate) pass: S,
@@ -70,8 +71,9 @@ impl<'a, R: Wait> Desk<OwnPass<'a, R>> {
     ghost use Rattle.node_rows.specs.Told.{Tells, view_of};
     ghost use Rattle.shared_desk.specs.Held.{IsWhole};
 
-    /// A desk at a pass of this store, which is out and protects nothing: a new one, or one that a desk gave back. The desk keeps
-    /// the handle by which its entries wait. Its stack has as many places as the pass may protect rows.
+    /// A desk at a pass of this store, which is out and protects nothing: a new one, or one that a
+    /// desk gave back. The desk keeps the handle by which its entries wait. Its stack has as many
+    /// places as the pass may protect rows.
     pub fn new(
         rt: &'a R,
         alloc: Global,

@@ -17,12 +17,13 @@ use node_rows::{Pass, Store};
 use std::alloc::Global;
 use std::sync::Wait;
 
-/// A desk that also writes each entry of its pass as a line of a log. Its calls may take memory, and none answers that there is
-/// none: where it lacks for a line, the log is lost for good.
+/// A desk that also writes each entry of its pass as a line of a log. Its calls may take memory,
+/// and none answers that there is none: where it lacks for a line, the log is lost for good.
 pub type LogDesk<'a, R> = Desk<LoggedPass<OwnPass<'a, R>>>;
 
 impl<'a, R: Wait> Desk<LoggedPass<OwnPass<'a, R>>> {
-    /// A desk at a pass of this store without entries, which is out and protects nothing, as `Desk::new`.
+    /// A desk at a pass of this store without entries, which is out and protects nothing, as
+    /// `Desk::new`.
     pub fn new(
         rt: &'a R,
         alloc: Global,
@@ -71,7 +72,8 @@ impl<'a, R: Wait> Desk<LoggedPass<OwnPass<'a, R>>> {
         pass
     }
 
-    /// The pass of a desk that isn't inside, and the lines of all entries of the pass, in order; or None where the log is lost.
+    /// The pass of a desk that isn't inside, and the lines of all entries of the pass, in order; or
+    /// None where the log is lost.
     pub fn into_parts(self) -> (Pass, Option<Vec<u8>>)
         requires { (store_of self).inside ≡ false }
         ensures back { IsBack self.entry.pass result.0 }

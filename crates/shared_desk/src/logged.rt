@@ -13,7 +13,8 @@ use sweep_phase::{Kept, Worn};
 use term_create::Full;
 use term_model::{Head, Row};
 
-/// A pass that writes each of its entries as a line of a log. Where memory lacks for one the log is lost, and nothing else changes.
+/// A pass that writes each of its entries as a line of a log. Where memory lacks for one the log is
+/// lost, and nothing else changes.
 #[derive(Drop)]
 pub struct LoggedPass<S: SharedPass> {
     pass: S,

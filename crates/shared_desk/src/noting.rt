@@ -18,7 +18,8 @@ use term_model::{Head, Row};
 
 /// Notes a leave with these protected rows, which is the pass's last entry.
 pub(crate) fn note_leave(log: &mut Log, told: Last, rows: &[Row])
-    ensures { (n : ℕ) → told ≡ last.Roots n → Adds log.old log.new (entry.Roots n (names rows.now)) }
+    ensures { (n : ℕ) → told ≡ last.Roots n
+        → Adds log.old log.new (entry.Roots n (names rows.now)) }
 {
     match told {
         Last::Roots(after) => log.roots(after, rows),
@@ -42,7 +43,8 @@ pub(crate) fn note_creation(log: &mut Log, told: Last, head: Head, args: &[Row],
 
 // Notes a collection that kept these rows, which is the pass's last entry.
 fn note_collection(log: &mut Log, told: Last, kept: &[Row])
-    ensures { (n : ℕ) → told ≡ last.Collect n → Adds log.old log.new (entry.Collect n (names kept.now)) }
+    ensures { (n : ℕ) → told ≡ last.Collect n
+        → Adds log.old log.new (entry.Collect n (names kept.now)) }
 {
     match told {
         Last::Collect(number) => log.collect(number, kept),

@@ -169,14 +169,15 @@ impl<'a, R: Wait> SharedPass for OwnPass<'a, R> {
         child_of(self.store, &mut self.pass, row, j)
     }
 
-    // The own forbidden word, as the lock has it, is set at times where another pass waits for this one to leave.
+    // The own forbidden word, as the lock has it, is set at times where another pass waits for this
+    // one to leave.
     fn is_asked(&self) -> bool {
         self.peek(2 + 2 * self.pass.seat.number as usize) != 0 || self.gives_way()
     }
 
-    // The mutex of the lock is held while another pass waits for the others to leave, and while it collects. Where a collection keeps
-    // many rows the passes lose trees that they would build again, and fewer of them at a time lose fewer: so they give way only where
-    // it keeps few.
+    // The mutex of the lock is held while another pass waits for the others to leave, and while it
+    // collects. Where a collection keeps many rows the passes lose trees that they would build
+    // again, and fewer of them at a time lose fewer: so they give way only where it keeps few.
     fn gives_way(&self) -> bool {
         self.peek(0) != 0 && self.has_room()
     }

@@ -20,7 +20,8 @@ pub trait SharedPass {
     /// The log that it writes; None where it is lost, or where it writes none.
     ghost log: { Self → Option (List ℕ) };
 
-    /// Enters shared access. Rows that the protected ones don't reach may be lost where the base is a later one.
+    /// Enters shared access. Rows that the protected ones don't reach may be lost where the base is
+    /// a later one.
     fn enter_shared(&mut self)
         requires shared { (view self.old).shared ≡ false }
         requires alone { (view self.old).alone ≡ false }
@@ -57,7 +58,8 @@ pub trait SharedPass {
         requires room { length rows.now ≤ (view self.old).depth }
         ensures { view self.new ≡ record (view self.old) { roots = rows.now } };
 
-    /// Creates a head over rows of the own list, in shared access. Nothing has changed after `Full`.
+    /// Creates a head over rows of the own list, in shared access. Nothing has changed after
+    /// `Full`.
     fn create(&mut self, head: Head, rows: &[Row]) -> Result<Row, Full>
         requires shared { (view self.old).shared ≡ true }
         requires may { MayCreate (view self.old) head rows.now }
@@ -65,8 +67,8 @@ pub trait SharedPass {
         ensures full { OnErr result (view self.new ≡ view self.old) }
         ensures sound { IsSound (own (view self.new)) };
 
-    /// Collects, in exclusive access, where the protected rows are those of the last Roots. `Worn` comes only where the base leaves no
-    /// room for two epochs more; nothing has changed then.
+    /// Collects, in exclusive access, where the protected rows are those of the last Roots. `Worn`
+    /// comes only where the base leaves no room for two epochs more; nothing has changed then.
     fn collect(&mut self) -> Result<Kept, Worn>
         requires alone { (view self.old).alone ≡ true }
         requires roots { (view self.old).roots ≡ (view self.old).noted }
@@ -75,8 +77,8 @@ pub trait SharedPass {
         ensures worn { OnErr result (IsWorn (view self.old)) }
         ensures sound { IsSound (own (view self.new)) };
 
-    /// Creates after a collection of this access. `Full` comes only where the collection kept as many trees as there are rows, and
-    /// this one isn't among them; nothing has changed then.
+    /// Creates after a collection of this access. `Full` comes only where the collection kept as
+    /// many trees as there are rows, and this one isn't among them; nothing has changed then.
     fn create_exclusive(&mut self, head: Head, rows: &[Row]) -> Result<Row, Full>
         requires alone { (view self.old).alone ≡ true }
         requires fresh { (view self.old).fresh ≡ true }
@@ -110,10 +112,12 @@ pub trait SharedPass {
             ≡ Some (tree_at (own (view self.old)) result) }
         ensures unchanged { view self.new ≡ view self.old };
 
-    /// Whether another pass has asked for exclusive access. It is a hint, of which no clause says anything.
+    /// Whether another pass has asked for exclusive access. It is a hint, of which no clause says
+    /// anything.
     fn is_asked(&self) -> bool;
 
-    /// Whether it is better to go outside than to collect, since another pass is about to collect. It is a hint as well.
+    /// Whether it is better to go outside than to collect, since another pass is about to collect.
+    /// It is a hint as well.
     fn gives_way(&self) -> bool {
         false
     }

@@ -22,7 +22,8 @@ fn load_base(store: &Store, seat: &mut Seat<NodeRows>) -> u64
     requires alone { IsAlone store.now seat.old.seat seat.old.number seat.old.seats }
     requires call { seat.old.seat.me.0.store.call ≡ Idle }
     ensures alone { IsAlone store.now seat.new.seat seat.new.number seat.new.seats }
-    ensures stays { StaysSeat seat.old.seat seat.old.number seat.old.seats seat.new.seat seat.new.number seat.new.seats }
+    ensures stays { StaysSeat seat.old.seat seat.old.number seat.old.seats seat.new.seat
+        seat.new.number seat.new.seats }
     ensures call { seat.new.seat.me.0.store.call ≡ Loading ((Base, result) ∷ []) }
     ensures base { result ≡ seat.old.seat.me.0.store.base }
 {
@@ -37,7 +38,8 @@ fn load_claim(store: &Store, seat: &mut Seat<NodeRows>, base: u64) -> u64
     requires call { seat.old.seat.me.0.store.call ≡ Loading ((Base, base) ∷ []) }
     requires base { base ≡ seat.old.seat.me.0.store.base }
     ensures alone { IsAlone store.now seat.new.seat seat.new.number seat.new.seats }
-    ensures stays { StaysSeat seat.old.seat seat.old.number seat.old.seats seat.new.seat seat.new.number seat.new.seats }
+    ensures stays { StaysSeat seat.old.seat seat.old.number seat.old.seats seat.new.seat
+        seat.new.number seat.new.seats }
     ensures call { seat.new.seat.me.0.store.call ≡ Loading ((Base, base) ∷ (Claim, result) ∷ []) }
     ensures few { result ≤ store.now.sizes.rows + store.now.sizes.seats }
     ensures loads { LoadsClaim store.now.sizes seat.new.number seat.old.seat.me.0.store result }
@@ -52,8 +54,10 @@ fn load_free_count(store: &Store, seat: &mut Seat<NodeRows>, base: u64, claim: u
     requires alone { IsAlone store.now seat.old.seat seat.old.number seat.old.seats }
     requires call { seat.old.seat.me.0.store.call ≡ Loading ((Base, base) ∷ (Claim, claim) ∷ []) }
     ensures alone { IsAlone store.now seat.new.seat seat.new.number seat.new.seats }
-    ensures stays { StaysSeat seat.old.seat seat.old.number seat.old.seats seat.new.seat seat.new.number seat.new.seats }
-    ensures call { seat.new.seat.me.0.store.call ≡ loading store.now.table.shared.key (begun base claim result []) }
+    ensures stays { StaysSeat seat.old.seat seat.old.number seat.old.seats seat.new.seat
+        seat.new.number seat.new.seats }
+    ensures call { seat.new.seat.me.0.store.call ≡ loading store.now.table.shared.key
+        (begun base claim result []) }
     ensures stands { HasStore store.now.table.shared.key seat.new.number seat.new.seat.me.0.store }
     ensures known { Known store.now.table.shared.key seat.new.seat.me.0.store }
 {
@@ -70,19 +74,22 @@ fn is_worn(sizes: &Sizes, base: u64, claim: u64) -> bool
     base + claim + 1 + (u64::from(sizes.rows) + u64::from(sizes.seats) + 1) > 1 << 62
 }
 
-/// Begins a collection in exclusive access. `Worn` comes exactly where the base and the claim that are loaded leave no room for
-/// another epoch; nothing has changed then.
+/// Begins a collection in exclusive access. `Worn` comes exactly where the base and the claim that
+/// are loaded leave no room for another epoch; nothing has changed then.
 pub(crate) fn begin<'a>(store: &'a Store, seat: &mut Seat<NodeRows>) -> Result<Sweep<'a>, Worn>
     requires store { IsOpen store.now }
     requires alone { IsAlone store.now seat.old.seat seat.old.number seat.old.seats }
     requires call { seat.old.seat.me.0.store.call ≡ Idle }
     requires known { Known store.now.table.shared.key seat.old.seat.me.0.store }
-    ensures stays { StaysSeat seat.old.seat seat.old.number seat.old.seats seat.new.seat seat.new.number seat.new.seats }
+    ensures stays { StaysSeat seat.old.seat seat.old.number seat.old.seats seat.new.seat
+        seat.new.number seat.new.seats }
     ensures store { IfOk result (λ c. c.store.now ≡ store.now) }
     ensures base { IfOk result (λ c. c.base ≡ seat.old.seat.me.0.store.base) }
     ensures gathers { IfOk result (λ c. Gathers c seat.new.seat seat.new.number seat.new.seats) }
-    ensures loads { IfOk result (λ c. LoadsClaim store.now.sizes seat.old.number seat.old.seat.me.0.store c.claim) }
-    ensures worn { IfErr result (λ _. IsWorn store.now.sizes seat.old.number seat.old.seat.me.0.store) }
+    ensures loads { IfOk result
+        (λ c. LoadsClaim store.now.sizes seat.old.number seat.old.seat.me.0.store c.claim) }
+    ensures worn { IfErr result
+        (λ _. IsWorn store.now.sizes seat.old.number seat.old.seat.me.0.store) }
     ensures unchanged { IfErr result (λ _. seat.new.seat.me.0 ≡ seat.old.seat.me.0) }
 {
     let base = load_base(store, seat);

@@ -1,4 +1,5 @@
-//! The new chains of the marked rows, worked out in plain memory: each row before those of its bucket that are less.
+//! The new chains of the marked rows, worked out in plain memory: each row before those of its
+//! bucket that are less.
 ghost use Rattle.std.specs.Prelude.{◌≡◌, ◌≢◌, ◌<◌, ◌≤◌, ◌+◌, ◌^◌, ℕ, length, get_or, set, replicate};
 ghost use Rattle.hash_buckets.specs.Hash.{mixed, mixed_all};
 ghost use Rattle.store_model.specs.declared.view.Place.TheVariants.{RowWord};
@@ -23,7 +24,8 @@ fn with_argument(sweep: &Sweep<'_>, seat: &mut Seat<NodeRows>, row: u32, j: u32,
     requires reached { ReachesByWords (words_of seat.old.seat) row }
     requires below { j < words_of seat.old.seat (RowWord row 1) }
     ensures at { HasGathered sweep.now seat.new.seat seat.new.number seat.new.seats }
-    ensures again { LoadsAgain sweep.now seat.old.seat seat.old.number seat.old.seats seat.new.seat seat.new.number seat.new.seats }
+    ensures again { LoadsAgain sweep.now seat.old.seat seat.old.number seat.old.seats seat.new.seat
+        seat.new.number seat.new.seats }
     ensures hash { result ≡ mixed hash (words_of seat.old.seat (RowWord row (j + 2))) }
 {
     let argument = child_of(sweep, seat, row, j);
@@ -35,8 +37,10 @@ fn with_arguments(sweep: &Sweep<'_>, seat: &mut Seat<NodeRows>, row: u32, first:
     requires at { HasGathered sweep.now seat.old.seat seat.old.number seat.old.seats }
     requires reached { ReachesByWords (words_of seat.old.seat) row }
     ensures at { HasGathered sweep.now seat.new.seat seat.new.number seat.new.seats }
-    ensures again { LoadsAgain sweep.now seat.old.seat seat.old.number seat.old.seats seat.new.seat seat.new.number seat.new.seats }
-    ensures hash { result ≡ mixed_all first (numbers_of (words_of seat.old.seat) row (words_of seat.old.seat (RowWord row 1))) }
+    ensures again { LoadsAgain sweep.now seat.old.seat seat.old.number seat.old.seats seat.new.seat
+        seat.new.number seat.new.seats }
+    ensures hash { result ≡ mixed_all first
+        (numbers_of (words_of seat.old.seat) row (words_of seat.old.seat (RowWord row 1))) }
 {
     let count = count_of(sweep, seat, row);
     let mut hash = first;
@@ -51,7 +55,8 @@ fn with_value(sweep: &Sweep<'_>, seat: &mut Seat<NodeRows>, row: u32, first: u64
     requires at { HasGathered sweep.now seat.old.seat seat.old.number seat.old.seats }
     requires reached { ReachesByWords (words_of seat.old.seat) row }
     ensures at { HasGathered sweep.now seat.new.seat seat.new.number seat.new.seats }
-    ensures again { LoadsAgain sweep.now seat.old.seat seat.old.number seat.old.seats seat.new.seat seat.new.number seat.new.seats }
+    ensures again { LoadsAgain sweep.now seat.old.seat seat.old.number seat.old.seats seat.new.seat
+        seat.new.number seat.new.seats }
     ensures hash { result ≡ mixed first (words_of seat.old.seat (RowWord row 2)) }
 {
     let value = row_word_of(sweep, seat, row, 2);
@@ -64,7 +69,8 @@ fn hash_from(sweep: &Sweep<'_>, seat: &mut Seat<NodeRows>, row: u32, symbol: u64
     requires reached { ReachesByWords (words_of seat.old.seat) row }
     requires symbol { symbol ≡ words_of seat.old.seat (RowWord row 0) }
     ensures at { HasGathered sweep.now seat.new.seat seat.new.number seat.new.seats }
-    ensures again { LoadsAgain sweep.now seat.old.seat seat.old.number seat.old.seats seat.new.seat seat.new.number seat.new.seats }
+    ensures again { LoadsAgain sweep.now seat.old.seat seat.old.number seat.old.seats seat.new.seat
+        seat.new.number seat.new.seats }
     ensures hash { IsHashed (words_of seat.old.seat) row result }
 {
     let first = with_word(OFFSET_BASIS, symbol);
@@ -79,7 +85,8 @@ fn hash_of_row(sweep: &Sweep<'_>, seat: &mut Seat<NodeRows>, row: u32) -> u64
     requires at { HasGathered sweep.now seat.old.seat seat.old.number seat.old.seats }
     requires reached { ReachesByWords (words_of seat.old.seat) row }
     ensures at { HasGathered sweep.now seat.new.seat seat.new.number seat.new.seats }
-    ensures again { LoadsAgain sweep.now seat.old.seat seat.old.number seat.old.seats seat.new.seat seat.new.number seat.new.seats }
+    ensures again { LoadsAgain sweep.now seat.old.seat seat.old.number seat.old.seats seat.new.seat
+        seat.new.number seat.new.seats }
     ensures hash { IsHashed (words_of seat.old.seat) row result }
 {
     let symbol = row_word_of(sweep, seat, row, 0);
@@ -92,7 +99,8 @@ fn bucket_of_row(sweep: &Sweep<'_>, seat: &mut Seat<NodeRows>, row: u32, in_use:
     requires reached { ReachesByWords (words_of seat.old.seat) row }
     requires used { 0 < in_use }
     ensures at { HasGathered sweep.now seat.new.seat seat.new.number seat.new.seats }
-    ensures again { LoadsAgain sweep.now seat.old.seat seat.old.number seat.old.seats seat.new.seat seat.new.number seat.new.seats }
+    ensures again { LoadsAgain sweep.now seat.old.seat seat.old.number seat.old.seats seat.new.seat
+        seat.new.number seat.new.seats }
     ensures stands { StandsIn (words_of seat.old.seat) in_use result row }
     ensures below { result < in_use }
 {
@@ -130,9 +138,12 @@ fn chain_marked(
     requires nexts { length nexts.old ≡ (sizes_of sweep.now).rows }
     requires chains { ChainsTo (words_of seat.old.seat) _marks.now in_use row heads.old nexts.old }
     ensures at { HasGathered sweep.now seat.new.seat seat.new.number seat.new.seats }
-    ensures again { LoadsAgain sweep.now seat.old.seat seat.old.number seat.old.seats seat.new.seat seat.new.number seat.new.seats }
-    ensures chains { ChainsTo (words_of seat.old.seat) _marks.now in_use (row + 1) heads.new nexts.new }
-    ensures lengths { (length nexts.new ≡ length nexts.old) × (length heads.new ≡ length heads.old) }
+    ensures again { LoadsAgain sweep.now seat.old.seat seat.old.number seat.old.seats seat.new.seat
+        seat.new.number seat.new.seats }
+    ensures chains { ChainsTo (words_of seat.old.seat) _marks.now in_use (row + 1) heads.new
+        nexts.new }
+    ensures lengths { (length nexts.new ≡ length nexts.old)
+        × (length heads.new ≡ length heads.old) }
 {
     let bucket = bucket_of_row(sweep, seat, row, in_use);
     chain_row(nexts, heads, row, bucket);
@@ -155,9 +166,12 @@ fn chain_next(
     requires nexts { length nexts.old ≡ (sizes_of sweep.now).rows }
     requires chains { ChainsTo (words_of seat.old.seat) marks.now in_use row heads.old nexts.old }
     ensures at { HasGathered sweep.now seat.new.seat seat.new.number seat.new.seats }
-    ensures again { LoadsAgain sweep.now seat.old.seat seat.old.number seat.old.seats seat.new.seat seat.new.number seat.new.seats }
-    ensures chains { ChainsTo (words_of seat.old.seat) marks.now in_use (row + 1) heads.new nexts.new }
-    ensures lengths { (length nexts.new ≡ length nexts.old) × (length heads.new ≡ length heads.old) }
+    ensures again { LoadsAgain sweep.now seat.old.seat seat.old.number seat.old.seats seat.new.seat
+        seat.new.number seat.new.seats }
+    ensures chains { ChainsTo (words_of seat.old.seat) marks.now in_use (row + 1) heads.new
+        nexts.new }
+    ensures lengths { (length nexts.new ≡ length nexts.old)
+        × (length heads.new ≡ length heads.old) }
 {
     if !marks.has(Row(row)) {
         return;
@@ -186,9 +200,12 @@ pub(crate) fn chain_all(
     requires used { (0 < in_use) × (in_use ≤ length heads.old) }
     requires nexts { length nexts.old ≡ (sizes_of sweep.now).rows }
     ensures at { HasGathered sweep.now seat.new.seat seat.new.number seat.new.seats }
-    ensures again { LoadsAgain sweep.now seat.old.seat seat.old.number seat.old.seats seat.new.seat seat.new.number seat.new.seats }
-    ensures chains { ChainsTo (words_of seat.old.seat) marks.now in_use (sizes_of sweep.now).rows heads.new nexts.new }
-    ensures lengths { (length nexts.new ≡ length nexts.old) × (length heads.new ≡ length heads.old) }
+    ensures again { LoadsAgain sweep.now seat.old.seat seat.old.number seat.old.seats seat.new.seat
+        seat.new.number seat.new.seats }
+    ensures chains { ChainsTo (words_of seat.old.seat) marks.now in_use (sizes_of sweep.now).rows
+        heads.new nexts.new }
+    ensures lengths { (length nexts.new ≡ length nexts.old)
+        × (length heads.new ≡ length heads.old) }
 {
     clear(heads);
     for row in 0..sweep.store.sizes.rows {

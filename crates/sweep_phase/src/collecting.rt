@@ -38,7 +38,8 @@ fn load_and_mark(sweep: &Sweep<'_>, seat: &mut Seat<NodeRows>, marks: &mut Marks
     requires at { Gathers sweep.now seat.old.seat seat.old.number seat.old.seats }
     requires size { length marks.old ≡ (sizes_of sweep.now).rows }
     ensures at { HasGathered sweep.now seat.new.seat seat.new.number seat.new.seats }
-    ensures stays { StaysSeat seat.old.seat seat.old.number seat.old.seats seat.new.seat seat.new.number seat.new.seats }
+    ensures stays { StaysSeat seat.old.seat seat.old.number seat.old.seats seat.new.seat
+        seat.new.number seat.new.seats }
     ensures marks { MarksReached (words_of seat.new.seat) (sizes_of sweep.now).rows marks.new }
 {
     load_all(sweep, seat);
@@ -59,9 +60,12 @@ fn work_out(
     requires marks { MarksReached (words_of seat.old.seat) (sizes_of sweep.now).rows marks.now }
     requires nexts { length nexts.old ≡ (sizes_of sweep.now).rows }
     requires heads { length heads.old ≡ (sizes_of sweep.now).buckets }
-    ensures stays { StaysSeat seat.old.seat seat.old.number seat.old.seats seat.new.seat seat.new.number seat.new.seats }
-    ensures out { IsWorkedOut sweep.now seat.new.seat seat.new.number seat.new.seats marks.now nexts.new heads.new result.live result.buckets }
-    ensures lengths { (length nexts.new ≡ length nexts.old) × (length heads.new ≡ length heads.old) }
+    ensures stays { StaysSeat seat.old.seat seat.old.number seat.old.seats seat.new.seat
+        seat.new.number seat.new.seats }
+    ensures out { IsWorkedOut sweep.now seat.new.seat seat.new.number seat.new.seats marks.now
+        nexts.new heads.new result.live result.buckets }
+    ensures lengths { (length nexts.new ≡ length nexts.old)
+        × (length heads.new ≡ length heads.old) }
 {
     let live = count_marked(marks, sweep.store.sizes.rows);
     let buckets = buckets_after(&sweep.store.sizes, in_use, live);
@@ -78,13 +82,18 @@ fn store_lists(
     heads: &[u32],
     kept: Kept,
 ) -> u32
-    requires compared { IsCompared sweep.now seat.old.seat seat.old.number seat.old.seats marks.now nexts.now heads.now kept.live kept.buckets }
+    requires compared { IsCompared sweep.now seat.old.seat seat.old.number seat.old.seats marks.now
+        nexts.now heads.now kept.live kept.buckets }
     requires nexts { length nexts.now ≡ (sizes_of sweep.now).rows }
     requires heads { length heads.now ≡ (sizes_of sweep.now).buckets }
-    ensures stays { StaysSeat seat.old.seat seat.old.number seat.old.seats seat.new.seat seat.new.number seat.new.seats }
-    ensures stored { HasStored sweep.now seat.new.seat seat.new.number seat.new.seats marks.now kept.live kept.buckets result }
-    ensures count { (seen_of seat.new.seat FreeCount ≡ sweep.now.count) × HasSeen seat.new.seat.me.0.store FreeCount }
-    ensures in_use { (seen_of seat.new.seat InUse ≡ seat.old.seat.me.0.store.in_use) × HasSeen seat.new.seat.me.0.store InUse }
+    ensures stays { StaysSeat seat.old.seat seat.old.number seat.old.seats seat.new.seat
+        seat.new.number seat.new.seats }
+    ensures stored { HasStored sweep.now seat.new.seat seat.new.number seat.new.seats marks.now
+        kept.live kept.buckets result }
+    ensures count { (seen_of seat.new.seat FreeCount ≡ sweep.now.count)
+        × HasSeen seat.new.seat.me.0.store FreeCount }
+    ensures in_use { (seen_of seat.new.seat InUse ≡ seat.old.seat.me.0.store.in_use)
+        × HasSeen seat.new.seat.me.0.store InUse }
 {
     store_nexts(sweep, seat, marks, nexts);
     store_heads(sweep, seat, heads, kept.buckets);
@@ -101,15 +110,22 @@ fn store_numbers(
     buckets: u32,
 )
     requires at { Stores sweep.now seat.old.seat seat.old.number seat.old.seats }
-    requires count { (seen_of seat.old.seat FreeCount ≡ sweep.now.count) × HasSeen seat.old.seat.me.0.store FreeCount }
-    requires in_use { (seen_of seat.old.seat InUse ≡ in_use) × HasSeen seat.old.seat.me.0.store InUse }
+    requires count { (seen_of seat.old.seat FreeCount ≡ sweep.now.count)
+        × HasSeen seat.old.seat.me.0.store FreeCount }
+    requires in_use { (seen_of seat.old.seat InUse ≡ in_use)
+        × HasSeen seat.old.seat.me.0.store InUse }
     ensures at { Stores sweep.now seat.new.seat seat.new.number seat.new.seats }
-    ensures more { StoresMore seat.old.seat seat.old.number seat.old.seats seat.new.seat seat.new.number seat.new.seats }
+    ensures more { StoresMore seat.old.seat seat.old.number seat.old.seats seat.new.seat
+        seat.new.number seat.new.seats }
     ensures storing { is_storing seat.new.seat.me.0.store.call ≡ true }
-    ensures count { (seen_of seat.new.seat FreeCount ≡ count) × HasSeen seat.new.seat.me.0.store FreeCount }
-    ensures buckets { (seen_of seat.new.seat InUse ≡ buckets) × HasSeen seat.new.seat.me.0.store InUse }
-    ensures base { (seen_of seat.new.seat Base ≡ sweep.now.base + sweep.now.claim + 1) × HasSeen seat.new.seat.me.0.store Base }
-    ensures others { (p : Place) → is_number p ≡ false → seen_of seat.new.seat p ≡ seen_of seat.old.seat p }
+    ensures count { (seen_of seat.new.seat FreeCount ≡ count)
+        × HasSeen seat.new.seat.me.0.store FreeCount }
+    ensures buckets { (seen_of seat.new.seat InUse ≡ buckets)
+        × HasSeen seat.new.seat.me.0.store InUse }
+    ensures base { (seen_of seat.new.seat Base ≡ sweep.now.base + sweep.now.claim + 1)
+        × HasSeen seat.new.seat.me.0.store Base }
+    ensures others { (p : Place) → is_number p ≡ false → seen_of seat.new.seat p
+        ≡ seen_of seat.old.seat p }
 {
     let sizes = &sweep.store.sizes;
     let base = sweep.base + sweep.claim + 1;
@@ -134,11 +150,14 @@ fn store_all(
     kept: Kept,
 )
     requires in_use { in_use ≡ seat.old.seat.me.0.store.in_use }
-    requires compared { IsCompared sweep.now seat.old.seat seat.old.number seat.old.seats marks.now nexts.now heads.now kept.live kept.buckets }
+    requires compared { IsCompared sweep.now seat.old.seat seat.old.number seat.old.seats marks.now
+        nexts.now heads.now kept.live kept.buckets }
     requires nexts { length nexts.now ≡ (sizes_of sweep.now).rows }
     requires heads { length heads.now ≡ (sizes_of sweep.now).buckets }
-    ensures stays { StaysSeat seat.old.seat seat.old.number seat.old.seats seat.new.seat seat.new.number seat.new.seats }
-    ensures swept { HasSwept sweep.now seat.new.seat seat.new.number seat.new.seats marks.now kept.live kept.buckets }
+    ensures stays { StaysSeat seat.old.seat seat.old.number seat.old.seats seat.new.seat
+        seat.new.number seat.new.seats }
+    ensures swept { HasSwept sweep.now seat.new.seat seat.new.number seat.new.seats marks.now
+        kept.live kept.buckets }
 {
     let count = store_lists(sweep, seat, marks, nexts, heads, kept);
     store_numbers(sweep, seat, count, in_use, kept.buckets);
@@ -146,8 +165,10 @@ fn store_all(
 
 // Ends the collection.
 fn end(sweep: &Sweep<'_>, seat: &mut Seat<NodeRows>, marks: &Marks, kept: Kept)
-    requires swept { HasSwept sweep.now seat.old.seat seat.old.number seat.old.seats marks.now kept.live kept.buckets }
-    ensures ends { Ends sweep.now seat.old.seat seat.old.number seat.old.seats seat.new.seat seat.new.number seat.new.seats marks.now kept.live kept.buckets }
+    requires swept { HasSwept sweep.now seat.old.seat seat.old.number seat.old.seats marks.now
+        kept.live kept.buckets }
+    ensures ends { Ends sweep.now seat.old.seat seat.old.number seat.old.seats seat.new.seat
+        seat.new.number seat.new.seats marks.now kept.live kept.buckets }
 {
     store_claim(&sweep.store.table, seat, claim_word(&sweep.store.sizes));
 }
@@ -166,8 +187,10 @@ fn sweep_all(
     requires size { length marks.old ≡ (sizes_of sweep.now).rows }
     requires nexts { length nexts.old ≡ (sizes_of sweep.now).rows }
     requires heads { length heads.old ≡ (sizes_of sweep.now).buckets }
-    ensures ends { Ends sweep.now seat.old.seat seat.old.number seat.old.seats seat.new.seat seat.new.number seat.new.seats marks.new result.live result.buckets }
-    ensures lengths { (length nexts.new ≡ length nexts.old) × (length heads.new ≡ length heads.old) }
+    ensures ends { Ends sweep.now seat.old.seat seat.old.number seat.old.seats seat.new.seat
+        seat.new.number seat.new.seats marks.new result.live result.buckets }
+    ensures lengths { (length nexts.new ≡ length nexts.old)
+        × (length heads.new ≡ length heads.old) }
 {
     load_and_mark(sweep, seat, marks);
     let kept = work_out(sweep, seat, marks, nexts, heads, in_use);
@@ -186,13 +209,14 @@ fn fill_up(words: &mut Vec<u32>, count: u32)
     let _filled = words.resize(count as usize, 0);
 }
 
-// Goes on with the collection of a pass that isn't worn, and tells it. The pass's first collection fills the room of its new
-// chains.
+// Goes on with the collection of a pass that isn't worn, and tells it. The pass's first collection
+// fills the room of its new chains.
 fn collect_on(sweep: &Sweep<'_>, pass: &mut Pass, in_use: u32) -> Kept
     requires at { Gathers sweep.now pass.old.seat.seat pass.old.seat.number pass.old.seat.seats }
     requires in_use { in_use ≡ (view_of pass.old).store.in_use }
     requires size { length pass.old.marks ≡ pass.old.rows }
-    ensures ends { EndsSo sweep.now pass.old.seat.seat pass.old.seat.number pass.old.seat.seats pass.new.seat.seat pass.new.seat.number pass.new.seat.seats result.live result.buckets }
+    ensures ends { EndsSo sweep.now pass.old.seat.seat pass.old.seat.number pass.old.seat.seats
+        pass.new.seat.seat pass.new.seat.number pass.new.seat.seats result.live result.buckets }
     ensures base { pass.new.base ≡ sweep.now.base + sweep.now.claim + 1 }
     ensures in_use { pass.new.in_use ≡ result.buckets }
     ensures told { Tells pass.new }
@@ -211,10 +235,11 @@ fn collect_on(sweep: &Sweep<'_>, pass: &mut Pass, in_use: u32) -> Kept
     kept
 }
 
-/// Frees all rows that no pass's protected rows reach, and notes a Collect with the rows that are kept, under their names. The
-/// buckets in use are doubled, up to all, where twice the rows kept exceed them. It needs exclusive access, in which the pass has
-/// protected no other rows than before. The trees of the rows kept are the pass's crowd then. `Worn` comes exactly where the base, the claim and a whole epoch more would pass 2^62;
-/// nothing has changed then.
+/// Frees all rows that no pass's protected rows reach, and notes a Collect with the rows that are
+/// kept, under their names. The buckets in use are doubled, up to all, where twice the rows kept
+/// exceed them. It needs exclusive access, in which the pass has protected no other rows than
+/// before. The trees of the rows kept are the pass's crowd then. `Worn` comes exactly where the
+/// base, the claim and a whole epoch more would pass 2^62; nothing has changed then.
 pub fn collect(store: &Store, pass: &mut Pass) -> Result<Kept, Worn>
     requires inside { IsInside store.now pass.old }
     requires granted { IsExclusive pass.old }
@@ -222,11 +247,13 @@ pub fn collect(store: &Store, pass: &mut Pass) -> Result<Kept, Worn>
     ensures inside { IsInside store.now pass.new }
     ensures same { IsSamePass pass.old pass.new }
     ensures seats { pass.new.seat.seats ≡ pass.old.seat.seats }
-    ensures only { view_of pass.new ≡ swept (view_of pass.old) (view_of pass.new).store (view_of pass.new).crowd }
+    ensures only { view_of pass.new ≡ swept (view_of pass.old) (view_of pass.new).store
+        (view_of pass.new).crowd }
     ensures collects { IfOk result (λ kept. Collects store.now.sizes pass.old.seat.number
         (view_of pass.old).store (view_of pass.new).store kept.live kept.buckets) }
     ensures crowd { IfOk result (λ kept. HasKept (view_of pass.new) kept.live) }
-    ensures worn { IfErr result (λ _. IsWorn store.now.sizes pass.old.seat.number (view_of pass.old).store) }
+    ensures worn { IfErr result
+        (λ _. IsWorn store.now.sizes pass.old.seat.number (view_of pass.old).store) }
     ensures unchanged { IfErr result (λ _. (view_of pass.new) ≡ view_of pass.old) }
 {
     let in_use = pass.in_use as u32;

@@ -37,8 +37,10 @@ fn compare_next(sweep: &Sweep<'_>, seat: &mut Seat<NodeRows>, cells: &mut [u32],
     requires cells { length cells.old ≡ (sizes_of sweep.now).rows }
     requires small { get_or cells.old row 0 < 4294967295 }
     ensures at { HasGathered sweep.now seat.new.seat seat.new.number seat.new.seats }
-    ensures again { LoadsAgain sweep.now seat.old.seat seat.old.number seat.old.seats seat.new.seat seat.new.number seat.new.seats }
-    ensures tells { told_by (words_of seat.old.seat (Next row)) (get_or cells.new row 0) ≡ get_or cells.old row 0 }
+    ensures again { LoadsAgain sweep.now seat.old.seat seat.old.number seat.old.seats seat.new.seat
+        seat.new.number seat.new.seats }
+    ensures tells { told_by (words_of seat.old.seat (Next row)) (get_or cells.new row 0)
+        ≡ get_or cells.old row 0 }
     ensures others { (r : ℕ) → r ≢ row → get_or cells.new r 0 ≡ get_or cells.old r 0 }
     ensures size { length cells.new ≡ length cells.old }
 {
@@ -50,8 +52,10 @@ fn compare_next(sweep: &Sweep<'_>, seat: &mut Seat<NodeRows>, cells: &mut [u32],
 fn place_cell(sweep: &Sweep<'_>, seat: &mut Seat<NodeRows>, row: u32, i: u32) -> u32
     requires at { HasGathered sweep.now seat.old.seat seat.old.number seat.old.seats }
     ensures at { HasGathered sweep.now seat.new.seat seat.new.number seat.new.seats }
-    ensures again { LoadsAgain sweep.now seat.old.seat seat.old.number seat.old.seats seat.new.seat seat.new.number seat.new.seats }
-    ensures holds { result ≡ 4294967295 → (i < sweep.now.count) × (words_of seat.old.seat (FreePlace i) ≡ row) }
+    ensures again { LoadsAgain sweep.now seat.old.seat seat.old.number seat.old.seats seat.new.seat
+        seat.new.number seat.new.seats }
+    ensures holds { result ≡ 4294967295 → (i < sweep.now.count)
+        × (words_of seat.old.seat (FreePlace i) ≡ row) }
 {
     if u64::from(i) >= sweep.count {
         return 0;
@@ -68,8 +72,10 @@ fn compare_place(sweep: &Sweep<'_>, seat: &mut Seat<NodeRows>, cells: &mut [u32]
     requires at { HasGathered sweep.now seat.old.seat seat.old.number seat.old.seats }
     requires row { row < length cells.old }
     ensures at { HasGathered sweep.now seat.new.seat seat.new.number seat.new.seats }
-    ensures again { LoadsAgain sweep.now seat.old.seat seat.old.number seat.old.seats seat.new.seat seat.new.number seat.new.seats }
-    ensures holds { get_or cells.new row 0 ≡ 4294967295 → (i < sweep.now.count) × (words_of seat.old.seat (FreePlace i) ≡ row) }
+    ensures again { LoadsAgain sweep.now seat.old.seat seat.old.number seat.old.seats seat.new.seat
+        seat.new.number seat.new.seats }
+    ensures holds { get_or cells.new row 0 ≡ 4294967295 → (i < sweep.now.count)
+        × (words_of seat.old.seat (FreePlace i) ≡ row) }
     ensures others { (r : ℕ) → r ≢ row → get_or cells.new r 0 ≡ get_or cells.old r 0 }
     ensures size { length cells.new ≡ length cells.old }
 {
@@ -77,7 +83,8 @@ fn compare_place(sweep: &Sweep<'_>, seat: &mut Seat<NodeRows>, cells: &mut [u32]
     cells[row as usize] = cell;
 }
 
-// Notes of a row whether its next word, or the free place that it comes to, stays as it is: how many rows so far aren't marked.
+// Notes of a row whether its next word, or the free place that it comes to, stays as it is: how
+// many rows so far aren't marked.
 fn compare_row(
     sweep: &Sweep<'_>,
     seat: &mut Seat<NodeRows>,
@@ -93,8 +100,10 @@ fn compare_row(
     requires small { IsMarked marks.now row → get_or cells.old row 0 < 4294967295 }
     requires few { free < (sizes_of sweep.now).rows }
     ensures at { HasGathered sweep.now seat.new.seat seat.new.number seat.new.seats }
-    ensures again { LoadsAgain sweep.now seat.old.seat seat.old.number seat.old.seats seat.new.seat seat.new.number seat.new.seats }
-    ensures next { IsMarked marks.now row → told_by (words_of seat.old.seat (Next row)) (get_or cells.new row 0) ≡ get_or cells.old row 0 }
+    ensures again { LoadsAgain sweep.now seat.old.seat seat.old.number seat.old.seats seat.new.seat
+        seat.new.number seat.new.seats }
+    ensures next { IsMarked marks.now row → told_by (words_of seat.old.seat (Next row))
+        (get_or cells.new row 0) ≡ get_or cells.old row 0 }
     ensures place { get_or marks.now row false ≡ false → get_or cells.new row 0 ≡ 4294967295
         → (free < sweep.now.count) × (words_of seat.old.seat (FreePlace free) ≡ row) }
     ensures free { result ≡ free + (if get_or marks.now row false then 0 else 1) }
@@ -123,8 +132,10 @@ fn compare_rows(
     requires cells { length cells.old ≡ (sizes_of sweep.now).rows }
     requires small { (r : ℕ) → IsMarked marks.now r → get_or cells.old r 0 < 4294967295 }
     ensures at { HasGathered sweep.now seat.new.seat seat.new.number seat.new.seats }
-    ensures again { LoadsAgain sweep.now seat.old.seat seat.old.number seat.old.seats seat.new.seat seat.new.number seat.new.seats }
-    ensures notes { Notes (words_of seat.old.seat) sweep.now.count marks.now cells.old cells.new (sizes_of sweep.now) order (sizes_of sweep.now).rows }
+    ensures again { LoadsAgain sweep.now seat.old.seat seat.old.number seat.old.seats seat.new.seat
+        seat.new.number seat.new.seats }
+    ensures notes { Notes (words_of seat.old.seat) sweep.now.count marks.now cells.old cells.new
+        (sizes_of sweep.now) order (sizes_of sweep.now).rows }
     ensures size { length cells.new ≡ length cells.old }
 {
     let mut free = 0;
@@ -141,8 +152,10 @@ fn compare_head(sweep: &Sweep<'_>, seat: &mut Seat<NodeRows>, heads: &mut [u32],
     requires heads { length heads.old ≡ (sizes_of sweep.now).buckets }
     requires small { get_or heads.old b 0 < 4294967295 }
     ensures at { HasGathered sweep.now seat.new.seat seat.new.number seat.new.seats }
-    ensures again { LoadsAgain sweep.now seat.old.seat seat.old.number seat.old.seats seat.new.seat seat.new.number seat.new.seats }
-    ensures tells { told_by (words_of seat.old.seat (Bucket b)) (get_or heads.new b 0) ≡ get_or heads.old b 0 }
+    ensures again { LoadsAgain sweep.now seat.old.seat seat.old.number seat.old.seats seat.new.seat
+        seat.new.number seat.new.seats }
+    ensures tells { told_by (words_of seat.old.seat (Bucket b)) (get_or heads.new b 0)
+        ≡ get_or heads.old b 0 }
     ensures others { (d : ℕ) → d ≢ b → get_or heads.new d 0 ≡ get_or heads.old d 0 }
     ensures size { length heads.new ≡ length heads.old }
 {
@@ -157,8 +170,10 @@ fn compare_heads(sweep: &Sweep<'_>, seat: &mut Seat<NodeRows>, heads: &mut [u32]
     requires heads { length heads.old ≡ (sizes_of sweep.now).buckets }
     requires small { (b : ℕ) → b < in_use → get_or heads.old b 0 < 4294967295 }
     ensures at { HasGathered sweep.now seat.new.seat seat.new.number seat.new.seats }
-    ensures again { LoadsAgain sweep.now seat.old.seat seat.old.number seat.old.seats seat.new.seat seat.new.number seat.new.seats }
-    ensures tells { (b : ℕ) → b < in_use → told_by (words_of seat.old.seat (Bucket b)) (get_or heads.new b 0) ≡ get_or heads.old b 0 }
+    ensures again { LoadsAgain sweep.now seat.old.seat seat.old.number seat.old.seats seat.new.seat
+        seat.new.number seat.new.seats }
+    ensures tells { (b : ℕ) → b < in_use → told_by (words_of seat.old.seat (Bucket b))
+        (get_or heads.new b 0) ≡ get_or heads.old b 0 }
     ensures size { length heads.new ≡ length heads.old }
 {
     for b in 0..in_use {
@@ -175,12 +190,16 @@ pub(crate) fn compare_all(
     heads: &mut [u32],
     kept: Kept,
 )
-    requires out { IsWorkedOut sweep.now seat.old.seat seat.old.number seat.old.seats marks.now nexts.old heads.old kept.live kept.buckets }
+    requires out { IsWorkedOut sweep.now seat.old.seat seat.old.number seat.old.seats marks.now
+        nexts.old heads.old kept.live kept.buckets }
     requires nexts { length nexts.old ≡ (sizes_of sweep.now).rows }
     requires heads { length heads.old ≡ (sizes_of sweep.now).buckets }
-    ensures stays { StaysSeat seat.old.seat seat.old.number seat.old.seats seat.new.seat seat.new.number seat.new.seats }
-    ensures compared { IsCompared sweep.now seat.new.seat seat.new.number seat.new.seats marks.now nexts.new heads.new kept.live kept.buckets }
-    ensures lengths { (length nexts.new ≡ length nexts.old) × (length heads.new ≡ length heads.old) }
+    ensures stays { StaysSeat seat.old.seat seat.old.number seat.old.seats seat.new.seat
+        seat.new.number seat.new.seats }
+    ensures compared { IsCompared sweep.now seat.new.seat seat.new.number seat.new.seats marks.now
+        nexts.new heads.new kept.live kept.buckets }
+    ensures lengths { (length nexts.new ≡ length nexts.old)
+        × (length heads.new ≡ length heads.old) }
 {
     let order = order_for(&sweep.store.sizes, kept.live);
     compare_rows(sweep, seat, marks, nexts, order);

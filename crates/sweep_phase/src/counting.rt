@@ -29,7 +29,8 @@ pub(crate) fn count_marked(marks: &Marks, rows: u32) -> u32
     count
 }
 
-/// The buckets in use after a collection that keeps so many rows: twice as many, up to all, where twice the rows exceed them.
+/// The buckets in use after a collection that keeps so many rows: twice as many, up to all, where
+/// twice the rows exceed them.
 pub(crate) fn buckets_after(sizes: &Sizes, in_use: u32, live: u32) -> u32
     requires used { (0 < in_use) × (in_use ≤ sizes.now.buckets) }
     ensures grown { result ≡ grown_use sizes.now in_use live }

@@ -13,10 +13,11 @@ use node_rows::{Pass, Store};
 use term_create::{Full, create_inside};
 use term_model::{Head, Row};
 
-/// Creates a head over rows in exclusive access, after a collection of this access that answered Ok: gives the row that has it, or
-/// makes one where a row is free. `Full` comes exactly where each row has a tree, and none has the asked one: right after the
-/// collection the crowd has as many trees as there are rows then, and lacks the tree. What is noted, and
-/// which arguments it may have, is as in `create`; rows that the pass got before the collection don't count.
+/// Creates a head over rows in exclusive access, after a collection of this access that answered
+/// Ok: gives the row that has it, or makes one where a row is free. `Full` comes exactly where each
+/// row has a tree, and none has the asked one: right after the collection the crowd has as many
+/// trees as there are rows then, and lacks the tree. What is noted, and which arguments it may
+/// have, is as in `create`; rows that the pass got before the collection don't count.
 pub fn create_exclusive(
     store: &Store,
     pass: &mut Pass,
@@ -43,7 +44,8 @@ pub fn create_exclusive(
     ensures full_only_where_read_full { IfErr result (λ _.
         KeepsCause (view_of pass.old).store (view_of pass.new).store
         head (names args.now)) }
-    ensures full_gets_none { IfErr result (λ _. GetsNone (view_of pass.old).store (view_of pass.new).store) }
+    ensures full_gets_none { IfErr result
+        (λ _. GetsNone (view_of pass.old).store (view_of pass.new).store) }
     ensures rest { KeepsRest (view_of pass.old).store (view_of pass.new).store }
 {
     create_inside(store, pass, head, args)

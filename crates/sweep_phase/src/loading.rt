@@ -23,7 +23,8 @@ pub(crate) fn load(sweep: &Sweep<'_>, seat: &mut Seat<NodeRows>, word: usize, pl
     requires there { in_table (sizes_of sweep.now) place ≡ true }
     requires word { word ≡ index_of (sizes_of sweep.now) place }
     ensures at { Gathers sweep.now seat.new.seat seat.new.number seat.new.seats }
-    ensures more { LoadsMore seat.old.seat seat.old.number seat.old.seats seat.new.seat seat.new.number seat.new.seats }
+    ensures more { LoadsMore seat.old.seat seat.old.number seat.old.seats seat.new.seat
+        seat.new.number seat.new.seats }
     ensures pushed { loads_of seat.new.seat ≡ loads_of seat.old.seat ++ (place, result) ∷ [] }
     ensures loaded { value_at place (loads_of seat.new.seat) ≡ Some result }
 {
@@ -34,7 +35,8 @@ pub(crate) fn load(sweep: &Sweep<'_>, seat: &mut Seat<NodeRows>, word: usize, pl
 fn load_in_use(sweep: &Sweep<'_>, seat: &mut Seat<NodeRows>)
     requires at { Gathers sweep.now seat.old.seat seat.old.number seat.old.seats }
     ensures at { Gathers sweep.now seat.new.seat seat.new.number seat.new.seats }
-    ensures more { LoadsMore seat.old.seat seat.old.number seat.old.seats seat.new.seat seat.new.number seat.new.seats }
+    ensures more { LoadsMore seat.old.seat seat.old.number seat.old.seats seat.new.seat
+        seat.new.number seat.new.seats }
     ensures loaded { IsLoaded InUse (loads_of seat.new.seat) }
 {
     let word = in_use_word(&sweep.store.sizes);
@@ -46,7 +48,8 @@ fn load_place(sweep: &Sweep<'_>, seat: &mut Seat<NodeRows>, i: u32)
     requires at { Gathers sweep.now seat.old.seat seat.old.number seat.old.seats }
     requires below { i < (sizes_of sweep.now).rows }
     ensures at { Gathers sweep.now seat.new.seat seat.new.number seat.new.seats }
-    ensures more { LoadsMore seat.old.seat seat.old.number seat.old.seats seat.new.seat seat.new.number seat.new.seats }
+    ensures more { LoadsMore seat.old.seat seat.old.number seat.old.seats seat.new.seat
+        seat.new.number seat.new.seats }
     ensures loaded { IsLoaded (FreePlace i) (loads_of seat.new.seat) }
 {
     let word = free_place_word(&sweep.store.sizes, u64::from(i));
@@ -57,8 +60,10 @@ fn load_place(sweep: &Sweep<'_>, seat: &mut Seat<NodeRows>, i: u32)
 fn load_places(sweep: &Sweep<'_>, seat: &mut Seat<NodeRows>)
     requires at { Gathers sweep.now seat.old.seat seat.old.number seat.old.seats }
     ensures at { Gathers sweep.now seat.new.seat seat.new.number seat.new.seats }
-    ensures more { LoadsMore seat.old.seat seat.old.number seat.old.seats seat.new.seat seat.new.number seat.new.seats }
-    ensures loaded { (i : ℕ) → i < sweep.now.count → IsLoaded (FreePlace i) (loads_of seat.new.seat) }
+    ensures more { LoadsMore seat.old.seat seat.old.number seat.old.seats seat.new.seat
+        seat.new.number seat.new.seats }
+    ensures loaded { (i : ℕ) → i < sweep.now.count
+        → IsLoaded (FreePlace i) (loads_of seat.new.seat) }
 {
     for i in 0..sweep.count as u32 {
         load_place(sweep, seat, i);
@@ -70,7 +75,8 @@ fn load_bucket(sweep: &Sweep<'_>, seat: &mut Seat<NodeRows>, b: u32)
     requires at { Gathers sweep.now seat.old.seat seat.old.number seat.old.seats }
     requires below { b < (sizes_of sweep.now).buckets }
     ensures at { Gathers sweep.now seat.new.seat seat.new.number seat.new.seats }
-    ensures more { LoadsMore seat.old.seat seat.old.number seat.old.seats seat.new.seat seat.new.number seat.new.seats }
+    ensures more { LoadsMore seat.old.seat seat.old.number seat.old.seats seat.new.seat
+        seat.new.number seat.new.seats }
     ensures loaded { IsLoaded (Bucket b) (loads_of seat.new.seat) }
 {
     let word = bucket_word(&sweep.store.sizes, u64::from(b));
@@ -81,8 +87,10 @@ fn load_bucket(sweep: &Sweep<'_>, seat: &mut Seat<NodeRows>, b: u32)
 fn load_buckets(sweep: &Sweep<'_>, seat: &mut Seat<NodeRows>)
     requires at { Gathers sweep.now seat.old.seat seat.old.number seat.old.seats }
     ensures at { Gathers sweep.now seat.new.seat seat.new.number seat.new.seats }
-    ensures more { LoadsMore seat.old.seat seat.old.number seat.old.seats seat.new.seat seat.new.number seat.new.seats }
-    ensures loaded { (b : ℕ) → b < (sizes_of sweep.now).buckets → IsLoaded (Bucket b) (loads_of seat.new.seat) }
+    ensures more { LoadsMore seat.old.seat seat.old.number seat.old.seats seat.new.seat
+        seat.new.number seat.new.seats }
+    ensures loaded { (b : ℕ) → b < (sizes_of sweep.now).buckets
+        → IsLoaded (Bucket b) (loads_of seat.new.seat) }
 {
     for b in 0..sweep.store.sizes.buckets {
         load_bucket(sweep, seat, b);
@@ -103,7 +111,8 @@ fn load_word(sweep: &Sweep<'_>, seat: &mut Seat<NodeRows>, row: u32, k: u32)
     requires below { row < (sizes_of sweep.now).rows }
     requires within { k < widest (sizes_of sweep.now) + 2 }
     ensures at { Gathers sweep.now seat.new.seat seat.new.number seat.new.seats }
-    ensures more { LoadsMore seat.old.seat seat.old.number seat.old.seats seat.new.seat seat.new.number seat.new.seats }
+    ensures more { LoadsMore seat.old.seat seat.old.number seat.old.seats seat.new.seat
+        seat.new.number seat.new.seats }
     ensures loaded { IsLoaded (RowWord row k) (loads_of seat.new.seat) }
 {
     let word = word_in(sweep.store, u64::from(row), k as usize);
@@ -115,8 +124,10 @@ fn load_words(sweep: &Sweep<'_>, seat: &mut Seat<NodeRows>, row: u32)
     requires at { Gathers sweep.now seat.old.seat seat.old.number seat.old.seats }
     requires below { row < (sizes_of sweep.now).rows }
     ensures at { Gathers sweep.now seat.new.seat seat.new.number seat.new.seats }
-    ensures more { LoadsMore seat.old.seat seat.old.number seat.old.seats seat.new.seat seat.new.number seat.new.seats }
-    ensures loaded { (k : ℕ) → k < widest (sizes_of sweep.now) + 2 → IsLoaded (RowWord row k) (loads_of seat.new.seat) }
+    ensures more { LoadsMore seat.old.seat seat.old.number seat.old.seats seat.new.seat
+        seat.new.number seat.new.seats }
+    ensures loaded { (k : ℕ) → k < widest (sizes_of sweep.now) + 2
+        → IsLoaded (RowWord row k) (loads_of seat.new.seat) }
 {
     for k in 0..word_count(&sweep.store.sizes) {
         load_word(sweep, seat, row, k);
@@ -128,7 +139,8 @@ fn load_links(sweep: &Sweep<'_>, seat: &mut Seat<NodeRows>, row: u32)
     requires at { Gathers sweep.now seat.old.seat seat.old.number seat.old.seats }
     requires below { row < (sizes_of sweep.now).rows }
     ensures at { Gathers sweep.now seat.new.seat seat.new.number seat.new.seats }
-    ensures more { LoadsMore seat.old.seat seat.old.number seat.old.seats seat.new.seat seat.new.number seat.new.seats }
+    ensures more { LoadsMore seat.old.seat seat.old.number seat.old.seats seat.new.seat
+        seat.new.number seat.new.seats }
     ensures birth { IsLoaded (Birth row) (loads_of seat.new.seat) }
     ensures next { IsLoaded (Next row) (loads_of seat.new.seat) }
 {
@@ -143,7 +155,8 @@ fn load_row(sweep: &Sweep<'_>, seat: &mut Seat<NodeRows>, row: u32)
     requires at { Gathers sweep.now seat.old.seat seat.old.number seat.old.seats }
     requires below { row < (sizes_of sweep.now).rows }
     ensures at { Gathers sweep.now seat.new.seat seat.new.number seat.new.seats }
-    ensures more { LoadsMore seat.old.seat seat.old.number seat.old.seats seat.new.seat seat.new.number seat.new.seats }
+    ensures more { LoadsMore seat.old.seat seat.old.number seat.old.seats seat.new.seat
+        seat.new.number seat.new.seats }
     ensures loaded { HasRow (sizes_of sweep.now) (loads_of seat.new.seat) row }
 {
     load_words(sweep, seat, row);
@@ -154,8 +167,10 @@ fn load_row(sweep: &Sweep<'_>, seat: &mut Seat<NodeRows>, row: u32)
 fn load_rows(sweep: &Sweep<'_>, seat: &mut Seat<NodeRows>)
     requires at { Gathers sweep.now seat.old.seat seat.old.number seat.old.seats }
     ensures at { Gathers sweep.now seat.new.seat seat.new.number seat.new.seats }
-    ensures more { LoadsMore seat.old.seat seat.old.number seat.old.seats seat.new.seat seat.new.number seat.new.seats }
-    ensures loaded { (r : ℕ) → r < (sizes_of sweep.now).rows → HasRow (sizes_of sweep.now) (loads_of seat.new.seat) r }
+    ensures more { LoadsMore seat.old.seat seat.old.number seat.old.seats seat.new.seat
+        seat.new.number seat.new.seats }
+    ensures loaded { (r : ℕ) → r < (sizes_of sweep.now).rows
+        → HasRow (sizes_of sweep.now) (loads_of seat.new.seat) r }
 {
     for row in 0..sweep.store.sizes.rows {
         load_row(sweep, seat, row);
@@ -167,7 +182,8 @@ fn load_count(sweep: &Sweep<'_>, seat: &mut Seat<NodeRows>, j: u32) -> u64
     requires at { Gathers sweep.now seat.old.seat seat.old.number seat.old.seats }
     requires below { j < (sizes_of sweep.now).seats }
     ensures at { Gathers sweep.now seat.new.seat seat.new.number seat.new.seats }
-    ensures more { LoadsMore seat.old.seat seat.old.number seat.old.seats seat.new.seat seat.new.number seat.new.seats }
+    ensures more { LoadsMore seat.old.seat seat.old.number seat.old.seats seat.new.seat
+        seat.new.number seat.new.seats }
     ensures loaded { value_at (RootCount j) (loads_of seat.new.seat) ≡ Some result }
     ensures few { result ≤ (sizes_of sweep.now).depth }
 {
@@ -181,7 +197,8 @@ fn load_root(sweep: &Sweep<'_>, seat: &mut Seat<NodeRows>, j: u32, k: u32)
     requires below { j < (sizes_of sweep.now).seats }
     requires within { k < (sizes_of sweep.now).depth }
     ensures at { Gathers sweep.now seat.new.seat seat.new.number seat.new.seats }
-    ensures more { LoadsMore seat.old.seat seat.old.number seat.old.seats seat.new.seat seat.new.number seat.new.seats }
+    ensures more { LoadsMore seat.old.seat seat.old.number seat.old.seats seat.new.seat
+        seat.new.number seat.new.seats }
     ensures loaded { IsLoaded (Root j k) (loads_of seat.new.seat) }
 {
     let word = root_word(&sweep.store.sizes, j, u64::from(k));
@@ -193,7 +210,8 @@ fn load_seat(sweep: &Sweep<'_>, seat: &mut Seat<NodeRows>, j: u32)
     requires at { Gathers sweep.now seat.old.seat seat.old.number seat.old.seats }
     requires below { j < (sizes_of sweep.now).seats }
     ensures at { Gathers sweep.now seat.new.seat seat.new.number seat.new.seats }
-    ensures more { LoadsMore seat.old.seat seat.old.number seat.old.seats seat.new.seat seat.new.number seat.new.seats }
+    ensures more { LoadsMore seat.old.seat seat.old.number seat.old.seats seat.new.seat
+        seat.new.number seat.new.seats }
     ensures loaded { HasRoots (loads_of seat.new.seat) j }
 {
     let count = load_count(sweep, seat, j);
@@ -206,8 +224,10 @@ fn load_seat(sweep: &Sweep<'_>, seat: &mut Seat<NodeRows>, j: u32)
 fn load_seats(sweep: &Sweep<'_>, seat: &mut Seat<NodeRows>)
     requires at { Gathers sweep.now seat.old.seat seat.old.number seat.old.seats }
     ensures at { Gathers sweep.now seat.new.seat seat.new.number seat.new.seats }
-    ensures more { LoadsMore seat.old.seat seat.old.number seat.old.seats seat.new.seat seat.new.number seat.new.seats }
-    ensures loaded { (j : ℕ) → j < (sizes_of sweep.now).seats → HasRoots (loads_of seat.new.seat) j }
+    ensures more { LoadsMore seat.old.seat seat.old.number seat.old.seats seat.new.seat
+        seat.new.number seat.new.seats }
+    ensures loaded { (j : ℕ) → j < (sizes_of sweep.now).seats
+        → HasRoots (loads_of seat.new.seat) j }
 {
     for j in 0..sweep.store.sizes.seats {
         load_seat(sweep, seat, j);
@@ -218,7 +238,8 @@ fn load_seats(sweep: &Sweep<'_>, seat: &mut Seat<NodeRows>)
 fn load_lists(sweep: &Sweep<'_>, seat: &mut Seat<NodeRows>)
     requires at { Gathers sweep.now seat.old.seat seat.old.number seat.old.seats }
     ensures at { Gathers sweep.now seat.new.seat seat.new.number seat.new.seats }
-    ensures more { LoadsMore seat.old.seat seat.old.number seat.old.seats seat.new.seat seat.new.number seat.new.seats }
+    ensures more { LoadsMore seat.old.seat seat.old.number seat.old.seats seat.new.seat
+        seat.new.number seat.new.seats }
     ensures loaded { HasLists (sizes_of sweep.now) sweep.now.count (loads_of seat.new.seat) }
 {
     load_in_use(sweep, seat);
@@ -230,7 +251,8 @@ fn load_lists(sweep: &Sweep<'_>, seat: &mut Seat<NodeRows>)
 pub(crate) fn load_all(sweep: &Sweep<'_>, seat: &mut Seat<NodeRows>)
     requires at { Gathers sweep.now seat.old.seat seat.old.number seat.old.seats }
     ensures at { HasGathered sweep.now seat.new.seat seat.new.number seat.new.seats }
-    ensures more { LoadsMore seat.old.seat seat.old.number seat.old.seats seat.new.seat seat.new.number seat.new.seats }
+    ensures more { LoadsMore seat.old.seat seat.old.number seat.old.seats seat.new.seat
+        seat.new.number seat.new.seats }
 {
     load_lists(sweep, seat);
     load_rows(sweep, seat);

@@ -63,8 +63,10 @@ fn mark_root(sweep: &Sweep<'_>, seat: &mut Seat<NodeRows>, marks: &mut Marks, ro
     requires size { length marks.old ≡ (sizes_of sweep.now).rows }
     requires closed { IsClosed (children_of (words_of seat.old.seat)) marks.old }
     ensures at { HasGathered sweep.now seat.new.seat seat.new.number seat.new.seats }
-    ensures again { LoadsAgain sweep.now seat.old.seat seat.old.number seat.old.seats seat.new.seat seat.new.number seat.new.seats }
-    ensures marked { AddsReached (children_of (words_of seat.old.seat)) (row_of row) marks.old marks.new }
+    ensures again { LoadsAgain sweep.now seat.old.seat seat.old.number seat.old.seats seat.new.seat
+        seat.new.number seat.new.seats }
+    ensures marked { AddsReached (children_of (words_of seat.old.seat)) (row_of row) marks.old
+        marks.new }
 {
     let mut reading = Reading { sweep, seat };
     mark(&mut reading, Row(row), marks);
@@ -77,7 +79,8 @@ fn mark_one(sweep: &Sweep<'_>, seat: &mut Seat<NodeRows>, marks: &mut Marks, j: 
     requires within { k < words_of seat.old.seat (RootCount j) }
     requires marks { MarksTo (words_of seat.old.seat) (sizes_of sweep.now).rows j k marks.old }
     ensures at { HasGathered sweep.now seat.new.seat seat.new.number seat.new.seats }
-    ensures again { LoadsAgain sweep.now seat.old.seat seat.old.number seat.old.seats seat.new.seat seat.new.number seat.new.seats }
+    ensures again { LoadsAgain sweep.now seat.old.seat seat.old.number seat.old.seats seat.new.seat
+        seat.new.number seat.new.seats }
     ensures marks { MarksTo (words_of seat.old.seat) (sizes_of sweep.now).rows j (k + 1) marks.new }
 {
     let row = root_of(sweep, seat, j, k);
@@ -90,7 +93,8 @@ fn mark_seat(sweep: &Sweep<'_>, seat: &mut Seat<NodeRows>, marks: &mut Marks, j:
     requires below { j < (sizes_of sweep.now).seats }
     requires marks { MarksTo (words_of seat.old.seat) (sizes_of sweep.now).rows j 0 marks.old }
     ensures at { HasGathered sweep.now seat.new.seat seat.new.number seat.new.seats }
-    ensures again { LoadsAgain sweep.now seat.old.seat seat.old.number seat.old.seats seat.new.seat seat.new.number seat.new.seats }
+    ensures again { LoadsAgain sweep.now seat.old.seat seat.old.number seat.old.seats seat.new.seat
+        seat.new.number seat.new.seats }
     ensures marks { MarksTo (words_of seat.old.seat) (sizes_of sweep.now).rows (j + 1) 0 marks.new }
 {
     let count = root_count_of(sweep, seat, j);
@@ -104,7 +108,8 @@ pub(crate) fn mark_all(sweep: &Sweep<'_>, seat: &mut Seat<NodeRows>, marks: &mut
     requires at { HasGathered sweep.now seat.old.seat seat.old.number seat.old.seats }
     requires size { length marks.old ≡ (sizes_of sweep.now).rows }
     ensures at { HasGathered sweep.now seat.new.seat seat.new.number seat.new.seats }
-    ensures again { LoadsAgain sweep.now seat.old.seat seat.old.number seat.old.seats seat.new.seat seat.new.number seat.new.seats }
+    ensures again { LoadsAgain sweep.now seat.old.seat seat.old.number seat.old.seats seat.new.seat
+        seat.new.number seat.new.seats }
     ensures marks { MarksReached (words_of seat.old.seat) (sizes_of sweep.now).rows marks.new }
 {
     marks.clear();

@@ -22,7 +22,8 @@ fn collect_and_leave(store: &Store, pass: &mut Pass) -> Result<Kept, Worn>
     ensures same { IsSamePass pass.old pass.new }
     ensures out { IsOut (view_of pass.new) }
     ensures told { Tells pass.new }
-    ensures leaves { Leaves store.now.sizes pass.new.seat.number (view_of pass.old).store (view_of pass.new).store result }
+    ensures leaves { Leaves store.now.sizes pass.new.seat.number (view_of pass.old).store
+        (view_of pass.new).store result }
     ensures crowd { IfOk result (λ kept. HasKept (view_of pass.new) kept.live) }
     ensures same_crowd { IfErr result (λ _. (view_of pass.new).crowd ≡ (view_of pass.old).crowd) }
 {
@@ -31,8 +32,9 @@ fn collect_and_leave(store: &Store, pass: &mut Pass) -> Result<Kept, Worn>
     result
 }
 
-/// Enters exclusive access without a wait, collects, and leaves. `Busy` comes exactly where the entry answered it, and nothing of
-/// the store is known then that wasn't before; `Worn` as in `collect`. A granted entry notes Roots at its end, after a `Worn` too.
+/// Enters exclusive access without a wait, collects, and leaves. `Busy` comes exactly where the
+/// entry answered it, and nothing of the store is known then that wasn't before; `Worn` as in
+/// `collect`. A granted entry notes Roots at its end, after a `Worn` too.
 pub fn collect_now(store: &Store, pass: &mut Pass) -> Result<Kept, TryCollect>
     requires of { IsPassOf store.now pass.old }
     requires out { IsOut (view_of pass.old) }
@@ -41,7 +43,8 @@ pub fn collect_now(store: &Store, pass: &mut Pass) -> Result<Kept, TryCollect>
     ensures same { IsSamePass pass.old pass.new }
     ensures out { IsOut (view_of pass.new) }
     ensures told { Tells pass.new }
-    ensures answers { Answers store.now.sizes pass.new.seat.number pass.new.seat.seats (view_of pass.old) (view_of pass.new) result }
+    ensures answers { Answers store.now.sizes pass.new.seat.number pass.new.seat.seats
+        (view_of pass.old) (view_of pass.new) result }
     ensures crowd { IfOk result (λ kept. HasKept (view_of pass.new) kept.live) }
     ensures same_crowd { IfErr result (λ _. (view_of pass.new).crowd ≡ (view_of pass.old).crowd) }
 {

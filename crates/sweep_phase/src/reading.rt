@@ -21,7 +21,8 @@ fn reload(sweep: &Sweep<'_>, seat: &mut Seat<NodeRows>, word: usize, place: Plac
     requires there { in_table (sizes_of sweep.now) place ≡ true }
     requires word { word ≡ index_of (sizes_of sweep.now) place }
     ensures at { HasGathered sweep.now seat.new.seat seat.new.number seat.new.seats }
-    ensures again { LoadsAgain sweep.now seat.old.seat seat.old.number seat.old.seats seat.new.seat seat.new.number seat.new.seats }
+    ensures again { LoadsAgain sweep.now seat.old.seat seat.old.number seat.old.seats seat.new.seat
+        seat.new.number seat.new.seats }
     ensures value { result ≡ words_of seat.old.seat place }
 {
     load(sweep, seat, word, place)
@@ -33,7 +34,8 @@ pub(crate) fn row_word_of(sweep: &Sweep<'_>, seat: &mut Seat<NodeRows>, row: u32
     requires below { row < (sizes_of sweep.now).rows }
     requires within { k < widest (sizes_of sweep.now) + 2 }
     ensures at { HasGathered sweep.now seat.new.seat seat.new.number seat.new.seats }
-    ensures again { LoadsAgain sweep.now seat.old.seat seat.old.number seat.old.seats seat.new.seat seat.new.number seat.new.seats }
+    ensures again { LoadsAgain sweep.now seat.old.seat seat.old.number seat.old.seats seat.new.seat
+        seat.new.number seat.new.seats }
     ensures value { result ≡ words_of seat.old.seat (RowWord row k) }
 {
     let word = word_in(sweep.store, u64::from(row), k as usize);
@@ -45,7 +47,8 @@ pub(crate) fn root_count_of(sweep: &Sweep<'_>, seat: &mut Seat<NodeRows>, j: u32
     requires at { HasGathered sweep.now seat.old.seat seat.old.number seat.old.seats }
     requires below { j < (sizes_of sweep.now).seats }
     ensures at { HasGathered sweep.now seat.new.seat seat.new.number seat.new.seats }
-    ensures again { LoadsAgain sweep.now seat.old.seat seat.old.number seat.old.seats seat.new.seat seat.new.number seat.new.seats }
+    ensures again { LoadsAgain sweep.now seat.old.seat seat.old.number seat.old.seats seat.new.seat
+        seat.new.number seat.new.seats }
     ensures value { result ≡ words_of seat.old.seat (RootCount j) }
     ensures few { result ≤ (sizes_of sweep.now).depth }
 {
@@ -59,7 +62,8 @@ pub(crate) fn root_of(sweep: &Sweep<'_>, seat: &mut Seat<NodeRows>, j: u32, k: u
     requires below { j < (sizes_of sweep.now).seats }
     requires within { k < words_of seat.old.seat (RootCount j) }
     ensures at { HasGathered sweep.now seat.new.seat seat.new.number seat.new.seats }
-    ensures again { LoadsAgain sweep.now seat.old.seat seat.old.number seat.old.seats seat.new.seat seat.new.number seat.new.seats }
+    ensures again { LoadsAgain sweep.now seat.old.seat seat.old.number seat.old.seats seat.new.seat
+        seat.new.number seat.new.seats }
     ensures value { result ≡ words_of seat.old.seat (Root j k) }
 {
     let word = root_word(&sweep.store.sizes, j, u64::from(k));
@@ -71,7 +75,8 @@ pub(crate) fn count_of(sweep: &Sweep<'_>, seat: &mut Seat<NodeRows>, row: u32) -
     requires at { HasGathered sweep.now seat.old.seat seat.old.number seat.old.seats }
     requires reached { ReachesByWords (words_of seat.old.seat) row }
     ensures at { HasGathered sweep.now seat.new.seat seat.new.number seat.new.seats }
-    ensures again { LoadsAgain sweep.now seat.old.seat seat.old.number seat.old.seats seat.new.seat seat.new.number seat.new.seats }
+    ensures again { LoadsAgain sweep.now seat.old.seat seat.old.number seat.old.seats seat.new.seat
+        seat.new.number seat.new.seats }
     ensures value { result ≡ words_of seat.old.seat (RowWord row 1) }
     ensures few { result ≤ widest (sizes_of sweep.now) }
 {
@@ -84,7 +89,8 @@ pub(crate) fn child_of(sweep: &Sweep<'_>, seat: &mut Seat<NodeRows>, row: u32, j
     requires reached { ReachesByWords (words_of seat.old.seat) row }
     requires below { j < words_of seat.old.seat (RowWord row 1) }
     ensures at { HasGathered sweep.now seat.new.seat seat.new.number seat.new.seats }
-    ensures again { LoadsAgain sweep.now seat.old.seat seat.old.number seat.old.seats seat.new.seat seat.new.number seat.new.seats }
+    ensures again { LoadsAgain sweep.now seat.old.seat seat.old.number seat.old.seats seat.new.seat
+        seat.new.number seat.new.seats }
     ensures value { result ≡ words_of seat.old.seat (RowWord row (j + 2)) }
 {
     row_word_of(sweep, seat, row, j + 2) as u32
@@ -95,7 +101,8 @@ pub(crate) fn next_of(sweep: &Sweep<'_>, seat: &mut Seat<NodeRows>, row: u32) ->
     requires at { HasGathered sweep.now seat.old.seat seat.old.number seat.old.seats }
     requires below { row < (sizes_of sweep.now).rows }
     ensures at { HasGathered sweep.now seat.new.seat seat.new.number seat.new.seats }
-    ensures again { LoadsAgain sweep.now seat.old.seat seat.old.number seat.old.seats seat.new.seat seat.new.number seat.new.seats }
+    ensures again { LoadsAgain sweep.now seat.old.seat seat.old.number seat.old.seats seat.new.seat
+        seat.new.number seat.new.seats }
     ensures value { result ≡ words_of seat.old.seat (Next row) }
 {
     let word = next_place(sweep.store, u64::from(row));
@@ -107,7 +114,8 @@ pub(crate) fn head_of(sweep: &Sweep<'_>, seat: &mut Seat<NodeRows>, b: u32) -> u
     requires at { HasGathered sweep.now seat.old.seat seat.old.number seat.old.seats }
     requires below { b < (sizes_of sweep.now).buckets }
     ensures at { HasGathered sweep.now seat.new.seat seat.new.number seat.new.seats }
-    ensures again { LoadsAgain sweep.now seat.old.seat seat.old.number seat.old.seats seat.new.seat seat.new.number seat.new.seats }
+    ensures again { LoadsAgain sweep.now seat.old.seat seat.old.number seat.old.seats seat.new.seat
+        seat.new.number seat.new.seats }
     ensures value { result ≡ words_of seat.old.seat (Bucket b) }
 {
     let word = bucket_word(&sweep.store.sizes, u64::from(b));
@@ -119,7 +127,8 @@ pub(crate) fn place_of(sweep: &Sweep<'_>, seat: &mut Seat<NodeRows>, i: u32) -> 
     requires at { HasGathered sweep.now seat.old.seat seat.old.number seat.old.seats }
     requires below { i < sweep.now.count }
     ensures at { HasGathered sweep.now seat.new.seat seat.new.number seat.new.seats }
-    ensures again { LoadsAgain sweep.now seat.old.seat seat.old.number seat.old.seats seat.new.seat seat.new.number seat.new.seats }
+    ensures again { LoadsAgain sweep.now seat.old.seat seat.old.number seat.old.seats seat.new.seat
+        seat.new.number seat.new.seats }
     ensures value { result ≡ words_of seat.old.seat (FreePlace i) }
 {
     let word = free_place_word(&sweep.store.sizes, u64::from(i));

@@ -35,7 +35,8 @@ pub(crate) fn put(
     requires stored { is_stored place ≡ true }
     requires word { word ≡ index_of (sizes_of sweep.now) place }
     ensures at { Stores sweep.now seat.new.seat seat.new.number seat.new.seats }
-    ensures more { StoresMore seat.old.seat seat.old.number seat.old.seats seat.new.seat seat.new.number seat.new.seats }
+    ensures more { StoresMore seat.old.seat seat.old.number seat.old.seats seat.new.seat
+        seat.new.number seat.new.seats }
     ensures storing { is_storing seat.new.seat.me.0.store.call ≡ true }
     ensures has { HasSeen seat.new.seat.me.0.store place }
     ensures words { seen_of seat.new.seat ≡ write (seen_of seat.old.seat) place value }
@@ -58,7 +59,8 @@ pub(crate) fn put_over(
     requires word { word ≡ index_of (sizes_of sweep.now) place }
     requires seen { (seen_of seat.old.seat place ≡ old) × HasSeen seat.old.seat.me.0.store place }
     ensures at { Stores sweep.now seat.new.seat seat.new.number seat.new.seats }
-    ensures more { StoresMore seat.old.seat seat.old.number seat.old.seats seat.new.seat seat.new.number seat.new.seats }
+    ensures more { StoresMore seat.old.seat seat.old.number seat.old.seats seat.new.seat
+        seat.new.number seat.new.seats }
     ensures has { HasSeen seat.new.seat.me.0.store place }
     ensures words { seen_of seat.new.seat ≡ write (seen_of seat.old.seat) place value }
 {
@@ -75,8 +77,10 @@ fn put_cell(sweep: &Sweep<'_>, seat: &mut Seat<NodeRows>, word: usize, place: Pl
     requires stored { is_stored place ≡ true }
     requires word { word ≡ index_of (sizes_of sweep.now) place }
     ensures at { Stores sweep.now seat.new.seat seat.new.number seat.new.seats }
-    ensures more { StoresMore seat.old.seat seat.old.number seat.old.seats seat.new.seat seat.new.number seat.new.seats }
-    ensures words { seen_of seat.new.seat ≡ write (seen_of seat.old.seat) place (told_by (seen_of seat.old.seat place) cell) }
+    ensures more { StoresMore seat.old.seat seat.old.number seat.old.seats seat.new.seat
+        seat.new.number seat.new.seats }
+    ensures words { seen_of seat.new.seat ≡ write (seen_of seat.old.seat) place
+        (told_by (seen_of seat.old.seat place) cell) }
 {
     if cell == UNCHANGED {
         return;
@@ -89,8 +93,10 @@ fn put_next(sweep: &Sweep<'_>, seat: &mut Seat<NodeRows>, row: u32, cell: u32)
     requires at { Stores sweep.now seat.old.seat seat.old.number seat.old.seats }
     requires below { row < (sizes_of sweep.now).rows }
     ensures at { Stores sweep.now seat.new.seat seat.new.number seat.new.seats }
-    ensures more { StoresMore seat.old.seat seat.old.number seat.old.seats seat.new.seat seat.new.number seat.new.seats }
-    ensures words { seen_of seat.new.seat ≡ write (seen_of seat.old.seat) (Next row) (told_by (seen_of seat.old.seat (Next row)) cell) }
+    ensures more { StoresMore seat.old.seat seat.old.number seat.old.seats seat.new.seat
+        seat.new.number seat.new.seats }
+    ensures words { seen_of seat.new.seat ≡ write (seen_of seat.old.seat) (Next row)
+        (told_by (seen_of seat.old.seat (Next row)) cell) }
 {
     let word = next_place(sweep.store, u64::from(row));
     put_cell(sweep, seat, word, Place::Next(row), cell);
@@ -103,9 +109,12 @@ fn store_next(sweep: &Sweep<'_>, seat: &mut Seat<NodeRows>, marks: &Marks, nexts
     requires nexts { length nexts.now ≡ (sizes_of sweep.now).rows }
     requires below { row < (sizes_of sweep.now).rows }
     ensures at { Stores sweep.now seat.new.seat seat.new.number seat.new.seats }
-    ensures more { StoresMore seat.old.seat seat.old.number seat.old.seats seat.new.seat seat.new.number seat.new.seats }
-    ensures next { IsMarked marks.now row → seen_of seat.new.seat (Next row) ≡ told_by (seen_of seat.old.seat (Next row)) (get_or nexts.now row 0) }
-    ensures others { (p : Place) → same_place p (Next row) ≡ false → seen_of seat.new.seat p ≡ seen_of seat.old.seat p }
+    ensures more { StoresMore seat.old.seat seat.old.number seat.old.seats seat.new.seat
+        seat.new.number seat.new.seats }
+    ensures next { IsMarked marks.now row → seen_of seat.new.seat (Next row)
+        ≡ told_by (seen_of seat.old.seat (Next row)) (get_or nexts.now row 0) }
+    ensures others { (p : Place) → same_place p (Next row) ≡ false → seen_of seat.new.seat p
+        ≡ seen_of seat.old.seat p }
 {
     if !marks.has(Row(row)) {
         return;
@@ -124,10 +133,13 @@ pub(crate) fn store_nexts(
     requires marks { length marks.now ≡ (sizes_of sweep.now).rows }
     requires nexts { length nexts.now ≡ (sizes_of sweep.now).rows }
     ensures at { Stores sweep.now seat.new.seat seat.new.number seat.new.seats }
-    ensures more { StoresMore seat.old.seat seat.old.number seat.old.seats seat.new.seat seat.new.number seat.new.seats }
+    ensures more { StoresMore seat.old.seat seat.old.number seat.old.seats seat.new.seat
+        seat.new.number seat.new.seats }
     ensures nexts { (r : ℕ) → r < (sizes_of sweep.now).rows → IsMarked marks.now r
-        → seen_of seat.new.seat (Next r) ≡ told_by (seen_of seat.old.seat (Next r)) (get_or nexts.now r 0) }
-    ensures others { (p : Place) → is_next p ≡ false → seen_of seat.new.seat p ≡ seen_of seat.old.seat p }
+        → seen_of seat.new.seat (Next r) ≡ told_by (seen_of seat.old.seat (Next r))
+        (get_or nexts.now r 0) }
+    ensures others { (p : Place) → is_next p ≡ false → seen_of seat.new.seat p
+        ≡ seen_of seat.old.seat p }
 {
     for row in 0..sweep.store.sizes.rows {
         store_next(sweep, seat, marks, nexts, row);
@@ -139,8 +151,10 @@ fn store_head(sweep: &Sweep<'_>, seat: &mut Seat<NodeRows>, b: u32, cell: u32)
     requires at { Stores sweep.now seat.old.seat seat.old.number seat.old.seats }
     requires below { b < (sizes_of sweep.now).buckets }
     ensures at { Stores sweep.now seat.new.seat seat.new.number seat.new.seats }
-    ensures more { StoresMore seat.old.seat seat.old.number seat.old.seats seat.new.seat seat.new.number seat.new.seats }
-    ensures words { seen_of seat.new.seat ≡ write (seen_of seat.old.seat) (Bucket b) (told_by (seen_of seat.old.seat (Bucket b)) cell) }
+    ensures more { StoresMore seat.old.seat seat.old.number seat.old.seats seat.new.seat
+        seat.new.number seat.new.seats }
+    ensures words { seen_of seat.new.seat ≡ write (seen_of seat.old.seat) (Bucket b)
+        (told_by (seen_of seat.old.seat (Bucket b)) cell) }
 {
     let word = bucket_word(&sweep.store.sizes, u64::from(b));
     put_cell(sweep, seat, word, Place::Bucket(b), cell);
@@ -152,9 +166,12 @@ pub(crate) fn store_heads(sweep: &Sweep<'_>, seat: &mut Seat<NodeRows>, heads: &
     requires heads { length heads.now ≡ (sizes_of sweep.now).buckets }
     requires within { in_use ≤ (sizes_of sweep.now).buckets }
     ensures at { Stores sweep.now seat.new.seat seat.new.number seat.new.seats }
-    ensures more { StoresMore seat.old.seat seat.old.number seat.old.seats seat.new.seat seat.new.number seat.new.seats }
-    ensures heads { (b : ℕ) → b < in_use → seen_of seat.new.seat (Bucket b) ≡ told_by (seen_of seat.old.seat (Bucket b)) (get_or heads.now b 0) }
-    ensures others { (p : Place) → is_head in_use p ≡ false → seen_of seat.new.seat p ≡ seen_of seat.old.seat p }
+    ensures more { StoresMore seat.old.seat seat.old.number seat.old.seats seat.new.seat
+        seat.new.number seat.new.seats }
+    ensures heads { (b : ℕ) → b < in_use → seen_of seat.new.seat (Bucket b)
+        ≡ told_by (seen_of seat.old.seat (Bucket b)) (get_or heads.now b 0) }
+    ensures others { (p : Place) → is_head in_use p ≡ false → seen_of seat.new.seat p
+        ≡ seen_of seat.old.seat p }
 {
     for b in 0..in_use {
         store_head(sweep, seat, b, heads[b as usize]);
@@ -165,9 +182,11 @@ pub(crate) fn store_heads(sweep: &Sweep<'_>, seat: &mut Seat<NodeRows>, heads: &
 fn put_place(sweep: &Sweep<'_>, seat: &mut Seat<NodeRows>, i: u32, row: u32, cell: u32)
     requires at { Stores sweep.now seat.old.seat seat.old.number seat.old.seats }
     requires below { i < (sizes_of sweep.now).rows }
-    requires held { cell ≡ 4294967295 → (seen_of seat.old.seat (FreePlace i) ≡ row) × HasSeen seat.old.seat.me.0.store (FreePlace i) }
+    requires held { cell ≡ 4294967295 → (seen_of seat.old.seat (FreePlace i) ≡ row)
+        × HasSeen seat.old.seat.me.0.store (FreePlace i) }
     ensures at { Stores sweep.now seat.new.seat seat.new.number seat.new.seats }
-    ensures more { StoresMore seat.old.seat seat.old.number seat.old.seats seat.new.seat seat.new.number seat.new.seats }
+    ensures more { StoresMore seat.old.seat seat.old.number seat.old.seats seat.new.seat
+        seat.new.number seat.new.seats }
     ensures has { HasSeen seat.new.seat.me.0.store (FreePlace i) }
     ensures words { seen_of seat.new.seat ≡ write (seen_of seat.old.seat) (FreePlace i) row }
 {
@@ -178,7 +197,8 @@ fn put_place(sweep: &Sweep<'_>, seat: &mut Seat<NodeRows>, i: u32, row: u32, cel
     put(sweep, seat, word, Place::FreePlace(i), u64::from(row));
 }
 
-// Stores the row of a turn in the next free place, where it isn't marked and the place changes: how many are filled.
+// Stores the row of a turn in the next free place, where it isn't marked and the place changes: how
+// many are filled.
 fn store_place(
     sweep: &Sweep<'_>,
     seat: &mut Seat<NodeRows>,
@@ -191,20 +211,28 @@ fn store_place(
     requires at { Stores sweep.now seat.old.seat seat.old.number seat.old.seats }
     requires marks { length marks.now ≡ (sizes_of sweep.now).rows }
     requires cells { length cells.now ≡ (sizes_of sweep.now).rows }
-    requires held { let row = row_in_turn (sizes_of sweep.now) order turn in get_or marks.now row false ≡ false → get_or cells.now row 0 ≡ 4294967295
-        → (seen_of seat.old.seat (FreePlace count) ≡ row) × HasSeen seat.old.seat.me.0.store (FreePlace count) }
+    requires held { let row = row_in_turn (sizes_of sweep.now) order turn in
+        get_or marks.now row false ≡ false → get_or cells.now row 0 ≡ 4294967295
+        → (seen_of seat.old.seat (FreePlace count) ≡ row)
+        × HasSeen seat.old.seat.me.0.store (FreePlace count) }
     requires below { turn < (sizes_of sweep.now).rows }
     requires few { count ≤ turn }
-    requires placed { ArePlaced (λ i. seen_of seat.old.seat (FreePlace i)) marks.now (sizes_of sweep.now) order turn count }
+    requires placed { ArePlaced (λ i. seen_of seat.old.seat (FreePlace i)) marks.now
+        (sizes_of sweep.now) order turn count }
     requires has { (i : ℕ) → i < count → HasSeen seat.old.seat.me.0.store (FreePlace i) }
     ensures at { Stores sweep.now seat.new.seat seat.new.number seat.new.seats }
-    ensures more { StoresMore seat.old.seat seat.old.number seat.old.seats seat.new.seat seat.new.number seat.new.seats }
-    ensures placed { ArePlaced (λ i. seen_of seat.new.seat (FreePlace i)) marks.now (sizes_of sweep.now) order (turn + 1) result }
+    ensures more { StoresMore seat.old.seat seat.old.number seat.old.seats seat.new.seat
+        seat.new.number seat.new.seats }
+    ensures placed { ArePlaced (λ i. seen_of seat.new.seat (FreePlace i)) marks.now
+        (sizes_of sweep.now) order (turn + 1) result }
     ensures has { (i : ℕ) → i < result → HasSeen seat.new.seat.me.0.store (FreePlace i) }
     ensures few { (count ≤ result) × (result ≤ turn + 1) }
-    ensures count { result ≡ count + (if get_or marks.now (row_in_turn (sizes_of sweep.now) order turn) false then 0 else 1) }
-    ensures later { (i : ℕ) → result ≤ i → seen_of seat.new.seat (FreePlace i) ≡ seen_of seat.old.seat (FreePlace i) }
-    ensures others { (p : Place) → is_place p ≡ false → seen_of seat.new.seat p ≡ seen_of seat.old.seat p }
+    ensures count { result ≡ count
+        + (if get_or marks.now (row_in_turn (sizes_of sweep.now) order turn) false then 0 else 1) }
+    ensures later { (i : ℕ) → result ≤ i → seen_of seat.new.seat (FreePlace i)
+        ≡ seen_of seat.old.seat (FreePlace i) }
+    ensures others { (p : Place) → is_place p ≡ false → seen_of seat.new.seat p
+        ≡ seen_of seat.old.seat p }
 {
     let row = row_in_turn(sweep, order, turn);
     if marks.has(Row(row)) {
@@ -214,7 +242,8 @@ fn store_place(
     count + 1
 }
 
-/// Stores the rows that aren't marked in the free places, turn by turn, where these change: how many they are.
+/// Stores the rows that aren't marked in the free places, turn by turn, where these change: how
+/// many they are.
 pub(crate) fn store_places(
     sweep: &Sweep<'_>,
     seat: &mut Seat<NodeRows>,
@@ -225,15 +254,20 @@ pub(crate) fn store_places(
     requires at { Stores sweep.now seat.old.seat seat.old.number seat.old.seats }
     requires marks { length marks.now ≡ (sizes_of sweep.now).rows }
     requires cells { length cells.now ≡ (sizes_of sweep.now).rows }
-    requires held { (r : ℕ) → r < (sizes_of sweep.now).rows → get_or marks.now r false ≡ false → get_or cells.now r 0 ≡ 4294967295
+    requires held { (r : ℕ) → r < (sizes_of sweep.now).rows → get_or marks.now r false ≡ false
+        → get_or cells.now r 0 ≡ 4294967295
         → (seen_of seat.old.seat (FreePlace (place_for marks.now (sizes_of sweep.now) order r)) ≡ r)
-        × HasSeen seat.old.seat.me.0.store (FreePlace (place_for marks.now (sizes_of sweep.now) order r)) }
+        × HasSeen seat.old.seat.me.0.store
+        (FreePlace (place_for marks.now (sizes_of sweep.now) order r)) }
     ensures at { Stores sweep.now seat.new.seat seat.new.number seat.new.seats }
-    ensures more { StoresMore seat.old.seat seat.old.number seat.old.seats seat.new.seat seat.new.number seat.new.seats }
-    ensures placed { ArePlaced (λ i. seen_of seat.new.seat (FreePlace i)) marks.now (sizes_of sweep.now) order (sizes_of sweep.now).rows result }
+    ensures more { StoresMore seat.old.seat seat.old.number seat.old.seats seat.new.seat
+        seat.new.number seat.new.seats }
+    ensures placed { ArePlaced (λ i. seen_of seat.new.seat (FreePlace i)) marks.now
+        (sizes_of sweep.now) order (sizes_of sweep.now).rows result }
     ensures has { (i : ℕ) → i < result → HasSeen seat.new.seat.me.0.store (FreePlace i) }
     ensures few { result ≤ (sizes_of sweep.now).rows }
-    ensures others { (p : Place) → is_place p ≡ false → seen_of seat.new.seat p ≡ seen_of seat.old.seat p }
+    ensures others { (p : Place) → is_place p ≡ false → seen_of seat.new.seat p
+        ≡ seen_of seat.old.seat p }
 {
     let mut count = 0;
     for turn in 0..sweep.store.sizes.rows {

@@ -19,14 +19,16 @@ pub struct Kept {
 #[derive(Clone, Copy, Debug, PartialEq, Eq)]
 pub struct Worn;
 
-/// Why a collection in an access of its own wasn't made: the entry was refused, or the collection was worn.
+/// Why a collection in an access of its own wasn't made: the entry was refused, or the collection
+/// was worn.
 #[derive(Clone, Copy, Debug, PartialEq, Eq)]
 pub enum TryCollect {
     Busy(Busy),
     Worn,
 }
 
-/// A collection that has loaded the base, the claim and the free count of its store, and isn't worn.
+/// A collection that has loaded the base, the claim and the free count of its store, and isn't
+/// worn.
 #[derive(Drop)]
 pub(crate) struct Sweep<'a> {
     pub(crate) store: &'a Store,

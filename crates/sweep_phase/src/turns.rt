@@ -13,9 +13,10 @@ pub(crate) enum Order {
     Apart,
 }
 
-/// The order of a collection that keeps so many rows. Rows that come after each other are drawn after each other, where there are
-/// several seats often by workers that make rows at the same time, so there they stand apart: in lines of the cache of their own.
-/// Where a collection keeps many, an epoch is short and mostly one worker's, who makes rows side by side more quickly.
+/// The order of a collection that keeps so many rows. Rows that come after each other are drawn
+/// after each other, where there are several seats often by workers that make rows at the same
+/// time, so there they stand apart: in lines of the cache of their own. Where a collection keeps
+/// many, an epoch is short and mostly one worker's, who makes rows side by side more quickly.
 pub(crate) fn order_for(sizes: &Sizes, live: u32) -> Order
     ensures { result ≡ order_for sizes.now live }
 {

@@ -11,8 +11,8 @@ ghost use Rattle.term_create.specs.Fitting.{Fits};
 use node_rows::Store;
 use term_model::{Head, Row};
 
-/// A head over rows that is asked of a store, at the base of the pass, its symbol word, and the bucket of it; with the word where the
-/// rows of the store begin, and how many words a row has.
+/// A head over rows that is asked of a store, at the base of the pass, its symbol word, and the
+/// bucket of it; with the word where the rows of the store begin, and how many words a row has.
 #[derive(Drop)]
 pub(crate) struct Asked<'a> {
     pub(crate) store: &'a Store,
@@ -28,11 +28,13 @@ pub(crate) struct Asked<'a> {
     ghost second: { length args.now ≡ get_or (words_of (over head (names args.now))) 1 0 },
     ghost fits: { Fits store.now.sizes head (names args.now) },
     ghost within: { place < store.now.sizes.buckets },
-    ghost rows_begin: { first_row ≡ 1 + 2 * store.now.sizes.seats + 4 + store.now.sizes.rows + store.now.sizes.buckets },
+    ghost rows_begin: { first_row ≡ 1 + 2 * store.now.sizes.seats + 4 + store.now.sizes.rows
+        + store.now.sizes.buckets },
     ghost rows_are: { row_size ≡ widest store.now.sizes + 4 },
 }
 
-/// A walk: the drawn row with its index, the head of the chain that was read, and the word where the walk is to end.
+/// A walk: the drawn row with its index, the head of the chain that was read, and the word where
+/// the walk is to end.
 #[derive(Clone, Copy)]
 pub(crate) struct Walk {
     pub(crate) drawn: Option<(u64, u64)>,

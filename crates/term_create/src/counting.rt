@@ -4,7 +4,8 @@ ghost use Rattle.std.specs.Prelude.{◌≡◌, ◌+◌, ◌<◌};
 use std::marker::Model;
 use std::sync::ledger::{Blank, Book, Ledger, Share};
 
-/// How many atomic steps were taken. It takes no bytes and costs nothing; each step on a word of the store is one tick.
+/// How many atomic steps were taken. It takes no bytes and costs nothing; each step on a word of
+/// the store is one tick.
 #[derive(Drop)]
 pub struct Steps<L: Ledger> {
     book: Book<L>,

@@ -30,8 +30,8 @@ use std::marker::Brand;
 use std::sync::ledger::{Blank, Ledger};
 use term_model::{Head, Row};
 
-// Makes the row that is asked, where the walk from this head has ended without it. What is asked is laid into memory here alone, so
-// that a walk keeps it in registers.
+// Makes the row that is asked, where the walk from this head has ended without it. What is asked is
+// laid into memory here alone, so that a walk keeps it in registers.
 #[inline(never)]
 fn make_row<L: Ledger>(
     store: &Store,
@@ -64,7 +64,8 @@ fn make_row<L: Ledger>(
     ensures filled { IfErr result (λ _. seat.old.seat.me.0.store.fresh ≡ true →
         WasFilled store.now.sizes seat.old.number seat.old.seat.me.0 head (names args.now)) }
     ensures cost { let z = store.now.sizes in MatchResult result
-        (λ _. Takes z (widest z + 7 + 2 * (z.rows + 1)) seat.old.seat.me.0.store.passed z.rows steps.old steps.new)
+        (λ _. Takes z (widest z + 7 + 2 * (z.rows + 1)) seat.old.seat.me.0.store.passed z.rows
+        steps.old steps.new)
         (λ _. steps.new ≤ steps.old + (widest z + 7)) }
 {
     let asked = Asked {
@@ -156,7 +157,8 @@ fn create_noted<L: Ledger>(
         HoldsAll store.now.sizes.rows (view_of pass.old).store.entries) }
     ensures filled { IfErr result (λ _. (view_of pass.old).store.fresh ≡ true →
         WasFilled store.now.sizes pass.old.seat.number (view_of pass.old) head (names args.now)) }
-    ensures cost { steps.new ≤ steps.old + (widest store.now.sizes + 8) * (store.now.sizes.rows + 2) }
+    ensures cost { steps.new ≤ steps.old + (widest store.now.sizes + 8) *
+        (store.now.sizes.rows + 2) }
 {
     let symbol = symbol_word(head);
     let asked = Asked {
@@ -200,7 +202,8 @@ fn create_whole<L: Ledger>(
         HoldsAll store.now.sizes.rows (view_of pass.old).store.entries) }
     ensures filled { IfErr result (λ _. (view_of pass.old).store.fresh ≡ true →
         WasFilled store.now.sizes pass.old.seat.number (view_of pass.old) head (names args.now)) }
-    ensures cost { steps.new ≤ steps.old + (widest store.now.sizes + 8) * (store.now.sizes.rows + 2) }
+    ensures cost { steps.new ≤ steps.old + (widest store.now.sizes + 8) *
+        (store.now.sizes.rows + 2) }
 {
     match create_noted(store, pass, head, args, steps) {
         Ok(noted) => {
@@ -213,11 +216,13 @@ fn create_whole<L: Ledger>(
     }
 }
 
-/// Creates a head over rows: gives the row that has it, or makes one where a row is free. `Full` comes only where the chain
-/// in which the row would stand was read to its end without it, and the claim was read or drawn as at least the free count; where
-/// the store has one pass, or the pass has collected in its access, each row has a tree then, and none has the asked one. It needs
-/// shared access, or exclusive access after a collection of it. Each atomic step on a word is a tick of `steps`: with A the greater
-/// of the store's arity and 2, there are at most (A + 8) * (rows + 2).
+/// Creates a head over rows: gives the row that has it, or makes one where a row is free. `Full`
+/// comes only where the chain in which the row would stand was read to its end without it, and the
+/// claim was read or drawn as at least the free count; where the store has one pass, or the pass
+/// has collected in its access, each row has a tree then, and none has the asked one. It needs
+/// shared access, or exclusive access after a collection of it. Each atomic step on a word is a
+/// tick of `steps`: with A the greater of the store's arity and 2, there are at most (A + 8) *
+/// (rows + 2).
 #[inline(always)]
 pub fn create_counted<L: Ledger>(
     store: &Store,
@@ -245,11 +250,14 @@ pub fn create_counted<L: Ledger>(
         IsAbsent (view_of pass.old).store.entries (over head (names args.now))) }
     ensures full_alone_only_where_all_rows_are_held { IfErr result (λ _. store.now.sizes.seats ≡ 1 →
         HoldsAll store.now.sizes.rows (view_of pass.old).store.entries) }
-    ensures full_after_collection_only_where_filled { IfErr result (λ _. (view_of pass.old).store.fresh ≡ true →
+    ensures full_after_collection_only_where_filled { IfErr result
+        (λ _. (view_of pass.old).store.fresh ≡ true →
         WasFilled store.now.sizes pass.old.seat.number (view_of pass.old) head (names args.now)) }
-    ensures full_gets_none { IfErr result (λ _. GetsNone (view_of pass.old).store (view_of pass.new).store) }
+    ensures full_gets_none { IfErr result
+        (λ _. GetsNone (view_of pass.old).store (view_of pass.new).store) }
     ensures rest { KeepsRest (view_of pass.old).store (view_of pass.new).store }
-    ensures bound { steps.new ≤ steps.old + (widest store.now.sizes + 8) * (store.now.sizes.rows + 2) }
+    ensures bound { steps.new ≤ steps.old + (widest store.now.sizes + 8) *
+        (store.now.sizes.rows + 2) }
 {
     create_whole(store, pass, head, args, steps)
 }
@@ -284,9 +292,11 @@ fn create_uncounted<L: Ledger>(
         IsAbsent (view_of pass.old).store.entries (over head (names args.now))) }
     ensures full_alone_only_where_all_rows_are_held { IfErr result (λ _. store.now.sizes.seats ≡ 1 →
         HoldsAll store.now.sizes.rows (view_of pass.old).store.entries) }
-    ensures full_after_collection_only_where_filled { IfErr result (λ _. (view_of pass.old).store.fresh ≡ true →
+    ensures full_after_collection_only_where_filled { IfErr result
+        (λ _. (view_of pass.old).store.fresh ≡ true →
         WasFilled store.now.sizes pass.old.seat.number (view_of pass.old) head (names args.now)) }
-    ensures full_gets_none { IfErr result (λ _. GetsNone (view_of pass.old).store (view_of pass.new).store) }
+    ensures full_gets_none { IfErr result
+        (λ _. GetsNone (view_of pass.old).store (view_of pass.new).store) }
     ensures rest { KeepsRest (view_of pass.old).store (view_of pass.new).store }
 {
     create_counted(store, pass, head, args, &mut Steps::<L>::new(blank))
@@ -314,9 +324,11 @@ pub fn create_inside(store: &Store, pass: &mut Pass, head: Head, args: &[Row]) -
         IsAbsent (view_of pass.old).store.entries (over head (names args.now))) }
     ensures full_alone_only_where_all_rows_are_held { IfErr result (λ _. store.now.sizes.seats ≡ 1 →
         HoldsAll store.now.sizes.rows (view_of pass.old).store.entries) }
-    ensures full_after_collection_only_where_filled { IfErr result (λ _. (view_of pass.old).store.fresh ≡ true →
+    ensures full_after_collection_only_where_filled { IfErr result
+        (λ _. (view_of pass.old).store.fresh ≡ true →
         WasFilled store.now.sizes pass.old.seat.number (view_of pass.old) head (names args.now)) }
-    ensures full_gets_none { IfErr result (λ _. GetsNone (view_of pass.old).store (view_of pass.new).store) }
+    ensures full_gets_none { IfErr result
+        (λ _. GetsNone (view_of pass.old).store (view_of pass.new).store) }
     ensures rest { KeepsRest (view_of pass.old).store (view_of pass.new).store }
 {
     create_uncounted::<Brand>(store, pass, head, args, Blank::new(1))
@@ -344,7 +356,8 @@ pub fn create(store: &Store, pass: &mut Pass, head: Head, args: &[Row]) -> Resul
         IsAbsent (view_of pass.old).store.entries (over head (names args.now))) }
     ensures full_alone_only_where_all_rows_are_held { IfErr result (λ _. store.now.sizes.seats ≡ 1 →
         HoldsAll store.now.sizes.rows (view_of pass.old).store.entries) }
-    ensures full_gets_none { IfErr result (λ _. GetsNone (view_of pass.old).store (view_of pass.new).store) }
+    ensures full_gets_none { IfErr result
+        (λ _. GetsNone (view_of pass.old).store (view_of pass.new).store) }
     ensures rest { KeepsRest (view_of pass.old).store (view_of pass.new).store }
 {
     create_inside(store, pass, head, args)

@@ -1,4 +1,5 @@
-//! Creations on a running store: a head over rows, shared with all other passes; and reads of the rows.
+//! Creations on a running store: a head over rows, shared with all other passes; and reads of the
+//! rows.
 #![tactic(auto)]
 
 mod asked;

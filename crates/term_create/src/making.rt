@@ -1,4 +1,5 @@
-//! Making a row where a walk ends without one: a draw, the words of the drawn row, and its publishing.
+//! Making a row where a walk ends without one: a draw, the words of the drawn row, and its
+//! publishing.
 ghost use Rattle.std.specs.Prelude.{◌≡◌, ◌≤◌, ◌+◌, ◌*◌, MatchResult, IfErr};
 ghost use Rattle.store_model.specs.declared.view.Call.TheVariants.{Ended, Filling, Linking};
 ghost use Rattle.store_model.specs.Machine.{widest};
@@ -26,7 +27,8 @@ fn fill_row<L: Ledger>(
 )
     requires at { IsAt asked.now seat.old.seat }
     requires based { IsBased asked.now seat.old.seat.me.0.store }
-    requires stage { seat.old.seat.me.0.store.call ≡ Filling (content asked.now) drawn.from drawn.index drawn.row 0 }
+    requires stage { seat.old.seat.me.0.store.call ≡ Filling (content asked.now) drawn.from
+        drawn.index drawn.row 0 }
     ensures at { IsAt asked.now seat.new.seat }
     ensures same { SameSeat seat.old.seat seat.new.seat
         seat.old.number seat.new.number seat.old.seats seat.new.seats }
@@ -41,7 +43,8 @@ fn fill_row<L: Ledger>(
     number_row(asked, seat, steps, drawn);
 }
 
-// Links the drawn row, and publishes it; or finds one that another seat has published meanwhile; or comes to a newer head.
+// Links the drawn row, and publishes it; or finds one that another seat has published meanwhile; or
+// comes to a newer head.
 fn publish_once<L: Ledger>(
     asked: &Asked<'_>,
     seat: &mut Seat<NodeRows>,
@@ -50,14 +53,16 @@ fn publish_once<L: Ledger>(
 ) -> Result<Noted, u64>
     requires at { IsAt asked.now seat.old.seat }
     requires based { IsBased asked.now seat.old.seat.me.0.store }
-    requires stage { seat.old.seat.me.0.store.call ≡ Linking (content asked.now) drawn.from drawn.index drawn.row }
+    requires stage { seat.old.seat.me.0.store.call ≡ Linking (content asked.now) drawn.from
+        drawn.index drawn.row }
     ensures at { IsAt asked.now seat.new.seat }
     ensures same { SameSeat seat.old.seat seat.new.seat
         seat.old.number seat.new.number seat.old.seats seat.new.seats }
     ensures view { let v = seat.old.seat.me.0 in let w = seat.new.seat.me.0 in MatchResult result
         (Notes v w asked.now.head (names asked.now.args.now))
         (λ found. Relinks v w (Linking (content asked.now) found drawn.index drawn.row)) }
-    ensures cost { let z = asked.now.store.now.sizes in let before = seat.old.seat.me.0.store.passed in MatchResult result
+    ensures cost { let z = asked.now.store.now.sizes in let before = seat.old.seat.me.0.store.passed
+        in MatchResult result
         (λ _. Takes z 2 before z.rows steps.old steps.new)
         (λ _. Takes z 2 before seat.new.seat.me.0.store.passed steps.old steps.new) }
 {
@@ -87,7 +92,8 @@ pub(crate) fn publish_row<L: Ledger>(
 ) -> Noted
     requires at { IsAt asked.now seat.old.seat }
     requires based { IsBased asked.now seat.old.seat.me.0.store }
-    requires stage { seat.old.seat.me.0.store.call ≡ Linking (content asked.now) drawn.from drawn.index drawn.row }
+    requires stage { seat.old.seat.me.0.store.call ≡ Linking (content asked.now) drawn.from
+        drawn.index drawn.row }
     ensures at { IsAt asked.now seat.new.seat }
     ensures same { SameSeat seat.old.seat seat.new.seat
         seat.old.number seat.new.number seat.old.seats seat.new.seats }

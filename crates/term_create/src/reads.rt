@@ -1,5 +1,5 @@
-//! Reads of a row that the pass may use: its head, its count of arguments, and its arguments. Each takes one atomic step, or two where
-//! it reads an integer; none of them takes memory or waits.
+//! Reads of a row that the pass may use: its head, its count of arguments, and its arguments. Each
+//! takes one atomic step, or two where it reads an integer; none of them takes memory or waits.
 ghost use Rattle.std.specs.Prelude.{◌≡◌, ◌⊎◌, ◌<◌, ◌≤◌, ◌+◌, true, Some, [], ◌∷◌, length, get_or};
 ghost use Rattle.term_model.specs.Tree.{Tree, Leaf, root, arguments};
 ghost use Rattle.store_model.specs.ByView.{KnowsWord};
@@ -36,10 +36,12 @@ fn place_of(store: &Store, pass: &Pass, row: Row, k: usize) -> usize
 fn read(store: &Store, pass: &mut Pass, row: Row, k: u64) -> u64
     requires inside { IsInside store.now pass.old }
     requires uses { In row.0 (view_of pass.old).store.got }
-    requires may { (k < 2) ⊎ ((k ≡ 2) × KnowsWord row.0 0 4294967296 (view_of pass.old).store.knows) }
+    requires may { (k < 2)
+        ⊎ ((k ≡ 2) × KnowsWord row.0 0 4294967296 (view_of pass.old).store.knows) }
     ensures inside { IsInside store.now pass.new }
     ensures same { IsSamePass pass.old pass.new }
-    ensures view { view_of pass.new ≡ with_store (view_of pass.old) (knowing (view_of pass.old).store row.0 k result) }
+    ensures view { view_of pass.new ≡ with_store (view_of pass.old)
+        (knowing (view_of pass.old).store row.0 k result) }
 {
     let place = place_of(store, pass, row, k as usize);
     read_word(&store.table, &mut pass.seat, place, row.0 as u64, k)
@@ -54,14 +56,16 @@ fn narrow(sizes: &Sizes, count: u64) -> u32
     count as u32
 }
 
-/// The head of a row that the pass may use: exactly that of its tree, where the pass knows the tree.
+/// The head of a row that the pass may use: exactly that of its tree, where the pass knows the
+/// tree.
 pub fn head_of(store: &Store, pass: &mut Pass, row: Row) -> Head
     requires inside { IsInside store.now pass.old }
     requires uses { In row.0 (view_of pass.old).store.got }
     ensures inside { IsInside store.now pass.new }
     ensures same { IsSamePass pass.old pass.new }
     ensures reads { Reads (view_of pass.old) (view_of pass.new) (head_words row.0 result) }
-    ensures tree { (t : Tree) → KnowsTree (view_of pass.old).store.knows row.0 t → root t ≡ Some result }
+    ensures tree { (t : Tree) → KnowsTree (view_of pass.old).store.knows row.0 t
+        → root t ≡ Some result }
 {
     let word = read(store, pass, row, 0);
     if word < INTEGER {
@@ -75,7 +79,8 @@ pub fn head_of(store: &Store, pass: &mut Pass, row: Row) -> Head
     }
 }
 
-/// How many arguments a row has that the pass may use: exactly as many as its tree, where the pass knows the tree.
+/// How many arguments a row has that the pass may use: exactly as many as its tree, where the pass
+/// knows the tree.
 pub fn count_of(store: &Store, pass: &mut Pass, row: Row) -> u32
     requires inside { IsInside store.now pass.old }
     requires uses { In row.0 (view_of pass.old).store.got }
@@ -83,14 +88,16 @@ pub fn count_of(store: &Store, pass: &mut Pass, row: Row) -> u32
     ensures same { IsSamePass pass.old pass.new }
     ensures reads { Reads (view_of pass.old) (view_of pass.new) (word row.0 1 result ∷ []) }
     ensures within { result ≤ widest store.now.sizes }
-    ensures tree { (t : Tree) → KnowsTree (view_of pass.old).store.knows row.0 t → length (arguments t) ≡ result }
+    ensures tree { (t : Tree) → KnowsTree (view_of pass.old).store.knows row.0 t
+        → length (arguments t) ≡ result }
 {
     let count = read(store, pass, row, 1);
     narrow(&store.sizes, count)
 }
 
-/// The row of argument `j` of a row that the pass may use; the pass may use it then. It is exactly the row of that subtree, where
-/// the pass knows the tree. The pass has to know the count of arguments, which `count_of` reads.
+/// The row of argument `j` of a row that the pass may use; the pass may use it then. It is exactly
+/// the row of that subtree, where the pass knows the tree. The pass has to know the count of
+/// arguments, which `count_of` reads.
 pub fn child_of(store: &Store, pass: &mut Pass, row: Row, j: u32) -> Row
     requires inside { IsInside store.now pass.old }
     requires uses { In row.0 (view_of pass.old).store.got }

@@ -19,7 +19,8 @@ use node_rows::{
 };
 use std::sync::ledger::Ledger;
 
-// Compares word k of the row that the walk is at with the asked one: the word there, where it differs.
+// Compares word k of the row that the walk is at with the asked one: the word there, where it
+// differs.
 #[inline(always)]
 pub(crate) fn compare_one<L: Ledger>(
     asked: &Asked<'_>,
@@ -33,13 +34,17 @@ pub(crate) fn compare_one<L: Ledger>(
     requires at { IsAt asked.now seat.old.seat }
     requires below { k < length (words_of (content asked.now)) }
     requires wanted { wanted ≡ get_or (words_of (content asked.now)) k 0 }
-    requires stage { seat.old.seat.me.0.store.call ≡ Comparing (content asked.now) walk.drawn walk.from walk.old at k }
+    requires stage { seat.old.seat.me.0.store.call ≡ Comparing (content asked.now) walk.drawn
+        walk.from walk.old at k }
     ensures at { IsAt asked.now seat.new.seat }
     ensures same { SameSeat seat.old.seat seat.new.seat
         seat.old.number seat.new.number seat.old.seats seat.new.seats }
-    ensures equal { IfNone result (seat.new.seat.me.0 ≡ at_call seat.old.seat.me.0 (stage (content asked.now) walk.drawn walk.from walk.old at (k + 1))) }
+    ensures equal { IfNone result
+        (seat.new.seat.me.0 ≡ at_call seat.old.seat.me.0
+        (stage (content asked.now) walk.drawn walk.from walk.old at (k + 1))) }
     ensures other { IfSome result (λ n. (n ≢ get_or (words_of (content asked.now)) k 0)
-        × (seat.new.seat.me.0 ≡ at_call seat.old.seat.me.0 (Passing (content asked.now) walk.drawn walk.from walk.old at (k, n)))) }
+        × (seat.new.seat.me.0 ≡ at_call seat.old.seat.me.0
+        (Passing (content asked.now) walk.drawn walk.from walk.old at (k, n)))) }
     ensures tick { steps.new ≡ steps.old + 1 }
 {
     steps.tick();
@@ -60,11 +65,13 @@ pub(crate) fn pass_on<L: Ledger>(
     at: u64,
 ) -> u64
     requires at { IsAt asked.now seat.old.seat }
-    requires stage { IsOther seat.old.seat.me.0 seat.old.seat.me.0 (content asked.now) walk.drawn walk.from walk.old at }
+    requires stage { IsOther seat.old.seat.me.0 seat.old.seat.me.0 (content asked.now) walk.drawn
+        walk.from walk.old at }
     ensures at { IsAt asked.now seat.new.seat }
     ensures same { SameSeat seat.old.seat seat.new.seat
         seat.old.number seat.new.number seat.old.seats seat.new.seats }
-    ensures view { GoesOn seat.old.seat.me.0 seat.new.seat.me.0 (content asked.now) walk.drawn walk.from walk.old at result }
+    ensures view { GoesOn seat.old.seat.me.0 seat.new.seat.me.0 (content asked.now) walk.drawn
+        walk.from walk.old at result }
     ensures tick { steps.new ≡ steps.old + 1 }
 {
     steps.tick();
@@ -85,8 +92,10 @@ pub(crate) fn find<L: Ledger>(
     ensures at { IsAt asked.now seat.new.seat }
     ensures same { SameSeat seat.old.seat seat.new.seat
         seat.old.number seat.new.number seat.old.seats seat.new.seats }
-    ensures view { seat.new.seat.me.0 ≡ with_store seat.old.seat.me.0 (gained seat.old.seat.me.0.store (content asked.now) row result
-        (Find (max seat.old.seat.me.0.store.seen result) asked.now.head (names asked.now.args.now) row)) }
+    ensures view { seat.new.seat.me.0 ≡ with_store seat.old.seat.me.0
+        (gained seat.old.seat.me.0.store (content asked.now) row result
+        (Find (max seat.old.seat.me.0.store.seen result) asked.now.head (names asked.now.args.now)
+        row)) }
     ensures tick { steps.new ≡ steps.old + 1 }
 {
     steps.tick();
@@ -105,7 +114,8 @@ pub(crate) fn read_claim<L: Ledger>(
     ensures at { IsAt asked.now seat.new.seat }
     ensures same { SameSeat seat.old.seat seat.new.seat
         seat.old.number seat.new.number seat.old.seats seat.new.seats }
-    ensures view { seat.new.seat.me.0 ≡ at_call seat.old.seat.me.0 (Counting (content asked.now) from result) }
+    ensures view { seat.new.seat.me.0 ≡ at_call seat.old.seat.me.0
+        (Counting (content asked.now) from result) }
     ensures tick { steps.new ≡ steps.old + 1 }
 {
     steps.tick();
@@ -177,7 +187,8 @@ pub(crate) fn read_place<L: Ledger>(
     ensures at { IsAt asked.now seat.new.seat }
     ensures same { SameSeat seat.old.seat seat.new.seat
         seat.old.number seat.new.number seat.old.seats seat.new.seats }
-    ensures view { seat.new.seat.me.0 ≡ at_call seat.old.seat.me.0 (Filling (content asked.now) from index result 0) }
+    ensures view { seat.new.seat.me.0 ≡ at_call seat.old.seat.me.0
+        (Filling (content asked.now) from index result 0) }
     ensures tick { steps.new ≡ steps.old + 1 }
 {
     steps.tick();
@@ -198,11 +209,13 @@ pub(crate) fn fill_one<L: Ledger>(
 )
     requires at { IsAt asked.now seat.old.seat }
     requires below { k < length (words_of (content asked.now)) }
-    requires stage { seat.old.seat.me.0.store.call ≡ Filling (content asked.now) drawn.from drawn.index drawn.row k }
+    requires stage { seat.old.seat.me.0.store.call ≡ Filling (content asked.now) drawn.from
+        drawn.index drawn.row k }
     ensures at { IsAt asked.now seat.new.seat }
     ensures same { SameSeat seat.old.seat seat.new.seat
         seat.old.number seat.new.number seat.old.seats seat.new.seats }
-    ensures view { seat.new.seat.me.0 ≡ at_call seat.old.seat.me.0 (filled (content asked.now) drawn.from drawn.index drawn.row k) }
+    ensures view { seat.new.seat.me.0 ≡ at_call seat.old.seat.me.0
+        (filled (content asked.now) drawn.from drawn.index drawn.row k) }
     ensures tick { steps.new ≡ steps.old + 1 }
 {
     steps.tick();
@@ -219,11 +232,13 @@ pub(crate) fn number_row<L: Ledger>(
 )
     requires at { IsAt asked.now seat.old.seat }
     requires based { IsBased asked.now seat.old.seat.me.0.store }
-    requires stage { seat.old.seat.me.0.store.call ≡ Numbering (content asked.now) drawn.from drawn.index drawn.row }
+    requires stage { seat.old.seat.me.0.store.call ≡ Numbering (content asked.now) drawn.from
+        drawn.index drawn.row }
     ensures at { IsAt asked.now seat.new.seat }
     ensures same { SameSeat seat.old.seat seat.new.seat
         seat.old.number seat.new.number seat.old.seats seat.new.seats }
-    ensures view { seat.new.seat.me.0 ≡ at_call seat.old.seat.me.0 (Linking (content asked.now) drawn.from drawn.index drawn.row) }
+    ensures view { seat.new.seat.me.0 ≡ at_call seat.old.seat.me.0
+        (Linking (content asked.now) drawn.from drawn.index drawn.row) }
     ensures tick { steps.new ≡ steps.old + 1 }
 {
     steps.tick();
@@ -239,11 +254,13 @@ pub(crate) fn link<L: Ledger>(
     drawn: Drawn,
 )
     requires at { IsAt asked.now seat.old.seat }
-    requires stage { seat.old.seat.me.0.store.call ≡ Linking (content asked.now) drawn.from drawn.index drawn.row }
+    requires stage { seat.old.seat.me.0.store.call ≡ Linking (content asked.now) drawn.from
+        drawn.index drawn.row }
     ensures at { IsAt asked.now seat.new.seat }
     ensures same { SameSeat seat.old.seat seat.new.seat
         seat.old.number seat.new.number seat.old.seats seat.new.seats }
-    ensures view { seat.new.seat.me.0 ≡ at_call seat.old.seat.me.0 (Publishing (content asked.now) drawn.from drawn.index drawn.row) }
+    ensures view { seat.new.seat.me.0 ≡ at_call seat.old.seat.me.0
+        (Publishing (content asked.now) drawn.from drawn.index drawn.row) }
     ensures tick { steps.new ≡ steps.old + 1 }
 {
     steps.tick();
@@ -264,12 +281,14 @@ pub(crate) fn publish<L: Ledger>(
 ) -> u64
     requires at { IsAt asked.now seat.old.seat }
     requires based { IsBased asked.now seat.old.seat.me.0.store }
-    requires stage { seat.old.seat.me.0.store.call ≡ Publishing (content asked.now) drawn.from drawn.index drawn.row }
+    requires stage { seat.old.seat.me.0.store.call ≡ Publishing (content asked.now) drawn.from
+        drawn.index drawn.row }
     ensures at { IsAt asked.now seat.new.seat }
     ensures same { SameSeat seat.old.seat seat.new.seat
         seat.old.number seat.new.number seat.old.seats seat.new.seats }
     ensures view { seat.new.seat.me.0 ≡ with_store seat.old.seat.me.0 (if result == drawn.from
-        then gained seat.old.seat.me.0.store (content asked.now) drawn.row (asked.now.base + drawn.index)
+        then gained seat.old.seat.me.0.store (content asked.now) drawn.row
+        (asked.now.base + drawn.index)
         (Make (asked.now.base + drawn.index) asked.now.head (names asked.now.args.now) drawn.row)
         else with_call seat.old.seat.me.0.store
         (arrived (content asked.now) (Some (drawn.index, drawn.row)) result drawn.from result)) }

@@ -23,8 +23,10 @@ pub(crate) struct Told {
 pub(crate) fn told_of(sizes: &Sizes, seen: u64, noted: Noted) -> Told
     requires { row_of noted < sizes.now.rows }
     ensures row { result.row.0 ≡ row_of noted }
-    ensures told { (v w : NodeView) (f : Head) (rs : List ℕ) (rows : ℕ) (last : Last) (marks : List Bool)
-        → IsTold v.store rows seen last marks → Notes v w f rs noted → IsTold w.store rows result.seen result.last marks }
+    ensures told { (v w : NodeView) (f : Head) (rs : List ℕ) (rows : ℕ) (last : Last)
+        (marks : List Bool)
+        → IsTold v.store rows seen last marks → Notes v w f rs noted
+        → IsTold w.store rows result.seen result.last marks }
 {
     match noted {
         Noted::Made(row, number) => Told {

@@ -30,13 +30,16 @@ fn compare_word<L: Ledger>(
     requires at { IsAt asked.now seat.old.seat }
     requires below { k < length (words_of (content asked.now)) }
     requires wanted { wanted ≡ get_or (words_of (content asked.now)) k 0 }
-    requires stage { seat.old.seat.me.0.store.call ≡ stage (content asked.now) walk.drawn walk.from walk.old at k }
+    requires stage { seat.old.seat.me.0.store.call ≡ stage (content asked.now) walk.drawn walk.from
+        walk.old at k }
     ensures at { IsAt asked.now seat.new.seat }
     ensures same { SameSeat seat.old.seat seat.new.seat
         seat.old.number seat.new.number seat.old.seats seat.new.seats }
     ensures view { MatchBool result
-        (seat.new.seat.me.0 ≡ at_call seat.old.seat.me.0 (stage (content asked.now) walk.drawn walk.from walk.old at (k + 1)))
-        (IsOther seat.old.seat.me.0 seat.new.seat.me.0 (content asked.now) walk.drawn walk.from walk.old at) }
+        (seat.new.seat.me.0 ≡ at_call seat.old.seat.me.0
+        (stage (content asked.now) walk.drawn walk.from walk.old at (k + 1)))
+        (IsOther seat.old.seat.me.0 seat.new.seat.me.0 (content asked.now) walk.drawn walk.from
+        walk.old at) }
     ensures cost { steps.new ≤ steps.old + 1 }
 {
     if compare_one(asked, seat, steps, walk, at, k, wanted).is_some() {
@@ -45,7 +48,8 @@ fn compare_word<L: Ledger>(
     true
 }
 
-// Compares the first two words of the row that the walk is at, which each row has: whether they are the same.
+// Compares the first two words of the row that the walk is at, which each row has: whether they are
+// the same.
 #[inline(always)]
 fn compare_two<L: Ledger>(
     asked: &Asked<'_>,
@@ -55,13 +59,16 @@ fn compare_two<L: Ledger>(
     at: u64,
 ) -> bool
     requires at { IsAt asked.now seat.old.seat }
-    requires stage { seat.old.seat.me.0.store.call ≡ Comparing (content asked.now) walk.drawn walk.from walk.old at 0 }
+    requires stage { seat.old.seat.me.0.store.call ≡ Comparing (content asked.now) walk.drawn
+        walk.from walk.old at 0 }
     ensures at { IsAt asked.now seat.new.seat }
     ensures same { SameSeat seat.old.seat seat.new.seat
         seat.old.number seat.new.number seat.old.seats seat.new.seats }
     ensures view { MatchBool result
-        (seat.new.seat.me.0 ≡ at_call seat.old.seat.me.0 (stage (content asked.now) walk.drawn walk.from walk.old at 2))
-        (IsOther seat.old.seat.me.0 seat.new.seat.me.0 (content asked.now) walk.drawn walk.from walk.old at) }
+        (seat.new.seat.me.0 ≡ at_call seat.old.seat.me.0
+        (stage (content asked.now) walk.drawn walk.from walk.old at 2))
+        (IsOther seat.old.seat.me.0 seat.new.seat.me.0 (content asked.now) walk.drawn walk.from
+        walk.old at) }
     ensures cost { steps.new ≤ steps.old + 2 }
 {
     if !compare_word(asked, seat, steps, walk, at, 0, asked.symbol) {
@@ -84,20 +91,24 @@ fn compare_argument<L: Ledger>(
     requires at { IsAt asked.now seat.old.seat }
     requires many { length (words_of (content asked.now)) ≡ length asked.now.args.now + 2 }
     requires below { j < length asked.now.args.now }
-    requires stage { seat.old.seat.me.0.store.call ≡ stage (content asked.now) walk.drawn walk.from walk.old at (j + 2) }
+    requires stage { seat.old.seat.me.0.store.call ≡ stage (content asked.now) walk.drawn walk.from
+        walk.old at (j + 2) }
     ensures at { IsAt asked.now seat.new.seat }
     ensures same { SameSeat seat.old.seat seat.new.seat
         seat.old.number seat.new.number seat.old.seats seat.new.seats }
     ensures view { MatchBool result
-        (seat.new.seat.me.0 ≡ at_call seat.old.seat.me.0 (stage (content asked.now) walk.drawn walk.from walk.old at (j + 3)))
-        (IsOther seat.old.seat.me.0 seat.new.seat.me.0 (content asked.now) walk.drawn walk.from walk.old at) }
+        (seat.new.seat.me.0 ≡ at_call seat.old.seat.me.0
+        (stage (content asked.now) walk.drawn walk.from walk.old at (j + 3)))
+        (IsOther seat.old.seat.me.0 seat.new.seat.me.0 (content asked.now) walk.drawn walk.from
+        walk.old at) }
     ensures cost { steps.new ≤ steps.old + 1 }
 {
     let wanted = argument_at(asked, j);
     compare_word(asked, seat, steps, walk, at, j + 2, wanted)
 }
 
-// Compares the arguments of the row that the walk is at, after its first two words, however many they are: whether they are the same.
+// Compares the arguments of the row that the walk is at, after its first two words, however many
+// they are: whether they are the same.
 fn compare_each<L: Ledger>(
     asked: &Asked<'_>,
     seat: &mut Seat<NodeRows>,
@@ -107,13 +118,16 @@ fn compare_each<L: Ledger>(
 ) -> bool
     requires at { IsAt asked.now seat.old.seat }
     requires many { length (words_of (content asked.now)) ≡ length asked.now.args.now + 2 }
-    requires stage { seat.old.seat.me.0.store.call ≡ stage (content asked.now) walk.drawn walk.from walk.old at 2 }
+    requires stage { seat.old.seat.me.0.store.call ≡ stage (content asked.now) walk.drawn walk.from
+        walk.old at 2 }
     ensures at { IsAt asked.now seat.new.seat }
     ensures same { SameSeat seat.old.seat seat.new.seat
         seat.old.number seat.new.number seat.old.seats seat.new.seats }
     ensures view { MatchBool result
-        (seat.new.seat.me.0 ≡ at_call seat.old.seat.me.0 (Finding (content asked.now) walk.drawn (pred at)))
-        (IsOther seat.old.seat.me.0 seat.new.seat.me.0 (content asked.now) walk.drawn walk.from walk.old at) }
+        (seat.new.seat.me.0 ≡ at_call seat.old.seat.me.0
+        (Finding (content asked.now) walk.drawn (pred at)))
+        (IsOther seat.old.seat.me.0 seat.new.seat.me.0 (content asked.now) walk.drawn walk.from
+        walk.old at) }
     ensures cost { steps.new ≤ steps.old + length asked.now.args.now }
 {
     for j in 0..asked.args.len() {
@@ -136,13 +150,16 @@ fn compare_pair<L: Ledger>(
     requires at { IsAt asked.now seat.old.seat }
     requires many { length (words_of (content asked.now)) ≡ length asked.now.args.now + 2 }
     requires two { length asked.now.args.now ≡ 2 }
-    requires stage { seat.old.seat.me.0.store.call ≡ stage (content asked.now) walk.drawn walk.from walk.old at 2 }
+    requires stage { seat.old.seat.me.0.store.call ≡ stage (content asked.now) walk.drawn walk.from
+        walk.old at 2 }
     ensures at { IsAt asked.now seat.new.seat }
     ensures same { SameSeat seat.old.seat seat.new.seat
         seat.old.number seat.new.number seat.old.seats seat.new.seats }
     ensures view { MatchBool result
-        (seat.new.seat.me.0 ≡ at_call seat.old.seat.me.0 (Finding (content asked.now) walk.drawn (pred at)))
-        (IsOther seat.old.seat.me.0 seat.new.seat.me.0 (content asked.now) walk.drawn walk.from walk.old at) }
+        (seat.new.seat.me.0 ≡ at_call seat.old.seat.me.0
+        (Finding (content asked.now) walk.drawn (pred at)))
+        (IsOther seat.old.seat.me.0 seat.new.seat.me.0 (content asked.now) walk.drawn walk.from
+        walk.old at) }
     ensures cost { steps.new ≤ steps.old + 2 }
 {
     if !compare_argument(asked, seat, steps, walk, at, 0) {
@@ -151,8 +168,8 @@ fn compare_pair<L: Ledger>(
     compare_argument(asked, seat, steps, walk, at, 1)
 }
 
-// Compares the arguments of the row that the walk is at, without a loop where they are few, as they mostly are: whether they are the
-// same.
+// Compares the arguments of the row that the walk is at, without a loop where they are few, as they
+// mostly are: whether they are the same.
 #[inline(always)]
 fn compare_arguments<L: Ledger>(
     asked: &Asked<'_>,
@@ -163,13 +180,16 @@ fn compare_arguments<L: Ledger>(
 ) -> bool
     requires at { IsAt asked.now seat.old.seat }
     requires many { length (words_of (content asked.now)) ≡ length asked.now.args.now + 2 }
-    requires stage { seat.old.seat.me.0.store.call ≡ stage (content asked.now) walk.drawn walk.from walk.old at 2 }
+    requires stage { seat.old.seat.me.0.store.call ≡ stage (content asked.now) walk.drawn walk.from
+        walk.old at 2 }
     ensures at { IsAt asked.now seat.new.seat }
     ensures same { SameSeat seat.old.seat seat.new.seat
         seat.old.number seat.new.number seat.old.seats seat.new.seats }
     ensures view { MatchBool result
-        (seat.new.seat.me.0 ≡ at_call seat.old.seat.me.0 (Finding (content asked.now) walk.drawn (pred at)))
-        (IsOther seat.old.seat.me.0 seat.new.seat.me.0 (content asked.now) walk.drawn walk.from walk.old at) }
+        (seat.new.seat.me.0 ≡ at_call seat.old.seat.me.0
+        (Finding (content asked.now) walk.drawn (pred at)))
+        (IsOther seat.old.seat.me.0 seat.new.seat.me.0 (content asked.now) walk.drawn walk.from
+        walk.old at) }
     ensures cost { steps.new ≤ steps.old + length asked.now.args.now }
 {
     match asked.args.len() {
@@ -179,7 +199,8 @@ fn compare_arguments<L: Ledger>(
     }
 }
 
-// Compares what stands after the first two words of the row that the walk is at: whether it is the same.
+// Compares what stands after the first two words of the row that the walk is at: whether it is the
+// same.
 #[inline(always)]
 fn compare_rest<L: Ledger>(
     asked: &Asked<'_>,
@@ -189,13 +210,16 @@ fn compare_rest<L: Ledger>(
     at: u64,
 ) -> bool
     requires at { IsAt asked.now seat.old.seat }
-    requires stage { seat.old.seat.me.0.store.call ≡ stage (content asked.now) walk.drawn walk.from walk.old at 2 }
+    requires stage { seat.old.seat.me.0.store.call ≡ stage (content asked.now) walk.drawn walk.from
+        walk.old at 2 }
     ensures at { IsAt asked.now seat.new.seat }
     ensures same { SameSeat seat.old.seat seat.new.seat
         seat.old.number seat.new.number seat.old.seats seat.new.seats }
     ensures view { MatchBool result
-        (seat.new.seat.me.0 ≡ at_call seat.old.seat.me.0 (Finding (content asked.now) walk.drawn (pred at)))
-        (IsOther seat.old.seat.me.0 seat.new.seat.me.0 (content asked.now) walk.drawn walk.from walk.old at) }
+        (seat.new.seat.me.0 ≡ at_call seat.old.seat.me.0
+        (Finding (content asked.now) walk.drawn (pred at)))
+        (IsOther seat.old.seat.me.0 seat.new.seat.me.0 (content asked.now) walk.drawn walk.from
+        walk.old at) }
     ensures cost { steps.new ≤ steps.old + widest asked.now.store.now.sizes }
 {
     match asked.head {
@@ -214,13 +238,16 @@ fn compare_row<L: Ledger>(
     at: u64,
 ) -> bool
     requires at { IsAt asked.now seat.old.seat }
-    requires stage { seat.old.seat.me.0.store.call ≡ Comparing (content asked.now) walk.drawn walk.from walk.old at 0 }
+    requires stage { seat.old.seat.me.0.store.call ≡ Comparing (content asked.now) walk.drawn
+        walk.from walk.old at 0 }
     ensures at { IsAt asked.now seat.new.seat }
     ensures same { SameSeat seat.old.seat seat.new.seat
         seat.old.number seat.new.number seat.old.seats seat.new.seats }
     ensures view { MatchBool result
-        (seat.new.seat.me.0 ≡ at_call seat.old.seat.me.0 (Finding (content asked.now) walk.drawn (pred at)))
-        (IsOther seat.old.seat.me.0 seat.new.seat.me.0 (content asked.now) walk.drawn walk.from walk.old at) }
+        (seat.new.seat.me.0 ≡ at_call seat.old.seat.me.0
+        (Finding (content asked.now) walk.drawn (pred at)))
+        (IsOther seat.old.seat.me.0 seat.new.seat.me.0 (content asked.now) walk.drawn walk.from
+        walk.old at) }
     ensures cost { steps.new ≤ steps.old + (widest asked.now.store.now.sizes + 2) }
 {
     if !compare_two(asked, seat, steps, walk, at) {
@@ -229,7 +256,8 @@ fn compare_row<L: Ledger>(
     compare_rest(asked, seat, steps, walk, at)
 }
 
-// Walks from a head to the word where the walk is to end, and ends with the row that is the same, where there is one.
+// Walks from a head to the word where the walk is to end, and ends with the row that is the same,
+// where there is one.
 #[inline(always)]
 pub(crate) fn walk<L: Ledger>(
     asked: &Asked<'_>,
@@ -238,7 +266,8 @@ pub(crate) fn walk<L: Ledger>(
     walk: Walk,
 ) -> Option<Noted>
     requires at { IsAt asked.now seat.old.seat }
-    requires stage { seat.old.seat.me.0.store.call ≡ arrived (content asked.now) walk.drawn walk.from walk.old walk.from }
+    requires stage { seat.old.seat.me.0.store.call ≡ arrived (content asked.now) walk.drawn
+        walk.from walk.old walk.from }
     ensures at { IsAt asked.now seat.new.seat }
     ensures same { SameSeat seat.old.seat seat.new.seat
         seat.old.number seat.new.number seat.old.seats seat.new.seats }
@@ -246,7 +275,8 @@ pub(crate) fn walk<L: Ledger>(
         (HasPassed seat.old.seat.me.0 seat.new.seat.me.0 (content asked.now)
         (ended (content asked.now) walk.drawn walk.from) walk.from walk.old)
         (Notes seat.old.seat.me.0 seat.new.seat.me.0 asked.now.head (names asked.now.args.now)) }
-    ensures cost { let z = asked.now.store.now.sizes in let before = seat.old.seat.me.0.store.passed in MatchOption result
+    ensures cost { let z = asked.now.store.now.sizes in let before = seat.old.seat.me.0.store.passed
+        in MatchOption result
         (Takes z 0 before seat.new.seat.me.0.store.passed steps.old steps.new)
         (λ _. Takes z 0 before z.rows steps.old steps.new) }
 {

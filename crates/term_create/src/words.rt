@@ -110,7 +110,8 @@ fn hash(symbol: u64, head: Head, args: &[Row]) -> u64
     }
 }
 
-// The remainder. A power of two, as the number of buckets mostly is, has it in the low bits, which spares a division.
+// The remainder. A power of two, as the number of buckets mostly is, has it in the low bits, which
+// spares a division.
 #[tactic(auto, using(crate::proofs::Remainders::low_bits))]
 fn remainder(hash: u64, in_use: u64) -> u64
     requires used { 0 < in_use }
