@@ -1,4 +1,5 @@
-//! Builds trees in a store, and collects: a benchmark of it, which docs/PERFORMANCE.md says how to run.
+//! Builds trees in a store, and collects: a benchmark of it, which docs/PERFORMANCE.md says how to
+//! run.
 #![tactic(auto)]
 
 ghost use Rattle.std.specs.Prelude.{◌≡◌, ◌≤◌, ◌<◌, true};

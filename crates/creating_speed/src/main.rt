@@ -1,4 +1,5 @@
-//! Creates chains of terms on threads: a benchmark of the shared store, which docs/PERFORMANCE.md says how to run.
+//! Creates chains of terms on threads: a benchmark of the shared store, which docs/PERFORMANCE.md
+//! says how to run.
 #![tactic(auto)]
 
 ghost use Rattle.std.specs.Prelude.{◌≡◌, IfOk, All};
@@ -30,7 +31,8 @@ struct Work {
     laps: u32,
 }
 
-// Creates a chain of so many terms, a symbol over a symbol, and says how many there are: fewer where the rows don't suffice.
+// Creates a chain of so many terms, a symbol over a symbol, and says how many there are: fewer
+// where the rows don't suffice.
 fn create_chain(store: &Store, pass: &mut Pass, symbol: u32, count: u32) -> u64
     requires inside { IsInside store.now pass.old }
     requires shared { (view_of pass.old).lock.phase ≡ Shared }

@@ -52,7 +52,8 @@ fn too_long(limit: u64) -> Refusal
 
 // All bytes that the source has left, of which there may be so many.
 fn input_of<S: Source>(alloc: Global, source: &mut S, limit: u64) -> Result<Vec<u8>, Stop>
-    ensures whole { IfOk result (λ input. GaveAll (S.left source.old) (S.left source.new) input.items) }
+    ensures whole { IfOk result
+        (λ input. GaveAll (S.left source.old) (S.left source.new) input.items) }
     ensures within { IfOk result (λ input. vec_len input ≤ limit) }
     ensures stopped { IfErr result (StopsReading limit S.left S.faults source.old source.new) }
     ensures unfailed { IsErrOf result Stop.ReadFault ⊎ (S.faults source.new ≡ S.faults source.old) }
@@ -71,7 +72,8 @@ fn input_of<S: Source>(alloc: Global, source: &mut S, limit: u64) -> Result<Vec<
     }
 }
 
-// Whether the rules of terms that are rewritten innermost may have conditions: not where traces are asked.
+// Whether the rules of terms that are rewritten innermost may have conditions: not where traces are
+// asked.
 fn conditions_of(settings: &Settings) -> Conditions
     ensures { result ≡ conditions_of settings.now }
 {
@@ -101,7 +103,8 @@ fn output_for<R: Threads + Wait + Sync, G: Gate>(
         → Answers result.answer (λ answer. IsAnswer settings.now.workers answer output) }
     ensures refused { (fault : Refusal) → IsFaultWithin settings.now input.now fault
         → StopsWith result.answer fault }
-    ensures history { TellsHistory settings.now (SpellsSuch input.now) result.answer result.chronicle }
+    ensures history { TellsHistory settings.now (SpellsSuch input.now) result.answer
+        result.chronicle }
     ensures log { OnOk result.answer
         (log_bytes result.log ≡ log_by settings.now.command settings.now result.chronicle) }
     ensures keys { OnOk result.answer (HaveLogKeys settings.now result.chronicle) }
@@ -132,8 +135,10 @@ fn answer_read<R: Threads + Wait + Sync, S: Source, G: Gate>(
     ensures made { IfOk result.answer (λ answer. (output : Output)
         × GaveOutput settings.now S.left source.old source.new output
         × IsAnswer settings.now.workers answer output) }
-    ensures stopped { IfErr result.answer (StopsAnswering settings.now S.left S.faults source.old source.new) }
-    ensures unfailed { IsErrOf result.answer Stop.ReadFault ⊎ (S.faults source.new ≡ S.faults source.old) }
+    ensures stopped { IfErr result.answer
+        (StopsAnswering settings.now S.left S.faults source.old source.new) }
+    ensures unfailed { IsErrOf result.answer Stop.ReadFault
+        ⊎ (S.faults source.new ≡ S.faults source.old) }
     ensures accepted { (input : List ℕ) (output : Output)
         → S.left source.old ≡ Some input → IsOutput settings.now input output
         → HasRows settings.now input → HasNumbers settings.now input
@@ -167,8 +172,10 @@ pub fn answer_of<R: Threads + Wait + Sync, S: Source, G: Gate>(
     ensures made { IfOk result.answer (λ answer. (output : Output)
         × GaveOutput settings.now S.left source.old source.new output
         × IsAnswer settings.now.workers answer output) }
-    ensures stopped { IfErr result.answer (StopsAnswering settings.now S.left S.faults source.old source.new) }
-    ensures unfailed { IsErrOf result.answer Stop.ReadFault ⊎ (S.faults source.new ≡ S.faults source.old) }
+    ensures stopped { IfErr result.answer
+        (StopsAnswering settings.now S.left S.faults source.old source.new) }
+    ensures unfailed { IsErrOf result.answer Stop.ReadFault
+        ⊎ (S.faults source.new ≡ S.faults source.old) }
     ensures accepted { (input : List ℕ) (output : Output)
         → HasInput settings.now S.left source.old input → IsOutput settings.now input output
         → HasRows settings.now input → HasNumbers settings.now input

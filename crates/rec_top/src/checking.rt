@@ -1,5 +1,5 @@
-// The commands `check log` and `check trace`: whether what the callers of a store noted is one legal history, and whether
-// traces lead from terms to their lines.
+// The commands `check log` and `check trace`: whether what the callers of a store noted is one
+// legal history, and whether traces lead from terms to their lines.
 ghost use Rattle.std.specs.Prelude.{◌≡◌, ◌++◌, IfOk, IfErr, OnOk, decimal};
 ghost use Rattle.rec_top.specs.Lines.{line};
 ghost use Rattle.rec_top.specs.Written.{Output};
@@ -67,7 +67,8 @@ pub fn log_checked(alloc: Global, settings: &Settings, input: &[u8]) -> Result<A
     })
 }
 
-// `derived` and how many values the output has, or `underived` and the first term whose trace doesn't lead to its line.
+// `derived` and how many values the output has, or `underived` and the first term whose trace
+// doesn't lead to its line.
 fn trace_line(alloc: Global, verdict: TraceVerdict) -> Result<Vec<u8>, Memory>
     ensures { IfOk result (λ text. text.items ≡ line (trace_text verdict)) }
 {
@@ -86,7 +87,8 @@ fn is_underived(verdict: TraceVerdict) -> bool
     }
 }
 
-/// Checks an output with traces behind its specification, and answers whether each trace leads from its term to its line.
+/// Checks an output with traces behind its specification, and answers whether each trace leads from
+/// its term to its line.
 pub fn trace_checked(alloc: Global, settings: &Settings, input: &[u8]) -> Result<Answer, Stop>
     ensures made { IfOk result (λ answer. (output : Output)
         × IsTraceChecked input.now output × IsAnswer settings.now.workers answer output) }

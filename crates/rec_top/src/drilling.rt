@@ -28,10 +28,12 @@ use std::alloc::Global;
 use std::sync::Wait;
 use std::thread::Threads;
 
-// What is told of the lines of a drill, before the log that is asked; where it isn't there, memory lacked.
+// What is told of the lines of a drill, before the log that is asked; where it isn't there, memory
+// lacked.
 fn told(alloc: Global, settings: &Settings, lines: &Lines, logged: bool) -> Result<Answer, Stop>
     ensures made { (spec : Specified) → AreLinesOf settings.now spec lines.now
-        → IfOk result (λ answer. IsAnswer settings.now.workers answer (drill_output settings.now spec)) }
+        → IfOk result
+        (λ answer. IsAnswer settings.now.workers answer (drill_output settings.now spec)) }
     ensures workers { IfOk result (λ answer. answer.workers ≡ map worker_of lines.now.list.items) }
     ensures stopped { IfErr result (λ why. why ≡ stop.Memory) }
     ensures logged { OnOk result (IsThere settings.now logged) }
@@ -54,8 +56,8 @@ fn told(alloc: Global, settings: &Settings, lines: &Lines, logged: bool) -> Resu
     })
 }
 
-// Why a drill stops, where its terms stop so. The text has no fault, which no proof says. A fault would
-// be told as want of memory.
+// Why a drill stops, where its terms stop so. The text has no fault, which no proof says. A fault
+// would be told as want of memory.
 fn stop_of(stop: Stop) -> Stop
     ensures { result ≡ stop_of_drill stop }
 {
@@ -69,8 +71,8 @@ fn stop_of(stop: Stop) -> Stop
     }
 }
 
-/// Rewrites the terms of a drill's text, and answers how many there were, how many have a value, and
-/// the fuel that those took.
+/// Rewrites the terms of a drill's text, and answers how many there were, how many have a value,
+/// and the fuel that those took.
 pub fn drilled<R: Threads + Wait + Sync, G: Gate>(
     rt: &R,
     alloc: Global,
@@ -82,13 +84,15 @@ pub fn drilled<R: Threads + Wait + Sync, G: Gate>(
         × IsDrilled settings.now (drill_bytes settings.now.count) output
         × IsAnswer settings.now.workers answer output) }
     ensures stopped { IfErr result.answer (StopsDrilling settings.now) }
-    ensures accepted { (output : Output) → IsDrilled settings.now (drill_bytes settings.now.count) output
+    ensures accepted { (output : Output)
+        → IsDrilled settings.now (drill_bytes settings.now.count) output
         → RowsSuffice settings.now (drill_bytes settings.now.count)
         → NumbersSuffice settings.now (drill_bytes settings.now.count)
         → Answers result.answer (λ answer. IsAnswer settings.now.workers answer output) }
     ensures history { TellsTerms settings.now (SpellsSuch (drill_bytes settings.now.count))
         result.answer result.chronicle }
-    ensures log { OnOk result.answer (log_bytes result.log ≡ log_asked settings.now result.chronicle) }
+    ensures log { OnOk result.answer
+        (log_bytes result.log ≡ log_asked settings.now result.chronicle) }
     ensures keys { OnOk result.answer (HaveLogKeys settings.now result.chronicle) }
 {
     let text = match drill_text(alloc, settings.count) {

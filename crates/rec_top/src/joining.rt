@@ -22,7 +22,8 @@ pub fn is_value(line: &Line) -> bool
     }
 }
 
-/// All lines in order, each with its end. Their room is taken at once, so that no line is copied twice.
+/// All lines in order, each with its end. Their room is taken at once, so that no line is copied
+/// twice.
 pub fn joined(alloc: Global, lines: &[Line]) -> Result<Vec<u8>, Memory>
     ensures { IfOk result (λ text. text.items ≡ flat_map (λ l. line l.text.items) lines.now) }
 {
@@ -83,7 +84,8 @@ fn push_count(text: &mut Vec<u8>, name: &[u8], number: u128) -> Result<(), Memor
     Ok(())
 }
 
-/// The lines of a drill: how many terms there were, how many have a value, and the fuel that those took.
+/// The lines of a drill: how many terms there were, how many have a value, and the fuel that those
+/// took.
 pub fn counts(alloc: Global, terms: u32, values: usize, spent: u128) -> Result<Vec<u8>, Memory>
     ensures { IfOk result (λ text. text.items ≡ counts_text terms values spent) }
 {

@@ -18,7 +18,8 @@ use term_commands::pack_terms;
 pub fn packed(alloc: Global, settings: &Settings, input: &[u8]) -> Result<Answer, Stop>
     requires { AreInRange settings.now }
     ensures made { IfOk result (λ answer. (output : Output)
-        × IsFiled settings.now.rows input.now output × IsAnswer settings.now.workers answer output) }
+        × IsFiled settings.now.rows input.now output
+        × IsAnswer settings.now.workers answer output) }
     ensures stopped { IfErr result (StopsTelling settings.now.rows input.now) }
     ensures accepted { (output : Output) → IsFiled settings.now.rows input.now output
         → Answers result (λ answer. IsAnswer settings.now.workers answer output) }

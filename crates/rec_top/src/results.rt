@@ -50,8 +50,8 @@ impl Workers {
 pub struct Outcome {
     /// The exit status.
     pub status: u8,
-    /// The creations and collections of its workers on their store, those of worker k under the number k. Where no
-    /// terms were rewritten it has none.
+    /// The creations and collections of its workers on their store, those of worker k under the
+    /// number k. Where no terms were rewritten it has none.
     pub chronicle: Chronicle,
     /// The worker of each term that was rewritten, where the output was made; else none.
     pub workers: Workers,

@@ -37,7 +37,8 @@ use std::alloc::Global;
 use std::sync::Wait;
 use std::thread::Threads;
 
-/// The lines of terms, or why there are none; the history of the workers; and its log, where one is asked and there was memory for it.
+/// The lines of terms, or why there are none; the history of the workers; and its log, where one is
+/// asked and there was memory for it.
 #[derive(Drop)]
 pub struct Worked {
     pub lines: Result<Lines, Stop>,
@@ -75,14 +76,16 @@ fn rewrite<R: Threads + Wait + Sync, G: Gate>(
     requires narrow { spec.widest ≤ 16 }
     requires few { length spec.terms.items ≤ 65535 }
     ensures made { IfOk result.lines (λ lines. AreLinesOf settings.now (specified spec) lines) }
-    ensures stopped { IfErr result.lines (StopsTerms settings.now spec.rules.items spec.terms.items) }
+    ensures stopped { IfErr result.lines
+        (StopsTerms settings.now spec.rules.items spec.terms.items) }
     ensures legal { IsLegal settings.now.rows (chronicle result.chronicle) }
     ensures rises { EachRises result.chronicle }
     ensures collects { CollectsFew settings.now result.chronicle }
     ensures each { CountsWorkers settings.now result.lines result.chronicle }
     ensures built { IfOk result.lines (λ lines.
         NamesAll (map worker_of lines.list.items) result.chronicle settings.now (specified spec)) }
-    ensures ended { IfErr result.lines (TellsStop settings.now (λ P. P (specified spec)) result.chronicle) }
+    ensures ended { IfErr result.lines
+        (TellsStop settings.now (λ P. P (specified spec)) result.chronicle) }
     ensures log { MayHaveLog settings.now result.chronicle result.log }
     ensures keys { IfSome result.log (λ _. AllByRecursion HaveKeys result.chronicle) }
 {
@@ -129,17 +132,20 @@ pub fn lines_for<R: Threads + Wait + Sync, G: Gate>(
         × Spells input.now spec × AreLinesOf settings.now spec lines) }
     ensures meets { OnOk result.lines (MeetsConditions conditions input.now) }
     ensures stopped { IfErr result.lines (StopsRewriting conditions settings.now input.now) }
-    ensures accepted { (spec : Specified) → Spells input.now spec → MeetsConditions conditions input.now
+    ensures accepted { (spec : Specified) → Spells input.now spec
+        → MeetsConditions conditions input.now
         → RowsSuffice settings.now input.now → NumbersSuffice settings.now input.now
         → Answers result.lines (λ lines. AreLinesOf settings.now spec lines) }
-    ensures refused { (fault : Refusal) → IsInputFault conditions input.now fault → StopsWith result.lines fault }
+    ensures refused { (fault : Refusal) → IsInputFault conditions input.now fault
+        → StopsWith result.lines fault }
     ensures legal { IsLegal settings.now.rows (chronicle result.chronicle) }
     ensures rises { EachRises result.chronicle }
     ensures collects { CollectsFew settings.now result.chronicle }
     ensures each { CountsWorkers settings.now result.lines result.chronicle }
     ensures built { IfOk result.lines (λ lines. SpellsSuch input.now
         (NamesAll (map worker_of lines.list.items) result.chronicle settings.now)) }
-    ensures ended { IfErr result.lines (TellsStop settings.now (SpellsSuch input.now) result.chronicle) }
+    ensures ended { IfErr result.lines
+        (TellsStop settings.now (SpellsSuch input.now) result.chronicle) }
     ensures log { MayHaveLog settings.now result.chronicle result.log }
     ensures keys { IfSome result.log (λ _. AllByRecursion HaveKeys result.chronicle) }
 {
@@ -166,7 +172,8 @@ fn text_of(alloc: Global, lines: &Lines, traced: bool) -> Result<Vec<u8>, Memory
 fn told(alloc: Global, settings: &Settings, lines: &Lines, logged: bool) -> Result<Answer, Stop>
     requires one_each { length lines.now.traces.items ≡ length lines.now.list.items }
     ensures made { (spec : Specified) → AreLinesOf settings.now spec lines.now
-        → IfOk result (λ answer. IsAnswer settings.now.workers answer (output_of settings.now spec)) }
+        → IfOk result
+        (λ answer. IsAnswer settings.now.workers answer (output_of settings.now spec)) }
     ensures workers { IfOk result (λ answer. answer.workers ≡ map worker_of lines.now.list.items) }
     ensures stopped { IfErr result (λ why. why ≡ stop.Memory) }
     ensures logged { OnOk result (IsThere settings.now logged) }
@@ -184,7 +191,8 @@ fn told(alloc: Global, settings: &Settings, lines: &Lines, logged: bool) -> Resu
     })
 }
 
-/// Reads a specification, whose rules may have conditions or not, and answers the lines of its terms.
+/// Reads a specification, whose rules may have conditions or not, and answers the lines of its
+/// terms.
 pub fn rewritten<R: Threads + Wait + Sync, G: Gate>(
     rt: &R,
     alloc: Global,
@@ -199,11 +207,15 @@ pub fn rewritten<R: Threads + Wait + Sync, G: Gate>(
     ensures meets { OnOk result.answer (MeetsConditions conditions input.now) }
     ensures stopped { IfErr result.answer (StopsRewriting conditions settings.now input.now) }
     ensures accepted { (output : Output) → IsRewritten settings.now input.now output
-        → MeetsConditions conditions input.now → RowsSuffice settings.now input.now → NumbersSuffice settings.now input.now
+        → MeetsConditions conditions input.now → RowsSuffice settings.now input.now
+        → NumbersSuffice settings.now input.now
         → Answers result.answer (λ answer. IsAnswer settings.now.workers answer output) }
-    ensures refused { (fault : Refusal) → IsInputFault conditions input.now fault → StopsWith result.answer fault }
-    ensures history { TellsTerms settings.now (SpellsSuch input.now) result.answer result.chronicle }
-    ensures log { OnOk result.answer (log_bytes result.log ≡ log_asked settings.now result.chronicle) }
+    ensures refused { (fault : Refusal) → IsInputFault conditions input.now fault
+        → StopsWith result.answer fault }
+    ensures history { TellsTerms settings.now (SpellsSuch input.now) result.answer
+        result.chronicle }
+    ensures log { OnOk result.answer
+        (log_bytes result.log ≡ log_asked settings.now result.chronicle) }
     ensures keys { OnOk result.answer (HaveLogKeys settings.now result.chronicle) }
 {
     let Worked {

@@ -17,7 +17,8 @@ use std::alloc::Global;
 pub fn scheduled(alloc: Global, settings: &Settings, input: &[u8]) -> Result<Answer, Stop>
     requires { AreInRange settings.now }
     ensures made { IfOk result (λ answer. (output : Output)
-        × IsScheduled settings.now.seats input.now output × IsAnswer settings.now.workers answer output) }
+        × IsScheduled settings.now.seats input.now output
+        × IsAnswer settings.now.workers answer output) }
     ensures stopped { IfErr result (StopsScheduling settings.now.seats input.now) }
     ensures accepted { (output : Output) → IsScheduled settings.now.seats input.now output
         → Answers result (λ answer. IsAnswer settings.now.workers answer output) }

@@ -73,9 +73,11 @@ pub fn specification_of(alloc: Global, conditions: Conditions, input: &[u8]) -> 
     ensures narrow { IfOk result (λ spec. spec.widest ≤ 16) }
     ensures meets { OnOk result (MeetsConditions conditions input.now) }
     ensures stopped { IfErr result (StopsSpelling conditions input.now) }
-    ensures accepted { (spec : Specified) → Spells input.now spec → MeetsConditions conditions input.now
+    ensures accepted { (spec : Specified) → Spells input.now spec
+        → MeetsConditions conditions input.now
         → Answers result (λ made. specified made ≡ spec) }
-    ensures refused { (fault : Refusal) → IsInputFault conditions input.now fault → StopsWith result fault }
+    ensures refused { (fault : Refusal) → IsInputFault conditions input.now fault
+        → StopsWith result fault }
 {
     Ok(read(alloc, conditions, input)?)
 }

@@ -13,7 +13,8 @@ use settings::Settings;
 use std::alloc::Global;
 use term_commands::{Unpacked, unpack_terms};
 
-/// Answers the canonical line of each term of a file, `too large` in place of one with too many nodes.
+/// Answers the canonical line of each term of a file, `too large` in place of one with too many
+/// nodes.
 pub fn unpacked(alloc: Global, settings: &Settings, input: &[u8]) -> Result<Answer, Stop>
     ensures made { IfOk result (λ answer. (output : Output)
         × IsUnfiled input.now output × IsAnswer settings.now.workers answer output) }

@@ -10,7 +10,8 @@ use std::marker::Model;
 use std::num::NonZeroUsize;
 use term_model::Row;
 
-/// A memory of at most so many results. Where it is full, the one that wasn't used for longest goes.
+/// A memory of at most so many results. Where it is full, the one that wasn't used for longest
+/// goes.
 #[derive(Drop)]
 pub struct LruMemo {
     results: LruCache<u32, Known>,

@@ -53,7 +53,8 @@ fn trace_by<R: Threads + Sync, T: Terms + Send, G: Gate>(
     // What every answer leaves of each desk.
     ensures ready { All (λ d. IsReady work.now.settings work.now.plan.now (T.store d)) desks.new }
     ensures kept { EachDesk (λ _ old new. KeepsDesk work.now.settings (need_of work.now.settings
-        work.now.plan.now.rules work.now.terms.now) (T.store old) (T.store new)) desks.old desks.new }
+        work.now.plan.now.rules work.now.terms.now) (T.store old) (T.store new)) desks.old
+        desks.new }
     ensures same { EachDesk (λ _ old new. T.same old new) desks.old desks.new }
 {
     let Crew {
@@ -85,8 +86,8 @@ fn rewrite_by<R: Threads + Sync, T: Terms + Send, G: Gate>(
     requires may { MayWork work.now.plan.now work.now.symbols.now work.now.terms.now }
     requires ready { All (λ d. IsReady work.now.settings work.now.plan.now (T.store d)) desks.old }
     requires crew { IsCrew (length desks.old) (length work.now.terms.now) crew }
-    // The lines are those of the terms, in their order, whoever drew them, and the events beside them lead to
-    // their values.
+    // The lines are those of the terms, in their order, whoever drew them, and the events beside
+    // them lead to their values.
     ensures lines { IfOk result (λ l. map said l.list.items
         ≡ map (line_of work.now.settings work.now.symbols.now work.now.plan.now.rules)
         work.now.terms.now) }
@@ -109,7 +110,8 @@ fn rewrite_by<R: Threads + Sync, T: Terms + Send, G: Gate>(
     // What every answer leaves of each desk.
     ensures ready { All (λ d. IsReady work.now.settings work.now.plan.now (T.store d)) desks.new }
     ensures kept { EachDesk (λ _ old new. KeepsDesk work.now.settings (need_of work.now.settings
-        work.now.plan.now.rules work.now.terms.now) (T.store old) (T.store new)) desks.old desks.new }
+        work.now.plan.now.rules work.now.terms.now) (T.store old) (T.store new)) desks.old
+        desks.new }
     ensures same { EachDesk (λ _ old new. T.same old new) desks.old desks.new }
 {
     match trace_by(rt, alloc, work, desks, gate, crew) {
@@ -121,12 +123,12 @@ fn rewrite_by<R: Threads + Sync, T: Terms + Send, G: Gate>(
     }
 }
 
-/// Rewrites the terms of some work, by one worker for each desk, and tells the lines of all, with the events
-/// that lead to their values where those are asked. The first
-/// worker works in this thread, and each other in a thread of its own where one can be made; where none
-/// can, the others do its work. Each worker draws the next term that nobody has drawn, until none is
-/// left, a build is refused, or there is no memory. The gate is told before and after each term, while
-/// the worker's desk is outside. Of several faults want of memory is told before want of numbers, and
+/// Rewrites the terms of some work, by one worker for each desk, and tells the lines of all, with
+/// the events that lead to their values where those are asked. The first worker works in this
+/// thread, and each other in a thread of its own where one can be made; where none can, the others
+/// do its work. Each worker draws the next term that nobody has drawn, until none is left, a build
+/// is refused, or there is no memory. The gate is told before and after each term, while the
+/// worker's desk is outside. Of several faults want of memory is told before want of numbers, and
 /// that before want of rows.
 pub fn rewrite_all<R: Threads + Sync, T: Terms + Send, G: Gate>(
     rt: &R,
@@ -140,8 +142,8 @@ pub fn rewrite_all<R: Threads + Sync, T: Terms + Send, G: Gate>(
     requires ready { All (λ d. IsReady work.now.settings work.now.plan.now (T.store d)) desks.old }
     requires may { MayWork work.now.plan.now work.now.symbols.now work.now.terms.now }
 
-    // The lines are those of the terms, in their order, whoever drew them, and the events beside them lead to
-    // their values, where the settings ask for them and no rule has a condition.
+    // The lines are those of the terms, in their order, whoever drew them, and the events beside
+    // them lead to their values, where the settings ask for them and no rule has a condition.
     ensures lines { IfOk result (λ l. map said l.list.items
         ≡ map (line_of work.now.settings work.now.symbols.now work.now.plan.now.rules)
         work.now.terms.now) }
@@ -164,7 +166,8 @@ pub fn rewrite_all<R: Threads + Sync, T: Terms + Send, G: Gate>(
     // What every answer leaves of each desk.
     ensures ready { All (λ d. IsReady work.now.settings work.now.plan.now (T.store d)) desks.new }
     ensures kept { EachDesk (λ _ old new. KeepsDesk work.now.settings (need_of work.now.settings
-        work.now.plan.now.rules work.now.terms.now) (T.store old) (T.store new)) desks.old desks.new }
+        work.now.plan.now.rules work.now.terms.now) (T.store old) (T.store new)) desks.old
+        desks.new }
     ensures same { EachDesk (λ _ old new. T.same old new) desks.old desks.new }
 {
     let workers = desks.len() as u32;

@@ -83,7 +83,8 @@ pub(crate) type Seat = atomic_table::Seat<(), Drawn>;
 pub(crate) fn draws_of(alloc: Global, about: &Extent) -> Result<(Draws, Seat), Memory>
     requires { about.now.end + about.now.shares < 2 ^ 64 }
     ensures about { IfOk result (λ d. d.0.shared.key ≡ about.now) }
-    ensures seat { IfOk result (λ d. IsIn d.0.shared.table_id d.1.table_id d.1.me (undrawn about.now)) }
+    ensures seat { IfOk result
+        (λ d. IsIn d.0.shared.table_id d.1.table_id d.1.me (undrawn about.now)) }
 {
     Ok(Draws::of_words(alloc, &[0], about)?)
 }
@@ -92,7 +93,8 @@ pub(crate) fn draws_of(alloc: Global, about: &Extent) -> Result<(Draws, Seat), M
 pub(crate) fn draw(draws: &Draws, seat: &mut Seat) -> u64
     requires seat { IsIn draws.now.shared.table_id seat.old.table_id seat.old.me seat.old.me.0 }
     requires share { seat.old.me.0.past < seat.old.me.0.shares }
-    ensures drew { IsIn draws.now.shared.table_id seat.new.table_id seat.new.me (drew seat.old.me.0 result) }
+    ensures drew { IsIn draws.now.shared.table_id seat.new.table_id seat.new.me
+        (drew seat.old.me.0 result) }
     ensures above { All (λ x. x < result) seat.old.me.0.numbers }
 {
     draws.shared.fetch_add::<NextNumber>(seat, 0, 1)
@@ -103,8 +105,10 @@ pub(crate) fn cut(draws: &Draws, seat: &mut Seat) -> Seat
     requires seat { IsIn draws.now.shared.table_id seat.old.table_id seat.old.me seat.old.me.0 }
     requires share { 0 < seat.old.me.0.shares }
     requires none { (seat.old.me.0.numbers ≡ []) × (seat.old.me.0.past ≡ 0) }
-    ensures left { IsIn draws.now.shared.table_id seat.new.table_id seat.new.me (one_less seat.old.me.0) }
-    ensures cut { IsIn draws.now.shared.table_id result.table_id result.me (one_share seat.old.me.0) }
+    ensures left { IsIn draws.now.shared.table_id seat.new.table_id seat.new.me
+        (one_less seat.old.me.0) }
+    ensures cut { IsIn draws.now.shared.table_id result.table_id result.me
+        (one_share seat.old.me.0) }
 {
     draws.shared.split_seat::<OneShare>(seat)
 }
@@ -114,7 +118,8 @@ pub(crate) fn join(draws: &Draws, seat: &mut Seat, other: Seat)
     requires seat { IsIn draws.now.shared.table_id seat.old.table_id seat.old.me seat.old.me.0 }
     requires other { IsIn draws.now.shared.table_id other.table_id other.me other.me.0 }
     requires share { 0 < other.me.0.shares }
-    ensures { IsIn draws.now.shared.table_id seat.new.table_id seat.new.me (joined seat.old.me.0 other.me.0) }
+    ensures { IsIn draws.now.shared.table_id seat.new.table_id seat.new.me
+        (joined seat.old.me.0 other.me.0) }
 {
     draws.shared.join_seat::<Together>(seat, other);
 }

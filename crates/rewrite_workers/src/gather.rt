@@ -131,7 +131,8 @@ pub(crate) fn collect(
     shares: Vec<Share>,
     mut lines: Vec<Traced>,
 ) -> Result<Vec<Traced>, AllFault>
-    requires all { IsUncut draws.now.shared.table_id all.table_id all.me all.me.0 × (all.me.0.shares ≡ 0) }
+    requires all { IsUncut draws.now.shared.table_id all.table_id all.me all.me.0
+        × (all.me.0.shares ≡ 0) }
     requires count { length shares.items ≡ draws.now.shared.key.shares }
     requires shares { All (HasOneShare draws.now.shared.table_id) shares.items }
     requires places { All (λ s. HasPlaces (length lines.items) s.lines.items) shares.items }

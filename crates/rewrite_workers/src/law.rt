@@ -13,8 +13,8 @@ pub fn each_number_is_drawn_once()
         → (x : ℕ) → x < slice_index s.words 0 → IsInOne x s.views }
 {}
 
-/// What a seat drew stands on in the seat to which it is joined, and a seat with all shares has what
-/// all drew.
+/// What a seat drew stands on in the seat to which it is joined, and a seat with all shares has
+/// what all drew.
 pub fn hands_are_joined()
     ensures joined { (x : ℕ) (v w : Drawn)
         → times x (joined v w).numbers ≡ times x v.numbers + times x w.numbers }

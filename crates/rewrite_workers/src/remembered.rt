@@ -10,8 +10,8 @@ ghost use Rattle.rewrite_workers.specs.Works.{remembers_results};
 use innermost::Memo;
 use terms_api::Terms;
 
-/// Results of reductions, and the epoch of the desk when it was left last. It is a later one where the desk
-/// lost a row since.
+/// Results of reductions, and the epoch of the desk when it was left last. It is a later one where
+/// the desk lost a row since.
 #[derive(Drop)]
 pub(crate) struct Remembered<M> {
     pub memo: M,

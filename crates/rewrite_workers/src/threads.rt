@@ -21,11 +21,14 @@ pub(crate) fn work_all<R: Threads + Sync, T: Terms + Send, G: Gate>(
     shares: &mut [Share],
 )
     requires may { MayWork job.now.work.plan.now job.now.work.symbols.now job.now.work.terms.now }
-    requires ready { All (λ d. IsReady job.now.work.settings job.now.work.plan.now (T.store d)) desks.old }
-    requires fresh { All (IsFresh job.now.draws.now.shared.table_id (length job.now.work.terms.now)) shares.old }
+    requires ready { All (λ d. IsReady job.now.work.settings job.now.work.plan.now (T.store d))
+        desks.old }
+    requires fresh { All (IsFresh job.now.draws.now.shared.table_id (length job.now.work.terms.now))
+        shares.old }
     requires one_each { length shares.old ≡ length desks.old }
     ensures { EachShare (λ d e x y. T.same d e × Works job.now.work.settings job.now.work.plan.now
-        job.now.work.symbols.now job.now.work.terms.now job.now.draws.now.shared.table_id (T.store d) (T.store e) x y)
+        job.now.work.symbols.now job.now.work.terms.now job.now.draws.now.shared.table_id
+        (T.store d) (T.store e) x y)
         desks.old desks.new shares.old shares.new }
 {
     let Some((desk, desks)) = desks.split_first_mut() else {
@@ -49,33 +52,44 @@ fn work_both<R: Threads + Sync, T: Terms + Send, G: Gate>(
 )
     requires may { MayWork job.now.work.plan.now job.now.work.symbols.now job.now.work.terms.now }
     requires desk { IsReady job.now.work.settings job.now.work.plan.now (T.store desk.old) }
-    requires share { IsFresh job.now.draws.now.shared.table_id (length job.now.work.terms.now) share.old }
-    requires desks { All (λ d. IsReady job.now.work.settings job.now.work.plan.now (T.store d)) desks.old }
-    requires shares { All (IsFresh job.now.draws.now.shared.table_id (length job.now.work.terms.now)) shares.old }
+    requires share { IsFresh job.now.draws.now.shared.table_id (length job.now.work.terms.now)
+        share.old }
+    requires desks { All (λ d. IsReady job.now.work.settings job.now.work.plan.now (T.store d))
+        desks.old }
+    requires shares { All
+        (IsFresh job.now.draws.now.shared.table_id (length job.now.work.terms.now)) shares.old }
     requires one_each { length shares.old ≡ length desks.old }
     ensures first { T.same desk.old desk.new × Works job.now.work.settings job.now.work.plan.now
         job.now.work.symbols.now job.now.work.terms.now job.now.draws.now.shared.table_id
         (T.store desk.old) (T.store desk.new) share.old share.new }
-    ensures others { EachShare (λ d e x y. T.same d e × Works job.now.work.settings job.now.work.plan.now
-        job.now.work.symbols.now job.now.work.terms.now job.now.draws.now.shared.table_id (T.store d) (T.store e) x y)
+    ensures others { EachShare
+        (λ d e x y. T.same d e × Works job.now.work.settings job.now.work.plan.now
+        job.now.work.symbols.now job.now.work.terms.now job.now.draws.now.shared.table_id
+        (T.store d) (T.store e) x y)
         desks.old desks.new shares.old shares.new }
 {
     let mut others = ||
         requires { IsSync R.row × IsSync G.row × IsSend T.row
             × MayWork job.now.work.plan.now job.now.work.symbols.now job.now.work.terms.now
             × All (λ d. IsReady job.now.work.settings job.now.work.plan.now (T.store d)) desks.now
-            × All (IsFresh job.now.draws.now.shared.table_id (length job.now.work.terms.now)) shares.now
+            × All (IsFresh job.now.draws.now.shared.table_id (length job.now.work.terms.now))
+            shares.now
             × (length shares.now ≡ length desks.now) }
-        ensures { EachShare (λ d e x y. T.same d e × Works job.entry.now.work.settings job.entry.now.work.plan.now
-            job.entry.now.work.symbols.now job.entry.now.work.terms.now job.entry.now.draws.now.shared.table_id
-            (T.store d) (T.store e) x y) desks.entry.now desks.exit.now shares.entry.now shares.exit.now }
+        ensures { EachShare
+            (λ d e x y. T.same d e × Works job.entry.now.work.settings job.entry.now.work.plan.now
+            job.entry.now.work.symbols.now job.entry.now.work.terms.now
+            job.entry.now.draws.now.shared.table_id
+            (T.store d) (T.store e) x y) desks.entry.now desks.exit.now shares.entry.now
+            shares.exit.now }
     { work_all(rt, job, desks, shares) };
     let mut first = ||
         requires { MayWork job.now.work.plan.now job.now.work.symbols.now job.now.work.terms.now
             × IsReady job.now.work.settings job.now.work.plan.now (T.store desk.now)
             × IsFresh job.now.draws.now.shared.table_id (length job.now.work.terms.now) share.now }
-        ensures { T.same desk.entry.now desk.exit.now × Works job.entry.now.work.settings job.entry.now.work.plan.now
-            job.entry.now.work.symbols.now job.entry.now.work.terms.now job.entry.now.draws.now.shared.table_id
+        ensures { T.same desk.entry.now desk.exit.now
+            × Works job.entry.now.work.settings job.entry.now.work.plan.now
+            job.entry.now.work.symbols.now job.entry.now.work.terms.now
+            job.entry.now.draws.now.shared.table_id
             (T.store desk.entry.now) (T.store desk.exit.now) share.entry.now share.exit.now }
     { work(job, desk, share) };
     join_mut(rt, &mut others, &mut first);

@@ -18,8 +18,9 @@ pub struct Work<'a> {
     pub symbols: &'a Symbols,
     /// The terms, which are numbered from 0.
     pub terms: &'a [Flat],
-    /// The command, by which terms are rewritten outermost or innermost; the fuel and the depth of each
-    /// term, the rows of each desk, whether sizes are written, and whether the events that lead to values are told.
+    /// The command, by which terms are rewritten outermost or innermost; the fuel and the depth of
+    /// each term, the rows of each desk, whether sizes are written, and whether the events that
+    /// lead to values are told.
     pub settings: Settings,
 }
 

@@ -28,8 +28,8 @@ pub(crate) struct Numbered {
     pub line: Traced,
 }
 
-/// What a worker has of its own: its number, its seat in the draws, the lines that it made, in order,
-/// and how it ended.
+/// What a worker has of its own: its number, its seat in the draws, the lines that it made, in
+/// order, and how it ended.
 #[derive(Drop)]
 pub(crate) struct Share {
     pub worker: u32,
@@ -72,7 +72,8 @@ fn rewriter_of<G>(job: &Job<G>) -> Result<Rewriter, Memory>
     })
 }
 
-// Makes the line of a term on a desk, with its events. The gate is told before and after, while nobody is inside.
+// Makes the line of a term on a desk, with its events. The gate is told before and after, while
+// nobody is inside.
 fn make_line<T: Terms, G: Gate, M: Memo>(
     job: &Job<G>,
     rewriter: &mut Rewriter,
@@ -92,7 +93,8 @@ fn make_line<T: Terms, G: Gate, M: Memo>(
     ensures worker { IfOk result (λ l. l.line.worker ≡ worker) }
     ensures ended { Ended job.now.work.settings job.now.work.plan.now.rules
         (term_at job.now.work.terms.now number ∷ []) (T.store desk.old) (T.store desk.new) result }
-    ensures works { WorksOn job.now.work.settings (need_at job.now.work.settings job.now.work.plan.now.rules job.now.work.terms.now number)
+    ensures works { WorksOn job.now.work.settings
+        (need_at job.now.work.settings job.now.work.plan.now.rules job.now.work.terms.now number)
         (T.store desk.old) (T.store desk.new) result }
     ensures ready { IsReady job.now.work.settings job.now.work.plan.now (T.store desk.new) }
     ensures recalls { Recalls job.now.work.settings job.now.work.plan.now.rules (T.store desk.new)
@@ -148,12 +150,14 @@ fn add_line<T: Terms, G: Gate, M: Memo>(
     requires recalls { Recalls job.now.work.settings job.now.work.plan.now.rules (T.store desk.old)
         (M.map memory.old.memo) memory.old.epoch }
     ensures line { OnOk result (AddsLine share.old share.new number (told_of job.now.work.settings
-        job.now.work.symbols.now job.now.work.plan.now.rules (term_at job.now.work.terms.now number))) }
+        job.now.work.symbols.now job.now.work.plan.now.rules
+        (term_at job.now.work.terms.now number))) }
     ensures unmade { OnErr result (share.new.lines.items ≡ share.old.lines.items) }
     ensures seat { KeepsSeat share.old share.new }
     ensures ended { Ended job.now.work.settings job.now.work.plan.now.rules
         (term_at job.now.work.terms.now number ∷ []) (T.store desk.old) (T.store desk.new) result }
-    ensures works { WorksOn job.now.work.settings (need_at job.now.work.settings job.now.work.plan.now.rules job.now.work.terms.now number)
+    ensures works { WorksOn job.now.work.settings
+        (need_at job.now.work.settings job.now.work.plan.now.rules job.now.work.terms.now number)
         (T.store desk.old) (T.store desk.new) result }
     ensures ready { IsReady job.now.work.settings job.now.work.plan.now (T.store desk.new) }
     ensures recalls { Recalls job.now.work.settings job.now.work.plan.now.rules (T.store desk.new)
@@ -181,9 +185,11 @@ fn draw_terms<T: Terms, G: Gate, M: Memo>(
     requires ready { IsReady job.now.work.settings job.now.work.plan.now (T.store desk.old) }
     requires recalls { Recalls job.now.work.settings job.now.work.plan.now.rules (T.store desk.old)
         (M.map memory.old.memo) memory.old.epoch }
-    requires fresh { IsFresh job.now.draws.now.shared.table_id (length job.now.work.terms.now) share.old }
+    requires fresh { IsFresh job.now.draws.now.shared.table_id (length job.now.work.terms.now)
+        share.old }
     ensures seat { Drew job.now.draws.now.shared.table_id share.old share.new }
-    ensures worked { Worked job.now.work.settings job.now.work.symbols.now job.now.work.plan.now.rules
+    ensures worked { Worked job.now.work.settings job.now.work.symbols.now
+        job.now.work.plan.now.rules
         job.now.work.terms.now (T.store desk.old) (T.store desk.new) share.new result }
     ensures ready { IsReady job.now.work.settings job.now.work.plan.now (T.store desk.new) }
     ensures same { T.same desk.old desk.new }
@@ -210,9 +216,11 @@ fn draw_with<T: Terms, G: Gate, M: Memo + Drop>(
     requires rewriter { IsRewriterOf job.now.work.settings job.now.work.plan.now rewriter }
     requires memo { (row : Row) → M.map memo row ≡ None }
     requires ready { IsReady job.now.work.settings job.now.work.plan.now (T.store desk.old) }
-    requires fresh { IsFresh job.now.draws.now.shared.table_id (length job.now.work.terms.now) share.old }
+    requires fresh { IsFresh job.now.draws.now.shared.table_id (length job.now.work.terms.now)
+        share.old }
     ensures seat { Drew job.now.draws.now.shared.table_id share.old share.new }
-    ensures worked { Worked job.now.work.settings job.now.work.symbols.now job.now.work.plan.now.rules
+    ensures worked { Worked job.now.work.settings job.now.work.symbols.now
+        job.now.work.plan.now.rules
         job.now.work.terms.now (T.store desk.old) (T.store desk.new) share.new result }
     ensures ready { IsReady job.now.work.settings job.now.work.plan.now (T.store desk.new) }
     ensures same { T.same desk.old desk.new }
@@ -229,9 +237,11 @@ fn work_through<T: Terms, G: Gate>(
 ) -> Result<(), LineStop>
     requires may { MayWork job.now.work.plan.now job.now.work.symbols.now job.now.work.terms.now }
     requires ready { IsReady job.now.work.settings job.now.work.plan.now (T.store desk.old) }
-    requires fresh { IsFresh job.now.draws.now.shared.table_id (length job.now.work.terms.now) share.old }
+    requires fresh { IsFresh job.now.draws.now.shared.table_id (length job.now.work.terms.now)
+        share.old }
     ensures seat { Drew job.now.draws.now.shared.table_id share.old share.new }
-    ensures worked { Worked job.now.work.settings job.now.work.symbols.now job.now.work.plan.now.rules
+    ensures worked { Worked job.now.work.settings job.now.work.symbols.now
+        job.now.work.plan.now.rules
         job.now.work.terms.now (T.store desk.old) (T.store desk.new) share.new result }
     ensures ready { IsReady job.now.work.settings job.now.work.plan.now (T.store desk.new) }
     ensures same { T.same desk.old desk.new }
@@ -249,9 +259,11 @@ fn work_through<T: Terms, G: Gate>(
 pub(crate) fn work<T: Terms, G: Gate>(job: &Job<G>, desk: &mut T, share: &mut Share)
     requires may { MayWork job.now.work.plan.now job.now.work.symbols.now job.now.work.terms.now }
     requires ready { IsReady job.now.work.settings job.now.work.plan.now (T.store desk.old) }
-    requires fresh { IsFresh job.now.draws.now.shared.table_id (length job.now.work.terms.now) share.old }
+    requires fresh { IsFresh job.now.draws.now.shared.table_id (length job.now.work.terms.now)
+        share.old }
     ensures seat { Drew job.now.draws.now.shared.table_id share.old share.new }
-    ensures worked { Worked job.now.work.settings job.now.work.symbols.now job.now.work.plan.now.rules
+    ensures worked { Worked job.now.work.settings job.now.work.symbols.now
+        job.now.work.plan.now.rules
         job.now.work.terms.now (T.store desk.old) (T.store desk.new) share.new share.new.end }
     ensures ready { IsReady job.now.work.settings job.now.work.plan.now (T.store desk.new) }
     ensures same { T.same desk.old desk.new }

@@ -1,5 +1,6 @@
-//! Rewrites the terms of a specification by one thread, on a store of its own and on a shared one in turn, and says how many
-//! have values. How long each took stands on the error output: a benchmark, which docs/PERFORMANCE.md says how to run.
+//! Rewrites the terms of a specification by one thread, on a store of its own and on a shared one
+//! in turn, and says how many have values. How long each took stands on the error output: a
+//! benchmark, which docs/PERFORMANCE.md says how to run.
 #![tactic(auto)]
 
 mod laps;

@@ -52,7 +52,8 @@ fn store_for(alloc: Global, widest: u32) -> Result<(Store, Vec<Pass>), Memory>
     Store::make(alloc, sizes_for(widest))
 }
 
-// A store of one's own, on which terms may be rewritten. The machine is there for the contract alone.
+// A store of one's own, on which terms may be rewritten. The machine is there for the contract
+// alone.
 fn own_store(
     alloc: Global,
     rows: u32,
@@ -67,7 +68,8 @@ fn own_store(
     PlainStore::new(alloc, rows, depth, plan.widest())
 }
 
-// A desk at the pass, on which terms may be rewritten. The plan and the machine are there for the contract alone.
+// A desk at the pass, on which terms may be rewritten. The plan and the machine are there for the
+// contract alone.
 fn desk_at<'a, R: Wait>(
     rt: &'a R,
     alloc: Global,

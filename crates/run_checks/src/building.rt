@@ -42,7 +42,8 @@ fn put_item(
     stack: &mut Vec<u32>,
 ) -> Result<(), Memory>
     requires comes { ComesOn table.old bound.now item stack.old.items }
-    ensures { OnOk result (Comes table.old table.new bound.now item stack.old.items stack.new.items) }
+    ensures { OnOk result
+        (Comes table.old table.new bound.now item stack.old.items stack.new.items) }
 {
     match item {
         Item::Var(variable) => {
@@ -68,7 +69,8 @@ fn put_symbol(
     requires symbol { symbol.0 < length table.old.symbols }
     requires enough { count ≤ length stack.old.items }
     requires there { All (IsThere table.old) stack.old.items }
-    ensures { OnOk result (PutsOver table.old table.new symbol count stack.old.items stack.new.items) }
+    ensures { OnOk result
+        (PutsOver table.old table.new symbol count stack.old.items stack.new.items) }
 {
     let arguments = take_last(alloc, stack, count as usize)?;
     let number = table.put(symbol, arguments)?;

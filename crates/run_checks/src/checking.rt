@@ -34,19 +34,21 @@ use term_model::Flat;
 pub enum TraceVerdict {
     /// Each trace leads from its term to its line. There are so many lines that are values.
     Derived(u64),
-    /// The trace of the term with this number, counted from 0, is the first that doesn't lead to its line.
+    /// The trace of the term with this number, counted from 0, is the first that doesn't lead to
+    /// its line.
     Underived(u64),
 }
 
-/// Checks an output of rewriting with its traces. The input is a line `spec N`, a specification of N bytes, a line
-/// feed, and the output of its terms: a line for each, then the trace of each line that is a value, then `# end`.
+/// Checks an output of rewriting with its traces. The input is a line `spec N`, a specification of
+/// N bytes, a line feed, and the output of its terms: a line for each, then the trace of each line
+/// that is a value, then `# end`.
 ///
-/// Each trace is replayed from its term by steps of the rules, with nothing of the rewriter. Refused with kind 15 at a
-/// line of a wrong form, counted from 1 (0 is the line `spec N` and the bytes after it), and with a fault of the
-/// specification at its place there.
+/// Each trace is replayed from its term by steps of the rules, with nothing of the rewriter.
+/// Refused with kind 15 at a line of a wrong form, counted from 1 (0 is the line `spec N` and the
+/// bytes after it), and with a fault of the specification at its place there.
 ///
-/// The lines are read twice. An event costs the arguments of a node or the nodes of a rule, and never
-/// the whole term.
+/// The lines are read twice. An event costs the arguments of a node or the nodes of a rule, and
+/// never the whole term.
 pub fn check_trace(alloc: Global, bytes: &[u8]) -> Result<TraceVerdict, ReadFail>
     ensures checked { IfOk result (IsChecked bytes.now) }
     ensures sound { IfOk result (IsSound bytes.now) }
@@ -64,7 +66,8 @@ pub fn check_trace(alloc: Global, bytes: &[u8]) -> Result<TraceVerdict, ReadFail
     }
 }
 
-/// The number of the first term whose trace doesn't derive its line; the traces stand in order after the lines.
+/// The number of the first term whose trace doesn't derive its line; the traces stand in order
+/// after the lines.
 fn first_underived(alloc: Global, spec: Spec, output: &Output<'_>) -> Result<Option<u64>, Memory>
     requires may_be_run { MayBeRun (specified spec) }
     requires named { IsNamed (specified spec) }

@@ -20,8 +20,8 @@ pub(crate) struct Frame {
     pub(crate) argument: usize,
 }
 
-/// A place in a term: the nodes from the root on, and the term that stands there. A node has its argument of before,
-/// until the place moves back to it.
+/// A place in a term: the nodes from the root on, and the term that stands there. A node has its
+/// argument of before, until the place moves back to it.
 #[derive(Drop)]
 pub(crate) struct Cursor {
     pub(crate) frames: Vec<Frame>,
@@ -42,7 +42,8 @@ impl Cursor {
         }
     }
 
-    /// To the argument with this number, counted from 1, where there is one. It takes constant time.
+    /// To the argument with this number, counted from 1, where there is one. It takes constant
+    /// time.
     pub(crate) fn down(&mut self, table: &TermTable, argument: u128) -> Result<bool, Memory>
         requires { IsStanding table.now self.old }
         ensures { (n : ℕ) → argument ≡ capped n → IfOk result
@@ -65,8 +66,8 @@ impl Cursor {
         Ok(true)
     }
 
-    /// To the node above, where there is one, which gets what stands here as its argument. It takes time linear in
-    /// the node's arguments.
+    /// To the node above, where there is one, which gets what stands here as its argument. It takes
+    /// time linear in the node's arguments.
     pub(crate) fn up(&mut self, alloc: Global, table: &mut TermTable) -> Result<bool, Memory>
         requires { IsStanding table.old self.old }
         ensures { IfOk result (Leads table.old table.new self.new
@@ -81,7 +82,8 @@ impl Cursor {
         Ok(true)
     }
 
-    /// Uses a rule here, where there is one with this number and it matches. It takes time linear in the rule.
+    /// Uses a rule here, where there is one with this number and it matches. It takes time linear
+    /// in the rule.
     pub(crate) fn rewrite(
         &mut self,
         alloc: Global,

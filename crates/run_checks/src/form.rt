@@ -40,8 +40,8 @@ fn is_number(number: u32, word: &[u8]) -> bool
     capped_number_of(word) == Some(u128::from(number))
 }
 
-/// The events of a trace of the term with this number, as words after a space; None where the line doesn't begin as
-/// such a trace.
+/// The events of a trace of the term with this number, as words after a space; None where the line
+/// doesn't begin as such a trace.
 pub(crate) fn events_of(number: u32, line: &[u8]) -> Option<&[u8]>
     ensures { MatchOption result (trace_in number line.now ≡ None)
         (λ rest. trace_in number line.now ≡ events_in (words_after rest.now)) }

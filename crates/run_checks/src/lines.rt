@@ -55,13 +55,15 @@ pub(crate) fn take_lines<'a>(
     })
 }
 
-/// How many of the lines are values, where each of these has its trace, and nothing but the end comes after the
-/// traces.
+/// How many of the lines are values, where each of these has its trace, and nothing but the end
+/// comes after the traces.
 pub(crate) fn count_traces(taken: &[&[u8]], traces: &[u8]) -> Result<u64, ReadFail>
     requires { length taken.now ≤ 65535 }
-    ensures formed { IfOk result (λ n. wrong_after (map (λ l. l.now) taken.now) (lines traces.now) ≡ None) }
+    ensures formed { IfOk result
+        (λ n. wrong_after (map (λ l. l.now) taken.now) (lines traces.now) ≡ None) }
     ensures count { IfOk result (λ n. n ≡ length (values_from 0 (map (λ l. l.now) taken.now))) }
-    ensures wrong { IfErr result (IsWrongAt (wrong_after (map (λ l. l.now) taken.now) (lines traces.now))) }
+    ensures wrong { IfErr result
+        (IsWrongAt (wrong_after (map (λ l. l.now) taken.now) (lines traces.now))) }
 {
     let mut place = taken.len() as u64;
     let mut rest = traces;
@@ -77,9 +79,11 @@ pub(crate) fn count_traces(taken: &[&[u8]], traces: &[u8]) -> Result<u64, ReadFa
 
 /// What comes after the trace of the term with a number, which is the next line, with this place.
 fn after_trace(number: u32, place: u64, rest: &[u8]) -> Result<&[u8], ReadFail>
-    ensures after { IfOk result (λ after. (more : List ℕ) → wrong_from place (number ∷ more) (lines rest.now)
+    ensures after { IfOk result (λ after. (more : List ℕ)
+        → wrong_from place (number ∷ more) (lines rest.now)
         ≡ wrong_from (place + 1) more (lines after.now)) }
-    ensures wrong { IfErr result (λ e. (more : List ℕ) → IsWrongAt (wrong_from place (number ∷ more) (lines rest.now)) e) }
+    ensures wrong { IfErr result
+        (λ e. (more : List ℕ) → IsWrongAt (wrong_from place (number ∷ more) (lines rest.now)) e) }
 {
     match next_line(rest) {
         Some((line, after)) if is_trace(number, line) => Ok(after),

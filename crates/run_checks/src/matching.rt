@@ -16,8 +16,8 @@ use rule_match::Plan;
 use std::alloc::{AllocError, Global};
 use term_model::{Item, Symbol};
 
-/// The terms that a rule's left side binds in a term, in the order of its variables; None where it doesn't match.
-/// It takes time linear in the left side.
+/// The terms that a rule's left side binds in a term, in the order of its variables; None where it
+/// doesn't match. It takes time linear in the left side.
 pub(crate) fn matched(
     alloc: Global,
     plan: &Plan,
@@ -27,7 +27,8 @@ pub(crate) fn matched(
 ) -> Result<Option<Vec<u32>>, Memory>
     requires rule { rule < length plan.now.rules }
     requires there { IsThere table.now number }
-    ensures { IfOk result (IsMatched table.now (match_at plan.now.rules rule (term_at table.now number))) }
+    ensures { IfOk result
+        (IsMatched table.now (match_at plan.now.rules rule (term_at table.now number))) }
 {
     let mut bound = Vec::new(alloc);
     if run(alloc, plan, rule, table, number, &mut bound)? {
@@ -37,8 +38,8 @@ pub(crate) fn matched(
     }
 }
 
-/// Whether a rule's left side matches a term; the terms of its variables are then bound in their order. Arguments that
-/// wait for their patterns stand on a stack, the next one on top.
+/// Whether a rule's left side matches a term; the terms of its variables are then bound in their
+/// order. Arguments that wait for their patterns stand on a stack, the next one on top.
 fn run(
     alloc: Global,
     plan: &Plan,
@@ -98,7 +99,8 @@ fn bind(
     Ok(true)
 }
 
-/// Whether a term is this symbol over so many terms; these are then put on the stack, the first on top.
+/// Whether a term is this symbol over so many terms; these are then put on the stack, the first on
+/// top.
 fn open(
     table: &TermTable,
     symbol: Symbol,
@@ -108,9 +110,11 @@ fn open(
 ) -> Result<bool, AllocError>
     requires there { IsThere table.now number }
     requires stack_there { All (IsThere table.now) stack.old.items }
-    ensures opened { IfOk result (λ opened. opened ≡ stands (App symbol) count (term_at table.now number)) }
+    ensures opened { IfOk result
+        (λ opened. opened ≡ stands (App symbol) count (term_at table.now number)) }
     ensures pushed { IfOk result (λ opened. OnTrue opened (map (term_at table.now) stack.new.items
-        ≡ map (term_at table.now) stack.old.items ++ reverse (arguments (term_at table.now number)))) }
+        ≡ map (term_at table.now) stack.old.items
+        ++ reverse (arguments (term_at table.now number)))) }
     ensures stack_there { OnOk result (All (IsThere table.now) stack.new.items) }
 {
     let (head, arguments) = table.at(number);

@@ -40,7 +40,8 @@ fn announced(line: &[u8]) -> Option<u128>
 
 /// So many bytes before a line feed, and those after it.
 fn cut_at(size: u128, bytes: &[u8]) -> Option<(&[u8], &[u8])>
-    ensures { (n : ℕ) → size ≡ capped n → option_map (λ p. (p.0.now, p.1.now)) result ≡ cut_at n bytes.now }
+    ensures { (n : ℕ) → size ≡ capped n
+        → option_map (λ p. (p.0.now, p.1.now)) result ≡ cut_at n bytes.now }
 {
     if size >= bytes.len() as u128 {
         return None;

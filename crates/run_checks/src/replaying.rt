@@ -15,8 +15,8 @@ use log_check::words::{capped_number_of, next_word};
 use rule_match::Plan;
 use std::alloc::Global;
 
-/// The term to which the events of a trace lead from a term by the rules of a plan; None where one of them isn't
-/// possible, or is no event. The events are words, each after a space.
+/// The term to which the events of a trace lead from a term by the rules of a plan; None where one
+/// of them isn't possible, or is no event. The events are words, each after a space.
 ///
 /// An event costs the arguments of a node or the nodes of a rule.
 pub(crate) fn replay(
@@ -29,7 +29,8 @@ pub(crate) fn replay(
     requires term { IsThere table.old term }
     requires rules { ArePut table.old.symbols plan.now.rules }
     ensures { IfOk result (IsReplayed table.old table.new (option_and_then
-        (λ es. replayed plan.now.rules es [] (term_at table.old term)) (events_in (words_after events.now)))) }
+        (λ es. replayed plan.now.rules es [] (term_at table.old term))
+        (events_in (words_after events.now)))) }
 {
     let mut cursor = Cursor::new(alloc, table, term);
     let mut rest = events;

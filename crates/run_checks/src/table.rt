@@ -10,7 +10,8 @@ use symbol_pool::Symbols;
 use term_file::{Kind, Record, ShareFault, Table, number_of};
 use term_model::Symbol;
 
-/// Terms over symbols, each different one once, by their numbers. It grows with what is put into it.
+/// Terms over symbols, each different one once, by their numbers. It grows with what is put into
+/// it.
 #[derive(Drop)]
 pub(crate) struct TermTable {
     symbols: Symbols,
@@ -79,7 +80,8 @@ impl TermTable {
     pub(crate) fn put(&mut self, symbol: Symbol, arguments: Vec<u32>) -> Result<u32, Memory>
         requires symbol { symbol.0 < length self.old.symbols }
         requires there { All (IsThere self.old) arguments.items }
-        ensures { IfOk result (λ n. IsPut self.old self.new n (term_over self.old symbol arguments.items)) }
+        ensures { IfOk result
+            (λ n. IsPut self.old self.new n (term_over self.old symbol arguments.items)) }
     {
         let record = Record {
             kind: Kind::Call(symbol.0),

@@ -17,7 +17,8 @@ pub(crate) enum Piece {
     Byte(u8),
 }
 
-/// Whether a line is the text of a term. It looks at no more of the term than the line has bytes, and doesn't recurse.
+/// Whether a line is the text of a term. It looks at no more of the term than the line has bytes,
+/// and doesn't recurse.
 pub(crate) fn is_text(
     alloc: Global,
     table: &TermTable,
@@ -25,7 +26,8 @@ pub(crate) fn is_text(
     line: &[u8],
 ) -> Result<bool, Memory>
     requires { IsThere table.now number }
-    ensures { IfOk result (λ b. IsTrue b ↔ (line.now ≡ text table.now.symbols (term_at table.now number))) }
+    ensures { IfOk result
+        (λ b. IsTrue b ↔ (line.now ≡ text table.now.symbols (term_at table.now number))) }
 {
     let mut rest = line;
     let mut pieces = vec![in alloc; Piece::Term(number)]?;
@@ -38,7 +40,8 @@ pub(crate) fn is_text(
     Ok(rest.is_empty())
 }
 
-/// The bytes after the beginning of a piece, whose rest is left on the stack; None where it doesn't begin the bytes.
+/// The bytes after the beginning of a piece, whose rest is left on the stack; None where it doesn't
+/// begin the bytes.
 fn take<'a>(
     table: &TermTable,
     piece: Piece,
@@ -46,7 +49,8 @@ fn take<'a>(
     pieces: &mut Vec<Piece>,
 ) -> Result<Option<&'a [u8]>, AllocError>
     requires { ArePieces table.now (pieces.old.items ++ piece ∷ []) }
-    ensures { IfOk result (λ after. Takes table.now (pieces.old.items ++ piece ∷ []) pieces.new.items
+    ensures { IfOk result
+        (λ after. Takes table.now (pieces.old.items ++ piece ∷ []) pieces.new.items
         bytes.now (option_map (λ r. r.now) after)) }
 {
     match piece {
@@ -80,7 +84,8 @@ fn after_name<'a>(name: &[u8], bytes: &'a [u8]) -> Option<&'a [u8]>
     if start == name { Some(after) } else { None }
 }
 
-/// Puts arguments in parentheses on a stack, so that they are taken from the first on; nothing where there are none.
+/// Puts arguments in parentheses on a stack, so that they are taken from the first on; nothing
+/// where there are none.
 fn push_arguments(arguments: &[u32], pieces: &mut Vec<Piece>) -> Result<(), AllocError>
     ensures { OnOk result (pieces.new.items ≡ pieces.old.items ++ over_arguments arguments.now) }
 {

@@ -56,7 +56,8 @@ fn desk_at<'a, R: Wait>(
     pass: Pass,
 ) -> Result<Desk<OwnPass<'a, R>>, Memory>
     requires may { MayHaveDesk store.now pass }
-    ensures { IfOk result (λ desk. (k : ℕ) → IsNewPass store.now k pass → IsNewDesk store.now k desk) }
+    ensures { IfOk result (λ desk. (k : ℕ) → IsNewPass store.now k pass
+        → IsNewDesk store.now k desk) }
 {
     Desk::<OwnPass<'a, R>>::new(rt, alloc, store, pass)
 }
@@ -70,7 +71,8 @@ pub(crate) fn desks_at<'a, R: Wait>(
 ) -> Result<Vec<Desk<OwnPass<'a, R>>>, Memory>
     requires may { All (MayHaveDesk store.now) passes.items }
     requires new { EachPlace (IsNewPass store.now) store.now.sizes.seats passes.items }
-    ensures desks { IfOk result (λ desks. EachPlace (IsNewDesk store.now) store.now.sizes.seats desks.items) }
+    ensures desks { IfOk result
+        (λ desks. EachPlace (IsNewDesk store.now) store.now.sizes.seats desks.items) }
 {
     let mut desks = Vec::new(alloc);
     for pass in passes {
@@ -103,7 +105,8 @@ fn log_desk_at<'a, R: Wait>(
 ) -> Result<LogDesk<'a, R>, Memory>
     requires may { MayHaveDesk store.now pass }
     requires unnoted { (view_of pass).store.entries ≡ [] }
-    ensures { IfOk result (λ desk. (k : ℕ) → IsNewPass store.now k pass → IsNewDesk store.now k desk) }
+    ensures { IfOk result (λ desk. (k : ℕ) → IsNewPass store.now k pass
+        → IsNewDesk store.now k desk) }
 {
     LogDesk::new(rt, alloc, store, pass)
 }
@@ -117,7 +120,8 @@ pub(crate) fn log_desks_at<'a, R: Wait>(
 ) -> Result<Vec<LogDesk<'a, R>>, Memory>
     requires may { All (MayHaveDesk store.now) passes.items }
     requires new { EachPlace (IsNewPass store.now) store.now.sizes.seats passes.items }
-    ensures desks { IfOk result (λ desks. EachPlace (IsNewDesk store.now) store.now.sizes.seats desks.items) }
+    ensures desks { IfOk result
+        (λ desks. EachPlace (IsNewDesk store.now) store.now.sizes.seats desks.items) }
 {
     let mut desks = Vec::new(alloc);
     for pass in passes {

@@ -13,7 +13,8 @@ use shared_desk::LogDesk;
 use std::alloc::Global;
 use std::sync::Wait;
 
-// A log with a caller more, whose lines these are; None where it was lost, or its lines, or memory lacks.
+// A log with a caller more, whose lines these are; None where it was lost, or its lines, or memory
+// lacks.
 fn with_caller(
     alloc: Global,
     log: Option<LogText>,
@@ -33,8 +34,9 @@ pub(crate) fn with_end(alloc: Global, log: Option<LogText>) -> Option<LogText>
     log?.with_end(alloc).ok()
 }
 
-/// What desks give that are out: their passes, in their order, in memory that has room for them; and the log with their entries
-/// behind this one, desk k as caller k, where memory lacked for no part of it.
+/// What desks give that are out: their passes, in their order, in memory that has room for them;
+/// and the log with their entries behind this one, desk k as caller k, where memory lacked for no
+/// part of it.
 pub(crate) fn parts_of<R: Wait>(
     alloc: Global,
     room: Vec<Pass>,

@@ -34,7 +34,8 @@ use std::thread::Threads;
 pub struct Rewritten {
     /// The lines of its terms.
     pub lines: Result<Lines, AllFault>,
-    /// The entries of the passes of the store, pass k being that of worker k; or of none, where there was no memory to begin with.
+    /// The entries of the passes of the store, pass k being that of worker k; or of none, where
+    /// there was no memory to begin with.
     pub chronicle: Chronicle,
     /// The chronicle's log, where one is asked and there was memory for it.
     pub log: Option<LogText>,
@@ -55,7 +56,8 @@ impl Rewritten {
     }
 }
 
-// The lines, the passes of the workers, which are out, and the log of their entries, where there is one.
+// The lines, the passes of the workers, which are out, and the log of their entries, where there is
+// one.
 #[derive(Drop)]
 struct Left {
     lines: Result<Lines, AllFault>,
@@ -63,8 +65,8 @@ struct Left {
     log: Option<LogText>,
 }
 
-// Rewrites the terms by workers at the passes of a new store. All memory that the end takes is taken first: where
-// there is none, no term is drawn.
+// Rewrites the terms by workers at the passes of a new store. All memory that the end takes is
+// taken first: where there is none, no term is drawn.
 fn rewrite_on<R: Threads + Wait + Sync, G: Gate>(
     rt: &R,
     alloc: Global,
@@ -227,10 +229,12 @@ fn rewrite_at<R: Threads + Wait + Sync, G: Gate>(
     }
 }
 
-/// Rewrites the terms of some work on one new store, by one worker at a desk of its own for each of the settings' workers. The store
-/// has the rows and the depth of the settings, as many buckets as rows, all in use from the start, and the plan's width. At the end it
-/// is closed: the chronicle has the entries of worker k under the number k. Where there is no memory to begin with no term is drawn,
-/// and the chronicle is empty. It waits where desks enter the store; `rewrite_all` says how terms are drawn and which fault is told.
+/// Rewrites the terms of some work on one new store, by one worker at a desk of its own for each of
+/// the settings' workers. The store has the rows and the depth of the settings, as many buckets as
+/// rows, all in use from the start, and the plan's width. At the end it is closed: the chronicle
+/// has the entries of worker k under the number k. Where there is no memory to begin with no term
+/// is drawn, and the chronicle is empty. It waits where desks enter the store; `rewrite_all` says
+/// how terms are drawn and which fault is told.
 pub fn rewrite_shared<R: Threads + Wait + Sync, G: Gate>(
     rt: &R,
     alloc: Global,
@@ -241,8 +245,8 @@ pub fn rewrite_shared<R: Threads + Wait + Sync, G: Gate>(
     requires width { work.now.plan.now.widest ≤ 16 }
     requires may { MayWork work.now.plan.now work.now.symbols.now work.now.terms.now }
 
-    // The lines are those of the terms, in their order, whoever drew them, and the events beside them lead to
-    // their values, where the settings ask for them and no rule has a condition.
+    // The lines are those of the terms, in their order, whoever drew them, and the events beside
+    // them lead to their values, where the settings ask for them and no rule has a condition.
     ensures lines { IfOk result.lines (λ l. map said l.list.items
         ≡ map (line_of work.now.settings work.now.symbols.now work.now.plan.now.rules)
         work.now.terms.now) }
@@ -254,8 +258,8 @@ pub fn rewrite_shared<R: Threads + Wait + Sync, G: Gate>(
     // All entries together are a legal history of one thread, whatever the answer is.
     ensures legal { IsLegal work.now.settings.rows (chronicle result.chronicle) }
 
-    // Each worker's entries stand there in its own order, none at a number below those of its earlier
-    // ones, and a creation that adds or a collection at one above them.
+    // Each worker's entries stand there in its own order, none at a number below those of its
+    // earlier ones, and a creation that adds or a collection at one above them.
     ensures order { KeepsOrders work.now.settings result.chronicle }
     ensures rises { EachRises result.chronicle }
 
@@ -264,26 +268,26 @@ pub fn rewrite_shared<R: Threads + Wait + Sync, G: Gate>(
         work.now.plan.now.rules work.now.terms.now (map worker_of l.list.items) result.chronicle) }
     ensures collects { CollectsFew work.now.settings result.chronicle }
 
-    // The store is told to be full only where a worker's last Collect kept as many trees as there are
-    // rows, all made by workers, and the worker's next tree isn't among them.
+    // The store is told to be full only where a worker's last Collect kept as many trees as there
+    // are rows, all made by workers, and the worker's next tree isn't among them.
     ensures full { IfErr result.lines (TellsFull work.now.settings work.now.plan.now.rules
         work.now.terms.now result.chronicle) }
 
-    // Then the terms build more different trees than there are rows, and the workers times the most that
-    // one term needs at once are more than the rows too.
+    // Then the terms build more different trees than there are rows, and the workers times the most
+    // that one term needs at once are more than the rows too.
     ensures few { IfErr result.lines (TellsFew work.now.settings work.now.plan.now.rules
         work.now.terms.now) }
 
-    // The numbers are told to be used up only where so many collections as the terms and the workers may
-    // need can use up all below 2^62.
+    // The numbers are told to be used up only where so many collections as the terms and the
+    // workers may need can use up all below 2^62.
     ensures worn { IfErr result.lines (TellsWorn work.now.settings work.now.plan.now.rules
         work.now.terms.now) }
 
     // There are the entries of each worker, or of none, where there was no memory to begin with.
     ensures each { TellsEach work.now.settings result.lines result.chronicle }
 
-    // At a fault each worker had drawn terms of its own, and made or found, in order, the first of the
-    // trees that they build.
+    // At a fault each worker had drawn terms of its own, and made or found, in order, the first of
+    // the trees that they build.
     ensures front { IfErr result.lines (λ fault. NamesFronts work.now.settings
         work.now.plan.now.rules work.now.terms.now result.chronicle) }
 
@@ -291,7 +295,8 @@ pub fn rewrite_shared<R: Threads + Wait + Sync, G: Gate>(
     ensures only { NamesOnlyBuilt work.now.settings work.now.plan.now.rules work.now.terms.now
         result.chronicle }
 
-    // Where there is a log, it was asked, and is that of the chronicle, whose keys are those of a log.
+    // Where there is a log, it was asked, and is that of the chronicle, whose keys are those of a
+    // log.
     ensures log { IfSome result.log
         (λ text. IsAskedLog work.now.settings result.chronicle text) }
     ensures keys { IfSome result.log (λ _. AllByRecursion HaveKeys result.chronicle) }

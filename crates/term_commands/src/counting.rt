@@ -17,8 +17,8 @@ fn most_nodes(terms: &[Flat]) -> usize
     most
 }
 
-/// The room of a stack on which the terms are built one after another, each above those before it: the number of
-/// terms, and the nodes of the largest, where 32 bits hold it.
+/// The room of a stack on which the terms are built one after another, each above those before it:
+/// the number of terms, and the nodes of the largest, where 32 bits hold it.
 pub(crate) fn depth_for(terms: &[Flat]) -> Option<u32>
     ensures { IfSome result (λ depth. All (λ t. length terms.now + nodes t ≤ depth) terms.now) }
 {

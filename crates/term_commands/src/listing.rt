@@ -1,4 +1,5 @@
-//! The command `terms`: term text to the canonical line of each term, and how large they are together.
+//! The command `terms`: term text to the canonical line of each term, and how large they are
+//! together.
 ghost use Rattle.std.specs.Prelude.{◌≡◌, ◌++◌, All, IfOk, IfErr, OnOk};
 ghost use Rattle.term_model.specs.Tree.{IsGround};
 ghost use Rattle.tree_text.specs.Canonical.{canonical_lines};
@@ -43,11 +44,11 @@ fn write_sizes(sizes: TermSizes, out: &mut Vec<u8>) -> Result<(), Memory>
     Ok(())
 }
 
-/// The canonical line of each term that the input spells, and the line `distinct D nodes N`: how many different
-/// subtrees the terms have together, and how many nodes, at most 2^64 - 1.
+/// The canonical line of each term that the input spells, and the line `distinct D nodes N`: how
+/// many different subtrees the terms have together, and how many nodes, at most 2^64 - 1.
 ///
-/// The input is refused as `read_terms` refuses it. `StoreFull` is answered exactly where there are more different
-/// subtrees than rows, and `Memory` may be wherever there is none.
+/// The input is refused as `read_terms` refuses it. `StoreFull` is answered exactly where there are
+/// more different subtrees than rows, and `Memory` may be wherever there is none.
 pub fn tell_terms(alloc: Global, input: &[u8], rows: u32) -> Result<Vec<u8>, TermsFault>
     ensures told { IfOk result (λ text. IsListed rows input.now text.items) }
     ensures untold { IfErr result (IsUntold rows input.now) }

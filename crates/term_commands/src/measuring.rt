@@ -17,8 +17,9 @@ use terms_api::Terms;
 /// How many rows are tried first: a store of so few rows is made at once, and serves most inputs.
 const FEW_ROWS: u32 = 16_384;
 
-/// How many different subtrees the terms have together, and how many nodes, at most 2^64 - 1. They are built in a
-/// store of so many rows, which suffice exactly where there are no more different subtrees.
+/// How many different subtrees the terms have together, and how many nodes, at most 2^64 - 1. They
+/// are built in a store of so many rows, which suffice exactly where there are no more different
+/// subtrees.
 fn sizes_in(alloc: Global, terms: &[Flat], rows: u32) -> Result<TermSizes, TermsFault>
     requires { All IsGround terms.now }
     ensures distinct { IfOk result (λ sizes. sizes.distinct ≡ different terms.now) }

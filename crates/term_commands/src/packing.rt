@@ -11,8 +11,8 @@ use term_syntax::read_terms;
 
 /// The one file of the terms that the input spells, in which each different subterm stands once.
 ///
-/// The input is refused as `read_terms` refuses it. `StoreFull` is answered exactly where the terms have more different
-/// subtrees than rows, and `Memory` may be wherever there is none.
+/// The input is refused as `read_terms` refuses it. `StoreFull` is answered exactly where the terms
+/// have more different subtrees than rows, and `Memory` may be wherever there is none.
 pub fn pack_terms(alloc: Global, input: &[u8], rows: u32) -> Result<Vec<u8>, TermsFault>
     requires { rows ≤ 262144 }
     ensures packed { IfOk result (λ file. IsPacked rows input.now file.items) }

@@ -24,8 +24,8 @@ pub struct Unpacked {
     pub whole: bool,
 }
 
-/// Appends the line of a term, where so many nodes were written before, and says how many were written of it; of a term
-/// that is too large, none.
+/// Appends the line of a term, where so many nodes were written before, and says how many were
+/// written of it; of a term that is too large, none.
 fn write_line(
     shared: &Shared,
     root: u32,
@@ -66,8 +66,8 @@ fn lines_of(alloc: Global, shared: &Shared) -> Result<Unpacked, Memory>
     Ok(Unpacked { text, whole })
 }
 
-/// The canonical line of each term of a file. In place of a term with more than 1,048,576 nodes, and of one with which
-/// more than 16,777,216 nodes would be written, stands the line `too large`.
+/// The canonical line of each term of a file. In place of a term with more than 1,048,576 nodes,
+/// and of one with which more than 16,777,216 nodes would be written, stands the line `too large`.
 ///
 /// A file is refused as `decode` refuses it, and `Memory` may be wherever there is none.
 pub fn unpack_terms(alloc: Global, file: &[u8]) -> Result<Unpacked, TermsFault>

@@ -52,7 +52,8 @@ fn ended(total: usize, visited: usize, table: &Table, rest: &[u8]) -> Result<(),
 /// What the bytes hold, where they are a right file.
 #[tactic(auto, unfolding(crate::specs::Reading::read_file))]
 fn parts(alloc: Global, bytes: &[u8]) -> Result<(Symbols, u32, Table, Vec<u32>), ReadFail>
-    ensures read { Gives (λ x. contents_of_parts x.0 x.2 x.3.items) result (spec.read_file bytes.now) }
+    ensures read { Gives (λ x. contents_of_parts x.0 x.2 x.3.items) result
+        (spec.read_file bytes.now) }
     ensures count { IfOk result (λ x. x.1 ≡ length x.0) }
 {
     let total = bytes.len();
@@ -69,9 +70,9 @@ fn parts(alloc: Global, bytes: &[u8]) -> Result<(Symbols, u32, Table, Vec<u32>),
 
 /// The terms of a file.
 ///
-/// Refused with kind 18 at the first byte of the first field that breaks a rule, or with kind 3 at the length of
-/// the bytes where a field is cut and none before it breaks a rule. No more memory is taken than is linear in the
-/// bytes.
+/// Refused with kind 18 at the first byte of the first field that breaks a rule, or with kind 3 at
+/// the length of the bytes where a field is cut and none before it breaks a rule. No more memory is
+/// taken than is linear in the bytes.
 pub fn decode(alloc: Global, bytes: &[u8]) -> Result<Shared, ReadFail>
     // What is read is a right file with these terms.
     ensures found { IfOk result (λ s. IsFile bytes.now s) }

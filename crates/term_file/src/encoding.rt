@@ -93,7 +93,8 @@ fn put_records(out: &mut Vec<u8>, table: &Table) -> Result<(), AllocError>
 fn put_symbol(out: &mut Vec<u8>, name: &[u8], arity: u32) -> Result<(), AllocError>
     requires name { length name.now ≤ 255 }
     requires arity { arity ≤ 16 }
-    ensures { OnOk result (out.new.items ≡ out.old.items ++ file.symbol_bytes (named name.now arity)) }
+    ensures { OnOk result
+        (out.new.items ≡ out.old.items ++ file.symbol_bytes (named name.now arity)) }
 {
     put_byte(out, name.len() as u8)?;
     out.extend_from_slice(name)?;
@@ -103,7 +104,8 @@ fn put_symbol(out: &mut Vec<u8>, name: &[u8], arity: u32) -> Result<(), AllocErr
 fn put_symbols(out: &mut Vec<u8>, symbols: &Symbols, count: u32) -> Result<(), AllocError>
     requires count { count ≡ length symbols.now }
     requires short { AllByRecursion IsShort symbols.now }
-    ensures { OnOk result (out.new.items ≡ out.old.items ++ flat_map file.symbol_bytes symbols.now) }
+    ensures { OnOk result
+        (out.new.items ≡ out.old.items ++ flat_map file.symbol_bytes symbols.now) }
 {
     for number in 0..count {
         let symbol = Symbol(number);
@@ -137,7 +139,8 @@ fn put_file(
     Ok(())
 }
 
-/// Puts the one file of the terms behind what `out` has. An error changes nothing. Memory is linear in the file.
+/// Puts the one file of the terms behind what `out` has. An error changes nothing. Memory is linear
+/// in the file.
 pub fn encode(shared: &Shared, out: &mut Vec<u8>) -> Result<(), Memory>
     ensures written { OnOk result (AppendsFile out.old.items out.new.items shared.now) }
     ensures unchanged { OnErr result (out.new.items ≡ out.old.items) }

@@ -51,8 +51,8 @@ fn write_last(
     Ok(())
 }
 
-/// The items of the tree of a record. They are written from the last to the first, so that the trees that are
-/// left are a stack of numbers.
+/// The items of the tree of a record. They are written from the last to the first, so that the
+/// trees that are left are a stack of numbers.
 fn items_of(
     alloc: Global,
     symbols: &Symbols,

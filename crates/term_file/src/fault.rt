@@ -4,7 +4,8 @@ ghost use Rattle.term_file.specs.declared.fault.ShareFault.TheVariants.{Memory};
 
 use std::alloc::{AllocError, AllocFailed};
 
-/// Why terms aren't shared: they have more different subterms than there may be records, or there is no memory.
+/// Why terms aren't shared: they have more different subterms than there may be records, or there
+/// is no memory.
 #[derive(Clone, Copy, Debug, PartialEq, Eq)]
 pub enum ShareFault {
     StoreFull,

@@ -45,7 +45,8 @@ impl Found {
         requires absent { right.is_new_record self.old.table (view entry) ≡ true }
         requires before { All (λ i. i < length self.old.table) entry.arguments.items }
         requires used { self.old.used < 2 ^ 32 }
-        ensures put { OnOk result (records_of self.new ≡ spec.with_record (records_of self.old) (view entry)) }
+        ensures put { OnOk result
+            (records_of self.new ≡ spec.with_record (records_of self.old) (view entry)) }
         ensures memory { IfErr result (λ e. e ≡ Memory) }
         ensures one_more { self.new.used ≤ self.old.used + 1 }
     {

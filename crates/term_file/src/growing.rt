@@ -16,8 +16,8 @@ use std::alloc::{AllocError, Global};
 use symbol_pool::Symbols;
 use term_model::{Flat, Item};
 
-/// Terms as far as they are shared: symbols and records in order, and a stack with the records of the trees that
-/// no later item has taken.
+/// Terms as far as they are shared: symbols and records in order, and a stack with the records of
+/// the trees that no later item has taken.
 #[derive(Drop)]
 pub(crate) struct Growing {
     pub(crate) symbols: Numbering,
@@ -25,8 +25,8 @@ pub(crate) struct Growing {
     pub(crate) stack: Vec<u32>,
 }
 
-/// The number of a record, which becomes the last of at most `rows` where it is none of them. After an error the table is
-/// as before.
+/// The number of a record, which becomes the last of at most `rows` where it is none of them. After
+/// an error the table is as before.
 pub fn number_of(table: &mut Table, entry: Record, rows: u32) -> Result<u32, ShareFault>
     requires before { All (λ i. i < length table.old) entry.arguments.items }
     requires few { length table.old ≤ rows }
@@ -34,7 +34,8 @@ pub fn number_of(table: &mut Table, entry: Record, rows: u32) -> Result<u32, Sha
     ensures few { OnOk result (length table.new ≤ rows) }
     ensures unchanged { OnErr result (table.new ≡ table.old) }
     ensures full_only_where { result ≡ Err StoreFull → length table.old ≡ rows }
-    ensures full_for_new { result ≡ Err StoreFull → right.is_new_record table.old (view entry) ≡ true }
+    ensures full_for_new { result ≡ Err StoreFull
+        → right.is_new_record table.old (view entry) ≡ true }
 {
     if let Some(number) = table.find(&entry) {
         return Ok(number as u32);

@@ -11,8 +11,9 @@ use faults::Memory;
 use term_text::Printed;
 use tree_text::write_term;
 
-/// Puts the canonical text of one of the terms behind what `out` has, unless the term has more nodes than the
-/// limit. Then, as without memory, `out` is as before. It doesn't recurse, and takes memory linear in the nodes.
+/// Puts the canonical text of one of the terms behind what `out` has, unless the term has more
+/// nodes than the limit. Then, as without memory, `out` is as before. It doesn't recurse, and takes
+/// memory linear in the nodes.
 pub fn write_shared(
     shared: &Shared,
     root: u32,

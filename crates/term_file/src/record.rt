@@ -1,6 +1,7 @@
 //! One record of a file.
 
-/// What stands at the root of a record: a symbol by its number, an integer, the empty list or a cell.
+/// What stands at the root of a record: a symbol by its number, an integer, the empty list or a
+/// cell.
 #[derive(Clone, Copy, Debug, PartialEq, Eq, Hash)]
 pub enum Kind {
     Call(u32),

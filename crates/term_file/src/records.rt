@@ -37,7 +37,8 @@ fn symbol_number_at(
     bytes: &[u8],
 ) -> Result<(u32, &[u8]), ReadFail>
     ensures read { Gives (λ x. (x.0, x.1.now)) result
-        (spec.number_where total 4 (λ n. nat_lt n count && is_some (came_after used (n ∷ []))) bytes.now) }
+        (spec.number_where total 4 (λ n. nat_lt n count && is_some (came_after used (n ∷ [])))
+        bytes.now) }
     ensures below { IfOk result (λ x. x.0 < count) }
 {
     let (symbol, rest) = u32_at(total, bytes)?;
@@ -83,7 +84,8 @@ fn integer_at<'a>(
     Ok((Kind::Integer(value), bytes, rest))
 }
 
-/// What a tag stands for, with its symbol or integer; the bytes from the last field on, and the bytes after it.
+/// What a tag stands for, with its symbol or integer; the bytes from the last field on, and the
+/// bytes after it.
 #[tactic(auto, unfolding(crate::specs::Reading::head_at))]
 fn kind_at<'a>(
     total: usize,
@@ -119,8 +121,8 @@ pub(crate) fn arity_of(symbols: &Symbols, kind: Kind) -> u32
     }
 }
 
-/// Whether a record may be an argument with so many more after it: it has a lesser number, and the last
-/// argument of a cell is a list.
+/// Whether a record may be an argument with so many more after it: it has a lesser number, and the
+/// last argument of a cell is a list.
 fn may_be_argument(table: &Table, kind: Kind, more: u32, number: u32) -> bool
     ensures { result ≡ right.may_be_argument table.now (head_of kind) more number }
 {
@@ -140,7 +142,8 @@ fn argument_at<'a>(
     bytes: &'a [u8],
 ) -> Result<(u32, &'a [u8]), ReadFail>
     ensures read { Gives (λ x. (x.0, x.1.now)) result
-        (spec.number_where total 4 (right.may_be_argument table.now (head_of kind) more) bytes.now) }
+        (spec.number_where total 4 (right.may_be_argument table.now (head_of kind) more)
+        bytes.now) }
     ensures before { IfOk result (λ x. x.0 < length table.now) }
 {
     let (number, rest) = u32_at(total, bytes)?;
@@ -150,8 +153,8 @@ fn argument_at<'a>(
     Ok((number, rest))
 }
 
-/// So many arguments of a root behind the bytes from its last field on; the record, the bytes from the last
-/// argument on, and the bytes after it.
+/// So many arguments of a root behind the bytes from its last field on; the record, the bytes from
+/// the last argument on, and the bytes after it.
 fn arguments_at<'a>(
     alloc: Global,
     total: usize,

@@ -8,8 +8,8 @@ use crate::table::Table;
 use std::marker::Model;
 use symbol_pool::Symbols;
 
-/// Terms in order, each different subterm of them once, with the symbols that they use. Contracts see the terms
-/// as trees. Symbols and subterms are numbered in the order of the first use.
+/// Terms in order, each different subterm of them once, with the symbols that they use. Contracts
+/// see the terms as trees. Symbols and subterms are numbered in the order of the first use.
 #[derive(Drop)]
 pub struct Shared {
     pub(crate) symbols: Symbols,

@@ -12,8 +12,8 @@ use std::alloc::Global;
 use symbol_pool::Symbols;
 use tree_text::Flats;
 
-/// The terms, each different subterm once, of which there may be `rows`. Memory is linear in the terms, whatever
-/// their depth.
+/// The terms, each different subterm once, of which there may be `rows`. Memory is linear in the
+/// terms, whatever their depth.
 pub fn share(
     alloc: Global,
     terms: &Flats,

@@ -44,7 +44,8 @@ fn arity_at<'a>(
     bytes: &'a [u8],
 ) -> Result<(u8, &'a [u8]), ReadFail>
     ensures read { Gives (λ x. (x.0, x.1.now)) result
-        (spec.number_where total 1 (λ n. nat_le n 16 && is_new_symbol symbols.now (named name.now n)) bytes.now) }
+        (spec.number_where total 1
+        (λ n. nat_le n 16 && is_new_symbol symbols.now (named name.now n)) bytes.now) }
     ensures absent { IfOk result (λ x. is_new_symbol symbols.now (named name.now x.0) ≡ true) }
 {
     let (arity, rest) = byte_at(total, bytes)?;

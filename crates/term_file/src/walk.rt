@@ -12,8 +12,8 @@ use crate::frame::Frame;
 use crate::table::Table;
 use read_faults::ReadFail;
 
-/// How many records were visited with this one, where those with lesser numbers than `visited` were; None
-/// where it comes too early.
+/// How many records were visited with this one, where those with lesser numbers than `visited`
+/// were; None where it comes too early.
 fn visited_with(visited: usize, number: usize) -> Option<usize>
     requires { number < usize.MAX }
     ensures { result ≡ order.came_with visited number }
@@ -27,7 +27,8 @@ fn visited_with(visited: usize, number: usize) -> Option<usize>
     }
 }
 
-/// Puts a record back whose next argument is `next`, and on it that argument, unless it was visited.
+/// Puts a record back whose next argument is `next`, and on it that argument, unless it was
+/// visited.
 fn descend(
     table: &Table,
     frame: Frame,
@@ -63,8 +64,8 @@ fn descend(
     Ok(())
 }
 
-/// Goes on with a record that was on the stack; gives how many records were visited then, or None where this
-/// one comes too early.
+/// Goes on with a record that was on the stack; gives how many records were visited then, or None
+/// where this one comes too early.
 fn step(
     table: &Table,
     frame: Frame,
@@ -90,8 +91,9 @@ fn step(
     Ok(Some(visited))
 }
 
-/// How many records were visited after a walk from a root, where the first `came` were before; None where one
-/// comes too early. A record that was visited isn't walked again, so all walks of a file take time linear in it.
+/// How many records were visited after a walk from a root, where the first `came` were before; None
+/// where one comes too early. A record that was visited isn't walked again, so all walks of a file
+/// take time linear in it.
 pub(crate) fn visited_from(
     table: &Table,
     root: usize,

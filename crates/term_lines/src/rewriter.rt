@@ -27,7 +27,8 @@ use term_model::Flat;
 use term_text::SizeMarks;
 use terms_api::Terms;
 
-/// What rewriting terms to lines needs beside a store: a machine, room for counting, and what is asked.
+/// What rewriting terms to lines needs beside a store: a machine, room for counting, and what is
+/// asked.
 #[derive(Drop)]
 pub struct Rewriter {
     pub machine: Machine,
@@ -217,8 +218,8 @@ impl Rewriter {
         }
     }
 
-    // Rewrites a term by the strategy that is asked. Its events stand in the place of what was there, where
-    // they are asked.
+    // Rewrites a term by the strategy that is asked. Its events stand in the place of what was
+    // there, where they are asked.
     fn rewrite<T: Terms, M: Memo>(
         &mut self,
         plan: &Plan,
@@ -280,8 +281,10 @@ impl Rewriter {
         requires room { (T.store terms.old).rows ≤ self.old.marks }
         requires value { HasValueAlone (T.store terms.old) symbols.now }
         ensures text { OnOk result (out.new.items
-            ≡ out.old.items ++ value_text self.old.sizes symbols.now (top_tree (T.store terms.old))) }
-        ensures value { IfOk result (λ value. value ≡ is_written self.old.sizes (top_tree (T.store terms.old))) }
+            ≡ out.old.items ++ value_text self.old.sizes symbols.now
+            (top_tree (T.store terms.old))) }
+        ensures value { IfOk result
+            (λ value. value ≡ is_written self.old.sizes (top_tree (T.store terms.old))) }
         ensures unwritten { OnErr result (out.new.items ≡ out.old.items) }
         ensures emptied { T.store terms.new ≡ kept (T.store terms.old) 0 0 }
         ensures sound { IsSound (T.store terms.new) }
@@ -294,12 +297,13 @@ impl Rewriter {
         written
     }
 
-    /// Rewrites a term on a store, by the strategy, and appends the line of its end to `out`, without the end of the line:
-    /// the text of the value or its sizes, `too large`, `out of fuel` or `too deep`. Tells which of these
-    /// it is, and how much fuel a value took. The stack, which must be empty, is empty again. Where it
-    /// stops without a line, `out` is as before. In `events`, in the place of what was there, stand the
-    /// events that lead to a value that is written, where they are asked, and no others. Where results are
-    /// remembered, a reduction whose result the memory has is left out.
+    /// Rewrites a term on a store, by the strategy, and appends the line of its end to `out`,
+    /// without the end of the line: the text of the value or its sizes, `too large`, `out of fuel`
+    /// or `too deep`. Tells which of these it is, and how much fuel a value took. The stack, which
+    /// must be empty, is empty again. Where it stops without a line, `out` is as before. In
+    /// `events`, in the place of what was there, stand the events that lead to a value that is
+    /// written, where they are asked, and no others. Where results are remembered, a reduction
+    /// whose result the memory has is left out.
     pub fn write_line<T: Terms, M: Memo>(
         &mut self,
         plan: &Plan,
@@ -325,17 +329,21 @@ impl Rewriter {
         // The line.
         ensures text { OnOk result (out.new.items ≡ out.old.items
             ++ line_text self.old.sizes symbols.now
-            (ended self.old.strategy plan.now.rules term.now self.old.fuel self.old.machine.depth)) }
+            (ended self.old.strategy plan.now.rules term.now self.old.fuel
+            self.old.machine.depth)) }
         ensures kind { IfOk result (λ ending. ending.kind
             ≡ kind_of self.old.sizes
-            (ended self.old.strategy plan.now.rules term.now self.old.fuel self.old.machine.depth)) }
+            (ended self.old.strategy plan.now.rules term.now self.old.fuel
+            self.old.machine.depth)) }
         ensures spent { IfOk result (λ ending. ending.spent ≡ spent_of self.old.sizes self.old.fuel
-            (ended self.old.strategy plan.now.rules term.now self.old.fuel self.old.machine.depth)) }
+            (ended self.old.strategy plan.now.rules term.now self.old.fuel
+            self.old.machine.depth)) }
         ensures unwritten { OnErr result (out.new.items ≡ out.old.items) }
         ensures events { MayTell (tells self.old.strategy self.old.traced) plan.now.rules
             → OnOk result (events.new.items ≡ events_of (tells self.old.strategy self.old.traced)
             plan.now.rules term.now self.old.fuel (is_value self.old.sizes
-            (ended self.old.strategy plan.now.rules term.now self.old.fuel self.old.machine.depth))) }
+            (ended self.old.strategy plan.now.rules term.now self.old.fuel
+            self.old.machine.depth))) }
 
         // What was built, and what that cost the store.
         ensures built { BuildsForLine self.old.strategy (tells self.old.strategy self.old.traced)

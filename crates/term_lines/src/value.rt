@@ -52,7 +52,8 @@ fn write_text<T: Terms>(
     requires named { HasNames symbols.now (tree_at (T.store terms.old) row) }
     ensures text { OnOk result (out.new.items
         ≡ out.old.items ++ value_text false symbols.now (tree_at (T.store terms.old) row)) }
-    ensures written { IfOk result (λ written. written ≡ is_written false (tree_at (T.store terms.old) row)) }
+    ensures written { IfOk result
+        (λ written. written ≡ is_written false (tree_at (T.store terms.old) row)) }
     ensures unwritten { OnErr result (out.new.items ≡ out.old.items) }
     ensures unchanged { T.store terms.new ≡ T.store terms.old }
     ensures same { T.same terms.old terms.new }
@@ -66,8 +67,8 @@ fn write_text<T: Terms>(
     }
 }
 
-/// Appends the sizes of the value of a held row, where they are asked, or its text, and says whether
-/// a value was written.
+/// Appends the sizes of the value of a held row, where they are asked, or its text, and says
+/// whether a value was written.
 pub fn write_value<T: Terms>(
     terms: &mut T,
     symbols: &Symbols,
@@ -82,7 +83,8 @@ pub fn write_value<T: Terms>(
     requires room { (T.store terms.old).rows ≤ marks.old }
     ensures text { OnOk result (out.new.items
         ≡ out.old.items ++ value_text sized symbols.now (tree_at (T.store terms.old) row)) }
-    ensures written { IfOk result (λ written. written ≡ is_written sized (tree_at (T.store terms.old) row)) }
+    ensures written { IfOk result
+        (λ written. written ≡ is_written sized (tree_at (T.store terms.old) row)) }
     ensures unwritten { OnErr result (out.new.items ≡ out.old.items) }
     ensures room { marks.new ≡ marks.old }
     ensures unchanged { T.store terms.new ≡ T.store terms.old }

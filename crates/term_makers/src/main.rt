@@ -1,4 +1,5 @@
-//! Threads that make the same terms on one store: a walk through the store as a library, which docs/LIBRARY.md explains.
+//! Threads that make the same terms on one store: a walk through the store as a library, which
+//! docs/LIBRARY.md explains.
 #![tactic(auto)]
 
 ghost use Rattle.std.specs.Prelude.{◌≤◌, IfOk, IfSome, All};
@@ -23,7 +24,8 @@ fn number(word: Option<String>) -> u32 {
     }
 }
 
-// Each thread may lose a row for each term where another one makes the same term at the same time, until a collection.
+// Each thread may lose a row for each term where another one makes the same term at the same time,
+// until a collection.
 fn sizes_for(threads: u32, terms: u32) -> Sizes
     requires { (1 ≤ threads) × (threads ≤ 15) }
     ensures { MaySize result }

@@ -1,4 +1,5 @@
-//! What each thread does: it makes numbers, protects the last one, lets others collect, goes on, and reads them all.
+//! What each thread does: it makes numbers, protects the last one, lets others collect, goes on,
+//! and reads them all.
 ghost use Rattle.std.specs.Prelude.{◌≡◌, ◌≤◌, ◌<◌, IfOk, length};
 ghost use Rattle.lock_core.specs.declared.parts.Phase.TheVariants.{Shared};
 ghost use Rattle.store_model.specs.Machine.{In, protected_in};
@@ -53,7 +54,8 @@ impl Tally {
     }
 }
 
-// Makes so many successors of a number, and gives the last one, or the one before which the store was full.
+// Makes so many successors of a number, and gives the last one, or the one before which the store
+// was full.
 fn make_more(store: &Store, pass: &mut Pass, from: Row, count: u32, tally: &mut Tally) -> Row
     requires inside { IsInside store.now pass.old }
     requires shared { (view_of pass.old).lock.phase ≡ Shared }
@@ -74,7 +76,8 @@ fn make_more(store: &Store, pass: &mut Pass, from: Row, count: u32, tally: &mut 
     row
 }
 
-// Makes zero and so many numbers after it, and protects the last one. Where the store is full at once, nothing is protected.
+// Makes zero and so many numbers after it, and protects the last one. Where the store is full at
+// once, nothing is protected.
 fn begin(rt: &impl Wait, store: &Store, pass: &mut Pass, count: u32, tally: &mut Tally)
     requires of { IsPassOf store.now pass.old }
     requires out { IsOut (view_of pass.old) }
@@ -106,7 +109,8 @@ fn protect(store: &Store, pass: &mut Pass, row: Row)
     }
 }
 
-// Goes on from the number that is protected, protects the last one in its place, and reads all numbers down to zero.
+// Goes on from the number that is protected, protects the last one in its place, and reads all
+// numbers down to zero.
 fn go_on(rt: &impl Wait, store: &Store, pass: &mut Pass, count: u32, most: u32, tally: &mut Tally)
     requires of { IsPassOf store.now pass.old }
     requires out { IsOut (view_of pass.old) }
@@ -142,8 +146,8 @@ fn read_down(store: &Store, pass: &mut Pass, from: Row, most: u32) -> u64
     read
 }
 
-/// Makes the first numbers, so many, each the successor of the one before, with a collection half way, and reads them all. The
-/// collection is refused where another pass is inside.
+/// Makes the first numbers, so many, each the successor of the one before, with a collection half
+/// way, and reads them all. The collection is refused where another pass is inside.
 pub fn make_and_read(rt: &impl Wait, store: &Store, mut pass: Pass, terms: u32) -> Tally
     requires of { IsPassOf store.now pass }
     requires out { IsOut (view_of pass) }
