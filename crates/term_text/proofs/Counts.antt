@@ -6,6 +6,7 @@ use Rattle.std.specs.Prelude.{slice_get, sum_by, min}
 use Rattle.std.proofs.lemmas.Option.{slice_get_within, get_or_from_slice_get}
 use Rattle.std.proofs.lemmas.List.{take_more, get_or-set_same, get_or-set_other}
 use Rattle.std.proofs.lemmas.List.Sums.{sum_by_push}
+use Rattle.std.proofs.lemmas.Bool.{cases_lt}
 use Rattle.std.proofs.lemmas.Bool.Decides.{eqb_tells, leb_tells}
 use Rattle.term_model.specs.declared.Row.{Row}
 use Rattle.term_model.specs.Tree.{Tree, nodes, arguments}
@@ -70,6 +71,19 @@ none_counted counts q h = past counts q.0 h
     past [] i h = refl
     past (c ∷ cs) zero h = absurd (omega arith)
     past (c ∷ cs) (suc i) h = past cs i (omega arith)
+
+-- none is counted in a list that is filled up with 0
+pub none_filled : (old new : List ℕ) (n : ℕ) → length new ≡ n → ((r : Row) → count_at old r ≡ 0)
+    → ((k : ℕ) → k < n → k < length old → get_or new k 0 ≡ get_or old k 0)
+    → ((k : ℕ) → length old ≤ k → k < n → get_or new k 0 ≡ 0) → (r : Row) → count_at new r ≡ 0
+none_filled old new n size none same more r =
+    elim (cases_lt r.0 n) [
+      | inl below ↦ elim (cases_lt r.0 (length old)) [
+        | inl there ↦ same r.0 below there ∙ none r
+        | inr past ↦ more r.0 past below
+      ]
+      | inr past ↦ none_counted new r (omega (arith, size, past))
+    ]
 
 -- how many rows are counted
 pub counted_bound : (counts : List ℕ) → counted_rows counts ≤ length counts

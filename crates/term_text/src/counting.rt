@@ -4,7 +4,7 @@ ghost use Rattle.std.specs.Prelude.{◌≡◌, ◌<◌, ◌≤◌, ◌++◌, ◌
 ghost use Rattle.term_model.specs.Tree.{Tree, arguments, nodes};
 ghost use Rattle.term_model.specs.declared.Row.{Row};
 ghost use Rattle.terms_api.specs.Terms.{IsHeld, IsSound, tree_at};
-ghost use Rattle.term_text.specs.Clear.{IsClear, IsIdle};
+ghost use Rattle.term_text.specs.Clear.{IsClear, HasPlaces, IsIdle};
 ghost use Rattle.term_text.specs.Sizes.{saturated};
 ghost use Rattle.term_text.specs.Tally.{count_at, IsCounted, CountedBefore, IsTally, IsHalfway, HasRoom, IsWithin, AreWithin, Continues, IsNext};
 
@@ -25,6 +25,16 @@ pub(crate) struct Tally {
     pub(crate) counts: Vec<u64>,
     pub(crate) rows: Vec<Row>,
     pub(crate) path: Vec<Visit>,
+}
+
+/// Fills the counts up to so many rows, none of which is counted.
+pub(crate) fn fill_counts(tally: &mut Tally, rows: u32)
+    requires clear { IsClear tally.old }
+    requires places { HasPlaces tally.old rows }
+    ensures clear { IsClear tally.new }
+    ensures size { length tally.new.counts.items ≡ rows }
+{
+    let _filled = tally.counts.resize(rows as usize, 0);
 }
 
 /// Counts the nodes of the tree of a held row, and those of each of its subtrees, unless they are

@@ -5,7 +5,7 @@ ghost use Rattle.term_model.specs.Tree.{nodes, subtrees, distinct};
 ghost use Rattle.terms_api.specs.Terms.{IsHeld, tree_at, trees, reachable};
 ghost use Rattle.term_text.specs.Sizes.{saturated};
 
-use crate::counting::{Tally, clear, count_from};
+use crate::counting::{Tally, clear, count_from, fill_counts};
 use faults::Memory;
 use std::alloc::Global;
 use std::marker::Model;
@@ -23,25 +23,27 @@ pub struct TermSizes {
 #[derive(Drop)]
 pub struct SizeMarks {
     tally: Tally,
+    rows: u32,
 }
 
 impl Model for SizeMarks {
-    ghost use Rattle.std.specs.Prelude.{ℕ, length};
-    ghost use Rattle.term_text.specs.Clear.{IsClear};
+    ghost use Rattle.std.specs.Prelude.{ℕ};
+    ghost use Rattle.term_text.specs.Clear.{IsClear, HasPlaces};
 
     ghost Value = { ℕ };
 
-    ghost view = { λ m. length m.tally.counts.items };
+    ghost view = { λ m. m.rows };
 
-    ghost invariant = { λ m. IsClear m.tally };
+    ghost invariant = { λ m. IsClear m.tally × HasPlaces m.tally m.rows };
 }
 
 impl SizeMarks {
-    /// Room for a store of so many rows. All the memory that counting needs is taken here.
+    /// Room for a store of so many rows. All the memory that counting needs is taken here, and the
+    /// first count fills it.
     pub fn new(alloc: Global, rows: u32) -> Result<SizeMarks, Memory>
         ensures { IfOk result (λ marks. marks ≡ rows) }
     {
-        let counts = vec![in alloc; 0; rows as usize]?;
+        let counts = Vec::with_capacity(alloc, rows as usize)?;
         let counted = Vec::with_capacity(alloc, rows as usize)?;
         let path = Vec::with_capacity(alloc, rows as usize)?;
         Ok(SizeMarks {
@@ -50,6 +52,7 @@ impl SizeMarks {
                 rows: counted,
                 path,
             },
+            rows,
         })
     }
 }
@@ -66,6 +69,7 @@ pub fn sizes<T: Terms>(terms: &mut T, row: Row, marks: &mut SizeMarks) -> TermSi
     ensures unchanged { T.store terms.new ≡ T.store terms.old }
     ensures same { T.same terms.old terms.new }
 {
+    fill_counts(&mut marks.tally, marks.rows);
     count_from(terms, row, &mut marks.tally);
     let nodes = marks.tally.counts[row.0 as usize];
     let distinct = clear(&mut marks.tally);
@@ -83,6 +87,7 @@ pub fn stack_sizes<T: Terms>(terms: &mut T, marks: &mut SizeMarks) -> TermSizes
     ensures unchanged { T.store terms.new ≡ T.store terms.old }
     ensures same { T.same terms.old terms.new }
 {
+    fill_counts(&mut marks.tally, marks.rows);
     let mut nodes: u64 = 0;
     for place in 0..terms.depth() {
         let row = terms.at(place);

@@ -13,16 +13,17 @@ use Rattle.term_text.proofs.measuring.stack_sizes.Goals as goal
 pub loop-place-init : goal.loop-place-init
 loop-place-init g c =
     let s = g.T.Terms.store c.args.terms.now in
-    let t = c.marks.inside.tally in
+    let t = c.fill_counts.new.tally in
     record {
       store = refl;
       same = g.met.T.Terms.same_as_itself _;
-      tally = none_tallied s t (omega (arith, c.requires.room, c.marks.view_is)) c.marks.invariant;
-      room = c.marks.invariant.room;
-      idle = c.marks.invariant.path;
-      size = omega (arith, c.marks.view_is);
+      tally = none_tallied s t (omega (arith, c.requires.room, c.marks.view_is, c.fill_counts.ensures.size)) c.fill_counts.ensures.clear;
+      room = c.fill_counts.ensures.clear.room;
+      idle = c.fill_counts.ensures.clear.path;
+      size = omega (arith, c.marks.view_is, c.fill_counts.ensures.size);
+      rows = omega (arith, c.marks.view_is);
       counted = λ i u lt e. absurd (omega (arith, lt));
-      within = none_within s t.counts.items (trees s) c.marks.invariant.none;
+      within = none_within s t.counts.items (trees s) c.fill_counts.ensures.clear.none;
       nodes = refl;
     }
 
@@ -57,6 +58,7 @@ loop-place-preserved g c =
       room = c.count_from.ensures.room;
       idle = c.count_from.ensures.idle;
       size = c.count_from.ensures.size ∙ i.size;
+      rows = i.rows;
       counted = place_counted s old counts place row sound at c.count_from.ensures.kept counted i.counted;
       within = within (trees s) (place_within s place row at) i.within;
       nodes = place_added s place row c.loop-place.nodes c.index.result.now _ at i.nodes count c.saturating_add-nodes.ensures;

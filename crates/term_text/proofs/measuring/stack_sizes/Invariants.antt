@@ -18,6 +18,7 @@ invariant-loop-place g l =
       room : HasRoom l.marks-inside.tally;
       idle : l.marks-inside.tally.path.items ≡ [];
       size : length counts ≡ l.fn.marks;
+      rows : l.marks-inside.rows ≡ l.fn.marks;
       counted : (i : ℕ) (t : Tree) → i < l.place → slice_get (trees s) i ≡ Some t → HasCount s counts t;
       within : AreWithin s (trees s) counts [];
       nodes : l.nodes ≡ saturated (sum_by nodes (take l.place (trees s)));
