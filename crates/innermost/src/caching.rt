@@ -28,7 +28,8 @@ struct Place {
     row: Row,
 }
 
-/// Reduces the tree on top, whose row this is, by a rule and those after it, and remembers its value.
+/// Reduces the tree on top, whose row this is, by a rule and those after it, and remembers its
+/// value.
 fn reduce_anew<T: Terms, M: Memo>(
     plan: &Plan,
     code: &Code,

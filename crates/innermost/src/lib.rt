@@ -1,4 +1,5 @@
-//! Leftmost innermost normalization, and leftmost outermost, over any store of terms, with explicit stacks.
+//! Leftmost innermost normalization, and leftmost outermost, over any store of terms, with explicit
+//! stacks.
 #![tactic(auto)]
 
 mod building;

@@ -12,7 +12,8 @@ use crate::trail::{Trail, lesser};
 use faults::Memory;
 use term_model::Flat;
 
-/// A node of a term that is visited, how far down the node before it stands, and how far down it does.
+/// A node of a term that is visited, how far down the node before it stands, and how far down it
+/// does.
 #[derive(Clone, Copy)]
 pub(crate) struct Visit {
     pub at: usize,
@@ -77,10 +78,12 @@ pub(crate) fn enter_node(
     requires plain { (widest : ℕ) × IsPlain widest term.now }
     requires no_variables { IsGround term.now }
     requires node { at < nodes term.now }
-    requires count { (item : Items) → item ≡ slice_index_or (postorder term.now) at item → count ≡ arity_of item }
+    requires count { (item : Items) → item ≡ slice_index_or (postorder term.now) at item
+        → count ≡ arity_of item }
     requires down { (limit : ℕ) × IsDownAt limit term.now at before down }
     requires trail { (steps : List Steps) × IsTrail steps (place_before term.now at) [] trail.old }
-    ensures trail { OnOk result ((steps : List Steps) → IsTrail steps (place_before term.now at) [] trail.old
+    ensures trail { OnOk result ((steps : List Steps)
+        → IsTrail steps (place_before term.now at) [] trail.old
         → IsTrail steps (node_place term.now at) [] trail.new) }
     ensures cursor { trail.new.cursor.items ≡ trail.old.cursor.items }
 {

@@ -59,8 +59,8 @@ impl Model for Machine {
 
 impl Machine {
     /// A machine for a plan that evaluates terms in so much room. Each evaluation that is under way
-    /// at a time takes room, so there is a place for each. After this `normalize_traced` alone takes
-    /// memory.
+    /// at a time takes room, so there is a place for each. After this `normalize_traced` alone
+    /// takes memory.
     pub fn new(alloc: Global, plan: &Plan, depth: u32) -> Result<Self, Memory>
         ensures plan { IfOk result (λ machine. IsFor plan.now machine) }
         ensures depth { IfOk result (λ machine. machine.depth ≡ depth) }
@@ -131,10 +131,11 @@ impl Machine {
         settle(end, base, terms)
     }
 
-    /// Normalizes a term as `normalize` does, with a memory of results of reductions, whose pairs are
-    /// right and stay so. At a node of the term whose tree it knows, the value is taken where there is
-    /// as much fuel and room as the memory says, and nothing of that reduction is built again. Where
-    /// rows may have been lost, and where the store has no epoch, the memory forgets all.
+    /// Normalizes a term as `normalize` does, with a memory of results of reductions, whose pairs
+    /// are right and stay so. At a node of the term whose tree it knows, the value is taken where
+    /// there is as much fuel and room as the memory says, and nothing of that reduction is built
+    /// again. Where rows may have been lost, and where the store has no epoch, the memory forgets
+    /// all.
     pub fn normalize_with<T: Terms, M: Memo>(
         &mut self,
         plan: &Plan,
@@ -187,11 +188,11 @@ impl Machine {
         settle(end, base, terms)
     }
 
-    /// Normalizes a term as `normalize` does, and appends the events of what it replaces: moves of a
-    /// cursor that begins at the root, no more than are needed, and uses of rules where it stands.
-    /// By rules with conditions what is appended says nothing. It takes memory for the events and for
-    /// the way to the tree that is looked at; after any fault the stack is as it was, and the events
-    /// so far stand there.
+    /// Normalizes a term as `normalize` does, and appends the events of what it replaces: moves of
+    /// a cursor that begins at the root, no more than are needed, and uses of rules where it
+    /// stands. By rules with conditions what is appended says nothing. It takes memory for the
+    /// events and for the way to the tree that is looked at; after any fault the stack is as it
+    /// was, and the events so far stand there.
     pub fn normalize_traced<T: Terms>(
         &mut self,
         plan: &Plan,

@@ -47,12 +47,15 @@ fn replace<T: Terms>(
     requires path_room { depth ≤ vec_capacity window.old.path }
     requires window { 0 < length window.old.depths.items }
     requires state { (run : Run)
-        × IsReplacing run plan.now depth left.old (T.store terms.old) spots.old.items rows.now rule room }
+        × IsReplacing run plan.now depth left.old (T.store terms.old)
+        spots.old.items rows.now rule room }
     ensures state { IfOk result (λ end. (run : Run)
-        → IsReplacing run plan.now depth left.old (T.store terms.old) spots.old.items rows.now rule room
+        → IsReplacing run plan.now depth left.old (T.store terms.old)
+        spots.old.items rows.now rule room
         → GoesOn run plan.now depth left.new (T.store terms.new) end) }
     ensures fault { IfErr result (λ fault. (run : Run)
-        → IsReplacing run plan.now depth left.old (T.store terms.old) spots.old.items rows.now rule room
+        → IsReplacing run plan.now depth left.old (T.store terms.old)
+        spots.old.items rows.now rule room
         → WasGivenUp run.start (T.store terms.new) run.whole fault) }
     ensures smaller { IfOk result (λ end. left.new + 1 ≡ left.old ⊎ IsSome end) }
     ensures spots_room { vec_capacity spots.new ≡ vec_capacity spots.old }

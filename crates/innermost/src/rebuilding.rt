@@ -39,7 +39,8 @@ fn push_arguments<T: Terms>(row: Row, from: u32, to: u32, terms: &mut T)
 /// false where there is no room for it.
 fn build_again<T: Terms>(spot: Spot, builds: &mut u32, terms: &mut T) -> Result<bool, RunFault>
     requires inside { (T.store terms.old).inside ≡ true }
-    requires state { (change : Change) × (c : Crumb) × (way : List Crumb) × (tree : Tree) × (spots : List Spots)
+    requires state { (change : Change) × (c : Crumb) × (way : List Crumb) × (tree : Tree)
+        × (spots : List Spots)
         × IsChanged change (c ∷ way) tree (T.store terms.old) (spots ++ spot ∷ []) }
     ensures state { IfOk result (λ built.
         (change : Change) (c : Crumb) (way : List Crumb) (tree : Tree) (spots : List Spots)

@@ -59,7 +59,8 @@ pub(crate) fn lesser(one: usize, other: usize) -> usize
 /// Goes back to the root.
 pub(crate) fn begin(trail: &mut Trail)
     ensures cursor { trail.new.cursor.items ≡ [] }
-    ensures trail { (steps : List Steps) (frames : List Frames) → IsTrail steps [] frames trail.new }
+    ensures trail { (steps : List Steps) (frames : List Frames)
+        → IsTrail steps [] frames trail.new }
 {
     trail.cursor.clear();
     trail.way.clear();
@@ -111,7 +112,8 @@ pub(crate) fn follow(trail: &mut Trail, steps: &[Step], frames: &[Frame]) -> Res
 /// How many of the first of two positions are the same, where so many are known to be.
 fn find_shared(from: &[u32], to: &[u32], same: usize) -> usize
     requires { HasShared from.now to.now same }
-    ensures moves { moves_of from.now to.now ≡ ups (length from.now - result) ++ downs (drop result to.now) }
+    ensures moves { moves_of from.now to.now ≡ ups (length from.now - result)
+        ++ downs (drop result to.now) }
     ensures low { result ≤ length from.now }
     ensures high { result ≤ length to.now }
 {

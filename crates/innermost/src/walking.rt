@@ -30,7 +30,8 @@ fn try_at<T: Terms>(
         → IsTrying plan.now depth root (T.store terms.old) spots.old.items row room
         → IsWalk plan.now depth root (T.store terms.new) spots.new.items matcher.new.rows result }
     ensures smaller { walk_left (T.store terms.new) spots.new.items result
-        ≤ left_of (T.store terms.old) spots.old.items + 2 * nodes (tree_at (T.store terms.old) row) }
+        ≤ left_of (T.store terms.old) spots.old.items
+        + 2 * nodes (tree_at (T.store terms.old) row) }
     ensures spots_room { vec_capacity spots.new ≡ vec_capacity spots.old }
     ensures matcher { matcher.new.automaton ≡ matcher.old.automaton }
     ensures unchanged { T.store terms.new ≡ T.store terms.old }
