@@ -5,7 +5,8 @@ use std::alloc::{Alloc, Global};
 use std::process::Abort;
 use std::test::Fail;
 
-/// What a check comes to: `derived`, `underived`, `line` (kind 15), `condition` (kind 19) or `fault`, and its number.
+/// What a check comes to: `derived`, `underived`, `line` (kind 15), `condition` (kind 19) or
+/// `fault`, and its number.
 fn answer_to(alloc: Global, input: &[u8]) -> Result<(&'static str, u64), Fail> {
     match check_trace(alloc, input) {
         Ok(TraceVerdict::Derived(values)) => Ok(("derived", values)),

@@ -83,8 +83,8 @@ static ROWS: [Row; 9] = [
         symbols: &[(b"a", 0), (b"f", 1), (b"g", 2)],
         items: &[X, F, END, A, END, END, X, X, G, END, X, END, END, A, F, END],
     },
-    // The variables of an included rule are its own specification's, also where another one has a symbol
-    // with that name.
+    // The variables of an included rule are its own specification's, also where another one has a
+    // symbol with that name.
     Row {
         input: b"REC-SPEC A SORTS S CONS a : -> S f : S -> S VARS X : S RULES f(X) -> X END-SPEC REC-SPEC B SORTS S CONS X : -> S END-SPEC REC-SPEC C : A B EVAL X END-SPEC",
         symbols: &[(b"a", 0), (b"f", 1), (b"X", 0)],
@@ -197,7 +197,8 @@ static CONDITIONS: [(&[u8], Option<u64>); 5] = [
         b"REC-SPEC A SORTS S CONS a : -> S RULES a -> a if a = a END-SPEC REC-SPEC B : A RULES a -> a if a = a END-SPEC",
         Some(46),
     ),
-    // The first in the input counts, also where the list of includes goes against the input's order.
+    // The first in the input counts, also where the list of includes goes against the input's
+    // order.
     (
         b"REC-SPEC A SORTS S CONS a : -> S RULES a -> a if a = a END-SPEC REC-SPEC B SORTS S CONS b : -> S RULES b -> b if b = b END-SPEC REC-SPEC C : B A END-SPEC",
         Some(46),

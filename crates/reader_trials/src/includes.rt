@@ -223,7 +223,8 @@ static ENTRIES: [Row; 17] = [
         6,
         b"B B A EVAL a(a) END-SPEC",
     ),
-    // both bring the same declaration: no offence, but where each has another one with the same name
+    // both bring the same declaration: no offence, but where each has another one with the same
+    // name
     (
         b"REC-SPEC A SORTS S CONS a : -> S END-SPEC REC-SPEC B : A CONS b : -> S END-SPEC REC-SPEC C : A CONS c : -> S END-SPEC REC-SPEC D : B C CONS d : S -> S EVAL a b c d(a) END-SPEC REC-SPEC E : C D B A EVAL d(b) END-SPEC",
         0,
@@ -234,7 +235,8 @@ static ENTRIES: [Row; 17] = [
         6,
         b"C END-SPEC",
     ),
-    // a later entry that is included by an earlier one brings nothing, one that includes it brings the rest
+    // a later entry that is included by an earlier one brings nothing, one that includes it brings
+    // the rest
     (
         b"REC-SPEC A SORTS S CONS a : -> S END-SPEC REC-SPEC B : A CONS b : -> S END-SPEC REC-SPEC C : B A CONS c : -> S END-SPEC REC-SPEC D : A C CONS d : -> S EVAL a b c d END-SPEC",
         0,

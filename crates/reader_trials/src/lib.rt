@@ -1,4 +1,5 @@
-//! Tests of reading and checking specifications: `rec_reader`, `rec_includes`, `rec_offences` and `rec_check`.
+//! Tests of reading and checking specifications: `rec_reader`, `rec_includes`, `rec_offences` and
+//! `rec_check`.
 #![tactic(auto)]
 
 #[cfg(test)]

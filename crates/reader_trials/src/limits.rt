@@ -21,7 +21,8 @@ fn repeat(
     Ok(text)
 }
 
-// A front, a middle with how often it stands, a back, and the kind and the place of the fault, or twice 0.
+// A front, a middle with how often it stands, a back, and the kind and the place of the fault, or
+// twice 0.
 static REPEATED: [(&[u8], &[u8], usize, &[u8], u8, u64); 18] = [
     (b"REC-SPEC ", b"a", 255, b" END-SPEC", 0, 0),
     (b"REC-SPEC ", b"a", 256, b" END-SPEC", 13, 9),
@@ -172,8 +173,8 @@ fn add_names(text: &mut Vec<u8>, numbers: Range<u32>) -> Result<(), Fail> {
 /// Fronts of specifications with the numbers of the symbols that each declares.
 type Declaring = &'static [(&'static [u8], Range<u32>)];
 
-// Specifications that declare symbols, those that come after them, and the kind and the place of the fault,
-// or twice 0.
+// Specifications that declare symbols, those that come after them, and the kind and the place of
+// the fault, or twice 0.
 static SYMBOLS: [(Declaring, &[u8], u8, u64); 8] = [
     (&[(b"REC-SPEC A SORTS S CONS", 0..65_535)], b"", 0, 0),
     (&[(b"REC-SPEC A SORTS S CONS", 0..65_536)], b"", 13, 327_699),

@@ -36,7 +36,8 @@ fn add(text: &mut Vec<u8>, word: &[u8], number: u32) -> Result<(), Fail> {
     Ok(())
 }
 
-/// Adds a specification with a symbol of its own, or with a sort and a symbol where it includes none.
+/// Adds a specification with a symbol of its own, or with a sort and a symbol where it includes
+/// none.
 fn add_specification(text: &mut Vec<u8>, shape: Shape, number: u32) -> Result<(), Fail> {
     add(text, b"REC-SPEC S", number)?;
     match included(shape, number) {
@@ -49,7 +50,8 @@ fn add_specification(text: &mut Vec<u8>, shape: Shape, number: u32) -> Result<()
     Ok(())
 }
 
-// A shape, the number of a symbol that the last specification's material has, and of one that it hasn't.
+// A shape, the number of a symbol that the last specification's material has, and of one that it
+// hasn't.
 static SHAPES: [(Shape, u32, u32); 3] = [
     (Shape::Chain, 0, COUNT),
     (Shape::TwoChains, 1, 0),

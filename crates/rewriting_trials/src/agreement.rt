@@ -203,8 +203,8 @@ fn try_rows(alloc: Global, plan: &Plan, term: &Flat, tally: &mut Tally) -> Resul
     Ok(())
 }
 
-/// What comes of so many sets of rules and a term of each, made by chance: rules of several symbols,
-/// or of one.
+/// What comes of so many sets of rules and a term of each, made by chance: rules of several
+/// symbols, or of one.
 fn tried(alloc: Global, seed: u64, sets: u16, of_one: bool) -> Result<Tally, Fail> {
     let mut dice = Dice::of(seed);
     let mut tally = Tally::new();

@@ -106,7 +106,8 @@ fn push_argument(dice: &mut Dice, vars: &mut u32, items: &mut Vec<Item>) -> Resu
     Ok(())
 }
 
-/// A left side of a symbol, and how many variables it has, which are numbered in order of first occurrence.
+/// A left side of a symbol, and how many variables it has, which are numbered in order of first
+/// occurrence.
 fn left_side(alloc: Global, dice: &mut Dice, root: Item) -> Result<(Flat, u32), Fail> {
     let mut vars = 0;
     let mut items = Vec::new(alloc);

@@ -1,4 +1,5 @@
-//! What a counting store tells of normalizing: its load, its sweeps, and how often others are let in.
+//! What a counting store tells of normalizing: its load, its sweeps, and how often others are let
+//! in.
 
 ghost use Rattle.std.specs.Prelude.{◌≡◌, ◌≤◌};
 

@@ -73,8 +73,8 @@ fn comes_with<T: Terms, M: Memo>(
     is_right && answer == Ok(Normal::Value { left: 0 })
 }
 
-/// Four sums of one and one by one memory, in a store of so many rows: whether each comes to two, how
-/// many trees were built, and the store's epoch then.
+/// Four sums of one and one by one memory, in a store of so many rows: whether each comes to two,
+/// how many trees were built, and the store's epoch then.
 fn four_sums<M: Memo>(
     alloc: Global,
     rows: u32,

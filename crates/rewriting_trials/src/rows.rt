@@ -1,4 +1,5 @@
-//! Worked rows: values, fuel, room, rows and conditions. What is to be built was worked out by hand.
+//! Worked rows: values, fuel, room, rows and conditions. What is to be built was worked out by
+//! hand.
 
 ghost use Rattle.std.specs.Prelude.{◌≡◌, IfOk};
 

@@ -141,7 +141,8 @@ fn what_lies_on_the_stack_stays_there(rt: HostRuntime) -> Result<(), Fail> {
     Ok(())
 }
 
-/// Whether a term comes to the wanted value once more, on an empty stack, which is empty again then.
+/// Whether a term comes to the wanted value once more, on an empty stack, which is empty again
+/// then.
 fn comes_again(
     machine: &mut Machine,
     plan: &Plan,

@@ -190,8 +190,8 @@ fn a_rule_without_room_is_not_told(rt: HostRuntime) -> Result<(), Fail> {
     Ok(())
 }
 
-// By f(X) -> g(X), f(b): in room 3 the argument of g(X) has room 1. In room 2 it has none, behind the
-// rule. In room 1 b has none, before it.
+// By f(X) -> g(X), f(b): in room 3 the argument of g(X) has room 1. In room 2 it has none, behind
+// the rule. In room 1 b has none, before it.
 #[test]
 fn a_rule_is_told_whose_right_side_has_no_room(rt: HostRuntime) -> Result<(), Fail> {
     let alloc = rt.alloc();

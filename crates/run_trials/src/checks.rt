@@ -1,7 +1,8 @@
 use crate::trial::{ROW, Row, USAGE, check_all};
 use std::test::Fail;
 
-/// A log of one caller that makes a constant and a term over it, and leaves with the second protected.
+/// A log of one caller that makes a constant and a term over it, and leaves with the second
+/// protected.
 const LOG: &[u8] = b"# log 2 1\n# caller 0\n# make 1 0 s0\n# make 2 1 s1 0\n# roots 2 1\n# end\n";
 
 /// That log under `check log`.

@@ -216,8 +216,9 @@ fn each_read_that_fails_is_told(rt: HostRuntime) -> Result<(), Fail> {
 }
 
 // After 143 terms each of the 11 first numbers has met each of the 13 second ones, so these take
-// 143 + 78 * (55 + 22) = 6,149 units of fuel. 65,535 terms are 458 such turns and 41 terms more, which
-// take 41 + 2 * 241 + 1,230 = 1,753: their second numbers add up to 241, and their products to 1,230.
+// 143 + 78 * (55 + 22) = 6,149 units of fuel. 65,535 terms are 458 such turns and 41 terms more,
+// which take 41 + 2 * 241 + 1,230 = 1,753: their second numbers add up to 241, and their products
+// to 1,230.
 #[test]
 fn the_largest_drill_has_a_value_for_each_term(rt: HostRuntime) -> Result<(), Fail> {
     let counts: &[u8] = b"terms 65535\nvalues 65535\nspent 2817995\n";

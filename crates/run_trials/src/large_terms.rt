@@ -8,8 +8,8 @@ fn put(file: &mut Vec<u8>, number: u8) -> Result<(), Fail> {
     Ok(())
 }
 
-// The file of a constant that was doubled so many times: the symbols, the constant, each pair of the one before it twice,
-// and the last one as the root.
+// The file of a constant that was doubled so many times: the symbols, the constant, each pair of
+// the one before it twice, and the last one as the root.
 fn doubled_file(alloc: Global, times: u8) -> Result<Vec<u8>, Fail> {
     let mut file = b"RECTERM1\0\0\0\x02\x01z\0\x01p\x02".to_vec(alloc)?;
     put(&mut file, times.saturating_add(1))?;

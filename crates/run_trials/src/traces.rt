@@ -65,7 +65,8 @@ static WITH_VALUES: [(Row, &[u8]); 8] = [
         },
         b"derived 0\n",
     ),
-    // The rules of two specifications are numbered on, and the term of the later stands below one rule's use.
+    // The rules of two specifications are numbered on, and the term of the later stands below one
+    // rule's use.
     (
         Row {
             input: b"REC-SPEC A SORTS S CONS a b c : -> S f : S -> S RULES a -> b END-SPEC REC-SPEC B : A RULES b -> c EVAL f(a) END-SPEC",

@@ -91,8 +91,8 @@ fn two_passes_share_a_term(rt: HostRuntime) -> Result<(), Fail> {
     Ok(())
 }
 
-// In one shared access: a symbol over an integer and the empty list, which fills three rows; a constant, which is Full; and the first
-// again.
+// In one shared access: a symbol over an integer and the empty list, which fills three rows; a
+// constant, which is Full; and the first again.
 fn fill(rt: &impl Abort, store: &Store, pass: &mut Pass) -> [Result<Row, Full>; 3]
     requires store { IsOpen store.now }
     requires pass { IsSeated store.now pass.old × IsOut (view_of pass.old) × Tells pass.old }
@@ -152,7 +152,8 @@ fn read_child(store: &Store, pass: &mut Pass, row: Row, j: u32) -> Option<Head>
     Some(head_of(store, pass, child))
 }
 
-// In one shared access: a symbol over an integer and the empty list, its head, and its count of arguments.
+// In one shared access: a symbol over an integer and the empty list, its head, and its count of
+// arguments.
 fn visit_row(rt: &impl Abort, store: &Store, pass: &mut Pass) -> (Head, u32)
     requires store { IsOpen store.now }
     requires pass { IsSeated store.now pass.old × IsOut (view_of pass.old) × Tells pass.old }

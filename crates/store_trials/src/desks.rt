@@ -17,7 +17,16 @@ use terms_api::{BuildFault, Terms};
 
 // So many rows, in one chain.
 const fn sizes(rows: u32, seats: u32, first: u64) -> Sizes
-    ensures { result ≡ record { rows = rows; buckets = 1; start = 1; seats = seats; depth = 4; arity = 1; first = first } }
+    ensures { result
+        ≡ record {
+          rows = rows;
+          buckets = 1;
+          start = 1;
+          seats = seats;
+          depth = 4;
+          arity = 1;
+          first = first;
+        } }
 {
     Sizes {
         rows,
@@ -146,8 +155,9 @@ fn head_at<T: Terms>(rt: &impl Abort, terms: &mut T, i: u32) -> Head
     terms.head(row)
 }
 
-// Two rows. Both creations draw from the claim, so the collection that the third one needs has the number 1 + 2, and its epoch the
-// base 4. It frees the row that isn't on the stack, and the third constant takes it.
+// Two rows. Both creations draw from the claim, so the collection that the third one needs has the
+// number 1 + 2, and its epoch the base 4. It frees the row that isn't on the stack, and the third
+// constant takes it.
 #[test]
 fn a_full_desk_collects_and_goes_on(rt: HostRuntime) -> Result<(), Fail> {
     let (store, mut passes) = new_store(rt.alloc(), sizes(2, 1, 1))?;
@@ -169,7 +179,8 @@ fn a_full_desk_collects_and_goes_on(rt: HostRuntime) -> Result<(), Fail> {
     Ok(())
 }
 
-// The epoch begins with a collection, and with nothing else: not with an entry, a creation, a find or a breath.
+// The epoch begins with a collection, and with nothing else: not with an entry, a creation, a find
+// or a breath.
 #[test]
 fn an_epoch_begins_with_a_collection(rt: HostRuntime) -> Result<(), Fail> {
     let (store, mut passes) = new_store(rt.alloc(), sizes(2, 1, 1))?;
@@ -192,8 +203,8 @@ fn an_epoch_begins_with_a_collection(rt: HostRuntime) -> Result<(), Fail> {
     Ok(())
 }
 
-// Two rows, and both are on the stack. Each refusal has collected: number 3 and then, since the epoch of base 4 has drawn nothing,
-// number 4. Once a place is given up there is a row.
+// Two rows, and both are on the stack. Each refusal has collected: number 3 and then, since the
+// epoch of base 4 has drawn nothing, number 4. Once a place is given up there is a row.
 #[test]
 fn a_store_is_full_where_all_rows_are_on_the_stack(rt: HostRuntime) -> Result<(), Fail> {
     let (store, mut passes) = new_store(rt.alloc(), sizes(2, 1, 1))?;
@@ -216,8 +227,9 @@ fn a_store_is_full_where_all_rows_are_on_the_stack(rt: HostRuntime) -> Result<()
     Ok(())
 }
 
-// The first desk has a term of two rows on its stack, and is out. The second one makes a constant in the third row, gives it up and
-// makes another: the collection, number 1 + 3, keeps the first desk's two rows.
+// The first desk has a term of two rows on its stack, and is out. The second one makes a constant
+// in the third row, gives it up and makes another: the collection, number 1 + 3, keeps the first
+// desk's two rows.
 #[test]
 fn a_collection_keeps_the_stack_of_another_desk(rt: HostRuntime) -> Result<(), Fail> {
     let (store, mut passes) = new_store(rt.alloc(), sizes(3, 2, 1))?;
@@ -248,8 +260,9 @@ fn a_collection_keeps_the_stack_of_another_desk(rt: HostRuntime) -> Result<(), F
     Ok(())
 }
 
-// With the first base 2^62 - 5 there is room for one collection with an empty claim: 2^62 - 5 + 0 + 1 + (2 + 1 + 1). Two creations
-// have drawn, so the one that the third needs is worn, and a refused one changes nothing. Its entries were Roots last.
+// With the first base 2^62 - 5 there is room for one collection with an empty claim: 2^62 - 5 + 0 +
+// 1 + (2 + 1 + 1). Two creations have drawn, so the one that the third needs is worn, and a refused
+// one changes nothing. Its entries were Roots last.
 #[test]
 fn a_worn_store_says_so(rt: HostRuntime) -> Result<(), Fail> {
     let (store, mut passes) = new_store(rt.alloc(), sizes(2, 1, (1 << 62) - 5))?;
@@ -269,9 +282,10 @@ fn a_worn_store_says_so(rt: HostRuntime) -> Result<(), Fail> {
     Ok(())
 }
 
-// Two rows. Symbol 0 is made as row 0 with the number 1 and found after it, and symbol 1 over it is made as row 1 with the number 2.
-// The stack is then let go but for symbol 0, so that symbol 2 fits only after a collection, which has the number 3 and keeps row 0;
-// symbol 2 is made as row 1 with the number 4.
+// Two rows. Symbol 0 is made as row 0 with the number 1 and found after it, and symbol 1 over it is
+// made as row 1 with the number 2. The stack is then let go but for symbol 0, so that symbol 2 fits
+// only after a collection, which has the number 3 and keeps row 0; symbol 2 is made as row 1 with
+// the number 4.
 #[test]
 fn a_desk_writes_its_entries_as_lines(rt: HostRuntime) -> Result<(), Fail> {
     let (store, mut passes) = unnoted_store(rt.alloc(), sizes(2, 1, 1))?;

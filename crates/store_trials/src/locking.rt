@@ -19,8 +19,10 @@ fn last_seat(
     table: &Table<LockOnly>,
     seats: &mut Vec<Seat<LockOnly>>,
 ) -> Seat<LockOnly>
-    requires { All (λ s. IsReady table.now.shared.table_id table.now.shared.key s.seat s.seats) seats.old.items }
-    ensures left { All (λ s. IsReady table.now.shared.table_id table.now.shared.key s.seat s.seats) seats.new.items }
+    requires { All (λ s. IsReady table.now.shared.table_id table.now.shared.key s.seat s.seats)
+        seats.old.items }
+    ensures left { All (λ s. IsReady table.now.shared.table_id table.now.shared.key s.seat s.seats)
+        seats.new.items }
     ensures seat { IsReady table.now.shared.table_id table.now.shared.key result.seat result.seats }
 {
     match seats.pop() {
@@ -63,8 +65,8 @@ fn two_seats_on_one_thread(rt: HostRuntime) -> Result<(), Fail> {
 
 const ROUNDS: u64 = 2000;
 
-// Raises the counter in exclusive access, by a read and then a write, and reads it twice in shared access. Gives how
-// often the two reads differed.
+// Raises the counter in exclusive access, by a read and then a write, and reads it twice in shared
+// access. Gives how often the two reads differed.
 fn take_turns<R: Wait>(
     rt: &R,
     table: &Table<LockOnly>,
@@ -123,10 +125,12 @@ fn four_threads_take_turns(rt: HostRuntime) -> Result<(), Fail> {
     let (first, second) = thread::join(
         handle,
         move || -> u64
-            requires { IsReady shared.now.shared.table_id shared.now.shared.key a.seat a.seats × IsReady shared.now.shared.table_id shared.now.shared.key b.seat b.seats }
+            requires { IsReady shared.now.shared.table_id shared.now.shared.key a.seat a.seats
+                × IsReady shared.now.shared.table_id shared.now.shared.key b.seat b.seats }
         { two_threads(handle, shared, a, b, count) },
         move || -> u64
-            requires { IsReady shared.now.shared.table_id shared.now.shared.key c.seat c.seats × IsReady shared.now.shared.table_id shared.now.shared.key d.seat d.seats }
+            requires { IsReady shared.now.shared.table_id shared.now.shared.key c.seat c.seats
+                × IsReady shared.now.shared.table_id shared.now.shared.key d.seat d.seats }
         { two_threads(handle, shared, c, d, count) },
     );
     assert_eq!(rt; first, 0);

@@ -36,7 +36,8 @@ fn last_pass(rt: &impl Abort, store: &Store, passes: &mut Vec<Pass>) -> Pass
     }
 }
 
-// Enters and leaves shared access, and gives the base and the number of buckets in use that the entry loaded.
+// Enters and leaves shared access, and gives the base and the number of buckets in use that the
+// entry loaded.
 fn visit(rt: &impl Abort, store: &Store, pass: &mut Pass) -> (u64, u64)
     requires store { IsOpen store.now }
     requires pass { IsSeated store.now pass.old × IsOut (view_of pass.old) }

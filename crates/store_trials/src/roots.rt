@@ -63,7 +63,8 @@ fn protect_constant(rt: &impl Abort, store: &Store, pass: &mut Pass, symbol: u32
     ensures inside { IsInside store.now pass.new }
     ensures shared { (view_of pass.new).lock.phase ≡ Shared }
     ensures uses { In result.0 (view_of pass.new).store.got }
-    ensures keeps { (r : ℕ) → In r (view_of pass.old).store.got → In r (view_of pass.new).store.got }
+    ensures keeps { (r : ℕ) → In r (view_of pass.old).store.got
+        → In r (view_of pass.new).store.got }
 {
     match create(store, pass, Head::App(Symbol(symbol)), &[]) {
         Ok(row) => {
@@ -84,7 +85,8 @@ fn protect_two(rt: &impl Abort, store: &Store, pass: &mut Pass, symbol: u32) -> 
     ensures shared { (view_of pass.new).lock.phase ≡ Shared }
     ensures first { In result.0.0 (view_of pass.new).store.got }
     ensures second { In result.1.0 (view_of pass.new).store.got }
-    ensures keeps { (r : ℕ) → In r (view_of pass.old).store.got → In r (view_of pass.new).store.got }
+    ensures keeps { (r : ℕ) → In r (view_of pass.old).store.got
+        → In r (view_of pass.new).store.got }
 {
     let first = protect_constant(rt, store, pass, symbol);
     let second = protect_constant(rt, store, pass, symbol + 1);
@@ -129,8 +131,8 @@ fn two_roots(store: &Store, pass: &mut Pass) -> (Row, Row)
     (first, second)
 }
 
-// In shared access of the second pass: the constant that the first pass made, another one, and a term over the first, which is
-// Full.
+// In shared access of the second pass: the constant that the first pass made, another one, and a
+// term over the first, which is Full.
 fn create_past_the_room(rt: &impl Abort, store: &Store, pass: &mut Pass, row: Row)
     requires inside { IsInside store.now pass.old }
     requires shared { (view_of pass.old).lock.phase ≡ Shared }
@@ -185,8 +187,8 @@ fn exclusive_access_waits_for_shared(rt: HostRuntime) -> Result<(), Fail> {
     Ok(())
 }
 
-// All four places are taken, so a fifth row is `Deep`. The four rows are then stored in the other order, of which the first and the
-// last are kept.
+// All four places are taken, so a fifth row is `Deep`. The four rows are then stored in the other
+// order, of which the first and the last are kept.
 #[test]
 fn protected_rows_are_stored_kept_and_read(rt: HostRuntime) -> Result<(), Fail> {
     let sizes = Sizes { rows: 4, ..SMALL };

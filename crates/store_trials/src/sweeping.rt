@@ -22,7 +22,16 @@ mod creating;
 
 // A store of one pass, with no room for protected rows but one.
 const fn worn_sizes(first: u64) -> Sizes
-    ensures { result ≡ record { rows = 2; buckets = 1; start = 1; seats = 1; depth = 1; arity = 0; first = first } }
+    ensures { result
+        ≡ record {
+          rows = 2;
+          buckets = 1;
+          start = 1;
+          seats = 1;
+          depth = 1;
+          arity = 0;
+          first = first;
+        } }
 {
     Sizes {
         rows: 2,
@@ -94,8 +103,8 @@ fn collect_and_tell(rt: &impl Abort, store: &Store, pass: &mut Pass) -> (Result<
     (kept, told)
 }
 
-// With first 2^62 - 5 there is room for one collection: base + claim + 1 + span is 2^62 - 5 + 0 + 1 + (2 + 1 + 1). Its number is
-// the base, and the next one is worn.
+// With first 2^62 - 5 there is room for one collection: base + claim + 1 + span is 2^62 - 5 + 0 + 1
+// + (2 + 1 + 1). Its number is the base, and the next one is worn.
 #[test]
 fn a_store_wears_out(rt: HostRuntime) -> Result<(), Fail> {
     let (store, mut passes) = Store::make(rt.alloc(), worn_sizes((1 << 62) - 5))?;
@@ -115,8 +124,8 @@ fn a_store_wears_out(rt: HostRuntime) -> Result<(), Fail> {
     Ok(())
 }
 
-// Two constants are protected, of a store of four rows and four buckets, of which one is in use. Twice 2 exceeds 1 and then 2, but
-// not 4.
+// Two constants are protected, of a store of four rows and four buckets, of which one is in use.
+// Twice 2 exceeds 1 and then 2, but not 4.
 #[test]
 fn buckets_in_use_double_up_to_all(rt: HostRuntime) -> Result<(), Fail> {
     let sizes = Sizes {
@@ -147,7 +156,8 @@ fn buckets_in_use_double_up_to_all(rt: HostRuntime) -> Result<(), Fail> {
     Ok(())
 }
 
-// Two passes protect a constant each, and a third one is made that nobody protects: it alone is freed, whoever collects.
+// Two passes protect a constant each, and a third one is made that nobody protects: it alone is
+// freed, whoever collects.
 #[test]
 fn rows_of_both_passes_stay(rt: HostRuntime) -> Result<(), Fail> {
     let sizes = Sizes {
@@ -186,8 +196,9 @@ fn rows_of_both_passes_stay(rt: HostRuntime) -> Result<(), Fail> {
     Ok(())
 }
 
-// Three passes. While the first is in shared access a collection of the second is refused, by its seat; the third may enter then, so
-// no flag is left set. When both have left, the collection frees the row that nobody protects.
+// Three passes. While the first is in shared access a collection of the second is refused, by its
+// seat; the third may enter then, so no flag is left set. When both have left, the collection frees
+// the row that nobody protects.
 #[test]
 fn a_collection_now_is_refused_beside_a_reader(rt: HostRuntime) -> Result<(), Fail> {
     let sizes = Sizes {

@@ -1,19 +1,22 @@
-//! Files and what they hold. Expected bytes and places are worked out by hand from the form of a file.
+//! Files and what they hold. Expected bytes and places are worked out by hand from the form of a
+//! file.
 
 use std::alloc::{AllocError, Global};
 use std::test::Fail;
 use term_file::{ReadFail, decode, encode};
 
-/// f(a,a): the magic; two symbols, a of no arguments and f of two; two records, a, and f over records 0
-/// and 0; one root, record 1. By offsets: 8 the count of the symbols, 12 and 15 the symbols, 18 the count of the
-/// records, 22 and 27 the records, 40 the count of the roots, 44 the root.
+/// f(a,a): the magic; two symbols, a of no arguments and f of two; two records, a, and f over
+/// records 0 and 0; one root, record 1. By offsets: 8 the count of the symbols, 12 and 15 the
+/// symbols, 18 the count of the records, 22 and 27 the records, 40 the count of the roots, 44 the
+/// root.
 const PAIR: [u8; 48] = [
     82, 69, 67, 84, 69, 82, 77, 49, 0, 0, 0, 2, 1, 97, 0, 1, 102, 2, 0, 0, 0, 2, 0, 0, 0, 0, 0, 0,
     0, 0, 0, 1, 0, 0, 0, 0, 0, 0, 0, 0, 0, 0, 0, 1, 0, 0, 0, 1,
 ];
 
-/// [1]: no symbols; three records, the integer 1, the empty list, and a cell over records 0 and 1; one root,
-/// record 2. By offsets: 12 the count of the records, 16, 25 and 26 the records, 35 the count of the roots.
+/// [1]: no symbols; three records, the integer 1, the empty list, and a cell over records 0 and 1;
+/// one root, record 2. By offsets: 12 the count of the records, 16, 25 and 26 the records, 35 the
+/// count of the roots.
 const LIST: [u8; 43] = [
     82, 69, 67, 84, 69, 82, 77, 49, 0, 0, 0, 0, 0, 0, 0, 3, 1, 0, 0, 0, 0, 0, 0, 0, 1, 2, 3, 0, 0,
     0, 0, 0, 0, 0, 1, 0, 0, 0, 1, 0, 0, 0, 2,
@@ -101,9 +104,9 @@ fn first_untold(
 
 #[test]
 fn a_magic_or_a_count_that_breaks_a_rule_is_told(rt: HostRuntime) -> Result<(), Fail> {
-    // another magic; 65,538 symbols; 262,145 records. A symbol more: the third is of no name and no arguments, and
-    // after 131,072 for the count of the records and record a there is symbol 65,536. A record more, of symbol 256.
-    // No roots, so that no record is visited
+    // another magic; 65,538 symbols; 262,145 records. A symbol more: the third is of no name and no
+    // arguments, and after 131,072 for the count of the records and record a there is symbol
+    // 65,536. A record more, of symbol 256. No roots, so that no record is visited
     let changes: [Change; 6] = [
         (7, &[50], 0),
         (9, &[1], 8),
@@ -118,8 +121,9 @@ fn a_magic_or_a_count_that_breaks_a_rule_is_told(rt: HostRuntime) -> Result<(), 
 
 #[test]
 fn a_symbol_that_breaks_a_rule_is_told(rt: HostRuntime) -> Result<(), Fail> {
-    // a byte of a name below space, and above tilde; a byte more of a name; 17 arguments; an argument more of a, and
-    // of f; the second symbol is the first again, told at its number of arguments
+    // a byte of a name below space, and above tilde; a byte more of a name; 17 arguments; an
+    // argument more of a, and of f; the second symbol is the first again, told at its number of
+    // arguments
     let changes: [Change; 7] = [
         (13, &[31], 13),
         (13, &[127], 13),
@@ -135,8 +139,9 @@ fn a_symbol_that_breaks_a_rule_is_told(rt: HostRuntime) -> Result<(), Fail> {
 
 #[test]
 fn a_record_that_breaks_a_rule_is_told(rt: HostRuntime) -> Result<(), Fail> {
-    // no tag; an integer 0 in place of a, and again; symbol 1 before symbol 0; symbol 2 of two; a record that is
-    // there already, told at its last field; one that is its own argument, first and second
+    // no tag; an integer 0 in place of a, and again; symbol 1 before symbol 0; symbol 2 of two; a
+    // record that is there already, told at its last field; one that is its own argument, first and
+    // second
     let changes: [Change; 7] = [
         (22, &[4], 22),
         (22, &[1], 32),
@@ -152,8 +157,9 @@ fn a_record_that_breaks_a_rule_is_told(rt: HostRuntime) -> Result<(), Fail> {
 
 #[test]
 fn a_cell_that_breaks_a_rule_is_told(rt: HostRuntime) -> Result<(), Fail> {
-    // over an integer; over itself; over two empty lists, which leaves the integer out; over record 50,331,648 in
-    // place of the empty list; no tag; root 1, which leaves the cell out, and the integer comes too late
+    // over an integer; over itself; over two empty lists, which leaves the integer out; over record
+    // 50,331,648 in place of the empty list; no tag; root 1, which leaves the cell out, and the
+    // integer comes too late
     let changes: [Change; 6] = [
         (34, &[0], 31),
         (34, &[2], 31),

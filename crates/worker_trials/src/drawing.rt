@@ -88,8 +88,8 @@ fn rewrite<R: Threads + Abort + Sync, H: Hears, G: Gate>(
     Ok(rewrite_all(rt, alloc, &work, desks, gate))
 }
 
-/// Has each of two desks wait at its first build until the other is about to build, and counts those
-/// that gave up.
+/// Has each of two desks wait at its first build until the other is about to build, and counts
+/// those that gave up.
 #[derive(Drop)]
 struct Meeting {
     desks: AtomicU32,
@@ -143,8 +143,8 @@ impl Gate for Holding {
     fn after(&self, _term: u32) {}
 }
 
-/// What a gate and a desk are told, in order, as the digits of a number: 1 before a term and 5 after
-/// it, 2 where the desk goes inside, 3 where it builds, and 4 where it goes outside.
+/// What a gate and a desk are told, in order, as the digits of a number: 1 before a term and 5
+/// after it, 2 where the desk goes inside, 3 where it builds, and 4 where it goes outside.
 #[derive(Drop)]
 struct Log {
     digits: AtomicU64,

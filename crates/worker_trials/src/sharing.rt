@@ -98,8 +98,8 @@ fn text_of(alloc: Global, lines: &Lines) -> Result<Vec<u8>, Fail> {
     Ok(text)
 }
 
-// The different trees are a, b, f(a), g(a,b) and f(g(a,b)), so five rows suffice for any number of workers. Where two make one tree at
-// the same time each may lose a row until one collects.
+// The different trees are a, b, f(a), g(a,b) and f(g(a,b)), so five rows suffice for any number of
+// workers. Where two make one tree at the same time each may lose a row until one collects.
 #[test]
 fn the_lines_are_the_same_for_any_number_of_workers(rt: HostRuntime) -> Result<(), Fail> {
     let alloc = rt.alloc();
@@ -153,7 +153,8 @@ fn nested(alloc: Global, depth: u32) -> Result<Vec<u8>, Fail> {
     Ok(text)
 }
 
-// A term of as many different trees as there are rows has its line, and one of one more has too few rows.
+// A term of as many different trees as there are rows has its line, and one of one more has too few
+// rows.
 fn has_its_edge_at<R: Threads + Wait + Abort + Sync>(
     rt: &R,
     alloc: Global,

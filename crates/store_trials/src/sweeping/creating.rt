@@ -60,8 +60,8 @@ fn make_over_root(rt: &impl Abort, store: &Store, pass: &mut Pass, symbol: u32) 
     create_exclusive(store, pass, Head::App(Symbol(symbol)), &[root])
 }
 
-// In shared access of the second pass of a store of two rows: the constant that the first pass made, which is then protected, and
-// another one, which is not. Then no row is free.
+// In shared access of the second pass of a store of two rows: the constant that the first pass
+// made, which is then protected, and another one, which is not. Then no row is free.
 fn fill(rt: &impl Abort, store: &Store, pass: &mut Pass, row: Row) -> Row
     requires inside { IsInside store.now pass.old }
     requires shared { (view_of pass.old).lock.phase ≡ Shared }
@@ -80,9 +80,10 @@ fn fill(rt: &impl Abort, store: &Store, pass: &mut Pass, row: Row) -> Row
     other
 }
 
-// A store of two rows and two passes, with one bucket, and with four. The first pass protects a constant, and the second one too,
-// which makes another. Its collection, number 3, frees that row, and a term over the constant takes it, with number 4. Then no row is
-// free: the constant is found, and another one is refused.
+// A store of two rows and two passes, with one bucket, and with four. The first pass protects a
+// constant, and the second one too, which makes another. Its collection, number 3, frees that row,
+// and a term over the constant takes it, with number 4. Then no row is free: the constant is found,
+// and another one is refused.
 #[test]
 fn a_creation_takes_the_row_that_was_freed(rt: HostRuntime) -> Result<(), Fail> {
     for buckets in [1, 4] {
@@ -121,7 +122,8 @@ fn a_creation_takes_the_row_that_was_freed(rt: HostRuntime) -> Result<(), Fail> 
     Ok(())
 }
 
-// Both rows are protected, so a collection frees none: another constant is refused, and each of theirs is found.
+// Both rows are protected, so a collection frees none: another constant is refused, and each of
+// theirs is found.
 #[test]
 fn a_creation_is_refused_where_all_rows_are_protected(rt: HostRuntime) -> Result<(), Fail> {
     let sizes = Sizes {
@@ -158,8 +160,8 @@ fn a_creation_is_refused_where_all_rows_are_protected(rt: HostRuntime) -> Result
     Ok(())
 }
 
-// With first 2^62 - 5 there is room for one collection, and so for two rows after it: their numbers are 2^62 - 4 and 2^62 - 3. The
-// next collection is worn.
+// With first 2^62 - 5 there is room for one collection, and so for two rows after it: their numbers
+// are 2^62 - 4 and 2^62 - 3. The next collection is worn.
 #[test]
 fn rows_are_made_in_the_last_epoch(rt: HostRuntime) -> Result<(), Fail> {
     let sizes = Sizes {
