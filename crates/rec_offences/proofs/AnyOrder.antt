@@ -1,16 +1,20 @@
 -- The fault is the least of all offences, in whatever order the specifications come.
-use Rattle.std.proofs.Common.{◌≡◌, ◌⊎◌, inl, inr, ℕ, zero, suc, ◌<◌, ◌≤◌, List, [], ◌∷◌, ◌++◌, append_assoc, append-nil, length, length-append, take, slice_get, Option, Some, None, All, Contains, refl, sym, ap, subst, ◌∙◌, arith}
-use Rattle.std.specs.List.{flat_map}
-use Rattle.std.specs.Option.{option_map_or}
+use Rattle.std.proofs.Common.{◌≡◌, ◌⊎◌, inl, inr, ℕ, zero, suc, ◌<◌, ◌≤◌, List, [], ◌∷◌, ◌++◌, append_assoc, append-nil, length, length-append, map, take, slice_get, Option, Some, None, All, Contains, refl, sym, ap, subst, ◌∙◌, arith}
+use Rattle.std.specs.List.{filter, flat_map}
+use Rattle.std.specs.Option.{option_and_then, option_map_or, option_to_list}
 use Rattle.std.proofs.lemmas.Bool.{cases_lt}
-use Rattle.std.proofs.lemmas.List.Elements.{All-head, All-tail, Contains-append_left, Contains-append_right, Contains-append_cases}
+use Rattle.std.proofs.lemmas.List.Elements.{filter-append, All-head, All-tail, Contains-append_left, Contains-append_right, Contains-append_cases}
+use Rattle.rec_reader.specs.declared.token.Name.{Name}
 use Rattle.rec_reader.specs.declared.syntax_tree.Specification.{Specification}
 use Rattle.rec_reader.specs.Parsed.{Parsed}
 use Rattle.faults.specs.declared.refusal.Refusal.{Refusal}
-use Rattle.rec_offences.specs.Faults.{least_with, offences_after, offences_from, fault_of}
-use Rattle.rec_offences.specs.Grouped.{offences_at}
+use Rattle.rec_includes.specs.Material.{headers_of, included, rules_of, symbols_by, symbols_of}
+use Rattle.rec_offences.specs.Scope.{heads, own_entries, root}
+use Rattle.rec_offences.specs.Offences.{bare_variables, first_past, free_variables, includes_from, is_long, is_passing, names_in, names_in_declaration, names_in_variables, not_ground, past_limits, sort_clashes, terms_of, unknown_includes, unknown_names, wrong_counts}
+use Rattle.rec_offences.specs.Faults.{included_entries, least_with, of_kind, offences_declared, offences_used, offences_over, offences_after, offences_from, fault_of}
+use Rattle.rec_offences.specs.Grouped.{long_declared, offences_at}
 use Rattle.rec_offences.proofs.Leasts.{in_none, of_all, none_of_all}
-use Rattle.rec_offences.proofs.Orders.{only_same}
+use Rattle.rec_offences.proofs.Orders.{kinds_append, only_same}
 
 -- each of one list is in another
 abbrev IsWithin : List Refusal → List Refusal → Type 0
@@ -93,12 +97,84 @@ in_all bytes xs (s ∷ ys) n least l p c = by (cases_lt (length xs) n) (in_all b
         Contains-append_left (offences_after bytes xs s) (offences_from bytes (xs ++ s ∷ []) ys) p
         (subst (λ os. Contains os p) (ap (offences_at bytes (xs ++ s ∷ ys)) (sym e) ∙ at_middle bytes xs ys s) c)
 
+of_left : (xs ys : List Name) → IsWithin (of_kind 13 xs) (of_kind 13 (xs ++ ys))
+of_left xs ys p c = subst (λ os. Contains os p) (sym (kinds_append 13 xs ys)) (Contains-append_left (of_kind 13 xs) (of_kind 13 ys) p c)
+
+of_first : (xs a b c d e : List Name) → IsWithin (of_kind 13 xs) (of_kind 13 (xs ++ a ++ b ++ c ++ d ++ e))
+of_first xs a b c d e p h = of_left (xs ++ a ++ b ++ c ++ d) e p (of_left (xs ++ a ++ b ++ c) d p (of_left (xs ++ a ++ b) c p (of_left (xs ++ a) b p (of_left xs a p h))))
+
+fifth : (a b c d xs e f g : List Refusal) → IsWithin xs (a ++ b ++ c ++ d ++ xs ++ e ++ f ++ g)
+fifth a b c d xs e f g p h =
+    let front = a ++ b ++ c ++ d in
+    Contains-append_left (front ++ xs ++ e ++ f) g p (Contains-append_left (front ++ xs ++ e) f p (Contains-append_left (front ++ xs) e p (Contains-append_right front xs p h)))
+
+-- the names in a specification's declarations that are too long are offences of it
+module _ (bytes : List ℕ) (earlier : List Specification) (s : Specification) where
+  abbrev long : List Name → List Refusal
+  long names = of_kind 13 (filter (is_long bytes) names)
+
+  long_append : (xs ys : List Name) → long (xs ++ ys) ≡ long xs ++ long ys
+  long_append xs ys = ap (of_kind 13) (filter-append (is_long bytes) xs ys) ∙ kinds_append 13 (filter (is_long bytes) xs) (filter (is_long bytes) ys)
+
+  long_left : (xs ys : List Name) → IsWithin (long xs) (long (xs ++ ys))
+  long_left xs ys p c = subst (λ os. Contains os p) (sym (long_append xs ys)) (Contains-append_left (long xs) (long ys) p c)
+
+  long_right : (xs ys : List Name) → IsWithin (long ys) (long (xs ++ ys))
+  long_right xs ys p c = subst (λ os. Contains os p) (sym (long_append xs ys)) (Contains-append_right (long xs) (long ys) p c)
+
+  long_within : IsWithin (long (flat_map names_in_declaration s.declarations)) (offences_after bytes earlier s)
+  unfolding offences_over
+  long_within p c =
+      let headers = headers_of bytes earlier in
+      let material = included bytes headers s.includes in
+      let entries = included_entries earlier material ++ own_entries s in
+      let includes = includes_from bytes headers [] s.includes in
+      let before = s.name ∷ s.includes ++ s.sorts in
+      let own = flat_map names_in_declaration s.declarations in
+      let variables = flat_map names_in_variables s.variables in
+      let others = flat_map heads (flat_map terms_of s.rules ++ s.terms) in
+      let named = long_left (before ++ own ++ variables) others p (long_left (before ++ own) variables p (long_right before own p c)) in
+      let limits =
+      of_first (filter (is_long bytes) (names_in s))
+      (flat_map (λ d. option_to_list (slice_get d.arguments 16)) s.declarations)
+      (map (λ d. d.name) (option_to_list (first_past (length (symbols_of earlier material)) (symbols_by s))))
+      (option_to_list (option_and_then (λ r. root r.left) (first_past (length (rules_of earlier material)) s.rules)))
+      (option_to_list (option_and_then root (first_past 0 s.terms)))
+      (map (λ i. i.entry) (filter (is_passing earlier) includes))
+      p named in
+      Contains-append_right (offences_declared bytes earlier headers material s) (offences_used bytes earlier headers material entries s) p
+      (fifth
+      (of_kind 9 (bare_variables bytes entries s))
+      (of_kind 10 (free_variables bytes entries s))
+      (of_kind 11 (not_ground bytes entries s))
+      (of_kind 12 (unknown_includes bytes headers s))
+      (of_kind 13 (past_limits bytes earlier material includes s))
+      (of_kind 5 (unknown_names bytes entries s))
+      (of_kind 7 (wrong_counts bytes entries s))
+      (of_kind 8 (sort_clashes bytes entries s))
+      p limits)
+
+all_long_within : (bytes : List ℕ) (earlier ss : List Specification) → IsWithin (long_declared bytes ss) (offences_from bytes earlier ss)
+all_long_within bytes earlier [] p c = absurd (in_none p c)
+all_long_within bytes earlier (s ∷ ss) p c =
+    let long = of_kind 13 (filter (is_long bytes) (flat_map names_in_declaration s.declarations)) in
+    let first = offences_after bytes earlier s in
+    let rest = offences_from bytes (earlier ++ s ∷ []) ss in
+    elim (Contains-append_cases long (long_declared bytes ss) p c) [
+      | inl here ↦ Contains-append_left first rest p (long_within bytes earlier s p here)
+      | inr there ↦ Contains-append_right first rest p (all_long_within bytes (earlier ++ s ∷ []) ss p there)
+    ]
+
 pub in_any_order : (syntax : Parsed) (order : List ℕ) → ((n : ℕ) → n < length syntax.specifications → Contains order n) → All (λ n. n < length syntax.specifications) order →
-    least_with None (flat_map (offences_at syntax.bytes syntax.specifications) order) ≡ fault_of syntax
+    least_with None (long_declared syntax.bytes syntax.specifications ++ flat_map (offences_at syntax.bytes syntax.specifications) order) ≡ fault_of syntax
 in_any_order syntax order all no_others =
     let bytes = syntax.bytes in
     let ss = syntax.specifications in
     let f = offences_at bytes ss in
-    least_same (flat_map f order) (offences_from bytes [] ss)
-    (of_one f (λ n. n < length ss) (offences_from bytes [] ss) order no_others (λ n l. in_all bytes [] ss n (omega arith) l))
-    (λ p c. let at = at_some bytes [] ss p c in in_one f order at.0 (all at.0 at.1) p at.2)
+    let first = long_declared bytes ss in
+    least_same (first ++ flat_map f order) (offences_from bytes [] ss)
+    (λ p c. elim (Contains-append_cases first (flat_map f order) p c) [
+      | inl here ↦ all_long_within bytes [] ss p here
+      | inr there ↦ of_one f (λ n. n < length ss) (offences_from bytes [] ss) order no_others (λ n l. in_all bytes [] ss n (omega arith) l) p there
+    ])
+    (λ p c. let at = at_some bytes [] ss p c in Contains-append_right first (flat_map f order) p (in_one f order at.0 (all at.0 at.1) p at.2))

@@ -5,24 +5,13 @@ use Rattle.rec_reader.specs.Parsed.{Parsed}
 use Rattle.faults.specs.declared.refusal.Refusal.{Refusal}
 use Rattle.rec_offences.specs.Faults.{goes_before, least_with, offences_of, fault_of}
 use Rattle.rec_offences.specs.Laws.{IsLeastOf}
+use Rattle.rec_offences.proofs.Orders.{along, one_way}
 
 not_itself : (o k : ℕ) → (nat_lt o o || (o == o && nat_lt k k)) ≡ false
 not_itself o k = grind arith
 
-not_back : (o k p l : ℕ) → (nat_lt o p || (o == p && nat_lt k l)) ≡ true → (nat_lt p o || (p == o && nat_lt l k)) ≡ false
-not_back o k p l h = grind arith
-
-not_further : (o k p l q m : ℕ) → (nat_lt o p || (o == p && nat_lt k l)) ≡ false → (nat_lt p q || (p == q && nat_lt l m)) ≡ false → (nat_lt o q || (o == q && nat_lt k m)) ≡ false
-not_further o k p l q m h g = grind arith
-
 itself : (a : Refusal) → goes_before a a ≡ false
 itself a = not_itself a.place a.kind
-
-back : (a b : Refusal) → goes_before a b ≡ true → goes_before b a ≡ false
-back a b h = not_back a.place a.kind b.place b.kind h
-
-further : (a b c : Refusal) → goes_before a b ≡ false → goes_before b c ≡ false → goes_before a c ≡ false
-further a b c h g = not_further a.place a.kind b.place b.kind c.place c.kind h g
 
 pub in_none : (p : Refusal) → Contains [] p → ⊥
 in_none p c = let l = c.1 in absurd (omega (arith, l))
@@ -61,7 +50,7 @@ least found (x ∷ os) = by (goes_before x found) refl (least x os) (least found
             | inl e ↦ subst (Contains (x ∷ os)) (sym e) (at_head x os)
             | inr c ↦ behind x l.offence os c
           ]);
-          first = further found x l.offence (back x found k) l.first;
+          first = along found x l.offence (one_way x found k) l.first;
           rest = λ p c. elim (head_or_behind x p os c) [
             | inl e ↦ subst (λ q. goes_before q l.offence ≡ false) e l.first
             | inr d ↦ l.rest p d
@@ -77,7 +66,7 @@ least found (x ∷ os) = by (goes_before x found) refl (least x os) (least found
           ];
           first = l.first;
           rest = λ p c. elim (head_or_behind x p os c) [
-            | inl e ↦ subst (λ q. goes_before q l.offence ≡ false) e (further x found l.offence k l.first)
+            | inl e ↦ subst (λ q. goes_before q l.offence ≡ false) e (along x found l.offence k l.first)
             | inr d ↦ l.rest p d
           ];
         }

@@ -1,8 +1,6 @@
 pub mod Including
 pub mod Noted
 pub mod Orders
-pub mod SortPlaces
-pub mod Numberings
 pub mod Verdicts
 pub mod Groups
 pub mod Leasts

@@ -18,6 +18,11 @@ least_append found (x ∷ xs) ys = least_append (lesser found x) xs ys
 abbrev pub picked : Bool → Name → List Name
 picked b n = cond b (n ∷ []) []
 
+-- behind what was found nothing counts
+pub noted_behind : (found : Option Refusal) (kind : ℕ) (n : Name) (b : Bool) → lesser found (offence_at kind n) ≡ found → found ≡ least_with found (of_kind kind (picked b n))
+noted_behind found kind n true h = sym h
+noted_behind found kind n false h = refl
+
 pub picked_cons : (kind : ℕ) (b : Bool) (n : Name) (ns : List Name) → of_kind kind (cond b (n ∷ ns) ns) ≡ of_kind kind (picked b n) ++ of_kind kind ns
 picked_cons kind true n ns = refl
 picked_cons kind false n ns = refl

@@ -5,7 +5,7 @@ use Rattle.std.proofs.lemmas.Bool.Decides.{nat_tests}
 use Rattle.std.proofs.lemmas.List.Concat.{flat_map-append}
 use Rattle.rec_reader.specs.declared.token.Name.{Name}
 use Rattle.faults.specs.declared.refusal.Refusal.{Refusal}
-use Rattle.rec_offences.specs.Faults.{goes_before, lesser, least_with, of_kind}
+use Rattle.rec_offences.specs.Faults.{goes_before, lesser, least_with, of_kind, offence_at}
 use Rattle.rec_offences.proofs.Noted.{least_append}
 
 first_before : (a b c d : ℕ) → (nat_lt a b || (a == b && nat_lt c d)) ≡ true → (nat_lt b a || (b == a && nat_lt d c)) ≡ false
@@ -20,13 +20,13 @@ same_kind a b c d h k = grind (arith, nat_tests)
 not_before : (a b c d e f : ℕ) → (nat_lt a b || (a == b && nat_lt d e)) ≡ false → (nat_lt b c || (b == c && nat_lt e f)) ≡ false → (nat_lt a c || (a == c && nat_lt d f)) ≡ false
 not_before a b c d e f h k = grind (arith, nat_tests)
 
-one_way : (x y : Refusal) → goes_before x y ≡ true → goes_before y x ≡ false
+pub one_way : (x y : Refusal) → goes_before x y ≡ true → goes_before y x ≡ false
 one_way x y h = first_before x.place y.place x.kind y.kind h
 
 pub only_same : (x y : Refusal) → goes_before x y ≡ false → goes_before y x ≡ false → x ≡ y
 only_same x y h k = λ i. record { kind = same_kind x.place y.place x.kind y.kind h k i; place = same_offset x.place y.place x.kind y.kind h k i }
 
-along : (x y z : Refusal) → goes_before x y ≡ false → goes_before y z ≡ false → goes_before x z ≡ false
+pub along : (x y z : Refusal) → goes_before x y ≡ false → goes_before y z ≡ false → goes_before x z ≡ false
 along x y z h k = not_before x.place y.place z.place x.kind y.kind z.kind h k
 
 -- the lesser of two is the same in either order
@@ -44,6 +44,10 @@ taken g x e = ap (λ b. cond b (Some x) (Some g)) e
 
 kept : (g x : Refusal) → goes_before x g ≡ false → lesser (Some g) x ≡ Some g
 kept g x e = ap (λ b. cond b (Some x) (Some g)) e
+
+-- behind the least that was found, none goes before it
+pub behind : (least : Refusal) (kind : ℕ) (n : Name) → nat_lt least.place n.start ≡ true → lesser (Some least) (offence_at kind n) ≡ Some least
+behind least kind n h = kept least (offence_at kind n) (one_way least (offence_at kind n) (ap (λ b. b || (least.place == n.start && nat_lt least.kind kind)) h))
 
 lesser_swap : (found : Option Refusal) (x y : Refusal) → lesser (lesser found x) y ≡ lesser (lesser found y) x
 lesser_swap None x y = lesser_two x y
@@ -81,9 +85,9 @@ together first others found (v ∷ vs) =
     ∙ sym (least_append (least_with here a) (others v) r)
     ∙ ap (λ o. least_with o (others v ++ r)) (sym (least_append found (first v) a))
 
-kinds_append : (kind : ℕ) (xs ys : List Name) → of_kind kind (xs ++ ys) ≡ of_kind kind xs ++ of_kind kind ys
+pub kinds_append : (kind : ℕ) (xs ys : List Name) → of_kind kind (xs ++ ys) ≡ of_kind kind xs ++ of_kind kind ys
 kinds_append kind [] ys = refl
-kinds_append kind (x ∷ xs) ys = ap (λ os. record { kind = kind; place = x.start } ∷ os) (kinds_append kind xs ys)
+kinds_append kind (x ∷ xs) ys = ap (λ os. offence_at kind x ∷ os) (kinds_append kind xs ys)
 
 pub kinds_flat : {V : Type 0} (kind : ℕ) (names : V → List Name) (vs : List V) → flat_map (λ v. of_kind kind (names v)) vs ≡ of_kind kind (flat_map names vs)
 kinds_flat kind names [] = refl

@@ -9,7 +9,7 @@ use Rattle.rec_offences.specs.declared.turn.Turn.{Turn}
 use Rattle.faults.specs.declared.refusal.Refusal.{Refusal}
 use Rattle.rec_includes.specs.Names.{is_among}
 use Rattle.rec_offences.specs.Scope.{Entry, names_of, root}
-use Rattle.rec_offences.specs.Offences.{Include, is_clashing, is_passing, unknown_sorts, repeated, bare_variables, free_variables, not_ground, is_long, names_in, first_past, unknown_names, wrong_counts, sort_clashes}
+use Rattle.rec_offences.specs.Offences.{Include, is_clashing, is_passing, unknown_sorts, repeated, bare_variables, free_variables, not_ground, is_long, names_in, names_in_declaration, first_past, unknown_names, wrong_counts, sort_clashes}
 use Rattle.rec_offences.specs.Faults.{of_kind, offences_after}
 
 -- what is wrong at an entry
@@ -23,6 +23,10 @@ clashing_entries verdicts = map (λ v. v.entry) (filter (λ v. v.is_clashing) ve
 
 abbrev pub passing_entries : List Verdict → List Name
 passing_entries verdicts = map (λ v. v.entry) (filter (λ v. v.is_passing) verdicts)
+
+-- the names in declarations that are too long, which are noted before all else
+abbrev pub long_declared : List ℕ → List Specification → List Refusal
+long_declared bytes specifications = flat_map (λ s. of_kind 13 (filter (is_long bytes) (flat_map names_in_declaration s.declarations))) specifications
 
 abbrev pub repeated_group : List ℕ → (headers : List Name) → List Verdict → (entries own : List Entry) → Specification → List Name
 repeated_group bytes headers verdicts entries own s =

@@ -3,8 +3,6 @@ pub mod Offences
 pub mod Faults
 pub mod Known
 pub mod KnownKept
-pub mod Numbering
-pub mod SortsKept
 pub mod Inclusion
 pub mod Visited
 pub mod Walked

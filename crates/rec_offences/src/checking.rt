@@ -10,7 +10,7 @@ ghost use Rattle.rec_offences.specs.Faults.{least_with, fault_of};
 
 use crate::inclusion::Inclusion;
 use crate::offences::heads::note_heads;
-use crate::offences::limits::note_past_limits;
+use crate::offences::limits::{note_long_declared, note_past_limits};
 use crate::offences::repeated::note_repeated_names;
 use crate::offences::unknown::{note_unknown_includes, note_unknown_sorts};
 use crate::offences::variables::note_misplaced_variables;
@@ -166,11 +166,13 @@ pub fn fault_with<'a>(
 {
     let specifications = syntax.as_slice();
     let numbers = order(alloc, headers, specifications)?;
+    let mut found = None;
+    note_long_declared(&mut found, syntax.text(), specifications);
     let mut checking = Checking {
         specifications,
         headers,
         included: Inclusion::new(alloc, syntax.text()),
-        found: None,
+        found,
     };
     for number in &numbers {
         checking.note_offences(alloc, *number)?;

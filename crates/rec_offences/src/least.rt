@@ -1,5 +1,5 @@
 //! The least of what was found.
-ghost use Rattle.std.specs.Prelude.{◌≡◌, ◌∷◌, [], Some, if◌then◌else◌};
+ghost use Rattle.std.specs.Prelude.{◌≡◌, ◌∷◌, ℕ, [], true, if◌then◌else◌};
 ghost use Rattle.std.specs.Option.{option_to_list};
 ghost use Rattle.rec_offences.specs.Faults.{lesser, offence_at, goes_before, least_with, of_kind};
 
@@ -28,6 +28,16 @@ pub(crate) fn note(found: &mut Option<Refusal>, kind: u8, name: Name)
             }
         }
         None => *found = Some(offence),
+    }
+}
+
+/// Whether a name stands behind what was found, so that no offence at it goes before that.
+pub(crate) fn is_behind(found: Option<Refusal>, name: Name) -> bool
+    ensures { (kind : ℕ) → result ≡ true → lesser found (offence_at kind name) ≡ found }
+{
+    match found {
+        Some(least) => least.place < name.start as u64,
+        None => false,
     }
 }
 

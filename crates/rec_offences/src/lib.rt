@@ -11,7 +11,6 @@ mod numbered;
 mod offences;
 mod scope;
 mod signatures;
-mod sorts;
 mod turn;
 
 pub use checking::{fault, fault_with};

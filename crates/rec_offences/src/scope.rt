@@ -1,15 +1,13 @@
 //! Declared names, and what each is first declared as.
-ghost use Rattle.std.specs.Prelude.{◌≡◌, ◌<◌, ◌^◌, ◌++◌, ◌∷◌, [], OnOk, length, map, not, slice_get, take};
+ghost use Rattle.std.specs.Prelude.{◌≡◌, ◌<◌, ◌^◌, ◌∷◌, [], OnOk, length, map, not, slice_get, take};
 ghost use Rattle.std.specs.Option.{option_map};
 ghost use Rattle.rec_includes.specs.Names.{is_among, same_text};
 ghost use Rattle.rec_offences.specs.Scope.{look_up, names_of, is_variable};
-ghost use Rattle.rec_offences.specs.Offences.{has_other_sort};
 ghost use Rattle.rec_offences.specs.Known.{known, entry_of, entries_of, with_entries};
 
 use crate::signatures::Signature;
-use crate::sorts::SortNumbers;
 use faults::Memory;
-use rec_includes::Directory;
+use rec_includes::{Directory, text_of};
 use rec_reader::Name;
 use std::alloc::Global;
 use std::marker::Model;
@@ -19,7 +17,6 @@ use std::marker::Model;
 pub(crate) struct Scope<'a> {
     names: Directory<'a>,
     signatures: Vec<Signature<'a>>,
-    sorts: SortNumbers<'a>,
 }
 
 impl<'a> Model for Scope<'a> {
@@ -41,7 +38,6 @@ impl<'a> Scope<'a> {
         Scope {
             names: Directory::new(alloc, text),
             signatures: Vec::new(alloc),
-            sorts: SortNumbers::new(alloc, text),
         }
     }
 
@@ -56,7 +52,8 @@ impl<'a> Scope<'a> {
     pub(crate) fn differ(&self, first: Name, second: Name) -> bool
         ensures { result ≡ not (same_text self.now.bytes first second) }
     {
-        self.sorts.differ(first, second)
+        let text = self.names.text();
+        text_of(text, first) != text_of(text, second)
     }
 
     /// How many names are declared, those that are repeated too.
@@ -108,7 +105,6 @@ impl<'a> Scope<'a> {
         ensures { OnOk result (self.new
             ≡ with_entries self.old (entry_of signature.entry ∷ [])) }
     {
-        self.sorts.note_sorts(signature.arguments, signature.sort)?;
         self.signatures.push(signature)?;
         match self.names.add(signature.name) {
             Ok(()) => Ok(()),

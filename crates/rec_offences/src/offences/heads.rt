@@ -1,15 +1,15 @@
 //! Heads of terms: what is unknown or declared otherwise, and variables in terms that are to be
 //! rewritten.
-ghost use Rattle.std.specs.Prelude.{◌≡◌, ◌++◌, ◌∷◌, [], List, OnOk, false, true};
+ghost use Rattle.std.specs.Prelude.{◌≡◌, ◌++◌, [], List, OnOk, false, true};
 ghost use Rattle.std.specs.List.{flat_map};
 ghost use Rattle.rec_reader.specs.declared.token.Name.{Name};
 ghost use Rattle.rec_offences.specs.Scope.{visits};
 ghost use Rattle.rec_offences.specs.Offences.{terms_of, unknown_names, wrong_counts, sort_clashes, not_ground};
 ghost use Rattle.rec_offences.specs.Faults.{of_kind, least_with};
-ghost use Rattle.rec_offences.specs.Walked.{arguments_of, at_node, at_side, clashing_sorts, is_other, names_with, sort_of, visit_over};
+ghost use Rattle.rec_offences.specs.Walked.{arguments_of, at_node, at_side, clashing_sorts, names_with, sort_of, visit_over};
 
 use crate::least::{note, note_if};
-use crate::offences::sides::note_clashing_sides;
+use crate::offences::sides::{note_clashing_sides, note_other_sort};
 use crate::scope::Scope;
 use faults::{Memory, Refusal, kinds};
 use rec_reader::{Name, Node, Rule, Sequence, Specification};
@@ -22,16 +22,6 @@ pub(crate) struct Argument {
     pub sort: Option<Name>,
 }
 
-/// Whether a sort is another than the one that is wanted.
-fn is_other(scope: &Scope, wanted: Name, sort: Option<Name>) -> bool
-    ensures { result ≡ is_other scope.now.bytes wanted sort }
-{
-    match sort {
-        Some(sort) => scope.differ(wanted, sort),
-        None => false,
-    }
-}
-
 fn note_clashing(
     found: &mut Option<Refusal>,
     scope: &Scope,
@@ -42,12 +32,7 @@ fn note_clashing(
         (clashing_sorts scope.now.bytes wanted.now arguments.now)) }
 {
     for (sort, argument) in wanted.iter().zip(arguments) {
-        note_if(
-            found,
-            kinds::SORT_CLASH,
-            argument.head,
-            is_other(scope, *sort, argument.sort),
-        );
+        note_other_sort(found, scope, *sort, argument.sort, argument.head);
     }
 }
 

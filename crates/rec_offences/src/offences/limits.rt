@@ -1,12 +1,12 @@
 //! More than the limits allow.
-ghost use Rattle.std.specs.Prelude.{◌≡◌, ◌++◌, ◌∷◌, [], map, slice_get};
+ghost use Rattle.std.specs.Prelude.{◌≡◌, ◌∷◌, [], map, slice_get};
 ghost use Rattle.std.specs.List.{filter, flat_map};
 ghost use Rattle.std.specs.Option.{option_map, option_to_list, option_and_then, option_copied};
 ghost use Rattle.rec_offences.specs.Scope.{root, heads};
 ghost use Rattle.rec_offences.specs.Offences.{is_long, names_in, names_in_declaration, names_in_variables, terms_of, first_past};
 ghost use Rattle.rec_offences.specs.Faults.{of_kind, least_with};
 ghost use Rattle.rec_offences.specs.Known.{entries_of};
-ghost use Rattle.rec_offences.specs.Grouped.{limits_at, passing_entries};
+ghost use Rattle.rec_offences.specs.Grouped.{limits_at, long_declared, passing_entries};
 
 use crate::entries::Verdict;
 use crate::least::{note_if, note_some};
@@ -61,6 +61,28 @@ fn note_long_in_declaration(found: &mut Option<Refusal>, text: &[u8], declaratio
     note_long_name(found, text, declaration.sort);
 }
 
+fn note_long_in_declarations(found: &mut Option<Refusal>, text: &[u8], declarations: &[Declaration])
+    ensures { found.new ≡ least_with found.old (of_kind 13
+        (filter (is_long text.now) (flat_map names_in_declaration declarations.now))) }
+{
+    for declaration in declarations {
+        note_long_in_declaration(found, text, declaration);
+    }
+}
+
+/// Notes the names in declarations that are too long, of all specifications.
+pub(crate) fn note_long_declared(
+    found: &mut Option<Refusal>,
+    text: &[u8],
+    specifications: &[Specification],
+)
+    ensures { found.new ≡ least_with found.old (long_declared text.now specifications.now) }
+{
+    for specification in specifications {
+        note_long_in_declarations(found, text, specification.declarations.as_slice());
+    }
+}
+
 fn note_long_in_variables(found: &mut Option<Refusal>, text: &[u8], variables: &Variables)
     ensures { found.new ≡ least_with found.old
         (of_kind 13 (filter (is_long text.now) (names_in_variables variables.now))) }
@@ -89,9 +111,7 @@ fn note_long_names(found: &mut Option<Refusal>, text: &[u8], specification: &Spe
     note_long_name(found, text, specification.name);
     note_long(found, text, specification.includes.as_slice());
     note_long(found, text, specification.sorts.as_slice());
-    for declaration in specification.declarations.as_slice() {
-        note_long_in_declaration(found, text, declaration);
-    }
+    note_long_in_declarations(found, text, specification.declarations.as_slice());
     for variables in specification.variables.as_slice() {
         note_long_in_variables(found, text, variables);
     }

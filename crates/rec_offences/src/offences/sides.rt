@@ -1,11 +1,12 @@
-//! Second sides that have another sort than the first.
-ghost use Rattle.std.specs.Prelude.{◌≡◌};
+//! Heads of another sort than is wanted: second sides that have another than the first.
+ghost use Rattle.std.specs.Prelude.{◌≡◌, ◌∷◌, [], if◌then◌else◌};
 ghost use Rattle.std.specs.List.{flat_map};
 ghost use Rattle.rec_offences.specs.Scope.{root};
 ghost use Rattle.rec_offences.specs.Offences.{has_other_sort, clashing_side, clashing_sides};
 ghost use Rattle.rec_offences.specs.Faults.{of_kind, least_with};
+ghost use Rattle.rec_offences.specs.Walked.{is_other};
 
-use crate::least::note_if;
+use crate::least::{is_behind, note_if};
 use crate::scope::Scope;
 use faults::{Refusal, kinds};
 use rec_reader::{Name, Node, Rule};
@@ -18,13 +19,46 @@ pub(crate) fn root(nodes: &[Node]) -> Option<Name>
     Some(node.head)
 }
 
-/// Whether a head is declared with another sort than is wanted.
-fn has_other_sort(scope: &Scope, wanted: Name, head: Name) -> bool
-    ensures { result ≡ has_other_sort scope.now.bytes scope.now.entries wanted head }
+/// Whether a sort is another than the one that is wanted.
+fn is_other(scope: &Scope, wanted: Name, sort: Option<Name>) -> bool
+    ensures { result ≡ is_other scope.now.bytes wanted sort }
 {
-    match scope.find(head) {
-        Some(signature) => scope.differ(wanted, signature.sort),
+    match sort {
+        Some(sort) => scope.differ(wanted, sort),
         None => false,
+    }
+}
+
+/// Notes a head whose sort is another than the one that is wanted. Behind what was found nothing is
+/// compared. So a name past the limit, which is found where it is declared, isn't read at each use.
+pub(crate) fn note_other_sort(
+    found: &mut Option<Refusal>,
+    scope: &Scope,
+    wanted: Name,
+    sort: Option<Name>,
+    head: Name,
+)
+    ensures { found.new ≡ least_with found.old
+        (of_kind 8 (if is_other scope.now.bytes wanted sort then head ∷ [] else [])) }
+{
+    if is_behind(*found, head) {
+        return;
+    }
+    note_if(
+        found,
+        kinds::SORT_CLASH,
+        head,
+        is_other(scope, wanted, sort),
+    );
+}
+
+/// Notes a head that is declared with another sort than is wanted.
+fn note_other_head(found: &mut Option<Refusal>, scope: &Scope, wanted: Name, head: Name)
+    ensures { found.new ≡ least_with found.old (of_kind 8
+        (if has_other_sort scope.now.bytes scope.now.entries wanted head then head ∷ [] else [])) }
+{
+    if let Some(signature) = scope.find(head) {
+        note_other_sort(found, scope, wanted, Some(signature.sort), head);
     }
 }
 
@@ -35,12 +69,7 @@ fn note_clashing_side(found: &mut Option<Refusal>, scope: &Scope, first: &[Node]
 {
     if let (Some(first), Some(second)) = (root(first), root(second)) {
         if let Some(signature) = scope.find(first) {
-            note_if(
-                found,
-                kinds::SORT_CLASH,
-                second,
-                has_other_sort(scope, signature.sort, second),
-            );
+            note_other_head(found, scope, signature.sort, second);
         }
     }
 }

@@ -1,4 +1,4 @@
-use Rattle.std.proofs.Common.{◌≡◌, None, take}
+use Rattle.std.proofs.Common.{◌≡◌, take}
 use Rattle.std.specs.List.{flat_map}
 use Rattle.rec_offences.specs.Faults.{least_with}
 use Rattle.rec_offences.specs.Checking.{HasSameInput, IsChecking}
@@ -10,5 +10,5 @@ invariant-loop-number l =
     record {
       checking : IsChecking l.checking;
       same : HasSameInput l.initial.checking l.checking;
-      noted : l.checking.found ≡ least_with None (flat_map (offences_at l.syntax.bytes l.initial.checking.specifications.now) (take l.number-index l.number-items));
+      noted : l.checking.found ≡ least_with l.initial.checking.found (flat_map (offences_at l.syntax.bytes l.initial.checking.specifications.now) (take l.number-index l.number-items));
     }

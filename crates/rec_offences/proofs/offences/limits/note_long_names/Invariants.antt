@@ -1,13 +1,9 @@
 use Rattle.std.proofs.Common.{◌≡◌, drop}
 use Rattle.std.specs.List.{filter, flat_map}
 use Rattle.rec_offences.specs.Scope.{heads}
-use Rattle.rec_offences.specs.Offences.{is_long, names_in_declaration, names_in_variables, terms_of}
+use Rattle.rec_offences.specs.Offences.{is_long, names_in_variables, terms_of}
 use Rattle.rec_offences.specs.Faults.{least_with, of_kind}
 use Rattle.rec_offences.proofs.offences.limits.note_long_names.Given as goal
-
-abbrev pub invariant-loop-declaration : goal.invariant-loop-declaration
-invariant-loop-declaration l =
-    least_with l.found (of_kind 13 (filter (is_long l.text) (flat_map names_in_declaration (drop l.declaration-index l.declaration-items)))) ≡ least_with l.initial.found (of_kind 13 (filter (is_long l.text) (flat_map names_in_declaration l.declaration-items)))
 
 abbrev pub invariant-loop-variables : goal.invariant-loop-variables
 invariant-loop-variables l =

@@ -10,7 +10,7 @@ pub returns-in-Some : goal.returns-in-Some
 returns-in-Some c =
     let s = c.self.inside in
     let entries = entries_of s.signatures.items in
-    let at = ap (place_in (same_text s.names.bytes c.args.name)) (sym c.self.invariant.named) ∙ sym c.place.ensures ∙ c.in-Some.is in
+    let at = ap (place_in (same_text s.names.bytes c.args.name)) (sym c.self.invariant) ∙ sym c.place.ensures ∙ c.in-Some.is in
     rw (← c.self.view_is)
     (c.at.ensures
     ∙ ap (λ k. slice_get k.entries c.in-Some.place) (sym c.self.view_is)
@@ -21,5 +21,5 @@ pub returns-in-None : goal.returns-in-None
 returns-in-None c =
     let s = c.self.inside in
     let entries = entries_of s.signatures.items in
-    let at = ap (place_in (same_text s.names.bytes c.args.name)) (sym c.self.invariant.named) ∙ sym c.place.ensures ∙ c.in-None.is in
+    let at = ap (place_in (same_text s.names.bytes c.args.name)) (sym c.self.invariant) ∙ sym c.place.ensures ∙ c.in-None.is in
     rw (← c.self.view_is) (sym (ap (option_and_then (slice_get entries)) at) ∙ sym (found_at s.names.bytes entries c.args.name))

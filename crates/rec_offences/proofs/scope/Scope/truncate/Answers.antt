@@ -8,15 +8,11 @@ pub invariant_of-self : goal.invariant_of-self
 invariant_of-self c =
     let s = c.self.inside in
     let n = c.args.count in
-    record {
-      named =
-          ap (λ d. d.names) c.truncate.ensures
-          ∙ ap (take n) c.self.invariant.named
-          ∙ take-map (λ e. e.declared.name) n (entries_of s.signatures.items)
-          ∙ ap names_of (take-map entry_of n s.signatures.items)
-          ∙ sym (ap (λ l. names_of (entries_of l)) c.truncate-2.ensures.items);
-      same_bytes = c.self.invariant.same_bytes ∙ sym (ap (λ d. d.bytes) c.truncate.ensures);
-    }
+    ap (λ d. d.names) c.truncate.ensures
+    ∙ ap (take n) c.self.invariant
+    ∙ take-map (λ e. e.declared.name) n (entries_of s.signatures.items)
+    ∙ ap names_of (take-map entry_of n s.signatures.items)
+    ∙ sym (ap (λ l. names_of (entries_of l)) c.truncate-2.ensures.items)
 
 pub returns : goal.returns
 returns c =
