@@ -1,5 +1,6 @@
-//! Reads standard input as specifications, checks them, and says how many symbols they declare, and how
-//! many rules and terms are to be run: a benchmark of the check, which docs/PERFORMANCE.md says how to run.
+//! Reads standard input as specifications, checks them, and says how many symbols they declare, and
+//! how many rules and terms are to be run: a benchmark of the check, which docs/PERFORMANCE.md says
+//! how to run.
 #![tactic(auto)]
 
 use rec_check::{Spec, check};

@@ -17,8 +17,8 @@ use std::alloc::Global;
 /// The specification that a syntax spells: the symbols and the rules of its last specification,
 /// those that it includes first, and the terms of the last one. All specifications are checked.
 ///
-/// Refuses the fault of a syntax with offences, kinds 4 to 13: the offence with the least place, and
-/// of those the least kind.
+/// Refuses the fault of a syntax with offences, kinds 4 to 13: the offence with the least place,
+/// and of those the least kind.
 pub fn check(alloc: Global, syntax: &Syntax) -> Result<Spec, ReadFail>
     ensures accepted_only_without_offence { OnOk result (fault_of syntax.now ≡ None) }
     ensures refused_only_with_the_fault { IfErr result (IsFault (fault_of syntax.now)) }

@@ -49,8 +49,8 @@ fn first_of(specifications: &[Specification], material: &[usize]) -> Option<usiz
 
 /// Accepts rules without conditions.
 ///
-/// Refuses with kind 19 the first `if` in the input among the rules of the last specification and of
-/// those that it includes.
+/// Refuses with kind 19 the first `if` in the input among the rules of the last specification and
+/// of those that it includes.
 pub fn unconditional(alloc: Global, syntax: &Syntax) -> Result<(), ReadFail>
     ensures accepted_only_without_conditions { OnOk result (first_if syntax.now ≡ None) }
     ensures refused_only_at_the_first { IfErr result (IsConditional (first_if syntax.now)) }

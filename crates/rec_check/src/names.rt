@@ -10,7 +10,8 @@ use indexmap::IndexSet;
 use std::alloc::Global;
 use std::marker::Model;
 
-/// Names, each once, numbered from 0 in the order in which they were added, and looked up by hashing.
+/// Names, each once, numbered from 0 in the order in which they were added, and looked up by
+/// hashing.
 #[derive(Drop)]
 pub(crate) struct Names {
     set: IndexSet<Vec<u8>>,

@@ -9,7 +9,8 @@ use rec_reader::Node;
 use symbol_pool::Symbols;
 use term_model::Item;
 
-/// The names that a term is read with: those of the variables, which are fewer than 2^32, and the symbols.
+/// The names that a term is read with: those of the variables, which are fewer than 2^32, and the
+/// symbols.
 #[derive(Drop)]
 pub(crate) struct Scope<'a> {
     pub text: &'a [u8],
@@ -22,8 +23,8 @@ impl Scope<'_> {
     ghost use Rattle.rec_check.specs.Scope.{seen};
     ghost use Rattle.rec_check.specs.Term.{item_in};
 
-    /// What a head stands for: the variable of its name, where there is one, which has no arguments,
-    /// or else the symbol of its name and as many arguments as the head has.
+    /// What a head stands for: the variable of its name, where there is one, which has no
+    /// arguments, or else the symbol of its name and as many arguments as the head has.
     pub(crate) fn item_of(&self, node: Node) -> Item
         requires { IsSome (item_in (seen self.now) node) }
         ensures { item_in (seen self.now) node ≡ Some result }

@@ -70,8 +70,8 @@ impl<'a> Directory<'a> {
         }
     }
 
-    /// The place of the first name with this text, if the entry that is guessed is that of the text. No hash
-    /// is made for it.
+    /// The place of the first name with this text, if the entry that is guessed is that of the
+    /// text. No hash is made for it.
     #[inline(always)]
     fn guess(&self, text: &[u8]) -> Option<usize>
         ensures { IfSome result (λ place. place_of_text self.now text.now ≡ Some place) }

@@ -12,8 +12,8 @@ use indexmap::IndexSet;
 use rec_reader::{Name, Specification, Syntax};
 use std::alloc::Global;
 
-/// A frame of the walk's stack: a specification that is being gathered, and which of its entries comes
-/// next.
+/// A frame of the walk's stack: a specification that is being gathered, and which of its entries
+/// comes next.
 #[derive(Clone, Copy)]
 struct Frame {
     number: usize,
@@ -98,8 +98,8 @@ fn add(material: &mut IndexSet<usize>, added: &mut Vec<usize>, number: usize) ->
     Ok(())
 }
 
-/// Adds the material of the specification with this number by a walk over what it includes, and gives
-/// what wasn't there. What is there is passed over: all of its own material is there too.
+/// Adds the material of the specification with this number by a walk over what it includes, and
+/// gives what wasn't there. What is there is passed over: all of its own material is there too.
 fn gather_absent(
     alloc: Global,
     headers: &Directory,

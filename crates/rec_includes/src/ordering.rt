@@ -72,8 +72,8 @@ fn chained(
     Ok(chain)
 }
 
-/// The numbers of all specifications, each once, and each after the first one that it includes: only
-/// others that hang under this one stand between the two.
+/// The numbers of all specifications, each once, and each after the first one that it includes:
+/// only others that hang under this one stand between the two.
 pub fn order(
     alloc: Global,
     headers: &Directory,

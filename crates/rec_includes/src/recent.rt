@@ -4,8 +4,8 @@ ghost use Rattle.std.specs.Prelude.{◌<◌};
 /// How many places there are.
 const PLACES: usize = 64;
 
-/// The number of an entry at each of some places, one of which a name has. It is only a guess, since many names
-/// have the same place: whoever asks looks whether the entry is that of the name.
+/// The number of an entry at each of some places, one of which a name has. It is only a guess,
+/// since many names have the same place: whoever asks looks whether the entry is that of the name.
 #[derive(Clone, Copy)]
 pub(crate) struct Recent {
     entries: [usize; PLACES],

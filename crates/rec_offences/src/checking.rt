@@ -149,13 +149,13 @@ impl<'a> Checking<'_, 'a> {
 }
 
 /// The fault of specifications: of all their offences the one with the least place, and of those
-/// the one of the least kind. None exactly where there is no offence. The names of their headers are
-/// at hand.
+/// the one of the least kind. None exactly where there is no offence. The names of their headers
+/// are at hand.
 ///
 /// The kinds: 4 an unknown sort, 5 an unknown name, 6 a repeated name, 7 another number of
-/// arguments than declared, 8 another sort than declared, 9 a variable as a left side, 10 a variable
-/// that doesn't occur on the left, 11 a variable in a term to be rewritten, 12 an include that no
-/// earlier header has, 13 more than the limits allow.
+/// arguments than declared, 8 another sort than declared, 9 a variable as a left side, 10 a
+/// variable that doesn't occur on the left, 11 a variable in a term to be rewritten, 12 an include
+/// that no earlier header has, 13 more than the limits allow.
 pub fn fault_with<'a>(
     alloc: Global,
     headers: &Directory<'a>,

@@ -110,8 +110,8 @@ impl<'a> Inclusion<'a> {
         })
     }
 
-    /// What the entries of the specification with this number bring, and what is wrong at each. What
-    /// the first of them brings is kept where it is at hand.
+    /// What the entries of the specification with this number bring, and what is wrong at each.
+    /// What the first of them brings is kept where it is at hand.
     pub(crate) fn include_all(
         &mut self,
         alloc: Global,
@@ -127,11 +127,13 @@ impl<'a> Inclusion<'a> {
             (path_of self.old.levels.items)) }
         ensures past { OnOk result (IsPastLevel headers.now.bytes specifications.now self.new) }
         ensures material { OnOk result (self.new.material.keys ≡ included headers.now.bytes
-            (headers_of headers.now.bytes (take number specifications.now)) (includes_at specifications.now number)) }
+            (headers_of headers.now.bytes (take number specifications.now))
+            (includes_at specifications.now number)) }
         ensures verdicts { IfOk result (λ v. v.items
             ≡ map (verdict_of headers.now.bytes specifications.now)
             (includes_from headers.now.bytes
-            (headers_of headers.now.bytes (take number specifications.now)) [] (includes_at specifications.now number))) }
+            (headers_of headers.now.bytes (take number specifications.now)) []
+            (includes_at specifications.now number))) }
     {
         let entries = includes_at(specifications, number);
         let mut is_there = self.return_to(first_target(headers, number, entries));

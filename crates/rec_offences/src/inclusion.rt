@@ -27,8 +27,8 @@ pub(crate) struct Level {
     pub extent: Extent,
 }
 
-/// The material that is at hand, with what it has. The levels are the specifications to which it can
-/// be cut back, each the first one that the next includes.
+/// The material that is at hand, with what it has. The levels are the specifications to which it
+/// can be cut back, each the first one that the next includes.
 #[derive(Drop)]
 pub(crate) struct Inclusion<'a> {
     pub scope: Scope<'a>,
@@ -94,8 +94,8 @@ impl<'a> Inclusion<'a> {
         self.rules = extent.rules;
     }
 
-    /// Cuts back what is at hand to the level of this specification, or to nothing where it has none.
-    /// Whether it has one.
+    /// Cuts back what is at hand to the level of this specification, or to nothing where it has
+    /// none. Whether it has one.
     pub(crate) fn return_to(&mut self, number: Option<usize>) -> bool
         ensures kept { (bytes : List ℕ) (specifications : List Specification)
             → IsAtLevel bytes specifications self.old → IsAtLevel bytes specifications self.new }
@@ -113,8 +113,8 @@ impl<'a> Inclusion<'a> {
         false
     }
 
-    /// Makes a specification a level, after its own names were declared: of the names at hand the first
-    /// `symbols` stay, so its variables go.
+    /// Makes a specification a level, after its own names were declared: of the names at hand the
+    /// first `symbols` stay, so its variables go.
     pub(crate) fn enter(
         &mut self,
         specification: &Specification,

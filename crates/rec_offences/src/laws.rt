@@ -1,4 +1,5 @@
-//! What is true of the fault and of the visits that find it, each law the contract of a function that does nothing.
+//! What is true of the fault and of the visits that find it, each law the contract of a function
+//! that does nothing.
 ghost use Rattle.rec_offences.specs.Laws.{FaultIsLeast, FaultlessHasNoOffence, VisitsAreOfArguments};
 
 /// The fault of an input is the least of its offences, and an input without one has none.

@@ -40,7 +40,8 @@ pub(crate) fn symbols_at<'a>(
     specifications: &'a [Specification],
     numbers: &[usize],
 ) -> Result<Vec<Signature<'a>>, Memory>
-    ensures { IfOk result (λ v. entries_of v.items ≡ included_entries specifications.now numbers.now) }
+    ensures { IfOk result
+        (λ v. entries_of v.items ≡ included_entries specifications.now numbers.now) }
 {
     let mut signatures = Vec::new(alloc);
     for number in numbers {

@@ -36,8 +36,8 @@ fn note_clashing(
     }
 }
 
-/// Notes what is wrong at a node, of a term that is to be rewritten or of another, and gives the sort of
-/// its head.
+/// Notes what is wrong at a node, of a term that is to be rewritten or of another, and gives the
+/// sort of its head.
 fn note_node(
     found: &mut Option<Refusal>,
     scope: &Scope,
@@ -73,8 +73,8 @@ fn note_node(
     }
 }
 
-/// Notes what is wrong at a node whose arguments are the newest on the stack, and puts its head in their
-/// place.
+/// Notes what is wrong at a node whose arguments are the newest on the stack, and puts its head in
+/// their place.
 fn note_visit(
     found: &mut Option<Refusal>,
     scope: &Scope,

@@ -54,7 +54,8 @@ fn note_free_in_condition(
     condition: &Condition,
 )
     ensures { found.new ≡ least_with found.old (of_kind 10
-        (filter (is_free scope.now left.now) (heads (condition.now.first ++ condition.now.second)))) }
+        (filter (is_free scope.now left.now)
+        (heads (condition.now.first ++ condition.now.second)))) }
 {
     note_free(found, scope, left, condition.first.as_slice());
     note_free(found, scope, left, condition.second.as_slice());
@@ -73,7 +74,8 @@ fn note_free_but(found: &mut Option<Refusal>, scope: &Scope, left: &Directory, r
 
 /// Puts the heads of nodes at the end.
 fn add_heads(names: &mut Directory, nodes: &[Node]) -> Result<(), Memory>
-    ensures { OnOk result (names.new ≡ listing names.old.bytes (names.old.names ++ heads nodes.now)) }
+    ensures { OnOk result
+        (names.new ≡ listing names.old.bytes (names.old.names ++ heads nodes.now)) }
 {
     for node in nodes {
         names.add(node.head)?;
