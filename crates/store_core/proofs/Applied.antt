@@ -8,9 +8,11 @@ use Rattle.std.proofs.Math.Nat.{mul-le-mul_left, mul-le-mul_right, le_trans}
 use mathlib.Core.Path.{fun_ext}
 use Rattle.lock_core.specs.Lock.{Lock}
 use Rattle.lock_core.specs.Lock as lock
-use Rattle.store_model.specs.Words.{Place, Base, FreeCount, Claim, InUse, FreePlace, Bucket, RowWord, Birth, Next, RootCount, Root}
-use Rattle.store_model.specs.Calls.{View}
-use Rattle.store_model.specs.Machine.{Sizes, State, widest}
+use Rattle.store_model.specs.declared.view.Place.{Place}
+use Rattle.store_model.specs.declared.view.Place.TheVariants.{Base, FreeCount, Claim, InUse, FreePlace, Bucket, RowWord, Birth, Next, RootCount, Root}
+use Rattle.store_model.specs.declared.view.View.{View}
+use Rattle.store_model.specs.Machine.{State, widest}
+use Rattle.store_model.specs.declared.view.Sizes.{Sizes}
 use Rattle.store_model.specs.Steps.{newcomer}
 use Rattle.store_model.specs.Shown.{shown, total, index_of}
 use Rattle.store_core.specs.Running.{IsBegun}

@@ -3,9 +3,12 @@ use Rattle.std.proofs.Common.{◌≡◌, ◌↔◌, ℕ, suc, ◌+◌, ◌<◌, 
 use Rattle.std.specs.Prelude.{replicate, MatchBool}
 use Rattle.std.proofs.lemmas.Bool.{cases_lt}
 use Rattle.std.proofs.lemmas.List.{length-replicate, drop_all, take_all, length_push, get_or_push, get_or_append_left}
-use Rattle.store_model.specs.Words.{Place, Claim, InUse, Bucket, Birth, Next, row_at, write}
+use Rattle.store_model.specs.Words.{row_at, write}
+use Rattle.store_model.specs.declared.view.Place.{Place}
+use Rattle.store_model.specs.declared.view.Place.TheVariants.{Claim, InUse, Bucket, Birth, Next}
 use Rattle.store_model.specs.Calls.{bucket, bucket_below}
-use Rattle.store_model.specs.Machine.{Sizes, Each, In}
+use Rattle.store_model.specs.Machine.{Each, In}
+use Rattle.store_model.specs.declared.view.Sizes.{Sizes}
 use Rattle.store_model.specs.Meaning.{Meaning, Linked, Stands, IsOlder}
 use Rattle.store_model.specs.Invariant.{ChainsHold}
 use Rattle.store_model.specs.Marks.{IsMarked, Marks}
@@ -15,7 +18,7 @@ use Rattle.store_model.proofs.Chains.{linked_once}
 use Rattle.store_model.proofs.Short.{chain_few}
 use Rattle.store_model.proofs.Gains.{in_at}
 use Rattle.store_core.proofs.Outcomes.{match_by, never}
-use Rattle.store_core.proofs.Reached.{none_marked}
+use Rattle.store_model.proofs.Marked.{none_marked}
 
 more_below : (P : ℕ → Type 0) (xs : List ℕ) (x : ℕ) → P x → ((k : ℕ) → k < length xs → P (get_or xs k 0)) → (k : ℕ) → k < length (xs ++ x ∷ []) → P (get_or (xs ++ x ∷ []) k 0)
 more_below P xs x h f k l = ⊎_elim

@@ -4,9 +4,12 @@ use Rattle.std.specs.Prelude.{◌↔◌, ◌&&◌, IsTrue}
 use Rattle.std.specs.List.{list_all}
 use Rattle.history_core.specs.declared.entry.Entry.{Entry}
 use Rattle.history_core.specs.Chronicle.{last_roots, roots_after}
-use Rattle.store_model.specs.Words.{Place}
-use Rattle.store_model.specs.Calls.{Content, IsOver, View}
-use Rattle.store_model.specs.Machine.{Sizes, Each, SecondIsList, MayName, MayBegin, widest}
+use Rattle.store_model.specs.declared.view.Place.{Place}
+use Rattle.store_model.specs.Calls.{IsOver}
+use Rattle.store_model.specs.declared.view.Content.{Content}
+use Rattle.store_model.specs.declared.view.View.{View}
+use Rattle.store_model.specs.Machine.{Each, SecondIsList, MayName, MayBegin, widest}
+use Rattle.store_model.specs.declared.view.Sizes.{Sizes}
 use Rattle.store_model.specs.Steps.{is_free, rows_left}
 use Rattle.store_core.specs.Naming.{IsMarked}
 use Rattle.store_model.proofs.Basics.{choose, eqb_not, each_map}

@@ -4,9 +4,12 @@ use Rattle.std.specs.Prelude.{MatchBool}
 use Rattle.term_model.specs.declared.Head.{Head}
 use Rattle.term_model.specs.declared.Head.TheVariants.{App, Int, Nil, Cons}
 use Rattle.hash_buckets.specs.Spelled.{spelled}
-use Rattle.store_model.specs.Words.{Place, RowWord, row_at}
-use Rattle.store_model.specs.Calls.{Content, IsOver, bucket}
-use Rattle.store_model.specs.Machine.{Sizes}
+use Rattle.store_model.specs.Words.{row_at}
+use Rattle.store_model.specs.declared.view.Place.{Place}
+use Rattle.store_model.specs.declared.view.Place.TheVariants.{RowWord}
+use Rattle.store_model.specs.Calls.{IsOver, bucket}
+use Rattle.store_model.specs.declared.view.Content.{Content}
+use Rattle.store_model.specs.declared.view.Sizes.{Sizes}
 use Rattle.store_model.specs.Meaning.{Matches}
 use Rattle.store_core.specs.RowLists.{IsList, IsPast}
 use Rattle.store_core.specs.declared.machine.row_lists.RowList.TheVariants.{Arguments}

@@ -1,8 +1,9 @@
 -- What a planned change does is what its step does.
 use Rattle.std.proofs.Common.{◌≡◌, ℕ, None, Some, refl, sym, ap, ◌∙◌}
 use Rattle.lock_core.specs.Lock.{Lock}
-use Rattle.store_model.specs.Words.{Place, write}
-use Rattle.store_model.specs.Calls.{View}
+use Rattle.store_model.specs.Words.{write}
+use Rattle.store_model.specs.declared.view.Place.{Place}
+use Rattle.store_model.specs.declared.view.View.{View}
 use Rattle.store_model.specs.Machine.{Step, Go, action}
 use Rattle.store_model.specs.Steps.{after}
 use Rattle.store_core.specs.declared.machine.change.Change.{Change}

@@ -3,8 +3,9 @@ use Rattle.std.proofs.Common.{◌≡◌, ◌≢◌, ℕ, zero, suc, ◌+◌, ◌
 use Rattle.std.specs.Prelude.{replicate}
 use Rattle.std.proofs.lemmas.Bool.{cases_lt}
 use Rattle.std.proofs.lemmas.List.{length-replicate, get_or-replicate, get_or_read, length-set, length_push}
-use Rattle.store_model.specs.Words.{Place, FreeCount, FreePlace}
-use Rattle.store_model.specs.Machine.{Sizes}
+use Rattle.store_model.specs.declared.view.Place.{Place}
+use Rattle.store_model.specs.declared.view.Place.TheVariants.{FreeCount, FreePlace}
+use Rattle.store_model.specs.declared.view.Sizes.{Sizes}
 use Rattle.store_model.specs.Steps.{is_free, rows_left}
 use Rattle.store_core.specs.RowLists.{AreListed, IsList, IsPast}
 use Rattle.store_core.specs.declared.machine.row_lists.RowList.TheVariants.{Free}

@@ -2,8 +2,9 @@
 use Rattle.std.proofs.Common.{◌≡◌, ℕ, List, None, Some, ap, ◌∙◌}
 use Rattle.std.specs.Prelude.{Option, Result, Ok, Err, IfOk}
 use Rattle.faults.specs.declared.Memory.{Memory}
-use Rattle.store_model.specs.Words.{Place}
-use Rattle.store_model.specs.Calls.{Storing, View}
+use Rattle.store_model.specs.declared.view.Place.{Place}
+use Rattle.store_model.specs.declared.view.View.{View}
+use Rattle.store_model.specs.declared.view.Call.TheVariants.{Storing}
 use Rattle.store_model.specs.Steps.{is_storing, loads}
 use Rattle.store_model.specs.Ending.{IsEnding}
 use Rattle.store_core.specs.declared.machine.change.Change.{Change}

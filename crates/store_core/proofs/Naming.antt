@@ -1,8 +1,9 @@
 -- Marking the rows that a seat may name.
 use Rattle.std.proofs.Common.{◌≡◌, ◌⊎◌, ℕ, zero, suc, ◌+◌, ◌<◌, Bool, true, false, List, [], ◌∷◌, ◌++◌, length, get_or, set, refl, sym, ap, ◌∙◌, subst, ⊎_elim, inl, inr, arith, true≢false}
 use Rattle.std.specs.Prelude.{◌↔◌}
-use Rattle.store_model.specs.Words.{Place, RowWord, RootCount, Root}
-use Rattle.store_model.specs.Calls.{View}
+use Rattle.store_model.specs.declared.view.Place.{Place}
+use Rattle.store_model.specs.declared.view.Place.TheVariants.{RowWord, RootCount, Root}
+use Rattle.store_model.specs.declared.view.View.{View}
 use Rattle.store_model.specs.Machine.{Each, In, MayName, has_got, has_protected, has_argument}
 use Rattle.store_core.specs.Naming.{IsMarked, unmarked, AreMarked, Halfway, Visits}
 use Rattle.store_model.proofs.Basics.{each_map, each_in}

@@ -4,9 +4,11 @@ use Rattle.std.specs.Prelude.{MatchOption, Ok}
 use Rattle.std.proofs.lemmas.List.{get_or-set_same, get_or-set_other}
 use mathlib.Core.Path.{fun_ext}
 use Rattle.lock_core.specs.Lock.{Lock}
-use Rattle.store_model.specs.Words.{Place, put}
-use Rattle.store_model.specs.Calls.{View}
-use Rattle.store_model.specs.Machine.{Sizes, State, Step, LockAlone, StoreClaim}
+use Rattle.store_model.specs.Words.{put}
+use Rattle.store_model.specs.declared.view.Place.{Place}
+use Rattle.store_model.specs.declared.view.View.{View}
+use Rattle.store_model.specs.Machine.{State, Step, LockAlone, StoreClaim}
+use Rattle.store_model.specs.declared.view.Sizes.{Sizes}
 use Rattle.store_model.specs.Steps.{Permits, after, newcomer}
 use Rattle.store_model.specs.StoreHolds.{StoreHolds}
 use Rattle.store_model.specs.StoreSteps as steps

@@ -5,8 +5,9 @@ use Rattle.std.proofs.lemmas.Bool.{cases_lt, ltb-true}
 use Rattle.std.proofs.lemmas.List.{length-replicate, length-set, length_push}
 use Rattle.std.proofs.lemmas.List.Elements.{Contains-push, Contains-push_cases, Contains-append_left}
 use Rattle.history_core.proofs.Members.{contains_none}
-use Rattle.store_model.specs.Words.{Place, RowWord, RootCount, Root}
-use Rattle.store_model.specs.Machine.{Sizes}
+use Rattle.store_model.specs.declared.view.Place.{Place}
+use Rattle.store_model.specs.declared.view.Place.TheVariants.{RowWord, RootCount, Root}
+use Rattle.store_model.specs.declared.view.Sizes.{Sizes}
 use Rattle.store_model.specs.Steps.{ReachesByWords, protected_row, argument_row}
 use Rattle.store_model.specs.Shown.{shown, in_table, index_of}
 use Rattle.store_core.specs.RowLists.{IsPast}

@@ -2,12 +2,14 @@
 use Rattle.std.proofs.Common.{◌≡◌, ℕ, zero, suc, ◌+◌, ◌<◌, Bool, cond, List, length, get_or, refl, sym, ap, ◌∙◌, subst, arith, eqb}
 use Rattle.std.specs.Prelude.{slice_set, replicate}
 use mathlib.Core.Path.{fun_ext}
-use Rattle.store_model.specs.Words.{Base, FreeCount, Claim, InUse, FreePlace, Bucket, RowWord, Birth, Next, RootCount, Root, same_place}
+use Rattle.store_model.specs.Words.{same_place}
+use Rattle.store_model.specs.declared.view.Place.TheVariants.{Base, FreeCount, Claim, InUse, FreePlace, Bucket, RowWord, Birth, Next, RootCount, Root}
 use Rattle.store_core.specs.Running.{IsBegun}
 use Rattle.store_model.proofs.Basics.{choose, same_is, eqb_is, eqb_not}
 use Rattle.std.proofs.lemmas.List.{get_or_read}
-use Rattle.store_model.specs.Words.{Place, write}
-use Rattle.store_model.specs.Machine.{Sizes}
+use Rattle.store_model.specs.Words.{write}
+use Rattle.store_model.specs.declared.view.Place.{Place}
+use Rattle.store_model.specs.declared.view.Sizes.{Sizes}
 use Rattle.store_model.specs.Shown.{in_table, index_of, shown, total}
 use Rattle.store_core.specs.Table.{IsPlaceOf}
 use Rattle.store_model.proofs.Shown.{place_inside, shown_written}

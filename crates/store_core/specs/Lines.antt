@@ -1,6 +1,7 @@
 -- The words that a collection loads, side by side.
 use Rattle.std.specs.Prelude.{◌≡◌, ℕ, ◌<◌, Some, List}
-use Rattle.store_model.specs.Words.{Place, FreePlace, Bucket, RowWord, Birth, Next, RootCount, Root}
+use Rattle.store_model.specs.declared.view.Place.{Place}
+use Rattle.store_model.specs.declared.view.Place.TheVariants.{FreePlace, Bucket, RowWord, Birth, Next, RootCount, Root}
 use Rattle.store_model.specs.Steps.{value_at}
 use Rattle.store_core.specs.declared.machine.whole.Line.{Line}
 use Rattle.store_core.specs.declared.machine.whole.Line.TheVariants.{FreePlaces, Buckets, Births, Nexts, RootCounts, Words, Roots}

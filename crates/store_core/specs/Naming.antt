@@ -1,7 +1,8 @@
 -- The rows that a seat may name, marked one after another.
 use Rattle.std.specs.Prelude.{◌≡◌, ◌⊎◌, ℕ, suc, ◌+◌, ◌*◌, ◌<◌, ◌≤◌, Bool, true, false, List, [], ◌∷◌, length, get_or}
-use Rattle.store_model.specs.Words.{Place, RowWord}
-use Rattle.store_model.specs.Calls.{View}
+use Rattle.store_model.specs.declared.view.Place.{Place}
+use Rattle.store_model.specs.declared.view.Place.TheVariants.{RowWord}
+use Rattle.store_model.specs.declared.view.View.{View}
 use Rattle.store_model.specs.Machine.{In, MayName}
 
 abbrev pub IsMarked : List Bool → ℕ → Type 0

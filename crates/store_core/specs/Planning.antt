@@ -2,9 +2,13 @@
 use Rattle.std.specs.Prelude.{◌≡◌, ℕ, suc, pred, true, Option, Some, None, Result, List, [], ◌∷◌, ◌++◌, get_or, IfOk, MatchOption}
 use Rattle.faults.specs.declared.Memory.{Memory}
 use Rattle.lock_core.specs.Lock.{Lock}
-use Rattle.store_model.specs.Words.{Place, Base, InUse, RowWord, Root, write, put}
-use Rattle.store_model.specs.Calls.{View, Storing}
-use Rattle.store_model.specs.Machine.{Sizes, State, Step, LockAlone, LowerShared, UnaskSeat, GiveGranted, LoadBase, LoadInUse, Begin, Go, LoadRoot, StoreRoot, StoreCount, ReadWord, ReadArgument, LoadAny, StoreAny, StoreClaim, action, begins, based, ready, leaving, left, protected_in, rooted, root_counted, knowing, with_got, with_call}
+use Rattle.store_model.specs.Words.{write, put}
+use Rattle.store_model.specs.declared.view.Place.{Place}
+use Rattle.store_model.specs.declared.view.Place.TheVariants.{Base, InUse, RowWord, Root}
+use Rattle.store_model.specs.declared.view.View.{View}
+use Rattle.store_model.specs.declared.view.Call.TheVariants.{Storing}
+use Rattle.store_model.specs.Machine.{State, Step, LockAlone, LowerShared, UnaskSeat, GiveGranted, LoadBase, LoadInUse, Begin, Go, LoadRoot, StoreRoot, StoreCount, ReadWord, ReadArgument, LoadAny, StoreAny, StoreClaim, action, begins, based, ready, leaving, left, protected_in, rooted, root_counted, knowing, with_got, with_call}
+use Rattle.store_model.specs.declared.view.Sizes.{Sizes}
 use Rattle.store_model.specs.Steps.{loads, stores, loading, names_left, MayEnd, Permits, after, newcomer}
 use Rattle.store_model.specs.Collection.{collected}
 use Rattle.store_model.specs.Seats.{Where}

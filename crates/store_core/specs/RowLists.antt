@@ -1,7 +1,8 @@
 -- Lists of rows in the words of a store, each with its count.
 use Rattle.std.specs.Prelude.{◌≡◌, ℕ, suc, ◌<◌, ◌≤◌, List, length, get_or}
-use Rattle.store_model.specs.Words.{Place, FreeCount, FreePlace, RowWord, RootCount, Root}
-use Rattle.store_model.specs.Machine.{Sizes}
+use Rattle.store_model.specs.declared.view.Place.{Place}
+use Rattle.store_model.specs.declared.view.Place.TheVariants.{FreeCount, FreePlace, RowWord, RootCount, Root}
+use Rattle.store_model.specs.declared.view.Sizes.{Sizes}
 use Rattle.store_core.specs.declared.machine.row_lists.RowList.{RowList}
 use Rattle.store_core.specs.declared.machine.row_lists.RowList.TheVariants.{Free, Protected, Arguments}
 

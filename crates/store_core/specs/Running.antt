@@ -1,8 +1,11 @@
 -- The machine that runs: its words at the start, and what one action of a creation changes.
 use Rattle.std.specs.Prelude.{◌≡◌, ℕ, ◌<◌, List}
-use Rattle.store_model.specs.Words.{Place, Base, FreeCount, Claim, InUse, FreePlace, Bucket, RowWord, Birth, Next, RootCount, Root, write}
-use Rattle.store_model.specs.Calls.{View}
-use Rattle.store_model.specs.Machine.{Sizes, action}
+use Rattle.store_model.specs.Words.{write}
+use Rattle.store_model.specs.declared.view.Place.{Place}
+use Rattle.store_model.specs.declared.view.Place.TheVariants.{Base, FreeCount, Claim, InUse, FreePlace, Bucket, RowWord, Birth, Next, RootCount, Root}
+use Rattle.store_model.specs.declared.view.View.{View}
+use Rattle.store_model.specs.Machine.{action}
+use Rattle.store_model.specs.declared.view.Sizes.{Sizes}
 use Rattle.store_model.specs.Shown.{shown}
 
 -- the words of a new store, but that only the first n free places are stored

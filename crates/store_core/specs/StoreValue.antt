@@ -1,8 +1,9 @@
 -- A store that runs, as contracts see it, and what its calls answer.
 use Rattle.std.specs.Prelude.{◌≡◌, ℕ, List, get_or, Option, MatchOption}
 use Rattle.lock_core.specs.Lock.{Lock}
-use Rattle.store_model.specs.Calls.{View}
-use Rattle.store_model.specs.Machine.{Sizes, State}
+use Rattle.store_model.specs.declared.view.View.{View}
+use Rattle.store_model.specs.Machine.{State}
+use Rattle.store_model.specs.declared.view.Sizes.{Sizes}
 use Rattle.store_model.specs.Steps.{newcomer}
 use Rattle.store_model.specs.Shown.{shown}
 use Rattle.store_model.specs.StoreSteps.{IsInPlace, after, Leads}

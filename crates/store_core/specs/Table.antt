@@ -1,7 +1,7 @@
 -- The words of the machine that runs.
 use Rattle.std.specs.Prelude.{◌≡◌, ℕ, true}
-use Rattle.store_model.specs.Words.{Place}
-use Rattle.store_model.specs.Machine.{Sizes}
+use Rattle.store_model.specs.declared.view.Place.{Place}
+use Rattle.store_model.specs.declared.view.Sizes.{Sizes}
 use Rattle.store_model.specs.Shown.{in_table, index_of}
 
 -- the table has the place, and this is its word

@@ -3,7 +3,7 @@ ghost use Rattle.std.specs.Prelude.{◌≡◌, ◌++◌, ◌∷◌, [], if◌the
 ghost use Rattle.store_model.specs.Steps.{is_free, names_left};
 ghost use Rattle.store_model.specs.Collection.{collected};
 ghost use Rattle.store_model.specs.Shown.{shown};
-ghost use Rattle.store_model.specs.Words.{Base, InUse, FreePlace};
+ghost use Rattle.store_model.specs.declared.view.Place.TheVariants.{Base, InUse, FreePlace};
 ghost use Rattle.store_core.specs.Planning.{PlansClaim, PlansEnd};
 
 use crate::machine::change::{Change, Sight};

@@ -1,7 +1,7 @@
 //! Whether a collection may end.
 ghost use Rattle.std.specs.Prelude.{◌≡◌, ℕ, ◌↔◌, List, [], ◌∷◌, ◌++◌, IfOk, IsTrue, MatchOption};
 ghost use Rattle.store_model.specs.Machine.{State};
-ghost use Rattle.store_model.specs.Words.{Place};
+ghost use Rattle.store_model.specs.declared.view.Place.{Place};
 ghost use Rattle.store_model.specs.Shown.{shown};
 ghost use Rattle.store_model.specs.Steps.{MayEnd, grown_use, value_at};
 ghost use Rattle.store_model.specs.Ending.{BaseFollows, IsBroken, IsEnding, Keeps, UseFollows};

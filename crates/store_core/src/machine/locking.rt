@@ -3,7 +3,8 @@ ghost use Rattle.std.specs.Prelude.{◌≡◌, ◌≢◌, ◌⊎◌, ◌↔◌, 
 ghost use Rattle.lock_core.specs.Lock.{seat_of};
 ghost use Rattle.lock_core.specs.Exclusion.{IsExclusive};
 ghost use Rattle.lock_core.specs.declared.parts.Standing.TheVariants.{Held};
-ghost use Rattle.store_model.specs.Calls.{Idle, Away};
+ghost use Rattle.store_model.specs.declared.view.Call.TheVariants.{Idle};
+ghost use Rattle.store_model.specs.declared.view.Stay.TheVariants.{Away};
 ghost use Rattle.store_model.specs.Machine.{left, InAccess, LockAlone, LowerShared, UnaskSeat, GiveGranted, protected_in};
 ghost use Rattle.store_model.specs.Steps.{IsAtRest, MayLeave};
 ghost use Rattle.store_core.specs.Planning.{Plans, PlansStep};

@@ -1,7 +1,8 @@
 //! The chains of the rows that are marked.
 ghost use Rattle.std.specs.Prelude.{◌≡◌, ◌⊎◌, ◌<◌, ◌≤◌, ◌↔◌, ℕ, IfOk, IsTrue, MatchBool, MatchOption, length, get_or};
 ghost use Rattle.store_model.specs.Shown.{shown};
-ghost use Rattle.store_model.specs.Words.{Claim, InUse, write};
+ghost use Rattle.store_model.specs.Words.{write};
+ghost use Rattle.store_model.specs.declared.view.Place.TheVariants.{Claim, InUse};
 ghost use Rattle.store_model.specs.Meaning.{Meaning};
 ghost use Rattle.store_model.specs.Invariant.{ChainsHold};
 ghost use Rattle.store_model.specs.MarkedChains.{AllStand, ChainsMarked, IsChain, IsMeant, IsSound, NotMeant, OneStrays, StandInFirst, StandsIn, UsesBuckets};

@@ -1,6 +1,6 @@
 //! The rows that a seat may name.
 ghost use Rattle.std.specs.Prelude.{◌≡◌, ◌↔◌, ◌<◌, ℕ, List, [], ◌∷◌, false, get_or, IfOk, OnOk, replicate};
-ghost use Rattle.store_model.specs.Words.{RootCount, Root};
+ghost use Rattle.store_model.specs.declared.view.Place.TheVariants.{RootCount, Root};
 ghost use Rattle.store_model.specs.Machine.{Each, MayName};
 ghost use Rattle.store_model.specs.Shown.{shown};
 ghost use Rattle.store_core.specs.Naming.{IsMarked, Halfway, Visits};

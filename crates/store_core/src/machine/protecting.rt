@@ -1,6 +1,6 @@
 //! The steps on the own protected rows, and the reads of a row.
 ghost use Rattle.std.specs.Prelude.{◌≡◌, ◌⊎◌, ◌↔◌, ℕ, ◌-◌, ◌<◌, ◌≤◌, IfOk, IsTrue, MatchBool};
-ghost use Rattle.store_model.specs.Words.{RowWord, Root};
+ghost use Rattle.store_model.specs.declared.view.Place.TheVariants.{RowWord, Root};
 ghost use Rattle.store_model.specs.Machine.{MayName, ReadWord, ReadArgument};
 ghost use Rattle.store_model.specs.Steps.{MayRead};
 ghost use Rattle.store_model.specs.Shown.{shown};

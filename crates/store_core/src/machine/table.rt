@@ -4,7 +4,8 @@ ghost use Rattle.store_model.specs.Shown.{in_table, index_of, shown, total};
 ghost use Rattle.store_model.specs.Machine.{widest};
 ghost use Rattle.store_core.specs.Table.{IsPlaceOf};
 ghost use Rattle.store_core.specs.Running.{IsBegun};
-ghost use Rattle.store_model.specs.Words.{Place, write};
+ghost use Rattle.store_model.specs.Words.{write};
+ghost use Rattle.store_model.specs.declared.view.Place.{Place};
 ghost use Rattle.store_model.specs.declared.view.Place.TheVariants.{FreePlace, Bucket, RowWord, Birth, Next, RootCount, Root};
 
 use faults::Memory;

@@ -2,7 +2,7 @@
 ghost use Rattle.std.specs.Prelude.{◌≡◌, ◌↔◌, ℕ, ◌<◌, IfOk, IsTrue, MatchBool};
 ghost use Rattle.store_model.specs.Steps.{value_at, IsWhole};
 ghost use Rattle.store_model.specs.Shown.{shown};
-ghost use Rattle.store_model.specs.Words.{Base, Claim, FreeCount, InUse, RootCount};
+ghost use Rattle.store_model.specs.declared.view.Place.TheVariants.{Base, Claim, FreeCount, InUse, RootCount};
 ghost use Rattle.store_core.specs.Lines.{place_on, IsLoadedRight, LoadsLine};
 ghost use Rattle.store_core.specs.declared.machine.whole.Line.TheVariants.{FreePlaces, Buckets, Births, Nexts, RootCounts, Words, Roots};
 

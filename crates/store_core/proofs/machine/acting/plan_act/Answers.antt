@@ -1,6 +1,6 @@
 use Rattle.std.proofs.Common.{ap, ◌∙◌, rules, arith}
 use Rattle.std.proofs.lemmas.Grind.{common_steps}
-use Rattle.store_model.specs.Calls.{View}
+use Rattle.store_model.specs.declared.view.View.{View}
 use Rattle.store_model.specs.Machine.{action}
 use Rattle.store_core.proofs.Made.{went_view}
 use Rattle.store_core.proofs.machine.acting.plan_act.Goals as goal

@@ -1,5 +1,5 @@
 use Rattle.std.proofs.Common.{sym, ◌∙◌}
-use Rattle.store_model.specs.Words.{FreePlace}
+use Rattle.store_model.specs.declared.view.Place.TheVariants.{FreePlace}
 use Rattle.store_model.specs.Shown.{shown}
 use Rattle.store_core.proofs.Deciding.{free_here}
 use Rattle.store_core.proofs.machine.claiming.is_free.Goals as goal

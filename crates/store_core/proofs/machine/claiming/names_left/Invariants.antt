@@ -1,5 +1,5 @@
 use Rattle.std.proofs.Common.{◌≡◌}
-use Rattle.store_model.specs.Words.{FreePlace}
+use Rattle.store_model.specs.declared.view.Place.TheVariants.{FreePlace}
 use Rattle.store_model.specs.Steps.{rows_left}
 use Rattle.store_model.specs.Shown.{shown}
 use Rattle.store_core.proofs.machine.claiming.names_left.Given as goal

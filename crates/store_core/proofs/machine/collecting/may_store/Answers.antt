@@ -1,7 +1,7 @@
 use Rattle.std.proofs.Common.{List, ℕ, sym, subst, ◌∙◌}
 use Rattle.std.specs.Prelude.{IfOk, IsTrue, ◌↔◌}
-use Rattle.store_model.specs.Words.{Place}
-use Rattle.store_model.specs.Calls.{Call}
+use Rattle.store_model.specs.declared.view.Place.{Place}
+use Rattle.store_model.specs.declared.view.Call.{Call}
 use Rattle.store_model.specs.Steps.{MayStore, IsWhole}
 use Rattle.store_model.specs.Shown.{shown}
 use Rattle.store_core.proofs.machine.collecting.may_store.Goals as goal

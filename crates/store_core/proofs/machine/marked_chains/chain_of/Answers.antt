@@ -1,5 +1,6 @@
 use Rattle.std.proofs.Common.{◌≡◌, ℕ, suc, ◌-◌, ◌<◌, List, length, sym, subst, arith}
-use Rattle.store_model.specs.Words.{Place, Bucket, Next}
+use Rattle.store_model.specs.declared.view.Place.{Place}
+use Rattle.store_model.specs.declared.view.Place.TheVariants.{Bucket, Next}
 use Rattle.store_model.specs.Shown.{shown}
 use Rattle.store_model.specs.MarkedChains.{HasPassed}
 use Rattle.store_core.proofs.Chained.{passed_more, passed_all, passed_past, passed_long}

@@ -1,6 +1,6 @@
 use Rattle.std.proofs.Common.{◌-◌, length}
 use Rattle.store_model.specs.Shown.{shown}
-use Rattle.store_model.specs.Words.{Bucket}
+use Rattle.store_model.specs.declared.view.Place.TheVariants.{Bucket}
 use Rattle.store_model.specs.MarkedChains.{HasPassed}
 use Rattle.store_core.proofs.machine.marked_chains.chain_of.Given as goal
 

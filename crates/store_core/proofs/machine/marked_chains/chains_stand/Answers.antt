@@ -1,6 +1,6 @@
 use Rattle.std.proofs.Common.{ℕ, List, sym, subst}
 use Rattle.std.specs.Prelude.{Bool}
-use Rattle.store_model.specs.Words.{Place}
+use Rattle.store_model.specs.declared.view.Place.{Place}
 use Rattle.store_model.specs.Shown.{shown}
 use Rattle.store_model.specs.MarkedChains.{StandInFirst}
 use Rattle.store_core.proofs.Chained.{chains_by, meant_uses}

@@ -1,5 +1,5 @@
 use Rattle.std.proofs.Common.{ℕ, List, sym, subst}
-use Rattle.store_model.specs.Words.{Place}
+use Rattle.store_model.specs.declared.view.Place.{Place}
 use Rattle.store_model.specs.Shown.{shown}
 use Rattle.store_model.specs.MarkedChains.{IsChain, OneStrays}
 use Rattle.store_core.proofs.Chained.{meant_marked, meant_stands}

@@ -1,6 +1,6 @@
 use Rattle.std.proofs.Common.{◌≡◌, ◌+◌, ℕ, List, sym, subst, length, take, drop, ◌++◌, get_or}
 use Rattle.std.specs.Prelude.{Bool}
-use Rattle.store_model.specs.Words.{Place}
+use Rattle.store_model.specs.declared.view.Place.{Place}
 use Rattle.store_model.specs.Shown.{shown}
 use Rattle.store_model.specs.Marks.{Marks}
 use Rattle.store_model.specs.MarkedChains.{IsSound, StandInFirst}

@@ -1,5 +1,5 @@
 use Rattle.std.proofs.Common.{ℕ, List, sym, subst, arith}
-use Rattle.store_model.specs.Words.{Place}
+use Rattle.store_model.specs.declared.view.Place.{Place}
 use Rattle.store_model.specs.Shown.{shown}
 use Rattle.store_core.specs.RowLists.{IsList}
 use Rattle.store_core.specs.declared.machine.row_lists.RowList.TheVariants.{Free}

@@ -1,5 +1,5 @@
 use Rattle.std.proofs.Common.{List, ℕ, ◌≡◌, [], length, subst, arith}
-use Rattle.store_model.specs.Words.{Root}
+use Rattle.store_model.specs.declared.view.Place.TheVariants.{Root}
 use Rattle.store_model.specs.Shown.{shown}
 use Rattle.store_core.specs.Naming.{Halfway}
 use Rattle.store_core.proofs.Naming.{waits_named, taken, got_kept, named, no_items}

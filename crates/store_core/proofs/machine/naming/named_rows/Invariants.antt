@@ -1,5 +1,5 @@
 use Rattle.std.proofs.Common.{ℕ, ◌+◌, ◌*◌, ◌<◌, [], length}
-use Rattle.store_model.specs.Words.{RootCount, Root}
+use Rattle.store_model.specs.declared.view.Place.TheVariants.{RootCount, Root}
 use Rattle.store_model.specs.Machine.{Each}
 use Rattle.store_model.specs.Shown.{shown}
 use Rattle.store_core.specs.Naming.{IsMarked, unmarked, Halfway}

@@ -1,6 +1,6 @@
 use Rattle.std.proofs.Common.{◌≡◌, ℕ, ◌<◌, Option, length, get_or, sym, subst, arith}
 use Rattle.std.proofs.lemmas.List.{get_or_read}
-use Rattle.store_model.specs.Calls.{View}
+use Rattle.store_model.specs.declared.view.View.{View}
 use Rattle.store_model.specs.Steps.{newcomer}
 use Rattle.store_core.specs.Planning.{IsPlanOf, HasPlace, state_by}
 use Rattle.store_core.specs.declared.machine.change.Change.{Change}

@@ -1,5 +1,5 @@
 use Rattle.std.proofs.Common.{◌⊎◌, ℕ, ◌<◌}
-use Rattle.store_model.specs.Words.{Root}
+use Rattle.store_model.specs.declared.view.Place.TheVariants.{Root}
 use Rattle.store_model.specs.Shown.{shown}
 use Rattle.store_core.specs.Naming.{IsMarked}
 use Rattle.store_core.proofs.machine.protecting.all_countable.Given as goal

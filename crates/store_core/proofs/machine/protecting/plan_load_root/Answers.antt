@@ -1,6 +1,6 @@
 use Rattle.std.proofs.Common.{refl, ◌∙◌, rules, arith}
 use Rattle.std.proofs.lemmas.Grind.{common_steps}
-use Rattle.store_model.specs.Words.{Root}
+use Rattle.store_model.specs.declared.view.Place.TheVariants.{Root}
 use Rattle.store_model.specs.Machine as machine
 use Rattle.store_model.specs.Machine.{action, begins, based, ready, with_got, knowing, with_call}
 use Rattle.store_core.specs.Planning.{state_seen}

@@ -1,6 +1,7 @@
 use Rattle.std.proofs.Common.{ℕ, List, length, sym, subst}
 use Rattle.term_model.specs.declared.Head.{Head}
-use Rattle.store_model.specs.Words.{Place, RowWord}
+use Rattle.store_model.specs.declared.view.Place.{Place}
+use Rattle.store_model.specs.declared.view.Place.TheVariants.{RowWord}
 use Rattle.store_model.specs.Shown.{shown}
 use Rattle.store_model.specs.MarkedChains.{HasWords, HasContent}
 use Rattle.store_core.proofs.HasContents.{has_content, content, none_by_words}

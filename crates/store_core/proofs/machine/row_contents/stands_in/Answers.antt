@@ -1,5 +1,5 @@
 use Rattle.std.proofs.Common.{ℕ}
-use Rattle.store_model.specs.Words.{Place}
+use Rattle.store_model.specs.declared.view.Place.{Place}
 use Rattle.store_model.specs.Shown.{shown}
 use Rattle.store_core.proofs.HasContents.{stands_by}
 use Rattle.store_core.proofs.Outcomes.{at_some}

@@ -1,5 +1,5 @@
 use Rattle.std.proofs.Common.{ℕ, ◌<◌}
-use Rattle.store_model.specs.Words.{RootCount}
+use Rattle.store_model.specs.declared.view.Place.TheVariants.{RootCount}
 use Rattle.store_model.specs.Shown.{shown}
 use Rattle.store_core.specs.Lines.{LoadsLine}
 use Rattle.store_core.specs.declared.machine.whole.Line.TheVariants.{Roots}

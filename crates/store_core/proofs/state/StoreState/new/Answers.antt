@@ -1,6 +1,6 @@
 use Rattle.std.proofs.Common.{List, ap, ◌∙◌, length}
 use Rattle.std.proofs.lemmas.List.{length-replicate}
-use Rattle.store_model.specs.Calls.{View}
+use Rattle.store_model.specs.declared.view.View.{View}
 use Rattle.store_model.specs.Steps.{newcomer}
 use Rattle.store_core.specs.declared.state.StoreState.TheInside.{Inside}
 use Rattle.store_core.proofs.Applied.{total_small, new_is, held_new}

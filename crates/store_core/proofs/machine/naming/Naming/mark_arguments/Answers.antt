@@ -1,5 +1,5 @@
 use Rattle.std.proofs.Common.{◌≡◌, ◌<◌, ◌∙◌, arith}
-use Rattle.store_model.specs.Words.{RowWord}
+use Rattle.store_model.specs.declared.view.Place.TheVariants.{RowWord}
 use Rattle.store_model.specs.Shown.{shown}
 use Rattle.store_core.proofs.Naming.{argument_named, looked, are_marked}
 use Rattle.store_core.proofs.machine.naming.Naming.mark_arguments.Goals as goal

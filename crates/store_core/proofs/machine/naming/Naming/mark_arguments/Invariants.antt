@@ -1,5 +1,5 @@
 use Rattle.std.proofs.Common.{ℕ, ◌+◌, ◌<◌, [], ◌∷◌}
-use Rattle.store_model.specs.Words.{RowWord}
+use Rattle.store_model.specs.declared.view.Place.TheVariants.{RowWord}
 use Rattle.store_model.specs.Shown.{shown}
 use Rattle.store_core.specs.Naming.{IsMarked, Halfway, Visits}
 use Rattle.store_core.proofs.machine.naming.Naming.mark_arguments.Given as goal

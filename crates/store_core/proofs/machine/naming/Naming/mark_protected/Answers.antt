@@ -1,5 +1,5 @@
 use Rattle.std.proofs.Common.{◌<◌, arith}
-use Rattle.store_model.specs.Words.{RootCount}
+use Rattle.store_model.specs.declared.view.Place.TheVariants.{RootCount}
 use Rattle.store_model.specs.Shown.{shown}
 use Rattle.store_core.proofs.Naming.{root_named}
 use Rattle.store_core.proofs.machine.naming.Naming.mark_protected.Goals as goal

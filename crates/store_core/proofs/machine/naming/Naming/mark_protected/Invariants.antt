@@ -1,5 +1,5 @@
 use Rattle.std.proofs.Common.{ℕ, ◌<◌, []}
-use Rattle.store_model.specs.Words.{Root}
+use Rattle.store_model.specs.declared.view.Place.TheVariants.{Root}
 use Rattle.store_model.specs.Shown.{shown}
 use Rattle.store_core.specs.Naming.{IsMarked, Halfway}
 use Rattle.store_core.proofs.machine.naming.Naming.mark_protected.Given as goal
