@@ -14,8 +14,8 @@ use std::alloc::Global;
 use std::marker::Model;
 use store_model::{Sizes, StoreStep, View};
 
-/// A store as plain data: its lock, its words, and what each seat knows. What holds of a store after every list of steps holds of
-/// each value of this type.
+/// A store as plain data: its lock, its words, and what each seat knows. What holds of a store
+/// after every list of steps holds of each value of this type.
 #[derive(Drop)]
 pub struct StoreState {
     pub(crate) table: Table,
@@ -64,10 +64,12 @@ impl StoreState {
         &self.lock
     }
 
-    /// Makes one step of a seat. False exactly where the step is out of place, as that of a seat that isn't there; the store is then
-    /// as it was, and so it is where there is no memory.
+    /// Makes one step of a seat. False exactly where the step is out of place, as that of a seat
+    /// that isn't there; the store is then as it was, and so it is where there is no memory.
     pub fn apply(&mut self, seat: u32, step: StoreStep) -> Result<bool, Memory>
-        ensures step { IfOk result (λ made. MatchBool made (Stepped seat step self.old self.new) (Stayed seat step self.old self.new)) }
+        ensures step { IfOk result
+            (λ made. MatchBool made (Stepped seat step self.old self.new)
+            (Stayed seat step self.old self.new)) }
         ensures memory { OnErr result (self.new ≡ self.old) }
     {
         if seat >= self.table.sizes.seats {
@@ -89,7 +91,8 @@ impl StoreState {
     }
 }
 
-/// Makes a list of steps, each of a seat, from a new store. `None` exactly where one of them is out of place.
+/// Makes a list of steps, each of a seat, from a new store. `None` exactly where one of them is out
+/// of place.
 pub fn replay(
     alloc: Global,
     sizes: Sizes,

@@ -110,7 +110,8 @@ pub(crate) fn row_place(sizes: &Sizes, row: u32, word: u32) -> Place
 
 /// The next action of a creation, where it is this act.
 pub(crate) fn plan_act(sight: &Sight, wanted: &NextAct) -> Result<Option<Change>, Memory>
-    ensures { PlansIf sight.now machine.Go (act sight.now.view.now sight.now.view.now.call ≡ act_of wanted.now) result }
+    ensures { PlansIf sight.now machine.Go
+        (act sight.now.view.now sight.now.view.now.call ≡ act_of wanted.now) result }
 {
     let next = next_act(sight.view)?;
     if !is_creation(sight.view) || !same_act(&next, wanted) {

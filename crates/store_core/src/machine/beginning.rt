@@ -49,7 +49,11 @@ fn may_create(sight: &Sight) -> bool
 
 // Whether the content has room, is one, and is over rows that the seat may name.
 fn may_begin(sight: &Sight, content: &Content) -> Result<bool, Memory>
-    ensures { IfOk result (λ b. IsTrue b ↔ MayBegin sight.now.table.now.sizes (shown sight.now.table.now.sizes sight.now.table.now.words.items) sight.now.seat sight.now.view.now content.now) }
+    ensures { IfOk result
+        (λ b. IsTrue b
+        ↔ MayBegin sight.now.table.now.sizes
+        (shown sight.now.table.now.sizes sight.now.table.now.words.items) sight.now.seat
+        sight.now.view.now content.now) }
 {
     let rows = rows_of(&content.arguments)?;
     if !is_formed(sight.table, content.head, rows.as_slice()) {
@@ -68,7 +72,8 @@ fn all_named(marks: &[bool], rows: &[u32]) -> bool
 
 // Whether a head may stand over these rows, for which there is room.
 fn is_formed(table: &Table, head: Head, rows: &[u32]) -> bool
-    ensures { IsTrue result ↔ (length rows.now ≤ widest table.now.sizes) × IsOver head rows.now × SecondIsList (shown table.now.sizes table.now.words.items) head rows.now }
+    ensures { IsTrue result ↔ (length rows.now ≤ widest table.now.sizes) × IsOver head rows.now
+        × SecondIsList (shown table.now.sizes table.now.words.items) head rows.now }
 {
     if rows.len() as u64 > widest_of(&table.sizes) {
         return false;
@@ -90,7 +95,8 @@ pub(crate) fn widest_of(sizes: &Sizes) -> u64
 
 // Two rows, the second that of a list.
 fn is_cell(table: &Table, rows: &[u32]) -> bool
-    ensures { IsTrue result ↔ IsOver Cons rows.now × SecondIsList (shown table.now.sizes table.now.words.items) Cons rows.now }
+    ensures { IsTrue result ↔ IsOver Cons rows.now
+        × SecondIsList (shown table.now.sizes table.now.words.items) Cons rows.now }
 {
     rows.len() == 2 && is_list_row(table, rows[1])
 }

@@ -46,7 +46,8 @@ fn plan_end(
 #[tactic(auto, using(crate::proofs::Deciding::free_here, crate::proofs::Deciding::free_past))]
 // Whether a row is among the first free places.
 fn is_free(table: &Table, count: u32, row: u32) -> bool
-    ensures { result ≡ is_free (λ i. shown table.now.sizes table.now.words.items (FreePlace i)) count row }
+    ensures { result ≡ is_free
+        (λ i. shown table.now.sizes table.now.words.items (FreePlace i)) count row }
 {
     for i in 0..count {
         if table.load(&Place::FreePlace(i)) == u64::from(row) {
@@ -59,7 +60,8 @@ fn is_free(table: &Table, count: u32, row: u32) -> bool
 // The names that stay, ascending.
 #[tactic(auto, using(crate::proofs::Deciding::left_more))]
 fn names_left(alloc: Global, table: &Table) -> Result<LinkedList<u32>, Memory>
-    ensures { IfOk result (λ kept. kept ≡ names_left table.now.sizes (shown table.now.sizes table.now.words.items)) }
+    ensures { IfOk result
+        (λ kept. kept ≡ names_left table.now.sizes (shown table.now.sizes table.now.words.items)) }
 {
     let count = narrow(table.load(&Place::FreeCount))?;
     let mut kept = LinkedList::new(alloc);
@@ -81,7 +83,9 @@ fn with_row(mut list: LinkedList<u32>, row: u32, free: bool) -> Result<LinkedLis
 
 // What a seat knows after its collection.
 fn collected(view: View, table: &Table, kept: LinkedList<u32>) -> Result<View, Memory>
-    ensures { IfOk result (λ v. let w = shown table.now.sizes table.now.words.items in v ≡ collected view (w Base) (pred (w Base)) (w InUse) kept) }
+    ensures { IfOk result
+        (λ v. let w = shown table.now.sizes table.now.words.items in
+        v ≡ collected view (w Base) (pred (w Base)) (w InUse) kept) }
 {
     let base = table.load(&Place::Base);
     let in_use = narrow(table.load(&Place::InUse))?;

@@ -38,7 +38,10 @@ pub(crate) fn plan_load_any(sight: &Sight, place: Place) -> Result<Option<Change
 
 // Whether a collection in exclusive access may load next from here.
 fn may_load(sight: &Sight, place: &Place) -> bool
-    ensures { IsTrue result ↔ IsLoading sight.now.view.now.call × (sight.now.view.now.stay ≡ Ready) × IsExclusive sight.now.lock.now sight.now.seat × (in_table sight.now.table.now.sizes place.now ≡ true) × IsNextLoad (loads sight.now.view.now.call) place.now }
+    ensures { IsTrue result ↔ IsLoading sight.now.view.now.call × (sight.now.view.now.stay ≡ Ready)
+        × IsExclusive sight.now.lock.now sight.now.seat
+        × (in_table sight.now.table.now.sizes place.now ≡ true)
+        × IsNextLoad (loads sight.now.view.now.call) place.now }
 {
     is_loading(&sight.view.call)
         && sight.view.stay == Stay::Ready
@@ -135,7 +138,9 @@ fn leaves_no_room(sizes: &Sizes, base: u64, claim: u64) -> bool
 
 // What a seat knows after a load of its collection.
 fn loaded(view: &View, sizes: &Sizes, place: Place, value: u64) -> Result<View, Memory>
-    ensures { IfOk result (λ v. v ≡ machine.with_call view.now (loading sizes.now (loads view.now.call ++ (place, value) ∷ []))) }
+    ensures { IfOk result
+        (λ v. v ≡ machine.with_call view.now
+        (loading sizes.now (loads view.now.call ++ (place, value) ∷ []))) }
 {
     let mut list = loads_in(view)?;
     list.push_back((place, value))?;
@@ -207,7 +212,10 @@ fn is_stored(place: &Place) -> bool
 
 // Whether a collection goes on to store.
 fn may_store(sight: &Sight) -> Result<bool, Memory>
-    ensures { IfOk result (λ b. IsTrue b ↔ MayStore sight.now.table.now.sizes (shown sight.now.table.now.sizes sight.now.table.now.words.items) sight.now.view.now.call) }
+    ensures { IfOk result
+        (λ b. IsTrue b
+        ↔ MayStore sight.now.table.now.sizes
+        (shown sight.now.table.now.sizes sight.now.table.now.words.items) sight.now.view.now.call) }
 {
     match &sight.view.call {
         Call::Loading(list) => {
@@ -221,7 +229,9 @@ fn may_store(sight: &Sight) -> Result<bool, Memory>
 
 // What a seat knows after a store of its collection.
 fn stored(view: &View, place: Place, value: u64) -> Result<View, Memory>
-    ensures { IfOk result (λ v. v ≡ machine.with_call view.now (Storing (loads view.now.call) ((place, value) ∷ stores view.now.call))) }
+    ensures { IfOk result
+        (λ v. v ≡ machine.with_call view.now
+        (Storing (loads view.now.call) ((place, value) ∷ stores view.now.call))) }
 {
     let loads = loads_in(view)?;
     let mut stores = stores_in(view)?;

@@ -19,8 +19,8 @@ const ROOMS: Sizes = Sizes {
     first: 1,
 };
 
-// Seat 0 protects row 0 and seat 1 row 1; row 2 is made and protected by nobody. Seat 0 is then in exclusive access, and has
-// loaded all words.
+// Seat 0 protects row 0 and seat 1 row 1; row 2 is made and protected by nobody. Seat 0 is then in
+// exclusive access, and has loaded all words.
 fn swept(alloc: Global) -> Result<Driven, Memory> {
     let mut driven = Driven::new(alloc, ROOMS)?;
     driven.enter(0)?;
@@ -41,8 +41,8 @@ fn swept(alloc: Global) -> Result<Driven, Memory> {
     Ok(driven)
 }
 
-// The chain is row 2, row 1, row 0. Without row 2 its head is row 1, and the free places hold rows 2 and 3; the collection has the
-// number 1 + 3, and the base is 5.
+// The chain is row 2, row 1, row 0. Without row 2 its head is row 1, and the free places hold rows
+// 2 and 3; the collection has the number 1 + 3, and the base is 5.
 #[test]
 fn a_collection_keeps_the_protected_rows_of_both_seats(rt: HostRuntime) -> Result<(), Fail> {
     let alloc = rt.alloc();
@@ -147,8 +147,9 @@ const GROWING: Sizes = Sizes {
     first: 1,
 };
 
-// The chain is row 1, row 0. Two rows stay, and twice as many are more than the one bucket in use: then two are. The hash of
-// constant 0 is odd and that of constant 1 is even, so bucket 1 has row 0 and bucket 0 has row 1.
+// The chain is row 1, row 0. Two rows stay, and twice as many are more than the one bucket in use:
+// then two are. The hash of constant 0 is odd and that of constant 1 is even, so bucket 1 has row 0
+// and bucket 0 has row 1.
 #[test]
 fn the_buckets_in_use_double(rt: HostRuntime) -> Result<(), Fail> {
     let mut driven = Driven::new(rt.alloc(), GROWING)?;

@@ -10,7 +10,8 @@ use std::collections::LinkedList;
 use store_model::Content;
 use term_model::Head;
 
-/// The words that a row has for a content: the symbol word, the count of arguments, and the arguments, or an integer's value.
+/// The words that a row has for a content: the symbol word, the count of arguments, and the
+/// arguments, or an integer's value.
 pub(crate) fn words_of(content: &Content) -> Result<Vec<u64>, Memory>
     ensures { IfOk result (λ words. words.items ≡ words_of content.now) }
 {

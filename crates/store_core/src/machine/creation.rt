@@ -96,7 +96,8 @@ pub(crate) fn view_after(mut view: View, word: u64) -> Result<View, Memory>
 /// One atomic action of a creation. Where there is no memory, nothing has changed.
 pub(crate) fn go(table: &mut Table, view: &View) -> Result<View, Memory>
     ensures sizes { table.new.sizes ≡ table.old.sizes }
-    ensures action { IfOk result (λ v. Acts table.old.sizes table.old.words.items table.new.words.items view.now v) }
+    ensures action { IfOk result
+        (λ v. Acts table.old.sizes table.old.words.items table.new.words.items view.now v) }
     ensures memory { OnErr result (table.new ≡ table.old) }
 {
     let place = place_of(view)?;
@@ -112,7 +113,9 @@ pub(crate) fn go(table: &mut Table, view: &View) -> Result<View, Memory>
 fn put(table: &mut Table, place: &Place, found: u64, word: u64) -> Result<(), Memory>
     requires { found ≡ shown table.old.sizes table.old.words.items place.now }
     ensures sizes { table.new.sizes ≡ table.old.sizes }
-    ensures written { OnOk result (shown table.new.sizes table.new.words.items ≡ write (shown table.old.sizes table.old.words.items) place.now word) }
+    ensures written { OnOk result
+        (shown table.new.sizes table.new.words.items
+        ≡ write (shown table.old.sizes table.old.words.items) place.now word) }
     ensures memory { OnErr result (table.new ≡ table.old) }
 {
     if word == found {
@@ -127,7 +130,9 @@ fn put(table: &mut Table, place: &Place, found: u64, word: u64) -> Result<(), Me
 
 /// The first action of a creation.
 pub(crate) fn begin(table: &Table, view: &View, content: Content) -> Result<View, Memory>
-    ensures { IfOk result (λ v. v ≡ (machine.begins view.now content).moved (shown table.now.sizes table.now.words.items (machine.begins view.now content).place)) }
+    ensures { IfOk result
+        (λ v. v ≡ (machine.begins view.now content).moved
+        (shown table.now.sizes table.now.words.items (machine.begins view.now content).place)) }
 {
     let bucket = bucket_of(&content, view.in_use)?;
     let head = table.load(&Place::Bucket(bucket));

@@ -24,7 +24,8 @@ fn is_same(p: Place, q: Place) -> bool
 
 // What was loaded first from a place, by what was before a load.
 fn with_load(value: Option<u64>, place: Place, load: (Place, u64)) -> Option<u64>
-    ensures { (before : List (Place × ℕ)) → value ≡ value_at place before → result ≡ value_at place (before ++ load ∷ []) }
+    ensures { (before : List (Place × ℕ)) → value ≡ value_at place before
+        → result ≡ value_at place (before ++ load ∷ []) }
 {
     if value.is_some() {
         return value;
@@ -74,7 +75,8 @@ fn grown_use(sizes: &Sizes, in_use: u64, kept: u32) -> u64
 
 // Whether the buckets in use follow from what was loaded and how many rows are kept.
 fn use_follows(table: &Table, loads: &LinkedList<(Place, u64)>, kept: u32) -> bool
-    ensures { IsTrue result ↔ UseFollows table.now.sizes (shown table.now.sizes table.now.words.items) loads.now kept }
+    ensures { IsTrue result
+        ↔ UseFollows table.now.sizes (shown table.now.sizes table.now.words.items) loads.now kept }
 {
     match value_at(Place::InUse, loads) {
         Some(in_use) => table.load(&Place::InUse) == grown_use(&table.sizes, in_use, kept),
@@ -82,7 +84,8 @@ fn use_follows(table: &Table, loads: &LinkedList<(Place, u64)>, kept: u32) -> bo
     }
 }
 
-// How many rows are kept; None where the words aren't whole again, or keep others than those reached.
+// How many rows are kept; None where the words aren't whole again, or keep others than those
+// reached.
 fn kept_rows(alloc: Global, table: &Table) -> Result<Option<u32>, Memory>
     ensures { IfOk result (λ o. MatchOption o
         (IsBroken table.now.sizes (shown table.now.sizes table.now.words.items))
@@ -103,10 +106,12 @@ fn kept_rows(alloc: Global, table: &Table) -> Result<Option<u32>, Memory>
     Ok(Some(count_left(free.as_slice(), table.sizes.rows)))
 }
 
-/// Whether the claim may be stored, which ends a collection that has loaded these words: whether the words are whole again, and
-/// keep exactly the rows that are reached. Linear in the words.
+/// Whether the claim may be stored, which ends a collection that has loaded these words: whether
+/// the words are whole again, and keep exactly the rows that are reached. Linear in the words.
 pub(crate) fn may_end(table: &Table, loads: &LinkedList<(Place, u64)>) -> Result<bool, Memory>
-    ensures { IfOk result (λ b. (s : State) (i : ℕ) → IsEnding table.now.sizes (shown table.now.sizes table.now.words.items) loads.now s i → (IsTrue b ↔ MayEnd table.now.sizes s i)) }
+    ensures { IfOk result (λ b. (s : State) (i : ℕ)
+        → IsEnding table.now.sizes (shown table.now.sizes table.now.words.items) loads.now s i
+        → (IsTrue b ↔ MayEnd table.now.sizes s i)) }
 {
     let Some(kept) = kept_rows(*loads.allocator(), table)? else {
         return Ok(false);

@@ -25,8 +25,8 @@ fn stored(mut table: Table, words: &[(Place, u64)]) -> Table {
     table
 }
 
-// The constants 0, 1 and 2 in the rows 0, 1 and 2. Row 0 and row 1 are protected, each by a seat; row 2 was freed, and its chain
-// goes on without it.
+// The constants 0, 1 and 2 in the rows 0, 1 and 2. Row 0 and row 1 are protected, each by a seat;
+// row 2 was freed, and its chain goes on without it.
 fn swept(alloc: Global) -> Result<Table, Memory> {
     let words = [
         (Place::Base, 5),
@@ -51,7 +51,8 @@ fn swept(alloc: Global) -> Result<Table, Memory> {
     Ok(stored(Table::new(alloc, &SIZES)?, words.as_slice()))
 }
 
-// Whether the collection may end that loaded base 1, claim 3 and one bucket in use, where these words are other ones.
+// Whether the collection may end that loaded base 1, claim 3 and one bucket in use, where these
+// words are other ones.
 fn ends_with(alloc: Global, words: &[(Place, u64)]) -> Result<bool, Memory> {
     let table = stored(swept(alloc)?, words);
     let mut loads = LinkedList::new(alloc);
@@ -151,7 +152,8 @@ fn base_has_to_pass_the_claim(rt: HostRuntime) -> Result<(), Fail> {
     Ok(())
 }
 
-// A collection may store any number. One that is no row, count or base of the store ends nothing, and isn't want of memory.
+// A collection may store any number. One that is no row, count or base of the store ends nothing,
+// and isn't want of memory.
 #[test]
 fn numbers_that_are_none_of_the_store_are_refused(rt: HostRuntime) -> Result<(), Fail> {
     let alloc = rt.alloc();

@@ -44,7 +44,8 @@ fn gained(
     number: u64,
     entry: Entry,
 ) -> Result<View, Memory>
-    ensures { (c : Content) → words_of c ≡ words.now → IfOk result (λ v. v ≡ machine.gained view c row number entry) }
+    ensures { (c : Content) → words_of c ≡ words.now
+        → IfOk result (λ v. v ≡ machine.gained view c row number entry) }
 {
     view.call = Call::Idle;
     view.got.push_front(row)?;
@@ -120,7 +121,8 @@ pub(crate) fn after_counted(
     claim: u64,
     word: u64,
 ) -> Result<View, Memory>
-    ensures { IfOk result (λ v. v ≡ (machine.action view (Counting content from claim)).moved word) }
+    ensures { IfOk result
+        (λ v. v ≡ (machine.action view (Counting content from claim)).moved word) }
 {
     if claim < word {
         Ok(with_call(view, Call::Drawing(content, from, word)))
@@ -155,7 +157,8 @@ pub(crate) fn after_published(
     row: u32,
     word: u64,
 ) -> Result<View, Memory>
-    ensures { IfOk result (λ v. v ≡ (machine.action view (Publishing content from index row)).moved word) }
+    ensures { IfOk result
+        (λ v. v ≡ (machine.action view (Publishing content from index row)).moved word) }
 {
     if word == u64::from(from) {
         let words = words_of(&content)?;

@@ -28,8 +28,8 @@ fn over_row_0(alloc: Global, symbol: u32) -> Result<Content, Memory> {
     Ok(content)
 }
 
-// Seat 0 makes the constant 0 as row 0, the symbol 1 over it as row 1, the constant 2 as row 2 and the integer 2 as row 3; it
-// protects rows 1 and 3, and leaves.
+// Seat 0 makes the constant 0 as row 0, the symbol 1 over it as row 1, the constant 2 as row 2 and
+// the integer 2 as row 3; it protects rows 1 and 3, and leaves.
 fn nested(alloc: Global) -> Result<Driven, Memory> {
     let mut driven = Driven::new(alloc, SIZES)?;
     driven.enter(0)?;
@@ -47,8 +47,8 @@ fn nested(alloc: Global) -> Result<Driven, Memory> {
     Ok(driven)
 }
 
-// Seat 1 collects. The chain was row 3, 2, 1, 0; without row 2 the link of row 3 is to row 1, which is the word 2. The free places
-// hold rows 2, 4 and 5. The claim was 4, so the base is 1 + 4 + 1.
+// Seat 1 collects. The chain was row 3, 2, 1, 0; without row 2 the link of row 3 is to row 1, which
+// is the word 2. The free places hold rows 2, 4 and 5. The claim was 4, so the base is 1 + 4 + 1.
 fn collect(driven: &mut Driven) -> Result<(), Memory> {
     driven.lock(1, LockStep::Take)?;
     driven.lock(1, LockStep::Ask(0))?;
@@ -95,8 +95,9 @@ fn words(alloc: Global, of: &[(u32, u32, u64)]) -> Result<LinkedList<KnownWord>,
     Ok(list)
 }
 
-// The rows 1 and 3 are protected, and row 0 is the argument of row 1. Row 2 is no argument: the 2 in row 3 is an integer's value.
-// The first words of rows are 2 ^ 32 for an integer, and the symbol else; the count is next.
+// The rows 1 and 3 are protected, and row 0 is the argument of row 1. Row 2 is no argument: the 2
+// in row 3 is an integer's value. The first words of rows are 2 ^ 32 for an integer, and the symbol
+// else; the count is next.
 #[test]
 fn another_collection_leaves_what_protected_rows_lead_to(rt: HostRuntime) -> Result<(), Fail> {
     let alloc = rt.alloc();
@@ -123,7 +124,8 @@ fn another_collection_leaves_what_protected_rows_lead_to(rt: HostRuntime) -> Res
     Ok(())
 }
 
-// The symbol 5 over row 0, which it hasn't read since, gets the first free place: row 2, with the number of the base 6.
+// The symbol 5 over row 0, which it hasn't read since, gets the first free place: row 2, with the
+// number of the base 6.
 #[test]
 fn it_creates_over_such_a_row_without_reading_it_again(rt: HostRuntime) -> Result<(), Fail> {
     let alloc = rt.alloc();

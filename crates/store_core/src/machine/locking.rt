@@ -32,7 +32,9 @@ pub(crate) fn phase_of(lock: &LockState, seat: u32) -> Phase
 
 // Whether each other seat is held.
 fn others_held(lock: &LockState, seat: u32) -> bool
-    ensures { MatchBool result ((j : ℕ) → j < length lock.now.seats → j ≢ seat → (seat_of lock.now j).standing ≡ Held) ((j : ℕ) × (j < length lock.now.seats) × (j ≢ seat) × ((seat_of lock.now j).standing ≢ Held)) }
+    ensures { MatchBool result ((j : ℕ) → j < length lock.now.seats → j ≢ seat
+        → (seat_of lock.now j).standing ≡ Held) ((j : ℕ) × (j < length lock.now.seats) × (j ≢ seat)
+        × ((seat_of lock.now j).standing ≢ Held)) }
 {
     for j in 0..lock.count() {
         if j != seat && lock.seat(j).standing != Standing::Held {

@@ -17,8 +17,11 @@ use store_model::Place;
 // The rows of a bucket's chain; None where it doesn't end after rows of the store, each once.
 fn chain_of(alloc: Global, table: &Table, number: u32) -> Result<Option<Vec<u32>>, Memory>
     ensures { IfOk result (λ o. MatchOption o
-        ((n : Meaning) → ChainsHold table.now.sizes (write (shown table.now.sizes table.now.words.items) Claim 0) n → ⊥)
-        (λ v. IsChain table.now.sizes (shown table.now.sizes table.now.words.items) number v.items)) }
+        ((n : Meaning)
+        → ChainsHold table.now.sizes (write (shown table.now.sizes table.now.words.items) Claim 0) n
+        → ⊥)
+        (λ v. IsChain table.now.sizes
+        (shown table.now.sizes table.now.words.items) number v.items)) }
 {
     let mut rows = Vec::new(alloc);
     let mut at = table.load(&Place::Bucket(number));
@@ -42,8 +45,11 @@ fn all_stand(
     in_use: u32,
 ) -> Result<bool, Memory>
     ensures { IfOk result (λ b. MatchBool b
-        ((k : ℕ) → k < length rows.now → StandsIn (shown table.now.sizes table.now.words.items) in_use number (get_or rows.now k 0))
-        (OneStrays table.now.sizes (shown table.now.sizes table.now.words.items) in_use number rows.now)) }
+        ((k : ℕ) → k < length rows.now
+        → StandsIn (shown table.now.sizes table.now.words.items) in_use number
+        (get_or rows.now k 0))
+        (OneStrays table.now.sizes (shown table.now.sizes table.now.words.items)
+        in_use number rows.now)) }
 {
     for row in rows {
         if !stands_in(alloc, table, *row, number, in_use)? {
@@ -65,7 +71,8 @@ fn sound_chain(
     requires in_use { in_use ≡ shown table.now.sizes table.now.words.items InUse }
     ensures { IfOk result (λ o. MatchOption o
         (NotMeant table.now.sizes (shown table.now.sizes table.now.words.items) live.now)
-        (λ v. IsSound table.now.sizes (shown table.now.sizes table.now.words.items) live.now in_use number v.items)) }
+        (λ v. IsSound table.now.sizes (shown table.now.sizes table.now.words.items) live.now
+        in_use number v.items)) }
 {
     let Some(rows) = chain_of(alloc, table, number)? else {
         return Ok(None);
@@ -90,7 +97,8 @@ fn standing_rows(
     requires in_use { in_use ≡ shown table.now.sizes table.now.words.items InUse }
     ensures { IfOk result (λ o. MatchOption o
         (NotMeant table.now.sizes (shown table.now.sizes table.now.words.items) live.now)
-        (λ v. StandInFirst table.now.sizes (shown table.now.sizes table.now.words.items) live.now in_use in_use v.items)) }
+        (λ v. StandInFirst table.now.sizes (shown table.now.sizes table.now.words.items) live.now
+        in_use in_use v.items)) }
 {
     let mut standing = no_marks(alloc, table.sizes.rows)?;
     for number in 0..in_use {
@@ -119,7 +127,8 @@ fn do_all_stand(live: &[bool], standing: &[bool]) -> bool
 fn buckets_in_use(table: &Table) -> Option<u32>
     ensures { MatchOption result
         (UsesBuckets table.now.sizes (shown table.now.sizes table.now.words.items) → ⊥)
-        (λ u. (u ≡ shown table.now.sizes table.now.words.items InUse) × UsesBuckets table.now.sizes (shown table.now.sizes table.now.words.items)) }
+        (λ u. (u ≡ shown table.now.sizes table.now.words.items InUse)
+        × UsesBuckets table.now.sizes (shown table.now.sizes table.now.words.items)) }
 {
     let word = table.load(&Place::InUse);
     if word == 0 || word > u64::from(table.sizes.buckets) {

@@ -21,7 +21,10 @@ pub(crate) fn no_marks(alloc: Global, rows: u32) -> Result<Vec<bool>, Memory>
 
 /// Marks the rows in the free places; None where they aren't different rows of the store.
 pub(crate) fn free_rows(alloc: Global, table: &Table) -> Result<Option<Vec<bool>>, Memory>
-    ensures { IfOk result (λ o. MatchOption o (AreNotApart table.now.sizes (shown table.now.sizes table.now.words.items)) (λ v. MarksFree table.now.sizes (shown table.now.sizes table.now.words.items) v.items)) }
+    ensures { IfOk result
+        (λ o. MatchOption o
+        (AreNotApart table.now.sizes (shown table.now.sizes table.now.words.items))
+        (λ v. MarksFree table.now.sizes (shown table.now.sizes table.now.words.items) v.items)) }
 {
     if table.load(&Place::FreeCount) > u64::from(table.sizes.rows) {
         return Ok(None);
@@ -35,7 +38,9 @@ pub(crate) fn free_rows(alloc: Global, table: &Table) -> Result<Option<Vec<bool>
 // Marks the rows in these places; None where a row is in two of them.
 fn mark_places(alloc: Global, places: &[u32], rows: u32) -> Result<Option<Vec<bool>>, Memory>
     requires { (k : ℕ) → k < length places.now → get_or places.now k 0 < rows }
-    ensures { IfOk result (λ o. MatchOption o (Repeats (λ i. get_or places.now i 0) (length places.now)) (λ v. MarksPlaces (λ i. get_or places.now i 0) (length places.now) rows v.items)) }
+    ensures { IfOk result
+        (λ o. MatchOption o (Repeats (λ i. get_or places.now i 0) (length places.now))
+        (λ v. MarksPlaces (λ i. get_or places.now i 0) (length places.now) rows v.items)) }
 {
     let mut marks = no_marks(alloc, rows)?;
     for row in places {
@@ -50,7 +55,8 @@ fn mark_places(alloc: Global, places: &[u32], rows: u32) -> Result<Option<Vec<bo
 /// How many of the rows are in no free place.
 pub(crate) fn count_left(free: &[bool], rows: u32) -> u32
     requires { length free.now ≡ rows }
-    ensures { (place : ℕ → ℕ) (n : ℕ) → MarksPlaces place n rows free.now → result ≡ length (rows_left place n rows) }
+    ensures { (place : ℕ → ℕ) (n : ℕ) → MarksPlaces place n rows free.now
+        → result ≡ length (rows_left place n rows) }
 {
     let mut count = 0;
     for row in 0..rows {
@@ -87,7 +93,8 @@ pub(crate) fn mark_rows(marks: &mut [bool], rows: &[u32])
 /// Whether these rows are all marked.
 pub(crate) fn are_marked(marks: &[bool], rows: &[u32]) -> bool
     requires { (k : ℕ) → k < length rows.now → get_or rows.now k 0 < length marks.now }
-    ensures { IsTrue result ↔ ((k : ℕ) → k < length rows.now → IsMarked marks.now (get_or rows.now k 0)) }
+    ensures { IsTrue result
+        ↔ ((k : ℕ) → k < length rows.now → IsMarked marks.now (get_or rows.now k 0)) }
 {
     for row in rows {
         if !marks[*row as usize] {

@@ -9,7 +9,8 @@ use history_core::Entry;
 use std::collections::LinkedList;
 use store_model::{Call, KnownWord, Stay, View};
 
-/// A word as the number of a row, or of a row and 1. Rows have numbers of 32 bits, so every word that is one fits.
+/// A word as the number of a row, or of a row and 1. Rows have numbers of 32 bits, so every word
+/// that is one fits.
 pub(crate) fn narrow(word: u64) -> Result<u32, Memory>
     ensures { IfOk result (λ n. n ≡ word) }
 {
@@ -38,7 +39,12 @@ pub(crate) fn with_call(mut view: View, call: Call) -> View
 
 // The view with what it keeps, where this base is another than its own.
 fn kept_for(view: View, base: u64) -> Result<View, Memory>
-    ensures { IfOk result (λ v. v ≡ record view { got = if base == view.base then view.got else rows_kept view; knows = if base == view.base then view.knows else words_kept view }) }
+    ensures { IfOk result
+        (λ v. v ≡ record view {
+          got = if base == view.base then view.got else rows_kept view;
+          knows = if base == view.base
+              then view.knows else words_kept view;
+        }) }
 {
     if base == view.base {
         Ok(view)

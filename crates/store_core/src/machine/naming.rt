@@ -21,7 +21,10 @@ pub(crate) struct Naming {
 
 /// The rows that a seat may name, marked.
 pub(crate) fn named_rows(table: &Table, seat: u32, view: &View) -> Result<Vec<bool>, Memory>
-    ensures { IfOk result (λ marks. (r : ℕ) → IsMarked marks.items r ↔ MayName (shown table.now.sizes table.now.words.items) seat view.now r) }
+    ensures { IfOk result
+        (λ marks. (r : ℕ)
+        → IsMarked marks.items r
+        ↔ MayName (shown table.now.sizes table.now.words.items) seat view.now r) }
 {
     let alloc = *view.got.allocator();
     let mut naming = Naming::new(alloc, table.sizes.rows)?;
@@ -66,8 +69,14 @@ impl Naming {
     fn visit(&mut self, table: &Table, seat: u32, view: &View, row: u64) -> Result<(), Memory>
         requires { MayName (shown table.now.sizes table.now.words.items) seat view.now row }
         ensures marked { OnOk result (IsMarked self.new.marks.items row) }
-        ensures visits { OnOk result (Visits self.old.marks.items self.new.marks.items self.old.waiting.items self.new.waiting.items) }
-        ensures halfway { OnOk result ((here : List ℕ) → Halfway (shown table.now.sizes table.now.words.items) seat view.now self.old.marks.items self.old.waiting.items here → Halfway (shown table.now.sizes table.now.words.items) seat view.now self.new.marks.items self.new.waiting.items here) }
+        ensures visits { OnOk result
+            (Visits self.old.marks.items self.new.marks.items self.old.waiting.items
+            self.new.waiting.items) }
+        ensures halfway { OnOk result ((here : List ℕ)
+            → Halfway (shown table.now.sizes table.now.words.items) seat view.now
+            self.old.marks.items self.old.waiting.items here
+            → Halfway (shown table.now.sizes table.now.words.items) seat view.now
+            self.new.marks.items self.new.waiting.items here) }
     {
         let row = narrow(row)?;
         if row as usize >= self.marks.len() {
@@ -85,7 +94,11 @@ impl Naming {
     #[tactic(auto, using(crate::proofs::Naming::each_marked))]
     fn mark_got(&mut self, table: &Table, seat: u32, view: &View) -> Result<(), Memory>
         ensures marked { OnOk result (Each (IsMarked self.new.marks.items) view.now.got) }
-        ensures halfway { OnOk result (Halfway (shown table.now.sizes table.now.words.items) seat view.now self.old.marks.items self.old.waiting.items [] → Halfway (shown table.now.sizes table.now.words.items) seat view.now self.new.marks.items self.new.waiting.items []) }
+        ensures halfway { OnOk result
+            (Halfway (shown table.now.sizes table.now.words.items) seat view.now
+            self.old.marks.items self.old.waiting.items []
+            → Halfway (shown table.now.sizes table.now.words.items) seat view.now
+            self.new.marks.items self.new.waiting.items []) }
     {
         let rows = rows_of(&view.got)?;
         for k in 0..rows.len() {
@@ -96,9 +109,17 @@ impl Naming {
 
     // Marks the rows that the seat has protected.
     fn mark_protected(&mut self, table: &Table, seat: u32, view: &View) -> Result<(), Memory>
-        ensures kept { OnOk result ((r : ℕ) → IsMarked self.old.marks.items r → IsMarked self.new.marks.items r) }
-        ensures marked { OnOk result ((k : ℕ) → k < shown table.now.sizes table.now.words.items (RootCount seat) → IsMarked self.new.marks.items (shown table.now.sizes table.now.words.items (Root seat k))) }
-        ensures halfway { OnOk result (Halfway (shown table.now.sizes table.now.words.items) seat view.now self.old.marks.items self.old.waiting.items [] → Halfway (shown table.now.sizes table.now.words.items) seat view.now self.new.marks.items self.new.waiting.items []) }
+        ensures kept { OnOk result ((r : ℕ) → IsMarked self.old.marks.items r
+            → IsMarked self.new.marks.items r) }
+        ensures marked { OnOk result ((k : ℕ)
+            → k < shown table.now.sizes table.now.words.items (RootCount seat)
+            → IsMarked self.new.marks.items
+            (shown table.now.sizes table.now.words.items (Root seat k))) }
+        ensures halfway { OnOk result
+            (Halfway (shown table.now.sizes table.now.words.items) seat view.now
+            self.old.marks.items self.old.waiting.items []
+            → Halfway (shown table.now.sizes table.now.words.items) seat view.now
+            self.new.marks.items self.new.waiting.items []) }
     {
         let count = narrow(table.load(&Place::RootCount(seat)))?;
         for k in 0..count {
@@ -117,8 +138,14 @@ impl Naming {
         row: u32,
     ) -> Result<(), Memory>
         requires { MayName (shown table.now.sizes table.now.words.items) seat view.now row }
-        ensures visits { OnOk result (Visits self.old.marks.items self.new.marks.items self.old.waiting.items self.new.waiting.items) }
-        ensures halfway { OnOk result (Halfway (shown table.now.sizes table.now.words.items) seat view.now self.old.marks.items self.old.waiting.items (row ∷ []) → Halfway (shown table.now.sizes table.now.words.items) seat view.now self.new.marks.items self.new.waiting.items []) }
+        ensures visits { OnOk result
+            (Visits self.old.marks.items self.new.marks.items self.old.waiting.items
+            self.new.waiting.items) }
+        ensures halfway { OnOk result
+            (Halfway (shown table.now.sizes table.now.words.items) seat view.now
+            self.old.marks.items self.old.waiting.items (row ∷ [])
+            → Halfway (shown table.now.sizes table.now.words.items) seat view.now
+            self.new.marks.items self.new.waiting.items []) }
     {
         let count = narrow(table.load(&Place::RowWord(row, 1)))?;
         if count > u32::MAX - 2 {

@@ -7,7 +7,8 @@ use lock_core::{LockStep, Phase};
 use std::alloc::Global;
 use std::test::Fail;
 
-// Of the orders in which two seats can make the rest of their steps: how many there are, and how many of them end badly.
+// Of the orders in which two seats can make the rest of their steps: how many there are, and how
+// many of them end badly.
 #[derive(Clone, Copy, Debug, PartialEq, Eq)]
 struct Tally {
     orders: u32,
@@ -42,7 +43,8 @@ fn turn(driven: &mut Driven, seat: u32) -> Result<bool, Memory> {
     Ok(true)
 }
 
-// As a set of one thread would have it: one name for equal terms, two for different ones, and the finder after the maker.
+// As a set of one thread would have it: one name for equal terms, two for different ones, and the
+// finder after the maker.
 fn is_legal(driven: &Driven, same: bool) -> bool {
     let (Some(one), Some(other)) = (driven.store.view(0), driven.store.view(1)) else {
         return false;
@@ -106,8 +108,8 @@ fn explored(alloc: Global, terms: (u32, u32), turns: &[u32], more: u32) -> Resul
     Ok(tally)
 }
 
-// Each has the stores of two words, of the birth number and of the link, the exchange and the lower to make, and the loser of the
-// exchange more.
+// Each has the stores of two words, of the birth number and of the link, the exchange and the lower
+// to make, and the loser of the exchange more.
 #[test]
 fn every_order_of_two_leaving_creators_is_legal(rt: HostRuntime) -> Result<(), Fail> {
     let equal = explored(rt.alloc(), (0, 0), &[], 24)?;

@@ -81,8 +81,10 @@ pub(crate) fn planned(
 ) -> Result<Option<Change>, Memory>
     requires seat { seat < table.now.sizes.seats }
     requires views { length views.now.items ≡ table.now.sizes.seats }
-    requires holds { StoreHolds table.now.sizes (state_by table.now.sizes lock.now table.now.words.items views.now.items) }
-    ensures { Planned table.now.sizes (state_by table.now.sizes lock.now table.now.words.items views.now.items) seat step result }
+    requires holds { StoreHolds table.now.sizes
+        (state_by table.now.sizes lock.now table.now.words.items views.now.items) }
+    ensures { Planned table.now.sizes
+        (state_by table.now.sizes lock.now table.now.words.items views.now.items) seat step result }
 {
     let sight = Sight {
         table,
@@ -135,7 +137,9 @@ pub(crate) fn commit(
     requires place { IsInside table.old.sizes change.stored }
     ensures sizes { table.new.sizes ≡ table.old.sizes }
     ensures views { length views.new.items ≡ length views.old.items }
-    ensures state { state_by table.old.sizes lock.new table.new.words.items views.new.items ≡ changed (state_by table.old.sizes lock.old table.old.words.items views.old.items) seat change }
+    ensures state { state_by table.old.sizes lock.new table.new.words.items views.new.items
+        ≡ changed
+        (state_by table.old.sizes lock.old table.old.words.items views.old.items) seat change }
 {
     let Change {
         lock: next,
@@ -151,7 +155,8 @@ pub(crate) fn commit(
 fn store(table: &mut Table, stored: Option<(Place, u64)>)
     requires { IsInside table.old.sizes stored }
     ensures sizes { table.new.sizes ≡ table.old.sizes }
-    ensures words { shown table.new.sizes table.new.words.items ≡ words_with (shown table.old.sizes table.old.words.items) stored }
+    ensures words { shown table.new.sizes table.new.words.items
+        ≡ words_with (shown table.old.sizes table.old.words.items) stored }
 {
     if let Some((place, word)) = stored {
         table.store(&place, word);

@@ -44,7 +44,9 @@ pub(crate) fn plan_store_root(sight: &Sight, k: u32, row: u32) -> Result<Option<
 
 // Whether a seat may name a row.
 fn may_name(sight: &Sight, row: u32) -> Result<bool, Memory>
-    ensures { IfOk result (λ b. IsTrue b ↔ MayName (shown sight.now.table.now.sizes sight.now.table.now.words.items) sight.now.seat sight.now.view.now row) }
+    ensures { IfOk result
+        (λ b. IsTrue b ↔ MayName (shown sight.now.table.now.sizes sight.now.table.now.words.items)
+        sight.now.seat sight.now.view.now row) }
 {
     let marks = named_rows(sight.table, sight.seat, sight.view)?;
     Ok(is_named(marks.as_slice(), u64::from(row)))
@@ -63,15 +65,29 @@ pub(crate) fn plan_store_count(sight: &Sight, count: u32) -> Result<Option<Chang
 
 // Whether each of the first own rows was protected, or may be named.
 fn may_count(sight: &Sight, count: u32) -> Result<bool, Memory>
-    ensures { IfOk result (λ b. IsTrue b ↔ ((k : ℕ) → k < count → (k < sight.now.view.now.root_count) ⊎ MayName (shown sight.now.table.now.sizes sight.now.table.now.words.items) sight.now.seat sight.now.view.now (shown sight.now.table.now.sizes sight.now.table.now.words.items (Root sight.now.seat k)))) }
+    ensures { IfOk result
+        (λ b. IsTrue b
+        ↔ ((k : ℕ) → k < count
+        → (k < sight.now.view.now.root_count)
+        ⊎ MayName (shown sight.now.table.now.sizes sight.now.table.now.words.items) sight.now.seat
+        sight.now.view.now
+        (shown sight.now.table.now.sizes sight.now.table.now.words.items
+        (Root sight.now.seat k)))) }
 {
     let marks = named_rows(sight.table, sight.seat, sight.view)?;
     Ok(all_countable(sight, marks.as_slice(), count))
 }
 
 fn all_countable(sight: &Sight, marks: &[bool], count: u32) -> bool
-    ensures { MatchBool result ((k : ℕ) → k < count → (k < sight.now.view.now.root_count) ⊎ IsMarked marks.now (shown sight.now.table.now.sizes sight.now.table.now.words.items (Root sight.now.seat k)))
-        ((k : ℕ) × (k < count) × ((k < sight.now.view.now.root_count) ⊎ IsMarked marks.now (shown sight.now.table.now.sizes sight.now.table.now.words.items (Root sight.now.seat k)) → ⊥)) }
+    ensures { MatchBool result ((k : ℕ) → k < count
+        → (k < sight.now.view.now.root_count)
+        ⊎ IsMarked marks.now
+        (shown sight.now.table.now.sizes sight.now.table.now.words.items (Root sight.now.seat k)))
+        ((k : ℕ) × (k < count)
+        × ((k < sight.now.view.now.root_count)
+        ⊎ IsMarked marks.now
+        (shown sight.now.table.now.sizes sight.now.table.now.words.items (Root sight.now.seat k))
+        → ⊥)) }
 {
     for k in sight.view.root_count..count {
         if !is_named(marks, sight.table.load(&Place::Root(sight.seat, k))) {
@@ -81,7 +97,8 @@ fn all_countable(sight: &Sight, marks: &[bool], count: u32) -> bool
     true
 }
 
-/// The load of a word of a row: a read, where no call is under way, and else the next action of a creation.
+/// The load of a word of a row: a read, where no call is under way, and else the next action of a
+/// creation.
 pub(crate) fn plan_load_row(sight: &Sight, row: u32, word: u32) -> Result<Option<Change>, Memory>
     ensures { PlansStep sight.now (LoadRow row word) result }
 {
@@ -95,7 +112,9 @@ pub(crate) fn plan_load_row(sight: &Sight, row: u32, word: u32) -> Result<Option
 
 // A read of a row.
 fn plan_read(sight: &Sight, row: u32, word: u32) -> Result<Option<Change>, Memory>
-    ensures { Plans sight.now (read_meant (shown sight.now.table.now.sizes sight.now.table.now.words.items) row word) result }
+    ensures { Plans sight.now
+        (read_meant (shown sight.now.table.now.sizes sight.now.table.now.words.items) row word)
+        result }
 {
     if word >= 2 && u64::from(word - 2) < sight.table.load(&Place::RowWord(row, 1)) {
         plan_read_argument(sight, row, word)
@@ -124,7 +143,8 @@ fn plan_read_word(sight: &Sight, row: u32, word: u32) -> Result<Option<Change>, 
 // The argument is the word less 2.
 fn plan_read_argument(sight: &Sight, row: u32, word: u32) -> Result<Option<Change>, Memory>
     requires word { 2 ≤ word }
-    requires there { word - 2 < shown sight.now.table.now.sizes sight.now.table.now.words.items (RowWord row 1) }
+    requires there { word - 2 < shown sight.now.table.now.sizes sight.now.table.now.words.items
+        (RowWord row 1) }
     ensures { Plans sight.now (ReadArgument row (word - 2)) result }
 {
     if !is_at_rest(sight.view) || !may_name(sight, row)? {

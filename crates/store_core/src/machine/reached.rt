@@ -30,7 +30,9 @@ fn nothing_marked(alloc: Global, rows: u32) -> Result<Marking, Memory>
 // Marks a row, which then waits, unless it is marked.
 fn mark(marking: &mut Marking, row: u32) -> Result<(), Memory>
     requires { row < length marking.old.marked.items }
-    ensures { OnOk result (Adds (λ k. row) 1 marking.old.marked.items marking.old.waiting.items marking.new.marked.items marking.new.waiting.items) }
+    ensures { OnOk result
+        (Adds (λ k. row) 1 marking.old.marked.items marking.old.waiting.items
+        marking.new.marked.items marking.new.waiting.items) }
 {
     if marking.marked[row as usize] {
         return Ok(());
@@ -41,8 +43,11 @@ fn mark(marking: &mut Marking, row: u32) -> Result<(), Memory>
 }
 
 fn mark_all(marking: &mut Marking, rows: &[u32]) -> Result<(), Memory>
-    requires { (k : ℕ) → k < length rows.now → get_or rows.now k 0 < length marking.old.marked.items }
-    ensures { OnOk result (Adds (λ k. get_or rows.now k 0) (length rows.now) marking.old.marked.items marking.old.waiting.items marking.new.marked.items marking.new.waiting.items) }
+    requires { (k : ℕ) → k < length rows.now
+        → get_or rows.now k 0 < length marking.old.marked.items }
+    ensures { OnOk result
+        (Adds (λ k. get_or rows.now k 0) (length rows.now) marking.old.marked.items
+        marking.old.waiting.items marking.new.marked.items marking.new.waiting.items) }
 {
     for row in rows {
         mark(marking, *row)?;
@@ -59,7 +64,9 @@ fn mark_list(
 ) -> Result<bool, Memory>
     requires { length marking.old.marked.items ≡ table.now.sizes.rows }
     ensures { IfOk result (λ b. MatchBool b
-        (Adds (λ k. shown table.now.sizes table.now.words.items (item_place list k)) (shown table.now.sizes table.now.words.items (count_place list)) marking.old.marked.items marking.old.waiting.items marking.new.marked.items marking.new.waiting.items)
+        (Adds (λ k. shown table.now.sizes table.now.words.items (item_place list k))
+        (shown table.now.sizes table.now.words.items (count_place list)) marking.old.marked.items
+        marking.old.waiting.items marking.new.marked.items marking.new.waiting.items)
         (IsPast table.now.sizes (shown table.now.sizes table.now.words.items) list)) }
 {
     let Some(rows) = rows_of(alloc, table, list)? else {
@@ -73,7 +80,8 @@ fn mark_list(
 fn with_protected(alloc: Global, table: &Table) -> Result<Option<Marking>, Memory>
     ensures { IfOk result (λ o. MatchOption o
         (ReachesPast (shown table.now.sizes table.now.words.items) table.now.sizes.rows)
-        (λ m. Halfway table.now.sizes (shown table.now.sizes table.now.words.items) table.now.sizes.seats m.marked.items m.waiting.items)) }
+        (λ m. Halfway table.now.sizes (shown table.now.sizes table.now.words.items)
+        table.now.sizes.seats m.marked.items m.waiting.items)) }
 {
     let mut marking = nothing_marked(alloc, table.sizes.rows)?;
     for seat in 0..table.sizes.seats {
@@ -90,10 +98,12 @@ fn with_arguments(
     table: &Table,
     marking: Marking,
 ) -> Result<Option<Vec<bool>>, Memory>
-    requires { Halfway table.now.sizes (shown table.now.sizes table.now.words.items) table.now.sizes.seats marking.marked.items marking.waiting.items }
+    requires { Halfway table.now.sizes (shown table.now.sizes table.now.words.items)
+        table.now.sizes.seats marking.marked.items marking.waiting.items }
     ensures { IfOk result (λ o. MatchOption o
         (ReachesPast (shown table.now.sizes table.now.words.items) table.now.sizes.rows)
-        (λ v. MarksReached (shown table.now.sizes table.now.words.items) table.now.sizes.rows v.items)) }
+        (λ v. MarksReached (shown table.now.sizes table.now.words.items)
+        table.now.sizes.rows v.items)) }
 {
     let mut marking = marking;
     while let Some(row) = marking.waiting.pop() {
@@ -108,7 +118,8 @@ fn with_arguments(
 pub(crate) fn reached_rows(alloc: Global, table: &Table) -> Result<Option<Vec<bool>>, Memory>
     ensures { IfOk result (λ o. MatchOption o
         (ReachesPast (shown table.now.sizes table.now.words.items) table.now.sizes.rows)
-        (λ v. MarksReached (shown table.now.sizes table.now.words.items) table.now.sizes.rows v.items)) }
+        (λ v. MarksReached (shown table.now.sizes table.now.words.items)
+        table.now.sizes.rows v.items)) }
 {
     let Some(marking) = with_protected(alloc, table)? else {
         return Ok(None);

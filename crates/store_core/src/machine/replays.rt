@@ -87,7 +87,8 @@ fn a_seat_that_is_not_there_makes_no_step(rt: HostRuntime) -> Result<(), Fail> {
     Ok(())
 }
 
-// Both draw; the first publishes row 0 under 1. The other loses its exchange, walks the new part of the chain and finds row 0.
+// Both draw; the first publishes row 0 under 1. The other loses its exchange, walks the new part of
+// the chain and finds row 0.
 #[test]
 fn of_two_seats_that_race_for_one_term_one_makes_and_the_other_finds(
     rt: HostRuntime,
@@ -102,7 +103,8 @@ fn of_two_seats_that_race_for_one_term_one_makes_and_the_other_finds(
     Ok(())
 }
 
-// The other's term isn't in the new part: it links its row 1 to row 0, and publishes again, under 2.
+// The other's term isn't in the new part: it links its row 1 to row 0, and publishes again, under
+// 2.
 #[test]
 fn a_lost_exchange_walks_the_new_part_and_makes(rt: HostRuntime) -> Result<(), Fail> {
     let alloc = rt.alloc();

@@ -18,7 +18,8 @@ use term_model::{Head, Symbol};
 
 // The head with these words and so many arguments.
 fn head_of(symbol: u64, count: usize, value: u64) -> Option<Head>
-    ensures { MatchOption result ((f : Head) → HasWords symbol count value f → ⊥) (HasWords symbol count value) }
+    ensures { MatchOption result ((f : Head) → HasWords symbol count value f → ⊥)
+        (HasWords symbol count value) }
 {
     if symbol < 1 << 32 {
         return Some(Head::App(Symbol(symbol as u32)));
@@ -51,7 +52,8 @@ fn content_over(
     row: u32,
     arguments: &[u32],
 ) -> Result<Option<Content>, Memory>
-    requires { IsList table.now.sizes (shown table.now.sizes table.now.words.items) (Arguments row) arguments.now }
+    requires { IsList table.now.sizes (shown table.now.sizes table.now.words.items)
+        (Arguments row) arguments.now }
     ensures { IfOk result (λ o. MatchOption o
         (HasNone table.now.sizes (shown table.now.sizes table.now.words.items) row)
         (HasContent (shown table.now.sizes table.now.words.items) row)) }

@@ -46,14 +46,16 @@ fn item_place(list: RowList, k: u32) -> Result<Place, Memory>
 }
 
 fn item(table: &Table, list: RowList, k: u32) -> Result<u64, Memory>
-    ensures { IfOk result (λ n. n ≡ shown table.now.sizes table.now.words.items (item_place list k)) }
+    ensures { IfOk result
+        (λ n. n ≡ shown table.now.sizes table.now.words.items (item_place list k)) }
 {
     let place = item_place(list, k)?;
     Ok(table.load(&place))
 }
 
 fn count(table: &Table, list: RowList) -> Result<u32, Memory>
-    ensures { IfOk result (λ n. n ≡ shown table.now.sizes table.now.words.items (count_place list)) }
+    ensures { IfOk result
+        (λ n. n ≡ shown table.now.sizes table.now.words.items (count_place list)) }
 {
     narrow(table.load(&count_place(list)))
 }
@@ -64,7 +66,10 @@ pub(crate) fn rows_of(
     table: &Table,
     list: RowList,
 ) -> Result<Option<Vec<u32>>, Memory>
-    ensures { IfOk result (λ o. MatchOption o (IsPast table.now.sizes (shown table.now.sizes table.now.words.items) list) (λ v. IsList table.now.sizes (shown table.now.sizes table.now.words.items) list v.items)) }
+    ensures { IfOk result
+        (λ o. MatchOption o
+        (IsPast table.now.sizes (shown table.now.sizes table.now.words.items) list)
+        (λ v. IsList table.now.sizes (shown table.now.sizes table.now.words.items) list v.items)) }
 {
     let mut rows = Vec::new(alloc);
     for k in 0..count(table, list)? {

@@ -9,8 +9,8 @@ use std::collections::LinkedList;
 use std::test::Fail;
 use term_model::{Head, Symbol};
 
-// How the schedules end: how many made the term before the collection, after it, and how many found the other seat in the way, the
-// creator, the collector, or each; and how many went wrong.
+// How the schedules end: how many made the term before the collection, after it, and how many found
+// the other seat in the way, the creator, the collector, or each; and how many went wrong.
 #[derive(Clone, Copy, Debug, PartialEq, Eq)]
 struct Tally {
     before: u32,
@@ -71,7 +71,8 @@ fn made(
     Ok(notes)
 }
 
-// The collector's entries: it has made constant 1 in row 0 and left; then its collection, of this number, kept this row.
+// The collector's entries: it has made constant 1 in row 0 and left; then its collection, of this
+// number, kept this row.
 fn collected(alloc: Global, number: u64, kept: Option<u32>) -> Result<LinkedList<Entry>, Memory> {
     let mut notes = made(alloc, 1, 1, 0, None)?;
     notes.push_back(Entry::Collect {
@@ -92,9 +93,10 @@ fn notes(course: &Course, seat: u32) -> Result<LinkedList<Entry>, Memory> {
     }
 }
 
-// How a schedule ended. A creation before the collection draws the second place: it makes row 1 under number 1 + 1, and the
-// collection has the number 1 + 2. A collection that comes first has the number 1 + 1; the base is then 3 and both rows are free, so
-// the creation makes row 0 under number 3.
+// How a schedule ended. A creation before the collection draws the second place: it makes row 1
+// under number 1 + 1, and the collection has the number 1 + 2. A collection that comes first has
+// the number 1 + 1; the base is then 3 and both rows are free, so the creation makes row 0 under
+// number 3.
 fn ended(course: &Course) -> Result<Tally, Memory> {
     let alloc = course.alloc;
     let creators = notes(course, CREATOR)?;
@@ -168,19 +170,23 @@ fn explored(course: Course, turns: &[u32], more: u32) -> Result<Tally, Memory> {
     Ok(added(tally, rest))
 }
 
-// A creation that comes first takes 19 steps, and one after the collection two fewer, since the chain is empty. The collector takes,
-// asks and peeks; then it makes 32 steps up to the store of the claim, unasks and gives. In which order the two programs can come was
-// counted by a program that knows the lock alone, and by hand:
-// - Before: the peek comes after the 19 steps, and the ask after the look, in gap g of them from 2 on, with the take in one of g + 1
-//   gaps: 3 + 4 + .. + 20.
-// - After: the look comes after the unask. After the give the raise has 35 gaps since the peek; between the two it has 34, and the
-//   give 16 among what is left of the creation: 35 + 34 * 16.
-// - The creator is kept out where it looks between the ask and the unask. After the peek, in gap g of 33, the raise has g + 1 gaps and
-//   the lower 35 - g; before the peek all of it fits in 3 ways: 7,667 + 3.
-// - The collector is kept out where the creator is in at the peek: with the ask in gap a from 2 to 18 of the 19 steps, and the peek in
-//   gap p from a to 18, the take has a + 1 gaps, and the unask and the give have (20 - p) * (21 - p) / 2; or all but the give comes
-//   before the look: 38,097 + 57.
-// - Both are kept out where the creator looks while it is asked, and is seen: 9 ways with the look before the peek, and 9 after it.
+// A creation that comes first takes 19 steps, and one after the collection two fewer, since the
+// chain is empty. The collector takes, asks and peeks; then it makes 32 steps up to the store of
+// the claim, unasks and gives. In which order the two programs can come was counted by a program
+// that knows the lock alone, and by hand:
+// - Before: the peek comes after the 19 steps, and the ask after the look, in gap g of them from 2
+//   on, with the take in one of g + 1 gaps: 3 + 4 + .. + 20.
+// - After: the look comes after the unask. After the give the raise has 35 gaps since the peek;
+//   between the two it has 34, and the give 16 among what is left of the creation: 35 + 34 * 16.
+// - The creator is kept out where it looks between the ask and the unask. After the peek, in gap g
+//   of 33, the raise has g + 1 gaps and the lower 35 - g; before the peek all of it fits in 3 ways:
+//   7,667 + 3.
+// - The collector is kept out where the creator is in at the peek: with the ask in gap a from 2 to
+//   18 of the 19 steps, and the peek in gap p from a to 18, the take has a + 1 gaps, and the unask
+//   and the give have (20 - p) * (21 - p) / 2; or all but the give comes before the look: 38,097 +
+//   57.
+// - Both are kept out where the creator looks while it is asked, and is seen: 9 ways with the look
+//   before the peek, and 9 after it.
 #[test]
 fn every_schedule_of_a_creation_and_a_collection_is_legal(rt: HostRuntime) -> Result<(), Fail> {
     let alloc = rt.alloc();

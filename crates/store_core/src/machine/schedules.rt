@@ -26,8 +26,9 @@ pub(crate) const CREATOR: u32 = 0;
 
 pub(crate) const COLLECTOR: u32 = 1;
 
-// A store, and how far the two programs have come: how often the creator has stored its protected rows, whether it has left; whether
-// the collector has begun to leave, and has left; and whether a step was refused that ought to be in place.
+// A store, and how far the two programs have come: how often the creator has stored its protected
+// rows, whether it has left; whether the collector has begun to leave, and has left; and whether a
+// step was refused that ought to be in place.
 #[derive(Drop)]
 pub(crate) struct Course {
     pub(crate) alloc: Global,
@@ -91,8 +92,9 @@ impl Course {
         Ok(())
     }
 
-    /// The next step of a seat's program. Where the lock hasn't let it in, that is the load of the base, and is out of place: then it
-    /// clears its flag, and gives up. None where the program is over.
+    /// The next step of a seat's program. Where the lock hasn't let it in, that is the load of the
+    /// base, and is out of place: then it clears its flag, and gives up. None where the program is
+    /// over.
     pub(crate) fn turn(&mut self, seat: u32) -> Result<bool, Memory> {
         let Some(step) = self.next(seat)? else {
             return Ok(false);

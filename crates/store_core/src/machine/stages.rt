@@ -107,7 +107,8 @@ pub(crate) fn after_compared(
     k: u32,
     word: u64,
 ) -> Result<View, Memory>
-    ensures { IfOk result (λ v. v ≡ (machine.action view (Comparing content drawn from old at k)).moved word) }
+    ensures { IfOk result
+        (λ v. v ≡ (machine.action view (Comparing content drawn from old at k)).moved word) }
 {
     let same = word == word_at(words_of(&content)?.as_slice(), k);
     if same {
@@ -131,7 +132,8 @@ pub(crate) fn after_passed(
     differs: (u32, u64),
     word: u64,
 ) -> Result<View, Memory>
-    ensures { IfOk result (λ v. v ≡ (machine.action view (Passing content drawn from old at differs)).moved word) }
+    ensures { IfOk result
+        (λ v. v ≡ (machine.action view (Passing content drawn from old at differs)).moved word) }
 {
     let next_at = narrow(word)?;
     let passed = next(view.passed)?;
@@ -156,7 +158,8 @@ pub(crate) fn after_filled(
     k: u32,
     word: u64,
 ) -> Result<View, Memory>
-    ensures { IfOk result (λ v. v ≡ (machine.action view (Filling content from index row k)).moved word) }
+    ensures { IfOk result
+        (λ v. v ≡ (machine.action view (Filling content from index row k)).moved word) }
 {
     let _stored = word;
     Ok(with_call(view, filled(content, from, index, row, k)?))

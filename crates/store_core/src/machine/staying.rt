@@ -1,4 +1,5 @@
-//! What a seat still knows when its epoch ends: what its protected rows lead to by the words that it knows.
+//! What a seat still knows when its epoch ends: what its protected rows lead to by the words that
+//! it knows.
 ghost use Rattle.std.specs.Prelude.{◌≡◌, ◌∷◌, ◌++◌, [], if◌then◌else◌, IfOk, nat_lt, ◌+◌};
 ghost use Rattle.std.specs.List.{list_any};
 ghost use Rattle.store_model.specs.Machine.{rows_kept, words_kept};
@@ -58,7 +59,10 @@ fn look_on(words: &[KnownWord], rows: Vec<u32>) -> Result<Vec<u32>, Memory>
 
 // The rows, with the one that a word adds.
 fn with_next(words: &[KnownWord], mut rows: Vec<u32>, word: &KnownWord) -> Result<Vec<u32>, Memory>
-    ensures { IfOk result (λ more. more.items ≡ (if is_next words.now rows.items word.now then rows.items ++ word.now.value ∷ [] else rows.items)) }
+    ensures { IfOk result
+        (λ more. more.items
+        ≡ (if is_next words.now rows.items word.now then rows.items ++ word.now.value
+        ∷ [] else rows.items)) }
 {
     if is_next(words, rows.as_slice(), word) {
         rows.push(narrow(word.value)?)?;

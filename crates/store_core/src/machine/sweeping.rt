@@ -1,4 +1,5 @@
-//! What a collection of constants loads and stores, in a store of two rows, one bucket and two seats.
+//! What a collection of constants loads and stores, in a store of two rows, one bucket and two
+//! seats.
 use crate::machine::acting::same_place;
 use crate::machine::copies::copy_step;
 use faults::Memory;
@@ -46,7 +47,8 @@ fn is_protected(loads: &LinkedList<(Place, u64)>, row: u32) -> bool {
     })
 }
 
-/// What a collection of constants stores: a chain of the protected rows, the other rows as free places, and the next base.
+/// What a collection of constants stores: a chain of the protected rows, the other rows as free
+/// places, and the next base.
 pub(crate) fn stores_for(
     alloc: Global,
     loads: &LinkedList<(Place, u64)>,

@@ -12,7 +12,8 @@ use faults::Memory;
 use std::alloc::Global;
 use store_model::{Place, Sizes};
 
-/// The words of a store. Those of the lock, before them, stay 0: the machine has the lock beside them.
+/// The words of a store. Those of the lock, before them, stay 0: the machine has the lock beside
+/// them.
 #[derive(Drop)]
 pub(crate) struct Table {
     pub(crate) sizes: Sizes,
@@ -68,7 +69,8 @@ fn rows_before(sizes: &Sizes, row: u32) -> usize
 // Where a row begins.
 fn row_start(sizes: &Sizes, row: u32) -> usize
     requires { (total sizes.now < 2 ^ 62) × (row < sizes.now.rows) }
-    ensures word { result ≡ 1 + 2 * sizes.now.seats + 4 + sizes.now.rows + sizes.now.buckets + row * (widest sizes.now + 4) }
+    ensures word { result ≡ 1 + 2 * sizes.now.seats + 4 + sizes.now.rows + sizes.now.buckets
+        + row * (widest sizes.now + 4) }
     ensures room { result < 2 ^ 63 }
 {
     first_word(sizes) + 4 + sizes.rows as usize + sizes.buckets as usize + rows_before(sizes, row)
@@ -77,7 +79,8 @@ fn row_start(sizes: &Sizes, row: u32) -> usize
 // Where a seat's protected rows begin: with their count.
 fn roots_start(sizes: &Sizes, seat: u32) -> usize
     requires { (total sizes.now < 2 ^ 62) × (seat < sizes.now.seats) }
-    ensures word { result ≡ 1 + 2 * sizes.now.seats + 4 + sizes.now.rows + sizes.now.buckets + sizes.now.rows * (widest sizes.now + 4) + seat * (sizes.now.depth + 1) }
+    ensures word { result ≡ 1 + 2 * sizes.now.seats + 4 + sizes.now.rows + sizes.now.buckets
+        + sizes.now.rows * (widest sizes.now + 4) + seat * (sizes.now.depth + 1) }
     ensures room { result < 2 ^ 63 }
 {
     first_word(sizes)
@@ -91,7 +94,8 @@ fn roots_start(sizes: &Sizes, seat: u32) -> usize
 // The word of a place, where the table has it.
 fn index(sizes: &Sizes, place: &Place) -> Option<usize>
     requires { total sizes.now < 2 ^ 62 }
-    ensures { MatchOption result (in_table sizes.now place.now ≡ false) (λ k. IsPlaceOf sizes.now place.now k) }
+    ensures { MatchOption result (in_table sizes.now place.now ≡ false)
+        (λ k. IsPlaceOf sizes.now place.now k) }
 {
     match place {
         Place::Base => Some(first_word(sizes)),
@@ -110,7 +114,8 @@ fn index(sizes: &Sizes, place: &Place) -> Option<usize>
 
 fn free_place(sizes: &Sizes, i: u32) -> Option<usize>
     requires { total sizes.now < 2 ^ 62 }
-    ensures { MatchOption result (in_table sizes.now (FreePlace i) ≡ false) (λ w. IsPlaceOf sizes.now (FreePlace i) w) }
+    ensures { MatchOption result (in_table sizes.now (FreePlace i) ≡ false)
+        (λ w. IsPlaceOf sizes.now (FreePlace i) w) }
 {
     if i >= sizes.rows {
         return None;
@@ -120,7 +125,8 @@ fn free_place(sizes: &Sizes, i: u32) -> Option<usize>
 
 fn bucket(sizes: &Sizes, b: u32) -> Option<usize>
     requires { total sizes.now < 2 ^ 62 }
-    ensures { MatchOption result (in_table sizes.now (Bucket b) ≡ false) (λ w. IsPlaceOf sizes.now (Bucket b) w) }
+    ensures { MatchOption result (in_table sizes.now (Bucket b) ≡ false)
+        (λ w. IsPlaceOf sizes.now (Bucket b) w) }
 {
     if b >= sizes.buckets {
         return None;
@@ -130,7 +136,8 @@ fn bucket(sizes: &Sizes, b: u32) -> Option<usize>
 
 fn row_word(sizes: &Sizes, r: u32, k: u32) -> Option<usize>
     requires { total sizes.now < 2 ^ 62 }
-    ensures { MatchOption result (in_table sizes.now (RowWord r k) ≡ false) (λ w. IsPlaceOf sizes.now (RowWord r k) w) }
+    ensures { MatchOption result (in_table sizes.now (RowWord r k) ≡ false)
+        (λ w. IsPlaceOf sizes.now (RowWord r k) w) }
 {
     if r >= sizes.rows || k as usize >= widest(sizes) + 2 {
         return None;
@@ -140,7 +147,8 @@ fn row_word(sizes: &Sizes, r: u32, k: u32) -> Option<usize>
 
 fn birth(sizes: &Sizes, r: u32) -> Option<usize>
     requires { total sizes.now < 2 ^ 62 }
-    ensures { MatchOption result (in_table sizes.now (Birth r) ≡ false) (λ w. IsPlaceOf sizes.now (Birth r) w) }
+    ensures { MatchOption result (in_table sizes.now (Birth r) ≡ false)
+        (λ w. IsPlaceOf sizes.now (Birth r) w) }
 {
     if r >= sizes.rows {
         return None;
@@ -150,7 +158,8 @@ fn birth(sizes: &Sizes, r: u32) -> Option<usize>
 
 fn next(sizes: &Sizes, r: u32) -> Option<usize>
     requires { total sizes.now < 2 ^ 62 }
-    ensures { MatchOption result (in_table sizes.now (Next r) ≡ false) (λ w. IsPlaceOf sizes.now (Next r) w) }
+    ensures { MatchOption result (in_table sizes.now (Next r) ≡ false)
+        (λ w. IsPlaceOf sizes.now (Next r) w) }
 {
     if r >= sizes.rows {
         return None;
@@ -160,7 +169,8 @@ fn next(sizes: &Sizes, r: u32) -> Option<usize>
 
 fn root_count(sizes: &Sizes, j: u32) -> Option<usize>
     requires { total sizes.now < 2 ^ 62 }
-    ensures { MatchOption result (in_table sizes.now (RootCount j) ≡ false) (λ w. IsPlaceOf sizes.now (RootCount j) w) }
+    ensures { MatchOption result (in_table sizes.now (RootCount j) ≡ false)
+        (λ w. IsPlaceOf sizes.now (RootCount j) w) }
 {
     if j >= sizes.seats {
         return None;
@@ -170,7 +180,8 @@ fn root_count(sizes: &Sizes, j: u32) -> Option<usize>
 
 fn root(sizes: &Sizes, j: u32, k: u32) -> Option<usize>
     requires { total sizes.now < 2 ^ 62 }
-    ensures { MatchOption result (in_table sizes.now (Root j k) ≡ false) (λ w. IsPlaceOf sizes.now (Root j k) w) }
+    ensures { MatchOption result (in_table sizes.now (Root j k) ≡ false)
+        (λ w. IsPlaceOf sizes.now (Root j k) w) }
 {
     if j >= sizes.seats || k >= sizes.depth {
         return None;
@@ -190,7 +201,8 @@ impl Table {
     pub(crate) fn new(alloc: Global, sizes: &Sizes) -> Result<Table, Memory>
         requires { total sizes.now < 2 ^ 62 }
         ensures sizes { IfOk result (λ t. t.sizes ≡ sizes.now) }
-        ensures words { IfOk result (λ t. IsBegun t.sizes t.sizes.rows (shown t.sizes t.words.items)) }
+        ensures words { IfOk result
+            (λ t. IsBegun t.sizes t.sizes.rows (shown t.sizes t.words.items)) }
     {
         let zeros = Table::zeros(alloc, sizes)?;
         Ok(zeros.begun().with_free_places())
@@ -256,7 +268,8 @@ impl Table {
     pub(crate) fn store(&mut self, place: &Place, word: u64)
         requires { in_table self.old.sizes place.now ≡ true }
         ensures sizes { self.new.sizes ≡ self.old.sizes }
-        ensures words { shown self.new.sizes self.new.words.items ≡ write (shown self.old.sizes self.old.words.items) place.now word }
+        ensures words { shown self.new.sizes self.new.words.items
+            ≡ write (shown self.old.sizes self.old.words.items) place.now word }
     {
         if let Some(at) = index(&self.sizes, place) {
             self.words[at] = word;

@@ -27,7 +27,8 @@ struct Creator {
     todo: Option<u32>,
 }
 
-// Of the orders in which two creators can make their actions: how many there are, and how many of them end badly.
+// Of the orders in which two creators can make their actions: how many there are, and how many of
+// them end badly.
 #[derive(Clone, Copy, Debug, PartialEq, Eq)]
 struct Tally {
     orders: u32,
@@ -197,9 +198,10 @@ fn a_creation_alone_takes_ten_actions(rt: HostRuntime) -> Result<(), Fail> {
     Ok(())
 }
 
-// Constants 0 and 1 stand in different buckets of two, so each creation takes its ten actions whatever the other does: the load of
-// the head, of the claim and of the free count, the draw, the load of the free place, the stores of two words, of the birth number
-// and of the link, and the exchange. There are 20 over 10 orders.
+// Constants 0 and 1 stand in different buckets of two, so each creation takes its ten actions
+// whatever the other does: the load of the head, of the claim and of the free count, the draw, the
+// load of the free place, the stores of two words, of the birth number and of the link, and the
+// exchange. There are 20 over 10 orders.
 #[test]
 fn every_order_of_two_creations_in_two_buckets_is_legal(rt: HostRuntime) -> Result<(), Fail> {
     let tally = all_orders(rt.alloc(), 0, 1)?;
@@ -213,7 +215,8 @@ fn every_order_of_two_creations_in_two_buckets_is_legal(rt: HostRuntime) -> Resu
     Ok(())
 }
 
-// Constants 0 and 2 stand in one bucket of two: a lost exchange walks the new part of the chain, and publishes again.
+// Constants 0 and 2 stand in one bucket of two: a lost exchange walks the new part of the chain,
+// and publishes again.
 #[test]
 fn every_order_of_two_creations_in_one_bucket_is_legal(rt: HostRuntime) -> Result<(), Fail> {
     let tally = all_orders(rt.alloc(), 0, 2)?;

@@ -56,7 +56,8 @@ pub(crate) fn first_loaded(place: &Place, loads: &[(Place, u64)]) -> Option<u64>
 
 // Whether the present word of a place was loaded from it first.
 fn is_loaded(table: &Table, loads: &[(Place, u64)], place: &Place) -> bool
-    ensures { IsTrue result ↔ IsLoadedRight (shown table.now.sizes table.now.words.items) loads.now place.now }
+    ensures { IsTrue result
+        ↔ IsLoadedRight (shown table.now.sizes table.now.words.items) loads.now place.now }
 {
     match first_loaded(place, loads) {
         Some(value) => value == table.load(place),
@@ -66,7 +67,9 @@ fn is_loaded(table: &Table, loads: &[(Place, u64)], place: &Place) -> bool
 
 // Whether so many words of a line were loaded.
 fn is_line_loaded(table: &Table, loads: &[(Place, u64)], line: &Line, count: u32) -> bool
-    ensures { MatchBool result (LoadsLine (shown table.now.sizes table.now.words.items) loads.now line.now count) (LoadsLine (shown table.now.sizes table.now.words.items) loads.now line.now count → ⊥) }
+    ensures { MatchBool result
+        (LoadsLine (shown table.now.sizes table.now.words.items) loads.now line.now count)
+        (LoadsLine (shown table.now.sizes table.now.words.items) loads.now line.now count → ⊥) }
 {
     for k in 0..count {
         if !is_loaded(table, loads, &place_on(line, k)) {
@@ -78,7 +81,10 @@ fn is_line_loaded(table: &Table, loads: &[(Place, u64)], line: &Line, count: u32
 
 // Whether the words of all rows were loaded.
 fn are_words_loaded(table: &Table, loads: &[(Place, u64)], width: u32) -> bool
-    ensures { MatchBool result ((r : ℕ) → r < table.now.sizes.rows → LoadsLine (shown table.now.sizes table.now.words.items) loads.now (Words r) width) (((r : ℕ) → r < table.now.sizes.rows → LoadsLine (shown table.now.sizes table.now.words.items) loads.now (Words r) width) → ⊥) }
+    ensures { MatchBool result ((r : ℕ) → r < table.now.sizes.rows
+        → LoadsLine (shown table.now.sizes table.now.words.items) loads.now (Words r) width)
+        (((r : ℕ) → r < table.now.sizes.rows
+        → LoadsLine (shown table.now.sizes table.now.words.items) loads.now (Words r) width) → ⊥) }
 {
     for row in 0..table.sizes.rows {
         if !is_line_loaded(table, loads, &Line::Words(row), width) {
@@ -90,7 +96,13 @@ fn are_words_loaded(table: &Table, loads: &[(Place, u64)], width: u32) -> bool
 
 // Whether the protected rows of all seats were loaded.
 fn are_roots_loaded(table: &Table, loads: &[(Place, u64)]) -> Result<bool, Memory>
-    ensures { IfOk result (λ b. MatchBool b ((j : ℕ) → j < table.now.sizes.seats → LoadsLine (shown table.now.sizes table.now.words.items) loads.now (Roots j) (shown table.now.sizes table.now.words.items (RootCount j))) (((j : ℕ) → j < table.now.sizes.seats → LoadsLine (shown table.now.sizes table.now.words.items) loads.now (Roots j) (shown table.now.sizes table.now.words.items (RootCount j))) → ⊥)) }
+    ensures { IfOk result
+        (λ b. MatchBool b ((j : ℕ) → j < table.now.sizes.seats
+        → LoadsLine (shown table.now.sizes table.now.words.items) loads.now (Roots j)
+        (shown table.now.sizes table.now.words.items (RootCount j)))
+        (((j : ℕ) → j < table.now.sizes.seats
+        → LoadsLine (shown table.now.sizes table.now.words.items) loads.now (Roots j)
+        (shown table.now.sizes table.now.words.items (RootCount j))) → ⊥)) }
 {
     for seat in 0..table.sizes.seats {
         let count = narrow(table.load(&Place::RootCount(seat)))?;
@@ -103,7 +115,9 @@ fn are_roots_loaded(table: &Table, loads: &[(Place, u64)]) -> Result<bool, Memor
 
 /// Whether a collection has loaded all words.
 pub(crate) fn is_whole(table: &Table, loads: &[(Place, u64)]) -> Result<bool, Memory>
-    ensures { IfOk result (λ b. IsTrue b ↔ IsWhole table.now.sizes (shown table.now.sizes table.now.words.items) loads.now) }
+    ensures { IfOk result
+        (λ b. IsTrue b
+        ↔ IsWhole table.now.sizes (shown table.now.sizes table.now.words.items) loads.now) }
 {
     let count = narrow(table.load(&Place::FreeCount))?;
     let width = narrow(widest_of(&table.sizes) + 2)?;
@@ -116,7 +130,10 @@ pub(crate) fn is_whole(table: &Table, loads: &[(Place, u64)]) -> Result<bool, Me
 }
 
 fn are_singles_loaded(table: &Table, loads: &[(Place, u64)]) -> bool
-    ensures { IsTrue result ↔ IsLoadedRight (shown table.now.sizes table.now.words.items) loads.now Base × IsLoadedRight (shown table.now.sizes table.now.words.items) loads.now Claim × IsLoadedRight (shown table.now.sizes table.now.words.items) loads.now FreeCount × IsLoadedRight (shown table.now.sizes table.now.words.items) loads.now InUse }
+    ensures { IsTrue result ↔ IsLoadedRight (shown table.now.sizes table.now.words.items) loads.now
+        Base × IsLoadedRight (shown table.now.sizes table.now.words.items) loads.now Claim
+        × IsLoadedRight (shown table.now.sizes table.now.words.items) loads.now FreeCount
+        × IsLoadedRight (shown table.now.sizes table.now.words.items) loads.now InUse }
 {
     is_loaded(table, loads, &Place::Base)
         && is_loaded(table, loads, &Place::Claim)
@@ -125,7 +142,13 @@ fn are_singles_loaded(table: &Table, loads: &[(Place, u64)]) -> bool
 }
 
 fn are_lines_loaded(table: &Table, loads: &[(Place, u64)], count: u32) -> bool
-    ensures { IsTrue result ↔ LoadsLine (shown table.now.sizes table.now.words.items) loads.now FreePlaces count × LoadsLine (shown table.now.sizes table.now.words.items) loads.now Buckets table.now.sizes.buckets × LoadsLine (shown table.now.sizes table.now.words.items) loads.now Births table.now.sizes.rows × LoadsLine (shown table.now.sizes table.now.words.items) loads.now Nexts table.now.sizes.rows × LoadsLine (shown table.now.sizes table.now.words.items) loads.now RootCounts table.now.sizes.seats }
+    ensures { IsTrue result ↔ LoadsLine (shown table.now.sizes table.now.words.items) loads.now
+        FreePlaces count × LoadsLine (shown table.now.sizes table.now.words.items) loads.now Buckets
+        table.now.sizes.buckets × LoadsLine (shown table.now.sizes table.now.words.items) loads.now
+        Births table.now.sizes.rows × LoadsLine (shown table.now.sizes table.now.words.items)
+        loads.now Nexts table.now.sizes.rows
+        × LoadsLine (shown table.now.sizes table.now.words.items) loads.now RootCounts
+        table.now.sizes.seats }
 {
     is_line_loaded(table, loads, &Line::FreePlaces, count)
         && is_line_loaded(table, loads, &Line::Buckets, table.sizes.buckets)
