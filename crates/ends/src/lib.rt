@@ -13,6 +13,3 @@ pub use memory_sink::MemSink;
 pub use memory_source::MemSource;
 pub use sink::{Sink, WriteFault, write_all};
 pub use source::{Failed, ReadAllFault, Source, read_all};
-
-#[cfg(test)]
-mod tests;

@@ -9,9 +9,6 @@ ghost use Rattle.hash_buckets.specs.Worked.{HasHash};
 
 use term_model::{Head, Row};
 
-#[cfg(test)]
-mod tests;
-
 /// FNV's offset basis for 64 bits: the hash of no words.
 pub const OFFSET_BASIS: u64 = 14695981039346656037;
 

@@ -7,8 +7,6 @@ mod machine;
 mod parts;
 mod reading;
 mod state;
-#[cfg(test)]
-mod tests;
 mod writing;
 
 pub use exclusion::exclusion_holds;

@@ -6,8 +6,6 @@ mod keys;
 pub mod lines;
 mod log;
 mod merging;
-#[cfg(test)]
-mod tests;
 mod verdict;
 pub mod words;
 

@@ -3,8 +3,6 @@
 
 mod drill;
 mod laws;
-#[cfg(test)]
-mod tests;
 
 pub use drill::drill_text;
 pub use faults::Memory;

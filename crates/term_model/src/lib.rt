@@ -6,8 +6,6 @@ ghost use Rattle.term_model.specs.Postorder.{head_of, arity_of};
 
 mod flattened;
 mod laws;
-#[cfg(test)]
-mod tests;
 
 pub use flattened::Flat;
 pub use laws::{distinct_laws, equality_laws, postorder_laws, subtree_laws};

@@ -1,6 +1,7 @@
 //! Worked logs.
 
-use crate::{LogVerdict, ReadFail, check_log};
+use log_check::{LogVerdict, check_log};
+use read_faults::ReadFail;
 use std::test::Fail;
 
 const FIRST: &[u8] = b"# log 2 1\n# caller 0\n# make 1 0 s0\n# make 2 1 s1 0\n# roots 2 1\n# end\n";

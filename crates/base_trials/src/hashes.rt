@@ -1,4 +1,5 @@
-use crate::{bucket, hash};
+//! Hashes of heads over rows, and their buckets.
+use hash_buckets::{bucket, hash};
 use std::test::Fail;
 use term_model::{Head, Row, Symbol};
 

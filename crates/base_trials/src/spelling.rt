@@ -1,7 +1,7 @@
 //! Which items spell a tree.
 
-use crate::{Flat, Head, Item, Symbol};
 use std::test::Fail;
+use term_model::{Flat, Head, Item, Symbol};
 
 const F: Item = Item::App(Symbol(1), 2);
 

@@ -1,4 +1,5 @@
-use crate::{MemSink, MemSource, ReadAllFault, WriteFault, read_all, write_all};
+//! What is read of a source and written to a sink, to the end or up to a fault.
+use ends::{MemSink, MemSource, ReadAllFault, WriteFault, read_all, write_all};
 use std::test::Fail;
 
 // A source, how much of it is read, and what comes of it: `None` for all its bytes.

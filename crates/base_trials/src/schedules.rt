@@ -1,5 +1,5 @@
-// Schedules, and what they come to.
-use crate::{LineFault, schedule, write_state};
+//! Schedules, and what they come to.
+use lock_core::{LineFault, schedule, write_state};
 use std::test::Fail;
 
 #[test]

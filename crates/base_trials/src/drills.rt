@@ -1,5 +1,5 @@
-// Texts written out by hand, and a large one by its length.
-use crate::drill_text;
+//! Texts written out by hand, and a large one by its length.
+use rec_drill::drill_text;
 use std::test::Fail;
 
 #[test]

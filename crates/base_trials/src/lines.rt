@@ -1,5 +1,5 @@
-// Lines written out by hand.
-use crate::{Log, LogText};
+//! Lines written out by hand.
+use log_text::{Log, LogText};
 use std::test::Fail;
 use term_model::{Head, Row, Symbol};
 
