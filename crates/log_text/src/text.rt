@@ -46,7 +46,7 @@ impl LogText {
         Ok(())
     }
 
-    /// The text with the line of a caller behind it, and the lines of its steps.
+    /// The text, and behind it the line of a caller and the lines of its steps.
     pub fn with_caller(self, alloc: Global, caller: u32, steps: Vec<u8>) -> Result<LogText, Memory>
         ensures { IfOk result (λ text. text ≡ self ++ (caller_text caller ++ steps.items)) }
     {
@@ -58,7 +58,7 @@ impl LogText {
         Ok(text)
     }
 
-    /// The text with the last line behind it.
+    /// The text, and behind it the last line.
     pub fn with_end(self, alloc: Global) -> Result<LogText, Memory>
         ensures { IfOk result (λ text. text ≡ self ++ end_text) }
     {

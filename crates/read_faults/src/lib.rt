@@ -1,4 +1,4 @@
-//! What every reader of text answers: why an input isn't read, and why a token isn't taken.
+//! What readers answer: why an input isn't read, and, of text, why a token isn't taken.
 #![tactic(auto)]
 
 mod fail;

@@ -45,7 +45,8 @@ fn note_declared<'a>(
 }
 
 /// Notes what else is wrong with a specification, where names are declared so; `symbols` are its
-/// own, and so many symbols and rules are included.
+/// own, and so many symbols and rules are included. The limits come before the heads: a variable's
+/// sort that is too long is found then, and isn't read at each use.
 fn note_used(
     alloc: Global,
     found: &mut Option<Refusal>,

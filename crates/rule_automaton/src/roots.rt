@@ -61,8 +61,8 @@ pub(crate) fn roots_of(
 }
 
 /// The state from which a search by a rule and those after it goes on, of a tree with the rule's
-/// head: where the head's way from the root leads, if the tree has as many arguments, and else the
-/// rule's start.
+/// head. If the tree has as many arguments as the head's way from the root asks for, they are put
+/// at their places, and it is where that way leads; else it is the rule's start.
 #[inline(always)]
 pub(crate) fn begin<T: Terms>(
     automaton: &Automaton,

@@ -200,7 +200,8 @@ fn sweep_all(
     kept
 }
 
-// Fills a list up to so many words, for which it has room.
+// Makes a list so many words long, with zeros at its end. It has the room, so `resize` takes no
+// memory, and its answer is Ok.
 fn fill_up(words: &mut Vec<u32>, count: u32)
     requires room { count ≤ vec_capacity words.old }
     ensures length { length words.new.items ≡ count }

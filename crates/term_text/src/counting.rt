@@ -27,7 +27,8 @@ pub(crate) struct Tally {
     pub(crate) path: Vec<Visit>,
 }
 
-/// Fills the counts up to so many rows, none of which is counted.
+/// Makes the counts those of so many rows, none of which is counted. There is room for them, so
+/// `resize` takes no memory, and its answer is Ok.
 pub(crate) fn fill_counts(tally: &mut Tally, rows: u32)
     requires clear { IsClear tally.old }
     requires places { HasPlaces tally.old rows }

@@ -38,8 +38,8 @@ impl Model for SizeMarks {
 }
 
 impl SizeMarks {
-    /// Room for a store of so many rows. All the memory that counting needs is taken here, and the
-    /// first count fills it.
+    /// Room for a store of so many rows. All the memory that counting needs is taken here; the
+    /// counts are filled by the first call that counts.
     pub fn new(alloc: Global, rows: u32) -> Result<SizeMarks, Memory>
         ensures { IfOk result (λ marks. marks ≡ rows) }
     {

@@ -70,7 +70,8 @@ fn note_long_in_declarations(found: &mut Option<Refusal>, text: &[u8], declarati
     }
 }
 
-/// Notes the names in declarations that are too long, of all specifications.
+/// Notes the names in declarations that are too long, of all specifications, before all else. Each
+/// specification notes its own once more, with its other limits.
 pub(crate) fn note_long_declared(
     found: &mut Option<Refusal>,
     text: &[u8],
