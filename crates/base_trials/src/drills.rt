@@ -15,8 +15,8 @@ fn one_and_two_terms_have_their_texts(rt: HostRuntime) -> Result<(), Fail> {
     Ok(())
 }
 
-// 216 bytes stand round the terms. A term has 10 bytes and three for each `s(`. Of 65,535 terms the first numbers come
-// to 5957 * 55 + 44 = 327,679, and the second to 5041 * 78 + 7 = 393,205.
+// 216 bytes stand round the terms. A term has 10 bytes and three for each `s(`. Of 65,535 terms the
+// first numbers come to 5957 * 55 + 44 = 327,679, and the second to 5041 * 78 + 7 = 393,205.
 #[test]
 fn many_terms_have_the_length_worked_out(rt: HostRuntime) -> Result<(), Fail> {
     assert_eq!(rt; drill_text(rt.alloc(), 0)?.len(), 216);

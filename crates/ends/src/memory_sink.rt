@@ -39,8 +39,8 @@ impl Model for MemSink {
 }
 
 impl MemSink {
-    /// A sink with this space, whose memory is taken here. It takes at most `most` (1 or more) bytes
-    /// at a write, and fails at the calls with the numbers in `failing`, counted from 1.
+    /// A sink with this space, whose memory is taken here. It takes at most `most` (1 or more)
+    /// bytes at a write, and fails at the calls with the numbers in `failing`, counted from 1.
     pub fn new(alloc: Global, space: usize, most: usize, failing: &[u64]) -> Result<Self, Memory>
         requires { 0 < most }
         ensures { IfOk result (λ s. s ≡ sink_of space most failing.now) }

@@ -9,7 +9,8 @@ use crate::{Failed, Memory, Source};
 use std::alloc::Global;
 use std::marker::Model;
 
-/// A source of bytes in memory. It gives at most so many bytes at a read, and fails at chosen calls.
+/// A source of bytes in memory. It gives at most so many bytes at a read, and fails at chosen
+/// calls.
 #[derive(Drop)]
 pub struct MemSource {
     bytes: Vec<u8>,
@@ -38,8 +39,8 @@ impl Model for MemSource {
 }
 
 impl MemSource {
-    /// A source that gives these bytes, at most `most` (1 or more) at a read, and fails at the calls
-    /// with the numbers in `failing`, counted from 1.
+    /// A source that gives these bytes, at most `most` (1 or more) at a read, and fails at the
+    /// calls with the numbers in `failing`, counted from 1.
     pub fn new(alloc: Global, bytes: &[u8], most: usize, failing: &[u64]) -> Result<Self, Memory>
         requires { 0 < most }
         ensures { IfOk result (λ s. s ≡ source_of bytes.now most failing.now) }

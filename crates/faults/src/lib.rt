@@ -7,7 +7,8 @@ mod refusal;
 pub use refusal::Refusal;
 use std::alloc::{AllocError, AllocFailed};
 
-/// There is no memory. It is the one answer that needs no cause, and no call merges it with another.
+/// There is no memory. It is the one answer that needs no cause, and no call merges it with
+/// another.
 #[derive(Clone, Copy, Debug, PartialEq, Eq)]
 pub struct Memory;
 

@@ -12,14 +12,15 @@ use term_model::{Head, Row};
 /// FNV's offset basis for 64 bits: the hash of no words.
 pub const OFFSET_BASIS: u64 = 14695981039346656037;
 
-/// The symbol word of an integer, which is above the number of each symbol. Those of the empty list and of a cell follow it.
+/// The symbol word of an integer, which is above the number of each symbol. Those of the empty list
+/// and of a cell follow it.
 pub const INTEGER: u64 = 1 << 32;
 
 // FNV's prime for 64 bits.
 const PRIME: u64 = 1099511628211;
 
-/// The hash of a head and its arguments: FNV-1a on words of 64 bits. The words are the symbol word, and then an
-/// integer's value or each argument's row number.
+/// The hash of a head and its arguments: FNV-1a on words of 64 bits. The words are the symbol word,
+/// and then an integer's value or each argument's row number.
 #[tactic(auto, unfolding(crate::specs::Hash::hash_of))]
 pub fn hash(head: Head, args: &[Row]) -> u64
     ensures { result ≡ hash_of head (map (λ row. row.0) args.now) }
@@ -72,8 +73,10 @@ fn with_rows(first: u64, rows: &[Row]) -> u64
 
 /// Equal heads over equal rows stand in one bucket, which is one of those in use.
 pub fn bucket_laws()
-    ensures same { (f g : Head) (rows others : List ℕ) (in_use : ℕ) → f ≡ g → rows ≡ others → bucket_of f rows in_use ≡ bucket_of g others in_use }
-    ensures below { (f : Head) (rows : List ℕ) (in_use : ℕ) → 0 < in_use → bucket_of f rows in_use < in_use }
+    ensures same { (f g : Head) (rows others : List ℕ) (in_use : ℕ) → f ≡ g → rows ≡ others
+        → bucket_of f rows in_use ≡ bucket_of g others in_use }
+    ensures below { (f : Head) (rows : List ℕ) (in_use : ℕ) → 0 < in_use
+        → bucket_of f rows in_use < in_use }
 {}
 
 /// Three hashes with their buckets, which the check computes from the definition.

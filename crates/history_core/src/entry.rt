@@ -9,8 +9,8 @@ use term_model::Head;
 /// What a caller notes of a step that it made on the set of terms. Names are numbers of rows.
 #[derive(Debug, PartialEq, Eq, Clone, Drop)]
 pub enum Entry {
-    /// A creation added a term: the number of the step, the term's head, the names of its arguments,
-    /// and the name that it was given.
+    /// A creation added a term: the number of the step, the term's head, the names of its
+    /// arguments, and the name that it was given.
     Make {
         number: u64,
         head: Head,

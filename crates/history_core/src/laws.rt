@@ -3,7 +3,8 @@
 ghost use Rattle.history_core.specs.Laws.{NotingPutsIn, NothingAtStart, HasTheNoted, LaterGoesAfter, HeldUnlessMade, PairsStay, Insertion, InsertionLeaves, LaterRootsWin, InsertionNow, LastIsPutAtEnd, Appending, NotingKeeps, CollectingKeeps, NotedIsOneMore, OwnOrderStays, RootsAreLast, LegalIsSound, CollectKeepsReached, ProtectedStay, ChronicleIsInOrder, ChronicleIsTheOne, RisingNeverFalls, NotingTells, CollectingTells, NamedAndRootedTell};
 ghost use Rattle.history_core.specs.Recording.{StartIsFaithful, MakeKeeps, FindKeeps, RootsKeep, CollectKeeps};
 
-/// The chronicle has the callers' entries in order, and one entry more is put in at its key's place.
+/// The chronicle has the callers' entries in order, and one entry more is put in at its key's
+/// place.
 pub fn merge_laws()
     ensures puts_in { NotingPutsIn }
     ensures start { NothingAtStart }
@@ -42,15 +43,16 @@ pub fn noting_laws()
     ensures collected { CollectingKeeps }
 {}
 
-/// What the entries of each caller tell of trees, as those that its creations name, grows by one at its end.
+/// What the entries of each caller tell of trees, as those that its creations name, grows by one at
+/// its end.
 pub fn telling_laws()
     ensures noted { NotingTells }
     ensures collected { CollectingTells }
     ensures told { NamedAndRootedTell }
 {}
 
-/// A store that records its names, their birth numbers and what each caller has seen may note each kind of
-/// entry, and its history stays legal.
+/// A store that records its names, their birth numbers and what each caller has seen may note each
+/// kind of entry, and its history stays legal.
 pub fn recording_laws()
     ensures start { StartIsFaithful }
     ensures make { MakeKeeps }

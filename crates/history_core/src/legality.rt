@@ -8,9 +8,9 @@ use crate::{Entry, TermTable};
 use faults::Memory;
 use std::alloc::Global;
 
-/// How many entries of a history, each with its caller, are legal from the start: all of them exactly
-/// where the history is legal, and else the next is the first that is no step. Takes the time of a
-/// look-up for each name in an entry, and for each Collect of a pass over all names.
+/// How many entries of a history, each with its caller, are legal from the start: all of them
+/// exactly where the history is legal, and else the next is the first that is no step. Takes the
+/// time of a look-up for each name in an entry, and for each Collect of a pass over all names.
 pub fn legal_entries(
     alloc: Global,
     rows: u32,

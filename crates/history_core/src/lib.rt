@@ -1,5 +1,5 @@
-//! The history of a store as plain data: the term set of one thread, the entries of its callers, their
-//! merge, and what makes it legal.
+//! The history of a store as plain data: the term set of one thread, the entries of its callers,
+//! their merge, and what makes it legal.
 #![tactic(auto)]
 
 mod entry;

@@ -30,7 +30,8 @@ pub(crate) fn mark_all(slots: &mut Slots, roots: &[LinkedList<u32>], marks: &mut
     requires args { ArgsWithin slots.old }
     requires within { (n : ℕ) → Contains (joined roots.now) n → n < length slots.old }
     ensures same { slots.new ≡ slots.old }
-    ensures marked { AddsAll (children slots.old) (joined roots.now) (replicate (length marks.old) false) marks.new }
+    ensures marked { AddsAll (children slots.old) (joined roots.now)
+        (replicate (length marks.old) false) marks.new }
 {
     marks.clear();
     for names in roots {

@@ -218,7 +218,8 @@ fn name_at(list: &LinkedList<u32>, index: u32) -> u32
 pub(crate) fn keep_marked(slots: &mut Slots, marks: &Marks)
     requires { length marks.now ≡ length slots.old }
     ensures size { length slots.new ≡ length slots.old }
-    ensures kept { (n : ℕ) → slot_at slots.new n ≡ kept_if (is_marked marks.now n) (slot_at slots.old n) }
+    ensures kept { (n : ℕ)
+        → slot_at slots.new n ≡ kept_if (is_marked marks.now n) (slot_at slots.old n) }
 {
     for name in 0..slots.len() {
         if !marks.has(Row(name)) {

@@ -1,4 +1,5 @@
-//! The term set of one thread as a program keeps it, which tells of each entry whether it is a step.
+//! The term set of one thread as a program keeps it, which tells of each entry whether it is a
+//! step.
 
 ghost use Rattle.std.specs.Prelude.{◌≡◌, ◌<◌, ◌↔◌, ℕ, [], List, Some, None, IfOk, OnErr, IsTrue, length, replicate};
 ghost use Rattle.history_core.specs.Entry.{Entry};
@@ -17,8 +18,8 @@ use std::collections::LinkedList;
 use std::marker::Model;
 use term_model::Head;
 
-/// A term set with the root names of so many callers. Contracts see what it has under each name, and
-/// say which sets it shows.
+/// A term set with the root names of so many callers. Contracts see what it has under each name,
+/// and say which sets it shows.
 #[derive(Drop)]
 pub struct TermTable {
     slots: Slots,
@@ -50,8 +51,8 @@ impl TermTable {
         })
     }
 
-    /// Whether an entry of this caller is a step of the set. The table has then the set after it, and
-    /// else is as before. More than 2^32 - 1 arguments are beyond all memory.
+    /// Whether an entry of this caller is a step of the set. The table has then the set after it,
+    /// and else is as before. More than 2^32 - 1 arguments are beyond all memory.
     pub fn step(&mut self, caller: u32, entry: &Entry) -> Result<bool, Memory>
         requires { caller < length self.old.roots }
         ensures decides { IfOk result (Decides self.old self.new caller entry.now) }
@@ -87,7 +88,8 @@ impl TermTable {
 
     fn take_roots(&mut self, caller: u32, names: &LinkedList<u32>) -> Result<bool, Memory>
         requires { caller < length self.old.roots }
-        ensures decides { (seen : ℕ) → IfOk result (Decides self.old self.new caller (Roots seen names.now)) }
+        ensures decides { (seen : ℕ)
+            → IfOk result (Decides self.old self.new caller (Roots seen names.now)) }
         ensures size { IsAsLarge self.old self.new }
         ensures memory { OnErr result (self.new ≡ self.old) }
     {

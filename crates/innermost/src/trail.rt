@@ -112,8 +112,8 @@ pub(crate) fn follow(trail: &mut Trail, steps: &[Step], frames: &[Frame]) -> Res
 /// How many of the first of two positions are the same, where so many are known to be.
 fn find_shared(from: &[u32], to: &[u32], same: usize) -> usize
     requires { HasShared from.now to.now same }
-    ensures moves { moves_of from.now to.now ≡ ups (length from.now - result)
-        ++ downs (drop result to.now) }
+    ensures moves { moves_of from.now to.now
+        ≡ ups (length from.now - result) ++ downs (drop result to.now) }
     ensures low { result ≤ length from.now }
     ensures high { result ≤ length to.now }
 {

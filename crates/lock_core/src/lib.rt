@@ -1,5 +1,5 @@
-//! The busy-forbidden lock of Groote, Laveaux and van Spaendonck (2022) as a pure machine: its steps, the exclusion
-//! that they keep, and schedules of steps as text.
+//! The busy-forbidden lock of Groote, Laveaux and van Spaendonck (2022) as a pure machine: its
+//! steps, the exclusion that they keep, and schedules of steps as text.
 #![tactic(auto)]
 
 mod exclusion;

@@ -8,7 +8,8 @@ ghost use Rattle.lock_core.specs.Lock.{seat_of, Answers};
 use crate::parts::{LockStep, Phase, SeatState, Standing};
 use crate::state::LockState;
 
-/// One step of a seat. `None` exactly where it is out of place, as a step by or on a seat that isn't there.
+/// One step of a seat. `None` exactly where it is out of place, as a step by or on a seat that
+/// isn't there.
 pub fn step(state: &LockState, seat: u32, step: LockStep) -> Option<LockState>
     ensures { Answers state.now seat step result }
 {
@@ -96,7 +97,8 @@ fn take(state: &LockState, i: u32) -> Option<LockState>
 // Whether seat i is the holder, and j is another seat.
 fn names_other(state: &LockState, i: u32, j: u32) -> bool
     requires { i < length state.now.seats }
-    ensures { IsTrue result ↔ ((seat_of state.now i).phase ≡ Holder) × (j < length state.now.seats) × (j ≢ i) }
+    ensures { IsTrue result ↔ ((seat_of state.now i).phase ≡ Holder) × (j < length state.now.seats)
+        × (j ≢ i) }
 {
     state.seat(i).phase == Phase::Holder && j < state.count() && j != i
 }
@@ -160,7 +162,9 @@ fn unask(state: &LockState, i: u32, j: u32) -> Option<LockState>
 
 // Whether every seat but i stands as free.
 fn others_free(state: &LockState, i: u32) -> bool
-    ensures { MatchBool result ((j : ℕ) → j < length state.now.seats → j ≢ i → (seat_of state.now j).standing ≡ Free) ((j : ℕ) × (j < length state.now.seats) × (j ≢ i) × ((seat_of state.now j).standing ≢ Free)) }
+    ensures { MatchBool result ((j : ℕ) → j < length state.now.seats → j ≢ i
+        → (seat_of state.now j).standing ≡ Free) ((j : ℕ) × (j < length state.now.seats) × (j ≢ i)
+        × ((seat_of state.now j).standing ≢ Free)) }
 {
     for j in 0..state.count() {
         if j != i && state.seat(j).standing != Standing::Free {

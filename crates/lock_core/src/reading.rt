@@ -22,7 +22,8 @@ pub struct LineFault {
 
 // The bytes before and after the first byte b.
 fn split_at_byte(bytes: &[u8], b: u8) -> Option<(&[u8], &[u8])>
-    ensures { MatchOption result (Lacks b bytes.now) (λ parts. Lacks b parts.0.now × (bytes.now ≡ parts.0.now ++ b ∷ parts.1.now)) }
+    ensures { MatchOption result (Lacks b bytes.now)
+        (λ parts. Lacks b parts.0.now × (bytes.now ≡ parts.0.now ++ b ∷ parts.1.now)) }
 {
     for (i, x) in bytes.iter().enumerate() {
         if *x == b {
@@ -51,7 +52,8 @@ fn is_decimal(text: &[u8], n: u32) -> bool
 
 // The seat, one of `seats`, whose number a text is.
 fn read_seat(text: &[u8], seats: u32) -> Option<u32>
-    ensures { MatchOption result ((i : ℕ) → i < seats → text.now ≢ decimal i) (λ i. (i < seats) × (text.now ≡ decimal i)) }
+    ensures { MatchOption result ((i : ℕ) → i < seats → text.now ≢ decimal i)
+        (λ i. (i < seats) × (text.now ≡ decimal i)) }
 {
     for i in 0..seats {
         if is_decimal(text, i) {
@@ -63,7 +65,8 @@ fn read_seat(text: &[u8], seats: u32) -> Option<u32>
 
 // The step that is written as one word.
 fn step_alone(word: &[u8]) -> Option<LockStep>
-    ensures { MatchOption result (IsNoStepAlone word.now) (λ x. (word.now ≡ step_text x) × ((n : ℕ) → IsOnSeat n x)) }
+    ensures { MatchOption result (IsNoStepAlone word.now)
+        (λ x. (word.now ≡ step_text x) × ((n : ℕ) → IsOnSeat n x)) }
 {
     match word {
         b"raise" => Some(LockStep::Raise),
@@ -77,7 +80,8 @@ fn step_alone(word: &[u8]) -> Option<LockStep>
 
 // The step on seat j that is written with this word.
 fn step_on(word: &[u8], j: u32) -> Option<LockStep>
-    ensures { MatchOption result (IsNoStepOn word.now) (λ x. (word.now ++ 32 ∷ decimal j ≡ step_text x) × ((n : ℕ) → j < n → IsOnSeat n x)) }
+    ensures { MatchOption result (IsNoStepOn word.now)
+        (λ x. (word.now ++ 32 ∷ decimal j ≡ step_text x) × ((n : ℕ) → j < n → IsOnSeat n x)) }
 {
     match word {
         b"ask" => Some(LockStep::Ask(j)),
@@ -89,7 +93,8 @@ fn step_on(word: &[u8], j: u32) -> Option<LockStep>
 
 // A step, on a seat below `seats` where it is on one.
 fn read_step(text: &[u8], seats: u32) -> Option<LockStep>
-    ensures { MatchOption result ((x : LockStep) → IsOnSeat seats x → text.now ≢ step_text x) (λ x. IsOnSeat seats x × (text.now ≡ step_text x)) }
+    ensures { MatchOption result ((x : LockStep) → IsOnSeat seats x → text.now ≢ step_text x)
+        (λ x. IsOnSeat seats x × (text.now ≡ step_text x)) }
 {
     match split_at_byte(text, b' ') {
         None => step_alone(text),
@@ -99,7 +104,8 @@ fn read_step(text: &[u8], seats: u32) -> Option<LockStep>
 
 // A line: a seat, a space and a step.
 fn read_line(line: &[u8], seats: u32) -> Option<(u32, LockStep)>
-    ensures { MatchOption result (IsBadLine seats line.now) (λ read. IsLine seats line.now read.0 read.1) }
+    ensures { MatchOption result (IsBadLine seats line.now)
+        (λ read. IsLine seats line.now read.0 read.1) }
 {
     let (seat, text) = split_at_byte(line, b' ')?;
     let seat = read_seat(seat, seats)?;
@@ -119,8 +125,9 @@ fn next_line(bytes: &[u8]) -> (&[u8], &[u8])
     }
 }
 
-/// Runs a schedule, a line for each step, from the start of a lock of that many seats. Each line is read before its
-/// step is tried, and the first line that is of a wrong form, or whose step is out of place, is the fault.
+/// Runs a schedule, a line for each step, from the start of a lock of that many seats. Each line is
+/// read before its step is tried, and the first line that is of a wrong form, or whose step is out
+/// of place, is the fault.
 pub fn schedule(bytes: &[u8], seats: u32) -> Result<LockState, LineFault>
     requires { (1 ≤ seats) × (seats ≤ 16) }
     ensures { ComesTo seats (at_start seats) 1 (lines bytes.now) result }
@@ -151,5 +158,6 @@ pub fn schedule(bytes: &[u8], seats: u32) -> Result<LockState, LineFault>
 
 /// A schedule comes to one lock or one fault alone.
 pub fn schedules_have_one_outcome()
-    ensures { (n : ℕ) (l : Lock) (k : ℕ) (ls : List (List ℕ)) (r q : Result Lock LineFault) → n ≤ 16 → ComesTo n l k ls r → ComesTo n l k ls q → r ≡ q }
+    ensures { (n : ℕ) (l : Lock) (k : ℕ) (ls : List (List ℕ)) (r q : Result Lock LineFault) → n ≤ 16
+        → ComesTo n l k ls r → ComesTo n l k ls q → r ≡ q }
 {}

@@ -5,7 +5,8 @@ ghost use Rattle.lock_core.specs.Lock.{at_start, seat_of, with_seat};
 use crate::parts::{Phase, SeatState, Standing};
 use std::marker::Model;
 
-/// A lock of 1 to 16 seats. Contracts see it as plain data: who has the mutex, and the seats in order.
+/// A lock of 1 to 16 seats. Contracts see it as plain data: who has the mutex, and the seats in
+/// order.
 #[derive(Drop)]
 pub struct LockState {
     count: u32,
@@ -32,7 +33,8 @@ const IDLE: SeatState = SeatState {
 };
 
 impl LockState {
-    /// The lock at the start: every seat is out and free, all flags are clear, and the mutex is free.
+    /// The lock at the start: every seat is out and free, all flags are clear, and the mutex is
+    /// free.
     pub fn new(seats: u32) -> LockState
         requires { (1 ≤ seats) × (seats ≤ 16) }
         ensures { result ≡ at_start seats }

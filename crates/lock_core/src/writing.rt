@@ -98,8 +98,8 @@ fn push_state(out: &mut Vec<u8>, state: &LockState) -> Result<(), Memory>
     push_all(out, &[b"\n"])
 }
 
-/// Appends a line for each seat and one for the mutex: `seat I PHASE busy B forbidden F STANDING`, and `mutex I` or
-/// `mutex free`. Without memory nothing is appended.
+/// Appends a line for each seat and one for the mutex: `seat I PHASE busy B forbidden F STANDING`,
+/// and `mutex I` or `mutex free`. Without memory nothing is appended.
 pub fn write_state(state: &LockState, out: &mut Vec<u8>) -> Result<(), Memory>
     ensures ok { OnOk result (out.new.items ≡ out.old.items ++ state_text state.now) }
     ensures err { OnErr result (out.new.items ≡ out.old.items) }

@@ -11,7 +11,8 @@ use std::alloc::Global;
 use std::collections::LinkedList;
 use term_model::{Head, Symbol};
 
-/// What a creation notes: a key, the name of its term, and its head over the names of its arguments.
+/// What a creation notes: a key, the name of its term, and its head over the names of its
+/// arguments.
 #[derive(Drop)]
 pub(crate) struct Creation {
     pub(crate) key: u64,

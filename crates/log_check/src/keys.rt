@@ -43,8 +43,9 @@ fn breaks_at(noted: &[Noted], i: usize) -> bool
     i > 0 && breaks(&noted[i - 1], &noted[i])
 }
 
-/// The line of the first entry whose key breaks the rise of its caller's keys: they never fall, and those of Make and
-/// Collect are above the earlier ones. The entries stand by callers, so each is compared with the one before it.
+/// The line of the first entry whose key breaks the rise of its caller's keys: they never fall, and
+/// those of Make and Collect are above the earlier ones. The entries stand by callers, so each is
+/// compared with the one before it.
 pub(crate) fn first_fall(noted: &[Noted]) -> Option<u64>
     requires { CallersRise noted.now }
     ensures { MatchOption result (Rises noted.now) (IsFirstFall noted.now) }

@@ -1,4 +1,5 @@
-//! A checker of logs: whether what the callers of a store noted of their steps is one legal history.
+//! A checker of logs: whether what the callers of a store noted of their steps is one legal
+//! history.
 #![tactic(auto)]
 
 mod form;

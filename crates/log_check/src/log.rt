@@ -171,8 +171,8 @@ fn bad_line(line: u64) -> ReadFail
     }
 }
 
-/// Reads a log: the lines of the input that have the mark. Refused at the first of a wrong form or out of place, and
-/// after the last line where the log doesn't end.
+/// Reads a log: the lines of the input that have the mark. Refused at the first of a wrong form or
+/// out of place, and after the last line where the log doesn't end.
 pub(crate) fn read_log(alloc: Global, bytes: &[u8]) -> Result<Log, ReadFail>
     ensures read { IfOk result (λ log. log_in bytes.now ≡ Ok log) }
     ensures refused { IfErr result (IsRefused (log_in bytes.now)) }

@@ -21,14 +21,16 @@ pub enum LogVerdict {
     Illegal(u64),
 }
 
-/// Checks a log: what the callers of a store noted of their steps, in the lines of the input that begin with `# `. All
-/// other lines are passed over. The log is good where each caller's keys never fall, those of its Make and Collect are
-/// above its earlier ones, and the entries of all callers, in the order of their keys, are one legal history.
+/// Checks a log: what the callers of a store noted of their steps, in the lines of the input that
+/// begin with `# `. All other lines are passed over. The log is good where each caller's keys never
+/// fall, those of its Make and Collect are above its earlier ones, and the entries of all callers,
+/// in the order of their keys, are one legal history.
 ///
-/// Illegal with the least line whose key breaks the first two rules, else with that of the first entry in the order of
-/// keys that is no step. Refused with kind 15 at the first line of a wrong form, and at the line after the last where
-/// the log has no end. Nothing of the store is used. It takes the time of a sort of the entries and of a look-up for
-/// each name, and for each Collect of a pass over all rows.
+/// Illegal with the least line whose key breaks the first two rules, else with that of the first
+/// entry in the order of keys that is no step. Refused with kind 15 at the first line of a wrong
+/// form, and at the line after the last where the log has no end. Nothing of the store is used. It
+/// takes the time of a sort of the entries and of a look-up for each name, and for each Collect of
+/// a pass over all rows.
 pub fn check_log(alloc: Global, bytes: &[u8]) -> Result<LogVerdict, ReadFail>
     ensures found { IfOk result (IsFound (log_in bytes.now)) }
     ensures refused { IfErr result (IsRefused (log_in bytes.now)) }

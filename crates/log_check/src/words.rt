@@ -29,7 +29,8 @@ pub fn next_word(rest: &[u8]) -> Option<(&[u8], &[u8])>
     Some(first_word(bytes))
 }
 
-/// The number that a word is in decimal, or 2^64 where it is greater; None where it is none, or has leading zeros.
+/// The number that a word is in decimal, or 2^64 where it is greater; None where it is none, or has
+/// leading zeros.
 pub fn capped_number_of(word: &[u8]) -> Option<u128>
     ensures { result ≡ option_map capped (number_in word.now) }
 {

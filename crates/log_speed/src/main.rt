@@ -1,5 +1,5 @@
-//! Reads standard input as a log and says what is found of it: a benchmark of the checker of logs, which
-//! docs/PERFORMANCE.md says how to run.
+//! Reads standard input as a log and says what is found of it: a benchmark of the checker of logs,
+//! which docs/PERFORMANCE.md says how to run.
 #![tactic(auto)]
 
 use log_check::{LogVerdict, ReadFail, check_log};

@@ -12,8 +12,8 @@ use std::alloc::Global;
 use std::marker::Model;
 use term_model::{Head, Row};
 
-/// The lines of the steps that a caller has noted, in order. Where memory lacks for one, all are let go, and the log is lost for
-/// good: contracts see the lines, or None.
+/// The lines of the steps that a caller has noted, in order. Where memory lacks for one, all are
+/// let go, and the log is lost for good: contracts see the lines, or None.
 #[derive(Drop)]
 pub struct Log {
     lines: Option<Vec<u8>>,

@@ -8,8 +8,9 @@ use faults::Memory;
 use std::alloc::Global;
 use std::marker::Model;
 
-/// The text of a log of several callers, in parts: the lines that a caller wrote stay in the memory where it wrote them, so that
-/// none is copied before it is written out. Contracts see the bytes of all parts, in order.
+/// The text of a log of several callers, in parts: the lines that a caller wrote stay in the memory
+/// where it wrote them, so that none is copied before it is written out. Contracts see the bytes of
+/// all parts, in order.
 #[derive(Drop)]
 pub struct LogText {
     parts: Vec<Vec<u8>>,

@@ -7,12 +7,7 @@ use Rattle.node_rows.specs.declared.store.Pass.{Pass}
 use Rattle.node_rows.specs.Passes.{IsStore, IsPass, IsReady}
 use Rattle.node_rows.specs.Told.{view_of}
 
--- it is a store, and a pass of it
-pub record IsPassOf (s : Store) (p : Pass) : Type 0 where
-  pub store : IsStore s.table.shared.table_id s.table.shared.key s.sizes
-  pub pass : IsPass s.table.shared.table_id s.sizes p.seat.seat p.seat.seats
-
--- the table of the store has its words, and its sizes are those that the table was told
+-- a store: its sizes are within their limits, its table was told them, and the table has room for all its words
 abbrev pub IsOpen : Store → Type 0
 IsOpen s = IsStore s.table.shared.table_id s.table.shared.key s.sizes
 
@@ -20,7 +15,12 @@ IsOpen s = IsStore s.table.shared.table_id s.table.shared.key s.sizes
 abbrev pub IsSeated : Store → Pass → Type 0
 IsSeated s p = IsPass s.table.shared.table_id s.sizes p.seat.seat p.seat.seats
 
--- the same pass: its seat of its table, and its number
+-- it is a store, and a pass of it
+pub record IsPassOf (s : Store) (p : Pass) : Type 0 where
+  pub store : IsOpen s
+  pub pass : IsSeated s p
+
+-- the same pass: the same seat of the same table with the same slots, under the same number
 abbrev pub IsSamePass : Pass → Pass → Type 0
 IsSamePass old new = IsSame old.seat.seat new.seat.seat × (new.seat.number ≡ old.seat.number)
 

@@ -104,8 +104,8 @@ fn first_pass(alloc: Global, sizes: &Sizes) -> Result<(Store, Pass), Memory>
     requires sizes { MaySize sizes.now }
     ensures store { IfOk result (λ t. IsOpen t.0 × (t.0.sizes ≡ sizes.now)) }
     ensures pass { IfOk result
-        (λ t. IsNew t.0.table.shared.table_id sizes.now 0 t.1.seat.seat t.1.seat.number
-        t.1.seat.seats × IsFirst 1 t.1.seat.seat) }
+        (λ t. IsNew t.0.table.shared.table_id sizes.now 0 t.1.seat.seat t.1.seat.number t.1.seat.seats
+        × IsFirst 1 t.1.seat.seat) }
     ensures told { IfOk result (λ t. Tells t.1) }
 {
     let words = first_words(alloc, sizes)?;
@@ -130,12 +130,14 @@ fn next_pass(store: &Store, first: &mut Pass, k: u32, room: Room) -> Pass
     requires store { IsOpen store.now }
     requires below { k < store.now.sizes.seats }
     requires first { IsNew store.now.table.shared.table_id store.now.sizes 0 first.old.seat.seat
-        first.old.seat.number first.old.seat.seats × IsFirst k first.old.seat.seat }
+        first.old.seat.number first.old.seat.seats
+        × IsFirst k first.old.seat.seat }
     requires marks { room.marks ≡ replicate store.now.sizes.rows false }
     requires nexts { store.now.sizes.rows ≤ vec_capacity room.nexts }
     requires heads { store.now.sizes.buckets ≤ vec_capacity room.heads }
     ensures first { IsNew store.now.table.shared.table_id store.now.sizes 0 first.new.seat.seat
-        first.new.seat.number first.new.seat.seats × IsFirst (k + 1) first.new.seat.seat }
+        first.new.seat.number first.new.seat.seats
+        × IsFirst (k + 1) first.new.seat.seat }
     ensures told { Tells first.old → Tells first.new }
     ensures new { IsNew store.now.table.shared.table_id store.now.sizes k result.seat.seat
         result.seat.number result.seat.seats }

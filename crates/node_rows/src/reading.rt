@@ -97,8 +97,8 @@ fn store_chosen<X: Chosen>(
     requires of { IsOf table.now.shared.table_id table.now.shared.key seat.old.seat }
     requires may { MayStepOn table.now.shared.key seat.old.number seat.old.seat.me.0 X.step word }
     requires stores { (n : ℕ) → written_by X.step seat.old.seat.me.0.store n ≡ value }
-    requires moves { (m n : ℕ) → moved_by X.step seat.old.seat.me.0.store m ≡ moved_by X.step
-        seat.old.seat.me.0.store n }
+    requires moves { (m n : ℕ) → moved_by X.step seat.old.seat.me.0.store m
+        ≡ moved_by X.step seat.old.seat.me.0.store n }
     ensures of { IsOf table.now.shared.table_id table.now.shared.key seat.new.seat }
     ensures same { IsSame seat.old.seat seat.new.seat
         × (seat.new.number ≡ seat.old.number) × (seat.new.seats ≡ seat.old.seats) }

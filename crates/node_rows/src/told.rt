@@ -35,8 +35,8 @@ pub fn tell_collect(pass: &mut Pass, base: u64, in_use: u64)
     requires base { 0 < base }
     ensures seat { (pass.new.seat ≡ pass.old.seat) × (pass.new.base ≡ base)
         × (pass.new.in_use ≡ in_use) }
-    ensures told { (es : List Entry) (kept : List ℕ) → (view_of pass.old).store.entries ≡ es
-        ++ entry.Collect (pred base) kept ∷ []
+    ensures told { (es : List Entry) (kept : List ℕ)
+        → (view_of pass.old).store.entries ≡ es ++ entry.Collect (pred base) kept ∷ []
         → pred base ≡ (view_of pass.old).store.seen → length pass.old.marks ≡ pass.old.rows
         → ((r : Row) → IsMarked pass.old.marks r ↔ Contains kept r.0) → Tells pass.new }
 {

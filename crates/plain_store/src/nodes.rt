@@ -117,7 +117,8 @@ impl Nodes {
         requires { length arguments.now ≤ self.old.widest }
         ensures free { IfSome result (λ row. slot_at self.old row ≡ None) }
         ensures below { IfSome result (λ row. row.0 < length self.old.slots) }
-        ensures made { IfSome result (λ row. self.new ≡ with_slot self.old row (Some (head, arguments.now))) }
+        ensures made { IfSome result
+            (λ row. self.new ≡ with_slot self.old row (Some (head, arguments.now))) }
         ensures full { IfNone result (IsFull self.old) }
         ensures unchanged { IfNone result (self.new ≡ self.old) }
     {

@@ -70,7 +70,8 @@ impl PlainStore {
     /// The row of the tree of the head over the last `n` places.
     pub(crate) fn find(&self, head: Head, n: u32) -> Option<Row>
         requires { n ≤ length self.now.stack }
-        ensures found { IfSome result (λ row. HasTree (store_of self.now) row (asked (store_of self.now) head n)) }
+        ensures found { IfSome result
+            (λ row. HasTree (store_of self.now) row (asked (store_of self.now) head n)) }
         ensures absent { IfNone result (IsAbsent self.now (asked (store_of self.now) head n)) }
         ensures sound { IsSound (store_of self.now) }
         ensures holds { HoldsReachable self.now }

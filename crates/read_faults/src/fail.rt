@@ -5,7 +5,8 @@ ghost use Rattle.read_faults.specs.declared.fail.ReadFail.TheVariants.{Memory, R
 use faults::Refusal;
 use std::alloc::{AllocError, AllocFailed};
 
-/// Why an input isn't read: it is refused, with a kind and a place in bytes from 0, or there is no memory.
+/// Why an input isn't read: it is refused, with a kind and a place in bytes from 0, or there is no
+/// memory.
 #[derive(Clone, Copy, Debug, PartialEq, Eq)]
 pub enum ReadFail {
     Refused { kind: u8, offset: u64 },

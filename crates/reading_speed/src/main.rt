@@ -1,5 +1,5 @@
-//! Reads standard input as specifications and says how many tokens, specifications and terms it has: a
-//! benchmark of the reader, which docs/PERFORMANCE.md says how to run.
+//! Reads standard input as specifications and says how many tokens, specifications and terms it
+//! has: a benchmark of the reader, which docs/PERFORMANCE.md says how to run.
 #![tactic(auto)]
 
 use rec_reader::{ReadFail, syntax, tokens};

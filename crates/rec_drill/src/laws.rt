@@ -4,9 +4,9 @@ ghost use Rattle.std.specs.List.{slice_split};
 ghost use Rattle.rec_drill.specs.Drill.{first_count, second_count, numeral, term_line, term_lines, drill_lines, drill_bytes};
 ghost use Rattle.rec_drill.specs.Worked.{counts, first_turn, second_turn, text_of_one, three_terms};
 
-/// Cut at its line feeds, the text is its lines, and nothing after the last: 12 lines, a line for each term in order,
-/// and a last line. A number of k has 3 * k + 1 bytes. The terms' numbers repeat after 11 and after 13 terms. A text of
-/// n terms has at most 216 + 76 * n bytes.
+/// Cut at its line feeds, the text is its lines, and nothing after the last: 12 lines, a line for
+/// each term in order, and a last line. A number of k has 3 * k + 1 bytes. The terms' numbers
+/// repeat after 11 and after 13 terms. A text of n terms has at most 216 + 76 * n bytes.
 pub fn drill_laws()
     ensures cut { (n : ℕ) → slice_split (λ b. b == 10) (drill_bytes n) ≡ drill_lines n ++ [] ∷ [] }
     ensures lines { (n : ℕ) → length (drill_lines n) ≡ 12 + n + 1 }

@@ -27,7 +27,8 @@ fn words_of(alloc: Global, args: io::Result<Args>) -> Result<Vec<String>, Memory
     ensures all { IfOk args (λ given. IfOk result (λ words. words.items ≡ into_iter_items given)) }
     ensures no_text { IfErr args (λ fault.
         error_kind fault ≢ ErrorKind.OutOfMemory → IsOkAnd result (λ words. words.items ≡ [])) }
-    ensures no_memory { IfErr args (λ fault. error_kind fault ≡ ErrorKind.OutOfMemory → IsErr result) }
+    ensures no_memory { IfErr args (λ fault. error_kind fault ≡ ErrorKind.OutOfMemory
+        → IsErr result) }
 {
     match args {
         Ok(args) => all_words(alloc, args),

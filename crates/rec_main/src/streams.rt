@@ -1,5 +1,5 @@
-// Readers and writers as the ends of a run. They tell what std's readers and writers tell: nothing of
-// the standard streams, and the bytes of those in memory.
+// Readers and writers as the ends of a run. They tell what std's readers and writers tell: nothing
+// of the standard streams, and the bytes of those in memory.
 ghost use Rattle.std.specs.Prelude.{◌≡◌};
 
 use ends::{Failed, Sink, Source};
@@ -37,7 +37,8 @@ impl<R: Read> Source for Reading<R> {
     }
 }
 
-/// A writer as a sink. Each write is one write of the writer, and one that takes nothing has failed.
+/// A writer as a sink. Each write is one write of the writer, and one that takes nothing has
+/// failed.
 #[derive(Drop)]
 pub struct Writing<W> {
     writer: W,

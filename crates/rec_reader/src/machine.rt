@@ -68,8 +68,9 @@ pub(crate) enum Place {
     Within(Purpose, Part),
 }
 
-/// The place, and what was read so far: whole specifications, the one that is being read, and of its
-/// unfinished part the names, the rule, and the term with its open heads and their counts of arguments.
+/// The place, and what was read so far: whole specifications, the one that is being read, and of
+/// its unfinished part the names, the rule, and the term with its open heads and their counts of
+/// arguments.
 #[derive(Drop)]
 pub(crate) struct Machine {
     pub(crate) place: Place,

@@ -35,8 +35,8 @@ fn run(alloc: Global, tokens: &[Token]) -> Result<Machine, ReadFail>
 
 /// The specifications that tokens spell.
 ///
-/// Refuses with kind 2 the first token such that the tokens up to and with it begin no sentence, at its
-/// place; with kind 3, at the length of the input, tokens that begin a sentence and are none.
+/// Refuses with kind 2 the first token such that the tokens up to and with it begin no sentence, at
+/// its place; with kind 3, at the length of the input, tokens that begin a sentence and are none.
 pub fn syntax<'a>(alloc: Global, tokens: &Tokens<'a>) -> Result<Syntax<'a>, ReadFail>
     ensures bytes { IfOk result (λ s. s.bytes ≡ tokens.now.bytes) }
     ensures sentence { IfOk result (λ s. IsInput tokens.now.tokens s.specifications) }
@@ -95,7 +95,8 @@ fn run_bytes(alloc: Global, bytes: &[u8]) -> Result<Machine, ReadFail>
     Ok(machine)
 }
 
-/// The specifications that bytes spell. It gives what `syntax` gives of their `tokens`, and keeps no token.
+/// The specifications that bytes spell. It gives what `syntax` gives of their `tokens`, and keeps
+/// no token.
 ///
 /// Refuses bytes that have no tokens as `tokens` does, and else as `syntax` does.
 pub fn read(alloc: Global, bytes: &[u8]) -> Result<Syntax<'_>, ReadFail>

@@ -82,7 +82,8 @@ fn comment_length(bytes: &[u8], start: usize) -> usize
     at - start
 }
 
-// Whether the last byte is that of a reserved word. Of most names it isn't, and they need no other test.
+// Whether the last byte is that of a reserved word. Of most names it isn't, and they need no other
+// test.
 fn may_be_word(run: &[u8]) -> bool
     ensures { result ≡ option_map_or ends_word (slice_get run.now (length run.now - 1)) false }
 {
@@ -206,10 +207,10 @@ pub(crate) fn piece_at(bytes: &[u8], at: usize) -> Piece
 
 /// The tokens of bytes, with their places in bytes from 0.
 ///
-/// White space is space, tab, CR and LF; a comment goes from `%` to the next LF or the end. A name is a
-/// longest run of name bytes that is no reserved word. Refuses with kind 1 the first byte where no token,
-/// white space or comment begins. An input of 2^32 bytes or more isn't read, and is answered as want of
-/// memory.
+/// White space is space, tab, CR and LF; a comment goes from `%` to the next LF or the end. A name
+/// is a longest run of name bytes that is no reserved word. Refuses with kind 1 the first byte
+/// where no token, white space or comment begins. An input of 2^32 bytes or more isn't read, and is
+/// answered as want of memory.
 pub fn tokens(alloc: Global, bytes: &[u8]) -> Result<Tokens<'_>, ReadFail>
     ensures bytes { IfOk result (λ t. t.bytes ≡ bytes.now) }
     ensures tokens { IfOk result (λ t. tokens_of bytes.now ≡ Ok t.tokens) }

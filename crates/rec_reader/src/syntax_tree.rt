@@ -1,4 +1,5 @@
-//! What tokens spell: specifications with their declarations, rules and terms, and every name with its place.
+//! What tokens spell: specifications with their declarations, rules and terms, and every name with
+//! its place.
 ghost use Rattle.std.specs.Prelude.{◌≡◌, All};
 ghost use Rattle.rec_reader.specs.Whole.{HasWholeTerms};
 ghost use Rattle.rec_reader.specs.Few.{HasFewLeftNodes};
@@ -118,8 +119,8 @@ impl<'a> Syntax<'a> {
         self.text
     }
 
-    /// The specifications in order. Each list of nodes in them is that of one whole term, and a left side
-    /// has fewer than 2^32 nodes.
+    /// The specifications in order. Each list of nodes in them is that of one whole term, and a
+    /// left side has fewer than 2^32 nodes.
     pub fn as_slice(&self) -> &[Specification]
         ensures specifications { result.now ≡ self.now.specifications }
         ensures whole { All HasWholeTerms self.now.specifications }

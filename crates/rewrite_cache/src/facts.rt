@@ -1,4 +1,5 @@
-//! Worked cached lists, which the definitions compute: the contract of a function that does nothing.
+//! Worked cached lists, which the definitions compute: the contract of a function that does
+//! nothing.
 
 ghost use Rattle.rewrite_cache.specs.Facts.{FourTermsRemembered, FirstTimeIsWhole, SecondTimeIsShorter};
 

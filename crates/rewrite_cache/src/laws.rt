@@ -1,4 +1,5 @@
-//! What is true of all reductions and cached lists, each law the contract of a function that does nothing.
+//! What is true of all reductions and cached lists, each law the contract of a function that does
+//! nothing.
 
 ghost use Rattle.rewrite_cache.specs.Laws.{ReductionsAreKnown, KnownBuildsTheSame, NothingNeedBeLeftOut, NewTreesAreBuilt, CachedListsJoin};
 

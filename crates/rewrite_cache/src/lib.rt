@@ -1,4 +1,5 @@
-//! What is built where results of reductions are remembered: cached lists, and when a result is known.
+//! What is built where results of reductions are remembered: cached lists, and when a result is
+//! known.
 #![tactic(auto)]
 
 mod facts;

@@ -23,7 +23,8 @@ impl Term {
     /// Appends the subtrees, each before those of its arguments.
     #[cycle(listing)]
     pub fn subtrees(&self, alloc: Global, list: &mut Vec<Term>) -> Result<(), Memory>
-        ensures { OnOk result (trees list.new.items ≡ trees list.old.items ++ subtrees_of (tree_of self.now)) }
+        ensures { OnOk result
+            (trees list.new.items ≡ trees list.old.items ++ subtrees_of (tree_of self.now)) }
     {
         list.push(self.copy(alloc)?)?;
         match self {
@@ -56,7 +57,8 @@ impl Arguments {
 
     #[cycle(listing)]
     fn subtrees(&self, alloc: Global, list: &mut Vec<Term>) -> Result<(), Memory>
-        ensures { OnOk result (trees list.new.items ≡ trees list.old.items ++ subtrees_all (trees_in self.now)) }
+        ensures { OnOk result
+            (trees list.new.items ≡ trees list.old.items ++ subtrees_all (trees_in self.now)) }
     {
         match self {
             Arguments::Empty => Ok(()),

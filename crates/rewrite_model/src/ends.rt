@@ -32,7 +32,7 @@ pub(crate) enum NoValue {
 impl From<Memory> for NoValue {
     ghost use Rattle.rewrite_model.specs.declared.ends.NoValue.TheVariants.{Memory};
 
-    ghost from_gives = { λ _ stop. stop ≡ Memory };
+    ghost from_gives = { λ _ cause. cause ≡ Memory };
 
     fn from(_: Memory) -> Self {
         NoValue::Memory
@@ -42,7 +42,7 @@ impl From<Memory> for NoValue {
 impl From<AllocError> for NoValue {
     ghost use Rattle.rewrite_model.specs.declared.ends.NoValue.TheVariants.{Memory};
 
-    ghost from_gives = { λ _ stop. stop ≡ Memory };
+    ghost from_gives = { λ _ cause. cause ≡ Memory };
 
     fn from(_: AllocError) -> Self {
         NoValue::Memory
@@ -52,7 +52,7 @@ impl From<AllocError> for NoValue {
 impl<T: Drop> From<AllocFailed<T>> for NoValue {
     ghost use Rattle.rewrite_model.specs.declared.ends.NoValue.TheVariants.{Memory};
 
-    ghost from_gives = { λ _ stop. stop ≡ Memory };
+    ghost from_gives = { λ _ cause. cause ≡ Memory };
 
     fn from(_: AllocFailed<T>) -> Self {
         NoValue::Memory

@@ -25,8 +25,10 @@ pub fn evaluation(
     fuel: u64,
     room: u32,
 ) -> Result<Evaluated, Memory>
-    ensures built { IfOk result (λ e. trees e.built.items ≡ built_list rules.now term.now fuel room) }
-    ensures end { IfOk result (λ e. ended e.end ≡ (evaluation_of rules.now term.now fuel room).end) }
+    ensures built { IfOk result
+        (λ e. trees e.built.items ≡ built_list rules.now term.now fuel room) }
+    ensures end { IfOk result
+        (λ e. ended e.end ≡ (evaluation_of rules.now term.now fuel room).end) }
 {
     let noted = noted(alloc, rules, term, fuel, room)?;
     let mut built = Vec::new(alloc);
@@ -59,8 +61,10 @@ struct Noting {
 }
 
 fn noted(alloc: Global, rules: &[Rule], term: &Flat, fuel: u64, room: u32) -> Result<Noting, Memory>
-    ensures points { IfOk result (λ n. points_of n.points.items ≡ (evaluation_of rules.now term.now fuel room).notes) }
-    ensures end { IfOk result (λ n. ended n.end ≡ (evaluation_of rules.now term.now fuel room).end) }
+    ensures points { IfOk result
+        (λ n. points_of n.points.items ≡ (evaluation_of rules.now term.now fuel room).notes) }
+    ensures end { IfOk result
+        (λ n. ended n.end ≡ (evaluation_of rules.now term.now fuel room).end) }
 {
     let term = Term::of(alloc, term)?;
     let mut points = Vec::new(alloc);
@@ -92,7 +96,8 @@ fn evaluate(
     room: u32,
     points: &mut Vec<Point>,
 ) -> Result<(Term, u64), NoValue>
-    ensures { Evaluates rules.now bound.now kept.now pattern.now fuel room points.old points.new result }
+    ensures { Evaluates rules.now bound.now kept.now pattern.now fuel room
+        points.old points.new result }
 {
     if room == 0 {
         return Err(NoValue::TooDeep);
@@ -124,7 +129,8 @@ fn evaluate_all(
     room: u32,
     points: &mut Vec<Point>,
 ) -> Result<(Arguments, u64), NoValue>
-    ensures { EvaluatesAll rules.now bound.now kept.now patterns.now fuel room points.old points.new result }
+    ensures { EvaluatesAll rules.now bound.now kept.now patterns.now fuel room
+        points.old points.new result }
 {
     match patterns {
         Arguments::Empty => Ok((Arguments::Empty, fuel)),
@@ -162,7 +168,8 @@ fn hold(
     room: u32,
     points: &mut Vec<Point>,
 ) -> Result<(bool, u64), NoValue>
-    ensures { Holds rules.now bound.now kept.now (drop from conditions.now) fuel room points.old points.new result }
+    ensures { Holds rules.now bound.now kept.now (drop from conditions.now) fuel room
+        points.old points.new result }
 {
     if from >= conditions.len() {
         return Ok((true, fuel));
@@ -229,7 +236,8 @@ fn replace(
     room: u32,
     points: &mut Vec<Point>,
 ) -> Result<(Term, u64), NoValue>
-    ensures { Replaces rules.now bound.now kept.now right.now fuel room points.old points.new result }
+    ensures { Replaces rules.now bound.now kept.now right.now fuel room
+        points.old points.new result }
 {
     match right {
         Term::Var(x) => {
@@ -295,7 +303,8 @@ fn reduce_by(
     room: u32,
     points: &mut Vec<Point>,
 ) -> Result<(Term, u64), NoValue>
-    ensures { ReducesBy rules.now (drop from rules.now) kept.now term fuel room points.old points.new result }
+    ensures { ReducesBy rules.now (drop from rules.now) kept.now term fuel room
+        points.old points.new result }
 {
     if from >= rules.len() {
         return Ok((term, fuel));

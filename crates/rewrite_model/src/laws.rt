@@ -1,4 +1,5 @@
-//! What is true of all matches and evaluations, each law the contract of a function that does nothing.
+//! What is true of all matches and evaluations, each law the contract of a function that does
+//! nothing.
 
 ghost use Rattle.rewrite_model.specs.Laws.{MatchGivesInstance, MatchBindsVariables, InstancesMatch, BeginsWithItself, FuelFalls, MoreFuelIsLeft, SubtreesAreBuilt, OutermostSubtreesAreBuilt, NeedIsBounded, NeedOfAllIsBounded, ValueIsReached, OutermostValueIsReached, ChangeTakesOne, SameTakesNone, OutermostFuelIsSteps, StepsAreAll, NormalHasNone};
 ghost use Rattle.rewrite_model.specs.TraceLaws.{DerivationReaches, EventsLead, EventsMake, EventsAreFewest, EventsReach, EvaluationDerives, TraceLeads, ReplacementsTakeFuel};
@@ -38,7 +39,8 @@ pub fn value_laws()
     ensures outermost { OutermostValueIsReached }
 {}
 
-/// The single steps of a term are those that `steps` lists, and a normal form is a term without any.
+/// The single steps of a term are those that `steps` lists, and a normal form is a term without
+/// any.
 pub fn one_step_laws()
     ensures all { StepsAreAll }
     ensures normal { NormalHasNone }

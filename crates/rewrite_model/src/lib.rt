@@ -1,4 +1,5 @@
-//! The definitions of rewriting: matching, evaluation, what is built, one step, outermost evaluation.
+//! The definitions of rewriting: matching, evaluation, what is built, one step, outermost
+//! evaluation.
 #![tactic(auto)]
 
 mod boxed;

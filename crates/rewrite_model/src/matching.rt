@@ -38,7 +38,8 @@ impl Term {
 impl Arguments {
     #[cycle(instantiating)]
     fn instances(&self, alloc: Global, bound: &[Term]) -> Result<Arguments, Memory>
-        ensures { IfOk result (λ ts. trees_in ts ≡ instances (trees_in self.now) (trees bound.now)) }
+        ensures { IfOk result
+            (λ ts. trees_in ts ≡ instances (trees_in self.now) (trees bound.now)) }
     {
         match self {
             Arguments::Empty => Ok(Arguments::Empty),
@@ -65,7 +66,9 @@ pub(crate) fn tree_at(alloc: Global, variable: u32, bound: &[Term]) -> Result<Te
 
 /// Binds a variable, or tests that it is bound to this tree.
 fn bind(alloc: Global, variable: u32, term: &Term, bound: &mut Vec<Term>) -> Result<bool, Memory>
-    ensures { IfOk result (λ r. IsMatched r (bind_of variable (tree_of term.now) (trees bound.old.items)) (trees bound.new.items)) }
+    ensures { IfOk result
+        (λ r. IsMatched r (bind_of variable (tree_of term.now) (trees bound.old.items))
+        (trees bound.new.items)) }
 {
     let at = variable as usize;
     if at < bound.len() {
@@ -86,7 +89,10 @@ fn match_into(
     term: &Term,
     bound: &mut Vec<Term>,
 ) -> Result<bool, Memory>
-    ensures { IfOk result (λ r. IsMatched r (match_from (tree_of pattern.now) (tree_of term.now) (trees bound.old.items)) (trees bound.new.items)) }
+    ensures { IfOk result
+        (λ r. IsMatched r
+        (match_from (tree_of pattern.now) (tree_of term.now) (trees bound.old.items))
+        (trees bound.new.items)) }
 {
     match (pattern, term) {
         (Term::Var(x), _) => bind(alloc, *x, term, bound),
@@ -107,7 +113,10 @@ fn match_all(
     args: &Arguments,
     bound: &mut Vec<Term>,
 ) -> Result<bool, Memory>
-    ensures { IfOk result (λ r. IsMatched r (match_all_of (trees_in patterns.now) (trees_in args.now) (trees bound.old.items)) (trees bound.new.items)) }
+    ensures { IfOk result
+        (λ r. IsMatched r
+        (match_all_of (trees_in patterns.now) (trees_in args.now) (trees bound.old.items))
+        (trees bound.new.items)) }
 {
     match (patterns, args) {
         (Arguments::Empty, Arguments::Empty) => Ok(true),

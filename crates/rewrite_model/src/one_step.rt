@@ -31,7 +31,8 @@ pub fn steps(alloc: Global, rules: &[Rule], term: &Term) -> Result<Vec<Term>, Me
 
 #[cycle(one_step)]
 fn steps_in(alloc: Global, rules: &[Rule], args: &Arguments) -> Result<Vec<Arguments>, Memory>
-    ensures { IfOk result (λ us. argument_lists us.items ≡ steps_inside rules.now (trees_in args.now)) }
+    ensures { IfOk result
+        (λ us. argument_lists us.items ≡ steps_inside rules.now (trees_in args.now)) }
 {
     let mut list = Vec::new(alloc);
     match args {
@@ -54,7 +55,9 @@ fn at_root(
     term: &Term,
     list: &mut Vec<Term>,
 ) -> Result<(), Memory>
-    ensures { OnOk result (trees list.new.items ≡ trees list.old.items ++ steps_at_root (drop from rules.now) (tree_of term.now)) }
+    ensures { OnOk result
+        (trees list.new.items ≡ trees list.old.items ++ steps_at_root (drop from rules.now)
+        (tree_of term.now)) }
 {
     if from >= rules.len() {
         return Ok(());
@@ -65,7 +68,8 @@ fn at_root(
 
 /// Appends the instance of a rule's right side where the rule matches.
 fn by_rule(alloc: Global, rule: &Rule, term: &Term, list: &mut Vec<Term>) -> Result<(), Memory>
-    ensures { OnOk result (trees list.new.items ≡ trees list.old.items ++ steps_by rule.now (tree_of term.now)) }
+    ensures { OnOk result
+        (trees list.new.items ≡ trees list.old.items ++ steps_by rule.now (tree_of term.now)) }
 {
     let left_side = Term::of(alloc, rule.left())?;
     let Some(bound) = left_side.matches(alloc, term)? else {
@@ -84,7 +88,9 @@ fn over_each(
     from: usize,
     list: &mut Vec<Term>,
 ) -> Result<(), Memory>
-    ensures { OnOk result (trees list.new.items ≡ trees list.old.items ++ map (λ us. Node head us) (argument_lists (drop from args.now))) }
+    ensures { OnOk result
+        (trees list.new.items ≡ trees list.old.items ++ map
+        (λ us. Node head us) (argument_lists (drop from args.now))) }
 {
     if from >= args.len() {
         return Ok(());
@@ -101,7 +107,8 @@ fn each_before(
     rest: &Arguments,
     list: &mut Vec<Arguments>,
 ) -> Result<(), Memory>
-    ensures { OnOk result (argument_lists list.new.items ≡ argument_lists list.old.items ++ map (λ u. More u (trees_in rest.now)) (trees (drop from firsts.now))) }
+    ensures { OnOk result (argument_lists list.new.items ≡ argument_lists list.old.items ++ map
+        (λ u. More u (trees_in rest.now)) (trees (drop from firsts.now))) }
 {
     if from >= firsts.len() {
         return Ok(());
@@ -118,7 +125,8 @@ fn before_each(
     from: usize,
     list: &mut Vec<Arguments>,
 ) -> Result<(), Memory>
-    ensures { OnOk result (argument_lists list.new.items ≡ argument_lists list.old.items ++ map (λ us. More (tree_of first.now) us) (argument_lists (drop from rests.now))) }
+    ensures { OnOk result (argument_lists list.new.items ≡ argument_lists list.old.items ++ map
+        (λ us. More (tree_of first.now) us) (argument_lists (drop from rests.now))) }
 {
     if from >= rests.len() {
         return Ok(());

@@ -23,7 +23,8 @@ pub fn outermost(
     fuel: u64,
     room: u32,
 ) -> Result<Evaluated, Memory>
-    ensures built { IfOk result (λ e. trees e.built.items ≡ outermost_built rules.now term.now fuel room) }
+    ensures built { IfOk result
+        (λ e. trees e.built.items ≡ outermost_built rules.now term.now fuel room) }
     ensures end { IfOk result (λ e. ended e.end ≡ (outermost_of rules.now term.now fuel room).end) }
 {
     let term = Term::of(alloc, term)?;

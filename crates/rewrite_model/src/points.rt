@@ -20,7 +20,8 @@ pub struct Point {
     pub room: u32,
 }
 
-/// The point of a term: in hand are its arguments, the terms given with it, and those kept round it.
+/// The point of a term: in hand are its arguments, the terms given with it, and those kept round
+/// it.
 pub(crate) fn point_at(
     alloc: Global,
     term: &Term,
@@ -29,7 +30,9 @@ pub(crate) fn point_at(
     room: u32,
 ) -> Result<Point, Memory>
     ensures tree { IfOk result (λ p. tree_of p.tree ≡ tree_of term.now) }
-    ensures hand { IfOk result (λ p. trees p.hand.items ≡ arguments (tree_of term.now) ++ trees given.now ++ trees kept.now) }
+    ensures hand { IfOk result
+        (λ p. trees p.hand.items ≡ arguments (tree_of term.now) ++ trees given.now
+        ++ trees kept.now) }
     ensures room { IfOk result (λ p. p.room ≡ room) }
 {
     let mut hand = Vec::new(alloc);
@@ -62,7 +65,8 @@ pub(crate) fn joined(alloc: Global, front: &[Term], back: &[Term]) -> Result<Vec
 
 /// Appends copies, from one of the terms on.
 fn append(alloc: Global, terms: &[Term], from: usize, list: &mut Vec<Term>) -> Result<(), Memory>
-    ensures { OnOk result (trees list.new.items ≡ trees list.old.items ++ trees (drop from terms.now)) }
+    ensures { OnOk result
+        (trees list.new.items ≡ trees list.old.items ++ trees (drop from terms.now)) }
 {
     if from >= terms.len() {
         return Ok(());
@@ -73,7 +77,8 @@ fn append(alloc: Global, terms: &[Term], from: usize, list: &mut Vec<Term>) -> R
 
 /// Appends copies of a term's arguments.
 fn append_arguments_of(alloc: Global, term: &Term, list: &mut Vec<Term>) -> Result<(), Memory>
-    ensures { OnOk result (trees list.new.items ≡ trees list.old.items ++ arguments (tree_of term.now)) }
+    ensures { OnOk result
+        (trees list.new.items ≡ trees list.old.items ++ arguments (tree_of term.now)) }
 {
     match term {
         Term::Var(_) => Ok(()),
@@ -82,7 +87,8 @@ fn append_arguments_of(alloc: Global, term: &Term, list: &mut Vec<Term>) -> Resu
 }
 
 fn append_arguments(alloc: Global, args: &Arguments, list: &mut Vec<Term>) -> Result<(), Memory>
-    ensures { OnOk result (trees list.new.items ≡ trees list.old.items ++ list_of (trees_in args.now)) }
+    ensures { OnOk result
+        (trees list.new.items ≡ trees list.old.items ++ list_of (trees_in args.now)) }
 {
     match args {
         Arguments::Empty => Ok(()),
@@ -100,7 +106,9 @@ pub(crate) fn append_built(
     from: usize,
     list: &mut Vec<Term>,
 ) -> Result<(), Memory>
-    ensures { OnOk result (trees list.new.items ≡ trees list.old.items ++ trees_at (points_of (drop from points.now))) }
+    ensures { OnOk result
+        (trees list.new.items ≡ trees list.old.items
+        ++ trees_at (points_of (drop from points.now))) }
 {
     if from >= points.len() {
         return Ok(());
@@ -139,7 +147,9 @@ fn append_subtrees(
     from: usize,
     list: &mut Vec<Term>,
 ) -> Result<(), Memory>
-    ensures { OnOk result (trees list.new.items ≡ trees list.old.items ++ flat_map subtrees_of (trees (drop from terms.now))) }
+    ensures { OnOk result
+        (trees list.new.items ≡ trees list.old.items ++ flat_map subtrees_of
+        (trees (drop from terms.now))) }
 {
     if from >= terms.len() {
         return Ok(());

@@ -34,7 +34,8 @@ struct Taken {
 
 /// Takes so many terms from a stack, whose top is first, in front of those taken before.
 fn take(alloc: Global, count: u32, stack: Arguments, taken: Arguments) -> Result<Taken, Memory>
-    ensures { IfOk result (λ r. IsTaken count (trees_in stack) (trees_in taken) (trees_in r.args) (trees_in r.rest)) }
+    ensures { IfOk result
+        (λ r. IsTaken count (trees_in stack) (trees_in taken) (trees_in r.args) (trees_in r.rest)) }
 {
     if count == 0 {
         return Ok(Taken {

@@ -78,7 +78,8 @@ impl Model for Rule {
 
 impl Rule {
     pub fn new(left: Flat, right: Flat, conditions: Vec<Condition>, vars: u32) -> Self
-        ensures { result ≡ record { left = left; right = right; conditions = conditions.items; vars = vars } }
+        ensures { result
+            ≡ record { left = left; right = right; conditions = conditions.items; vars = vars } }
     {
         Rule {
             left,

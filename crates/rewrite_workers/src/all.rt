@@ -52,9 +52,9 @@ fn trace_by<R: Threads + Sync, T: Terms + Send, G: Gate>(
 
     // What every answer leaves of each desk.
     ensures ready { All (λ d. IsReady work.now.settings work.now.plan.now (T.store d)) desks.new }
-    ensures kept { EachDesk (λ _ old new. KeepsDesk work.now.settings (need_of work.now.settings
-        work.now.plan.now.rules work.now.terms.now) (T.store old) (T.store new)) desks.old
-        desks.new }
+    ensures kept { EachDesk (λ _ old new. KeepsDesk work.now.settings
+        (need_of work.now.settings work.now.plan.now.rules work.now.terms.now)
+        (T.store old) (T.store new)) desks.old desks.new }
     ensures same { EachDesk (λ _ old new. T.same old new) desks.old desks.new }
 {
     let Crew {
@@ -109,9 +109,9 @@ fn rewrite_by<R: Threads + Sync, T: Terms + Send, G: Gate>(
 
     // What every answer leaves of each desk.
     ensures ready { All (λ d. IsReady work.now.settings work.now.plan.now (T.store d)) desks.new }
-    ensures kept { EachDesk (λ _ old new. KeepsDesk work.now.settings (need_of work.now.settings
-        work.now.plan.now.rules work.now.terms.now) (T.store old) (T.store new)) desks.old
-        desks.new }
+    ensures kept { EachDesk (λ _ old new. KeepsDesk work.now.settings
+        (need_of work.now.settings work.now.plan.now.rules work.now.terms.now)
+        (T.store old) (T.store new)) desks.old desks.new }
     ensures same { EachDesk (λ _ old new. T.same old new) desks.old desks.new }
 {
     match trace_by(rt, alloc, work, desks, gate, crew) {
@@ -165,9 +165,9 @@ pub fn rewrite_all<R: Threads + Sync, T: Terms + Send, G: Gate>(
 
     // What every answer leaves of each desk.
     ensures ready { All (λ d. IsReady work.now.settings work.now.plan.now (T.store d)) desks.new }
-    ensures kept { EachDesk (λ _ old new. KeepsDesk work.now.settings (need_of work.now.settings
-        work.now.plan.now.rules work.now.terms.now) (T.store old) (T.store new)) desks.old
-        desks.new }
+    ensures kept { EachDesk (λ _ old new. KeepsDesk work.now.settings
+        (need_of work.now.settings work.now.plan.now.rules work.now.terms.now)
+        (T.store old) (T.store new)) desks.old desks.new }
     ensures same { EachDesk (λ _ old new. T.same old new) desks.old desks.new }
 {
     let workers = desks.len() as u32;

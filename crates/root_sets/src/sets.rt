@@ -24,7 +24,7 @@ pub fn push_root(store: &Store, pass: &mut Pass, row: Row) -> Result<(), Deep>
         ≡ protected_in (view_of pass.old).store ++ row.0 ∷ []) }
     ensures deep { IsErr result
         ↔ (length (protected_in (view_of pass.old).store) ≡ store.now.sizes.depth) }
-    ensures unchanged { IfErr result (λ _. (view_of pass.new) ≡ view_of pass.old) }
+    ensures unchanged { IfErr result (λ _. view_of pass.new ≡ view_of pass.old) }
     ensures keeps { Keeps (view_of pass.old) (view_of pass.new) }
 {
     if pass.root_count == store.sizes.depth {

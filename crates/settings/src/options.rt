@@ -122,8 +122,8 @@ pub fn has_value(option: OptionName) -> bool
     )
 }
 
-/// The name of an option, behind two hyphens in its word. It is lent for as long as the words are, since a command
-/// line and its words have one lifetime.
+/// The name of an option, behind two hyphens in its word. It is lent for as long as the words are,
+/// since a command line and its words have one lifetime.
 pub fn name<'a>(option: OptionName, _words: &'a [String]) -> &'a str
     ensures { result.now ≡ name_of option }
 {

@@ -33,10 +33,11 @@ pub struct Settings {
     pub workers: u32,
     /// Rules that may be applied to one term, 0 to 1,000,000,000. By default 1,000,000.
     pub fuel: u64,
-    /// Trees that the store of all workers can hold at a time, or different trees that terms may have, 1 to 262,144.
-    /// By default 65,536.
+    /// Trees that the store of all workers can hold at a time, or different trees that terms may
+    /// have, 1 to 262,144. By default 65,536.
     pub rows: u32,
-    /// Places on each worker's stack, the room that a term is rewritten in, 1 to 65,536. By default 4,096.
+    /// Places on each worker's stack, the room that a term is rewritten in, 1 to 65,536. By default
+    /// 4,096.
     pub depth: u32,
     /// Results that each worker remembers of innermost rewriting, 0 to 65,535. By default 0.
     pub cache: u32,
@@ -44,7 +45,8 @@ pub struct Settings {
     pub sizes: bool,
     /// Whether the log of the store's callers is written too.
     pub log: bool,
-    /// Whether the steps that lead to each value are written too. Never together with `sizes` or `log`, or with a `cache` above 0.
+    /// Whether the steps that lead to each value are written too. Never together with `sizes` or
+    /// `log`, or with a `cache` above 0.
     pub trace: bool,
     /// The number that a drill is made from, 1 to 65,535; 0 where the command is no drill.
     pub count: u32,

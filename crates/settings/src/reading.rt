@@ -40,9 +40,11 @@ fn has_flag(matches: &ArgMatches, words: &[String], option: OptionName) -> bool
     matches.get_flag(name(option, words))
 }
 
-// The settings of a command that the matches of its words have, with its default for each option that is not there.
+// The settings of a command that the matches of its words have, with its default for each option
+// that is not there.
 fn settings_in(command: Command, matches: &ArgMatches, words: &[String]) -> Settings
-    ensures { (uses : Uses) → Shows (found_of matches.now) uses → result ≡ settings_with command uses }
+    ensures { (uses : Uses) → Shows (found_of matches.now) uses
+        → result ≡ settings_with command uses }
 {
     Settings {
         command,
@@ -112,8 +114,8 @@ fn read_each(alloc: Global, command: Command, words: &[String]) -> Result<Settin
     Ok(settings_in(command, &matches, words))
 }
 
-// The settings of a command with these words after it. Sizes stand in the place of the texts that traces lead to, and a log where
-// traces stand; of a result that is remembered no steps are known.
+// The settings of a command with these words after it. Sizes stand in the place of the texts that
+// traces lead to, and a log where traces stand; of a result that is remembered no steps are known.
 fn read_options(alloc: Global, command: Command, words: &[String]) -> Result<Settings, WordsFault>
     ensures { MatchResult result (λ given. settings_after command (texts words.now) ≡ Some given)
         (λ fault. fault ≡ WordsFault.Usage → settings_after command (texts words.now) ≡ None) }
@@ -128,7 +130,8 @@ fn read_options(alloc: Global, command: Command, words: &[String]) -> Result<Set
 // The check that the words after `check` name, and the words after it.
 fn split_check<'a>(words: &'a [String]) -> Option<(Command, &'a [String])>
     ensures { MatchOption result (None ≡ settings_of_check (texts words.now))
-        (λ split. settings_after split.0 (texts split.1.now) ≡ settings_of_check (texts words.now)) }
+        (λ split. settings_after split.0 (texts split.1.now) ≡ settings_of_check
+        (texts words.now)) }
 {
     match words {
         [what, options @ ..] => Some((read_check(what.as_str())?, options)),
@@ -148,13 +151,15 @@ fn split_command<'a>(words: &'a [String]) -> Option<(Command, &'a [String])>
     }
 }
 
-/// Reads the words that the program is started with: its name, a command, and options of that command in any order,
-/// with the number of a drill among them. `check` is a command with the word after it, and has no options.
+/// Reads the words that the program is started with: its name, a command, and options of that
+/// command in any order, with the number of a drill among them. `check` is a command with the word
+/// after it, and has no options.
 ///
-/// An option is `--name value` or `--name=value`, and stands at most once; `--sizes`, `--log` and `--trace` have no value,
-/// and `--trace` isn't given with another of them, or with a `--cache` above 0. A number is an optional `+` and one or more digits, within the option's
-/// range. All other words are `Usage`, among them `--`, `--help` and the beginning of a name. `Memory` may come wherever
-/// there is none.
+/// An option is `--name value` or `--name=value`, and stands at most once; `--sizes`, `--log` and
+/// `--trace` have no value, and `--trace` isn't given with another of them, or with a `--cache`
+/// above 0. A number is an optional `+` and one or more digits, within the option's range. All
+/// other words are `Usage`, among them `--`, `--help` and the beginning of a name. `Memory` may
+/// come wherever there is none.
 pub fn settings(alloc: Global, words: &[String]) -> Result<Settings, WordsFault>
     ensures settings { MatchResult result (λ given. settings_of (texts words.now) ≡ Some given)
         (λ fault. fault ≡ WordsFault.Usage → settings_of (texts words.now) ≡ None) }

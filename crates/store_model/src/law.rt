@@ -6,8 +6,8 @@ ghost use Rattle.store_model.specs.Leading.{KeepsExactlyLed, KeepsTheirWords, En
 ghost use Rattle.store_model.specs.Recalls.{StartRecalls, StepsRecall, RunsRecall, NamedAreRecalled};
 ghost use Rattle.store_model.specs.Worked.{RaceFinds, LostMakes, SweepKeeps, SweepFrees, MustFree, UseDoubles, WornAtLast, NestKeeps, RunsAreInPlace};
 
-/// Each step keeps what holds, and it holds of a new store; so it holds after every list of steps, whatever the seats do
-/// in between.
+/// Each step keeps what holds, and it holds of a new store; so it holds after every list of steps,
+/// whatever the seats do in between.
 pub fn steps_keep()
     ensures kept { StepsKeep }
     ensures start { StartHolds }
@@ -24,8 +24,8 @@ pub fn words_are_shown()
     ensures count { TotalIs }
 {}
 
-/// How a creation ends: with the row of the asked tree and exactly one entry, or with Full, and why; and that no other seat's view
-/// changes.
+/// How a creation ends: with the row of the asked tree and exactly one entry, or with Full, and
+/// why; and that no other seat's view changes.
 pub fn creations_end()
     ensures ends { CreationEnds }
     ensures asked { RowIsAsked }
@@ -36,7 +36,8 @@ pub fn creations_end()
     ensures bucket { EqualContentEqualBucket }
 {}
 
-/// How a collection ends: it keeps exactly what is reached, or it is Worn by the numbers, and nothing has changed.
+/// How a collection ends: it keeps exactly what is reached, or it is Worn by the numbers, and
+/// nothing has changed.
 pub fn collections_end()
     ensures kept { CollectionKeepsReached }
     ensures trees { CollectionKeepsTrees }
@@ -45,24 +46,26 @@ pub fn collections_end()
     ensures unchanged { WornChangesNothing }
 {}
 
-/// A step that a seat's own view shows, and that the lock grants, is permitted: a running store needs no look at other words.
-/// What the view knows of a row's words, and what a collection has loaded and stored, is there.
+/// A step that a seat's own view shows, and that the lock grants, is permitted: a running store
+/// needs no look at other words. What the view knows of a row's words, and what a collection has
+/// loaded and stored, is there.
 pub fn own_view_permits()
     ensures permitted { ViewShows }
     ensures known { KnownWordsStand }
     ensures seen { CollectionSees }
 {}
 
-/// What a seat keeps where its epoch ends: exactly the rows that its protected rows lead to by the words that it knows, and the words
-/// of these.
+/// What a seat keeps where its epoch ends: exactly the rows that its protected rows lead to by the
+/// words that it knows, and the words of these.
 pub fn what_is_led_to_stays()
     ensures rows { KeepsExactlyLed }
     ensures words { KeepsTheirWords }
     ensures entry { EntryKeeps }
 {}
 
-/// What a seat's own entries tell is so, whatever the seats do in between: the trees that its Make and Find entries name in the
-/// chronicle, and those of its Roots, are those that a replay of its own entries gives, and so is the tree of each row that it may name.
+/// What a seat's own entries tell is so, whatever the seats do in between: the trees that its Make
+/// and Find entries name in the chronicle, and those of its Roots, are those that a replay of its
+/// own entries gives, and so is the tree of each row that it may name.
 pub fn entries_are_recalled()
     ensures start { StartRecalls }
     ensures kept { StepsRecall }
@@ -70,8 +73,9 @@ pub fn entries_are_recalled()
     ensures named { NamedAreRecalled }
 {}
 
-/// Worked runs, which the definitions compute: two seats that race for one bucket, a lost exchange that makes, a collection with
-/// two seats' protected rows, what it frees, buckets in use that double, and Worn. Their steps are in place.
+/// Worked runs, which the definitions compute: two seats that race for one bucket, a lost exchange
+/// that makes, a collection with two seats' protected rows, what it frees, buckets in use that
+/// double, and Worn. Their steps are in place.
 pub fn worked_runs()
     ensures race { RaceFinds }
     ensures lost { LostMakes }

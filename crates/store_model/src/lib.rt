@@ -1,5 +1,5 @@
-//! A store of terms that share what they have in common, as a machine of atomic steps: its definitions, what every step
-//! keeps, and what a seat knows of it.
+//! A store of terms that share what they have in common, as a machine of atomic steps: its
+//! definitions, what every step keeps, and what a seat knows of it.
 #![tactic(auto)]
 
 mod law;

@@ -2,8 +2,8 @@
 use crate::view::{Content, Place};
 use lock_core::LockStep;
 
-/// One atomic action of a seat on one word. Where it stores, loads or exchanges, its place and value are numbers; a draw is one
-/// fetch and add.
+/// One atomic action of a seat on one word. Where it stores, loads or exchanges, its place and
+/// value are numbers; a draw is one fetch and add.
 #[derive(Debug, Clone, Drop)]
 pub enum StoreStep {
     Lock(LockStep),
@@ -13,8 +13,8 @@ pub enum StoreStep {
     LoadInUse,
     Draw,
     LoadFreePlace(u32),
-    /// A word of the own drawn row: the symbol word is 0, the count of arguments 1, then the arguments, the birth number and the
-    /// next row of the chain.
+    /// A word of the own drawn row: the symbol word is 0, the count of arguments 1, then the
+    /// arguments, the birth number and the next row of the chain.
     StoreDrawn { row: u32, word: u32, value: u64 },
     /// The load that begins a creation of this content.
     LoadBucket { bucket: u32, content: Content },

@@ -40,9 +40,9 @@ pub struct Content {
     pub arguments: LinkedList<u32>,
 }
 
-/// What a seat has under way. In a creation: the content, the drawn index with its row, the head that was read last, the word
-/// that its walk ends at, where the walk is, and how many words were compared or stored. Words of chains are 0 at the end, else
-/// the row and 1.
+/// What a seat has under way. In a creation: the content, the drawn index with its row, the head
+/// that was read last, the word that its walk ends at, where the walk is, and how many words were
+/// compared or stored. Words of chains are 0 at the end, else the row and 1.
 #[derive(Debug, Clone, Drop)]
 pub enum Call {
     Idle,
@@ -64,7 +64,8 @@ pub enum Call {
     Storing(LinkedList<(Place, u64)>, LinkedList<(Place, u64)>),
 }
 
-/// How far a granted access has come: nothing loaded, the base, the buckets in use too; the end of an exclusive one.
+/// How far a granted access has come: nothing loaded, the base, the buckets in use too; the end of
+/// an exclusive one.
 #[derive(Clone, Copy, Debug, PartialEq, Eq)]
 pub enum Stay {
     Away,
@@ -82,7 +83,8 @@ pub struct KnownWord {
     pub value: u64,
 }
 
-/// A row that a walk has passed: which of its words differed, what that was, and the word of the chain after it.
+/// A row that a walk has passed: which of its words differed, what that was, and the word of the
+/// chain after it.
 #[derive(Clone, Copy, Debug, PartialEq, Eq)]
 pub struct Passed {
     pub row: u32,
@@ -91,8 +93,8 @@ pub struct Passed {
     pub next: u32,
 }
 
-/// A creation that ended with Full: the head of the chain that it read, the rows that it passed up to the chain's end, and the
-/// claim that it read or drew with the free count.
+/// A creation that ended with Full: the head of the chain that it read, the rows that it passed up
+/// to the chain's end, and the claim that it read or drew with the free count.
 #[derive(Debug, Clone, Drop)]
 pub struct Refusal {
     pub content: Content,
@@ -114,7 +116,8 @@ pub struct View {
     /// Its own words of protected rows, of which the first `root_count` count.
     pub roots: LinkedList<u32>,
     pub root_count: u32,
-    /// The rows that it got, read, or had protected in its epoch, and those that it kept from the one before.
+    /// The rows that it got, read, or had protected in its epoch, and those that it kept from the
+    /// one before.
     pub got: LinkedList<u32>,
     /// The words that it has read or stored of such rows.
     pub knows: LinkedList<KnownWord>,

@@ -103,8 +103,8 @@ fn collect_and_tell(rt: &impl Abort, store: &Store, pass: &mut Pass) -> (Result<
     (kept, told)
 }
 
-// With first 2^62 - 5 there is room for one collection: base + claim + 1 + span is 2^62 - 5 + 0 + 1
-// + (2 + 1 + 1). Its number is the base, and the next one is worn.
+// With first 2^62 - 5 there is room for one collection: base + claim + 1 + span is
+// 2^62 - 5 + 0 + 1 + (2 + 1 + 1). Its number is the base, and the next one is worn.
 #[test]
 fn a_store_wears_out(rt: HostRuntime) -> Result<(), Fail> {
     let (store, mut passes) = Store::make(rt.alloc(), worn_sizes((1 << 62) - 5))?;

@@ -255,7 +255,7 @@ pub fn collect(store: &Store, pass: &mut Pass) -> Result<Kept, Worn>
     ensures crowd { IfOk result (λ kept. HasKept (view_of pass.new) kept.live) }
     ensures worn { IfErr result
         (λ _. IsWorn store.now.sizes pass.old.seat.number (view_of pass.old).store) }
-    ensures unchanged { IfErr result (λ _. (view_of pass.new) ≡ view_of pass.old) }
+    ensures unchanged { IfErr result (λ _. view_of pass.new ≡ view_of pass.old) }
 {
     let in_use = pass.in_use as u32;
     match begin(store, &mut pass.seat) {

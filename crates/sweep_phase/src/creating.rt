@@ -39,8 +39,8 @@ pub fn create_exclusive(
         head (names args.now) row.0) }
     ensures full_only_where_filled { IfErr result (λ _.
         WasFilled store.now.sizes pass.old.seat.number (view_of pass.old) head (names args.now)) }
-    ensures full_only_where_crowded { IfErr result (λ _. IsSwept (view_of pass.old).store →
-        IsCrowded store.now.sizes (view_of pass.old) (over head (names args.now))) }
+    ensures full_only_where_crowded { IfErr result (λ _. IsSwept (view_of pass.old).store
+        → IsCrowded store.now.sizes (view_of pass.old) (over head (names args.now))) }
     ensures full_only_where_read_full { IfErr result (λ _.
         KeepsCause (view_of pass.old).store (view_of pass.new).store
         head (names args.now)) }

@@ -6,8 +6,8 @@ use term_model::Symbol;
 /// How many places there are.
 const PLACES: usize = 256;
 
-/// A symbol at each of some places, one of which a name with a number of arguments has. It is only a guess, since
-/// many have the same place: whoever asks looks whether the symbol is the right one.
+/// A symbol at each of some places, one of which a name with a number of arguments has. It is only
+/// a guess, since many have the same place: whoever asks looks whether the symbol is the right one.
 #[derive(Clone, Copy)]
 pub(crate) struct Recent {
     symbols: [u32; PLACES],

@@ -72,8 +72,8 @@ impl Symbols {
         self.pairs.len()
     }
 
-    /// The symbol that was noted last at the place of this name with this number of arguments, if it is
-    /// that one. No hash is made for it.
+    /// The symbol that was noted last at the place of this name with this number of arguments, if
+    /// it is that one. No hash is made for it.
     fn guess(&self, name: &[u8], arity: u32) -> Option<Symbol>
         ensures found { IfSome result (λ s. Holds self.now s (named name.now arity)) }
         ensures within { IfSome result (λ s. s.0 < length self.now) }
@@ -107,7 +107,8 @@ impl Symbols {
     pub fn intern(&mut self, name: &[u8], arity: u32) -> Result<Symbol, PoolFault>
         ensures held { IfOk result (λ s. Holds self.new s (named name.now arity)) }
         ensures within { IfOk result (λ s. s.0 < length self.new) }
-        ensures added { OnOk result (Lacks self.old (named name.now arity) → self.new ≡ self.old ++ named name.now arity ∷ []) }
+        ensures added { OnOk result (Lacks self.old (named name.now arity)
+            → self.new ≡ self.old ++ named name.now arity ∷ []) }
         ensures found { OnOk result (Has self.old (named name.now arity) → self.new ≡ self.old) }
         ensures full { (result ≡ Err Full) ↔ IsFullFor self.old (named name.now arity) }
         ensures unchanged { OnErr result (self.new ≡ self.old) }
@@ -125,7 +126,8 @@ impl Symbols {
     fn take_up(&mut self, name: &[u8], arity: u32) -> Result<Symbol, PoolFault>
         ensures held { IfOk result (λ s. Holds self.new s (named name.now arity)) }
         ensures within { IfOk result (λ s. s.0 < length self.new) }
-        ensures added { OnOk result (Lacks self.old (named name.now arity) → self.new ≡ self.old ++ named name.now arity ∷ []) }
+        ensures added { OnOk result (Lacks self.old (named name.now arity)
+            → self.new ≡ self.old ++ named name.now arity ∷ []) }
         ensures found { OnOk result (Has self.old (named name.now arity) → self.new ≡ self.old) }
         ensures full { (result ≡ Err Full) ↔ IsFullFor self.old (named name.now arity) }
         ensures unchanged { OnErr result (self.new ≡ self.old) }

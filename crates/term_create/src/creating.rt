@@ -59,10 +59,10 @@ fn make_row<L: Ledger>(
     ensures view { let v = seat.old.seat.me.0 in let w = seat.new.seat.me.0 in MatchResult result
         (Notes v w head (names args.now))
         (λ _. IsFull v w (over head (names args.now)) from) }
-    ensures all { IfErr result (λ _. store.now.sizes.seats ≡ 1 →
-        HoldsAll store.now.sizes.rows seat.old.seat.me.0.store.entries) }
-    ensures filled { IfErr result (λ _. seat.old.seat.me.0.store.fresh ≡ true →
-        WasFilled store.now.sizes seat.old.number seat.old.seat.me.0 head (names args.now)) }
+    ensures all { IfErr result (λ _. store.now.sizes.seats ≡ 1
+        → HoldsAll store.now.sizes.rows seat.old.seat.me.0.store.entries) }
+    ensures filled { IfErr result (λ _. seat.old.seat.me.0.store.fresh ≡ true
+        → WasFilled store.now.sizes seat.old.number seat.old.seat.me.0 head (names args.now)) }
     ensures cost { let z = store.now.sizes in MatchResult result
         (λ _. Takes z (widest z + 7 + 2 * (z.rows + 1)) seat.old.seat.me.0.store.passed z.rows
         steps.old steps.new)
@@ -102,8 +102,8 @@ fn create_from<L: Ledger>(
     ensures view { let v = seat.old.seat.me.0 in let w = seat.new.seat.me.0 in MatchResult result
         (Notes v w asked.now.head (names asked.now.args.now))
         (λ _. IsRefused v w (content asked.now)) }
-    ensures alone { IfErr result (λ _. asked.now.store.now.sizes.seats ≡ 1 →
-        IsAbsent seat.old.seat.me.0.store.entries (content asked.now)) }
+    ensures alone { IfErr result (λ _. asked.now.store.now.sizes.seats ≡ 1
+        → IsAbsent seat.old.seat.me.0.store.entries (content asked.now)) }
     ensures all { IfErr result (λ _. HoldsAllAlone asked.now seat.old.seat.me.0) }
     ensures filled { IfErr result (λ _. FillsAfter asked.now seat.old.number seat.old.seat.me.0) }
     ensures cost { let z = asked.now.store.now.sizes in
@@ -151,14 +151,14 @@ fn create_noted<L: Ledger>(
     ensures view { let v = view_of pass.old in let w = view_of pass.new in MatchResult result
         (Notes v w head (names args.now))
         (λ _. IsRefused (with_store v (with_path v.store 0 [])) w (over head (names args.now))) }
-    ensures alone { IfErr result (λ _. store.now.sizes.seats ≡ 1 →
-        IsAbsent (view_of pass.old).store.entries (over head (names args.now))) }
-    ensures all { IfErr result (λ _. store.now.sizes.seats ≡ 1 →
-        HoldsAll store.now.sizes.rows (view_of pass.old).store.entries) }
-    ensures filled { IfErr result (λ _. (view_of pass.old).store.fresh ≡ true →
-        WasFilled store.now.sizes pass.old.seat.number (view_of pass.old) head (names args.now)) }
-    ensures cost { steps.new ≤ steps.old + (widest store.now.sizes + 8) *
-        (store.now.sizes.rows + 2) }
+    ensures alone { IfErr result (λ _. store.now.sizes.seats ≡ 1
+        → IsAbsent (view_of pass.old).store.entries (over head (names args.now))) }
+    ensures all { IfErr result (λ _. store.now.sizes.seats ≡ 1
+        → HoldsAll store.now.sizes.rows (view_of pass.old).store.entries) }
+    ensures filled { IfErr result (λ _. (view_of pass.old).store.fresh ≡ true
+        → WasFilled store.now.sizes pass.old.seat.number (view_of pass.old) head (names args.now)) }
+    ensures cost { steps.new ≤ steps.old
+        + (widest store.now.sizes + 8) * (store.now.sizes.rows + 2) }
 {
     let symbol = symbol_word(head);
     let asked = Asked {
@@ -196,14 +196,14 @@ fn create_whole<L: Ledger>(
     ensures known { Known store.now.sizes (view_of pass.new).store }
     ensures view { Ends (view_of pass.old) (view_of pass.new) head (names args.now) result }
     ensures told { Tells pass.new }
-    ensures alone { IfErr result (λ _. store.now.sizes.seats ≡ 1 →
-        IsAbsent (view_of pass.old).store.entries (over head (names args.now))) }
-    ensures all { IfErr result (λ _. store.now.sizes.seats ≡ 1 →
-        HoldsAll store.now.sizes.rows (view_of pass.old).store.entries) }
-    ensures filled { IfErr result (λ _. (view_of pass.old).store.fresh ≡ true →
-        WasFilled store.now.sizes pass.old.seat.number (view_of pass.old) head (names args.now)) }
-    ensures cost { steps.new ≤ steps.old + (widest store.now.sizes + 8) *
-        (store.now.sizes.rows + 2) }
+    ensures alone { IfErr result (λ _. store.now.sizes.seats ≡ 1
+        → IsAbsent (view_of pass.old).store.entries (over head (names args.now))) }
+    ensures all { IfErr result (λ _. store.now.sizes.seats ≡ 1
+        → HoldsAll store.now.sizes.rows (view_of pass.old).store.entries) }
+    ensures filled { IfErr result (λ _. (view_of pass.old).store.fresh ≡ true
+        → WasFilled store.now.sizes pass.old.seat.number (view_of pass.old) head (names args.now)) }
+    ensures cost { steps.new ≤ steps.old
+        + (widest store.now.sizes + 8) * (store.now.sizes.rows + 2) }
 {
     match create_noted(store, pass, head, args, steps) {
         Ok(noted) => {
@@ -221,8 +221,8 @@ fn create_whole<L: Ledger>(
 /// claim was read or drawn as at least the free count; where the store has one pass, or the pass
 /// has collected in its access, each row has a tree then, and none has the asked one. It needs
 /// shared access, or exclusive access after a collection of it. Each atomic step on a word is a
-/// tick of `steps`: with A the greater of the store's arity and 2, there are at most (A + 8) *
-/// (rows + 2).
+/// tick of `steps`: with A the greater of the store's arity and 2, there are at most
+/// (A + 8) * (rows + 2).
 #[inline(always)]
 pub fn create_counted<L: Ledger>(
     store: &Store,
@@ -246,18 +246,18 @@ pub fn create_counted<L: Ledger>(
     ensures full_only_where_read_full { IfErr result (λ _.
         KeepsCause (view_of pass.old).store (view_of pass.new).store
         head (names args.now)) }
-    ensures full_alone_only_where_absent { IfErr result (λ _. store.now.sizes.seats ≡ 1 →
-        IsAbsent (view_of pass.old).store.entries (over head (names args.now))) }
-    ensures full_alone_only_where_all_rows_are_held { IfErr result (λ _. store.now.sizes.seats ≡ 1 →
-        HoldsAll store.now.sizes.rows (view_of pass.old).store.entries) }
+    ensures full_alone_only_where_absent { IfErr result (λ _. store.now.sizes.seats ≡ 1
+        → IsAbsent (view_of pass.old).store.entries (over head (names args.now))) }
+    ensures full_alone_only_where_all_rows_are_held { IfErr result (λ _. store.now.sizes.seats ≡ 1
+        → HoldsAll store.now.sizes.rows (view_of pass.old).store.entries) }
     ensures full_after_collection_only_where_filled { IfErr result
-        (λ _. (view_of pass.old).store.fresh ≡ true →
-        WasFilled store.now.sizes pass.old.seat.number (view_of pass.old) head (names args.now)) }
+        (λ _. (view_of pass.old).store.fresh ≡ true
+        → WasFilled store.now.sizes pass.old.seat.number (view_of pass.old) head (names args.now)) }
     ensures full_gets_none { IfErr result
         (λ _. GetsNone (view_of pass.old).store (view_of pass.new).store) }
     ensures rest { KeepsRest (view_of pass.old).store (view_of pass.new).store }
-    ensures bound { steps.new ≤ steps.old + (widest store.now.sizes + 8) *
-        (store.now.sizes.rows + 2) }
+    ensures bound { steps.new ≤ steps.old
+        + (widest store.now.sizes + 8) * (store.now.sizes.rows + 2) }
 {
     create_whole(store, pass, head, args, steps)
 }
@@ -288,13 +288,13 @@ fn create_uncounted<L: Ledger>(
     ensures full_only_where_read_full { IfErr result (λ _.
         KeepsCause (view_of pass.old).store (view_of pass.new).store
         head (names args.now)) }
-    ensures full_alone_only_where_absent { IfErr result (λ _. store.now.sizes.seats ≡ 1 →
-        IsAbsent (view_of pass.old).store.entries (over head (names args.now))) }
-    ensures full_alone_only_where_all_rows_are_held { IfErr result (λ _. store.now.sizes.seats ≡ 1 →
-        HoldsAll store.now.sizes.rows (view_of pass.old).store.entries) }
+    ensures full_alone_only_where_absent { IfErr result (λ _. store.now.sizes.seats ≡ 1
+        → IsAbsent (view_of pass.old).store.entries (over head (names args.now))) }
+    ensures full_alone_only_where_all_rows_are_held { IfErr result (λ _. store.now.sizes.seats ≡ 1
+        → HoldsAll store.now.sizes.rows (view_of pass.old).store.entries) }
     ensures full_after_collection_only_where_filled { IfErr result
-        (λ _. (view_of pass.old).store.fresh ≡ true →
-        WasFilled store.now.sizes pass.old.seat.number (view_of pass.old) head (names args.now)) }
+        (λ _. (view_of pass.old).store.fresh ≡ true
+        → WasFilled store.now.sizes pass.old.seat.number (view_of pass.old) head (names args.now)) }
     ensures full_gets_none { IfErr result
         (λ _. GetsNone (view_of pass.old).store (view_of pass.new).store) }
     ensures rest { KeepsRest (view_of pass.old).store (view_of pass.new).store }
@@ -320,13 +320,13 @@ pub fn create_inside(store: &Store, pass: &mut Pass, head: Head, args: &[Row]) -
     ensures full_only_where_read_full { IfErr result (λ _.
         KeepsCause (view_of pass.old).store (view_of pass.new).store
         head (names args.now)) }
-    ensures full_alone_only_where_absent { IfErr result (λ _. store.now.sizes.seats ≡ 1 →
-        IsAbsent (view_of pass.old).store.entries (over head (names args.now))) }
-    ensures full_alone_only_where_all_rows_are_held { IfErr result (λ _. store.now.sizes.seats ≡ 1 →
-        HoldsAll store.now.sizes.rows (view_of pass.old).store.entries) }
+    ensures full_alone_only_where_absent { IfErr result (λ _. store.now.sizes.seats ≡ 1
+        → IsAbsent (view_of pass.old).store.entries (over head (names args.now))) }
+    ensures full_alone_only_where_all_rows_are_held { IfErr result (λ _. store.now.sizes.seats ≡ 1
+        → HoldsAll store.now.sizes.rows (view_of pass.old).store.entries) }
     ensures full_after_collection_only_where_filled { IfErr result
-        (λ _. (view_of pass.old).store.fresh ≡ true →
-        WasFilled store.now.sizes pass.old.seat.number (view_of pass.old) head (names args.now)) }
+        (λ _. (view_of pass.old).store.fresh ≡ true
+        → WasFilled store.now.sizes pass.old.seat.number (view_of pass.old) head (names args.now)) }
     ensures full_gets_none { IfErr result
         (λ _. GetsNone (view_of pass.old).store (view_of pass.new).store) }
     ensures rest { KeepsRest (view_of pass.old).store (view_of pass.new).store }
@@ -352,10 +352,10 @@ pub fn create(store: &Store, pass: &mut Pass, head: Head, args: &[Row]) -> Resul
     ensures full_only_where_read_full { IfErr result (λ _.
         KeepsCause (view_of pass.old).store (view_of pass.new).store
         head (names args.now)) }
-    ensures full_alone_only_where_absent { IfErr result (λ _. store.now.sizes.seats ≡ 1 →
-        IsAbsent (view_of pass.old).store.entries (over head (names args.now))) }
-    ensures full_alone_only_where_all_rows_are_held { IfErr result (λ _. store.now.sizes.seats ≡ 1 →
-        HoldsAll store.now.sizes.rows (view_of pass.old).store.entries) }
+    ensures full_alone_only_where_absent { IfErr result (λ _. store.now.sizes.seats ≡ 1
+        → IsAbsent (view_of pass.old).store.entries (over head (names args.now))) }
+    ensures full_alone_only_where_all_rows_are_held { IfErr result (λ _. store.now.sizes.seats ≡ 1
+        → HoldsAll store.now.sizes.rows (view_of pass.old).store.entries) }
     ensures full_gets_none { IfErr result
         (λ _. GetsNone (view_of pass.old).store (view_of pass.new).store) }
     ensures rest { KeepsRest (view_of pass.old).store (view_of pass.new).store }

@@ -37,7 +37,8 @@ impl Flat {
         ensures tree { result ≡ tree_of items.items }
         ensures spelled { IfSome result (λ t. items.items ≡ postorder t) }
         ensures well_formed { IfSome result IsWellFormed }
-        ensures refused { IfNone result ((t : Tree) → IsWellFormed t → items.items ≡ postorder t → ⊥) }
+        ensures refused { IfNone result ((t : Tree) → IsWellFormed t → items.items ≡ postorder t
+            → ⊥) }
     {
         if spells_tree(&items) {
             Some(Flat { items })
@@ -97,9 +98,11 @@ struct Shape {
 /// cannot.
 fn shape_after(shape: Shape, item: Item) -> Option<Shape>
     requires { shape.trees < usize.MAX }
-    ensures pushed { IfSome result (λ after. (s : List Tree) → Summarizes shape s → IsPushed after (push_item item s)) }
+    ensures pushed { IfSome result (λ after. (s : List Tree) → Summarizes shape s
+        → IsPushed after (push_item item s)) }
     ensures bound { IfSome result (λ after. after.trees ≤ shape.trees + 1) }
-    ensures refused { IfNone result ((s : List Tree) → Summarizes shape s → push_item item s ≡ None) }
+    ensures refused { IfNone result ((s : List Tree) → Summarizes shape s
+        → push_item item s ≡ None) }
 {
     match item {
         Item::Var(_) => Some(Shape {

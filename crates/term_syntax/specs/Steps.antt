@@ -8,7 +8,7 @@ use Rattle.term_syntax.specs.declared.machine.Group.{Group}
 use Rattle.term_syntax.specs.declared.machine.Place.{Place}
 use Rattle.term_syntax.specs.declared.machine.Place.TheVariants.{Settled, Bracketed, Expected, Headed}
 use Rattle.read_faults.specs.declared.not_taken.NotTaken.{NotTaken}
-use Rattle.read_faults.specs.declared.not_taken.NotTaken.TheVariants as stop
+use Rattle.read_faults.specs.declared.not_taken.NotTaken.TheVariants as not_taken
 use Rattle.term_syntax.specs.Counts.{with_count}
 use Rattle.term_syntax.specs.Written.{Written}
 use Rattle.term_syntax.specs.TermGrammar.{IsInput}
@@ -35,8 +35,8 @@ begin place kind m =
 -- a term began, with this number, or there was no memory
 abbrev pub Begins : Machine → ℕ → Kind → Result ℕ NotTaken → Machine → Type 0
 Begins old place kind (Ok part) new = (part ≡ length old.parts) × (new ≡ begin place kind old)
-Begins old place kind (Err stop.Unexpected) new = ⊥
-Begins old place kind (Err stop.Memory) new = Unit {0}
+Begins old place kind (Err not_taken.Unexpected) new = ⊥
+Begins old place kind (Err not_taken.Memory) new = Unit {0}
 
 abbrev pub open_group : Bool → ℕ → Place → Machine → Option Machine
 open_group called part place m =

@@ -13,9 +13,9 @@ use sequences::{Sequence, Stack};
 use std::alloc::Global;
 use std::mem;
 
-/// A term of the input, in the order of the text: the place of its first byte, how many terms stand in its
-/// parentheses or brackets, whether it is the 17th argument of a name, and the shape of its first token. What that
-/// token says stands in the text.
+/// A term of the input, in the order of the text: the place of its first byte, how many terms stand
+/// in its parentheses or brackets, whether it is the 17th argument of a name, and the shape of its
+/// first token. What that token says stands in the text.
 #[derive(Clone, Copy)]
 pub(crate) struct Entry {
     pub(crate) place: u32,
@@ -39,8 +39,8 @@ pub(crate) struct Group {
     pub(crate) count: u32,
 }
 
-/// A place in an input: after a whole term or at the start, behind an opening bracket, where a term must
-/// come, or behind a name, the part of this number.
+/// A place in an input: after a whole term or at the start, behind an opening bracket, where a term
+/// must come, or behind a name, the part of this number.
 #[derive(Clone, Copy)]
 pub(crate) enum Place {
     Settled,
@@ -49,8 +49,8 @@ pub(crate) enum Place {
     Headed(u32),
 }
 
-/// The place, and what was read so far: open groups, all parts, and the whole terms as nodes, each after
-/// the terms in it; those of the term that is being read, and those of the terms before it.
+/// The place, and what was read so far: open groups, all parts, and the whole terms as nodes, each
+/// after the terms in it; those of the term that is being read, and those of the terms before it.
 #[derive(Drop)]
 pub(crate) struct Machine {
     pub(crate) place: Place,
@@ -64,7 +64,7 @@ pub(crate) struct Machine {
 #[inline(always)]
 fn in_32_bits(n: usize) -> Result<u32, NotTaken>
     ensures number { IfOk result (λ number. number ≡ n) }
-    ensures memory { IfErr result (λ stop. stop ≡ Memory) }
+    ensures memory { IfErr result (λ cause. cause ≡ Memory) }
 {
     match u32::try_from(n) {
         Ok(number) => Ok(number),

@@ -8,8 +8,8 @@ use std::marker::Model;
 /// How many bytes a name has without memory of its own.
 const SHORT: usize = 16;
 
-/// A name's bytes, without quotes and escapes. Contracts see the list of them. Most names are short, and take no
-/// memory.
+/// A name's bytes, without quotes and escapes. Contracts see the list of them. Most names are
+/// short, and take no memory.
 #[derive(Drop)]
 pub struct Name {
     bytes: SmallVec<u8, SHORT>,

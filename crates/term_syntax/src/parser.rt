@@ -56,9 +56,9 @@ fn run(alloc: Global, bytes: &[u8]) -> Result<Machine, ReadFail>
 
 /// The parts of the terms that bytes spell, and their nodes.
 ///
-/// Refuses with kind 1 or 3, as `piece_at` does, bytes that have no tokens; else with kind 2 the first token such
-/// that the tokens up to and with it begin no input, at its place; with kind 3, at the length of the input,
-/// tokens that begin an input and are none.
+/// Refuses with kind 1 or 3, as `piece_at` does, bytes that have no tokens; else with kind 2 the
+/// first token such that the tokens up to and with it begin no input, at its place; with kind 3, at
+/// the length of the input, tokens that begin an input and are none.
 pub(crate) fn syntax(
     alloc: Global,
     bytes: &[u8],

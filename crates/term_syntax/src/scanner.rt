@@ -32,7 +32,8 @@ fn is_space(byte: u8) -> bool
 // The place after the name bytes that stand from `start` on.
 fn name_end(bytes: &[u8], start: usize) -> usize
     requires { start ≤ length bytes.now }
-    ensures end { result ≡ start + spec.front_length name_bytes.continues_name (drop start bytes.now) }
+    ensures end { result ≡ start + spec.front_length name_bytes.continues_name
+        (drop start bytes.now) }
     ensures within { result ≤ length bytes.now }
 {
     let mut at = start;
@@ -92,8 +93,8 @@ fn value_of(digits: &[u8]) -> Option<u64>
     Some(value)
 }
 
-// The quoted name whose first byte stands at `start`, behind its opening quote, and the place after its
-// closing quote.
+// The quoted name whose first byte stands at `start`, behind its opening quote, and the place after
+// its closing quote.
 fn quoted(alloc: Global, bytes: &[u8], start: usize) -> Result<(Name, usize), ReadFail>
     requires { start ≤ length bytes.now }
     ensures name { IfOk result (λ q. spec.quoted start false (drop start bytes.now) ≡ Ok q) }
@@ -216,8 +217,8 @@ fn mark(bytes: &[u8], byte: u8, at: usize) -> Result<Cut, ReadFail>
 
 /// What begins at a place of the bytes, in bytes from 0.
 ///
-/// White space is space, tab, CR and LF. Refuses with kind 1 the first byte that begins no token or may not
-/// stand in quotes, and with kind 3, at the length of the input, quotes that aren't closed.
+/// White space is space, tab, CR and LF. Refuses with kind 1 the first byte that begins no token or
+/// may not stand in quotes, and with kind 3, at the length of the input, quotes that aren't closed.
 #[inline(always)]
 pub(crate) fn piece_at(alloc: Global, bytes: &[u8], at: usize) -> Result<Cut, ReadFail>
     requires { at < length bytes.now }

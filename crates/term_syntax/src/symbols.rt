@@ -88,8 +88,8 @@ fn take_part(
 
 /// The items of parts of the text, whose symbols are taken up in order.
 ///
-/// Refuses the first part with a fault at its place: with kind 13 a 17th argument, a name of more than 255
-/// bytes and a symbol too many, with kind 17 a number that isn't an integer.
+/// Refuses the first part with a fault at its place: with kind 13 a 17th argument, a name of more
+/// than 255 bytes and a symbol too many, with kind 17 a number that isn't an integer.
 pub(crate) fn items_of(
     alloc: Global,
     text: &[u8],

@@ -19,16 +19,17 @@ use tree_text::Flats;
 /// The most bytes that a text may have: 32 bits hold each count of what it spells.
 const MOST_BYTES: usize = u32::MAX as usize;
 
-/// The terms that the bytes spell, one after another. A name with its number of arguments becomes a symbol,
-/// in the order of the text.
+/// The terms that the bytes spell, one after another. A name with its number of arguments becomes a
+/// symbol, in the order of the text.
 ///
-/// Names are plain or in quotes, numbers are integers from 0 to 2^64 - 1, and lists stand in square brackets;
-/// white space may stand between any two tokens. Refuses with a place in bytes from 0: first kind 1, a byte
-/// that begins nothing, or kind 3, quotes that aren't closed; else kind 2, the first token that no input has
-/// there, or kind 3, an input that ends within a term; else, at the least place, kind 13, a 17th argument, a
-/// name of more than 255 bytes or a symbol too many, or kind 17, a number that isn't such an integer. After an
-/// error a front of the symbols that the text spells may have been taken up, and nothing else was. A text of
-/// 2^32 bytes or more isn't read, and is answered as want of memory.
+/// Names are plain or in quotes, numbers are integers from 0 to 2^64 - 1, and lists stand in square
+/// brackets; white space may stand between any two tokens. Refuses with a place in bytes from 0:
+/// first kind 1, a byte that begins nothing, or kind 3, quotes that aren't closed; else kind 2, the
+/// first token that no input has there, or kind 3, an input that ends within a term; else, at the
+/// least place, kind 13, a 17th argument, a name of more than 255 bytes or a symbol too many, or
+/// kind 17, a number that isn't such an integer. After an error a front of the symbols that the
+/// text spells may have been taken up, and nothing else was. A text of 2^32 bytes or more isn't
+/// read, and is answered as want of memory.
 pub fn read_terms(alloc: Global, bytes: &[u8], symbols: &mut Symbols) -> Result<Flats, ReadFail>
     ensures too_long { 2 ^ 32 ≤ length bytes.now → IsErrOf result Memory }
     ensures read { IfOk result (IsReading bytes.now symbols.old symbols.new) }

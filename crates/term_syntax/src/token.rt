@@ -10,7 +10,8 @@ pub(crate) enum Mark {
     Comma,
 }
 
-/// What a token is: a plain name, a name in quotes, a number or a mark. What it says stands in the text.
+/// What a token is: a plain name, a name in quotes, a number or a mark. What it says stands in the
+/// text.
 #[derive(Clone, Copy)]
 pub(crate) enum Shape {
     Word,

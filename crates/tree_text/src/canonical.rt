@@ -12,11 +12,13 @@ use term_model::Flat;
 /// How much room is taken for each item at first.
 const BYTES_AN_ITEM: usize = 4;
 
-/// Puts the canonical text of a term without variables, whose symbols are held, behind what `out` has.
+/// Puts the canonical text of a term without variables, whose symbols are held, behind what `out`
+/// has.
 ///
-/// There is no white space in it, names are plain where they can be and else in quotes, integers are decimal
-/// without leading zeros, and lists stand in brackets. An `Err` changes nothing. The term is written from its
-/// end, which is where a list of items in postorder has the heads before their arguments.
+/// There is no white space in it, names are plain where they can be and else in quotes, integers
+/// are decimal without leading zeros, and lists stand in brackets. An `Err` changes nothing. The
+/// term is written from its end, which is where a list of items in postorder has the heads before
+/// their arguments.
 pub fn write_term(term: &Flat, symbols: &Symbols, out: &mut Vec<u8>) -> Result<(), Memory>
     requires ground { IsGround term.now }
     requires held { HasNames symbols.now term.now }

@@ -2,7 +2,8 @@
 ghost use Rattle.std.specs.Prelude.{◌≡◌};
 ghost use Rattle.tree_text.specs.NameBytes as spec;
 
-// Each byte that may stand in a plain name is at its own place, and a comma is at every other place.
+// Each byte that may stand in a plain name is at its own place, and a comma is at every other
+// place.
 static NAME_BYTES: [u8; 256] = *b"\
     ,,,,,,,,,,,,,,,,,,,,,,,,,,,,,,,,\
     ,,,,,,,',,,,,-.,0123456789,,,,,,\

@@ -7,7 +7,8 @@ use std::marker::Model;
 /// The least room that is taken where a text grows.
 const LEAST: usize = 64;
 
-/// Bytes, of which the first are free, and the others are a text. Contracts see the text, and how many are free.
+/// Bytes, of which the first are free, and the others are a text. Contracts see the text, and how
+/// many are free.
 #[derive(Drop)]
 pub(crate) struct Room {
     bytes: Vec<u8>,

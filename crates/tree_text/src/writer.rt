@@ -16,7 +16,8 @@ use std::alloc::{AllocError, Global};
 use symbol_pool::Symbols;
 use term_model::{Item, Symbol};
 
-/// A group that is open: the arguments of a symbol or the elements of a list, of which so many are left.
+/// A group that is open: the arguments of a symbol or the elements of a list, of which so many are
+/// left.
 #[derive(Clone, Copy)]
 pub(crate) struct Frame {
     pub(crate) symbol: Option<Symbol>,

@@ -103,8 +103,7 @@ fn of_two_seats_that_race_for_one_term_one_makes_and_the_other_finds(
     Ok(())
 }
 
-// The other's term isn't in the new part: it links its row 1 to row 0, and publishes again, under
-// 2.
+// The other's term isn't in the new part: it links its row 1 to row 0, and publishes again, under 2.
 #[test]
 fn a_lost_exchange_walks_the_new_part_and_makes(rt: HostRuntime) -> Result<(), Fail> {
     let alloc = rt.alloc();

@@ -183,8 +183,8 @@ fn explored(course: Course, turns: &[u32], more: u32) -> Result<Tally, Memory> {
 //   7,667 + 3.
 // - The collector is kept out where the creator is in at the peek: with the ask in gap a from 2 to
 //   18 of the 19 steps, and the peek in gap p from a to 18, the take has a + 1 gaps, and the unask
-//   and the give have (20 - p) * (21 - p) / 2; or all but the give comes before the look: 38,097 +
-//   57.
+//   and the give have (20 - p) * (21 - p) / 2; or all but the give comes before the look:
+//   38,097 + 57.
 // - Both are kept out where the creator looks while it is asked, and is seen: 9 ways with the look
 //   before the peek, and 9 after it.
 #[test]

@@ -61,8 +61,8 @@ fn look_on(words: &[KnownWord], rows: Vec<u32>) -> Result<Vec<u32>, Memory>
 fn with_next(words: &[KnownWord], mut rows: Vec<u32>, word: &KnownWord) -> Result<Vec<u32>, Memory>
     ensures { IfOk result
         (λ more. more.items
-        ≡ (if is_next words.now rows.items word.now then rows.items ++ word.now.value
-        ∷ [] else rows.items)) }
+        ≡ (if is_next words.now rows.items word.now
+        then rows.items ++ word.now.value ∷ [] else rows.items)) }
 {
     if is_next(words, rows.as_slice(), word) {
         rows.push(narrow(word.value)?)?;

@@ -130,8 +130,9 @@ pub(crate) fn is_whole(table: &Table, loads: &[(Place, u64)]) -> Result<bool, Me
 }
 
 fn are_singles_loaded(table: &Table, loads: &[(Place, u64)]) -> bool
-    ensures { IsTrue result ↔ IsLoadedRight (shown table.now.sizes table.now.words.items) loads.now
-        Base × IsLoadedRight (shown table.now.sizes table.now.words.items) loads.now Claim
+    ensures { IsTrue result
+        ↔ IsLoadedRight (shown table.now.sizes table.now.words.items) loads.now Base
+        × IsLoadedRight (shown table.now.sizes table.now.words.items) loads.now Claim
         × IsLoadedRight (shown table.now.sizes table.now.words.items) loads.now FreeCount
         × IsLoadedRight (shown table.now.sizes table.now.words.items) loads.now InUse }
 {
@@ -142,11 +143,14 @@ fn are_singles_loaded(table: &Table, loads: &[(Place, u64)]) -> bool
 }
 
 fn are_lines_loaded(table: &Table, loads: &[(Place, u64)], count: u32) -> bool
-    ensures { IsTrue result ↔ LoadsLine (shown table.now.sizes table.now.words.items) loads.now
-        FreePlaces count × LoadsLine (shown table.now.sizes table.now.words.items) loads.now Buckets
-        table.now.sizes.buckets × LoadsLine (shown table.now.sizes table.now.words.items) loads.now
-        Births table.now.sizes.rows × LoadsLine (shown table.now.sizes table.now.words.items)
-        loads.now Nexts table.now.sizes.rows
+    ensures { IsTrue result
+        ↔ LoadsLine (shown table.now.sizes table.now.words.items) loads.now FreePlaces count
+        × LoadsLine (shown table.now.sizes table.now.words.items) loads.now Buckets
+        table.now.sizes.buckets
+        × LoadsLine (shown table.now.sizes table.now.words.items) loads.now Births
+        table.now.sizes.rows
+        × LoadsLine (shown table.now.sizes table.now.words.items) loads.now Nexts
+        table.now.sizes.rows
         × LoadsLine (shown table.now.sizes table.now.words.items) loads.now RootCounts
         table.now.sizes.seats }
 {
