@@ -2,6 +2,7 @@
 
 from __future__ import annotations
 
+import contextlib
 import os
 import shutil
 import signal
@@ -37,6 +38,16 @@ command|unroll|bytes|reads a file of terms|./rec unroll FILE
 PROGRAM_OF_LATER = """echo "$*"; wc -c
 case $1 in judge) echo fault 15 at 2 >&2 ;; *) echo fault 18 at 48 >&2 ;; esac
 exit 3"""
+
+
+def processes() -> list[str]:
+    """Returns the folders in which the processes of this user work."""
+    found = []
+    for name in os.listdir("/proc"):
+        if name.isdigit():
+            with contextlib.suppress(OSError):
+                found.append(os.readlink(f"/proc/{name}/cwd"))
+    return found
 
 
 class PassesOn(unittest.TestCase):
@@ -161,6 +172,49 @@ class Help(unittest.TestCase):
             self.assertTrue(out.startswith(b"usage: ") or b"\nusage: " in out)
             self.assertEqual((err, status), (b"", 0))
             self.assertEqual(run([f"{support.TOOLS}/{name}", "--wrong-word"])[2], 2, name)
+
+
+# Stands for the toolchain's command: it notes what it is asked for and where, and a library takes long.
+TOOLCHAIN = """echo "$1 ${PWD##*/} $PWD" >>"$NOTES"
+case $1 in
+lib) exec sleep 60 ;;
+run)
+    for _ in $(seq 200); do [ "$(grep -c ^lib "$NOTES")" = "$REC_AHEAD" ] && break; sleep 0.05; done
+    [ -n "$FAILS" ] || { printf '#!/bin/sh\\nexit 5\\n' >out/rec_main && chmod +x out/rec_main; } ;;
+esac"""
+
+
+class Builds(unittest.TestCase):
+    """The first build, by a toolchain that notes what it is asked for."""
+
+    def build(self, folder: str, ahead: int, fails: str) -> tuple[int, list[list[str]]]:
+        """Returns the status, and what the toolchain was asked for; no copy of the sources is left, and no build."""
+        for name in ("rec_main", "shared_desk", "rewrite_workers"):
+            os.makedirs(f"{folder}/top/crates/{name}/out")
+        for name in ("rec", "crates.txt", "HANDLES", "tools/commands.txt"):
+            os.makedirs(os.path.dirname(f"{folder}/top/{name}"), exist_ok=True)
+            shutil.copy(f"{TOP}/{name}", f"{folder}/top/{name}")
+        os.makedirs(f"{folder}/copies")
+        os.makedirs(f"{folder}/bin")
+        os.rename(support.script(folder, TOOLCHAIN), f"{folder}/bin/rt")
+        words = {"PATH": f"{folder}/bin:{os.environ['PATH']}", "TMPDIR": f"{folder}/copies", "NOTES": f"{folder}/notes"}
+        words |= {"REC_PROGRAM": "", "REC_EXPLAIN": "0", "REC_AHEAD": str(ahead), "FAILS": fails}
+        status = run([f"{folder}/top/rec", "rewrite"], **words)[2]
+        self.assertEqual(os.listdir(f"{folder}/copies"), [])
+        self.assertFalse([it for it in processes() if f"{folder}/copies" in it])
+        with open(f"{folder}/notes") as notes:
+            return status, [line.split() for line in notes]
+
+    def test_libraries_are_built_ahead_in_copies(self) -> None:
+        for ahead in (0, 1, 2):
+            for fails, wanted in (("", 5), ("1", 126)):
+                with support.folder() as folder:
+                    status, asked = self.build(folder, ahead, fails)
+                    self.assertEqual(status, wanted, (ahead, fails))
+                    libraries = [it[1] for it in asked if it[0] == "lib"]
+                    self.assertEqual(sorted(libraries), sorted(["shared_desk", "rewrite_workers"][:ahead]))
+                    self.assertTrue(all(it[2].startswith(f"{folder}/copies/") for it in asked if it[0] == "lib"))
+                    self.assertEqual([it[1:] for it in asked if it[0] == "run"], [["rec_main", f"{folder}/top/crates/rec_main"]])
 
 
 class Later(unittest.TestCase):
