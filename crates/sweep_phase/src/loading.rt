@@ -8,7 +8,7 @@ ghost use Rattle.store_model.specs.ByView.{IsLoaded};
 ghost use Rattle.sweep_phase.specs.Loaded.{HasRow, HasRoots, HasLists};
 ghost use Rattle.sweep_phase.specs.Gathered.{sizes_of, loads_of, Gathers, LoadsMore, HasGathered};
 
-use crate::places::{birth_place, next_place};
+use crate::places::{birth_from, next_from, word_from};
 use crate::sweep::Sweep;
 use busy_forbidden::Seat;
 use node_rows::{
@@ -105,62 +105,72 @@ fn word_count(sizes: &Sizes) -> u32
     sizes.arity.max(2) + 2
 }
 
-// Loads word k of a row.
-fn load_word(sweep: &Sweep<'_>, seat: &mut Seat<NodeRows>, row: u32, k: u32)
+// Loads word k of a row, whose first word stands at `first`.
+#[inline(always)]
+fn load_word(sweep: &Sweep<'_>, seat: &mut Seat<NodeRows>, row: u32, first: usize, k: u32)
     requires at { Gathers sweep.now seat.old.seat seat.old.number seat.old.seats }
     requires below { row < (sizes_of sweep.now).rows }
+    requires first { first ≡ index_of (sizes_of sweep.now) (RowWord row 0) }
     requires within { k < widest (sizes_of sweep.now) + 2 }
     ensures at { Gathers sweep.now seat.new.seat seat.new.number seat.new.seats }
     ensures more { LoadsMore seat.old.seat seat.old.number seat.old.seats seat.new.seat
         seat.new.number seat.new.seats }
     ensures loaded { IsLoaded (RowWord row k) (loads_of seat.new.seat) }
 {
-    let word = word_in(sweep.store, u64::from(row), k as usize);
+    let word = word_from(sweep.store, row, first, k);
     load(sweep, seat, word, Place::RowWord(row, k));
 }
 
-// Loads the words of a row before its birth number.
-fn load_words(sweep: &Sweep<'_>, seat: &mut Seat<NodeRows>, row: u32)
+// Loads the words of a row before its birth number, so many, from `first` on.
+#[inline(always)]
+fn load_words(sweep: &Sweep<'_>, seat: &mut Seat<NodeRows>, row: u32, first: usize, count: u32)
     requires at { Gathers sweep.now seat.old.seat seat.old.number seat.old.seats }
     requires below { row < (sizes_of sweep.now).rows }
+    requires first { first ≡ index_of (sizes_of sweep.now) (RowWord row 0) }
+    requires count { count ≡ widest (sizes_of sweep.now) + 2 }
     ensures at { Gathers sweep.now seat.new.seat seat.new.number seat.new.seats }
     ensures more { LoadsMore seat.old.seat seat.old.number seat.old.seats seat.new.seat
         seat.new.number seat.new.seats }
     ensures loaded { (k : ℕ) → k < widest (sizes_of sweep.now) + 2
         → IsLoaded (RowWord row k) (loads_of seat.new.seat) }
 {
-    for k in 0..word_count(&sweep.store.sizes) {
-        load_word(sweep, seat, row, k);
+    for k in 0..count {
+        load_word(sweep, seat, row, first, k);
     }
 }
 
-// Loads the birth number of a row, and its next.
-fn load_links(sweep: &Sweep<'_>, seat: &mut Seat<NodeRows>, row: u32)
+// Loads the birth number of a row, whose first word stands at `first`, and its next.
+#[inline(always)]
+fn load_links(sweep: &Sweep<'_>, seat: &mut Seat<NodeRows>, row: u32, first: usize)
     requires at { Gathers sweep.now seat.old.seat seat.old.number seat.old.seats }
     requires below { row < (sizes_of sweep.now).rows }
+    requires first { first ≡ index_of (sizes_of sweep.now) (RowWord row 0) }
     ensures at { Gathers sweep.now seat.new.seat seat.new.number seat.new.seats }
     ensures more { LoadsMore seat.old.seat seat.old.number seat.old.seats seat.new.seat
         seat.new.number seat.new.seats }
     ensures birth { IsLoaded (Birth row) (loads_of seat.new.seat) }
     ensures next { IsLoaded (Next row) (loads_of seat.new.seat) }
 {
-    let birth = birth_place(sweep.store, u64::from(row));
+    let birth = birth_from(sweep.store, row, first);
     load(sweep, seat, birth, Place::Birth(row));
-    let next = next_place(sweep.store, u64::from(row));
+    let next = next_from(sweep.store, row, first);
     load(sweep, seat, next, Place::Next(row));
 }
 
-// Loads all words of a row.
-fn load_row(sweep: &Sweep<'_>, seat: &mut Seat<NodeRows>, row: u32)
+// Loads all words of a row, of which so many stand before its birth number.
+#[inline(always)]
+fn load_row(sweep: &Sweep<'_>, seat: &mut Seat<NodeRows>, row: u32, count: u32)
     requires at { Gathers sweep.now seat.old.seat seat.old.number seat.old.seats }
     requires below { row < (sizes_of sweep.now).rows }
+    requires count { count ≡ widest (sizes_of sweep.now) + 2 }
     ensures at { Gathers sweep.now seat.new.seat seat.new.number seat.new.seats }
     ensures more { LoadsMore seat.old.seat seat.old.number seat.old.seats seat.new.seat
         seat.new.number seat.new.seats }
     ensures loaded { HasRow (sizes_of sweep.now) (loads_of seat.new.seat) row }
 {
-    load_words(sweep, seat, row);
-    load_links(sweep, seat, row);
+    let first = word_in(sweep.store, u64::from(row), 0);
+    load_words(sweep, seat, row, first, count);
+    load_links(sweep, seat, row, first);
 }
 
 // Loads all words of all rows.
@@ -172,8 +182,9 @@ fn load_rows(sweep: &Sweep<'_>, seat: &mut Seat<NodeRows>)
     ensures loaded { (r : ℕ) → r < (sizes_of sweep.now).rows
         → HasRow (sizes_of sweep.now) (loads_of seat.new.seat) r }
 {
+    let count = word_count(&sweep.store.sizes);
     for row in 0..sweep.store.sizes.rows {
-        load_row(sweep, seat, row);
+        load_row(sweep, seat, row, count);
     }
 }
 

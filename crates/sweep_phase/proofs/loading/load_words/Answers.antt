@@ -1,5 +1,4 @@
-use Rattle.std.proofs.Common.{◌≡◌, ℕ, suc, ◌+◌, ◌<◌, ap, arith}
-use Rattle.store_model.specs.declared.view.Sizes.{Sizes}
+use Rattle.std.proofs.Common.{◌≡◌, ℕ, suc, ◌+◌, ◌<◌, arith}
 use Rattle.store_model.specs.declared.view.Place.TheVariants.{RowWord}
 use Rattle.store_model.specs.ByView.{IsLoaded}
 use Rattle.sweep_phase.specs.Gathered.{loads_of, sizes_of}
@@ -24,4 +23,4 @@ loop-k-preserved c =
     }
 
 pub returns-clause-loaded : goal.returns-clause-loaded
-returns-clause-loaded c = λ q l. c.loop-k.invariant.loaded q (let d = ap (λ (z : Sizes). z.arity) c.args.sweep.now.at.told in let e = c.word_count-k-end.ensures in omega arith)
+returns-clause-loaded c = λ q l. c.loop-k.invariant.loaded q (let e = c.requires.count in omega arith)
