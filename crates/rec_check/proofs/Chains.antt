@@ -92,9 +92,9 @@ module _ (scope : Scope) (r : written.Rule) where
                 ∙ ap Some (sym g)
 
 -- what a scope with these variables spells
-pub in_scope : (text : List ℕ) (symbols : List Named) (names vars : List (List ℕ)) (r : written.Rule) → names ≡ vars
-    → sides_in (record { text = text; symbols = symbols; variables = names }) r ≡ sides_in (record { text = text; symbols = symbols; variables = vars }) r
-in_scope text symbols names vars r e = ap (λ (vs : List (List ℕ)). sides_in (record { text = text; symbols = symbols; variables = vs }) r) e
+pub in_scope : (now text : List ℕ) (symbols : List Named) (names vars : List (List ℕ)) (r : written.Rule) → now ≡ text → names ≡ vars
+    → sides_in (record { text = now; symbols = symbols; variables = names }) r ≡ sides_in (record { text = text; symbols = symbols; variables = vars }) r
+in_scope now text symbols names vars r t e = λ i. sides_in (record { text = t i; symbols = symbols; variables = e i }) r
 
 -- what the last specification spells
 pub of_last : (syntax : Parsed) (text : List ℕ) (specifications : List Specification) (last : Specification) (material : List ℕ) (terms : List (List Node))

@@ -1,5 +1,5 @@
 -- Names and symbols added one after another.
-use Rattle.std.proofs.Common.{◌≡◌, ℕ, zero, suc, ◌+◌, ◌<◌, ◌≤◌, Bool, true, false, cond, not, ◌&&◌, ◌||◌, List, [], ◌∷◌, ◌++◌, length, map, filter, get_or, drop, slice_get, max, nat_lt, Option, Some, None, is_some, refl, sym, ap, ◌∙◌, arith, position}
+use Rattle.std.proofs.Common.{◌≡◌, ℕ, zero, suc, ◌+◌, ◌<◌, ◌≤◌, Bool, true, false, cond, not, ◌&&◌, ◌||◌, List, [], ◌∷◌, ◌++◌, length, map, filter, get_or, drop, slice_get, max, nat_lt, Option, Some, None, is_some, refl, sym, ap, ◌∙◌, arith}
 use Rattle.std.specs.Prelude.{option_and_then, nat_le, if◌then◌else◌}
 use Rattle.std.specs.Option.{option_to_list}
 use Rattle.std.specs.List.{list_any, flat_map}
@@ -13,43 +13,44 @@ use Rattle.rec_reader.specs.declared.token.Name.{Name}
 use Rattle.rec_reader.specs.declared.syntax_tree.Node.{Node}
 use Rattle.rec_reader.specs.declared.syntax_tree.Declaration.{Declaration}
 use Rattle.rec_reader.specs.declared.syntax_tree.Specification.{Specification}
-use Rattle.rec_includes.specs.Names.{text_of}
+use Rattle.rec_includes.specs.Names.{text_of, is_among}
+use Rattle.rec_includes.specs.Listing.{Listing, texts, with_new}
 use Rattle.rec_includes.specs.Material.{Declared, declared, symbols_of_declaration, symbols_by, specifications_at}
 use Rattle.rec_check.specs.Named.{with_name, with_names}
 use Rattle.rec_check.specs.Term.{same_symbol, most_arguments}
 use Rattle.rec_check.specs.Symbols.{named_in, may_be_added, with_symbol, with_symbols, widest_of}
 use Rattle.rec_check.proofs.Found.{same_self}
 use Rattle.rec_check.proofs.OneByOne.{is_part}
-use Rattle.rec_check.proofs.Positions.{place_if_any}
+use Rattle.rec_check.proofs.Listed.{any_name, same_bytes, new_text}
 
 -- ---- the variables of a left side
 
-module _ (text : List ℕ) (variables : List (List ℕ)) (left : List Node) (i : ℕ) (d : Node) (l : i < length left) (names : List (List ℕ)) where
-  abbrev ahead : List (List ℕ) → List Node → List (List ℕ)
-  ahead ns nodes = with_names ns (filter (λ name. list_any (bytes_eq name) variables) (map (λ n. text_of text n.head) nodes))
+module _ (known : Listing) (left : List Node) (i : ℕ) (d : Node) (l : i < length left) (now : Listing) (b : Bool) (is : b ≡ is_among known.bytes known.names (get_or left i d).head) where
+  abbrev this : Name
+  this = (get_or left i d).head
 
-  module _ (name : List ℕ) (o : Option ℕ) (is : name ≡ text_of text (get_or left i d).head) (at : o ≡ position (bytes_eq name) variables) where
-    any : list_any (bytes_eq (text_of text (get_or left i d).head)) variables ≡ is_some o
-    any = ap (λ n. list_any (bytes_eq n) variables) (sym is) ∙ sym (place_if_any (bytes_eq name) variables) ∙ ap is_some (sym at)
+  abbrev ahead : Listing → List Node → List (List ℕ)
+  ahead names nodes = with_names (texts names) (filter (λ name. list_any (bytes_eq name) (texts known)) (map (λ n. text_of known.bytes n.head) nodes))
 
-    abbrev rest : List (List ℕ)
-    rest = filter (λ n. list_any (bytes_eq n) variables) (map (λ n. text_of text n.head) (drop (i + 1) left))
+  abbrev rest : List (List ℕ)
+  rest = filter (λ n. list_any (bytes_eq n) (texts known)) (map (λ n. text_of known.bytes n.head) (drop (i + 1) left))
 
-    step : ahead names (drop i left) ≡ with_names names (cond (is_some o) (text_of text (get_or left i d).head ∷ rest) rest)
-    step = at_drop_more (ahead names) left i d l ∙ ap (λ (b : Bool). with_names names (cond b (text_of text (get_or left i d).head ∷ rest) rest)) any
+  abbrev with_this : Bool → List (List ℕ)
+  with_this passes = with_names (texts now) (cond passes (text_of known.bytes this ∷ rest) rest)
 
-    pub takes : (more : List (List ℕ)) → is_some o ≡ true → more ≡ with_name names name → ahead more (drop (i + 1) left) ≡ ahead names (drop i left)
-    takes more passes e =
-        ap (λ ns. with_names ns rest) (e ∙ ap (with_name names) is)
-        ∙ sym (step ∙ ap (λ (b : Bool). with_names names (cond b (text_of text (get_or left i d).head ∷ rest) rest)) passes)
+  step : ahead now (drop i left) ≡ with_this b
+  step = at_drop_more (ahead now) left i d l ∙ ap with_this (sym (is ∙ any_name known.bytes (bytes_eq (text_of known.bytes this)) known.names))
 
-    pub passes_over : is_some o ≡ false → ahead names (drop (i + 1) left) ≡ ahead names (drop i left)
-    passes_over fails = sym (step ∙ ap (λ (b : Bool). with_names names (cond b (text_of text (get_or left i d).head ∷ rest) rest)) fails)
+  pub takes : (more : Listing) → now.bytes ≡ known.bytes → b ≡ true → more ≡ with_new now this → ahead more (drop (i + 1) left) ≡ ahead now (drop i left)
+  takes more same passes e =
+      ap (λ ns. with_names ns rest) (ap texts e ∙ new_text now this ∙ ap (λ bytes. with_name (texts now) (text_of bytes this)) same)
+      ∙ sym (step ∙ ap with_this passes)
 
--- names added to names, in two lists
-pub with_names-append : (names xs ys : List (List ℕ)) → with_names names (xs ++ ys) ≡ with_names (with_names names xs) ys
-with_names-append names [] ys = refl
-with_names-append names (x ∷ xs) ys = with_names-append (with_name names x) xs ys
+  pub stands_in : (more : Listing) → now.bytes ≡ known.bytes → more ≡ with_new now this → more.bytes ≡ known.bytes
+  stands_in more same e = ap (λ (m : Listing). m.bytes) e ∙ same_bytes now this ∙ same
+
+  pub passes_over : b ≡ false → ahead now (drop (i + 1) left) ≡ ahead now (drop i left)
+  passes_over fails = sym (step ∙ ap with_this fails)
 
 -- ---- one more symbol
 

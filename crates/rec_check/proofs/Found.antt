@@ -93,3 +93,9 @@ pub variable_found : (symbols : List Named) (name : List ℕ) (count : ℕ) (o :
 variable_found symbols name count None v e h = absurd cc
 variable_found symbols name zero (Some w) v e h = let same : w ≡ v = cc in ap (λ x. Some (Var x)) same
 variable_found symbols name (suc count) (Some w) v e h = absurd cc
+
+-- a head with arguments that stands for something is no variable
+pub no_variable : (symbols : List Named) (name : List ℕ) (count : ℕ) (o : Option ℕ) → is_some (item_by symbols name count o) ≡ true → 0 < count → None ≡ o
+no_variable symbols name zero o h some = absurd (omega (arith, some))
+no_variable symbols name (suc count) None h some = refl
+no_variable symbols name (suc count) (Some variable) h some = absurd cc

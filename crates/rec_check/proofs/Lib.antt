@@ -1,7 +1,7 @@
 pub mod OneByOne
 pub mod Found
 pub mod Positions
-pub mod Kept
+pub mod Listed
 pub mod Declaring
 pub mod Gathering
 pub mod Chains

@@ -173,7 +173,7 @@ module _ (bytes : List ℕ) where
 
   -- whether a name is declared as a variable
   declared_among : (s : Specification) (n : Name) → list_any (bytes_eq (text_of bytes n)) (variables_of bytes s) ≡ is_among bytes (names_of (map variable_entry (variables_by s))) n
-  declared_among s n = any_with_names (text_of bytes n) [] (map (λ v. text_of bytes v.name) (variables_by s)) ∙ variable_names n (variables_by s)
+  declared_among s n = variable_names n (variables_by s)
 
   -- ---- what the heads of nodes are
 

@@ -1,12 +1,7 @@
 -- Names that differ, in order.
-use Rattle.std.specs.Prelude.{ℕ, List, [], ◌∷◌, ◌++◌, map, if◌then◌else◌}
+use Rattle.std.specs.Prelude.{ℕ, List, [], ◌∷◌, ◌++◌, if◌then◌else◌}
 use Rattle.std.specs.List.{list_any}
 use Rattle.std.specs.Str.{bytes_eq}
-use Rattle.std.specs.Global.{Vec}
-
--- names as they are kept
-abbrev pub names_in : List (Vec ℕ) → List (List ℕ)
-names_in kept = map (λ v. v.items) kept
 
 -- a name comes last, if it isn't there
 abbrev pub with_name : List (List ℕ) → List ℕ → List (List ℕ)

@@ -7,7 +7,6 @@ use Rattle.rec_reader.specs.declared.syntax_tree.Node.{Node}
 use Rattle.rec_reader.specs.declared.syntax_tree.Specification.{Specification}
 use Rattle.rec_includes.specs.Names.{text_of}
 use Rattle.rec_includes.specs.Material.{variables_by, symbols_of, specifications_at}
-use Rattle.rec_check.specs.Named.{with_names}
 use Rattle.rec_check.specs.Symbols.{named_in, with_symbols}
 use Rattle.rec_check.specs.Term.{all_of, tree_in}
 use Rattle.rec_check.specs.Rule.{◌>>=◌, rule_in}
@@ -23,7 +22,7 @@ nothing = record { symbols = []; rules = []; terms = [] }
 
 -- the names that a specification declares as variables
 abbrev pub variables_of : List ℕ → Specification → List (List ℕ)
-variables_of text s = with_names [] (map (λ v. text_of text v.name) (variables_by s))
+variables_of text s = map (λ v. text_of text v.name) (variables_by s)
 
 -- the rules of a specification, whose variables are its own
 abbrev pub rules_in : List ℕ → List Named → Specification → Option (List Rule)

@@ -5,7 +5,6 @@ mod checking;
 mod conditions;
 mod last;
 mod laws;
-mod names;
 mod rules;
 mod scope;
 mod spec;

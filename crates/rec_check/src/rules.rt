@@ -2,15 +2,15 @@
 
 ghost use Rattle.std.specs.Prelude.{◌≡◌, Some, IfOk, IsSome};
 ghost use Rattle.rec_reader.specs.Few.{HasFewNodes};
+ghost use Rattle.rec_includes.specs.Listing.{texts};
 ghost use Rattle.rec_check.specs.Scope.{seen};
 ghost use Rattle.rec_check.specs.Term.{all_of};
 ghost use Rattle.rec_check.specs.Rule.{condition_in, rule_in, sides_in, variables_in};
 
-use crate::names::Names;
 use crate::scope::Scope;
 use crate::terms::tree_of;
 use faults::Memory;
-use rec_includes::text_of;
+use rec_includes::Directory;
 use rec_reader::{Condition as Written, Node, Rule as WrittenRule};
 use rewrite_model::{Condition, Rule};
 use std::alloc::Global;
@@ -18,19 +18,19 @@ use symbol_pool::Symbols;
 
 /// The variables that occur in a left side, in order of first occurrence: the names there that are
 /// declared as variables.
-fn variables_of(
+fn variables_of<'a>(
     alloc: Global,
-    text: &[u8],
-    declared: &Names,
+    declared: &Directory<'a>,
     left: &[Node],
-) -> Result<Names, Memory>
-    ensures { IfOk result (λ names. names ≡ variables_in text.now declared.now left.now) }
+) -> Result<Directory<'a>, Memory>
+    ensures bytes { IfOk result (λ d. d.bytes ≡ declared.now.bytes) }
+    ensures texts { IfOk result (λ d.
+        texts d ≡ variables_in declared.now.bytes (texts declared.now) left.now) }
 {
-    let mut variables = Names::new(alloc);
+    let mut variables = Directory::new(alloc, declared.text());
     for node in left {
-        let name = text_of(text, node.head);
-        if declared.number(name).is_some() {
-            variables.add(name)?;
+        if declared.has(node.head) {
+            variables.add_new(node.head)?;
         }
     }
     Ok(variables)
@@ -68,25 +68,25 @@ fn sides_of(alloc: Global, scope: &Scope, written: &WrittenRule) -> Result<Rule,
     let left = tree_of(alloc, scope, written.left.as_slice())?;
     let right = tree_of(alloc, scope, written.right.as_slice())?;
     let conditions = conditions_of(alloc, scope, written.conditions.as_slice())?;
-    let variables = scope.variables.count() as u32;
+    let variables = scope.variables.len() as u32;
     Ok(Rule::new(left, right, conditions, variables))
 }
 
 /// A rule, with the variables of its left side numbered in order of first occurrence.
 pub(crate) fn rule_of(
     alloc: Global,
-    text: &[u8],
     symbols: &Symbols,
-    declared: &Names,
+    declared: &Directory,
     written: &WrittenRule,
 ) -> Result<Rule, Memory>
     requires few { HasFewNodes written.now }
-    requires spelled { IsSome (rule_in text.now symbols.now declared.now written.now) }
-    ensures { IfOk result (λ r. rule_in text.now symbols.now declared.now written.now ≡ Some r) }
+    requires spelled { IsSome
+        (rule_in declared.now.bytes symbols.now (texts declared.now) written.now) }
+    ensures { IfOk result (λ r.
+        rule_in declared.now.bytes symbols.now (texts declared.now) written.now ≡ Some r) }
 {
-    let variables = variables_of(alloc, text, declared, written.left.as_slice())?;
+    let variables = variables_of(alloc, declared, written.left.as_slice())?;
     let scope = Scope {
-        text,
         symbols,
         variables: &variables,
     };

@@ -1,27 +1,44 @@
 //! What the heads of a term stand for.
 
-ghost use Rattle.std.specs.Prelude.{◌≡◌, ◌<◌, ◌^◌, Some, IsSome, length};
+ghost use Rattle.std.specs.Prelude.{◌≡◌, ◌<◌, ◌^◌, Some, IsSome, length, position};
+ghost use Rattle.std.specs.Str.{bytes_eq};
+ghost use Rattle.rec_includes.specs.Names.{text_of};
+ghost use Rattle.rec_includes.specs.Listing.{texts};
 ghost use Rattle.rec_check.specs.Term.{symbol_item};
 
-use crate::names::Names;
-use rec_includes::text_of;
+use rec_includes::{Directory, text_of};
 use rec_reader::Node;
 use symbol_pool::Symbols;
 use term_model::Item;
 
 /// The names that a term is read with: those of the variables, which are fewer than 2^32, and the
-/// symbols.
+/// symbols. The heads of the term stand in the same bytes as the variables.
 #[derive(Drop)]
 pub(crate) struct Scope<'a> {
-    pub text: &'a [u8],
     pub symbols: &'a Symbols,
-    pub variables: &'a Names,
-    ghost few: { length variables.now < 2 ^ 32 },
+    pub variables: &'a Directory<'a>,
+    ghost few: { length variables.now.names < 2 ^ 32 },
 }
 
 impl Scope<'_> {
     ghost use Rattle.rec_check.specs.Scope.{seen};
     ghost use Rattle.rec_check.specs.Term.{item_in};
+
+    /// The number of the variable of a head's name. A head with arguments has none, since it stands
+    /// for something.
+    #[inline(always)]
+    fn variable_of(&self, node: Node) -> Option<usize>
+        requires { IsSome (item_in (seen self.now) node) }
+        ensures { result
+            ≡ position (bytes_eq (text_of self.now.variables.now.bytes node.head))
+            (texts self.now.variables.now) }
+    {
+        if node.count == 0 {
+            self.variables.place(node.head)
+        } else {
+            None
+        }
+    }
 
     /// What a head stands for: the variable of its name, where there is one, which has no
     /// arguments, or else the symbol of its name and as many arguments as the head has.
@@ -29,10 +46,12 @@ impl Scope<'_> {
         requires { IsSome (item_in (seen self.now) node) }
         ensures { item_in (seen self.now) node ≡ Some result }
     {
-        let name = text_of(self.text, node.head);
-        match self.variables.number(name) {
+        match self.variable_of(node) {
             Some(variable) => Item::Var(variable as u32),
-            None => symbol_item(self.symbols, name, node.count),
+            None => {
+                let name = text_of(self.variables.text(), node.head);
+                symbol_item(self.symbols, name, node.count)
+            }
         }
     }
 }

@@ -1,24 +1,23 @@
 //! What specifications spell together.
 
-ghost use Rattle.std.specs.Prelude.{◌≡◌, [], All, Some, map, slice_get, IfOk, IsSome, OnOk};
+ghost use Rattle.std.specs.Prelude.{◌≡◌, ◌++◌, [], All, Some, slice_get, IfOk, IsSome, OnOk};
+ghost use Rattle.std.specs.List.{flat_map};
 ghost use Rattle.std.specs.Option.{option_copied};
 ghost use Rattle.rec_reader.specs.Few.{HasFewNodes, HasFewLeftNodes};
-ghost use Rattle.rec_check.specs.Named.{with_names};
 ghost use Rattle.rec_check.specs.Symbols.{named_in, with_symbols};
 ghost use Rattle.rec_check.specs.Rule.{rule_in};
 ghost use Rattle.rec_check.specs.Spelled as spelled;
 ghost use Rattle.rec_check.specs.Term.{after, all_of};
 ghost use Rattle.rec_includes.specs.Material.{symbols_of, specifications_at};
-ghost use Rattle.rec_includes.specs.Names.{text_of};
+ghost use Rattle.rec_includes.specs.Listing.{listing, texts};
 
-use crate::names::Names;
 use crate::rules::rule_of;
 use crate::scope::Scope;
 use crate::table::Table;
 use crate::terms::trees_of;
 use faults::Memory;
-use rec_includes::text_of;
-use rec_reader::{Name, Node, Rule as WrittenRule, Sequence, Specification};
+use rec_includes::Directory;
+use rec_reader::{Node, Rule as WrittenRule, Sequence, Specification};
 use rewrite_model::Rule;
 use std::alloc::Global;
 use symbol_pool::Symbols;
@@ -55,44 +54,34 @@ pub(crate) fn table_of(
     Ok(table)
 }
 
-fn add_names(variables: &mut Names, text: &[u8], names: &[Name]) -> Result<(), Memory>
-    ensures { OnOk result (variables.new
-        ≡ with_names variables.old (map (λ n. text_of text.now n) names.now)) }
+/// Adds the names that a specification declares as variables.
+fn add_variables(variables: &mut Directory, specification: &Specification) -> Result<(), Memory>
+    ensures { OnOk result (variables.new ≡ listing variables.old.bytes
+        (variables.old.names ++ flat_map (λ v. v.names) specification.now.variables)) }
 {
-    for name in names {
-        variables.add(text_of(text, *name))?;
+    for declared in specification.variables.as_slice() {
+        variables.add_all(declared.names.as_slice())?;
     }
     Ok(())
-}
-
-/// The names that a specification declares as variables.
-fn variables_of(alloc: Global, text: &[u8], specification: &Specification) -> Result<Names, Memory>
-    ensures { IfOk result (λ names. names ≡ spelled.variables_of text.now specification.now) }
-{
-    let mut variables = Names::new(alloc);
-    for declared in specification.variables.as_slice() {
-        add_names(&mut variables, text, declared.names.as_slice())?;
-    }
-    Ok(variables)
 }
 
 /// Adds rules, which have these variables.
 fn push_rules(
     alloc: Global,
-    text: &[u8],
     symbols: &Symbols,
-    declared: &Names,
+    declared: &Directory,
     written: &[WrittenRule],
     rules: &mut Vec<Rule>,
 ) -> Result<(), Memory>
     requires few { All HasFewNodes written.now }
     requires spelled { IsSome (after rules.old.items
-        (all_of (rule_in text.now symbols.now declared.now) written.now)) }
+        (all_of (rule_in declared.now.bytes symbols.now (texts declared.now)) written.now)) }
     ensures { OnOk result (after rules.old.items
-        (all_of (rule_in text.now symbols.now declared.now) written.now) ≡ Some rules.new.items) }
+        (all_of (rule_in declared.now.bytes symbols.now (texts declared.now)) written.now)
+        ≡ Some rules.new.items) }
 {
     for rule in written {
-        rules.push(rule_of(alloc, text, symbols, declared, rule)?)?;
+        rules.push(rule_of(alloc, symbols, declared, rule)?)?;
     }
     Ok(())
 }
@@ -111,9 +100,10 @@ fn add_rules(
     ensures { OnOk result (after rules.old.items
         (spelled.rules_in text.now symbols.now specification.now) ≡ Some rules.new.items) }
 {
-    let declared = variables_of(alloc, text, specification)?;
+    let mut declared = Directory::new(alloc, text);
+    add_variables(&mut declared, specification)?;
     let written = specification.rules.as_slice();
-    push_rules(alloc, text, symbols, &declared, written, rules)
+    push_rules(alloc, symbols, &declared, written, rules)
 }
 
 /// The rules of these of the specifications, in order.
@@ -149,9 +139,8 @@ pub(crate) fn terms_of(
     requires { IsSome (spelled.terms_in text.now symbols.now terms.now) }
     ensures { IfOk result (λ v. spelled.terms_in text.now symbols.now terms.now ≡ Some v.items) }
 {
-    let variables = Names::new(alloc);
+    let variables = Directory::new(alloc, text);
     let scope = Scope {
-        text,
         symbols,
         variables: &variables,
     };

@@ -1,7 +1,7 @@
 //! Names in order, found by their text.
-ghost use Rattle.std.specs.Prelude.{◌≡◌, ◌++◌, ◌∷◌, [], IfSome, OnOk, OnErr, Some, length, take};
+ghost use Rattle.std.specs.Prelude.{◌≡◌, ◌++◌, ◌∷◌, [], IfSome, OnOk, OnErr, Some, false, length, take};
 ghost use Rattle.rec_includes.specs.Names.{is_among, same_text};
-ghost use Rattle.rec_includes.specs.Listing.{listing, place_in, place_of, place_of_text};
+ghost use Rattle.rec_includes.specs.Listing.{listing, place_in, place_of, place_of_text, with_new};
 
 use crate::names::text_of;
 use crate::recent::Recent;
@@ -66,6 +66,7 @@ impl<'a> Directory<'a> {
         let text = text_of(self.text, name);
         match self.guess(text) {
             Some(place) => Some(place),
+            None if self.places.is_empty() => None,
             None => self.places.get(text).copied(),
         }
     }
@@ -130,6 +131,27 @@ impl<'a> Directory<'a> {
             self.names.push(name)?;
             return Ok(());
         }
+        self.add_absent(name)
+    }
+
+    /// Puts a name at the end, unless one with the same text is there. An `Err` changes nothing.
+    pub fn add_new(&mut self, name: Name) -> Result<(), Memory>
+        ensures ok { OnOk result (self.new ≡ with_new self.old name) }
+        ensures err { OnErr result (self.new ≡ self.old) }
+    {
+        if self.has(name) {
+            Ok(())
+        } else {
+            self.add_absent(name)
+        }
+    }
+
+    /// Puts a name whose text isn't there at the end. An `Err` changes nothing.
+    fn add_absent(&mut self, name: Name) -> Result<(), Memory>
+        requires { is_among self.old.bytes self.old.names name ≡ false }
+        ensures ok { OnOk result (self.new ≡ listing self.old.bytes (self.old.names ++ name ∷ [])) }
+        ensures err { OnErr result (self.new ≡ self.old) }
+    {
         let text = text_of(self.text, name);
         let key = Vec::from_slice(*self.names.allocator(), text)?;
         self.names.push(name)?;

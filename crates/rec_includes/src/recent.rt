@@ -5,10 +5,11 @@ ghost use Rattle.std.specs.Prelude.{◌<◌};
 const PLACES: usize = 64;
 
 /// The number of an entry at each of some places, one of which a name has. It is only a guess,
-/// since many names have the same place: whoever asks looks whether the entry is that of the name.
+/// since many names have the same place, and of a number past 65,535 only its rest is kept: whoever
+/// asks looks whether the entry is that of the name.
 #[derive(Clone, Copy)]
 pub(crate) struct Recent {
-    entries: [usize; PLACES],
+    entries: [u16; PLACES],
 }
 
 // The place of a name, by its ends and its size.
@@ -34,11 +35,11 @@ impl Recent {
     /// The entry that was noted last at the place of a name.
     #[inline(always)]
     pub(crate) fn guess(&self, name: &[u8]) -> usize {
-        self.entries[place(name)]
+        usize::from(self.entries[place(name)])
     }
 
     /// Notes an entry at the place of its name.
     pub(crate) fn note(&mut self, name: &[u8], entry: usize) {
-        self.entries[place(name)] = entry;
+        self.entries[place(name)] = (entry % 65_536) as u16;
     }
 }

@@ -1,12 +1,20 @@
-use Rattle.std.proofs.Common.{sym, ◌∙◌}
-use Rattle.rec_check.proofs.Declaring.{takes, passes_over}
-use Rattle.rec_check.proofs.rules.variables_of.Goals.{then-is_some+in_ok-add, else-is_some}
+use Rattle.std.proofs.Common.{◌∙◌}
+use Rattle.rec_check.proofs.Declaring.{takes, stands_in, passes_over}
+use Rattle.rec_check.proofs.rules.variables_of.Goals.{then-has+in_ok-add_new, else-has}
 use Rattle.rec_check.proofs.rules.variables_of.Goals as goal
 
 pub loop-node-preserved : goal.loop-node-preserved
-loop-node-preserved c = elim c.if-is_some.branch [
-  | then-is_some+in_ok-add w ↦
-      rw w.variables-is (takes _ _ _ _ _ c.loop-node-test.true _ _ _ c.text_of-name.ensures c.number.ensures _ (sym c.is_some.ensures ∙ w.if-is_some.true) w.in_ok-add.ensures.ok ∙ c.loop-node.invariant)
-  | else-is_some w ↦
-      rw w.variables-is (passes_over _ _ _ _ _ c.loop-node-test.true _ _ _ c.text_of-name.ensures c.number.ensures (sym c.is_some.ensures ∙ w.if-is_some.false) ∙ c.loop-node.invariant)
-]
+loop-node-preserved c =
+    let l = c.loop-node in
+    elim c.if-has.branch [
+      | then-has+in_ok-add_new w ↦
+          rw w.variables-is (record {
+            bytes = stands_in c.args.declared.now _ _ _ c.loop-node-test.true l.variables _ c.has.ensures _ l.invariant.bytes w.in_ok-add_new.ensures.ok;
+            names = takes c.args.declared.now _ _ _ c.loop-node-test.true l.variables _ c.has.ensures _ l.invariant.bytes w.if-has.true w.in_ok-add_new.ensures.ok ∙ l.invariant.names;
+          })
+      | else-has w ↦
+          rw w.variables-is (record {
+            bytes = l.invariant.bytes;
+            names = passes_over c.args.declared.now _ _ _ c.loop-node-test.true l.variables _ c.has.ensures w.if-has.false ∙ l.invariant.names;
+          })
+    ]

@@ -1,11 +1,18 @@
-use Rattle.std.proofs.Common.{◌∙◌, ap, is_some}
+use Rattle.std.proofs.Common.{◌∙◌, ◌++◌, ap, is_some}
+use Rattle.std.specs.List.{flat_map}
+use Rattle.rec_includes.specs.Listing.{listing}
 use Rattle.rec_check.proofs.Gathering.{of_rules, on_rules}
 use Rattle.rec_check.proofs.spelling.add_rules.Goals as goal
 
 pub push_rules-requires-clause-spelled : goal.push_rules-requires-clause-spelled
 push_rules-requires-clause-spelled c =
-    ap is_some (of_rules c.args.rules.now.items c.args.text.now c.args.symbols.now c.args.specification.now _ _ c.in_ok-declared.ensures c.as_slice-written.ensures)
+    let s = c.args.specification.now in
+    let names = c.in_ok-add_variables.ensures ∙ ap (λ d. listing d.bytes (d.names ++ flat_map (λ v. v.names) s.variables)) c.new-declared.ensures in
+    ap is_some (of_rules c.args.rules.now.items c.args.text.now c.args.symbols.now s _ _ names c.as_slice-written.ensures)
     ∙ c.requires.spelled
 
 pub returns : goal.returns
-returns c = on_rules c.args.rules.now.items c.args.text.now c.args.symbols.now c.args.specification.now _ _ c.in_ok-declared.ensures c.as_slice-written.ensures c.push_rules.result _ c.push_rules.ensures
+returns c =
+    let s = c.args.specification.now in
+    let names = c.in_ok-add_variables.ensures ∙ ap (λ d. listing d.bytes (d.names ++ flat_map (λ v. v.names) s.variables)) c.new-declared.ensures in
+    on_rules c.args.rules.now.items c.args.text.now c.args.symbols.now s _ _ names c.as_slice-written.ensures c.push_rules.result _ c.push_rules.ensures

@@ -1,8 +1,8 @@
-use Rattle.std.proofs.Common.{◌≡◌, ◌-◌, length, ◌∙◌, ap, sym, subst, arith}
+use Rattle.std.proofs.Common.{◌∙◌, length, ap, sym, subst}
 use Rattle.rec_includes.specs.Names.{is_among}
 use Rattle.rec_includes.specs.Indexed.{PlacesRise}
-use Rattle.rec_includes.proofs.Places.{Looks, looks_again, added_last, looks_more}
-use Rattle.rec_includes.proofs.Fronts.{rises_again, rises_more}
+use Rattle.rec_includes.proofs.Places.{Looks, looks_again}
+use Rattle.rec_includes.proofs.Fronts.{rises_again}
 use Rattle.rec_includes.proofs.directory.Directory.add.Goals as goal
 
 pub invariant_of-self-then-has : goal.invariant_of-self-then-has
@@ -13,21 +13,4 @@ invariant_of-self-then-has c =
     record {
       places = subst (λ ns. Looks s.text.now ns s.places.entries) names (looks_again s.text.now s.names.items s.places.entries c.args.name there c.self.invariant.places);
       rising = subst (λ ns. PlacesRise 0 (length ns) s.places.entries) names (rises_again s.names.items c.args.name s.places.entries c.self.invariant.rising);
-    }
-
-pub invariant_of-self-in-Ok : goal.invariant_of-self-in-Ok
-invariant_of-self-in-Ok c =
-    let s = c.self.inside in
-    let es = s.places.entries in
-    let new = c.insert.new.self.entries in
-    let i = c.len-2.result - 1 in
-    let k = c.in_ok-key.key in
-    let absent = ap (λ d. is_among d.bytes d.names c.args.name) c.self.view_is ∙ sym c.has.ensures ∙ c.if-has.false in
-    let key = c.in_ok-key.ensures.items ∙ c.text_of-text.ensures in
-    let place : i ≡ length s.names.items = omega (arith, c.in_ok-push-2.ensures.len, s.names.ok.0, c.len-2.ensures) in
-    let last = added_last s.text.now s.names.items es new c.args.name k i absent key c.in-Ok.ensures.entries c.self.invariant.places in
-    let names = sym c.in_ok-push-2.ensures.items in
-    record {
-      places = subst (λ ns. Looks s.text.now ns new) names (looks_more s.text.now s.names.items es new c.args.name k i key place last c.self.invariant.places);
-      rising = subst (λ ns. PlacesRise 0 (length ns) new) names (rises_more s.names.items c.args.name es c.self.invariant.rising new k i place last);
     }

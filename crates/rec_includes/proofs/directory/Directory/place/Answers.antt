@@ -1,5 +1,8 @@
-use Rattle.std.proofs.Common.{◌∙◌, ap, sym}
+use Rattle.std.proofs.Common.{nat_eq, ◌∙◌, ap, sym}
+use Rattle.std.specs.Map.{lookup}
 use Rattle.std.specs.Str.{bytes_eq}
+use Rattle.std.specs.Cmp.Lexicographic.{pointwise}
+use Rattle.std.proofs.lemmas.List.{nil_from_length}
 use Rattle.rec_includes.specs.Names.{text_of}
 use Rattle.rec_includes.specs.Listing.{place_in, place_of_text}
 use Rattle.rec_includes.proofs.directory.Directory.place.Goals as goal
@@ -12,6 +15,12 @@ returns-in-Some c =
 
 pub returns-in-None : goal.returns-in-None
 returns-in-None c =
+    let text = text_of c.self.inside.text.now c.args.name in
+    let none = nil_from_length c.self.inside.places.entries (c.is_empty.ensures.0 c.if-is_empty.true) in
+    rw (← c.self.view_is) (ap (lookup (λ k. pointwise nat_eq text k.items)) (sym none) ∙ c.self.invariant.places text)
+
+pub returns-in-None-2 : goal.returns-in-None-2
+returns-in-None-2 c =
     rw (← c.self.view_is)
     (c.copied.ensures
     ∙ c.get.ensures.value
