@@ -1,7 +1,8 @@
 //! How large terms are together.
-ghost use Rattle.std.specs.Prelude.{◌≡◌, ◌≤◌, ◌<◌, All, IfOk, IfErr, sum_by};
+ghost use Rattle.std.specs.Prelude.{◌≡◌, ◌≤◌, ◌<◌, ◌+◌, All, IfOk, IfErr, sum_by, length};
 ghost use Rattle.term_model.specs.Tree.{nodes, IsGround};
 ghost use Rattle.term_text.specs.Sizes.{saturated};
+ghost use Rattle.term_commands.specs.Building.{IsNarrow};
 ghost use Rattle.term_commands.specs.Different.{different};
 ghost use Rattle.term_commands.specs.Listing.{IsUncounted};
 
@@ -19,18 +20,23 @@ const FEW_ROWS: u32 = 16_384;
 
 /// How many different subtrees the terms have together, and how many nodes, at most 2^64 - 1. They
 /// are built in a store of so many rows, which suffice exactly where there are no more different
-/// subtrees.
-fn sizes_in(alloc: Global, terms: &[Flat], rows: u32) -> Result<TermSizes, TermsFault>
-    requires { All IsGround terms.now }
+/// subtrees, on a stack of so many places, of nodes with at most so many arguments.
+fn sizes_in(
+    alloc: Global,
+    terms: &[Flat],
+    rows: u32,
+    depth: u32,
+    width: u32,
+) -> Result<TermSizes, TermsFault>
+    requires ground { All IsGround terms.now }
+    requires depth { All (λ t. length terms.now + nodes t ≤ depth) terms.now }
+    requires width { All (IsNarrow width) terms.now }
     ensures distinct { IfOk result (λ sizes. sizes.distinct ≡ different terms.now) }
     ensures nodes { IfOk result (λ sizes. sizes.nodes ≡ saturated (sum_by nodes terms.now)) }
     ensures fit { IfOk result (λ sizes. different terms.now ≤ rows) }
     ensures uncounted { IfErr result (IsUncounted rows terms.now) }
 {
-    let Some(depth) = depth_for(terms) else {
-        return Err(TermsFault::Memory);
-    };
-    let mut store = PlainStore::new(alloc, rows, depth, widest(terms))?;
+    let mut store = PlainStore::new(alloc, rows, depth, width)?;
     store.enter();
     build_terms(&mut store, terms)?;
     let mut marks = SizeMarks::new(alloc, rows)?;
@@ -49,10 +55,14 @@ pub(crate) fn sizes_together(
     ensures fit { IfOk result (λ sizes. different terms.now ≤ rows) }
     ensures uncounted { IfErr result (IsUncounted rows terms.now) }
 {
+    let Some(depth) = depth_for(terms) else {
+        return Err(TermsFault::Memory);
+    };
+    let width = widest(terms);
     if rows > FEW_ROWS {
-        if let Ok(sizes) = sizes_in(alloc, terms, FEW_ROWS) {
+        if let Ok(sizes) = sizes_in(alloc, terms, FEW_ROWS, depth, width) {
             return Ok(sizes);
         }
     }
-    sizes_in(alloc, terms, rows)
+    sizes_in(alloc, terms, rows, depth, width)
 }

@@ -8,6 +8,7 @@ pub mod Ahead
 pub mod Viable
 pub mod Verdicts
 pub mod Names
+pub mod Known
 pub mod TakingTerms
 pub mod TakingUp
 pub mod Spelling
@@ -21,3 +22,5 @@ pub mod TermsBack
 pub mod LinesBack
 pub mod Fewness
 pub mod Passing
+pub mod Ends
+pub mod Opened

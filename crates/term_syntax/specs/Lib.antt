@@ -7,8 +7,11 @@ pub mod Counts
 pub mod TakenUp
 pub mod Parts
 pub mod Named
+pub mod Known
 pub mod Nodes
+pub mod Ends
 pub mod State
+pub mod Groups
 pub mod Shown
 pub mod Steps
 pub mod Items

@@ -76,6 +76,6 @@ machine_in text m = record {
   place = m.place;
   groups = m.groups;
   parts = parts_in text m.parts;
-  nodes = m.nodes;
-  terms = m.terms;
+  nodes = m.nodes.begun;
+  terms = m.nodes.terms;
 }

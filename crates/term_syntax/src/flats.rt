@@ -5,6 +5,7 @@ ghost use Rattle.term_model.specs.declared.Item.TheVariants.{Nil, Cons};
 ghost use Rattle.term_syntax.specs.Items.{items_at, trees_at, AreWithin};
 
 use crate::machine::Node;
+use crate::nodes::Nodes;
 use sequences::Sequence;
 use std::alloc::{AllocError, Global};
 use term_model::{Flat, Item};
@@ -45,19 +46,15 @@ fn flat_of(alloc: Global, items: &[Item], nodes: &[Node]) -> Result<Flat, AllocE
     }
 }
 
-/// The terms that lists of nodes spell.
-pub(crate) fn flats(
-    alloc: Global,
-    items: &[Item],
-    terms: &[Sequence<Node>],
-) -> Result<Flats, AllocError>
-    requires spelled { All (λ ns. IsSome (tree_of (items_at items.now ns))) terms.now }
-    requires within { All (AreWithin (length items.now)) terms.now }
-    ensures { IfOk result (λ f. map Some f ≡ trees_at items.now terms.now) }
+/// The terms that nodes spell.
+pub(crate) fn flats(alloc: Global, items: &[Item], nodes: &Nodes) -> Result<Flats, AllocError>
+    requires spelled { All (λ ns. IsSome (tree_of (items_at items.now ns))) nodes.now.terms }
+    requires within { All (AreWithin (length items.now)) nodes.now.terms }
+    ensures { IfOk result (λ f. map Some f ≡ trees_at items.now nodes.now.terms) }
 {
     let mut flats = Sequence::new(alloc);
-    for nodes in terms {
-        flats.push(flat_of(alloc, items, nodes.as_slice())?)?;
+    for number in 0..nodes.count() {
+        flats.push(flat_of(alloc, items, nodes.term(number))?)?;
     }
     Ok(flats)
 }

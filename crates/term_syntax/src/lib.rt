@@ -2,10 +2,13 @@
 #![tactic(auto)]
 
 mod flats;
+mod groups;
+mod lately;
 mod laws;
 mod list;
 mod machine;
 mod name;
+mod nodes;
 mod parser;
 mod scanner;
 mod symbols;

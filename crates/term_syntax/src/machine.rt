@@ -4,14 +4,16 @@ ghost use Rattle.term_syntax.specs.Steps as steps;
 ghost use Rattle.read_faults.specs.Taking.{Takes};
 ghost use Rattle.term_syntax.specs.Shown.{machine_in, parts_in, token_in, kind_at};
 ghost use Rattle.term_syntax.specs.Few.{AreCountsFew};
+ghost use Rattle.term_syntax.specs.Groups.{without};
+ghost use Rattle.sequences.specs.Lists.{first_of};
 ghost use Rattle.read_faults.specs.declared.not_taken.NotTaken.TheVariants.{Memory};
 
+use crate::groups::Groups;
 use crate::list::Parts;
+use crate::nodes::Nodes;
 use crate::token::{Mark, Shape, Token};
 use read_faults::NotTaken;
-use sequences::{Sequence, Stack};
 use std::alloc::Global;
-use std::mem;
 
 /// A term of the input, in the order of the text: the place of its first byte, how many terms stand
 /// in its parentheses or brackets, whether it is the 17th argument of a name, and the shape of its
@@ -54,10 +56,9 @@ pub(crate) enum Place {
 #[derive(Drop)]
 pub(crate) struct Machine {
     pub(crate) place: Place,
-    pub(crate) groups: Stack<Group>,
+    pub(crate) groups: Groups,
     pub(crate) parts: Parts,
-    pub(crate) nodes: Sequence<Node>,
-    pub(crate) terms: Sequence<Sequence<Node>>,
+    pub(crate) nodes: Nodes,
 }
 
 // The number in 32 bits, which hold each place and each number of a part of a text that is read.
@@ -66,10 +67,10 @@ fn in_32_bits(n: usize) -> Result<u32, NotTaken>
     ensures number { IfOk result (λ number. number ≡ n) }
     ensures memory { IfErr result (λ cause. cause ≡ Memory) }
 {
-    match u32::try_from(n) {
-        Ok(number) => Ok(number),
-        Err(_) => Err(NotTaken::Memory),
+    if n > u32::MAX as usize {
+        return Err(NotTaken::Memory);
     }
+    Ok(n as u32)
 }
 
 impl Machine {
@@ -79,25 +80,24 @@ impl Machine {
         let _ = text;
         Machine {
             place: Place::Settled,
-            groups: Stack::new(alloc),
+            groups: Groups::new(alloc),
             parts: Parts::new(alloc),
-            nodes: Sequence::new(alloc),
-            terms: Sequence::new(alloc),
+            nodes: Nodes::new(alloc),
         }
     }
 
     /// Takes a token of the text.
     #[inline(always)]
-    pub(crate) fn step(&mut self, alloc: Global, text: &[u8], token: Token) -> Result<(), NotTaken>
+    pub(crate) fn step(&mut self, text: &[u8], token: Token) -> Result<(), NotTaken>
         requires { AreCountsFew 2 self.old.groups }
         ensures { Takes (steps.step (machine_in text.now self.old) (token_in text.now token))
             result (machine_in text.now self.new) }
     {
         match self.place {
-            Place::Settled => self.after_term(alloc, text, token),
-            Place::Bracketed => self.in_brackets(alloc, text, token),
-            Place::Expected => self.on_term(alloc, text, token),
-            Place::Headed(part) => self.after_name(alloc, text, part, token),
+            Place::Settled => self.after_term(text, token),
+            Place::Bracketed => self.in_brackets(text, token),
+            Place::Expected => self.on_term(text, token),
+            Place::Headed(part) => self.after_name(text, part, token),
         }
     }
 
@@ -113,7 +113,7 @@ impl Machine {
 
     // A token comes with which a term begins.
     #[inline(always)]
-    fn on_term(&mut self, alloc: Global, text: &[u8], token: Token) -> Result<(), NotTaken>
+    fn on_term(&mut self, text: &[u8], token: Token) -> Result<(), NotTaken>
         requires { AreCountsFew 1 self.old.groups }
         ensures { Takes (steps.on_term (machine_in text.now self.old) (token_in text.now token))
             result (machine_in text.now self.new) }
@@ -123,7 +123,7 @@ impl Machine {
             Shape::Quoted => self.on_name(text, token),
             Shape::Number => {
                 let part = self.begin(text, token)?;
-                self.end(alloc, text, part, 0)
+                self.end(text, part, 0)
             }
             Shape::At(Mark::OpenList) => {
                 let part = self.begin(text, token)?;
@@ -151,7 +151,7 @@ impl Machine {
             (kind_at text.now token.place token.shape) result (machine_in text.now self.new) }
     {
         let _ = text;
-        let over = match self.groups.last() {
+        let over = match self.groups.innermost() {
             Some(group) => group.called && group.count == 16,
             None => false,
         };
@@ -177,7 +177,7 @@ impl Machine {
         ensures { Takes (steps.open_group called part place (machine_in text.now self.old))
             result (machine_in text.now self.new) }
     {
-        self.groups.push(Group {
+        self.groups.open(Group {
             called,
             part,
             count: 0,
@@ -186,8 +186,9 @@ impl Machine {
     }
 
     // A term is whole: a list of so many cells, or none.
+    #[tactic(auto, using(crate::proofs::Opened::end_last, crate::proofs::Opened::end_inner))]
     #[inline(always)]
-    fn end(&mut self, alloc: Global, text: &[u8], part: u32, cells: u32) -> Result<(), NotTaken>
+    fn end(&mut self, text: &[u8], part: u32, cells: u32) -> Result<(), NotTaken>
         requires { AreCountsFew 1 self.old.groups }
         ensures { Takes (steps.end part cells (machine_in text.now self.old))
             result (machine_in text.now self.new) }
@@ -195,74 +196,55 @@ impl Machine {
         let _ = text;
         self.nodes.push(Node { part, cells })?;
         self.place = Place::Settled;
-        match self.groups.pop() {
-            None => {
-                let nodes = mem::replace(&mut self.nodes, Sequence::new(alloc));
-                self.terms.push(nodes)?;
-                Ok(())
-            }
-            Some(group) => {
-                let count = group.count + 1;
-                self.groups.push(Group { count, ..group })?;
-                Ok(())
-            }
+        if self.groups.is_empty() {
+            self.nodes.end_term()?;
+        } else {
+            self.groups.count();
         }
+        Ok(())
     }
 
     // What may come after a whole term, or at the start.
+    #[tactic(auto, using(crate::proofs::Opened::after_none, crate::proofs::Opened::after_some))]
     #[inline(always)]
-    fn after_term(&mut self, alloc: Global, text: &[u8], token: Token) -> Result<(), NotTaken>
+    fn after_term(&mut self, text: &[u8], token: Token) -> Result<(), NotTaken>
         requires { AreCountsFew 1 self.old.groups }
         ensures { Takes (steps.after_term (machine_in text.now self.old) (token_in text.now token))
             result (machine_in text.now self.new) }
     {
-        match self.groups.pop() {
-            None => self.on_term(alloc, text, token),
-            Some(group) => self.in_group(alloc, text, group, token),
+        match self.groups.innermost() {
+            None => self.on_term(text, token),
+            Some(group) => self.in_group(text, group, token),
         }
     }
 
-    // What may come after a term in this group.
+    // What may come after a term in this group, the innermost.
+    #[tactic(auto, using(crate::proofs::Opened::put_back))]
     #[inline(always)]
-    fn in_group(
-        &mut self,
-        alloc: Global,
-        text: &[u8],
-        group: Group,
-        token: Token,
-    ) -> Result<(), NotTaken>
-        requires { AreCountsFew 1 self.old.groups }
-        ensures { Takes (steps.in_group group (machine_in text.now self.old)
+    fn in_group(&mut self, text: &[u8], group: Group, token: Token) -> Result<(), NotTaken>
+        requires few { AreCountsFew 1 self.old.groups }
+        requires innermost { first_of self.old.groups ≡ Some group }
+        ensures { Takes (steps.in_group group (without (machine_in text.now self.old))
             (token_in text.now token)) result (machine_in text.now self.new) }
     {
         match token.shape {
-            Shape::At(Mark::Comma) => {
-                self.groups.push(group)?;
-                self.go(text, Place::Expected)
-            }
-            Shape::At(Mark::Close) if group.called => self.close(alloc, text, group, 0),
-            Shape::At(Mark::CloseList) if !group.called => {
-                self.close(alloc, text, group, group.count)
-            }
+            Shape::At(Mark::Comma) => self.go(text, Place::Expected),
+            Shape::At(Mark::Close) if group.called => self.close(text, group, 0),
+            Shape::At(Mark::CloseList) if !group.called => self.close(text, group, group.count),
             _ => Err(NotTaken::Unexpected),
         }
     }
 
-    // A group closes, which is no longer on the stack.
+    // The innermost group closes.
     #[inline(always)]
-    fn close(
-        &mut self,
-        alloc: Global,
-        text: &[u8],
-        group: Group,
-        cells: u32,
-    ) -> Result<(), NotTaken>
+    fn close(&mut self, text: &[u8], group: Group, cells: u32) -> Result<(), NotTaken>
         requires { AreCountsFew 1 self.old.groups }
-        ensures { Takes (steps.close group cells (machine_in text.now self.old))
+        ensures { Takes (steps.close group cells (without (machine_in text.now self.old)))
             result (machine_in text.now self.new) }
     {
+        self.groups.close();
         self.tell_count(text, group);
-        self.end(alloc, text, group.part, cells)
+        self.end(text, group.part, cells)
     }
 
     // Tells how many terms stand in a group.
@@ -279,26 +261,20 @@ impl Machine {
 
     // What may come behind an opening bracket.
     #[inline(always)]
-    fn in_brackets(&mut self, alloc: Global, text: &[u8], token: Token) -> Result<(), NotTaken>
+    fn in_brackets(&mut self, text: &[u8], token: Token) -> Result<(), NotTaken>
         requires { AreCountsFew 1 self.old.groups }
         ensures { Takes (steps.in_brackets (machine_in text.now self.old) (token_in text.now token))
             result (machine_in text.now self.new) }
     {
         match token.shape {
-            Shape::At(Mark::CloseList) => self.after_term(alloc, text, token),
-            _ => self.on_term(alloc, text, token),
+            Shape::At(Mark::CloseList) => self.after_term(text, token),
+            _ => self.on_term(text, token),
         }
     }
 
     // What may come behind a name.
     #[inline(always)]
-    fn after_name(
-        &mut self,
-        alloc: Global,
-        text: &[u8],
-        part: u32,
-        token: Token,
-    ) -> Result<(), NotTaken>
+    fn after_name(&mut self, text: &[u8], part: u32, token: Token) -> Result<(), NotTaken>
         requires { AreCountsFew 2 self.old.groups }
         ensures { Takes (steps.after_name part (machine_in text.now self.old)
             (token_in text.now token)) result (machine_in text.now self.new) }
@@ -306,28 +282,28 @@ impl Machine {
         match token.shape {
             Shape::At(Mark::Open) => self.open_group(text, true, part, Place::Expected),
             _ => {
-                self.end(alloc, text, part, 0)?;
-                self.after_term(alloc, text, token)
+                self.end(text, part, 0)?;
+                self.after_term(text, token)
             }
         }
     }
 
     /// Ends a name that stands last.
-    pub(crate) fn settle(&mut self, alloc: Global, text: &[u8]) -> Result<(), NotTaken>
+    pub(crate) fn settle(&mut self, text: &[u8]) -> Result<(), NotTaken>
         requires { AreCountsFew 1 self.old.groups }
         ensures { Takes (steps.settled (machine_in text.now self.old))
             result (machine_in text.now self.new) }
     {
         match self.place {
-            Place::Headed(part) => self.end(alloc, text, part, 0),
+            Place::Headed(part) => self.end(text, part, 0),
             _ => Ok(()),
         }
     }
 
     /// The parts and the terms that were read, where the input may end here.
-    pub(crate) fn finish(self, text: &[u8]) -> Option<(Parts, Sequence<Sequence<Node>>)>
+    pub(crate) fn finish(self, text: &[u8]) -> Option<(Parts, Nodes)>
         ensures some { IfSome result (λ r.
-            steps.accepted (machine_in text.now self) ≡ Some (parts_in text.now r.0, r.1)) }
+            steps.accepted (machine_in text.now self) ≡ Some (parts_in text.now r.0, r.1.terms)) }
         ensures none { IfNone result (steps.accepted (machine_in text.now self) ≡ None) }
     {
         let _ = text;
@@ -335,11 +311,10 @@ impl Machine {
             place,
             groups,
             parts,
-            nodes: _,
-            terms,
+            nodes,
         } = self;
         match place {
-            Place::Settled if groups.is_empty() => Some((parts, terms)),
+            Place::Settled if groups.is_empty() => Some((parts, nodes)),
             _ => None,
         }
     }

@@ -6,12 +6,12 @@ ghost use Rattle.term_syntax.specs.Shown.{machine_in, parts_in, token_in};
 ghost use Rattle.term_syntax.specs.Steps.{step};
 
 use crate::list::Parts;
-use crate::machine::{Machine, Node};
+use crate::machine::Machine;
+use crate::nodes::Nodes;
 use crate::scanner::{Cut, look_through, piece_at};
 use crate::token::Token;
 use faults::kinds;
 use read_faults::{NotTaken, ReadFail, refused};
-use sequences::Sequence;
 use std::alloc::Global;
 
 // Takes a token of the bytes. One that is unexpected is refused only where all bytes have tokens.
@@ -24,7 +24,7 @@ fn take(alloc: Global, bytes: &[u8], machine: &mut Machine, token: Token) -> Res
     ensures untaken { IfErr result
         (IsUntaken bytes.now (machine_in bytes.now machine.old) (token_in bytes.now token)) }
 {
-    match machine.step(alloc, bytes, token) {
+    match machine.step(bytes, token) {
         Ok(()) => Ok(()),
         Err(NotTaken::Unexpected) => {
             look_through(alloc, bytes)?;
@@ -59,16 +59,13 @@ fn run(alloc: Global, bytes: &[u8]) -> Result<Machine, ReadFail>
 /// Refuses with kind 1 or 3, as `piece_at` does, bytes that have no tokens; else with kind 2 the
 /// first token such that the tokens up to and with it begin no input, at its place; with kind 3, at
 /// the length of the input, tokens that begin an input and are none.
-pub(crate) fn syntax(
-    alloc: Global,
-    bytes: &[u8],
-) -> Result<(Parts, Sequence<Sequence<Node>>), ReadFail>
+pub(crate) fn syntax(alloc: Global, bytes: &[u8]) -> Result<(Parts, Nodes), ReadFail>
     requires { length bytes.now < 2 ^ 32 }
-    ensures read { IfOk result (λ r. IsReadOf bytes.now (parts_in bytes.now r.0, r.1)) }
+    ensures read { IfOk result (λ r. IsReadOf bytes.now (parts_in bytes.now r.0, r.1.terms)) }
     ensures refused { IfErr result (IsSyntaxFault bytes.now) }
 {
     let mut machine = run(alloc, bytes)?;
-    match machine.settle(alloc, bytes) {
+    match machine.settle(bytes) {
         Ok(()) => {}
         Err(_) => return Err(ReadFail::Memory),
     }

@@ -6,8 +6,10 @@ ghost use Rattle.term_syntax.specs.TakenUp.{TookFront};
 ghost use Rattle.term_syntax.specs.Items.{item_in, IsTakenUp, IsPartFault, IsThere};
 ghost use Rattle.symbol_pool.specs.Taking.{GrowsPool};
 ghost use Rattle.term_syntax.specs.Named.{IsSymbolTaken, IsSymbolRefused};
+ghost use Rattle.term_syntax.specs.Known.{AreKnown};
 ghost use Rattle.term_syntax.specs.Shown.{part_in, parts_in, quoted_at};
 
+use crate::lately::Lately;
 use crate::machine::Entry;
 use crate::scanner::{integer_at, plain_name_at, quoted_name_at};
 use crate::token::Shape;
@@ -25,17 +27,26 @@ fn take_symbol(
     name: &[u8],
     count: u32,
     place: usize,
+    lately: &mut Lately,
     symbols: &mut Symbols,
 ) -> Result<Item, ReadFail>
+    requires { AreKnown lately.old.known symbols.old }
     ensures taken { IfOk result (λ i. IsSymbolTaken symbols.old name.now count i symbols.new) }
     ensures refused { IfErr result (IsSymbolRefused symbols.old name.now count place) }
     ensures unchanged { OnErr result (symbols.new ≡ symbols.old) }
+    ensures known { OnOk result (AreKnown lately.new.known symbols.new) }
 {
     if name.len() > LONGEST_NAME {
         return Err(refused(kinds::LIMIT, place));
     }
+    if let Some(symbol) = lately.guess(symbols, name, count) {
+        return Ok(Item::App(symbol, count));
+    }
     match symbols.intern(name, count) {
-        Ok(symbol) => Ok(Item::App(symbol, count)),
+        Ok(symbol) => {
+            lately.note(name, count, symbol);
+            Ok(Item::App(symbol, count))
+        }
         Err(PoolFault::Full) => Err(refused(kinds::LIMIT, place)),
         Err(PoolFault::Memory) => Err(ReadFail::Memory),
     }
@@ -47,16 +58,19 @@ fn take_quoted(
     text: &[u8],
     place: usize,
     count: u32,
+    lately: &mut Lately,
     symbols: &mut Symbols,
 ) -> Result<Item, ReadFail>
+    requires { AreKnown lately.old.known symbols.old }
     ensures taken { IfOk result (λ i.
         IsSymbolTaken symbols.old (quoted_at text.now place) count i symbols.new) }
     ensures refused { IfErr result
         (IsSymbolRefused symbols.old (quoted_at text.now place) count place) }
     ensures unchanged { OnErr result (symbols.new ≡ symbols.old) }
+    ensures known { OnOk result (AreKnown lately.new.known symbols.new) }
 {
     let name = quoted_name_at(alloc, text, place)?;
-    take_symbol(name.as_slice(), count, place, symbols)
+    take_symbol(name.as_slice(), count, place, lately, symbols)
 }
 
 // Takes up the symbol of a part of the text, if it is one.
@@ -64,20 +78,31 @@ fn take_part(
     alloc: Global,
     text: &[u8],
     part: Entry,
+    lately: &mut Lately,
     symbols: &mut Symbols,
 ) -> Result<Item, ReadFail>
+    requires { AreKnown lately.old.known symbols.old }
     ensures taken { IfOk result (λ i.
         IsTakenUp symbols.old (part_in text.now part) i symbols.new) }
     ensures refused { IfErr result (IsPartFault symbols.old (part_in text.now part)) }
     ensures unchanged { OnErr result (symbols.new ≡ symbols.old) }
+    ensures known { OnOk result (AreKnown lately.new.known symbols.new) }
 {
     let place = part.place as usize;
     if part.over {
         return Err(refused(kinds::LIMIT, place));
     }
     match part.shape {
-        Shape::Word => take_symbol(plain_name_at(text, place), part.count, place, symbols),
-        Shape::Quoted => take_quoted(alloc, text, place, part.count, symbols),
+        Shape::Word => {
+            take_symbol(
+                plain_name_at(text, place),
+                part.count,
+                place,
+                lately,
+                symbols,
+            )
+        }
+        Shape::Quoted => take_quoted(alloc, text, place, part.count, lately, symbols),
         Shape::Number => match integer_at(text, place) {
             Some(value) => Ok(Item::Int(value)),
             None => Err(refused(kinds::BAD_NUMBER, place)),
@@ -90,6 +115,7 @@ fn take_part(
 ///
 /// Refuses the first part with a fault at its place: with kind 13 a 17th argument, a name of more
 /// than 255 bytes and a symbol too many, with kind 17 a number that isn't an integer.
+#[tactic(auto, using(crate::proofs::Known::known_none))]
 pub(crate) fn items_of(
     alloc: Global,
     text: &[u8],
@@ -106,9 +132,10 @@ pub(crate) fn items_of(
     ensures front { TookFront (symbols_of_parts (parts_in text.now parts.now))
         symbols.old symbols.new }
 {
+    let mut lately = Lately::new();
     let mut items = Vec::with_capacity(alloc, parts.len())?;
     for part in parts {
-        let item = take_part(alloc, text, *part, symbols)?;
+        let item = take_part(alloc, text, *part, &mut lately, symbols)?;
         items.push(item)?;
     }
     Ok(items)

@@ -49,8 +49,8 @@ pub fn read_terms(alloc: Global, bytes: &[u8], symbols: &mut Symbols) -> Result<
     if bytes.len() > MOST_BYTES {
         return Err(ReadFail::Memory);
     }
-    let (parts, terms) = syntax(alloc, bytes)?;
+    let (parts, nodes) = syntax(alloc, bytes)?;
     let items = items_of(alloc, bytes, parts.as_slice(), symbols)?;
-    let flats = flats(alloc, items.as_slice(), terms.as_slice())?;
+    let flats = flats(alloc, items.as_slice(), &nodes)?;
     Ok(flats)
 }

@@ -19,12 +19,12 @@ returns-in_err-item-clause-refused c =
     let es = c.args.parts.now in
     let p = err_from_is_err_and c.from_residual-in_err-item.result c.from_residual-in_err-item.ensures.1 in
     let here = part_there text es l.part-index c.loop-part-test.true in
-    rw (p.1, p.2) (part_due c.args.symbols.now l.symbols (parts_in text es) l.part-index l.items.items (part_in text (entry_at es l.part-index)) c.in_err-item.field-0.0 l.invariant (within text es l.part-index c.loop-part-test.true) here c.in_err-item.ensures.refused)
+    rw (p.1, p.2) (part_due c.args.symbols.now l.symbols (parts_in text es) l.part-index l.items.items (part_in text (entry_at es l.part-index)) c.in_err-item.field-0.0 l.invariant.taking (within text es l.part-index c.loop-part-test.true) here c.in_err-item.ensures.refused)
 
 pub returns-in_err-push-clause-grows : goal.returns-in_err-push-clause-grows
 returns-in_err-push-clause-grows c =
     let l = c.loop-part in
-    grows_on c.args.symbols.now l.symbols c.take_part.new.symbols l.invariant.grows (part_grows l.symbols c.take_part.new.symbols (part_in c.args.text.now (entry_at c.args.parts.now l.part-index)) c.in_ok-item.item c.in_ok-item.ensures.taken)
+    grows_on c.args.symbols.now l.symbols c.take_part.new.symbols l.invariant.taking.grows (part_grows l.symbols c.take_part.new.symbols (part_in c.args.text.now (entry_at c.args.parts.now l.part-index)) c.in_ok-item.item c.in_ok-item.ensures.taken)
 
 pub loop-part-preserved : goal.loop-part-preserved
 loop-part-preserved c =
@@ -32,15 +32,18 @@ loop-part-preserved c =
     let text = c.args.text.now in
     let es = c.args.parts.now in
     let here = part_there text es l.part-index c.loop-part-test.true in
-    let more = taking_more c.args.symbols.now l.symbols c.take_part.new.symbols (parts_in text es) l.part-index l.items.items (part_in text (entry_at es l.part-index)) c.in_ok-item.item l.invariant (within text es l.part-index c.loop-part-test.true) here c.in_ok-item.ensures.taken in
-    subst (λ xs. Taking c.args.symbols.now c.take_part.new.symbols (parts_in text es) (l.part-index + 1) xs) (sym c.in_ok-push.ensures.items) more
+    let more = taking_more c.args.symbols.now l.symbols c.take_part.new.symbols (parts_in text es) l.part-index l.items.items (part_in text (entry_at es l.part-index)) c.in_ok-item.item l.invariant.taking (within text es l.part-index c.loop-part-test.true) here c.in_ok-item.ensures.taken in
+    record {
+      taking = subst (λ xs. Taking c.args.symbols.now c.take_part.new.symbols (parts_in text es) (l.part-index + 1) xs) (sym c.in_ok-push.ensures.items) more;
+      known = c.in_ok-item.ensures.known;
+    }
 
 pub returns-in_err-item-clause-front : goal.returns-in_err-item-clause-front
 returns-in_err-item-clause-front c =
     let l = c.loop-part in
     let parts = parts_in c.args.text.now c.args.parts.now in
     subst (TookFront (symbols_of_parts parts) c.args.symbols.now) (sym c.in_err-item.ensures.unchanged)
-    (took_front c.args.symbols.now l.symbols parts l.part-index l.items.items l.invariant)
+    (took_front c.args.symbols.now l.symbols parts l.part-index l.items.items l.invariant.taking)
 
 pub returns-in_err-push-clause-front : goal.returns-in_err-push-clause-front
 returns-in_err-push-clause-front c =
@@ -48,5 +51,5 @@ returns-in_err-push-clause-front c =
     let text = c.args.text.now in
     let es = c.args.parts.now in
     let here = part_there text es l.part-index c.loop-part-test.true in
-    let more = taking_more c.args.symbols.now l.symbols c.take_part.new.symbols (parts_in text es) l.part-index l.items.items (part_in text (entry_at es l.part-index)) c.in_ok-item.item l.invariant (within text es l.part-index c.loop-part-test.true) here c.in_ok-item.ensures.taken in
+    let more = taking_more c.args.symbols.now l.symbols c.take_part.new.symbols (parts_in text es) l.part-index l.items.items (part_in text (entry_at es l.part-index)) c.in_ok-item.item l.invariant.taking (within text es l.part-index c.loop-part-test.true) here c.in_ok-item.ensures.taken in
     took_front c.args.symbols.now c.take_part.new.symbols (parts_in text es) (l.part-index + 1) _ more
