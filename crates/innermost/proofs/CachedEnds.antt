@@ -34,9 +34,9 @@ use Rattle.innermost.proofs.Endings.{notes_same, value_same, fuel_same, room_sam
 -- the rows that are remembered are right whatever stands on the stack
 pub right_settled : (rules : List Rule) (built : List Tree) (now : Store) (base : ℕ) (map' : Map) (result : Result Normal RunFault) → AreRight rules built now map' → AreRight rules built (settled now base result) map'
 right_settled rules built now base map' (Ok (Value left)) all row known e = all row known e
-right_settled rules built now base map' (Ok OutOfFuel) all row known e = let r = all row known e in record { tree = r.tree; value = r.value; row = r.row; held = r.held; stood = r.stood; known = r.known; normal = r.normal }
-right_settled rules built now base map' (Ok TooDeep) all row known e = let r = all row known e in record { tree = r.tree; value = r.value; row = r.row; held = r.held; stood = r.stood; known = r.known; normal = r.normal }
-right_settled rules built now base map' (Err fault) all row known e = let r = all row known e in record { tree = r.tree; value = r.value; row = r.row; held = r.held; stood = r.stood; known = r.known; normal = r.normal }
+right_settled rules built now base map' (Ok OutOfFuel) all row known e = let r = all row known e in record { tree = r.tree; value = r.value; row = r.row; held = r.held; stood = r.stood; known = r.known; least = r.least; normal = r.normal }
+right_settled rules built now base map' (Ok TooDeep) all row known e = let r = all row known e in record { tree = r.tree; value = r.value; row = r.row; held = r.held; stood = r.stood; known = r.known; least = r.least; normal = r.normal }
+right_settled rules built now base map' (Err fault) all row known e = let r = all row known e in record { tree = r.tree; value = r.value; row = r.row; held = r.held; stood = r.stood; known = r.known; least = r.least; normal = r.normal }
 
 pub built_settled : (now : Store) (base : ℕ) (result : Result Normal RunFault) → (settled now base result).built ≡ now.built
 built_settled now base (Ok (Value left)) = refl

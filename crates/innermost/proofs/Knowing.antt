@@ -1,8 +1,8 @@
 -- A node whose value is taken from the memory, or is found and remembered.
 use Rattle.std.proofs.Common.{◌≡◌, ℕ, ◌+◌, ◌-◌, ◌<◌, ◌≤◌, List, [], ◌∷◌, ◌++◌, length, drop, map, max, reverse, refl, sym, ◌∙◌, ap, arith, subst, append_assoc, append-nil, Option, Some, false, inl}
 use Rattle.std.specs.Prelude.{Contains, slice_get}
-use Rattle.std.proofs.lemmas.List.{length-append, length_push, append_cancel_left}
-use Rattle.std.proofs.lemmas.List.Elements.{All-push, Contains-append_right}
+use Rattle.std.proofs.lemmas.List.{length-append, length_push}
+use Rattle.std.proofs.lemmas.List.Elements.{All-push}
 use Rattle.term_model.specs.Tree.{Tree}
 use Rattle.term_model.specs.declared.Row.{Row}
 use Rattle.terms_api.specs.Terms.{Store, trees, kept}
@@ -14,7 +14,6 @@ use Rattle.rewrite_model.specs.Built.{trees_at, trees_in_hand, greatest}
 use Rattle.rewrite_model.proofs.Fuel.{begins_with_itself}
 use Rattle.rewrite_cache.specs.Cached.{IsCached, IsReducedAt, IsKnown, Nothing, LeftOut}
 use Rattle.rewrite_cache.proofs.Joined.{all_built, joined}
-use Rattle.rewrite_cache.proofs.Alike.{is_known}
 use Rattle.rule_match.specs.Planned.{Planned}
 use Rattle.innermost.specs.declared.compile.Code.{Code}
 use Rattle.innermost.specs.declared.normal.Normal.{Normal}
@@ -30,7 +29,7 @@ use Rattle.innermost.specs.Normalized.{KeepsNumbers}
 use Rattle.innermost.specs.Standing.{with_notes, Ages, Stands, Why, IsRefused, GaveUp}
 use Rattle.innermost.specs.Tasks.{Job, IsReducing, HasValue, HasEnded, IsEnd}
 use Rattle.innermost.specs.Remembered.{Map, AreRight}
-use Rattle.innermost.specs.Caching.{Stood, WasStopped, WasRight, IsResult, IsTaken, IsCaching, IsOnNode, EndsCaching, GivesUpCaching, CachesNext, itself}
+use Rattle.innermost.specs.Caching.{Stood, WasStopped, WasRight, IsTaken, IsCaching, IsOnNode, EndsCaching, GivesUpCaching, CachesNext, itself}
 use Rattle.innermost.proofs.Points.{height, ages_in_turn}
 use Rattle.innermost.proofs.Moving.{stands_kept, stands_pushed}
 use Rattle.innermost.proofs.Runs.{then_done, noting_then}
@@ -50,24 +49,10 @@ noted_then {A} {B} ps r go = by_end r.notes r.end
 onto_known : (below : List Tree) (x : Evaluated Tree) (v : Tree) (left : ℕ) → x.end ≡ Done v left → onto below x ≡ with_notes x.notes (let r : Evaluated (List Tree) = done (below ++ v ∷ []) left in r)
 onto_known below x v left e = ap (λ (d : Ended Tree). after x.notes d (λ t n. let r : Evaluated (List Tree) = done (below ++ t ∷ []) n in r)) e
 
-known_onto : (below : List Tree) (x : Evaluated Tree) (v : Tree) (left : ℕ) → (onto below x).end ≡ Done (below ++ v ∷ []) left → x.end ≡ Done v left
-known_onto below x v left h = by_end x.notes x.end h
-  where
-    by_end : (ns : List Point) (e : Ended Tree) → (after ns e (λ t n. let r : Evaluated (List Tree) = done (below ++ t ∷ []) n in r)).end ≡ Done (below ++ v ∷ []) left → e ≡ Done v left
-    by_end ns (Done u n) k =
-        let same : below ++ u ∷ [] ≡ below ++ v ∷ [] = cc in
-        let one = append_cancel_left below (u ∷ []) (v ∷ []) same in
-        cc
-    by_end ns OutOfFuel k = absurd (cc)
-    by_end ns TooDeep k = absurd (cc)
-
 -- the first of some points
 first_hand : (p : Point) (ys ps zs : List Point) → p ∷ ys ≡ ps ++ zs → (ps ≡ [] → ⊥) → trees_in_hand p ≤ greatest (map trees_in_hand ps)
 first_hand p ys [] zs e some = absurd (some refl)
 first_hand p ys (q ∷ ps) zs e some = let same : p ≡ q = cc in let k = ap trees_in_hand same in omega (arith, k)
-
-first_tree : (p : Point) (ys ps : List Point) → p ∷ ys ≡ ps → Contains (trees_at ps) p.tree
-first_tree p ys ps e = subst (λ (qs : List Point). Contains (trees_at qs) p.tree) e (0, omega arith, refl)
 
 module _ (plan : Planned) (codes : Code) (start : Store) (term : Tree) (fuel : ℕ) (map' : Map) (epoch : Option ℕ) (at left : ℕ) (now : Store) (next : Option ℕ) (room : ℕ) (n : IsOnNode plan codes start term fuel map' epoch at left now next room) where
   abbrev p : Point
@@ -96,10 +81,10 @@ module _ (plan : Planned) (codes : Code) (start : Store) (term : Tree) (fuel : �
       sym (noted_then (p ∷ []) (onto n.below x) go) ∙ ap (λ y. y >>= go) alone ∙ noted_then ps r go in
       n.run ∙ ap (with_notes n.points) on ∙ noted_twice n.points ps (r >>= go)
 
-  upper_here : trees now ≡ (trees start ++ n.below) ++ n.tree ∷ []
+  pub upper_here : trees now ≡ (trees start ++ n.below) ++ n.tree ∷ []
   upper_here = n.stood.upper ∙ sym (append_assoc (trees start) n.below (n.tree ∷ []))
 
-  job_trees : trees job.start ≡ trees start
+  pub job_trees : trees job.start ≡ trees start
   job_trees = rebased_trees start now (n.points ++ p ∷ []) (n.since ++ n.tree ∷ []) (n.below ++ n.tree ∷ []) n.stood
 
   built_here : now.built ≡ base ++ n.tree ∷ []
@@ -108,8 +93,12 @@ module _ (plan : Planned) (codes : Code) (start : Store) (term : Tree) (fuel : �
   one_more : length now.built ≡ length base + 1
   one_more = ap length built_here ∙ length_push base n.tree
 
-  stands_here : Stands job.start now (p ∷ []) (n.below ++ n.tree ∷ [])
-  stands_here =
+  -- by itself it may be reduced in any room
+  abbrev pub job_in : ℕ → Job
+  job_in wide = itself plan.rules start base now n.below n.tree left wide
+
+  stands_in : (wide : ℕ) → Stands job.start now (point_of [] n.below n.tree wide ∷ []) (n.below ++ n.tree ∷ [])
+  stands_in wide =
       record {
         lower = n.stood.lower;
         upper = n.stood.upper ∙ ap (λ ts. ts ++ (n.below ++ n.tree ∷ [])) (sym job_trees);
@@ -122,8 +111,11 @@ module _ (plan : Planned) (codes : Code) (start : Store) (term : Tree) (fuel : �
         load = λ z. omega arith;
       }
 
-  pub reduces_itself : IsReducing plan codes job [] left now next room
-  reduces_itself =
+  stands_here : Stands job.start now (p ∷ []) (n.below ++ n.tree ∷ [])
+  stands_here = stands_in room
+
+  pub reduces_in : (wide : ℕ) → wide ≤ room → IsReducing plan codes (job_in wide) [] left now next wide
+  reduces_in wide le =
       record {
         ready = record {
           planned = n.ready.planned;
@@ -133,20 +125,22 @@ module _ (plan : Planned) (codes : Code) (start : Store) (term : Tree) (fuel : �
           depth = n.ready.depth;
           short = n.ready.short;
         };
-        points = p ∷ [];
+        points = point_of [] n.below n.tree wide ∷ [];
         open' = [];
         below = n.below;
         tree = n.tree;
-        stands = stands_here;
-        run = ap (with_notes (p ∷ [])) n.tried.passed;
+        stands = stands_in wide;
+        run = ap (with_notes (point_of [] n.below n.tree wide ∷ [])) (n.tried.passed wide);
         waiting = refl;
         candidate = n.tried.candidate;
-        places = n.tried.places;
-        count = n.tried.count;
-        some = n.tried.some;
+        places = omega (arith, n.tried.places, le);
+        count = omega (arith, n.tried.count, le);
         told = n.tried.trying;
-        counted = λ u. record { front = []; point = p; split = refl; tree = refl; has_room = refl; used = record { built = omega arith; replaced = omega arith } };
+        counted = λ u. record { front = []; point = point_of [] n.below n.tree wide; split = refl; tree = refl; has_room = refl; used = record { built = omega arith; replaced = omega arith } };
       }
+
+  pub reduces_itself : IsReducing plan codes job [] left now next room
+  reduces_itself = reduces_in room (omega arith)
 
   pub node_places : 0 < length now.stack
   node_places = some_places now (trees start ++ n.below) n.tree upper_here
@@ -249,7 +243,7 @@ module _ (plan : Planned) (codes : Code) (start : Store) (term : Tree) (fuel : �
   cached_on ps = joined (trees_at ps) ps n.cached (all_built plan.rules base ps)
 
   -- a run by itself begins at the point of the tree
-  first_is : (ps : List Point) (r : Evaluated (List Tree)) → job.whole ≡ with_notes ps r → p ∷ (reduces_to plan.rules [] plan.rules n.below n.tree left room).notes ≡ ps ++ r.notes
+  pub first_is : (ps : List Point) (r : Evaluated (List Tree)) → job.whole ≡ with_notes ps r → p ∷ (reduces_to plan.rules [] plan.rules n.below n.tree left room).notes ≡ ps ++ r.notes
   first_is ps r e = ap (λ (y : Evaluated (List Tree)). y.notes) e
 
   never_none : (ps : List Point) (r : Evaluated (List Tree)) → r.notes ≡ [] → job.whole ≡ with_notes ps r → trees_in_hand p ≤ greatest (map trees_in_hand ps)
@@ -286,28 +280,6 @@ module _ (plan : Planned) (codes : Code) (start : Store) (term : Tree) (fuel : �
   -- the memory as it was, when a value was found
   pub value_unkept : (new : Store) (l : ℕ) (v : HasValue plan codes job new l) → WasRight plan.rules (start.built ++ (n.since ++ trees_at v.points)) map' epoch new
   value_unkept new l v = still (trees_at v.points) new v.stands.ages
-
-  -- and what may be remembered
-  pub value_result : (new : Store) (l : ℕ) (v : HasValue plan codes job new l) (row : Row) → slice_get now.stack (length now.stack - 1) ≡ Some row → epoch ≡ now.epoch → IsResult plan.rules (start.built ++ (n.since ++ trees_at v.points)) epoch new row (left - l) room
-  value_result new l v row at_top is =
-      let r : Evaluated (List Tree) = done (n.below ++ v.tree ∷ []) l in
-      let whole : p ∷ (reduces_to plan.rules [] plan.rules n.below n.tree left room).notes ≡ v.points = first_is v.points r v.run ∙ append-nil v.points in
-      let onto_end : (onto n.below x).end ≡ Done (n.below ++ v.tree ∷ []) l = ap (λ (y : Evaluated (List Tree)). y.end) (sym same_run) ∙ ap (λ (y : Evaluated (List Tree)). y.end) v.run in
-      let eq : reduction plan.rules [] (reverse n.below) n.tree left room ≡ noting p x = begins_with_itself plan.rules [] (reverse n.below) n.tree left room in
-      let end : (reduction plan.rules [] (reverse n.below) n.tree left room).end ≡ Done v.tree l = ap (λ (y : Evaluated Tree). y.end) eq ∙ known_onto n.below x v.tree l onto_end in
-      record {
-        then = now;
-        epoch = is;
-        ages = v.stands.ages;
-        tree = n.tree;
-        value = v.tree;
-        below = trees start ++ n.below;
-        row = top_tree now (trees start ++ n.below) n.tree row n.stood.sound upper_here at_top;
-        stood = Contains-append_right start.built (n.since ++ trees_at v.points) n.tree (Contains-append_right n.since (trees_at v.points) n.tree (first_tree p (reduces_to plan.rules [] plan.rules n.below n.tree left room).notes v.points whole));
-        top = v.stands.upper ∙ ap (λ ts. ts ++ (n.below ++ v.tree ∷ [])) job_trees ∙ sym (append_assoc (trees start) n.below (v.tree ∷ []));
-        known = is_known plan.rules [] (reverse n.below) n.tree v.tree left room l end;
-        normal = λ u. (v.told u).normal;
-      }
 
   -- fuel or room ended, or a build was refused
   pub ended_so : (new : Store) (e : Evaluated (List Tree)) → e.notes ≡ [] → (e >>= go) ≡ e → HasEnded plan codes job new e → EndsCaching plan codes start term fuel map' epoch new e

@@ -44,3 +44,5 @@ pub mod Memories
 pub mod Cachings
 pub mod Knowing
 pub mod CachedEnds
+pub mod Sparing
+pub mod LeastRooms

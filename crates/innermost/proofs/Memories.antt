@@ -31,6 +31,7 @@ right_later rules built old new map' all keeps row known e =
       held = keeps known.value r.value r.held;
       stood = r.stood;
       known = r.known;
+      least = r.least;
       normal = r.normal;
     }
 
@@ -45,6 +46,7 @@ right_longer rules built more s map' all row known e =
       held = r.held;
       stood = Contains-append_left built more r.tree r.stood;
       known = r.known;
+      least = r.least;
       normal = r.normal;
     }
 
@@ -101,6 +103,7 @@ kept_right rules built old new epoch now row value fuel room all result steady s
         held = top_tree now result.below result.value value sound result.top at;
         stood = result.stood;
         known = result.known;
+        least = result.least;
         normal = result.normal;
       }))
     ]

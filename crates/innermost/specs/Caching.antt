@@ -8,7 +8,7 @@ use Rattle.rewrite_model.specs.Step.{IsNormalForm}
 use Rattle.rewrite_model.specs.Run.{ends, noting, OutOfFuel, TooDeep}
 use Rattle.rewrite_model.specs.Evaluation.{Point, Evaluated, evaluation}
 use Rattle.rewrite_model.specs.Built.{trees_in_hand, greatest}
-use Rattle.rewrite_cache.specs.Cached.{IsCached, IsKnown}
+use Rattle.rewrite_cache.specs.Cached.{IsCached, IsKnown, IsLeastRoom}
 use Rattle.rule_match.specs.Planned.{Planned}
 use Rattle.innermost.specs.declared.compile.Code.{Code}
 use Rattle.innermost.specs.declared.memo.Known.{Known}
@@ -65,7 +65,8 @@ pub record IsSteady (epoch : Option ℕ) (now : Store) : Type 0 where
   pub before : epoch ≡ Some number
   pub same : now.epoch ≡ Some number
 
--- The tree of a row, which it had when the epoch was this one, has its value on top now.
+-- The tree of a row, which it had when the epoch was this one, has its value on top now, and this is
+-- the least room in which it is reduced to it.
 pub record IsResult (rules : List Rule) (built : List Tree) (number : Option ℕ) (now : Store) (place : Row) (fuel room : ℕ) : Type 0 where
   pub then : Store
   pub epoch : number ≡ then.epoch
@@ -77,6 +78,7 @@ pub record IsResult (rules : List Rule) (built : List Tree) (number : Option ℕ
   pub stood : Contains built tree
   pub top : trees now ≡ below ++ value ∷ []
   pub known : IsKnown rules tree value fuel room
+  pub least : IsLeastRoom rules tree room
   pub normal : All IsUnconditional rules → IsNormalForm rules value
 
 module _ (plan : Planned) (codes : Code) (start : Store) (term : Tree) (fuel : ℕ) (map' : Map) (epoch' : Option ℕ) where

@@ -30,3 +30,4 @@ pub mod Noting
 pub mod Opened
 pub mod Remembered
 pub mod Caching
+pub mod Spares

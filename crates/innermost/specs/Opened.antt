@@ -1,5 +1,5 @@
 -- A node of a term whose tree stands on top, to be reduced.
-use Rattle.std.specs.Prelude.{◌≡◌, ℕ, ◌+◌, ◌<◌, ◌≤◌, List, [], ◌∷◌, ◌++◌, length, drop, Option, false, All}
+use Rattle.std.specs.Prelude.{◌≡◌, ℕ, ◌+◌, ◌≤◌, List, [], ◌∷◌, ◌++◌, length, drop, Option, false, All}
 use Rattle.term_model.specs.Tree.{Tree}
 use Rattle.terms_api.specs.Terms.{Store}
 use Rattle.rewrite_model.specs.Rule.{IsUnconditional}
@@ -23,11 +23,10 @@ alone tree left = record { term = tree; fuel = left; whole = λ t. t; position =
 -- What is so while a tree that was just built is tried by the rules from one on, and then the rest of
 -- the term's evaluation goes on.
 pub record IsTried (plan : Planned) (codes : Code) (term : Tree) (at left : ℕ) (below : List Tree) (tree : Tree) (next : Option ℕ) (room : ℕ) : Type 0 where
-  pub passed : reduces_to plan.rules [] plan.rules below tree left room ≡ reduces_to plan.rules [] (rules_from plan.rules next) below tree left room
+  pub passed : (wide : ℕ) → reduces_to plan.rules [] plan.rules below tree left wide ≡ reduces_to plan.rules [] (rules_from plan.rules next) below tree left wide
   pub candidate : IsCandidateFor plan next tree
   pub places : length below + room ≤ codes.depth
   pub count : 0 + room ≤ codes.depth
-  pub some : 0 < room
   pub fits : Fits 0 0 plan.widest false (length below + 1) (drop (at + 1) (code term 0))
   pub told : All IsUnconditional plan.rules → AreNormal plan.rules below × AreArguments (drop (at + 1) (code term 0))
   pub trying : All IsUnconditional plan.rules → ToldReducing plan.rules (alone tree left) [] below tree left next

@@ -6,7 +6,7 @@ use Rattle.terms_api.specs.Terms.{Store, HasTree}
 use Rattle.rewrite_model.specs.Rule.{Rule, IsUnconditional}
 use Rattle.rewrite_model.specs.Step.{IsNormalForm}
 use Rattle.rewrite_model.specs.Evaluation.{Point}
-use Rattle.rewrite_cache.specs.Cached.{IsCached, IsKnown}
+use Rattle.rewrite_cache.specs.Cached.{IsCached, IsKnown, IsLeastRoom}
 use Rattle.innermost.specs.declared.memo.Known.{Known}
 use Rattle.innermost.specs.declared.normal.Normal.{Normal}
 use Rattle.innermost.specs.declared.normal.RunFault.{RunFault}
@@ -22,8 +22,8 @@ abbrev pub IsPartWith : Map → Row → Known → Map → Type 0
 IsPartWith old row known new = (other : Row) (k : Known) → new other ≡ Some k → (old other ≡ Some k) ⊎ ((other ≡ row) × (k ≡ known))
 
 -- A pair is right: the tree of its row is one of those that were built, and its reduction gives the
--- tree of the value's row, for as much fuel and in the room that the pair says. By rules without
--- conditions the value is a normal form.
+-- tree of the value's row, for as much fuel as the pair says, and the room that it says is the least
+-- in which it does. By rules without conditions the value is a normal form.
 pub record IsRight (rules : List Rule) (built : List Tree) (s : Store) (place : Row) (pair : Known) : Type 0 where
   pub tree : Tree
   pub value : Tree
@@ -31,6 +31,7 @@ pub record IsRight (rules : List Rule) (built : List Tree) (s : Store) (place : 
   pub held : HasTree s pair.value value
   pub stood : Contains built tree
   pub known : IsKnown rules tree value pair.fuel pair.depth
+  pub least : IsLeastRoom rules tree pair.depth
   pub normal : All IsUnconditional rules → IsNormalForm rules value
 
 abbrev pub AreRight : List Rule → List Tree → Store → Map → Type 0

@@ -14,6 +14,7 @@ use crate::evaluating::begin_node;
 use crate::frames::{Parts, Task};
 use crate::machine::reduce;
 use crate::remembering::{refresh, remember, take_known, top_row};
+use crate::spare::{LeastSpare, NoSpare};
 use crate::windows::{Window, depth_at};
 use crate::{Memo, Normal, RunFault};
 use rule_match::Plan;
@@ -64,10 +65,12 @@ fn reduce_anew<T: Terms, M: Memo>(
 {
     let before = parts.left;
     let task = Task::Reduce(Some(place.rule), place.room);
-    let end = reduce(plan, code, parts, task, terms)?;
+    let mut spare = LeastSpare { least: place.room };
+    let end = reduce(plan, code, parts, task, &mut spare, terms)?;
     if let Normal::Value { left } = end {
         let taken = before.saturating_sub(left);
-        remember(place.row, taken, place.room, epoch, terms, memo);
+        let least = place.room.saturating_sub(spare.least);
+        remember(place.row, taken, least, epoch, terms, memo);
     }
     Ok(end)
 }
@@ -150,7 +153,7 @@ fn cache_node<T: Terms, M: Memo>(
 {
     let task = begin_node(plan, code, term, at, down, &mut parts.builds, terms)?;
     let Task::Reduce(Some(rule), room) = task else {
-        return reduce(plan, code, parts, task, terms);
+        return reduce(plan, code, parts, task, &mut NoSpare, terms);
     };
     reduce_known(plan, code, parts, rule, room, epoch, terms, memo)
 }

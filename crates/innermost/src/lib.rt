@@ -24,6 +24,7 @@ mod places;
 mod rebuilding;
 mod reducing;
 mod remembering;
+mod spare;
 mod spots;
 mod step;
 mod stepping;

@@ -6,8 +6,8 @@ ghost use Rattle.innermost.specs.Remembered.{Map, IsPartWith};
 
 use term_model::Row;
 
-/// The row of a value, how much fuel the reduction to it takes, and a room in which it does. The
-/// room needn't be the least.
+/// The row of a value, how much fuel the reduction to it takes, and the least room in which it
+/// does.
 #[derive(Clone, Copy, Debug, PartialEq, Eq)]
 pub struct Known {
     pub value: Row,

@@ -1,3 +1,4 @@
 pub mod Alike
 pub mod Joined
+pub mod Least
 pub mod Worked

@@ -9,8 +9,10 @@ use Rattle.rewrite_model.specs.Evaluation.{Point, evaluation}
 use Rattle.rewrite_model.specs.Built.{trees_at}
 use Rattle.rewrite_model.specs.Samples.{x, z, s, a, b, f, g, rule}
 use Rattle.rewrite_model.specs.Rows.{sums, one_and_one}
-use Rattle.rewrite_cache.specs.Cached.{IsCached, Nothing, Whole, LeftOut, AreNew}
+use Rattle.rewrite_cache.specs.Cached.{IsCached, IsKnown, IsLeastRoom, Nothing, Whole, LeftOut, AreNew}
+use Rattle.rewrite_cache.proofs.Alike.{is_known}
 use Rattle.rewrite_cache.proofs.Joined.{all_built, joined, new_built}
+use Rattle.rewrite_cache.proofs.Least.{no_less_serves}
 
 never : (t : Tree) (ts : List Tree) → among t ts ≡ false → Contains ts t → ⊥
 never t ts e k = let h = among_from_contains t ts k in cc
@@ -60,3 +62,9 @@ pub second_shorter : IsCached chain [] (chained ++ chained ++ []) (a ∷ f a ∷
 second_shorter =
     joined {points = chained} {trees = a ∷ f a ∷ g a ∷ b ∷ []} (a ∷ f a ∷ []) (chained ++ []) (all_built chain [] chained)
     (Whole (LeftOut {inside = drop 2 chained} {points = []} (contains_from_among (f a) (a ∷ f a ∷ g a ∷ b ∷ a ∷ []) refl) (record { given = []; kept = []; fuel = 9; value = b; left = 7; run = refl }) Nothing))
+
+pub three_rooms : IsKnown chain (f a) b 2 3 × IsLeastRoom chain (f a) 3
+three_rooms = (is_known chain [] [] (f a) b 9 3 7 refl, no_less_serves chain [] [] [] [] (f a) b 9 2 7 refl refl)
+
+pub no_rooms : IsKnown chain b b 0 0 × IsLeastRoom chain b 0
+no_rooms = (is_known chain [] [] b b 0 0 0 refl, λ given kept fuel less value left l. absurd (omega arith))

@@ -1,5 +1,5 @@
 -- What is built where results of reductions are remembered.
-use Rattle.std.specs.Prelude.{◌≡◌, ℕ, ◌+◌, List, [], ◌∷◌, ◌++◌, Contains}
+use Rattle.std.specs.Prelude.{◌≡◌, ℕ, ◌+◌, ◌<◌, List, [], ◌∷◌, ◌++◌, Contains}
 use Rattle.std.specs.List.{flat_map}
 use Rattle.term_model.specs.Tree.{Tree}
 use Rattle.rewrite_model.specs.Rule.{Rule}
@@ -31,6 +31,11 @@ IsCachedOfAll rules terms fuel room trees = IsCached rules [] (flat_map (λ t. (
 -- one, whatever is handed over and kept.
 abbrev pub IsKnown : List Rule → Tree → Tree → ℕ → ℕ → Type 0
 IsKnown rules t value used room = (given kept : List Tree) (more wider : ℕ) → (reduction rules given kept t (used + more) (room + wider)).end ≡ Done value more
+
+-- In no smaller room does reducing the tree by all rules end in a value, whatever is handed over and
+-- kept, and with whatever fuel.
+abbrev pub IsLeastRoom : List Rule → Tree → ℕ → Type 0
+IsLeastRoom rules t room = (given kept : List Tree) (fuel less : ℕ) (value : Tree) (left : ℕ) → less < room → (reduction rules given kept t fuel less).end ≡ Done value left → ⊥
 
 -- no tree of the points stands before its point
 abbrev pub AreNew : List Tree → List Point → Type 0

@@ -5,7 +5,7 @@ use Rattle.rewrite_model.specs.Rule.{Rule}
 use Rattle.rewrite_model.specs.Built.{total_built}
 use Rattle.rewrite_model.specs.Samples.{x, a, b, f, g, rule}
 use Rattle.rewrite_model.specs.Rows.{sums, one_and_one}
-use Rattle.rewrite_cache.specs.Cached.{IsCachedOfAll}
+use Rattle.rewrite_cache.specs.Cached.{IsCachedOfAll, IsKnown, IsLeastRoom}
 
 abbrev four_terms : List Tree
 four_terms = one_and_one ∷ one_and_one ∷ one_and_one ∷ one_and_one ∷ []
@@ -25,3 +25,12 @@ FirstTimeIsWhole = (trees : List Tree) → IsCachedOfAll chain (f a ∷ []) 9 99
 -- a second time the two trees inside may be left out, and no other
 abbrev pub SecondTimeIsShorter : Type 0
 SecondTimeIsShorter = IsCachedOfAll chain (f a ∷ f a ∷ []) 9 99 (a ∷ f a ∷ g a ∷ b ∷ a ∷ f a ∷ [])
+
+-- f(a) takes two units of fuel, and a room of three: one for the rule, one for its variable and one
+-- for the argument on its right side
+abbrev pub TwoStepsTakeThreeRooms : Type 0
+TwoStepsTakeThreeRooms = IsKnown chain (f a) b 2 3 × IsLeastRoom chain (f a) 3
+
+-- what no rule changes takes no fuel and no room
+abbrev pub NormalFormTakesNoRoom : Type 0
+NormalFormTakesNoRoom = IsKnown chain b b 0 0 × IsLeastRoom chain b 0

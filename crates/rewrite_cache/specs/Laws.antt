@@ -2,10 +2,10 @@
 use Rattle.std.specs.Prelude.{◌≡◌, ℕ, ◌+◌, ◌-◌, ◌≤◌, List, ◌++◌}
 use Rattle.term_model.specs.Tree.{Tree}
 use Rattle.rewrite_model.specs.Rule.{Rule}
-use Rattle.rewrite_model.specs.Run.{Done}
+use Rattle.rewrite_model.specs.Run.{Done, TooDeep}
 use Rattle.rewrite_model.specs.Evaluation.{Point, reduction}
 use Rattle.rewrite_model.specs.Built.{trees_at}
-use Rattle.rewrite_cache.specs.Cached.{IsCached, IsKnown, AreNew}
+use Rattle.rewrite_cache.specs.Cached.{IsCached, IsKnown, IsLeastRoom, AreNew}
 
 -- A reduction that ended in a value is known, with the fuel that it took and its room.
 abbrev pub ReductionsAreKnown : Type 0
@@ -16,6 +16,16 @@ ReductionsAreKnown = (rules : List Rule) (given kept : List Tree) (t value : Tre
 abbrev pub KnownBuildsTheSame : Type 0
 KnownBuildsTheSame = (rules : List Rule) (given kept given' kept' : List Tree) (t value : Tree) (fuel room left more wider : ℕ) → (reduction rules given kept t fuel room).end ≡ Done value left →
     trees_at (reduction rules given' kept' t (fuel - left + more) (room + wider)).notes ≡ trees_at (reduction rules given kept t fuel room).notes
+
+-- Where a reduction ends in a value, and in a room one smaller with the same fuel for want of room,
+-- its room is the least.
+abbrev pub NoLessRoomServes : Type 0
+NoLessRoomServes = (rules : List Rule) (given kept given' kept' : List Tree) (t value : Tree) (fuel room left : ℕ) → (reduction rules given kept t fuel (room + 1)).end ≡ Done value left → (reduction rules given' kept' t fuel room).end ≡ TooDeep →
+    IsLeastRoom rules t (room + 1)
+
+-- A tree has one least room at most.
+abbrev pub LeastRoomIsOne : Type 0
+LeastRoomIsOne = (rules : List Rule) (t value value' : Tree) (used used' room room' : ℕ) → IsKnown rules t value used room → IsLeastRoom rules t room → IsKnown rules t value' used' room' → IsLeastRoom rules t room' → room ≡ room'
 
 -- The trees of points are a cached list of them, of which nothing is left out.
 abbrev pub NothingNeedBeLeftOut : Type 0

@@ -6,4 +6,4 @@ mod facts;
 mod laws;
 
 pub use facts::worked_facts;
-pub use laws::{cached_laws, reduction_laws};
+pub use laws::{cached_laws, reduction_laws, room_laws};

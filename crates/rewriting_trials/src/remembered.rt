@@ -95,6 +95,69 @@ fn four_sums<M: Memo>(
     Ok((all, store.counts().builds, store.epoch()))
 }
 
+/// The answer for a term, by a machine of so much room with fuel for two uses of rules and a
+/// memory, on an empty stack, which is empty again then.
+fn answer_in<T: Terms, M: Memo>(
+    alloc: Global,
+    depth: u32,
+    plan: &Plan,
+    term: &Flat,
+    store: &mut T,
+    memo: &mut M,
+) -> Result<Option<Normal>, Fail>
+    requires inside { (T.store store.old).inside ≡ true }
+    requires wide { plan.now.widest ≤ (T.store store.old).widest }
+    requires memory { AreRight plan.now.rules (T.store store.old).built (T.store store.old)
+        (M.map memo.old) }
+    ensures inside { (T.store store.new).inside ≡ true }
+    ensures wide { plan.now.widest ≤ (T.store store.new).widest }
+    ensures memory { AreRight plan.now.rules (T.store store.new).built (T.store store.new)
+        (M.map memo.new) }
+{
+    let mut machine = Machine::new(alloc, plan, depth)?;
+    let free = store.room() - store.depth();
+    if free < depth || !may_be_normalized(term, plan.widest()) {
+        return Ok(None);
+    }
+    let answer = machine.normalize_with(plan, term, 2, store, memo);
+    store.keep(0, 0);
+    Ok(answer.ok())
+}
+
+/// The sum of one and one in rooms of 99, 6 and 5, by one memory: the answers, how many trees were
+/// built up to each of them, and the fuel and the room that are remembered then.
+fn sums_in_less(
+    alloc: Global,
+) -> Result<([Option<Normal>; 3], [u32; 3], Option<(u64, u32)>), Fail> {
+    let plan = sums(alloc)?;
+    let term = flat(alloc, &ONE_AND_ONE)?;
+    let mut store = Counting::new(alloc, 9, 99, WIDEST)?;
+    let mut memo = LastResult { kept: None };
+    store.enter();
+    memo.forget();
+    let wide = answer_in(alloc, 99, &plan, &term, &mut store, &mut memo)?;
+    let first = store.counts().builds;
+    let just = answer_in(alloc, 6, &plan, &term, &mut store, &mut memo)?;
+    let second = store.counts().builds;
+    let narrow = answer_in(alloc, 5, &plan, &term, &mut store, &mut memo)?;
+    let third = store.counts().builds;
+    let known = match memo.kept {
+        Some((_, known)) => Some((known.fuel, known.depth)),
+        None => None,
+    };
+    Ok(([wide, just, narrow], [first, second, third], known))
+}
+
+#[test]
+fn a_result_is_known_in_the_least_room(rt: HostRuntime) -> Result<(), Fail> {
+    let (answers, builds, known) = sums_in_less(rt.alloc())?;
+    let value = Some(Normal::Value { left: 0 });
+    assert_eq!(rt; answers, [value, value, Some(Normal::TooDeep)]);
+    assert_eq!(rt; builds, [7, 12, 17]);
+    assert_eq!(rt; known, Some((2, 6)));
+    Ok(())
+}
+
 #[test]
 fn a_known_sum_is_not_built_again(rt: HostRuntime) -> Result<(), Fail> {
     let alloc = rt.alloc();

@@ -17,6 +17,7 @@ still_right rules old new map keeps built right = λ place pair is.
       held = keeps pair.value r.value r.held;
       stood = subst (λ ts. Contains ts r.tree) (sym built) r.stood;
       known = r.known;
+      least = r.least;
       normal = r.normal;
     }
 

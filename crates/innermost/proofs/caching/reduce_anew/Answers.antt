@@ -1,13 +1,15 @@
-use Rattle.std.proofs.Common.{◌≡◌, ℕ, ◌+◌, Some, sym, subst}
+use Rattle.std.proofs.Common.{◌≡◌, ℕ, ◌+◌, ◌-◌, Some, sym, subst}
 use Rattle.std.proofs.lemmas.Result.{err_from_is_err_and}
 use Rattle.terms_api.specs.Terms.{Store}
 use Rattle.innermost.specs.declared.normal.Normal.{Normal}
+use Rattle.innermost.specs.Spares.{EndSpares}
 use Rattle.innermost.specs.Tasks.{IsEnd}
 use Rattle.innermost.specs.Remembered.{AreRight}
 use Rattle.innermost.specs.Caching.{IsResult, IsCaching}
 use Rattle.innermost.proofs.Inside.{end_inside}
 use Rattle.innermost.proofs.Memories.{right_now}
-use Rattle.innermost.proofs.Knowing.{job, reduces_itself, value_found, value_unkept, value_result, value_places, found_built, other_end, gave_up_so}
+use Rattle.innermost.proofs.LeastRooms.{jobs, begins_spare, value_result}
+use Rattle.innermost.proofs.Knowing.{job, reduces_itself, value_found, value_unkept, value_places, found_built, other_end, gave_up_so}
 use Rattle.innermost.proofs.caching.reduce_anew.Goals as goal
 
 pub reduce-requires-clause-state : goal.reduce-requires-clause-state
@@ -55,9 +57,14 @@ returns-in-Value-clause-state g c = λ start term fuel at n.
     let j = job c.args.plan.now c.args.code.now start term fuel (g.M.Memo.map c.args.memo.now) c.args.epoch.now at c.args.parts.now.left (g.T.Terms.store c.args.terms.now) (Some c.args.place.rule) c.args.place.room n' in
     let v = subst (λ (e : Normal). IsEnd c.args.plan.now c.args.code.now j new e) c.in-Value.is (c.in_ok-end.ensures.state j (reduces_itself c.args.plan.now c.args.code.now start term fuel (g.M.Memo.map c.args.memo.now) c.args.epoch.now at c.args.parts.now.left (g.T.Terms.store c.args.terms.now) (Some c.args.place.rule) c.args.place.room n')) in
     let e = c.remember.ensures in
-    let result = subst (λ (i : ℕ). IsResult c.args.plan.now.rules (found_built c.args.plan.now c.args.code.now start term fuel (g.M.Memo.map c.args.memo.now) c.args.epoch.now at c.args.parts.now.left (g.T.Terms.store c.args.terms.now) (Some c.args.place.rule) c.args.place.room n' new l v) c.args.epoch.now new c.args.place.row i c.args.place.room) (sym c.saturating_sub-taken.ensures) (value_result c.args.plan.now c.args.code.now start term fuel (g.M.Memo.map c.args.memo.now) c.args.epoch.now at c.args.parts.now.left (g.T.Terms.store c.args.terms.now) (Some c.args.place.rule) c.args.place.room n' new l v c.args.place.row c.requires.row c.requires.epoch) in
-    let right = subst (λ (s : Store). AreRight c.args.plan.now.rules (found_built c.args.plan.now c.args.code.now start term fuel (g.M.Memo.map c.args.memo.now) c.args.epoch.now at c.args.parts.now.left (g.T.Terms.store c.args.terms.now) (Some c.args.place.rule) c.args.place.room n' new l v) s map2) e.unchanged (e.right c.args.plan.now.rules (found_built c.args.plan.now c.args.code.now start term fuel (g.M.Memo.map c.args.memo.now) c.args.epoch.now at c.args.parts.now.left (g.T.Terms.store c.args.terms.now) (Some c.args.place.rule) c.args.place.room n' new l v) (value_unkept c.args.plan.now c.args.code.now start term fuel (g.M.Memo.map c.args.memo.now) c.args.epoch.now at c.args.parts.now.left (g.T.Terms.store c.args.terms.now) (Some c.args.place.rule) c.args.place.room n' new l v) result) in
-    let memory = right_now c.args.plan.now.rules (found_built c.args.plan.now c.args.code.now start term fuel (g.M.Memo.map c.args.memo.now) c.args.epoch.now at c.args.parts.now.left (g.T.Terms.store c.args.terms.now) (Some c.args.place.rule) c.args.place.room n' new l v) map2 later new right (subst (λ (s : Store). later ≡ s.epoch) e.unchanged e.epoch) in
+    let js = jobs c.args.plan.now c.args.code.now start term fuel (g.M.Memo.map c.args.memo.now) c.args.epoch.now at c.args.parts.now.left (g.T.Terms.store c.args.terms.now) (Some c.args.place.rule) c.args.place.room n' in
+    let spare = c.reduce.new.spare.least in
+    let ends = subst (λ (e : Normal). EndSpares c.args.plan.now c.args.code.now js spare new e) c.in-Value.is (c.in_ok-end.ensures.spare js (begins_spare c.args.plan.now c.args.code.now start term fuel (g.M.Memo.map c.args.memo.now) c.args.epoch.now at c.args.parts.now.left (g.T.Terms.store c.args.terms.now) (Some c.args.place.rule) c.args.place.room n')) in
+    let built = found_built c.args.plan.now c.args.code.now start term fuel (g.M.Memo.map c.args.memo.now) c.args.epoch.now at c.args.parts.now.left (g.T.Terms.store c.args.terms.now) (Some c.args.place.rule) c.args.place.room n' new l v in
+    let result = subst (λ (i : ℕ). IsResult c.args.plan.now.rules built c.args.epoch.now new c.args.place.row c.saturating_sub-taken.result i) (sym c.saturating_sub-least.ensures)
+    (subst (λ (i : ℕ). IsResult c.args.plan.now.rules built c.args.epoch.now new c.args.place.row i (c.args.place.room - spare)) (sym c.saturating_sub-taken.ensures) (value_result c.args.plan.now c.args.code.now start term fuel (g.M.Memo.map c.args.memo.now) c.args.epoch.now at c.args.parts.now.left (g.T.Terms.store c.args.terms.now) (Some c.args.place.rule) c.args.place.room n' new l spare ends v c.args.place.row c.requires.row c.requires.epoch)) in
+    let right = subst (λ (s : Store). AreRight c.args.plan.now.rules built s map2) e.unchanged (e.right c.args.plan.now.rules built (value_unkept c.args.plan.now c.args.code.now start term fuel (g.M.Memo.map c.args.memo.now) c.args.epoch.now at c.args.parts.now.left (g.T.Terms.store c.args.terms.now) (Some c.args.place.rule) c.args.place.room n' new l v) result) in
+    let memory = right_now c.args.plan.now.rules built map2 later new right (subst (λ (s : Store). later ≡ s.epoch) e.unchanged e.epoch) in
     subst (λ (s : Store). IsCaching c.args.plan.now c.args.code.now start term fuel map2 later (at + 1) l s) (sym e.unchanged)
     (value_found c.args.plan.now c.args.code.now start term fuel (g.M.Memo.map c.args.memo.now) c.args.epoch.now at c.args.parts.now.left (g.T.Terms.store c.args.terms.now) (Some c.args.place.rule) c.args.place.room n' map2 later new l v memory)
 
