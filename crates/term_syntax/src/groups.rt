@@ -9,8 +9,8 @@ use sequences::Stack;
 use std::alloc::{AllocError, Global};
 use std::marker::Model;
 
-/// Open groups, which contracts see as a list with the innermost first. That one stands apart, since
-/// most tokens look at it or are counted in it.
+/// Open groups, which contracts see as a list with the innermost first. That one stands apart from
+/// the others, since most tokens look at it, and each whole term is counted in it.
 #[derive(Drop)]
 pub(crate) struct Groups {
     innermost: Option<Group>,

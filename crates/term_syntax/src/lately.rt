@@ -48,8 +48,8 @@ impl Lately {
         }
     }
 
-    /// The symbol that was noted last at the place of this name with this number of arguments, if it
-    /// is that one.
+    /// The symbol that was noted last at the place of this name with this number of arguments, if
+    /// it is that one.
     #[tactic(auto, using(crate::proofs::Known::held_by))]
     #[inline(always)]
     pub(crate) fn guess(&self, symbols: &Symbols, name: &[u8], count: u32) -> Option<Symbol>
