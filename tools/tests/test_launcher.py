@@ -174,10 +174,15 @@ class Help(unittest.TestCase):
             self.assertEqual(run([f"{support.TOOLS}/{name}", "--wrong-word"])[2], 2, name)
 
 
-# Stands for the toolchain's command: it notes what it is asked for and where, and a library takes long.
+# Stands for the toolchain's command: it notes what it is asked for and where. A library takes long, and what it
+# has begun in a process group of its own goes on writing for a while after it was ended.
 TOOLCHAIN = """echo "$1 ${PWD##*/} $PWD" >>"$NOTES"
 case $1 in
-lib) exec sleep 60 ;;
+lib)
+    set -m
+    (for it in $(seq 8); do mkdir "at_$it"; sleep 0.1; done) >/dev/null 2>&1 &
+    exec sleep 60
+    ;;
 run)
     for _ in $(seq 200); do [ "$(grep -c ^lib "$NOTES")" = "$REC_AHEAD" ] && break; sleep 0.05; done
     [ -n "$FAILS" ] || { printf '#!/bin/sh\\nexit 5\\n' >out/rec_main && chmod +x out/rec_main; } ;;
