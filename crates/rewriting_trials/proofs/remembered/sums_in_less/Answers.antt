@@ -2,6 +2,6 @@ use Rattle.innermost.proofs.Memories.{none_right}
 use Rattle.plain_store.specs.Contents.{store_of}
 use Rattle.rewriting_trials.proofs.remembered.sums_in_less.Goals as goal
 
-pub answer_in-wide-requires-clause-memory : goal.answer_in-wide-requires-clause-memory
-answer_in-wide-requires-clause-memory g c =
-    none_right c.in_ok-plan.plan.rules (store_of c.enter.new.self.store).built (store_of c.enter.new.self.store) (g.M.Memo.map c.forget.new.self) c.forget.ensures.empty
+pub answer_in-requires-clause-memory : goal.answer_in-requires-clause-memory
+answer_in-requires-clause-memory c =
+    none_right c.in_ok-plan.plan.rules (store_of c.enter.new.self.store).built (store_of c.enter.new.self.store) _ c.forget.ensures.empty
