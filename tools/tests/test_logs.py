@@ -119,8 +119,12 @@ def judge(log: Log) -> str:
     wrong = [log.line_of(j, k) for j, k in log.places() if breaks(log.callers[j], k)]
     if wrong:
         return f"illegal {min(wrong)}\n"
-    entry_at = lambda place: log.callers[place[0]][place[1]]
-    order = sorted(log.places(), key=lambda it: (entry_at(it).key, entry_at(it).kind in ("find", "roots"), it))
+
+    def turn(place: tuple[int, int]) -> tuple[int, bool, tuple[int, int]]:
+        entry = log.callers[place[0]][place[1]]
+        return entry.key, entry.kind in ("find", "roots"), place
+
+    order = sorted(log.places(), key=turn)
     trees = Set(log.rows, len(log.callers))
     for caller, at in order:
         if not trees.steps(caller, log.callers[caller][at]):
