@@ -121,6 +121,10 @@ pub record Breathed (old new : Store) : Type 0 where
 abbrev pub pushed : Store → Row → Store
 pushed s r = record s { stack = s.stack ++ r ∷ [] }
 
+-- with rows on top, the last one topmost
+abbrev pub pushed_all : Store → List Row → Store
+pushed_all s rs = record s { stack = s.stack ++ rs }
+
 -- with the lowest and the last places of the stack alone
 abbrev pub kept : Store → ℕ → ℕ → Store
 kept s from top = record s { stack = take from s.stack ++ last top s.stack }

@@ -1,7 +1,7 @@
 // What every store of terms offers.
-ghost use Rattle.std.specs.Prelude.{◌≡◌, ◌+◌, ◌<◌, ◌≤◌, ◌↔◌, Option, Some, Result, OnOk, OnErr, IsErr, IsErrOf, IsTrue, true, false, [], ◌∷◌, ◌++◌, length, slice_get};
+ghost use Rattle.std.specs.Prelude.{◌≡◌, ◌+◌, ◌<◌, ◌≤◌, ◌↔◌, Option, Some, All, Result, OnOk, OnErr, IsErr, IsErrOf, IsTrue, true, false, [], ◌∷◌, ◌++◌, length, slice_get};
 ghost use Rattle.term_model.specs.Tree.{arguments, root};
-ghost use Rattle.terms_api.specs.Terms.{Store, IsHeld, IsSound, tree_at, Entered, Left, Breathed, pushed, kept, MayBuild, Built, NotBuilt, NeedsPlace, IsCrowded, CountsRefusal, trees, but_last, asked};
+ghost use Rattle.terms_api.specs.Terms.{Store, IsHeld, IsSound, tree_at, Entered, Left, Breathed, pushed, pushed_all, kept, MayBuild, Built, NotBuilt, NeedsPlace, IsCrowded, CountsRefusal, trees, but_last, asked};
 
 use term_model::{Head, Row};
 
@@ -138,6 +138,41 @@ pub trait Terms {
         ensures refusals { CountsRefusal result (store self.old) (store self.new) }
         ensures sound { IsSound (store self.new) }
         ensures same { same self.old self.new };
+
+    /// Puts the row of the tree of the head over these rows on top of the stack, for which there is a
+    /// place for each row and for the tree. It is what pushing the rows one after another and
+    /// building over them comes to, also where nothing is built.
+    fn build_of(&mut self, head: Head, rows: &[Row]) -> Result<(), BuildFault>
+        requires inside { (store self.old).inside ≡ true }
+        requires held { All (IsHeld (store self.old)) rows.now }
+        requires places { length (store self.old).stack + length rows.now ≤ (store self.old).room }
+        requires may { MayBuild (pushed_all (store self.old) rows.now) head (length rows.now) }
+        ensures ok { OnOk result (Built (pushed_all (store self.old) rows.now) (store self.new)
+            head (length rows.now)) }
+        ensures trees { OnOk result (trees (store self.new) ≡ trees (store self.old)
+            ++ asked (pushed_all (store self.old) rows.now) head (length rows.now) ∷ []) }
+        ensures err { OnErr result (NotBuilt (pushed_all (store self.old) rows.now) (store self.new)
+            head (length rows.now)) }
+        ensures err_trees { OnErr result (trees (store self.new)
+            ≡ trees (pushed_all (store self.old) rows.now)) }
+        ensures deep { IsErrOf result BuildFault.Deep
+            ↔ NeedsPlace (pushed_all (store self.old) rows.now) (length rows.now) }
+        ensures store_full_only_where_crowded { IsErrOf result BuildFault.StoreFull
+            → IsCrowded (pushed_all (store self.old) rows.now) (store self.new)
+            head (length rows.now) }
+        ensures worn_only_where_spent { IsErrOf result BuildFault.Worn
+            → (store self.new).spent ≡ true }
+        ensures was_sound { IsSound (store self.old) }
+        ensures refusals { CountsRefusal result (store self.old) (store self.new) }
+        ensures sound { IsSound (store self.new) }
+        ensures same { same self.old self.new }
+    {
+        let _ = self.depth();
+        for row in rows {
+            let _ = self.push(*row);
+        }
+        self.build(head, rows.len() as u32)
+    }
 
     /// Leaves the lowest `from` and the last `top` places of the stack.
     fn keep(&mut self, from: u32, top: u32)
