@@ -65,8 +65,8 @@ pub record IsSteady (epoch : Option ℕ) (now : Store) : Type 0 where
   pub before : epoch ≡ Some number
   pub same : now.epoch ≡ Some number
 
--- The tree of a row, which it had when the epoch was this one, has its value on top now, and this is
--- the least room in which it is reduced to it.
+-- The tree of a row, which it had when the epoch was this one, has its value on top now, which it
+-- comes to with this fuel, and `room` is the least in which it does.
 pub record IsResult (rules : List Rule) (built : List Tree) (number : Option ℕ) (now : Store) (place : Row) (fuel room : ℕ) : Type 0 where
   pub then : Store
   pub epoch : number ≡ then.epoch

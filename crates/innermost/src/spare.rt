@@ -4,7 +4,7 @@ ghost use Rattle.std.specs.Prelude.{◌≡◌, ℕ, min};
 
 /// Notes how much room the steps of a reduction have to spare, or doesn't.
 pub(crate) trait Spare {
-    /// The least that a step had.
+    /// No more than any step had that was noted.
     ghost least: { Self → ℕ };
 
     /// A step had so much room to spare.

@@ -24,8 +24,8 @@ impl Scope<'_> {
     ghost use Rattle.rec_check.specs.Scope.{seen};
     ghost use Rattle.rec_check.specs.Term.{item_in};
 
-    /// The number of the variable of a head's name. A head with arguments has none, since it stands
-    /// for something.
+    /// The number of the variable of a head's name. A head with arguments has none: a variable with
+    /// arguments stands for nothing, and this head stands for something.
     #[inline(always)]
     fn variable_of(&self, node: Node) -> Option<usize>
         requires { IsSome (item_in (seen self.now) node) }

@@ -57,8 +57,8 @@ fn push_term(text: &mut Vec<u8>, i: u32) -> Result<(), Memory>
 }
 
 /// The specification `DRILL` as text: sums and products of unary numbers by four rules, and n
-/// products to be rewritten. Term i, from 0 to n - 1, multiplies `(7 * i + 3) mod 11` by `(5 * i +
-/// 1) mod 13`. The text has at most 216 + 76 * n bytes, and takes time in proportion to n.
+/// products to be rewritten. Term i, from 0 to n - 1, multiplies `(7 * i + 3) mod 11` by
+/// `(5 * i + 1) mod 13`. The text has at most 216 + 76 * n bytes, and takes time in proportion to n.
 pub fn drill_text(alloc: Global, n: u32) -> Result<Vec<u8>, Memory>
     ensures { IfOk result (λ text. text.items ≡ drill_bytes n) }
 {

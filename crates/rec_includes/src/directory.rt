@@ -33,6 +33,7 @@ impl<'a> Model for Directory<'a> {
 }
 
 impl<'a> Directory<'a> {
+    /// No names, of this text. Takes no memory.
     pub fn new(alloc: Global, text: &'a [u8]) -> Self
         ensures { result ≡ listing text.now [] }
     {

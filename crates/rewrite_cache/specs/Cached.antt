@@ -33,7 +33,7 @@ abbrev pub IsKnown : List Rule → Tree → Tree → ℕ → ℕ → Type 0
 IsKnown rules t value used room = (given kept : List Tree) (more wider : ℕ) → (reduction rules given kept t (used + more) (room + wider)).end ≡ Done value more
 
 -- In no smaller room does reducing the tree by all rules end in a value, whatever is handed over and
--- kept, and with whatever fuel.
+-- kept, and with whatever fuel. (That this room suffices, `IsKnown` says.)
 abbrev pub IsLeastRoom : List Rule → Tree → ℕ → Type 0
 IsLeastRoom rules t room = (given kept : List Tree) (fuel less : ℕ) (value : Tree) (left : ℕ) → less < room → (reduction rules given kept t fuel less).end ≡ Done value left → ⊥
 

@@ -1,4 +1,4 @@
--- Worked cached lists.
+-- Worked cached lists, and the rooms of small reductions.
 use Rattle.std.specs.Prelude.{◌≡◌, List, [], ◌∷◌, length}
 use Rattle.term_model.specs.Tree.{Tree}
 use Rattle.rewrite_model.specs.Rule.{Rule}
@@ -22,15 +22,15 @@ chain = rule (f x) (g x) 1 ∷ rule (g x) b 1 ∷ []
 abbrev pub FirstTimeIsWhole : Type 0
 FirstTimeIsWhole = (trees : List Tree) → IsCachedOfAll chain (f a ∷ []) 9 99 trees → trees ≡ a ∷ f a ∷ g a ∷ b ∷ []
 
--- a second time the two trees inside may be left out, and no other
+-- a second time the two trees inside may be left out
 abbrev pub SecondTimeIsShorter : Type 0
 SecondTimeIsShorter = IsCachedOfAll chain (f a ∷ f a ∷ []) 9 99 (a ∷ f a ∷ g a ∷ b ∷ a ∷ f a ∷ [])
 
 -- f(a) takes two units of fuel, and a room of three: one for the rule, one for its variable and one
 -- for the argument on its right side
-abbrev pub TwoStepsTakeThreeRooms : Type 0
-TwoStepsTakeThreeRooms = IsKnown chain (f a) b 2 3 × IsLeastRoom chain (f a) 3
+abbrev pub TwoStepsTakeARoomOfThree : Type 0
+TwoStepsTakeARoomOfThree = IsKnown chain (f a) b 2 3 × IsLeastRoom chain (f a) 3
 
--- what no rule changes takes no fuel and no room
-abbrev pub NormalFormTakesNoRoom : Type 0
-NormalFormTakesNoRoom = IsKnown chain b b 0 0 × IsLeastRoom chain b 0
+-- the constant b, which no rule changes, takes no fuel and no room
+abbrev pub ConstantTakesNoRoom : Type 0
+ConstantTakesNoRoom = IsKnown chain b b 0 0 × IsLeastRoom chain b 0

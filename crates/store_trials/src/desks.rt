@@ -260,9 +260,9 @@ fn a_collection_keeps_the_stack_of_another_desk(rt: HostRuntime) -> Result<(), F
     Ok(())
 }
 
-// With the first base 2^62 - 5 there is room for one collection with an empty claim: 2^62 - 5 + 0 +
-// 1 + (2 + 1 + 1). Two creations have drawn, so the one that the third needs is worn, and a refused
-// one changes nothing. Its entries were Roots last.
+// With the first base 2^62 - 5 there is room for one collection with an empty claim:
+// 2^62 - 5 + 0 + 1 + (2 + 1 + 1). Two creations have drawn, so the one that the third needs is worn,
+// and a refused one changes nothing. Its entries were Roots last.
 #[test]
 fn a_worn_store_says_so(rt: HostRuntime) -> Result<(), Fail> {
     let (store, mut passes) = new_store(rt.alloc(), sizes(2, 1, (1 << 62) - 5))?;
