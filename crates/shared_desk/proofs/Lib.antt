@@ -10,6 +10,7 @@ pub mod Reading
 pub mod Stacks
 pub mod Passing
 pub mod Placing
+pub mod Pushing
 pub mod Following
 pub mod Sweeping
 pub mod Walks

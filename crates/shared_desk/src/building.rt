@@ -1,13 +1,13 @@
 // How a desk builds.
-ghost use Rattle.std.specs.Prelude.{◌≡◌, ◌≤◌, OnOk, OnErr, true, false};
-ghost use Rattle.terms_api.specs.Terms.{MayBuild, NeedsPlace, last};
+ghost use Rattle.std.specs.Prelude.{◌≡◌, ◌+◌, ◌≤◌, ◌++◌, OnOk, OnErr, All, true, false, length};
+ghost use Rattle.terms_api.specs.Terms.{IsHeld, MayBuild, NeedsPlace, last};
 ghost use Rattle.shared_desk.specs.Pass.{store, IsFilled};
 ghost use Rattle.shared_desk.specs.Desk.{IsIn, IsAlone, IsReady, Passed, Creates, Outcome};
 
 use crate::pass::SharedPass;
 use crate::places::Stack;
 use term_create::Full;
-use term_model::Head;
+use term_model::{Head, Row};
 use terms_api::BuildFault;
 
 // Creates over the last `n` places, in shared access.
@@ -231,5 +231,58 @@ pub(crate) fn build_row<S: SharedPass>(
     match try_create(pass, places, head, n) {
         Ok(()) => Ok(()),
         Err(_) => build_late(pass, places, head, n),
+    }
+}
+
+// Where the store was full: puts the rows on the stack, and builds over them.
+#[cold]
+#[inline(never)]
+fn build_pushed<S: SharedPass>(
+    pass: &mut S,
+    places: &mut Stack,
+    head: Head,
+    rows: &[Row],
+) -> Result<(), BuildFault>
+    requires inside { IsIn (S.view pass.old) places.old }
+    requires held { All (IsHeld (store (S.view pass.old) places.old.items)) rows.now }
+    requires room { length places.old.items + length rows.now ≤ (S.view pass.old).depth }
+    requires may { MayBuild (store (S.view pass.old) (places.old.items ++ rows.now)) head
+        (length rows.now) }
+    requires place { NeedsPlace (store (S.view pass.old) (places.old.items ++ rows.now))
+        (length rows.now) → ⊥ }
+    ensures outcome { Outcome (S.view pass.old) (S.view pass.new) (places.old.items ++ rows.now)
+        places.new.items head (length rows.now) result }
+    ensures inside { IsIn (S.view pass.new) places.new }
+{
+    places.put_all(rows);
+    build_late(pass, places, head, rows.len() as u32)
+}
+
+/// Creates over rows that needn't be on the stack, and puts the row on it. Where the store is full
+/// it puts them there first, and collects and creates.
+#[inline(always)]
+pub(crate) fn build_over<S: SharedPass>(
+    pass: &mut S,
+    places: &mut Stack,
+    head: Head,
+    rows: &[Row],
+) -> Result<(), BuildFault>
+    requires inside { IsIn (S.view pass.old) places.old }
+    requires held { All (IsHeld (store (S.view pass.old) places.old.items)) rows.now }
+    requires room { length places.old.items + length rows.now ≤ (S.view pass.old).depth }
+    requires may { MayBuild (store (S.view pass.old) (places.old.items ++ rows.now)) head
+        (length rows.now) }
+    requires place { NeedsPlace (store (S.view pass.old) (places.old.items ++ rows.now))
+        (length rows.now) → ⊥ }
+    ensures outcome { Outcome (S.view pass.old) (S.view pass.new) (places.old.items ++ rows.now)
+        places.new.items head (length rows.now) result }
+    ensures inside { IsIn (S.view pass.new) places.new }
+{
+    match pass.create(head, rows) {
+        Ok(row) => {
+            places.put(0, row);
+            Ok(())
+        }
+        Err(_) => build_pushed(pass, places, head, rows),
     }
 }

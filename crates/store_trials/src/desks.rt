@@ -1,4 +1,6 @@
 //! Desks over a real store, on one thread, with values worked out by hand.
+mod over;
+
 ghost use Rattle.std.specs.Prelude.{◌≡◌, ◌≤◌, [], All, IfOk, true, false};
 ghost use Rattle.store_model.specs.NewStore.{MaySize};
 ghost use Rattle.node_rows.specs.Told.{view_of};

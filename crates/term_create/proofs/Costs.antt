@@ -1,8 +1,7 @@
 -- The steps of a creation, added up. W is how many arguments a row has room for.
-use Rattle.std.proofs.Common.{◌≡◌, ◌≢◌, ℕ, zero, suc, ◌+◌, ◌*◌, ◌<◌, ◌≤◌, Bool, false, cond, Option, eqb, refl, sym, ap, ◌∙◌, subst, arith}
+use Rattle.std.proofs.Common.{◌≡◌, ℕ, zero, suc, ◌+◌, ◌*◌, ◌<◌, ◌≤◌, Bool, false, cond, Option, eqb, ap, ◌∙◌, subst, arith}
 use Rattle.std.proofs.Math.Nat.{suc-mul, mul_comm, mul-le-mul_right}
 use Rattle.store_model.specs.declared.view.Content.{Content}
-use Rattle.store_model.specs.declared.view.Call.{Call}
 use Rattle.store_model.specs.declared.view.Call.TheVariants.{Comparing}
 use Rattle.store_model.specs.Machine.{arrived, ended}
 use Rattle.node_rows.specs.Steps.{Few}

@@ -7,7 +7,6 @@ use Rattle.history_core.specs.declared.entry.Entry.TheVariants as entry
 use Rattle.store_model.specs.declared.view.Call.{Call}
 use Rattle.store_model.specs.declared.view.Call.TheVariants.{Idle, Ended}
 use Rattle.store_model.specs.declared.view.Passed.{Passed}
-use Rattle.store_model.specs.declared.view.View.{View}
 use Rattle.store_model.specs.declared.view.Sizes.{Sizes}
 use Rattle.store_model.specs.declared.view.Stay.TheVariants.{Away, Ready}
 use Rattle.store_model.specs.Machine.{Each, with_call, with_path}
@@ -16,18 +15,17 @@ use Rattle.node_rows.specs.declared.store.Last.{Last}
 use Rattle.node_rows.specs.declared.store.Last.TheVariants as last
 use Rattle.node_rows.specs.Steps.{with_store, over, Known}
 use Rattle.node_rows.specs.Told.{IsTold}
-use Rattle.node_rows.specs.declared.store.Pass.{Pass}
 use Rattle.node_rows.proofs.Tellings.{told_made, told_found, told_on}
 use Rattle.term_create.specs.declared.asked.Noted.{Noted}
 use Rattle.term_create.specs.declared.asked.Noted.TheVariants.{Made, Found}
-use Rattle.term_create.specs.Stage.{Finds, Makes, Notes, HasPassed, IsFull, IsRefused, row_of, at_walk}
-use Rattle.term_create.specs.Ended.{Ends, SamePlain}
+use Rattle.term_create.specs.Stage.{Finds, Makes, Notes, NotesRow, HasPassed, IsFull, IsRefused, row_of, at_walk}
+use Rattle.term_create.specs.Ended.{Ends}
 use Rattle.term_create.specs.Created.{NotesOne, Gets, KeepsCause, WasFilled, GetsNone, KeepsRest}
 use Rattle.term_create.proofs.Whole.{at_begin, max_less, made_notes, found_notes, made_gets, found_gets, made_rest, found_rest, made_only, found_only, refused_after, refused_cause, refused_none, refused_rest, refused_only}
 
 -- how a creation that has begun ends
-abbrev pub EndsNoted : {E : Type 0} → NodeView → NodeView → NodeView → Head → List ℕ → Result Noted E → Type 0
-EndsNoted v m w f rs r = MatchResult r (Notes v w f rs) (λ _. IsRefused m w (over f rs))
+abbrev pub EndsRow : {E : Type 0} → NodeView → NodeView → NodeView → Head → List ℕ → Result Row E → Type 0
+EndsRow v m w f rs r = MatchResult r (NotesRow v w f rs) (λ _. IsRefused m w (over f rs))
 
 begin_notes : (v w : NodeView) (f : Head) (rs : List ℕ) (x : Call) (n : Noted) → Notes (with_store v (with_call (with_path v.store 0 []) x)) w f rs n → Notes v w f rs n
 begin_notes v w f rs x (Made r n) h = record { passed = h.passed; path = h.path; later = h.later; view = h.view }
@@ -52,15 +50,10 @@ notes_on v u w p ps x f rs (Found r k) e h =
     record { passed = t.passed; path = t.path; view = t.view }
 
 -- what was made, or refused, after a walk to a chain's end
-pub made_after : {E : Type 0} → (v m w : NodeView) (f : Head) (rs : List ℕ) (from : ℕ) (r : Result Noted E) → HasPassed v m (over f rs) (Ended (over f rs) from) from 0
-    → MatchResult r (Notes m w f rs) (λ _. IsFull m w (over f rs) from) → MatchResult r (Notes v w f rs) (λ _. IsRefused v w (over f rs))
-made_after v m w f rs from (Ok n) h o = notes_on v m w h.passed (v.store.path ++ h.path) (Ended (over f rs) from) f rs n h.view o
+pub made_after : {E : Type 0} → (v m w : NodeView) (f : Head) (rs : List ℕ) (from : ℕ) (r : Result Row E) → HasPassed v m (over f rs) (Ended (over f rs) from) from 0
+    → MatchResult r (NotesRow m w f rs) (λ _. IsFull m w (over f rs) from) → EndsRow v v w f rs r
+made_after v m w f rs from (Ok row) h o = (o.0, o.1, notes_on v m w h.passed (v.store.path ++ h.path) (Ended (over f rs) from) f rs o.0 h.view o.2)
 made_after v m w f rs from (Err full) h o = refused_after v m w (over f rs) from h o
-
--- with its first step
-pub ends_whole : {E : Type 0} → (v m w : NodeView) (f : Head) (rs : List ℕ) (x : Call) (r : Result Noted E) → m ≡ with_store v (with_call (with_path v.store 0 []) x) → EndsNoted m m w f rs r → EndsNoted v (at_begin v) w f rs r
-ends_whole v m w f rs x (Ok n) e h = begin_notes v w f rs x n (subst (λ (u : NodeView). Notes u w f rs n) e h)
-ends_whole v m w f rs x (Err full) e h = begin_refused v w f rs x (subst (λ (u : NodeView). IsRefused u w (over f rs)) e h)
 
 -- where it is refused after a collection
 pub ends_filled : {A E : Type 0} → (z : Sizes) (i j : ℕ) (v m : NodeView) (f : Head) (rs : List ℕ) (n : ℕ) (ps : List Passed) (x : Call) (r : Result A E) → j ≡ i → m ≡ at_walk v n ps x
@@ -74,6 +67,11 @@ ends_filled z i j v m f rs n ps x (Err full) same e h = λ fresh.
 pub noted_ends : (v w : NodeView) (f : Head) (rs : List ℕ) (n : Noted) (row : ℕ) → row ≡ row_of n → Notes v w f rs n → (k : ℕ) × (Makes v w f rs row k ⊎ Finds v w f rs row k)
 noted_ends v w f rs (Made r k) row e h = (k, inl (subst (λ (q : ℕ). Makes v w f rs q k) (sym e) h))
 noted_ends v w f rs (Found r k) row e h = (k, inr (subst (λ (q : ℕ). Finds v w f rs q k) (sym e) h))
+
+-- with its first step
+pub ends_whole : {E : Type 0} → (v m w : NodeView) (f : Head) (rs : List ℕ) (x : Call) (r : Result Row E) → m ≡ with_store v (with_call (with_path v.store 0 []) x) → EndsRow m m w f rs r → Ends v w f rs r
+ends_whole v m w f rs x (Ok row) e h = noted_ends v w f rs h.0 row.0 h.1 (begin_notes v w f rs x h.0 (subst (λ (u : NodeView). Notes u w f rs h.0) e h.2))
+ends_whole v m w f rs x (Err full) e h = begin_refused v w f rs x (subst (λ (u : NodeView). IsRefused u w (over f rs)) e h)
 
 got_below : (z : Sizes) (v w : NodeView) (r : ℕ) → w.store.stay ≡ v.store.stay → w.store.got ≡ r ∷ v.store.got → v.store.stay ≡ Ready → Known z w.store → r < z.rows
 got_below z v w r stays got ready known = (subst (Each (λ q. q < z.rows)) got (known.got (λ e. let no : Ready ≡ Away = sym ready ∙ (sym stays ∙ e) in grind arith))).0
@@ -96,15 +94,12 @@ found_tells v w f rs r birth rows seen after x marks told e h =
     (ap (λ (u : NodeView). u.store.entries) h.view ∙ ap (λ (n : ℕ). v.store.entries ++ entry.Find n f rs r ∷ []) (sym is))
     (is ∙ sym (ap (λ (u : NodeView). u.store.seen) h.view))
 
--- nothing was noted
-pub refused_tells : (v w : NodeView) (f : Head) (rs : List ℕ) (rows seen : ℕ) (x : Last) (marks : List Bool) → IsTold v.store rows seen x marks → IsRefused (at_begin v) w (over f rs) → IsTold w.store rows seen x marks
-refused_tells v w f rs rows seen x marks told h =
-    let none = refused_none v w f rs h in
-    told_on v.store w.store rows seen x marks none.entries none.seen told
-
--- the same plain data tell the same
-pub plain_tells : (v : View) (p q : Pass) → SamePlain p q → IsTold v p.rows p.seen p.last p.marks → IsTold v q.rows q.seen q.last q.marks
-plain_tells v p q same told = subst (λ (t : ℕ × ℕ × Last × List Bool). IsTold v t.0 t.1 t.2 t.3) (λ k. (sym same.rows k, sym same.seen k, sym same.last k, sym same.marks k)) told
+-- nor does it tell more where it is refused
+pub full_tells : (v w : NodeView) (f : Head) (rs : List ℕ) (from rows seen : ℕ) (x : Last) (marks : List Bool) → IsTold v.store rows seen x marks → IsFull v w (over f rs) from → IsTold w.store rows seen x marks
+full_tells v w f rs from rows seen x marks told h = ⊎_elim
+    (λ e. told_on v.store w.store rows seen x marks (ap (λ (u : NodeView). u.store.entries) e) (ap (λ (u : NodeView). u.store.seen) e) told)
+    (λ e. told_on v.store w.store rows seen x marks (ap (λ (u : NodeView). u.store.entries) e) (ap (λ (u : NodeView). u.store.seen) e) told)
+    h.view
 
 module _ {E : Type 0} (v w : NodeView) (f : Head) (rs : List ℕ) where
   pub ends_notes : (r : Result Row E) → Ends v w f rs r → IfOk r (λ row. NotesOne v.store w.store f rs row.0)

@@ -1,28 +1,26 @@
 -- What the steps of a creation make together.
-use Rattle.std.proofs.Common.{◌≡◌, ◌≢◌, ◌⊎◌, inl, inr, ℕ, zero, suc, pred, ◌+◌, ◌<◌, ◌≤◌, eqb, Bool, true, false, cond, Option, None, Some, List, [], ◌∷◌, ◌++◌, length, max, refl, sym, ap, ◌∙◌, subst, ⊎_elim, arith, eq-eqb}
+use Rattle.std.proofs.Common.{◌≡◌, ◌≢◌, inl, inr, ℕ, zero, suc, pred, ◌+◌, ◌<◌, ◌≤◌, eqb, Bool, true, false, cond, Option, None, Some, List, [], ◌∷◌, ◌++◌, length, max, refl, sym, ap, ◌∙◌, subst, ⊎_elim, arith, eq-eqb}
 use Rattle.std.specs.Prelude.{nat_lt}
 use Rattle.std.proofs.lemmas.Bool.Decides.{nat_tests}
 use Rattle.term_model.specs.declared.Head.{Head}
 use Rattle.term_model.specs.declared.Head.TheVariants.{App, Int, Nil, Cons}
 use Rattle.store_model.specs.declared.view.Sizes.{Sizes}
-use Rattle.store_model.specs.declared.view.View.{View}
 use Rattle.store_model.specs.declared.view.Content.{Content}
 use Rattle.store_model.specs.declared.view.Passed.{Passed}
 use Rattle.store_model.specs.declared.view.Refusal.{Refusal}
 use Rattle.store_model.specs.declared.view.Call.{Call}
-use Rattle.store_model.specs.declared.view.Call.TheVariants.{Idle, Comparing, Passing, Ended, Counting, Drawing, Placing, Linking, Publishing}
-use Rattle.store_model.specs.Calls.{words_of, IsOver}
-use Rattle.store_model.specs.Machine.{with_call, with_path, gained, refusing, overdrawn, arrived, ended, passing, widest}
-use Rattle.store_model.specs.Seats.{Where, index}
-use Rattle.store_model.specs.Reads.{Differs, PathTo, IsRefusal}
+use Rattle.store_model.specs.declared.view.Call.TheVariants.{Comparing, Passing, Ended, Counting, Drawing, Placing, Linking}
+use Rattle.store_model.specs.Calls.{IsOver}
+use Rattle.store_model.specs.Machine.{with_call, with_path, refusing, overdrawn, arrived, ended, passing, widest}
+use Rattle.store_model.specs.Reads.{Differs, PathTo}
 use Rattle.store_model.proofs.Basics.{choose}
 use Rattle.node_rows.specs.declared.view.NodeView.{NodeView}
 use Rattle.node_rows.specs.Steps.{with_store, over, Known, Few}
 use Rattle.atomic_table.specs.declared.shared.Seat.{Seat}
 use Rattle.term_create.specs.Fitting.{Fits}
 use Rattle.term_create.specs.declared.asked.Asked.{Asked}
-use Rattle.term_create.specs.Stage.{HoldsAllAlone, FillsAfter, SameSeat, at_call, at_walk, HasWalked, HasPassed, GoesOn, IsOther, Finds, Makes, IsFull, IsRefused, Relinks}
-use Rattle.history_core.specs.declared.entry.Entry.TheVariants.{Make, Find}
+use Rattle.term_create.specs.Stage.{HoldsAllAlone, FillsAfter, SameSeat, at_call, at_walk, HasWalked, HasPassed, GoesOn, IsOther, Finds, Makes, IsFull, IsRefused}
+use Rattle.history_core.specs.declared.entry.Entry.TheVariants.{Make}
 use Rattle.node_rows.specs.Rows.{names}
 use Rattle.term_create.specs.Created.{NotesOne, Gets, KeepsCause, WasFilled, GetsNone, KeepsRest}
 

@@ -1,8 +1,7 @@
 -- What a read of a row leaves in what its pass knows.
-use Rattle.std.specs.Prelude.{◌≡◌, ℕ, suc, ◌+◌, ◌<◌, List, [], ◌∷◌, ◌++◌}
+use Rattle.std.specs.Prelude.{◌≡◌, ℕ, suc, ◌<◌, List, [], ◌∷◌, ◌++◌}
 use Rattle.term_model.specs.declared.Head.{Head}
 use Rattle.term_model.specs.declared.Head.TheVariants.{App, Int, Nil, Cons}
-use Rattle.hash_buckets.specs.Spelled.{symbol_word}
 use Rattle.store_model.specs.declared.view.KnownWord.{KnownWord}
 use Rattle.store_model.specs.ByView.{KnowsWord}
 use Rattle.node_rows.specs.declared.view.NodeView.{NodeView}

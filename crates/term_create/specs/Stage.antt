@@ -2,6 +2,7 @@
 use Rattle.std.specs.Prelude.{◌≡◌, ◌≢◌, ◌⊎◌, ◌==◌, if◌then◌else◌, true, ℕ, suc, pred, max, ◌<◌, ◌≤◌, ◌+◌, Option, List, [], ◌∷◌, ◌++◌, length}
 use Rattle.atomic_table.specs.declared.shared.Seat.{Seat}
 use Rattle.term_model.specs.declared.Head.{Head}
+use Rattle.term_model.specs.declared.Row.{Row}
 use Rattle.history_core.specs.declared.entry.Entry.TheVariants.{Make, Find}
 use Rattle.store_model.specs.declared.view.View.{View}
 use Rattle.store_model.specs.declared.view.Content.{Content}
@@ -122,6 +123,10 @@ Notes v w f rs (Found r birth) = Finds v w f rs r birth
 abbrev pub row_of : Noted → ℕ
 row_of (Made r number) = r
 row_of (Found r birth) = r
+
+-- one of both, with this row
+abbrev pub NotesRow : NodeView → NodeView → Head → List ℕ → Row → Type 0
+NotesRow v w f rs row = (n : Noted) × (row.0 ≡ row_of n) × Notes v w f rs n
 
 -- a step of the call read the claim, or drew a number, of at least the free count, after the whole chain from the head `from`
 pub record IsFull (v w : NodeView) (c : Content) (from : ℕ) : Type 0 where

@@ -1,22 +1,33 @@
-//! Making a row where a walk ends without one: a draw, the words of the drawn row, and its
-//! publishing.
-ghost use Rattle.std.specs.Prelude.{◌≡◌, ◌≤◌, ◌+◌, ◌*◌, MatchResult, IfErr};
+//! Making a row where a walk ends without one: a draw, the words of the drawn row, its publishing,
+//! and what is told of it.
+ghost use Rattle.std.specs.Prelude.{◌≡◌, ◌<◌, ◌≤◌, ◌+◌, ◌*◌, true, MatchResult, IfErr, get_or, length};
+ghost use Rattle.store_model.specs.Calls.{words_of, bucket};
 ghost use Rattle.store_model.specs.declared.view.Call.TheVariants.{Ended, Filling, Linking};
+ghost use Rattle.store_model.specs.declared.view.Stay.TheVariants.{Ready};
 ghost use Rattle.store_model.specs.Machine.{widest};
+ghost use Rattle.node_rows.specs.Belonging.{IsOpen};
 ghost use Rattle.node_rows.specs.Rows.{names};
+ghost use Rattle.node_rows.specs.Full.{HoldsAll};
+ghost use Rattle.node_rows.specs.Steps.{over, IsOf, Known};
+ghost use Rattle.node_rows.specs.Told.{Tells, view_of};
+ghost use Rattle.term_create.specs.Created.{WasFilled};
+ghost use Rattle.term_create.specs.Fitting.{Fits};
 ghost use Rattle.term_create.specs.Counted.{Takes};
-ghost use Rattle.term_create.specs.Stage.{IsAt, IsBased, SameSeat, Notes, IsFull, Relinks, HoldsAllAlone, FillsAfter, content, at_call};
+ghost use Rattle.term_create.specs.Stage.{IsAt, IsBased, SameSeat, Notes, NotesRow, IsFull, Relinks, HoldsAllAlone, FillsAfter, content, at_call};
 
 use crate::asked::{Asked, Drawn, Full, Noted, Walk};
 use crate::counting::Steps;
 use crate::stages::{
     draw, fill_one, link, number_row, publish, read_claim, read_count, read_place,
 };
+use crate::telling::told_of;
 use crate::walking::walk;
 use crate::words::word_count;
 use busy_forbidden::Seat;
-use node_rows::NodeRows;
+use hash_buckets::symbol_word;
+use node_rows::{NodeRows, Pass, Store};
 use std::sync::ledger::Ledger;
+use term_model::{Head, Row};
 
 // Stores the words of the drawn row, and its birth number.
 fn fill_row<L: Ledger>(
@@ -82,9 +93,9 @@ fn publish_once<L: Ledger>(
     }
 }
 
-/// Publishes the drawn row, or finds one that another seat has published meanwhile.
+// Publishes the drawn row, or finds one that another seat has published meanwhile.
 #[inline]
-pub(crate) fn publish_row<L: Ledger>(
+fn publish_row<L: Ledger>(
     asked: &Asked<'_>,
     seat: &mut Seat<NodeRows>,
     steps: &mut Steps<L>,
@@ -117,9 +128,9 @@ pub(crate) fn publish_row<L: Ledger>(
     unreachable!()
 }
 
-/// Draws a row, and stores it, where one is free.
+// Draws a row, and stores it, where one is free.
 #[inline]
-pub(crate) fn draw_row<L: Ledger>(
+fn draw_row<L: Ledger>(
     asked: &Asked<'_>,
     seat: &mut Seat<NodeRows>,
     steps: &mut Steps<L>,
@@ -151,4 +162,113 @@ pub(crate) fn draw_row<L: Ledger>(
     let drawn = Drawn { from, index, row };
     fill_row(asked, seat, steps, drawn);
     Ok(drawn)
+}
+
+// Makes the row that is asked, where the walk from this head has ended without it. What is asked is
+// laid into memory here alone, so that a walk keeps it in registers.
+fn make_row<L: Ledger>(
+    store: &Store,
+    head: Head,
+    args: &[Row],
+    base: u64,
+    place: u64,
+    seat: &mut Seat<NodeRows>,
+    steps: &mut Steps<L>,
+    from: u64,
+) -> Result<Noted, Full>
+    requires store { IsOpen store.now }
+    requires second { length args.now ≡ get_or (words_of (over head (names args.now))) 1 0 }
+    requires fits { Fits store.now.sizes head (names args.now) }
+    requires within { place < store.now.sizes.buckets }
+    requires of { IsOf store.now.table.shared.table_id store.now.table.shared.key seat.old.seat }
+    requires known { Known store.now.sizes seat.old.seat.me.0.store }
+    requires base { base ≡ seat.old.seat.me.0.store.base }
+    requires place { place ≡ bucket (over head (names args.now)) seat.old.seat.me.0.store.in_use }
+    requires stage { seat.old.seat.me.0.store.call ≡ Ended (over head (names args.now)) from }
+    ensures of { IsOf store.now.table.shared.table_id store.now.table.shared.key seat.new.seat }
+    ensures known { Known store.now.sizes seat.new.seat.me.0.store }
+    ensures same { SameSeat seat.old.seat seat.new.seat
+        seat.old.number seat.new.number seat.old.seats seat.new.seats }
+    ensures view { let v = seat.old.seat.me.0 in let w = seat.new.seat.me.0 in MatchResult result
+        (Notes v w head (names args.now))
+        (λ _. IsFull v w (over head (names args.now)) from) }
+    ensures all { IfErr result (λ _. store.now.sizes.seats ≡ 1
+        → HoldsAll store.now.sizes.rows seat.old.seat.me.0.store.entries) }
+    ensures filled { IfErr result (λ _. seat.old.seat.me.0.store.fresh ≡ true
+        → WasFilled store.now.sizes seat.old.number seat.old.seat.me.0 head (names args.now)) }
+    ensures cost { let z = store.now.sizes in MatchResult result
+        (λ _. Takes z (widest z + 7 + 2 * (z.rows + 1)) seat.old.seat.me.0.store.passed z.rows
+        steps.old steps.new)
+        (λ _. steps.new ≤ steps.old + (widest z + 7)) }
+{
+    let asked = Asked {
+        store,
+        head,
+        args,
+        symbol: symbol_word(head),
+        base,
+        place,
+        first_row: store.first_row,
+        row_size: store.row_size,
+    };
+    match draw_row(&asked, seat, steps, from) {
+        Ok(drawn) => Ok(publish_row(&asked, seat, steps, drawn)),
+        Err(full) => Err(full),
+    }
+}
+
+/// Makes the row that is asked, and tells it. It stands apart from the code that finds rows, which
+/// are mostly there.
+#[cold]
+#[inline(never)]
+pub(crate) fn make_told<L: Ledger>(
+    store: &Store,
+    head: Head,
+    args: &[Row],
+    base: u64,
+    place: u64,
+    pass: &mut Pass,
+    steps: &mut Steps<L>,
+    from: u64,
+) -> Result<Row, Full>
+    requires store { IsOpen store.now }
+    requires second { length args.now ≡ get_or (words_of (over head (names args.now))) 1 0 }
+    requires fits { Fits store.now.sizes head (names args.now) }
+    requires within { place < store.now.sizes.buckets }
+    requires of { IsOf store.now.table.shared.table_id store.now.table.shared.key
+        pass.old.seat.seat }
+    requires known { Known store.now.sizes (view_of pass.old).store }
+    requires base { base ≡ (view_of pass.old).store.base }
+    requires place { place ≡ bucket (over head (names args.now)) (view_of pass.old).store.in_use }
+    requires stage { (view_of pass.old).store.call ≡ Ended (over head (names args.now)) from }
+    requires stay { (view_of pass.old).store.stay ≡ Ready }
+    requires told { Tells pass.old }
+    ensures of { IsOf store.now.table.shared.table_id store.now.table.shared.key
+        pass.new.seat.seat }
+    ensures known { Known store.now.sizes (view_of pass.new).store }
+    ensures same { SameSeat pass.old.seat.seat pass.new.seat.seat
+        pass.old.seat.number pass.new.seat.number pass.old.seat.seats pass.new.seat.seats }
+    ensures loaded { (pass.new.base ≡ pass.old.base) × (pass.new.in_use ≡ pass.old.in_use) }
+    ensures told { Tells pass.new }
+    ensures view { let v = view_of pass.old in let w = view_of pass.new in MatchResult result
+        (NotesRow v w head (names args.now))
+        (λ _. IsFull v w (over head (names args.now)) from) }
+    ensures all { IfErr result (λ _. store.now.sizes.seats ≡ 1
+        → HoldsAll store.now.sizes.rows (view_of pass.old).store.entries) }
+    ensures filled { IfErr result (λ _. (view_of pass.old).store.fresh ≡ true
+        → WasFilled store.now.sizes pass.old.seat.number (view_of pass.old) head (names args.now)) }
+    ensures cost { let z = store.now.sizes in MatchResult result
+        (λ _. Takes z (widest z + 7 + 2 * (z.rows + 1)) (view_of pass.old).store.passed z.rows
+        steps.old steps.new)
+        (λ _. steps.new ≤ steps.old + (widest z + 7)) }
+{
+    match make_row(store, head, args, base, place, &mut pass.seat, steps, from) {
+        Ok(noted) => {
+            let told = told_of(&store.sizes, pass.seen, noted);
+            pass.seen = told.seen;
+            pass.last = told.last;
+            Ok(told.row)
+        }
+        Err(full) => Err(full),
+    }
 }

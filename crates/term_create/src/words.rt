@@ -111,15 +111,14 @@ fn hash(symbol: u64, head: Head, args: &[Row]) -> u64
 }
 
 // The remainder. A power of two, as the number of buckets mostly is, has it in the low bits, which
-// spares a division.
+// spares a division; it alone shares no bit with the number before it.
 #[tactic(auto, using(crate::proofs::Remainders::low_bits))]
 fn remainder(hash: u64, in_use: u64) -> u64
     requires used { 0 < in_use }
     ensures { result ≡ hash % in_use }
 {
-    let power = 1 << in_use.ilog2();
-    if in_use == power {
-        hash & (power - 1)
+    if in_use & (in_use - 1) == 0 {
+        hash & (in_use - 1)
     } else {
         hash % in_use
     }

@@ -1,28 +1,55 @@
-use Rattle.std.proofs.Common.{◌++◌, subst}
+use Rattle.std.proofs.Common.{◌++◌, ◌∙◌, ap, subst}
 use Rattle.std.specs.Prelude.{◌≡◌, IfErr}
 use Rattle.store_model.specs.declared.view.Call.TheVariants.{Ended}
 use Rattle.node_rows.specs.Full.{HoldsAll}
 use Rattle.node_rows.specs.Rows.{names}
 use Rattle.node_rows.specs.declared.view.NodeView.{NodeView}
+use Rattle.node_rows.proofs.Tellings.{told_on}
 use Rattle.term_create.specs.Stage.{content}
-use Rattle.term_create.proofs.Told.{made_after, ends_filled}
+use Rattle.term_create.proofs.Told.{noted_below, made_after, ends_filled}
 use Rattle.term_create.proofs.creating.create_from.Goals as goal
 
-pub returns-clause-view : goal.returns-clause-view
-returns-clause-view g c =
+pub told_of-told-requires : goal.told_of-told-requires
+told_of-told-requires g c =
     let a = c.args.asked.now in
-    made_after c.args.seat.now.seat.me.0 c.walk.new.seat.seat.me.0 c.make_row.new.seat.seat.me.0 a.head (names a.args.now) c.args.from c.make_row.result c.in_default.ensures.view c.make_row.ensures.view
+    noted_below a.store.now.sizes c.args.pass.now.seat.seat.me.0 c.walk.new.seat.seat.me.0 a.head (names a.args.now) c.in-Some.noted
+    c.requires.stay c.walk.ensures.at.known c.in-Some.ensures.view
 
-pub returns-clause-all : goal.returns-clause-all
-returns-clause-all g c =
+pub returns-in-Some-clause-view : goal.returns-in-Some-clause-view
+returns-in-Some-clause-view g c = (c.in-Some.noted, c.told_of-told.ensures.row, c.in-Some.ensures.view)
+
+pub returns-in-Some-clause-told : goal.returns-in-Some-clause-told
+returns-in-Some-clause-told g c =
+    let a = c.args.asked.now in
+    let p = c.args.pass.now in
+    c.told_of-told.ensures.told p.seat.seat.me.0 c.walk.new.seat.seat.me.0 a.head (names a.args.now) p.rows p.last p.marks
+    c.requires.told c.in-Some.ensures.view
+
+pub make_told-requires-clause-told : goal.make_told-requires-clause-told
+make_told-requires-clause-told g c =
+    let p = c.args.pass.now in
+    let h = c.in-None.ensures.view in
+    told_on p.seat.seat.me.0.store c.walk.new.seat.seat.me.0.store p.rows p.seen p.last p.marks
+    (ap (λ (u : NodeView). u.store.entries) h.view) (ap (λ (u : NodeView). u.store.seen) h.view) c.requires.told
+
+pub make_told-requires-clause-stay : goal.make_told-requires-clause-stay
+make_told-requires-clause-stay g c = ap (λ (u : NodeView). u.store.stay) c.in-None.ensures.view.view ∙ c.requires.stay
+
+pub returns-in-None-clause-view : goal.returns-in-None-clause-view
+returns-in-None-clause-view g c =
+    let a = c.args.asked.now in
+    made_after c.args.pass.now.seat.seat.me.0 c.walk.new.seat.seat.me.0 c.make_told.new.pass.seat.seat.me.0 a.head (names a.args.now) c.args.from c.make_told.result c.in-None.ensures.view c.make_told.ensures.view
+
+pub returns-in-None-clause-all : goal.returns-in-None-clause-all
+returns-in-None-clause-all g c =
     let z = c.args.asked.now.store.now.sizes in
-    subst (λ (u : NodeView). IfErr c.make_row.result (λ _. z.seats ≡ 1 → HoldsAll z.rows u.store.entries)) c.in_default.ensures.view.view c.make_row.ensures.all
+    subst (λ (u : NodeView). IfErr c.make_told.result (λ _. z.seats ≡ 1 → HoldsAll z.rows u.store.entries)) c.in-None.ensures.view.view c.make_told.ensures.all
 
-pub returns-clause-filled : goal.returns-clause-filled
-returns-clause-filled g c =
+pub returns-in-None-clause-filled : goal.returns-in-None-clause-filled
+returns-in-None-clause-filled g c =
     let a = c.args.asked.now in
-    let seat = c.args.seat.now in
+    let seat = c.args.pass.now.seat in
     let v = seat.seat.me.0 in
-    let h = c.in_default.ensures.view in
+    let h = c.in-None.ensures.view in
     ends_filled a.store.now.sizes seat.number c.walk.new.seat.number v c.walk.new.seat.seat.me.0 a.head (names a.args.now)
-    h.passed (v.store.path ++ h.path) (Ended (content a) c.args.from) c.make_row.result c.in_default.ensures.same.number h.view c.make_row.ensures.filled
+    h.passed (v.store.path ++ h.path) (Ended (content a) c.args.from) c.make_told.result c.walk.ensures.same.number h.view c.make_told.ensures.filled

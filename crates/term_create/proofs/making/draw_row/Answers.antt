@@ -1,4 +1,4 @@
-use Rattle.std.proofs.Common.{arith, ℕ, ◌≤◌, ◌<◌, ◌∙◌, subst}
+use Rattle.std.proofs.Common.{arith, ◌≤◌, ◌<◌, ◌∙◌, subst}
 use Rattle.store_model.specs.declared.view.Call.TheVariants.{Counting}
 use Rattle.std.proofs.lemmas.Bool.Decides.{nat_tests}
 use Rattle.term_create.specs.Stage.{HoldsAllAlone, content}

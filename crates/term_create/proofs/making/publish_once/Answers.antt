@@ -5,7 +5,7 @@ use Rattle.store_model.specs.Machine.{arrived, gained, with_call}
 use Rattle.node_rows.specs.Rows.{names}
 use Rattle.node_rows.specs.declared.view.NodeView.{NodeView}
 use Rattle.node_rows.specs.Steps.{with_store}
-use Rattle.term_create.specs.Stage.{content, at_call, at_walk}
+use Rattle.term_create.specs.Stage.{content, at_walk}
 use Rattle.term_create.proofs.Told.{notes_on}
 use Rattle.term_create.proofs.making.publish_once.Goals as goal
 

@@ -5,7 +5,6 @@ use Rattle.store_model.specs.declared.view.Call.TheVariants.{Linking}
 use Rattle.node_rows.specs.Rows.{names}
 use Rattle.term_create.specs.Stage.{at_call, content}
 use Rattle.term_create.proofs.Told.{notes_on}
-use Rattle.busy_forbidden.specs.Calls.{IsSame}
 use Rattle.term_create.proofs.making.publish_row.Goals as goal
 
 pub loop-step-init : goal.loop-step-init

@@ -1,4 +1,4 @@
-use Rattle.std.proofs.Common.{◌≡◌, ◌≤◌, ◌∙◌, ℕ, sym, subst}
+use Rattle.std.proofs.Common.{◌≤◌, ◌∙◌, ℕ, sym, subst}
 use Rattle.store_model.specs.Machine.{widest}
 use Rattle.term_create.proofs.Reading.{count_bound, count_tree}
 use Rattle.term_create.proofs.reads.count_of.Goals as goal

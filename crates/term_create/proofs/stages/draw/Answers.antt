@@ -1,8 +1,7 @@
-use Rattle.std.proofs.Common.{◌≡◌, sym, subst}
+use Rattle.std.proofs.Common.{subst}
 use Rattle.store_model.specs.declared.view.Call.{Call}
 use Rattle.store_model.specs.declared.view.Sizes.{Sizes}
 use Rattle.node_rows.specs.Full.{FullAlone, FullAfter}
-use Rattle.term_create.specs.Stage.{content}
 use Rattle.term_create.proofs.stages.draw.Goals as goal
 
 pub returns-clause-alone : goal.returns-clause-alone

@@ -1,4 +1,4 @@
-use Rattle.std.specs.Prelude.{◌≡◌, ℕ}
+use Rattle.std.specs.Prelude.{◌≡◌}
 use Rattle.term_create.specs.Counted.{Takes}
 use Rattle.term_create.specs.Stage.{IsAt, SameSeat, HasWalked, content}
 use Rattle.term_create.proofs.walking.walk.Given as goal

@@ -1,11 +1,8 @@
-use Rattle.std.proofs.Common.{◌∙◌, ap}
 use Rattle.store_model.specs.declared.view.Call.TheVariants.{Linking}
 use Rattle.node_rows.specs.Rows.{names}
-use Rattle.node_rows.specs.declared.view.NodeView.{NodeView}
 use Rattle.node_rows.specs.Steps.{over}
-use Rattle.term_create.specs.Stage.{at_call}
 use Rattle.term_create.proofs.Told.{notes_on}
-use Rattle.term_create.proofs.creating.make_row.Goals as goal
+use Rattle.term_create.proofs.making.make_row.Goals as goal
 
 pub returns-in-Ok-clause-view : goal.returns-in-Ok-clause-view
 returns-in-Ok-clause-view g c =
