@@ -138,6 +138,7 @@ module _ (plan : Planned) (codes : Code) (start : Store) (term : Tree) (fuel : â
         record {
           planned = c.ready.planned;
           coded = c.ready.coded;
+          ops = c.ready.ops;
           free = omega (arith, c.ready.free, c.stood.numbers.room);
           wide = omega (arith, c.ready.wide, c.stood.numbers.widest);
           depth = c.ready.depth;

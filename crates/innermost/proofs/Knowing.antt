@@ -120,6 +120,7 @@ module _ (plan : Planned) (codes : Code) (start : Store) (term : Tree) (fuel : â
         ready = record {
           planned = n.ready.planned;
           coded = n.ready.coded;
+          ops = n.ready.ops;
           free = omega (arith, n.ready.free, n.stood.numbers.room);
           wide = omega (arith, n.ready.wide, n.stood.numbers.widest);
           depth = n.ready.depth;

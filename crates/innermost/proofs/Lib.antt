@@ -46,3 +46,6 @@ pub mod Knowing
 pub mod CachedEnds
 pub mod Sparing
 pub mod LeastRooms
+pub mod OnTop
+pub mod Joined
+pub mod Growing

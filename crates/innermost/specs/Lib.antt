@@ -10,6 +10,7 @@ pub mod Reducing
 pub mod Matchers
 pub mod Machines
 pub mod Normalized
+pub mod Ops
 pub mod Shown
 pub mod Spelled
 pub mod Standing

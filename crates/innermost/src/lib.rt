@@ -2,6 +2,7 @@
 //! stacks.
 #![tactic(auto)]
 
+mod at_once;
 mod building;
 mod caching;
 mod coding;
@@ -12,6 +13,7 @@ mod fitness;
 mod frames;
 mod going;
 mod instantiating;
+mod joining;
 mod laws;
 mod machine;
 mod matcher;
@@ -19,6 +21,7 @@ mod memo;
 mod nodes;
 mod normal;
 mod normalizing;
+mod op;
 mod outward;
 mod places;
 mod rebuilding;

@@ -52,7 +52,7 @@ impl Model for Machine {
 
     ghost Value = { Made };
 
-    ghost view = { λ m. record { steps = m.code.steps.items; starts = m.code.starts.items; depth = m.code.depth; automaton = m.parts.matcher.automaton } };
+    ghost view = { λ m. record { steps = m.code.steps.items; ops = m.code.ops.items; starts = m.code.starts.items; depth = m.code.depth; automaton = m.parts.matcher.automaton } };
 
     ghost invariant = { λ m. (m.code.depth ≤ vec_capacity m.parts.frames) × (m.code.depth ≤ vec_capacity m.window.path) × (0 < length m.window.depths.items) × (m.code.depth ≤ vec_capacity m.spots) };
 }
