@@ -49,12 +49,14 @@ impl Model for Machine {
     ghost use Rattle.std.specs.Prelude.{◌<◌, ◌≤◌, length, vec_capacity};
     ghost use Rattle.innermost.specs.BuiltTrees.{BuildsTrees};
     ghost use Rattle.innermost.specs.Machines.{Made};
+    ghost use Rattle.innermost.specs.Ops.{AreOps};
 
     ghost Value = { Made };
 
-    ghost view = { λ m. record { steps = m.code.steps.items; ops = m.code.ops.items; starts = m.code.starts.items; depth = m.code.depth; automaton = m.parts.matcher.automaton } };
+    ghost view = { λ m. record { steps = m.code.steps.items; starts = m.code.starts.items; depth = m.code.depth; automaton = m.parts.matcher.automaton } };
 
-    ghost invariant = { λ m. (m.code.depth ≤ vec_capacity m.parts.frames) × (m.code.depth ≤ vec_capacity m.window.path) × (0 < length m.window.depths.items) × (m.code.depth ≤ vec_capacity m.spots) };
+    ghost invariant = { λ m. (m.code.depth ≤ vec_capacity m.parts.frames) × (m.code.depth ≤ vec_capacity m.window.path) × (0 < length m.window.depths.items) × (m.code.depth ≤ vec_capacity m.spots)
+        × AreOps m.code.ops.items m.code.steps.items };
 }
 
 impl Machine {

@@ -2,7 +2,6 @@ use Rattle.std.proofs.Common.{◌≡◌, ℕ, Result, sym, ap, subst, arith}
 use Rattle.rewrite_model.specs.Evaluation.{evaluation}
 use Rattle.rewrite_model.specs.Built.{need}
 use Rattle.innermost.specs.Normalized.{Answers, Builds, FaultOnlyWhereRefused, SweepsAtMost, LoadsNeedAtMost}
-use Rattle.innermost.specs.Ops.{AreOps}
 use Rattle.innermost.specs.Tasks.{HasCode}
 use Rattle.innermost.specs.Machines.{Made}
 use Rattle.innermost.specs.declared.normal.Normal.{Normal}
@@ -16,7 +15,7 @@ evaluate-end-requires-clause-ready g c =
     record {
       planned = c.rules.ensures.plan;
       coded = subst (λ (m : Made). HasCode c.args.plan.now m.steps m.starts) (sym c.self.view_is) c.requires.machine.code;
-      ops = subst (λ (m : Made). AreOps m.ops m.steps) (sym c.self.view_is) c.requires.machine.ops;
+      ops = c.self.invariant.4;
       free = omega (arith, depth, c.requires.free);
       wide = c.requires.wide;
       depth = omega (arith, depth, c.requires.free, c.depth-base.ensures.sound.room);

@@ -3,7 +3,6 @@ use Rattle.rewrite_model.specs.Evaluation.{evaluation}
 use Rattle.rewrite_model.specs.Built.{need}
 use Rattle.innermost.specs.Normalized.{Answers, FaultOnlyWhereRefused, SweepsAtMost, LoadsNeedAtMost}
 use Rattle.innermost.specs.Remembered.{BuildsCached}
-use Rattle.innermost.specs.Ops.{AreOps}
 use Rattle.innermost.specs.Tasks.{HasCode}
 use Rattle.innermost.specs.Machines.{Made}
 use Rattle.innermost.specs.declared.normal.Normal.{Normal}
@@ -18,7 +17,7 @@ evaluate_with-end-requires-clause-ready g c =
     record {
       planned = c.rules.ensures.plan;
       coded = subst (λ (m : Made). HasCode c.args.plan.now m.steps m.starts) (sym c.self.view_is) c.requires.machine.code;
-      ops = subst (λ (m : Made). AreOps m.ops m.steps) (sym c.self.view_is) c.requires.machine.ops;
+      ops = c.self.invariant.4;
       free = omega (arith, depth, c.requires.free);
       wide = c.requires.wide;
       depth = omega (arith, depth, c.requires.free, c.depth-base.ensures.sound.room);
