@@ -2,10 +2,8 @@
 //! terms, and calls that read, build and give up.
 #![tactic(auto)]
 
-mod pushing;
 mod terms;
 mod trials;
 
-pub use pushing::push_all;
 pub use terms::{BuildFault, Deep, Terms};
 pub use trials::{build_pair, have_one_row, read_back};

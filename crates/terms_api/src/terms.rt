@@ -22,7 +22,8 @@ pub enum BuildFault {
 
 /// A store of maximally shared terms, as one caller sees it. It is used between `enter` and
 /// `leave`. What stands on its stack of rows, with all that can be reached from there, keeps its
-/// rows; other rows may be lost at `enter`, `breathe` and `build`. No call takes memory.
+/// rows; other rows may be lost at `enter`, `breathe`, `build` and `build_of`. No call takes
+/// memory.
 pub trait Terms {
     /// Its rows, trees, stack and numbers.
     ghost store: { Self → Store };
@@ -107,6 +108,40 @@ pub trait Terms {
         ensures sound { IsSound (store self.new) }
         ensures same { same self.old self.new };
 
+    /// The head of a held row's tree, and how many arguments it has.
+    fn node(&mut self, row: Row) -> (Head, u32)
+        requires inside { (store self.old).inside ≡ true }
+        requires held { IsHeld (store self.old) row }
+        ensures head { root (tree_at (store self.old) row) ≡ Some result.0 }
+        ensures count { result.1 ≡ length (arguments (tree_at (store self.old) row)) }
+        ensures unchanged { store self.new ≡ store self.old }
+        ensures sound { IsSound (store self.new) }
+        ensures same { same self.old self.new }
+    {
+        let head = self.head(row);
+        let count = self.count(row);
+        (head, count)
+    }
+
+    /// The rows of both arguments of a held row's tree that has two.
+    fn pair(&mut self, row: Row) -> (Row, Row)
+        requires inside { (store self.old).inside ≡ true }
+        requires held { IsHeld (store self.old) row }
+        requires two { length (arguments (tree_at (store self.old) row)) ≡ 2 }
+        ensures held { IsHeld (store self.old) result.0 × IsHeld (store self.old) result.1 }
+        ensures first { slice_get (arguments (tree_at (store self.old) row)) 0
+            ≡ Some (tree_at (store self.old) result.0) }
+        ensures second { slice_get (arguments (tree_at (store self.old) row)) 1
+            ≡ Some (tree_at (store self.old) result.1) }
+        ensures unchanged { store self.new ≡ store self.old }
+        ensures sound { IsSound (store self.new) }
+        ensures same { same self.old self.new }
+    {
+        let first = self.child(row, 0);
+        let second = self.child(row, 1);
+        (first, second)
+    }
+
     /// Puts a held row on top of the stack.
     fn push(&mut self, row: Row) -> Result<(), Deep>
         requires inside { (store self.old).inside ≡ true }
@@ -117,6 +152,19 @@ pub trait Terms {
         ensures was_sound { IsSound (store self.old) }
         ensures sound { IsSound (store self.new) }
         ensures same { same self.old self.new };
+
+    /// Puts a held row on top of the stack, which has a free place.
+    fn put(&mut self, row: Row)
+        requires inside { (store self.old).inside ≡ true }
+        requires held { IsHeld (store self.old) row }
+        requires place { length (store self.old).stack < (store self.old).room }
+        ensures pushed { store self.new ≡ pushed (store self.old) row }
+        ensures was_sound { IsSound (store self.old) }
+        ensures sound { IsSound (store self.new) }
+        ensures same { same self.old self.new }
+    {
+        let _ = self.push(row);
+    }
 
     /// Replaces the top `n` places by the row of the tree of the head over them. Equal trees have
     /// one row. A symbol stands over any trees, an integer and the empty list over none, and a cell
@@ -139,9 +187,9 @@ pub trait Terms {
         ensures sound { IsSound (store self.new) }
         ensures same { same self.old self.new };
 
-    /// Puts the row of the tree of the head over these rows on top of the stack, for which there is a
-    /// place for each row and for the tree. It is what pushing the rows one after another and
-    /// building over them comes to, also where nothing is built.
+    /// Puts the row of the tree of the head over these rows on top of the stack, which has a free
+    /// place for each of the rows. It is what pushing the rows one after another and building over
+    /// them comes to, also where nothing is built: then the rows lie on top.
     fn build_of(&mut self, head: Head, rows: &[Row]) -> Result<(), BuildFault>
         requires inside { (store self.old).inside ≡ true }
         requires held { All (IsHeld (store self.old)) rows.now }

@@ -1,4 +1,4 @@
-use Rattle.std.proofs.Common.{◌≡◌, true, take, All}
+use Rattle.std.proofs.Common.{◌≡◌, take}
 use Rattle.terms_api.specs.Terms.{IsSound, pushed_all}
 use Rattle.terms_api.proofs.terms.Terms.build_of.Given as goal
 
