@@ -1,4 +1,3 @@
-pub mod Walks
 pub mod Rows
 pub mod Indexing
 pub mod Flattened
@@ -10,4 +9,3 @@ pub mod Stepping
 pub mod Beginning
 pub mod Outcomes
 pub mod Ends
-pub mod Stacks

@@ -2,7 +2,6 @@ pub mod Slots
 pub mod Flat
 pub mod Hash
 pub mod Index
-pub mod Places
 pub mod Rooms
 pub mod Contents
 pub mod Agreement

@@ -4,11 +4,9 @@
 mod collecting;
 mod event;
 mod hashing;
-mod history;
 mod index;
 mod interface;
 mod nodes;
-mod places;
 mod store;
 mod table;
 

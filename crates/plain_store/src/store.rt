@@ -6,11 +6,10 @@ ghost use Rattle.plain_store.specs.Contents.{store_of, empty, placed, refused, I
 
 use crate::collecting::{keep_reachable, raised_once};
 use crate::event::Event;
-use crate::history::History;
 use crate::nodes::Nodes;
-use crate::places::Stack;
 use faults::Memory;
 use mark_phase::Marks;
+use row_stack::{History, Stack};
 use std::alloc::Global;
 use std::marker::Model;
 use term_model::{Head, Row};

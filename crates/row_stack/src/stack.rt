@@ -1,4 +1,4 @@
-// A stack of rows whose places were all taken before.
+//! A stack of rows whose places were all taken before.
 ghost use Rattle.std.specs.Prelude.{◌≡◌, ◌+◌, ◌-◌, ◌<◌, ◌≤◌, ◌++◌, [], ◌∷◌, Some, IfOk, length, slice_get, take};
 ghost use Rattle.terms_api.specs.Terms.{last, but_last};
 
@@ -9,14 +9,14 @@ use term_model::Row;
 
 /// A stack of rows with so many places. Contracts see the rows of those in use.
 #[derive(Drop)]
-pub(crate) struct Stack {
+pub struct Stack {
     rows: Vec<Row>,
     used: usize,
 }
 
 impl Model for Stack {
     ghost use Rattle.std.specs.Prelude.{◌≤◌, length, take};
-    ghost use Rattle.plain_store.specs.Places.{Places};
+    ghost use Rattle.row_stack.specs.Places.{Places};
 
     ghost Value = { Places };
 
@@ -27,7 +27,7 @@ impl Model for Stack {
 
 impl Stack {
     /// So many places, none of them in use.
-    pub(crate) fn new(alloc: Global, room: u32) -> Result<Stack, Memory>
+    pub fn new(alloc: Global, room: u32) -> Result<Stack, Memory>
         ensures empty { IfOk result (λ stack. stack.items ≡ []) }
         ensures room { IfOk result (λ stack. stack.room ≡ room) }
     {
@@ -38,7 +38,7 @@ impl Stack {
     }
 
     /// How many places are in use.
-    pub(crate) fn len(&self) -> usize
+    pub fn len(&self) -> usize
         ensures length { result ≡ length self.now.items }
         ensures room { result ≤ self.now.room }
     {
@@ -46,7 +46,7 @@ impl Stack {
     }
 
     /// The row at a place, the lowest being 0.
-    pub(crate) fn at(&self, place: usize) -> Row
+    pub fn at(&self, place: usize) -> Row
         requires { place < length self.now.items }
         ensures { slice_get self.now.items place ≡ Some result }
     {
@@ -54,14 +54,14 @@ impl Stack {
     }
 
     /// The rows of the places in use.
-    pub(crate) fn rows(&self) -> &[Row]
+    pub fn rows(&self) -> &[Row]
         ensures { result.now ≡ self.now.items }
     {
         &self.rows[..self.used]
     }
 
     /// The rows of the last `n`.
-    pub(crate) fn last(&self, n: usize) -> &[Row]
+    pub fn last(&self, n: usize) -> &[Row]
         requires { n ≤ length self.now.items }
         ensures { result.now ≡ last n self.now.items }
     {
@@ -69,7 +69,7 @@ impl Stack {
     }
 
     /// Puts a row in the place of the last `n`.
-    pub(crate) fn put(&mut self, n: usize, row: Row)
+    pub fn put(&mut self, n: usize, row: Row)
         requires some { n ≤ length self.old.items }
         requires room { length self.old.items - n < self.old.room }
         ensures items { self.new.items ≡ but_last n self.old.items ++ row ∷ [] }
@@ -80,8 +80,19 @@ impl Stack {
         self.used = at + 1;
     }
 
+    /// Puts rows on top, one after another.
+    pub fn put_all(&mut self, rows: &[Row])
+        requires room { length self.old.items + length rows.now ≤ self.old.room }
+        ensures items { self.new.items ≡ self.old.items ++ rows.now }
+        ensures room { self.new.room ≡ self.old.room }
+    {
+        for row in rows {
+            self.put(0, *row);
+        }
+    }
+
     /// Leaves the lowest `from` places and the last `top`.
-    pub(crate) fn keep_ends(&mut self, from: usize, top: usize)
+    pub fn keep_ends(&mut self, from: usize, top: usize)
         requires { from + top ≤ length self.old.items }
         ensures items { self.new.items ≡ take from self.old.items ++ last top self.old.items }
         ensures room { self.new.room ≡ self.old.room }

@@ -2,9 +2,9 @@ use Rattle.std.proofs.Common.{◌≡◌, ◌∙◌, ◌-◌, ◌≤◌, List, ta
 use Rattle.std.proofs.lemmas.List.{length-take-le}
 use Rattle.term_model.specs.declared.Row.{Row}
 use Rattle.terms_api.specs.Terms.{last}
-use Rattle.plain_store.specs.Places.{Places}
-use Rattle.plain_store.proofs.Stacks.{last_used}
-use Rattle.plain_store.proofs.places.Stack.last.Goals as goal
+use Rattle.row_stack.specs.Places.{Places}
+use Rattle.row_stack.proofs.Stacks.{last_used}
+use Rattle.row_stack.proofs.stack.Stack.last.Goals as goal
 
 pub returns : goal.returns
 returns c =

@@ -2,9 +2,9 @@ use Rattle.std.proofs.Common.{◌∙◌, ◌+◌, ◌≤◌, ◌++◌, List, tak
 use Rattle.std.proofs.lemmas.List.{length-take-le}
 use Rattle.term_model.specs.declared.Row.{Row}
 use Rattle.terms_api.specs.Terms.{last}
-use Rattle.plain_store.specs.Places.{Places}
-use Rattle.plain_store.proofs.Stacks.{moved}
-use Rattle.plain_store.proofs.places.Stack.move_last.Goals as goal
+use Rattle.row_stack.specs.Places.{Places}
+use Rattle.row_stack.proofs.Stacks.{moved}
+use Rattle.row_stack.proofs.stack.Stack.move_last.Goals as goal
 
 pub returns-in_default-clause-items : goal.returns-in_default-clause-items
 returns-in_default-clause-items c =
