@@ -13,7 +13,7 @@ use Rattle.shared_desk.specs.Code.{Contents}
 use Rattle.shared_desk.specs.Desk.{store_of, IsSame, IsRight, Passed, Placed}
 use Rattle.std.proofs.lemmas.List.Elements.{Contains-append_left}
 use Rattle.term_model.proofs.Members.{distinct_of_part}
-use Rattle.shared_desk.specs.Places.{Places}
+use Rattle.row_stack.specs.Places.{Places}
 use Rattle.shared_desk.proofs.Passing.{rooted, crossed, ended, trees_same}
 use Rattle.shared_desk.proofs.Following.{wider}
 
@@ -55,15 +55,15 @@ breathed_not s = record {
   load = record { least = le_refl s.load; most = le-max_left s.load (distinct (flat_map subtrees (trees s))) };
 }
 
-pub built_shown : (j : ℕ) (v w : PassView) (xs ys : List Row) (k : ℕ) (s : Bool) (h : Head) (n : ℕ) → j ≤ 1 → Placed j v w xs ys n (asked (store v xs) h n) → w.shared ≡ v.shared → Built (shown v xs k s) (shown w ys k s) h n
-built_shown j v w xs ys k s h n le b sh =
+pub built_shown : (j : ℕ) (v w : PassView) (xs ys : List Row) (k m : ℕ) (s t : Bool) (h : Head) (n : ℕ) → j ≤ 1 → Placed j v w xs ys n (asked (store v xs) h n) → w.shared ≡ v.shared → Built (shown v xs k s) (shown w ys m t) h n
+built_shown j v w xs ys k m s t h n le b sh =
     record {
       row = b.row;
       stack = b.stack;
       tree = b.tree;
       built = b.built;
       only = b.only;
-      rows = loses_shown v w xs ys k k s s b.rows;
+      rows = loses_shown v w xs ys k m s t b.rows;
       counts = record {
         inside = sh;
         least_sweeps = omega (arith, b.sweeps);

@@ -7,14 +7,14 @@ pub mod Gaining
 pub mod Standing
 pub mod Calling
 pub mod Reading
-pub mod Stacks
+pub mod Looking
 pub mod Passing
 pub mod Placing
 pub mod Pushing
 pub mod Following
 pub mod Sweeping
-pub mod Walks
 pub mod Desks
+pub mod Answering
 pub mod Protecting
 pub mod Telling
 pub mod Logging

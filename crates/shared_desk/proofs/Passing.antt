@@ -6,7 +6,7 @@ use Rattle.term_model.specs.declared.Row.{Row}
 use Rattle.term_model.specs.Tree.{Tree, subtrees, distinct}
 use Rattle.terms_api.specs.Terms.{trees, reachable, IsSound, Loses}
 use Rattle.terms_api.proofs.Staying.{trees-lost}
-use Rattle.shared_desk.specs.Places.{Places}
+use Rattle.row_stack.specs.Places.{Places}
 use Rattle.shared_desk.specs.Pass.{PassView, store, own, Arrived, left}
 use Rattle.shared_desk.specs.Desk.{IsIn, IsAlone, IsReady, Passed, pass_in_turn}
 

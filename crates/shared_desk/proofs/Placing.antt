@@ -9,7 +9,7 @@ use Rattle.term_model.specs.declared.Head.{Head}
 use Rattle.term_model.specs.Tree.{Tree, Node, trees_of, may_stand_over}
 use Rattle.terms_api.specs.Terms.{HasTree, IsHeld, tree_at, last, but_last, asked, IsSound, MayBuild, NeedsPlace}
 use Rattle.terms_api.proofs.Callers.{held-has, has-held}
-use Rattle.shared_desk.specs.Places.{Places}
+use Rattle.row_stack.specs.Places.{Places}
 use Rattle.shared_desk.specs.Pass.{PassView, store, own, over, MayCreate, Got}
 use Rattle.shared_desk.specs.Desk.{IsIn, Placed}
 

@@ -1,13 +1,13 @@
 -- A creation over rows that aren't on the stack yet.
-use Rattle.std.proofs.Common.{◌≡◌, ℕ, ◌+◌, ◌-◌, ◌<◌, ◌≤◌, true, false, List, [], ◌∷◌, ◌++◌, length, map, refl, ap, sym, ◌∙◌, subst, arith}
+use Rattle.std.proofs.Common.{◌≡◌, ◌+◌, ◌<◌, ◌≤◌, true, false, List, [], ◌∷◌, ◌++◌, length, map, refl, ap, sym, ◌∙◌, subst, arith}
 use Rattle.std.specs.Prelude.{All}
 use Rattle.std.proofs.lemmas.List.{length-append, length-map, map-append}
 use Rattle.std.proofs.lemmas.List.Elements.{All-append}
 use Rattle.term_model.specs.declared.Row.{Row}
 use Rattle.term_model.specs.declared.Head.{Head}
-use Rattle.terms_api.specs.Terms.{IsHeld, IsSound, MayBuild, NeedsPlace, last, but_last, asked, tree_at, trees}
+use Rattle.terms_api.specs.Terms.{IsHeld, IsSound, MayBuild, NeedsPlace, but_last, asked, tree_at, trees}
 use Rattle.terms_api.proofs.Callers.{last-append, but_last-append, but_last-none}
-use Rattle.shared_desk.specs.Places.{Places}
+use Rattle.row_stack.specs.Places.{Places}
 use Rattle.shared_desk.specs.Pass.{PassView, store, own, MayCreate, Got}
 use Rattle.shared_desk.specs.Desk.{IsIn, Placed}
 use Rattle.shared_desk.proofs.Placing.{may_create, placed, place_there}

@@ -7,7 +7,7 @@ use Rattle.term_model.specs.Tree.{Tree, Node, trees_of, distinct, may_stand_over
 use Rattle.terms_api.specs.declared.terms.BuildFault.{BuildFault}
 use Rattle.terms_api.specs.declared.terms.BuildFault.TheVariants.{Deep, StoreFull, Worn}
 use Rattle.terms_api.specs.Terms.{trees, reachable, last, asked, IsSound, MayBuild, NeedsPlace, IsCrowded}
-use Rattle.shared_desk.specs.Places.{Places}
+use Rattle.row_stack.specs.Places.{Places}
 use Rattle.shared_desk.specs.Pass.{PassView, store, own, over, IsWorn, Swept, IsFilled}
 use Rattle.shared_desk.specs.Desk.{IsAlone, Passed, Placed, Outcome, worn_still}
 use Rattle.shared_desk.proofs.Passing.{no_earlier, trees_same, passed_twice, rooted}

@@ -1,5 +1,5 @@
 -- A desk as a store of terms, and what its steps come to.
-use Rattle.std.specs.Prelude.{◌≡◌, ℕ, ◌+◌, ◌*◌, ◌^◌, ◌<◌, ◌≤◌, ◌⊎◌, true, false, List, [], ◌∷◌, ◌++◌, Result, Ok, Err, refl}
+use Rattle.std.specs.Prelude.{◌≡◌, ℕ, ◌+◌, ◌*◌, ◌^◌, ◌<◌, ◌≤◌, ◌⊎◌, Bool, true, false, List, [], ◌∷◌, ◌++◌, Result, Ok, Err, refl}
 use Rattle.std.proofs.Common.{◌∙◌, inl, inr, sym, subst, ⊎_elim}
 use Rattle.std.proofs.Math.Nat.{le_refl, le_trans, lt_of_lt_of_le, add-le-add_iff_right}
 use Rattle.term_model.specs.declared.Row.{Row}
@@ -8,7 +8,7 @@ use Rattle.term_model.specs.Tree.{Tree}
 use Rattle.terms_api.specs.declared.terms.BuildFault.{BuildFault}
 use Rattle.terms_api.specs.declared.terms.BuildFault.TheVariants.{Deep, StoreFull, Worn}
 use Rattle.terms_api.specs.Terms.{Store, HasTree, IsSound, GainsNone, Loses, Loads, IsCrowded, trees, but_last, asked}
-use Rattle.shared_desk.specs.Places.{Places}
+use Rattle.row_stack.specs.Places.{Places}
 use Rattle.shared_desk.specs.Pass as pass
 use Rattle.store_model.specs.Invariant.{span}
 use Rattle.shared_desk.specs.Pass.{PassView, WhichStore, IsWorn, shown, store}
@@ -109,3 +109,17 @@ Outcome v w xs ys h n (Ok u) = (k : ℕ) × (k ≤ 1) × Placed k v w xs ys n (a
 Outcome v w xs ys h n (Err Deep) = ⊥
 Outcome v w xs ys h n (Err StoreFull) = (ys ≡ xs) × Passed 1 v w xs × IsCrowded (store v xs) (store w xs) h n
 Outcome v w xs ys h n (Err Worn) = (ys ≡ xs) × Passed 0 v w xs × IsWorn w
+
+-- how many refusals are counted after a build came to this, where there were so many before
+abbrev pub refusals_after : Result (Unit {0}) BuildFault → ℕ → ℕ
+refusals_after (Ok u) k = k
+refusals_after (Err Deep) k = k
+refusals_after (Err StoreFull) k = k + 1
+refusals_after (Err Worn) k = k + 1
+
+-- and whether it was told then that the numbers are used up
+abbrev pub spent_after : Result (Unit {0}) BuildFault → Bool → Bool
+spent_after (Ok u) s = s
+spent_after (Err Deep) s = s
+spent_after (Err StoreFull) s = s
+spent_after (Err Worn) s = true

@@ -1,5 +1,4 @@
 pub mod Held
-pub mod Places
 pub mod Pass
 pub mod Seen
 pub mod Passes

@@ -5,7 +5,7 @@ ghost use Rattle.shared_desk.specs.Pass.{store, IsFilled};
 ghost use Rattle.shared_desk.specs.Desk.{IsIn, IsAlone, IsReady, Passed, Creates, Outcome};
 
 use crate::pass::SharedPass;
-use crate::places::Stack;
+use row_stack::Stack;
 use term_create::Full;
 use term_model::{Head, Row};
 use terms_api::BuildFault;

@@ -3,12 +3,11 @@ ghost use Rattle.std.specs.Prelude.{◌≡◌, ◌≤◌, IfOk, [], false};
 ghost use Rattle.terms_api.specs.Terms.{IsSound};
 ghost use Rattle.shared_desk.specs.Pass.{own};
 
-use crate::history::History;
 use crate::own_pass::OwnPass;
 use crate::pass::SharedPass;
-use crate::places::Stack;
 use faults::Memory;
 use node_rows::{Pass, Store};
+use row_stack::{History, Stack};
 use std::alloc::Global;
 use std::marker::Model;
 use std::sync::Wait;

@@ -3,15 +3,14 @@
 
 mod building;
 mod desk;
-mod history;
 mod interface;
 mod law;
 mod log_desk;
 mod logged;
 mod noting;
 mod own_pass;
+mod own_reads;
 mod pass;
-mod places;
 
 pub use desk::Desk;
 pub use faults::Memory;

@@ -145,6 +145,14 @@ impl<S: SharedPass> SharedPass for LoggedPass<S> {
         self.pass.child(row, j)
     }
 
+    fn node(&mut self, row: Row) -> (Head, u32) {
+        self.pass.node(row)
+    }
+
+    fn pair(&mut self, row: Row) -> (Row, Row) {
+        self.pass.pair(row)
+    }
+
     fn is_asked(&self) -> bool {
         self.pass.is_asked()
     }

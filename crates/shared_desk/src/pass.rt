@@ -112,6 +112,27 @@ pub trait SharedPass {
             ≡ Some (tree_at (own (view self.old)) result) }
         ensures unchanged { view self.new ≡ view self.old };
 
+    /// The head of a row of the own list, and how many arguments it has.
+    fn node(&mut self, row: Row) -> (Head, u32)
+        requires shared { (view self.old).shared ≡ true }
+        requires held { IsHeld (own (view self.old)) row }
+        ensures head { root (tree_at (own (view self.old)) row) ≡ Some result.0 }
+        ensures count { result.1 ≡ length (arguments (tree_at (own (view self.old)) row)) }
+        ensures unchanged { view self.new ≡ view self.old };
+
+    /// The rows of both arguments of a row of the own list whose tree has two.
+    fn pair(&mut self, row: Row) -> (Row, Row)
+        requires shared { (view self.old).shared ≡ true }
+        requires held { IsHeld (own (view self.old)) row }
+        requires two { length (arguments (tree_at (own (view self.old)) row)) ≡ 2 }
+        ensures held { IsHeld (own (view self.old)) result.0
+            × IsHeld (own (view self.old)) result.1 }
+        ensures first { slice_get (arguments (tree_at (own (view self.old)) row)) 0
+            ≡ Some (tree_at (own (view self.old)) result.0) }
+        ensures second { slice_get (arguments (tree_at (own (view self.old)) row)) 1
+            ≡ Some (tree_at (own (view self.old)) result.1) }
+        ensures unchanged { view self.new ≡ view self.old };
+
     /// Whether another pass has asked for exclusive access. It is a hint, of which no clause says
     /// anything.
     fn is_asked(&self) -> bool;

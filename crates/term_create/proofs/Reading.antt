@@ -1,5 +1,7 @@
 -- What a read of a row tells of the tree that its pass knows.
-use Rattle.std.proofs.Common.{◌≡◌, inl, inr, ℕ, zero, suc, ◌<◌, ◌≤◌, Some, List, [], ◌∷◌, ◌++◌, length, get_or, refl, sym, ap, ◌∙◌, subst, arith}
+use Rattle.std.proofs.Common.{◌≡◌, inl, inr, ℕ, zero, suc, ◌+◌, ◌<◌, ◌≤◌, Bool, true, false, cond, Some, List, [], ◌∷◌, ◌++◌, length, get_or, refl, sym, ap, ◌∙◌, subst, arith}
+use Rattle.std.specs.Prelude.{nat_lt}
+use Rattle.std.proofs.lemmas.Bool.Decides.{nat_tests}
 use Rattle.term_model.specs.Tree.{Tree, Leaf, Node, Trees, End, More, root, arguments, list_of}
 use Rattle.term_model.specs.declared.Head.{Head}
 use Rattle.term_model.specs.declared.Head.TheVariants.{App, Int, Nil, Cons}
@@ -9,6 +11,8 @@ use Rattle.store_model.specs.declared.view.Sizes.{Sizes}
 use Rattle.store_model.specs.declared.view.View.{View}
 use Rattle.store_model.specs.Calls.{IsOver}
 use Rattle.store_model.specs.declared.view.Stay.TheVariants.{Away, Ready}
+use Rattle.store_model.specs.declared.view.Place.TheVariants.{RowWord}
+use Rattle.store_model.specs.Shown.{in_table}
 use Rattle.store_model.specs.Steps.{IsAtRest}
 use Rattle.store_model.specs.Machine.{Each, In, widest}
 use Rattle.store_model.specs.ByView.{KnowsWord}
@@ -25,6 +29,13 @@ got_below N r rs h i = each_in (λ q. q < N) r rs h i
 -- a row that a pass at rest has got is one of the store
 pub uses_below : (z : Sizes) (v : View) (r : ℕ) → IsAtRest v → Known z v → In r v.got → r < z.rows
 uses_below z v r rest known i = got_below z.rows r v.got (known.got (λ e. let no : Ready ≡ Away = sym rest.stay ∙ e in grind arith)) i
+
+less : (a b : ℕ) → a < b → nat_lt a b ≡ true
+less a b l = grind (arith, nat_tests)
+
+-- each of its first words is one of the table
+pub word_there : (z : Sizes) (r k : ℕ) → r < z.rows → k < widest z + 2 → in_table z (RowWord r k) ≡ true
+word_there z r k l m = ap (λ (b : Bool). cond b (nat_lt k (widest z + 2)) false) (less r z.rows l) ∙ less k (widest z + 2) m
 
 -- what is known is still known when more is
 known_after : (xs ks : List KnownWord) (r k n : ℕ) → KnowsWord r k n ks → KnowsWord r k n (xs ++ ks)

@@ -129,3 +129,8 @@ module _ {E : Type 0} (v w : NodeView) (f : Head) (rs : List ℕ) where
   pub ends_only : (r : Result Row E) → Ends v w f rs r → w ≡ with_store v w.store
   ends_only (Ok row) h = ⊎_elim (made_only v w f rs row.0 h.0) (found_only v w f rs row.0 h.0) h.1
   ends_only (Err full) h = refused_only v w f rs h
+
+-- what holds anyway holds where it is refused
+pub where_refused : {A E : Type 0} {X : Type 0} (r : Result A E) → X → IfErr r (λ _. X)
+where_refused (Ok a) x = tt
+where_refused (Err e) x = x

@@ -18,7 +18,7 @@ ghost use Rattle.term_create.specs.Created.{MayCreate, NotesOne, Gets, KeepsCaus
 use crate::asked::{Asked, Full, Walk};
 use crate::counting::Steps;
 use crate::making::make_told;
-use crate::telling::told_of;
+use crate::telling::tell;
 use crate::walking::walk;
 use crate::words::bucket_of;
 use hash_buckets::symbol_word;
@@ -37,6 +37,7 @@ fn create_from<L: Ledger>(
 ) -> Result<Row, Full>
     requires at { IsAt asked.now pass.old.seat.seat }
     requires based { IsBased asked.now (view_of pass.old).store }
+    requires base { pass.old.base ≡ asked.now.base }
     requires begun { (view_of pass.old).store.passed ≡ 0 }
     requires stage { (view_of pass.old).store.call
         ≡ arrived (content asked.now) None from 0 from }
@@ -64,17 +65,11 @@ fn create_from<L: Ledger>(
         old: 0,
     };
     match walk(asked, &mut pass.seat, steps, whole) {
-        Some(noted) => {
-            let told = told_of(&asked.store.sizes, pass.seen, noted);
-            pass.seen = told.seen;
-            pass.last = told.last;
-            Ok(told.row)
-        }
+        Some(noted) => Ok(tell(pass, &asked.store.sizes, noted)),
         None => make_told(
             asked.store,
             asked.head,
             asked.args,
-            asked.base,
             asked.place,
             pass,
             steps,

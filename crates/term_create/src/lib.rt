@@ -16,4 +16,4 @@ mod words;
 pub use asked::Full;
 pub use counting::Steps;
 pub use creating::{create, create_counted, create_inside};
-pub use reads::{child_of, count_of, head_of};
+pub use reads::{child_at, child_of, count_at, count_of, head_at, head_of, start_of};

@@ -20,7 +20,7 @@ use crate::counting::Steps;
 use crate::stages::{
     draw, fill_one, link, number_row, publish, read_claim, read_count, read_place,
 };
-use crate::telling::told_of;
+use crate::telling::tell;
 use crate::walking::walk;
 use crate::words::word_count;
 use busy_forbidden::Seat;
@@ -164,68 +164,15 @@ fn draw_row<L: Ledger>(
     Ok(drawn)
 }
 
-// Makes the row that is asked, where the walk from this head has ended without it. What is asked is
-// laid into memory here alone, so that a walk keeps it in registers.
-fn make_row<L: Ledger>(
-    store: &Store,
-    head: Head,
-    args: &[Row],
-    base: u64,
-    place: u64,
-    seat: &mut Seat<NodeRows>,
-    steps: &mut Steps<L>,
-    from: u64,
-) -> Result<Noted, Full>
-    requires store { IsOpen store.now }
-    requires second { length args.now ≡ get_or (words_of (over head (names args.now))) 1 0 }
-    requires fits { Fits store.now.sizes head (names args.now) }
-    requires within { place < store.now.sizes.buckets }
-    requires of { IsOf store.now.table.shared.table_id store.now.table.shared.key seat.old.seat }
-    requires known { Known store.now.sizes seat.old.seat.me.0.store }
-    requires base { base ≡ seat.old.seat.me.0.store.base }
-    requires place { place ≡ bucket (over head (names args.now)) seat.old.seat.me.0.store.in_use }
-    requires stage { seat.old.seat.me.0.store.call ≡ Ended (over head (names args.now)) from }
-    ensures of { IsOf store.now.table.shared.table_id store.now.table.shared.key seat.new.seat }
-    ensures known { Known store.now.sizes seat.new.seat.me.0.store }
-    ensures same { SameSeat seat.old.seat seat.new.seat
-        seat.old.number seat.new.number seat.old.seats seat.new.seats }
-    ensures view { let v = seat.old.seat.me.0 in let w = seat.new.seat.me.0 in MatchResult result
-        (Notes v w head (names args.now))
-        (λ _. IsFull v w (over head (names args.now)) from) }
-    ensures all { IfErr result (λ _. store.now.sizes.seats ≡ 1
-        → HoldsAll store.now.sizes.rows seat.old.seat.me.0.store.entries) }
-    ensures filled { IfErr result (λ _. seat.old.seat.me.0.store.fresh ≡ true
-        → WasFilled store.now.sizes seat.old.number seat.old.seat.me.0 head (names args.now)) }
-    ensures cost { let z = store.now.sizes in MatchResult result
-        (λ _. Takes z (widest z + 7 + 2 * (z.rows + 1)) seat.old.seat.me.0.store.passed z.rows
-        steps.old steps.new)
-        (λ _. steps.new ≤ steps.old + (widest z + 7)) }
-{
-    let asked = Asked {
-        store,
-        head,
-        args,
-        symbol: symbol_word(head),
-        base,
-        place,
-        first_row: store.first_row,
-        row_size: store.row_size,
-    };
-    match draw_row(&asked, seat, steps, from) {
-        Ok(drawn) => Ok(publish_row(&asked, seat, steps, drawn)),
-        Err(full) => Err(full),
-    }
-}
-
-/// Makes the row that is asked, and tells it. It stands apart from the code that finds rows, which
-/// are mostly there.
+/// Makes the row that is asked, where the walk from this head has ended without it, and tells it.
+/// It stands apart from the code that finds rows, which are mostly there. What is asked is laid
+/// into memory here alone, so that a walk keeps it in registers.
 #[cold]
 #[inline(never)]
 pub(crate) fn make_told<L: Ledger>(
     store: &Store,
     head: Head,
     args: &[Row],
-    base: u64,
     place: u64,
     pass: &mut Pass,
     steps: &mut Steps<L>,
@@ -238,7 +185,7 @@ pub(crate) fn make_told<L: Ledger>(
     requires of { IsOf store.now.table.shared.table_id store.now.table.shared.key
         pass.old.seat.seat }
     requires known { Known store.now.sizes (view_of pass.old).store }
-    requires base { base ≡ (view_of pass.old).store.base }
+    requires base { pass.old.base ≡ (view_of pass.old).store.base }
     requires place { place ≡ bucket (over head (names args.now)) (view_of pass.old).store.in_use }
     requires stage { (view_of pass.old).store.call ≡ Ended (over head (names args.now)) from }
     requires stay { (view_of pass.old).store.stay ≡ Ready }
@@ -262,12 +209,20 @@ pub(crate) fn make_told<L: Ledger>(
         steps.old steps.new)
         (λ _. steps.new ≤ steps.old + (widest z + 7)) }
 {
-    match make_row(store, head, args, base, place, &mut pass.seat, steps, from) {
-        Ok(noted) => {
-            let told = told_of(&store.sizes, pass.seen, noted);
-            pass.seen = told.seen;
-            pass.last = told.last;
-            Ok(told.row)
+    let asked = Asked {
+        store,
+        head,
+        args,
+        symbol: symbol_word(head),
+        base: pass.base,
+        place,
+        first_row: store.first_row,
+        row_size: store.row_size,
+    };
+    match draw_row(&asked, &mut pass.seat, steps, from) {
+        Ok(drawn) => {
+            let noted = publish_row(&asked, &mut pass.seat, steps, drawn);
+            Ok(tell(pass, &store.sizes, noted))
         }
         Err(full) => Err(full),
     }

@@ -1,6 +1,6 @@
 use Rattle.std.proofs.Common.{sym, subst, arith}
 use Rattle.terms_api.specs.Terms.{MayBuild}
-use Rattle.shared_desk.specs.Places.{Places}
+use Rattle.row_stack.specs.Places.{Places}
 use Rattle.shared_desk.specs.Pass.{store}
 use Rattle.shared_desk.specs.Desk.{Outcome}
 use Rattle.shared_desk.proofs.Passing.{passed_twice}

@@ -1,7 +1,7 @@
-use Rattle.std.proofs.Common.{◌++◌, List, ap, length, refl, sym, subst, arith}
+use Rattle.std.proofs.Common.{◌++◌, ap, length, refl, sym, subst, arith}
 use Rattle.std.specs.Prelude.{All}
-use Rattle.terms_api.specs.Terms.{IsHeld, MayBuild, NeedsPlace, asked}
-use Rattle.shared_desk.specs.Places.{Places}
+use Rattle.terms_api.specs.Terms.{IsHeld, MayBuild, asked}
+use Rattle.row_stack.specs.Places.{Places}
 use Rattle.shared_desk.specs.Pass.{PassView, store}
 use Rattle.shared_desk.specs.Desk.{IsIn, Outcome}
 use Rattle.shared_desk.proofs.Placing.{placed_in}

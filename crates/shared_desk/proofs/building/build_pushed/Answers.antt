@@ -1,7 +1,7 @@
-use Rattle.std.proofs.Common.{◌≡◌, ◌++◌, List, ap, length, sym, subst, arith}
+use Rattle.std.proofs.Common.{List, length, sym, subst}
 use Rattle.term_model.specs.declared.Row.{Row}
 use Rattle.terms_api.specs.Terms.{MayBuild, NeedsPlace}
-use Rattle.shared_desk.specs.Pass.{PassView, store}
+use Rattle.shared_desk.specs.Pass.{store}
 use Rattle.shared_desk.specs.Desk.{Outcome}
 use Rattle.shared_desk.proofs.Pushing.{pushed_in}
 use Rattle.shared_desk.proofs.building.build_pushed.Goals as goal

@@ -1,6 +1,6 @@
 use Rattle.std.proofs.Common.{subst}
 use Rattle.shared_desk.specs.Pass.{PassView}
-use Rattle.shared_desk.specs.Places.{Places}
+use Rattle.row_stack.specs.Places.{Places}
 use Rattle.shared_desk.specs.Desk.{Outcome}
 use Rattle.shared_desk.proofs.building.build_row.Goals as goal
 

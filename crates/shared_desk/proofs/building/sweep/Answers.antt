@@ -1,5 +1,5 @@
 use Rattle.std.proofs.Common.{◌∙◌, ap, subst}
-use Rattle.shared_desk.specs.Places.{Places}
+use Rattle.row_stack.specs.Places.{Places}
 use Rattle.shared_desk.specs.Pass.{PassView}
 use Rattle.shared_desk.specs.Desk.{Passed}
 use Rattle.shared_desk.proofs.Sweeping.{may_after, swept, outcome_swept, outcome_full, outcome_worn}

@@ -1,5 +1,5 @@
 use Rattle.std.proofs.Common.{subst}
-use Rattle.shared_desk.specs.Places.{Places}
+use Rattle.row_stack.specs.Places.{Places}
 use Rattle.shared_desk.specs.Desk.{Passed}
 use Rattle.shared_desk.proofs.Passing.{passed_twice}
 use Rattle.shared_desk.proofs.Following.{placed_after}

@@ -1,28 +1,31 @@
-use Rattle.std.proofs.Common.{◌++◌, ◌∙◌, ap, subst}
+use Rattle.std.proofs.Common.{◌++◌, ◌∙◌, ap, sym, subst}
 use Rattle.std.specs.Prelude.{◌≡◌, IfErr}
 use Rattle.store_model.specs.declared.view.Call.TheVariants.{Ended}
 use Rattle.node_rows.specs.Full.{HoldsAll}
+use Rattle.node_rows.specs.Knowing.{EndsAbsent}
 use Rattle.node_rows.specs.Rows.{names}
 use Rattle.node_rows.specs.declared.view.NodeView.{NodeView}
 use Rattle.node_rows.proofs.Tellings.{told_on}
-use Rattle.term_create.specs.Stage.{content}
-use Rattle.term_create.proofs.Told.{noted_below, made_after, ends_filled}
+use Rattle.term_create.specs.Stage.{Notes, content}
+use Rattle.term_create.proofs.Told.{noted_below, made_after, ends_filled, where_refused}
 use Rattle.term_create.proofs.creating.create_from.Goals as goal
 
-pub told_of-told-requires : goal.told_of-told-requires
-told_of-told-requires g c =
+pub tell-requires : goal.tell-requires
+tell-requires g c =
     let a = c.args.asked.now in
     noted_below a.store.now.sizes c.args.pass.now.seat.seat.me.0 c.walk.new.seat.seat.me.0 a.head (names a.args.now) c.in-Some.noted
     c.requires.stay c.walk.ensures.at.known c.in-Some.ensures.view
 
 pub returns-in-Some-clause-view : goal.returns-in-Some-clause-view
-returns-in-Some-clause-view g c = (c.in-Some.noted, c.told_of-told.ensures.row, c.in-Some.ensures.view)
+returns-in-Some-clause-view g c =
+    let a = c.args.asked.now in
+    (c.in-Some.noted, c.tell.ensures.row, subst (λ (u : NodeView). Notes c.args.pass.now.seat.seat.me.0 u a.head (names a.args.now) c.in-Some.noted) (sym c.tell.ensures.view) c.in-Some.ensures.view)
 
 pub returns-in-Some-clause-told : goal.returns-in-Some-clause-told
 returns-in-Some-clause-told g c =
     let a = c.args.asked.now in
     let p = c.args.pass.now in
-    c.told_of-told.ensures.told p.seat.seat.me.0 c.walk.new.seat.seat.me.0 a.head (names a.args.now) p.rows p.last p.marks
+    c.tell.ensures.told p.seat.seat.me.0 a.head (names a.args.now)
     c.requires.told c.in-Some.ensures.view
 
 pub make_told-requires-clause-told : goal.make_told-requires-clause-told
@@ -31,6 +34,14 @@ make_told-requires-clause-told g c =
     let h = c.in-None.ensures.view in
     told_on p.seat.seat.me.0.store c.walk.new.seat.seat.me.0.store p.rows p.seen p.last p.marks
     (ap (λ (u : NodeView). u.store.entries) h.view) (ap (λ (u : NodeView). u.store.seen) h.view) c.requires.told
+
+pub make_told-requires-clause-base : goal.make_told-requires-clause-base
+make_told-requires-clause-base g c = c.requires.base ∙ (c.requires.based.base ∙ sym (ap (λ (u : NodeView). u.store.base) c.in-None.ensures.view.view))
+
+pub returns-in-None-clause-alone : goal.returns-in-None-clause-alone
+returns-in-None-clause-alone g c =
+    let z = c.args.asked.now.store.now.sizes in
+    where_refused c.make_told.result (subst (λ (u : NodeView). z.seats ≡ 1 → EndsAbsent u.store.entries u.store.call) c.in-None.ensures.view.view c.walk.ensures.at.known.absent)
 
 pub make_told-requires-clause-stay : goal.make_told-requires-clause-stay
 make_told-requires-clause-stay g c = ap (λ (u : NodeView). u.store.stay) c.in-None.ensures.view.view ∙ c.requires.stay

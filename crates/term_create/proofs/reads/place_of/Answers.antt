@@ -1,7 +1,8 @@
-use Rattle.term_create.proofs.Reading.{uses_below}
+use Rattle.term_create.proofs.Reading.{uses_below, word_there}
 use Rattle.term_create.proofs.reads.place_of.Goals as goal
 
-pub word_in-requires : goal.word_in-requires
-word_in-requires c =
+pub returns-clause-there : goal.returns-clause-there
+returns-clause-there c =
     let ready = c.requires.inside.ready in
-    (c.requires.inside.store.small, uses_below c.args.store.now.sizes c.args.pass.now.seat.seat.me.0.store c.args.row.0 ready.rest ready.known c.requires.uses, c.requires.within)
+    let z = c.args._store.now.sizes in
+    word_there z c.args._row.0 c.args.k (uses_below z c.args._pass.now.seat.seat.me.0.store c.args._row.0 ready.rest ready.known c.requires.uses) c.requires.within
