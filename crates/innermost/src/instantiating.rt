@@ -10,7 +10,7 @@ ghost use Rattle.innermost.specs.Outward.{WasGivenUp, KeepsParts};
 ghost use Rattle.innermost.specs.Instances.{Site, IsBegun, IsBuilding, HasBuilt, IsInstance};
 
 use crate::RunFault;
-use crate::building::{build_at, push_free};
+use crate::building::build_at;
 use crate::evaluating::item_at;
 use crate::windows::{Window, depth_at};
 use term_model::{Flat, Item, Row};
@@ -49,7 +49,7 @@ fn build_node<T: Terms>(
     }
     let item = item_at(pattern.items(), at);
     if let Item::Var(variable) = item {
-        push_free(rows[variable as usize], terms);
+        terms.put(rows[variable as usize]);
         return Ok(true);
     }
     let Some(head) = item.head() else {

@@ -9,7 +9,7 @@ ghost use Rattle.innermost.specs.Walking.{Crumb};
 ghost use Rattle.innermost.specs.Rebuilding.{Change, IsChanged, IsRebuilt, IsRebuiltAll, Pushes};
 
 use crate::RunFault;
-use crate::building::{build_at, push_free};
+use crate::building::build_at;
 use crate::spots::Spot;
 use term_model::Row;
 use terms_api::Terms;
@@ -30,7 +30,7 @@ fn push_arguments<T: Terms>(row: Row, from: u32, to: u32, terms: &mut T)
     let mut at = from;
     'arguments: while at < to {
         let argument = terms.child(row, at);
-        push_free(argument, terms);
+        terms.put(argument);
         at += 1;
     }
 }
@@ -61,7 +61,7 @@ fn build_again<T: Terms>(spot: Spot, builds: &mut u32, terms: &mut T) -> Result<
     let changed = terms.at(place);
     terms.keep(place, 0);
     push_arguments(spot.row, 0, spot.argument - 1, terms);
-    push_free(changed, terms);
+    terms.put(changed);
     push_arguments(spot.row, spot.argument, count, terms);
     build_at(head, count, builds, terms)?;
     Ok(true)

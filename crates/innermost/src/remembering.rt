@@ -8,7 +8,6 @@ ghost use Rattle.rewrite_model.specs.Rule.{Rule as Rules};
 ghost use Rattle.innermost.specs.Remembered.{AreRight};
 ghost use Rattle.innermost.specs.Caching.{WasRight, IsSteady, IsResult, IsTaken};
 
-use crate::building::push_free;
 use crate::{Known, Memo};
 use term_model::Row;
 use terms_api::Terms;
@@ -40,7 +39,7 @@ fn replace_top<T: Terms>(row: Row, terms: &mut T)
 {
     let places = terms.depth();
     terms.keep(places - 1, 0);
-    push_free(row, terms);
+    terms.put(row);
 }
 
 /// Whether both are one number.

@@ -184,8 +184,7 @@ fn read<T: Terms>(
     ensures same { T.same terms.old terms.new }
 {
     let row = rows[node.place as usize];
-    let head = terms.head(row);
-    let count = terms.count(row);
+    let (head, count) = terms.node(row);
     let Some(way) = find_way(&automaton.ways[node.first..node.last], head, count) else {
         return node.other;
     };

@@ -1,12 +1,25 @@
 //! Rows at places.
 
-ghost use Rattle.std.specs.Prelude.{◌≡◌, ◌+◌, ◌≤◌, ◌<◌, List, length, true};
+ghost use Rattle.std.specs.Prelude.{◌≡◌, ◌+◌, ◌≤◌, ◌<◌, List, Some, length, slice_get, true};
 ghost use Rattle.term_model.specs.Tree.{arguments};
-ghost use Rattle.terms_api.specs.Terms.{IsHeld, tree_at};
+ghost use Rattle.terms_api.specs.Terms.{Store, IsHeld, tree_at};
 ghost use Rattle.rule_automaton.specs.Rows.{Fills};
 
 use term_model::Row;
 use terms_api::Terms;
+
+/// Puts a row at a place, counted from a base.
+#[inline(always)]
+fn put_at(argument: Row, base: u32, place: u32, rows: &mut [Row])
+    requires within { base + place < length rows.old }
+    ensures more { (s : Store) (row : Row) (all : List Row) → Fills s row base place all rows.old
+        → IsHeld s argument
+        → slice_get (arguments (tree_at s row)) place ≡ Some (tree_at s argument)
+        → Fills s row base (place + 1) all rows.new }
+    ensures size { length rows.new ≡ length rows.old }
+{
+    rows[base as usize + place as usize] = argument;
+}
 
 /// Puts an argument of a held row's tree at its place, counted from a base.
 #[inline(always)]
@@ -22,7 +35,7 @@ fn put_argument<T: Terms>(row: Row, base: u32, place: u32, terms: &mut T, rows: 
     ensures same { T.same terms.old terms.new }
 {
     let argument = terms.child(row, place);
-    rows[base as usize + place as usize] = argument;
+    put_at(argument, base, place, rows);
 }
 
 /// Puts a single argument at its place.
@@ -50,8 +63,9 @@ fn put_pair<T: Terms>(row: Row, base: u32, terms: &mut T, rows: &mut [Row])
     ensures unchanged { T.store terms.new ≡ T.store terms.old }
     ensures same { T.same terms.old terms.new }
 {
-    put_argument(row, base, 0, terms, rows);
-    put_argument(row, base, 1, terms, rows);
+    let (first, second) = terms.pair(row);
+    put_at(first, base, 0, rows);
+    put_at(second, base, 1, rows);
 }
 
 /// Puts the arguments of a held row's tree at the places from a base on.

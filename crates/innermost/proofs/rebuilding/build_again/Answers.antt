@@ -62,8 +62,8 @@ push_arguments-requires-clause-places g c =
     let r0 = ap (λ (q : Store). q.room) is in
     omega (arith, w, one, suffice, h, r0)
 
-pub push_free-requires-clause-held : goal.push_free-requires-clause-held
-push_free-requires-clause-held g c =
+pub put-requires-clause-held : goal.put-requires-clause-held
+put-requires-clause-held g c =
     let s = c.requires.state in
     let now = g.T.Terms.store c.args.terms.now in
     let mid = g.T.Terms.store c.keep.new.self in
@@ -77,8 +77,8 @@ push_free-requires-clause-held g c =
     let p1 = c.push_arguments.ensures.pushed in
     held-has s1 c.at-changed.result s.3 (pushes_held mid s1 _ c.at-changed.result s.3 p1 (mid_has s.0 s.1 s.2 s.3 now s.4 f s.5 few mid c.at-changed.result is c.keep.ensures.sound c.at-changed.result s.3 (top_has s.0 s.1 s.2 s.3 now s.4 f s.5 c.at-changed.result top)))
 
-pub push_free-requires-clause-place : goal.push_free-requires-clause-place
-push_free-requires-clause-place g c =
+pub put-requires-clause-place : goal.put-requires-clause-place
+put-requires-clause-place g c =
     let s = c.requires.state in
     let now = g.T.Terms.store c.args.terms.now in
     let mid = g.T.Terms.store c.keep.new.self in
@@ -135,9 +135,9 @@ push_arguments-requires-2-clause-places g c =
     let r0 = ap (λ (q : Store). q.room) is in
     let k = pushes_height mid s1 _ p1 in
     let t = length_taken (f.argument - 1 - 0) (drop 0 (arguments (tree_at mid f.row))) in
-    let q1 = ap (λ (q : Store). length q.stack) c.push_free.ensures.pushed in
+    let q1 = ap (λ (q : Store). length q.stack) c.put.ensures.pushed in
     let q2 = length_push s1.stack c.at-changed.result in
-    let q3 = ap (λ (q : Store). q.room) c.push_free.ensures.pushed in
+    let q3 = ap (λ (q : Store). q.room) c.put.ensures.pushed in
     omega (arith, w, one, suffice, h, r0, k.0, k.1, t, q1, q2, q3, c.count-count.ensures.count)
 
 pub build_at-requires-clause-may : goal.build_at-requires-clause-may
@@ -153,13 +153,13 @@ build_at-requires-clause-may g c =
     let few : length (arguments (tree_at now f.row)) < f.room = omega (arith, c.count-count.ensures.count, c.if-spot-count.false) in
     let s1 = g.T.Terms.store c.push_arguments.new.terms in
     let p1 = c.push_arguments.ensures.pushed in
-    let s2 = g.T.Terms.store c.push_free.new.terms in
+    let s2 = g.T.Terms.store c.put.new.self in
     let s3 = g.T.Terms.store c.push_arguments-2.new.terms in
     let a = f.argument in
-    let p2 = c.push_free.ensures.pushed in
+    let p2 = c.put.ensures.pushed in
     let p3 = subst (λ m. Pushes s2 s3 (take (m - a) (drop a (arguments (tree_at s2 f.row))))) c.count-count.ensures.count c.push_arguments-2.ensures.pushed in
     let head : (s.1).head ≡ c.head-head.result = same_Some (s.1).head c.head-head.result (sym (ap root (tree_is s.0 s.1 s.2 s.3 now s.4 f s.5)) ∙ subst (λ (q : Store). root (tree_at q f.row) ≡ Some c.head-head.result) c.count-count.ensures.unchanged c.head-head.ensures.head) in
-    subst (λ (hd : Head). MayBuild s3 hd c.count-count.result) head (may_again s.0 s.1 s.2 s.3 now s.4 f s.5 few mid s1 s2 s3 c.at-changed.result is c.keep.ensures.sound c.push_arguments.ensures.sound c.push_free.ensures.sound c.push_arguments-2.ensures.sound top p1 p2 p3 c.count-count.result c.count-count.ensures.count)
+    subst (λ (hd : Head). MayBuild s3 hd c.count-count.result) head (may_again s.0 s.1 s.2 s.3 now s.4 f s.5 few mid s1 s2 s3 c.at-changed.result is c.keep.ensures.sound c.push_arguments.ensures.sound c.put.ensures.sound c.push_arguments-2.ensures.sound top p1 p2 p3 c.count-count.result c.count-count.ensures.count)
 
 pub build_at-requires-clause-place : goal.build_at-requires-clause-place
 build_at-requires-clause-place g c =
@@ -190,16 +190,16 @@ returns-in_err-build_at-clause-fault g c =
     let few : length (arguments (tree_at now f.row)) < f.room = omega (arith, c.count-count.ensures.count, c.if-spot-count.false) in
     let s1 = g.T.Terms.store c.push_arguments.new.terms in
     let p1 = c.push_arguments.ensures.pushed in
-    let s2 = g.T.Terms.store c.push_free.new.terms in
+    let s2 = g.T.Terms.store c.put.new.self in
     let s3 = g.T.Terms.store c.push_arguments-2.new.terms in
     let a = f.argument in
-    let p2 = c.push_free.ensures.pushed in
+    let p2 = c.put.ensures.pushed in
     let p3 = subst (λ m. Pushes s2 s3 (take (m - a) (drop a (arguments (tree_at s2 f.row))))) c.count-count.ensures.count c.push_arguments-2.ensures.pushed in
     let head : (cr).head ≡ c.head-head.result = same_Some (cr).head c.head-head.result (sym (ap root (tree_is change cr way tree now spots f e)) ∙ subst (λ (q : Store). root (tree_at q f.row) ≡ Some c.head-head.result) c.count-count.ensures.unchanged c.head-head.ensures.head) in
-    again_fault change cr way tree now spots f e few mid s1 s2 s3 c.at-changed.result is c.keep.ensures.sound c.push_arguments.ensures.sound c.push_free.ensures.sound c.push_arguments-2.ensures.sound top p1 p2 p3 (g.T.Terms.store c.build_at.new.terms) c.in_err-build_at.field-0.0 (c.in_err-build_at.ensures.built change.start e.goes.points (change.root ∷ []) (args change cr way tree now spots f e) (again_point change cr way tree now spots f e few) (stands3 change cr way tree now spots f e few mid s1 s2 s3 c.at-changed.result is c.keep.ensures.sound c.push_arguments.ensures.sound c.push_free.ensures.sound c.push_arguments-2.ensures.sound top p1 p2 p3) (subst (λ (hd : Head). IsPointOver change.start (change.root ∷ []) (args change cr way tree now spots f e) hd c.count-count.result (again_point change cr way tree now spots f e few)) head (again_over change cr way tree now spots f e few c.count-count.result c.count-count.ensures.count))))
+    again_fault change cr way tree now spots f e few mid s1 s2 s3 c.at-changed.result is c.keep.ensures.sound c.push_arguments.ensures.sound c.put.ensures.sound c.push_arguments-2.ensures.sound top p1 p2 p3 (g.T.Terms.store c.build_at.new.terms) c.in_err-build_at.field-0.0 (c.in_err-build_at.ensures.built change.start e.goes.points (change.root ∷ []) (args change cr way tree now spots f e) (again_point change cr way tree now spots f e few) (stands3 change cr way tree now spots f e few mid s1 s2 s3 c.at-changed.result is c.keep.ensures.sound c.push_arguments.ensures.sound c.put.ensures.sound c.push_arguments-2.ensures.sound top p1 p2 p3) (subst (λ (hd : Head). IsPointOver change.start (change.root ∷ []) (args change cr way tree now spots f e) hd c.count-count.result (again_point change cr way tree now spots f e few)) head (again_over change cr way tree now spots f e few c.count-count.result c.count-count.ensures.count))))
 
 pub returns-in_err-build_at-clause-same : goal.returns-in_err-build_at-clause-same
-returns-in_err-build_at-clause-same g c = (g.met.T.Terms.same_in_turn _ _ _ (g.met.T.Terms.same_in_turn _ _ _ (g.met.T.Terms.same_in_turn _ _ _ (g.met.T.Terms.same_in_turn _ _ _ (g.met.T.Terms.same_in_turn _ _ _ (g.met.T.Terms.same_in_turn _ _ _ (g.met.T.Terms.same_in_turn _ _ _ c.count-count.ensures.same c.head-head.ensures.same) c.at-changed.ensures.same) c.keep.ensures.same) c.push_arguments.ensures.same) c.push_free.ensures.same) c.push_arguments-2.ensures.same) c.build_at.ensures.same)
+returns-in_err-build_at-clause-same g c = (g.met.T.Terms.same_in_turn _ _ _ (g.met.T.Terms.same_in_turn _ _ _ (g.met.T.Terms.same_in_turn _ _ _ (g.met.T.Terms.same_in_turn _ _ _ (g.met.T.Terms.same_in_turn _ _ _ (g.met.T.Terms.same_in_turn _ _ _ (g.met.T.Terms.same_in_turn _ _ _ c.count-count.ensures.same c.head-head.ensures.same) c.at-changed.ensures.same) c.keep.ensures.same) c.push_arguments.ensures.same) c.put.ensures.same) c.push_arguments-2.ensures.same) c.build_at.ensures.same)
 
 pub returns-clause-state : goal.returns-clause-state
 returns-clause-state g c = λ change cr way tree spots e.
@@ -213,13 +213,13 @@ returns-clause-state g c = λ change cr way tree spots e.
     let few : length (arguments (tree_at now f.row)) < f.room = omega (arith, c.count-count.ensures.count, c.if-spot-count.false) in
     let s1 = g.T.Terms.store c.push_arguments.new.terms in
     let p1 = c.push_arguments.ensures.pushed in
-    let s2 = g.T.Terms.store c.push_free.new.terms in
+    let s2 = g.T.Terms.store c.put.new.self in
     let s3 = g.T.Terms.store c.push_arguments-2.new.terms in
     let a = f.argument in
-    let p2 = c.push_free.ensures.pushed in
+    let p2 = c.put.ensures.pushed in
     let p3 = subst (λ m. Pushes s2 s3 (take (m - a) (drop a (arguments (tree_at s2 f.row))))) c.count-count.ensures.count c.push_arguments-2.ensures.pushed in
     let head : (cr).head ≡ c.head-head.result = same_Some (cr).head c.head-head.result (sym (ap root (tree_is change cr way tree now spots f e)) ∙ subst (λ (q : Store). root (tree_at q f.row) ≡ Some c.head-head.result) c.count-count.ensures.unchanged c.head-head.ensures.head) in
-    (rebuilt change cr way tree now spots f e, again_built change cr way tree now spots f e few mid s1 s2 s3 c.at-changed.result is c.keep.ensures.sound c.push_arguments.ensures.sound c.push_free.ensures.sound c.push_arguments-2.ensures.sound top p1 p2 p3 (g.T.Terms.store c.build_at.new.terms) (c.in_ok-build_at.ensures.built change.start e.goes.points (change.root ∷ []) (args change cr way tree now spots f e) (again_point change cr way tree now spots f e few) (stands3 change cr way tree now spots f e few mid s1 s2 s3 c.at-changed.result is c.keep.ensures.sound c.push_arguments.ensures.sound c.push_free.ensures.sound c.push_arguments-2.ensures.sound top p1 p2 p3) (subst (λ (hd : Head). IsPointOver change.start (change.root ∷ []) (args change cr way tree now spots f e) hd c.count-count.result (again_point change cr way tree now spots f e few)) head (again_over change cr way tree now spots f e few c.count-count.result c.count-count.ensures.count))) c.build_at.ensures.keeps)
+    (rebuilt change cr way tree now spots f e, again_built change cr way tree now spots f e few mid s1 s2 s3 c.at-changed.result is c.keep.ensures.sound c.push_arguments.ensures.sound c.put.ensures.sound c.push_arguments-2.ensures.sound top p1 p2 p3 (g.T.Terms.store c.build_at.new.terms) (c.in_ok-build_at.ensures.built change.start e.goes.points (change.root ∷ []) (args change cr way tree now spots f e) (again_point change cr way tree now spots f e few) (stands3 change cr way tree now spots f e few mid s1 s2 s3 c.at-changed.result is c.keep.ensures.sound c.push_arguments.ensures.sound c.put.ensures.sound c.push_arguments-2.ensures.sound top p1 p2 p3) (subst (λ (hd : Head). IsPointOver change.start (change.root ∷ []) (args change cr way tree now spots f e) hd c.count-count.result (again_point change cr way tree now spots f e few)) head (again_over change cr way tree now spots f e few c.count-count.result c.count-count.ensures.count))) c.build_at.ensures.keeps)
 
 pub returns-clause-same : goal.returns-clause-same
-returns-clause-same g c = (g.met.T.Terms.same_in_turn _ _ _ (g.met.T.Terms.same_in_turn _ _ _ (g.met.T.Terms.same_in_turn _ _ _ (g.met.T.Terms.same_in_turn _ _ _ (g.met.T.Terms.same_in_turn _ _ _ (g.met.T.Terms.same_in_turn _ _ _ (g.met.T.Terms.same_in_turn _ _ _ c.count-count.ensures.same c.head-head.ensures.same) c.at-changed.ensures.same) c.keep.ensures.same) c.push_arguments.ensures.same) c.push_free.ensures.same) c.push_arguments-2.ensures.same) c.build_at.ensures.same)
+returns-clause-same g c = (g.met.T.Terms.same_in_turn _ _ _ (g.met.T.Terms.same_in_turn _ _ _ (g.met.T.Terms.same_in_turn _ _ _ (g.met.T.Terms.same_in_turn _ _ _ (g.met.T.Terms.same_in_turn _ _ _ (g.met.T.Terms.same_in_turn _ _ _ (g.met.T.Terms.same_in_turn _ _ _ c.count-count.ensures.same c.head-head.ensures.same) c.at-changed.ensures.same) c.keep.ensures.same) c.push_arguments.ensures.same) c.put.ensures.same) c.push_arguments-2.ensures.same) c.build_at.ensures.same)

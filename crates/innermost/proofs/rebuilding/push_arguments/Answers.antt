@@ -10,19 +10,19 @@ pub arguments-preserved : goal.arguments-preserved
 arguments-preserved g c =
     let s = g.T.Terms.store c.args.terms.now in
     let now = g.T.Terms.store c.arguments.terms in
-    let new = g.T.Terms.store c.push_free.new.terms in
+    let new = g.T.Terms.store c.put.new.self in
     let row = c.args.row in
     let i = c.arguments.invariant in
     let child = c.child-argument.ensures in
     let r = c.child-argument.result in
     let at : slice_get (arguments (tree_at s row)) c.arguments.at ≡ Some (tree_at now r) =
     subst (λ (t : Tree). slice_get (arguments t) c.arguments.at ≡ Some (tree_at now r)) (pushes_tree s now _ row i.pushed) child.tree in
-    let put = c.push_free.ensures.pushed ∙ ap (λ (q : Store). pushed q r) child.unchanged in
+    let put = c.put.ensures.pushed ∙ ap (λ (q : Store). pushed q r) child.unchanged in
     record {
       low = omega (arith, i.low);
       high = omega (arith, c.arguments-test.true);
       inside = ap (λ (q : Store). q.inside) put ∙ i.inside;
       pushed = subst (Pushes s new) (sym (take_next c.args.from c.arguments.at (arguments (tree_at s row)) (tree_at now r) i.low at)) (pushes_more s now new _ r (tree_at now r) i.pushed put refl);
-      sound = c.push_free.ensures.sound;
-      same = g.met.T.Terms.same_in_turn _ _ _ (g.met.T.Terms.same_in_turn _ _ _ i.same child.same) c.push_free.ensures.same;
+      sound = c.put.ensures.sound;
+      same = g.met.T.Terms.same_in_turn _ _ _ (g.met.T.Terms.same_in_turn _ _ _ i.same child.same) c.put.ensures.same;
     }
