@@ -1,5 +1,5 @@
 -- A store that is too full for the tree of an item is too full for all that its items make.
-use Rattle.std.proofs.Common.{◌≡◌, ℕ, ◌≤◌, inl, inr, List, [], ◌∷◌, ◌++◌, Some, sym, ap, subst, ◌∙◌}
+use Rattle.std.proofs.Common.{◌≡◌, ℕ, ◌≤◌, inl, inr, List, [], ◌∷◌, ◌++◌, Some, sym, subst, ◌∙◌}
 use Rattle.std.specs.Prelude.{Contains, Result, Ok, Err, OnOk, OnErr}
 use Rattle.std.proofs.lemmas.List.Elements.{Contains-push, Contains-push_cases}
 use Rattle.term_model.specs.declared.Head.{Head}
@@ -12,7 +12,7 @@ use Rattle.term_commands.specs.Building.{Takes, after, Make}
 use Rattle.term_commands.specs.Different.{different}
 use Rattle.term_commands.proofs.Taking.{asked_after}
 use Rattle.term_commands.proofs.Making.{taken_after, stays_within}
-use Rattle.term_commands.proofs.Within.{IsWithin, fewer_different}
+use Rattle.term_commands.proofs.Within.{fewer_different}
 
 pub ok_then : {A B P Q : Type 0} (r : Result A B) → (P → Q) → OnOk r P → OnOk r Q
 ok_then (Ok a) f p = f p

@@ -1,11 +1,10 @@
 -- A store holds no more different trees than it has rows, and one that is filled has too few for one more.
-use Rattle.std.proofs.Common.{◌≡◌, ℕ, zero, suc, ◌<◌, ◌≤◌, inl, inr, List, [], ◌∷◌, ◌++◌, Option, Some, None, length, get_or, true, refl, sym, ap, subst, ◌∙◌, arith}
-use Rattle.std.specs.Prelude.{Contains, All, map}
-use Rattle.std.specs.List.{flat_map}
+use Rattle.std.proofs.Common.{◌≡◌, ℕ, zero, suc, ◌<◌, ◌≤◌, inl, inr, List, [], ◌∷◌, ◌++◌, Option, Some, None, length, get_or, true, sym, ap, arith}
+use Rattle.std.specs.Prelude.{Contains, All}
 use Rattle.std.proofs.lemmas.List.Elements.{All-map, All-weaker, All-contains}
 use Rattle.term_model.specs.declared.Row.{Row}
 use Rattle.term_model.specs.declared.Head.{Head}
-use Rattle.term_model.specs.Tree.{Tree, subtrees, among, distinct}
+use Rattle.term_model.specs.Tree.{Tree, among}
 use Rattle.term_model.specs.Laws.{IsClosed}
 use Rattle.term_model.proofs.Equality.{among_here, among_there, among_cases, among_from_contains, contains_from_among}
 use Rattle.term_model.proofs.Members.{distinct_of_part, distinct_is_bounded}
@@ -15,7 +14,7 @@ use Rattle.terms_api.proofs.Callers.{has-held}
 use Rattle.plain_store.specs.Contents.{Contents, store_of, IsFilled}
 use Rattle.plain_store.proofs.Crowding.{somes}
 use Rattle.term_commands.specs.Different.{different}
-use Rattle.term_commands.proofs.Within.{IsWithin, within_flat, one_more}
+use Rattle.term_commands.proofs.Within.{within_flat, one_more}
 
 somes_length : (os : List (Option Tree)) → length (somes os) ≤ length os
 somes_length [] = omega arith

@@ -1,3 +1,4 @@
+pub mod AtOnce
 pub mod Filling
 pub mod Fitting
 pub mod Lines

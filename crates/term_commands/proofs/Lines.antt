@@ -1,11 +1,11 @@
 -- One line after another.
-use Rattle.std.proofs.Common.{◌≡◌, ℕ, ◌+◌, ◌≤◌, List, [], ◌∷◌, ◌++◌, Bool, true, false, ◌&&◌, ◌||◌, refl, sym, ap, ap₂, ◌∙◌, arith, append_assoc, codes, drop, get_or, length, ◌<◌, suc}
+use Rattle.std.proofs.Common.{◌≡◌, ℕ, ◌+◌, ◌≤◌, List, ◌∷◌, ◌++◌, Bool, true, false, ◌&&◌, ◌||◌, refl, sym, ap, ap₂, ◌∙◌, arith, append_assoc, codes, drop, get_or, length, ◌<◌, suc}
 use Rattle.std.specs.Prelude.{Option, Some, None, unwrap_or, is_some, not, nat_lt, if◌then◌else◌}
 use Rattle.std.proofs.Math.Seq.{drop-cons}
 use Rattle.term_model.specs.Tree.{Tree, nodes}
 use Rattle.symbol_pool.specs.Pool.{Named}
 use Rattle.tree_text.specs.Canonical.{canonical}
-use Rattle.term_commands.specs.Unpacking.{is_too_large, lines, all_written}
+use Rattle.term_commands.specs.Unpacking.{lines, all_written}
 use Rattle.term_commands.specs.WritingLines.{WritesLine}
 
 no_more : (n : ℕ) → n + 0 ≡ n

@@ -1,12 +1,11 @@
 -- The items of terms make their trees.
-use Rattle.std.proofs.Common.{◌≡◌, ℕ, suc, ◌+◌, ◌<◌, ◌≤◌, inl, inr, List, [], ◌∷◌, ◌++◌, length, drop, get_or, Bool, true, refl, sym, ap, subst, ◌∙◌, arith, length-append, append_assoc, append-nil}
-use Rattle.std.specs.Prelude.{Contains, ◌&&◌}
+use Rattle.std.proofs.Common.{◌≡◌, ℕ, suc, ◌+◌, ◌<◌, ◌≤◌, inl, inr, List, [], ◌∷◌, ◌++◌, length, drop, get_or, true, refl, sym, ap, subst, ◌∙◌, arith, length-append, append_assoc, append-nil}
+use Rattle.std.specs.Prelude.{Contains}
 use Rattle.std.proofs.Math.Seq.{drop-cons}
 use Rattle.std.proofs.lemmas.List.Elements.{Contains-append_left, Contains-append_cases, Contains-push}
 use Rattle.term_model.specs.declared.Head.{Head}
 use Rattle.term_model.specs.declared.Item.{Item}
 use Rattle.term_model.specs.Tree.{Tree, Leaf, Node, Trees, End, More, count_of, list_of, trees_of, arguments, may_stand_over, is_well_formed, all_well_formed, IsWellFormed, is_ground, all_ground, IsGround}
-use Rattle.term_model.specs.Laws.{IsSubtree}
 use Rattle.term_model.specs.Postorder.{item_of, postorder, postorder_all}
 use Rattle.term_model.proofs.Order.{both_hold}
 use Rattle.term_model.proofs.Subtrees.{arguments_are_subtrees, subtrees_nest, trees_are_subtrees}

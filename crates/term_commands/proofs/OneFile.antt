@@ -1,12 +1,10 @@
 -- Terms are packed into one file, and a file has one text or one fault.
-use Rattle.std.proofs.Common.{◌≡◌, ℕ, List, [], Bool, refl, sym, ap, subst, ◌∙◌, arith, map}
-use Rattle.std.specs.Prelude.{Result, Ok, Err}
+use Rattle.std.proofs.Common.{◌≡◌, ℕ, List, [], Bool, sym, ap, ◌∙◌, arith, map}
+use Rattle.std.specs.Prelude.{Ok, Err}
 use Rattle.faults.specs.declared.refusal.Refusal.{Refusal}
 use Rattle.term_syntax.proofs.Readings.{only_one}
-use Rattle.term_file.specs.Contents.{Contents}
-use Rattle.term_file.specs.File.{Terms, IsFile}
+use Rattle.term_file.specs.File.{Terms}
 use Rattle.term_file.specs.NamedTree.{named_tree}
-use Rattle.term_file.specs.Reading.{read_file}
 use Rattle.term_file.proofs.OneFile.{one_file}
 use Rattle.term_file.proofs.OneList.{read_again, one_list}
 use Rattle.term_commands.specs.Different.{different}

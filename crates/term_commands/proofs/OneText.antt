@@ -1,18 +1,16 @@
 -- An input is told in one way, or has one fault.
-use Rattle.std.proofs.Common.{◌≡◌, ◌⊎◌, inl, inr, ℕ, ◌<◌, ◌≤◌, List, [], ◌∷◌, ◌++◌, length, Option, Some, None, refl, sym, ap, subst, ◌∙◌, arith, append_assoc, append-nil}
+use Rattle.std.proofs.Common.{◌≡◌, inl, inr, ℕ, List, [], ◌∷◌, ◌++◌, length, Option, refl, sym, ap, subst, ◌∙◌, arith, append_assoc, append-nil}
 use Rattle.std.specs.Prelude.{Result, Ok, Err, unwrap_or}
 use Rattle.faults.specs.declared.refusal.Refusal.{Refusal}
-use Rattle.read_faults.specs.declared.fail.ReadFail.{ReadFail}
 use Rattle.read_faults.specs.declared.fail.ReadFail.TheVariants as fail
 use Rattle.term_model.specs.Tree.{Tree}
 use Rattle.symbol_pool.specs.Pool.{Named}
 use Rattle.term_syntax.specs.Token.{Token}
-use Rattle.read_faults.specs.Fault.{fault}
 use Rattle.term_syntax.specs.Tokens.{tokens_of}
 use Rattle.term_syntax.specs.Written.{Written}
 use Rattle.term_syntax.specs.TermGrammar.{IsInput, BeginsInput}
 use Rattle.term_syntax.specs.Refusal.{IsFirstUnexpected, AreRefused, place_of}
-use Rattle.term_syntax.specs.Parts.{parts_of_input, taken_up}
+use Rattle.term_syntax.specs.Parts.{taken_up}
 use Rattle.term_syntax.specs.TakenUp.{take_input}
 use Rattle.term_syntax.specs.Steps.{start}
 use Rattle.term_syntax.specs.Reading.{Spells, IsReading}

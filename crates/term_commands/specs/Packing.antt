@@ -1,5 +1,5 @@
 -- The file of the terms that an input spells.
-use Rattle.std.specs.Prelude.{◌≡◌, ℕ, ◌≤◌, List, []}
+use Rattle.std.specs.Prelude.{ℕ, ◌≤◌, List, []}
 use Rattle.term_model.specs.Tree.{Tree}
 use Rattle.symbol_pool.specs.Pool.{Named}
 use Rattle.term_syntax.specs.Reading.{IsReading}

@@ -1,5 +1,5 @@
 -- The lines of the terms of a file.
-use Rattle.std.specs.Prelude.{◌≡◌, ℕ, ◌+◌, List, [], ◌∷◌, ◌++◌, codes, Bool, true, false, ◌||◌, ◌&&◌, not, nat_lt, if◌then◌else◌, Err}
+use Rattle.std.specs.Prelude.{◌≡◌, ℕ, ◌+◌, List, [], ◌∷◌, ◌++◌, codes, Bool, true, ◌||◌, ◌&&◌, not, nat_lt, if◌then◌else◌, Err}
 use Rattle.term_model.specs.Tree.{Tree, nodes}
 use Rattle.symbol_pool.specs.Pool.{Named}
 use Rattle.faults.specs.declared.refusal.Refusal.{Refusal}

@@ -1,5 +1,5 @@
 -- One line behind others.
-use Rattle.std.specs.Prelude.{◌≡◌, ℕ, List, ◌++◌, codes, Bool, true, false, Option, Some, None}
+use Rattle.std.specs.Prelude.{◌≡◌, ℕ, List, ◌++◌, codes, true, false, Option, Some, None}
 use Rattle.term_model.specs.Tree.{Tree, nodes}
 use Rattle.symbol_pool.specs.Pool.{Named}
 use Rattle.tree_text.specs.Canonical.{canonical}

@@ -7,6 +7,7 @@ mod fault;
 mod listing;
 mod measuring;
 mod packing;
+mod passing;
 mod unpacking;
 
 pub use fault::TermsFault;

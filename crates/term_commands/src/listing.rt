@@ -8,6 +8,7 @@ ghost use Rattle.term_commands.specs.Listing.{IsListed, IsUntold, counts_line};
 
 use crate::fault::TermsFault;
 use crate::measuring::sizes_together;
+use crate::passing::told_at_once;
 use faults::Memory;
 use itoa::Buffer;
 use std::alloc::Global;
@@ -32,7 +33,7 @@ fn write_lines(terms: &[Flat], symbols: &Symbols, out: &mut Vec<u8>) -> Result<(
 }
 
 /// Appends the line of sizes.
-fn write_sizes(sizes: TermSizes, out: &mut Vec<u8>) -> Result<(), Memory>
+pub(crate) fn write_sizes(sizes: TermSizes, out: &mut Vec<u8>) -> Result<(), Memory>
     ensures { OnOk result
         (out.new.items ≡ out.old.items ++ counts_line sizes.distinct sizes.nodes) }
 {
@@ -53,6 +54,9 @@ pub fn tell_terms(alloc: Global, input: &[u8], rows: u32) -> Result<Vec<u8>, Ter
     ensures told { IfOk result (λ text. IsListed rows input.now text.items) }
     ensures untold { IfErr result (IsUntold rows input.now) }
 {
+    if let Ok(text) = told_at_once(alloc, input, rows) {
+        return Ok(text);
+    }
     let mut symbols = Symbols::new(alloc);
     let terms = read_terms(alloc, input, &mut symbols)?;
     let sizes = sizes_together(alloc, terms.as_slice(), rows)?;

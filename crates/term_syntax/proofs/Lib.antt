@@ -1,4 +1,5 @@
 pub mod Pieces
+pub mod Quotes
 pub mod Cutting
 pub mod Counting
 pub mod Keeping

@@ -2,7 +2,7 @@
 use Rattle.std.specs.Prelude.{ℕ, ◌<◌, ◌≤◌, List, length}
 use Rattle.symbol_pool.specs.Pool.{Named, IsPool}
 
--- a pool has the symbols with numbers below this, and is one where there are any
+-- the pool has all symbols with numbers below this; where there are any, it is a pool
 pub record AreKnown (known : ℕ) (pool : List Named) : Type 0 where
   pub there : known ≤ length pool
   pub is_pool : 0 < known → IsPool pool

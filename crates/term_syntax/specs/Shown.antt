@@ -1,5 +1,5 @@
 -- What stands in a text at the places that reading remembers.
-use Rattle.std.specs.Prelude.{ℕ, ◌+◌, List, [], ◌∷◌, take, drop, map, false, if◌then◌else◌, Option, None, Result, Ok, Err}
+use Rattle.std.specs.Prelude.{◌≡◌, ℕ, ◌+◌, List, [], ◌∷◌, take, drop, map, true, false, if◌then◌else◌, Option, Some, None, Result, Ok, Err}
 use Rattle.std.specs.Char.{is_ascii_digit}
 use Rattle.faults.specs.declared.refusal.Refusal.{Refusal}
 use Rattle.term_syntax.specs.declared.token.Shape.{Shape}
@@ -11,8 +11,8 @@ use Rattle.term_syntax.specs.declared.machine.Entry.{Entry}
 use Rattle.term_syntax.specs.declared.machine.Machine as declared
 use Rattle.term_syntax.specs.Token.{Token, Word, Number, At, Piece, Blank, Whole}
 use Rattle.term_syntax.specs.State.{Kind, Symbol, Integer, Brackets, Part, Machine}
-use Rattle.tree_text.specs.NameBytes.{continues_name}
-use Rattle.term_syntax.specs.Tokens.{front_length, quoted, integer_of}
+use Rattle.tree_text.specs.NameBytes.{begins_name, continues_name}
+use Rattle.term_syntax.specs.Tokens.{is_space, mark_of, front_length, quoted, integer_of}
 
 -- the plain name at the front of bytes: the first, and all that go on with it
 abbrev pub plain_name : List ℕ → List ℕ
@@ -55,6 +55,18 @@ token_in text t = token_at text t.place t.shape
 abbrev pub piece_in : List ℕ → Cut → Piece
 piece_in text cut.Blank = Blank
 piece_in text (cut.Whole t next) = Whole (token_in text t) next
+
+-- a token of this shape begins with the byte
+abbrev pub BeginsShape : ℕ → Shape → Type 0
+BeginsShape b shape.Word = begins_name b ≡ true
+BeginsShape b shape.Quoted = b ≡ 34
+BeginsShape b shape.Number = is_ascii_digit b ≡ true
+BeginsShape b (shape.At m) = mark_of b ≡ Some m
+
+-- what was cut, white space or a token, begins with the byte
+abbrev pub BeginsCut : ℕ → Cut → Type 0
+BeginsCut b cut.Blank = is_space b ≡ true
+BeginsCut b (cut.Whole t next) = BeginsShape b t.shape
 
 -- what the term is whose first token has this shape
 abbrev pub kind_at : List ℕ → ℕ → Shape → Kind

@@ -79,7 +79,7 @@ impl Groups {
 
     /// Counts one more term in the innermost group, if one is open.
     #[inline(always)]
-    pub(crate) fn count(&mut self)
+    pub(crate) fn count_one(&mut self)
         requires { AreCountsFew 1 self.old }
         ensures { self.new ≡ one_more self.old }
     {

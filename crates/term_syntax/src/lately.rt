@@ -13,9 +13,9 @@ const PLACES: usize = 1024;
 /// A text has many more names than most lists of names, so there are more places here than in
 /// `Symbols`. All symbols that were noted have numbers below `known`.
 #[derive(Drop)]
-pub(crate) struct Lately {
+pub struct Lately {
     symbols: [u32; PLACES],
-    pub(crate) known: u32,
+    pub known: u32,
 }
 
 // The place of a name with a number of arguments, by three bytes of the name and by both sizes.
@@ -39,7 +39,7 @@ fn place(name: &[u8], count: u32) -> usize
 
 impl Lately {
     /// Nothing was noted.
-    pub(crate) fn new() -> Self
+    pub fn new() -> Self
         ensures { result.known ≡ 0 }
     {
         Lately {

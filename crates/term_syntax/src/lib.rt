@@ -15,7 +15,12 @@ mod symbols;
 mod terms;
 mod token;
 
+pub use lately::Lately;
 pub use laws::canonical_laws;
+pub use name::Name;
 pub use read_faults::ReadFail;
+pub use scanner::{Cut, integer_at, piece_at, quoted_name_at};
+pub use symbols::take_symbol;
 pub use terms::read_terms;
+pub use token::{Mark, Shape, Token};
 pub use tree_text::Flats;

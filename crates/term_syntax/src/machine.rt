@@ -199,7 +199,7 @@ impl Machine {
         if self.groups.is_empty() {
             self.nodes.end_term()?;
         } else {
-            self.groups.count();
+            self.groups.count_one();
         }
         Ok(())
     }

@@ -4,7 +4,7 @@ ghost use Rattle.std.specs.Char.{is_ascii_digit};
 ghost use Rattle.std.specs.Str.Parse.{digits_value, AllDigits};
 ghost use Rattle.read_faults.specs.declared.fail.ReadFail.TheVariants.{Memory};
 ghost use Rattle.read_faults.specs.Fault.{IsDue};
-ghost use Rattle.term_syntax.specs.Shown.{piece_in, plain_at, quoted_at, value_at};
+ghost use Rattle.term_syntax.specs.Shown.{piece_in, plain_at, quoted_at, value_at, BeginsCut};
 ghost use Rattle.term_syntax.specs.Reached.{HasTokens};
 ghost use Rattle.term_syntax.specs.Tokens as spec;
 ghost use Rattle.tree_text.specs.NameBytes as name_bytes;
@@ -18,7 +18,7 @@ use tree_text::{begins_name, continues_name};
 
 /// What begins at a byte: white space of one byte, or a token with the place after it.
 #[derive(Clone, Copy)]
-pub(crate) enum Cut {
+pub enum Cut {
     Blank,
     Whole(Token, usize),
 }
@@ -146,7 +146,9 @@ fn role_of(behind: bool, byte: u8) -> Role
 
 #[inline(always)]
 fn plain_name(bytes: &[u8], at: usize) -> Cut
-    requires { at < length bytes.now }
+    requires within { at < length bytes.now }
+    requires begins { name_bytes.begins_name (slice_index bytes.now at) ≡ true }
+    ensures begins { BeginsCut (slice_index bytes.now at) result }
     ensures name { piece_in bytes.now result ≡ spec.plain_piece at (drop at bytes.now) }
     ensures after { at < spec.next_of at (piece_in bytes.now result) }
     ensures fits { spec.next_of at (piece_in bytes.now result) ≤ length bytes.now }
@@ -161,7 +163,9 @@ fn plain_name(bytes: &[u8], at: usize) -> Cut
 
 #[tactic(auto, using(crate::proofs::Pieces::quoted_is))]
 fn quoted_name(alloc: Global, bytes: &[u8], at: usize) -> Result<Cut, ReadFail>
-    requires { at < length bytes.now }
+    requires within { at < length bytes.now }
+    requires quote { slice_index bytes.now at ≡ 34 }
+    ensures begins { IfOk result (BeginsCut (slice_index bytes.now at)) }
     ensures name { IfOk result (λ c.
         spec.quoted_piece at (spec.quoted (at + 1) false (drop (at + 1) bytes.now))
         ≡ Ok (piece_in bytes.now c)) }
@@ -182,6 +186,7 @@ fn quoted_name(alloc: Global, bytes: &[u8], at: usize) -> Result<Cut, ReadFail>
 fn number(bytes: &[u8], at: usize) -> Cut
     requires within { at < length bytes.now }
     requires digit { is_ascii_digit (slice_index bytes.now at) ≡ true }
+    ensures begins { BeginsCut (slice_index bytes.now at) result }
     ensures number { piece_in bytes.now result ≡ spec.number_piece at (drop at bytes.now) }
     ensures after { at < spec.next_of at (piece_in bytes.now result) }
     ensures fits { spec.next_of at (piece_in bytes.now result) ≤ length bytes.now }
@@ -197,6 +202,7 @@ fn number(bytes: &[u8], at: usize) -> Cut
 #[inline(always)]
 fn mark(bytes: &[u8], byte: u8, at: usize) -> Result<Cut, ReadFail>
     requires { at < usize.MAX }
+    ensures begins { IfOk result (BeginsCut byte) }
     ensures mark { IfOk result (λ c.
         spec.mark_piece at (spec.mark_of byte) ≡ Ok (piece_in bytes.now c)) }
     ensures after { IfOk result (λ c. spec.next_of at (piece_in bytes.now c) ≡ at + 1) }
@@ -220,8 +226,9 @@ fn mark(bytes: &[u8], byte: u8, at: usize) -> Result<Cut, ReadFail>
 /// White space is space, tab, CR and LF. Refuses with kind 1 the first byte that begins no token or
 /// may not stand in quotes, and with kind 3, at the length of the input, quotes that aren't closed.
 #[inline(always)]
-pub(crate) fn piece_at(alloc: Global, bytes: &[u8], at: usize) -> Result<Cut, ReadFail>
+pub fn piece_at(alloc: Global, bytes: &[u8], at: usize) -> Result<Cut, ReadFail>
     requires { at < length bytes.now }
+    ensures begins { IfOk result (BeginsCut (slice_index bytes.now at)) }
     ensures piece { IfOk result (λ c.
         spec.piece_at at (drop at bytes.now) ≡ Ok (piece_in bytes.now c)) }
     ensures after { IfOk result (λ c. at < spec.next_of at (piece_in bytes.now c)) }
@@ -272,7 +279,7 @@ pub(crate) fn plain_name_at(bytes: &[u8], place: usize) -> &[u8]
 
 /// The name in quotes at a place, without bytes where none is.
 #[tactic(auto, using(crate::proofs::Pieces::quoted_again, crate::proofs::Pieces::quoted_not, crate::proofs::Pieces::quoted_past))]
-pub(crate) fn quoted_name_at(alloc: Global, bytes: &[u8], place: usize) -> Result<Name, ReadFail>
+pub fn quoted_name_at(alloc: Global, bytes: &[u8], place: usize) -> Result<Name, ReadFail>
     ensures name { IfOk result (λ n. n ≡ quoted_at bytes.now place) }
     ensures memory { IfErr result (λ e. e ≡ Memory) }
 {
@@ -288,7 +295,7 @@ pub(crate) fn quoted_name_at(alloc: Global, bytes: &[u8], place: usize) -> Resul
 
 /// The number at a place, if one is there that is an integer up to 2^64 - 1 without a leading zero.
 #[tactic(auto, using(crate::proofs::Pieces::value_again, crate::proofs::Pieces::no_value, crate::proofs::Pieces::value_past, crate::proofs::Pieces::digits_cut))]
-pub(crate) fn integer_at(bytes: &[u8], place: usize) -> Option<u64>
+pub fn integer_at(bytes: &[u8], place: usize) -> Option<u64>
     ensures { result ≡ value_at bytes.now place }
 {
     if place >= bytes.len() {

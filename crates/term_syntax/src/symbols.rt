@@ -22,8 +22,8 @@ use term_model::Item;
 /// How many bytes a name may have.
 const LONGEST_NAME: usize = 255;
 
-// Takes up a name with a number of arguments.
-fn take_symbol(
+/// Takes up a name with a number of arguments.
+pub fn take_symbol(
     name: &[u8],
     count: u32,
     place: usize,

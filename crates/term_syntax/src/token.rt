@@ -2,7 +2,7 @@
 
 /// What stands between names and numbers.
 #[derive(Clone, Copy, Debug, PartialEq, Eq)]
-pub(crate) enum Mark {
+pub enum Mark {
     Open,
     Close,
     OpenList,
@@ -13,7 +13,7 @@ pub(crate) enum Mark {
 /// What a token is: a plain name, a name in quotes, a number or a mark. What it says stands in the
 /// text.
 #[derive(Clone, Copy)]
-pub(crate) enum Shape {
+pub enum Shape {
     Word,
     Quoted,
     Number,
@@ -22,7 +22,7 @@ pub(crate) enum Shape {
 
 /// A token: its shape, and the place of its first byte, in bytes from 0.
 #[derive(Clone, Copy)]
-pub(crate) struct Token {
-    pub(crate) shape: Shape,
-    pub(crate) place: usize,
+pub struct Token {
+    pub shape: Shape,
+    pub place: usize,
 }

@@ -1,4 +1,4 @@
-use Rattle.std.proofs.Common.{◌≤◌, sym, ◌∙◌, arith}
+use Rattle.std.proofs.Common.{sym, ◌∙◌, arith}
 use Rattle.plain_store.specs.Contents.{store_of}
 use Rattle.term_commands.proofs.Taking.{may_build, built_is}
 use Rattle.term_commands.proofs.Filling.{ok_then, err_then, fewer_after}

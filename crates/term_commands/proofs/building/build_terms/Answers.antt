@@ -2,7 +2,7 @@ use Rattle.std.proofs.Common.{◌≡◌, ◌+◌, ◌++◌, ◌∷◌, [], lengt
 use Rattle.std.proofs.lemmas.Result.{err_from_is_err_and}
 use Rattle.std.proofs.lemmas.List.{length-map, length-take-le, take_more}
 use Rattle.term_model.specs.Tree.{nodes}
-use Rattle.terms_api.specs.Terms.{trees, tree_at}
+use Rattle.terms_api.specs.Terms.{tree_at}
 use Rattle.plain_store.specs.Contents.{store_of}
 use Rattle.term_commands.specs.Different.{different}
 use Rattle.term_commands.proofs.Within.{front_different}

@@ -1,4 +1,4 @@
-use Rattle.std.proofs.Common.{Option, None, sym, ap, arith, ◌∙◌, length}
+use Rattle.std.proofs.Common.{Option, None, ap, arith, length}
 use Rattle.std.proofs.lemmas.List.{length-replicate}
 use Rattle.plain_store.specs.Contents.{Contents}
 use Rattle.term_model.specs.Tree.{Tree}

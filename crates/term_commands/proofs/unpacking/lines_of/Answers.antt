@@ -1,7 +1,7 @@
 use Rattle.std.proofs.Common.{◌≡◌, ◌+◌, ◌<◌, ◌++◌, ◌&&◌, [], get_or, length, drop, sym, ap, ap₂, subst, ◌∙◌, arith}
 use Rattle.std.specs.Prelude.{unwrap_or}
 use Rattle.std.proofs.lemmas.Option.{slice_get-get_or}
-use Rattle.term_model.specs.Tree.{Tree, Leaf}
+use Rattle.term_model.specs.Tree.{Leaf}
 use Rattle.term_file.specs.Contents.{tree_at}
 use Rattle.term_commands.specs.Unpacking.{lines, all_written}
 use Rattle.term_commands.specs.WritingLines.{WritesLine}

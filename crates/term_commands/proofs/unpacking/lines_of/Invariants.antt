@@ -1,4 +1,4 @@
-use Rattle.std.proofs.Common.{◌≡◌, ◌≤◌, ◌++◌, ◌&&◌, drop, length}
+use Rattle.std.proofs.Common.{◌≡◌, ◌≤◌, ◌++◌, ◌&&◌, drop}
 use Rattle.term_commands.specs.Unpacking.{lines, all_written}
 use Rattle.term_commands.proofs.unpacking.lines_of.Given as goal
 

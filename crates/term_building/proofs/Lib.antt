@@ -1,0 +1,12 @@
+pub mod Resumed
+pub mod SameText
+pub mod Growing
+pub mod Lists
+pub mod Tokens
+pub mod Cutting
+pub mod Ending
+pub mod Calling
+pub mod Following
+pub mod Closing
+pub mod Stepping
+pub mod Passing

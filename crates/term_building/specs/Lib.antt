@@ -1,0 +1,10 @@
+pub mod Built
+pub mod Copying
+pub mod Groups
+pub mod Progress
+pub mod Reached
+pub mod Ready
+pub mod Shows
+pub mod State
+pub mod Text
+pub mod Trees
