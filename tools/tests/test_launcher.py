@@ -115,6 +115,21 @@ class PassesOn(unittest.TestCase):
 
 
 class Files(unittest.TestCase):
+    def test_large_pages_are_asked_for_unless_the_environment_says_something(self) -> None:
+        asked = "glibc.malloc.hugetlb=1"
+        other = "glibc.malloc.check=0"
+        with support.folder() as folder:
+            program = support.script(folder, 'echo "$GLIBC_TUNABLES"')
+            for given, want in {
+                "": asked,
+                other: f"{other}:{asked}",
+                "glibc.malloc.hugetlb=0": "glibc.malloc.hugetlb=0",
+                f"{other}:glibc.malloc.hugetlb=2": f"{other}:glibc.malloc.hugetlb=2",
+            }.items():
+                with self.subTest(given):
+                    told = rec(["rewrite"], REC_PROGRAM=program, GLIBC_TUNABLES=given)
+                    self.assertEqual(told, (f"{want}\n".encode(), b"", 0))
+
     def test_a_last_word_that_is_a_file_is_read(self) -> None:
         for words in (["rewrite", "examples/nat.rec"], ["rewrite", "--fuel", "2", "examples/nat.rec"]):
             self.assertEqual(rec(words), (ONE_AND_ONE, b"", 0))
