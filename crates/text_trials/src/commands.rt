@@ -5,7 +5,7 @@ use std::test::Fail;
 use term_commands::{TermsFault, tell_terms};
 
 /// Term text, the fewest rows that suffice for it, and what is told of it.
-static INPUTS: [(&str, u32, &str); 7] = [
+static INPUTS: [(&str, u32, &str); 14] = [
     // f over a and "b c", and over twice a: these two, a and "b c".
     (
         "f(a, \"b c\")  f(a,a)",
@@ -25,6 +25,29 @@ static INPUTS: [(&str, u32, &str); 7] = [
     ("f f(f) f(f,f)", 3, "f\nf(f)\nf(f,f)\ndistinct 3 nodes 6\n"),
     ("[1,1,1]", 5, "[1,1,1]\ndistinct 5 nodes 7\n"),
     ("[a] [a]\n[a]", 3, "[a]\n[a]\n[a]\ndistinct 3 nodes 9\n"),
+    // White space alone, on both sides of each token, and none between two terms.
+    ("\t\r\n ", 0, "distinct 0 nodes 0\n"),
+    (
+        " f\n(\na\t,\r[ 1 , b ] ) \n",
+        7,
+        "f(a,[1,b])\ndistinct 7 nodes 7\n",
+    ),
+    ("1a[]", 3, "1\na\n[]\ndistinct 3 nodes 3\n"),
+    // Names in quotes: plain ones with and without arguments, and one with escapes.
+    (
+        "\"f\" \"_a'.-9\"( \"g\" ,\"a\\\"b\\\\\")",
+        4,
+        "f\n_a'.-9(g,\"a\\\"b\\\\\")\ndistinct 4 nodes 4\n",
+    ),
+    // The empty list, a cell over twice it, and two cells more.
+    ("[[],[[]]]", 4, "[[],[[]]]\ndistinct 4 nodes 7\n"),
+    // More arguments than the smaller store has room for, and the most that there may be.
+    ("f(a,a,a,a,a)", 2, "f(a,a,a,a,a)\ndistinct 2 nodes 6\n"),
+    (
+        "f(a,a,a,a,a,a,a,a,a,a,a,a,a,a,a,a)",
+        2,
+        "f(a,a,a,a,a,a,a,a,a,a,a,a,a,a,a,a)\ndistinct 2 nodes 17\n",
+    ),
 ];
 
 /// Why nothing is told.
@@ -42,6 +65,20 @@ fn terms_are_told_where_the_rows_suffice(rt: HostRuntime) -> Result<(), Fail> {
             assert_eq!(rt; fault, Some(TermsFault::StoreFull), "{input}");
         }
     }
+    Ok(())
+}
+
+#[test]
+fn a_long_list_of_short_terms_is_told(rt: HostRuntime) -> Result<(), Fail> {
+    let mut input = Vec::new(rt.alloc());
+    input.extend_from_slice(b"[a")?;
+    for _comma in 1..1_000u32 {
+        input.extend_from_slice(b",a")?;
+    }
+    input.push(b']')?;
+    let text = tell_terms(rt.alloc(), input.as_slice(), 1_002)?;
+    input.extend_from_slice(b"\ndistinct 1002 nodes 2001\n")?;
+    assert_eq!(rt; text.as_slice(), input.as_slice());
     Ok(())
 }
 
