@@ -11,13 +11,16 @@ const PLACES: u32 = 17;
 
 /// Term text, the fewest rows that suffice for it, the most arguments that a symbol may have, and
 /// the canonical lines.
-static BUILT: [(&str, u32, u32, &str); 7] = [
+static BUILT: [(&str, u32, u32, &str); 8] = [
     ("", 0, 4, ""),
     // White space on both sides of each token: f over a and the list; 1, b, the empty list and two
     // cells; and c.
     ("\t f\n( a\t,\r[ 1 , b ] ) \r\n c ", 8, 4, "f(a,[1,b])\nc\n"),
     // A name in quotes is plain where it can be.
     ("\"f\"( \"a b\" ) \"_a'.-9\"", 3, 4, "f(\"a b\")\n_a'.-9\n"),
+    // Each mark right behind a name, and a name at the end: a, g over it, b, the empty list and two
+    // cells, c, f and d.
+    ("f(g(a),[b,a],c)d", 9, 4, "f(g(a),[b,a],c)\nd\n"),
     // No white space is needed between two terms.
     (
         "18446744073709551615 0a[]",
@@ -44,7 +47,7 @@ static BUILT: [(&str, u32, u32, &str); 7] = [
 ];
 
 /// Term text, the rows, the most arguments that a symbol may have, and why the pass is given up.
-static GIVEN_UP: [(&str, u32, u32, GivenUp); 12] = [
+static GIVEN_UP: [(&str, u32, u32, GivenUp); 19] = [
     // An argument more than may be.
     ("f(a,a,a,a,a)", 2, 4, GivenUp::TooSmall),
     // A row less than there are terms: 1, a and f over both; 1, the empty list and a cell.
@@ -78,6 +81,15 @@ static GIVEN_UP: [(&str, u32, u32, GivenUp); 12] = [
     ("f(a]", 10, 4, GivenUp::Otherwise),
     ("f(a", 10, 4, GivenUp::Otherwise),
     ("01", 10, 4, GivenUp::Otherwise),
+    // Marks behind a name that stands in no group, or in another one.
+    ("a,b", 10, 4, GivenUp::Otherwise),
+    ("a)", 10, 4, GivenUp::Otherwise),
+    ("a]", 10, 4, GivenUp::Otherwise),
+    ("[a)", 10, 4, GivenUp::Otherwise),
+    // No term between two marks.
+    ("f()", 10, 4, GivenUp::Otherwise),
+    ("f(a,)", 10, 4, GivenUp::Otherwise),
+    ("[,a]", 10, 4, GivenUp::Otherwise),
 ];
 
 /// What building a text in a new store gives.
