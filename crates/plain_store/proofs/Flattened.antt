@@ -1,10 +1,10 @@
 -- Reading and writing rows in flat lists.
-use Rattle.std.proofs.Common.{append_assoc, ◌≡◌, ℕ, zero, suc, ◌+◌, ◌*◌, ◌<◌, ◌≤◌, Bool, true, false, List, [], ◌∷◌, ◌++◌, Option, Some, None, length, take, drop, get_or, refl, ap, sym, ◌∙◌, arith}
+use Rattle.std.proofs.Common.{◌≡◌, ℕ, zero, suc, ◌+◌, ◌*◌, ◌<◌, ◌≤◌, Bool, true, false, List, [], ◌∷◌, ◌++◌, Option, Some, None, inl, inr, length, take, drop, get_or, refl, ap, sym, ◌∙◌, arith}
 use Rattle.std.proofs.Math.ListN.{set}
-use Rattle.std.specs.Prelude.{All, replicate}
+use Rattle.std.specs.Prelude.{All, replicate, if◌then◌else◌}
 use Rattle.std.proofs.lemmas.List.{drop-drop, drop-take, length-drop, length-take-le, take-take, take-append-le, drop-append-le}
 use Rattle.std.proofs.lemmas.Slice.{drop-append-drop}
-use Rattle.std.proofs.lemmas.List.Edits.{sets-eq}
+use Rattle.std.proofs.lemmas.Bool.{cases_lt, le-leb, lt-leb}
 use Rattle.std.proofs.Math.Nat.{mul-le-mul_right}
 use Rattle.std.proofs.Math.Seq.{take-append_seam}
 use Rattle.term_model.specs.declared.Row.{Row}
@@ -12,7 +12,7 @@ use Rattle.term_model.specs.declared.Head.{Head}
 use Rattle.std.specs.Option.{option_map}
 use Rattle.plain_store.specs.declared.table.Entry.{Entry}
 use Rattle.plain_store.specs.Slots.{Slot, arguments_of}
-use Rattle.plain_store.specs.Flat.{slot_if, slot_of, slots_of, written, IsEntry}
+use Rattle.plain_store.specs.Flat.{slot_if, rows_of, slot_of, slots_of, written, IsEntry}
 
 pub length-slots_of : (w : ℕ) (es : List Entry) (places : List Row) → length (slots_of w es places) ≡ length es
 length-slots_of w [] places = refl
@@ -39,7 +39,7 @@ set-entry w (x ∷ es) places (suc k) e lt =
 pub free-slots : (w n : ℕ) (e : Entry) (places : List Row) → e.used ≡ false → slots_of w (replicate n e) places ≡ replicate n None
 free-slots w zero e places h = refl
 free-slots w (suc n) e places h =
-    ap (λ s. s ∷ slots_of w (replicate n e) (drop w places)) (ap (λ (b : Bool). slot_if b e.head (take e.count places)) h) ∙ ap (λ ss. None ∷ ss) (free-slots w n e (drop w places) h)
+    ap (λ s. s ∷ slots_of w (replicate n e) (drop w places)) (ap (λ (b : Bool). slot_if b e.head (rows_of e places)) h) ∙ ap (λ ss. None ∷ ss) (free-slots w n e (drop w places) h)
 
 -- a row's places are there
 pub place_below : (n k w c : ℕ) → k < n → c ≤ w → k * w + c ≤ n * w
@@ -60,17 +60,39 @@ behind_part w m places vs fits =
     ∙ ap (λ (xs : List Row). xs ++ rest) (drop-take w m places)
     ∙ ap (λ (xs : List Row). take m (drop w places) ++ (vs ++ xs)) (ap (λ j. drop j places) (let e : w + m + length vs ≡ w + (m + length vs) = omega arith in e) ∙ sym (drop-drop (m + length vs) w places))
 
--- the row at k gets an entry and its arguments
-pub set-row : (w : ℕ) (es : List Entry) (places : List Row) (k i : ℕ) (e : Entry) (vs : List Row) → i ≡ k * w → k < length es → length places ≡ length es * w → All (IsEntry w) es → e.count ≡ length vs → length vs ≤ w → slots_of w (set es k e) (written places i vs) ≡ set (slots_of w es places) k (slot_if e.used e.head vs)
-set-row w [] places k i e vs at lt long counts count fits = absurd (omega arith)
-set-row w (x ∷ es) places zero i e vs at lt long counts count fits =
+-- where the arguments stand
+pub rows_in_pair : (e : Entry) (places : List Row) → e.count ≤ 2 → rows_of e places ≡ take e.count e.pair
+rows_in_pair e places few =
+    ap (λ (b : Bool). take e.count (if b then e.pair else places)) (le-leb e.count 2 few)
+
+pub rows_in_places : (e : Entry) (places : List Row) → 2 < e.count → rows_of e places ≡ take e.count places
+rows_in_places e places many =
+    ap (λ (b : Bool). take e.count (if b then e.pair else places)) (lt-leb e.count 2 many)
+
+-- a row has the same arguments in places that begin with the same
+same_start : (e : Entry) (places others : List Row) → take e.count places ≡ take e.count others → rows_of e places ≡ rows_of e others
+same_start e places others same =
+    elim (cases_lt 2 e.count) [
+      | inl many ↦ rows_in_places e places many ∙ same ∙ sym (rows_in_places e others many)
+      | inr few ↦ rows_in_pair e places few ∙ sym (rows_in_pair e others few)
+    ]
+
+-- the row at k gets an entry with its arguments
+pub set-pair : (w : ℕ) (es : List Entry) (places : List Row) (k : ℕ) (e : Entry) (vs : List Row) → k < length es → e.count ≤ 2 → take e.count e.pair ≡ vs → slots_of w (set es k e) places ≡ set (slots_of w es places) k (slot_if e.used e.head vs)
+set-pair w es places k e vs lt few is =
+    set-entry w es places k e lt ∙ ap (λ (xs : List Row). set (slots_of w es places) k (slot_if e.used e.head xs)) (rows_in_pair e (drop (k * w) places) few ∙ is)
+
+-- the row at k gets an entry, and more than two arguments
+pub set-row : (w : ℕ) (es : List Entry) (places : List Row) (k i : ℕ) (e : Entry) (vs : List Row) → i ≡ k * w → k < length es → length places ≡ length es * w → All (IsEntry w) es → e.count ≡ length vs → 2 < length vs → length vs ≤ w → slots_of w (set es k e) (written places i vs) ≡ set (slots_of w es places) k (slot_if e.used e.head vs)
+set-row w [] places k i e vs at lt long counts count many fits = absurd (omega arith)
+set-row w (x ∷ es) places zero i e vs at lt long counts count many fits =
     let z : i ≡ 0 = omega arith in
     let all : written places i vs ≡ vs ++ drop (length vs) places = ap (λ j. written places j vs) z ∙ ap (λ j. vs ++ drop j places) (let n : 0 + length vs ≡ length vs = omega arith in n) in
-    let own : take e.count (written places i vs) ≡ vs = ap (λ n. take n (written places i vs)) count ∙ ap (take (length vs)) all ∙ take-append_seam vs (drop (length vs) places) in
+    let own : rows_of e (written places i vs) ≡ vs = rows_in_places e (written places i vs) (omega arith) ∙ ap (λ n. take n (written places i vs)) count ∙ ap (take (length vs)) all ∙ take-append_seam vs (drop (length vs) places) in
     let rest : drop w (written places i vs) ≡ drop w places = ap (drop w) all ∙ drop-append-drop (length vs) places vs w fits refl in
     ap (λ (xs : List Row). slot_if e.used e.head xs ∷ slots_of w es (drop w (written places i vs))) own
     ∙ ap (λ (xs : List Row). slot_if e.used e.head vs ∷ slots_of w es xs) rest
-set-row w (x ∷ es) places (suc k) i e vs at lt long counts count fits =
+set-row w (x ∷ es) places (suc k) i e vs at lt long counts count many fits =
     let m = k * w in
     let there : i ≡ w + m = omega arith in
     let room = place_below (length es) k w w (omega arith) (omega arith) in
@@ -78,9 +100,9 @@ set-row w (x ∷ es) places (suc k) i e vs at lt long counts count fits =
     let inside : w + m ≤ length places = omega arith in
     let long' : length (drop w places) ≡ length es * w = omega (arith, length-drop w places) in
     let x_fits = (counts 0 x (omega arith)).fits in
-    let own : take x.count (written places i vs) ≡ take x.count places = before_part x.count i places (vs ++ drop (i + length vs) places) (omega arith) (omega arith) in
+    let own : rows_of x (written places i vs) ≡ rows_of x places = same_start x (written places i vs) places (before_part x.count i places (vs ++ drop (i + length vs) places) (omega arith) (omega arith)) in
     let rest : drop w (written places i vs) ≡ written (drop w places) m vs = ap (λ j. drop w (written places j vs)) there ∙ behind_part w m places vs inside in
-    let ih = set-row w es (drop w places) k m e vs refl (omega arith) long' (λ j d l. counts (suc j) d (omega arith)) count fits in
+    let ih = set-row w es (drop w places) k m e vs refl (omega arith) long' (λ j d l. counts (suc j) d (omega arith)) count many fits in
     ap (λ (xs : List Row). slot_if x.used x.head xs ∷ slots_of w (set es k e) (drop w (written places i vs))) own
     ∙ ap (λ (ss : List Slot). slot_of x places ∷ ss) (ap (slots_of w (set es k e)) rest ∙ ih)
 
@@ -99,27 +121,19 @@ head_again true h xs = refl
 
 pub head_of_slot : (e : Entry) (places : List Row) (slot : Slot) → slot ≡ slot_of e places → head_if e.used e.head ≡ option_map (λ (n : Head × List Row). n.0) slot
 head_of_slot e places slot is =
-    sym (head_again e.used e.head (take e.count places)) ∙ ap (option_map (λ (n : Head × List Row). n.0)) (sym is)
+    sym (head_again e.used e.head (rows_of e places)) ∙ ap (option_map (λ (n : Head × List Row). n.0)) (sym is)
 
-rows_again : (b : Bool) (h : Head) (n : ℕ) (places : List Row) → (b ≡ false → n ≡ 0) → take n places ≡ arguments_of (slot_if b h (take n places))
-rows_again false h n places none = ap (λ j. take j places) (none refl)
-rows_again true h n places none = refl
+no_rows : (e : Entry) (places : List Row) → e.count ≡ 0 → rows_of e places ≡ []
+no_rows e places none =
+    rows_in_pair e places (omega arith) ∙ ap (λ (n : ℕ). take n e.pair) none
 
-pub rows_of_slot : (w : ℕ) (e : Entry) (places : List Row) (slot : Slot) → IsEntry w e → slot ≡ slot_of e places → take e.count places ≡ arguments_of slot
+rows_again : (b : Bool) (h : Head) (xs : List Row) → (b ≡ false → xs ≡ []) → xs ≡ arguments_of (slot_if b h xs)
+rows_again false h xs none = none refl
+rows_again true h xs none = refl
+
+pub rows_of_slot : (w : ℕ) (e : Entry) (places : List Row) (slot : Slot) → IsEntry w e → slot ≡ slot_of e places → rows_of e places ≡ arguments_of slot
 rows_of_slot w e places slot ok is =
-    rows_again e.used e.head e.count places ok.free ∙ ap arguments_of (sym is)
+    rows_again e.used e.head (rows_of e places) (λ free. no_rows e places (ok.free free)) ∙ ap arguments_of (sym is)
 
 pub refilled : (n : ℕ) (places rest : List Row) → n ≡ length places → take n (places ++ rest) ≡ places
 refilled n places rest e = ap (λ j. take j (places ++ rest)) e ∙ take-append_seam places rest
-
-pub written_one : (places : List Row) (i : ℕ) (rows : List Row) (d : Row) → length rows ≡ 1 → i + length rows ≤ length places → set places i (get_or rows 0 d) ≡ written places i rows
-written_one places i [] d e fits = absurd (omega arith)
-written_one places i (a ∷ []) d e fits = sets-eq (a ∷ []) places i fits ∙ append_assoc (take i places) (a ∷ []) (drop (i + length (a ∷ [])) places)
-written_one places i (a ∷ b ∷ rows) d e fits = absurd (omega arith)
-
-pub written_two : (places : List Row) (i : ℕ) (rows : List Row) (d : Row) → length rows ≡ 2 → i + length rows ≤ length places → set (set places i (get_or rows 0 d)) (i + 1) (get_or rows 1 d) ≡ written places i rows
-written_two places i [] d e fits = absurd (omega arith)
-written_two places i (a ∷ []) d e fits = absurd (omega arith)
-written_two places i (a ∷ b ∷ []) d e fits =
-    ap (λ j. set (set places i a) j b) (let n : i + 1 ≡ suc i = omega arith in n) ∙ sets-eq (a ∷ b ∷ []) places i fits ∙ append_assoc (take i places) (a ∷ b ∷ []) (drop (i + length (a ∷ b ∷ [])) places)
-written_two places i (a ∷ b ∷ x ∷ rows) d e fits = absurd (omega arith)

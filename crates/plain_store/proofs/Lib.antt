@@ -1,5 +1,6 @@
 pub mod Rows
 pub mod Indexing
+pub mod Pairing
 pub mod Flattened
 pub mod Placing
 pub mod Keeping

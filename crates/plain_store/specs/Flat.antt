@@ -1,6 +1,6 @@
--- Rows in flat lists: what each one has, and the arguments of all, each with as many places as the
--- widest.
-use Rattle.std.specs.Prelude.{◌≡◌, ℕ, ◌+◌, ◌≤◌, Bool, true, false, List, [], ◌∷◌, ◌++◌, Some, None, length, take, drop}
+-- Rows in flat lists: what each one has, and the arguments of those that have more than two, each
+-- with as many places as the widest.
+use Rattle.std.specs.Prelude.{◌≡◌, ℕ, ◌+◌, ◌≤◌, Bool, true, false, List, [], ◌∷◌, ◌++◌, Some, None, length, take, drop, if◌then◌else◌, nat_le}
 use Rattle.term_model.specs.declared.Row.{Row}
 use Rattle.term_model.specs.declared.Head.{Head}
 use Rattle.plain_store.specs.declared.table.Entry.{Entry}
@@ -10,16 +10,21 @@ abbrev pub slot_if : Bool → Head → List Row → Slot
 slot_if false h rows = None
 slot_if true h rows = Some (h, rows)
 
--- a row whose arguments come first in these places
+-- the arguments: at most two stand in the pair, and more come first in these places
+abbrev pub rows_of : Entry → List Row → List Row
+rows_of e places = take e.count (if nat_le e.count 2 then e.pair else places)
+
+-- a row whose arguments come first in these places, if they are more than two
 abbrev pub slot_of : Entry → List Row → Slot
-slot_of e places = slot_if e.used e.head (take e.count places)
+slot_of e places = slot_if e.used e.head (rows_of e places)
 
 abbrev pub slots_of : ℕ → List Entry → List Row → List Slot
 slots_of widest [] places = []
 slots_of widest (e ∷ entries) places = slot_of e places ∷ slots_of widest entries (drop widest places)
 
--- its arguments have their places, and a free row has none
+-- its arguments have their places, of which a pair has two, and a free row has none
 pub record IsEntry (widest : ℕ) (e : Entry) : Type 0 where
+  pub pair : length e.pair ≡ 2
   pub fits : e.count ≤ widest
   pub free : e.used ≡ false → e.count ≡ 0
 

@@ -1,4 +1,5 @@
 pub mod Slots
+pub mod Pairs
 pub mod Flat
 pub mod Hash
 pub mod Index

@@ -7,6 +7,7 @@ mod hashing;
 mod index;
 mod interface;
 mod nodes;
+mod pairs;
 mod store;
 mod table;
 

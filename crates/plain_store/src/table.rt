@@ -5,21 +5,25 @@ ghost use Rattle.term_model.specs.Tree.{head_eq};
 ghost use Rattle.plain_store.specs.Flat.{written};
 ghost use Rattle.plain_store.specs.Slots.{free_slots, slot_at, children, with_slot, kept_if};
 
+use crate::pairs::{EMPTY, Pair, pair_of};
 use faults::Memory;
 use std::alloc::Global;
 use std::marker::Model;
 use term_model::{Head, Row};
 
-/// Whether a row is in use, its head then, and how many arguments it has.
+/// Whether a row is in use, its head then, and how many arguments it has. These stand here, if they
+/// are at most two, so that one place of the memory tells all of most rows.
 #[derive(Clone, Copy)]
 pub(crate) struct Entry {
     head: Head,
+    pair: Pair,
     count: u32,
     used: bool,
 }
 
 const FREE: Entry = Entry {
     head: Head::Nil,
+    pair: EMPTY,
     count: 0,
     used: false,
 };
@@ -76,25 +80,14 @@ fn part(places: &[Row], from: usize, count: usize) -> &[Row]
     &places[from..from + count]
 }
 
-// Writes rows from a place on. Most trees have at most two arguments, and are written without a
-// call.
+// Writes rows from a place on.
 fn write(places: &mut [Row], from: usize, rows: &[Row])
     requires { from + length rows.now ≤ length places.old }
     ensures written { places.new ≡ written places.old from rows.now }
     ensures size { length places.new ≡ length places.old }
 {
-    match rows {
-        [] => {}
-        [one] => places[from] = *one,
-        [first, second] => {
-            places[from] = *first;
-            places[from + 1] = *second;
-        }
-        _ => {
-            let part = &mut places[from..from + rows.len()];
-            part.copy_from_slice(rows);
-        }
-    }
+    let part = &mut places[from..from + rows.len()];
+    part.copy_from_slice(rows);
 }
 
 impl Table {
@@ -128,10 +121,39 @@ impl Table {
         requires room { length arguments.now ≤ self.old.widest }
         ensures { self.new ≡ with_slot self.old row (Some (head, arguments.now)) }
     {
+        match pair_of(arguments) {
+            Some(pair) => self.set_pair(row, head, pair, arguments.len() as u32),
+            None => self.set_rows(row, head, arguments),
+        }
+    }
+
+    // Gives the row a head and at most two arguments.
+    fn set_pair(&mut self, row: Row, head: Head, pair: Pair, count: u32)
+        requires below { row.0 < length self.old.slots }
+        requires room { count ≤ self.old.widest }
+        requires few { count ≤ 2 }
+        ensures { self.new ≡ with_slot self.old row (Some (head, take count pair)) }
+    {
+        self.entries[row.0 as usize] = Entry {
+            head,
+            pair,
+            count,
+            used: true,
+        };
+    }
+
+    // Gives the row a head and more than two arguments.
+    fn set_rows(&mut self, row: Row, head: Head, arguments: &[Row])
+        requires below { row.0 < length self.old.slots }
+        requires room { length arguments.now ≤ self.old.widest }
+        requires many { 2 < length arguments.now }
+        ensures { self.new ≡ with_slot self.old row (Some (head, arguments.now)) }
+    {
         let from = row.0 as usize * self.widest as usize;
         write(&mut self.places, from, arguments);
         self.entries[row.0 as usize] = Entry {
             head,
+            pair: EMPTY,
             count: arguments.len() as u32,
             used: true,
         };
@@ -173,8 +195,11 @@ impl Table {
         ensures arguments { result.now ≡ children self.now row }
         ensures fits { length result.now < 2 ^ 32 }
     {
-        let from = row.0 as usize * self.widest as usize;
-        let count = self.entries[row.0 as usize].count as usize;
-        part(&self.places, from, count)
+        let entry = &self.entries[row.0 as usize];
+        let count = entry.count as usize;
+        if count <= 2 {
+            return part(&entry.pair, 0, count);
+        }
+        part(&self.places, row.0 as usize * self.widest as usize, count)
     }
 }
