@@ -3,6 +3,7 @@ pub mod Indexing
 pub mod Pairing
 pub mod Flattened
 pub mod Placing
+pub mod Looking
 pub mod Keeping
 pub mod Reaching
 pub mod Crowding

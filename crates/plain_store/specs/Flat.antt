@@ -4,6 +4,7 @@ use Rattle.std.specs.Prelude.{◌≡◌, ℕ, ◌+◌, ◌≤◌, Bool, true, fa
 use Rattle.term_model.specs.declared.Row.{Row}
 use Rattle.term_model.specs.declared.Head.{Head}
 use Rattle.plain_store.specs.declared.table.Entry.{Entry}
+use Rattle.plain_store.specs.Pairs.{filled}
 use Rattle.plain_store.specs.Slots.{Slot}
 
 abbrev pub slot_if : Bool → Head → List Row → Slot
@@ -22,9 +23,9 @@ abbrev pub slots_of : ℕ → List Entry → List Row → List Slot
 slots_of widest [] places = []
 slots_of widest (e ∷ entries) places = slot_of e places ∷ slots_of widest entries (drop widest places)
 
--- its arguments have their places, of which a pair has two, and a free row has none
+-- its arguments have their places, a pair's others are filled up, and a free row has no arguments
 pub record IsEntry (widest : ℕ) (e : Entry) : Type 0 where
-  pub pair : length e.pair ≡ 2
+  pub pair : e.count ≤ 2 → e.pair ≡ filled (take e.count e.pair)
   pub fits : e.count ≤ widest
   pub free : e.used ≡ false → e.count ≡ 0
 

@@ -1,9 +1,10 @@
 // Where the rows are: those in use by their hashes, and the free ones.
 ghost use Rattle.std.specs.Prelude.{◌≡◌, ◌+◌, ◌/◌, ◌^◌, ◌<◌, ◌≤◌, ◌++◌, [], ◌∷◌, ℕ, IfOk, IfSome, IfNone, length};
-ghost use Rattle.plain_store.specs.Hash.{hash};
+ghost use Rattle.plain_store.specs.Hash.{hash, hash_all};
 ghost use Rattle.plain_store.specs.Index.{first_of, next_of, linked, freed, taken, bucket_of, IsIndexed};
 
-use crate::hashing::hash_of;
+use crate::hashing::{hash_of, hash_pair};
+use crate::pairs::Pair;
 use faults::Memory;
 use std::alloc::Global;
 use std::marker::Model;
@@ -47,15 +48,36 @@ impl Index {
         })
     }
 
+    // The bucket of a hash.
+    #[inline(always)]
+    fn bucket_of_hash(&self, hash: u64) -> usize
+        ensures bucket { result ≡ hash / 2 ^ self.now.shift }
+        ensures below { result < length self.now.firsts }
+    {
+        (hash >> self.shift) as usize
+    }
+
     /// The bucket of this head over these rows.
+    #[inline(always)]
     pub(crate) fn bucket(&self, head: Head, arguments: &[Row]) -> usize
         ensures bucket { result ≡ hash head arguments.now / 2 ^ self.now.shift }
         ensures below { result < length self.now.firsts }
     {
-        (hash_of(head, arguments) >> self.shift) as usize
+        self.bucket_of_hash(hash_of(head, arguments))
+    }
+
+    /// The bucket of this head over the rows of a pair.
+    #[inline(always)]
+    pub(crate) fn bucket_of_pair(&self, head: Head, pair: Pair) -> usize
+        requires { length pair ≡ 2 }
+        ensures bucket { result ≡ hash_all head pair / 2 ^ self.now.shift }
+        ensures below { result < length self.now.firsts }
+    {
+        self.bucket_of_hash(hash_pair(head, pair))
     }
 
     /// The first row of a bucket's chain.
+    #[inline(always)]
     pub(crate) fn first(&self, bucket: usize) -> u32
         requires { bucket < length self.now.firsts }
         ensures { result ≡ first_of self.now bucket }
@@ -64,6 +86,7 @@ impl Index {
     }
 
     /// The row behind this one in its chain.
+    #[inline(always)]
     pub(crate) fn next(&self, row: u32) -> u32
         requires { row < length self.now.nexts }
         ensures { result ≡ next_of self.now row }
@@ -72,6 +95,7 @@ impl Index {
     }
 
     /// Puts a row in front of a bucket's chain.
+    #[inline(always)]
     pub(crate) fn link(&mut self, bucket: usize, row: Row)
         requires bucket { bucket < length self.old.firsts }
         requires row { row.0 < length self.old.nexts }
@@ -82,6 +106,7 @@ impl Index {
     }
 
     /// Puts a row on the stack of free ones.
+    #[inline(always)]
     pub(crate) fn free(&mut self, row: Row)
         requires { length self.old.free < length self.old.nexts }
         ensures { self.new ≡ freed self.old row }

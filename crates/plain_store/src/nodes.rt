@@ -5,6 +5,7 @@ ghost use Rattle.plain_store.specs.Slots.{free_slots, slot_at, children, with_sl
 ghost use Rattle.plain_store.specs.Index.{IsIndexed};
 
 use crate::index::{END, Index};
+use crate::pairs::pair_of;
 use crate::table::Table;
 use faults::Memory;
 use mark_phase::{Graph, Marks};
@@ -91,6 +92,20 @@ impl Nodes {
         let mut index = Index::new(alloc, rows)?;
         add_all(&table, &mut index);
         Ok(Nodes { table, index })
+    }
+
+    /// The row that has this head over these rows, if it is the first of its chain and they are at
+    /// most two. Most rows are found so.
+    #[inline(always)]
+    pub(crate) fn find_first(&self, head: Head, arguments: &[Row]) -> Option<Row>
+        ensures { IfSome result (λ row. slot_at self.now row ≡ Some (head, arguments.now)) }
+    {
+        let pair = pair_of(arguments)?;
+        let at = self.index.first(self.index.bucket_of_pair(head, pair));
+        if at == END || !self.table.is_pair(Row(at), head, pair, arguments.len() as u32) {
+            return None;
+        }
+        Some(Row(at))
     }
 
     /// The row that has this head over these rows.

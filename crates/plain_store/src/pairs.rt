@@ -1,5 +1,5 @@
 // At most two arguments, filled up to two, so that they are read and compared without a loop.
-ghost use Rattle.std.specs.Prelude.{◌≡◌, ◌<◌, ◌≤◌, IfSome, IfNone, length};
+ghost use Rattle.std.specs.Prelude.{◌≡◌, ◌<◌, ◌≤◌, ◌↔◌, IsTrue, IfSome, IfNone, length};
 ghost use Rattle.plain_store.specs.Pairs.{filled};
 
 use term_model::Row;
@@ -23,4 +23,13 @@ pub(crate) fn pair_of(rows: &[Row]) -> Option<Pair>
         [first, second] => Some([*first, *second]),
         _ => None,
     }
+}
+
+/// Whether two pairs are the same.
+#[inline(always)]
+pub(crate) fn same_pair(one: Pair, other: Pair) -> bool
+    requires { (length one ≡ 2) × (length other ≡ 2) }
+    ensures { IsTrue result ↔ (one ≡ other) }
+{
+    one[0].0 == other[0].0 && one[1].0 == other[1].0
 }

@@ -66,6 +66,18 @@ impl PlainStore {
         })
     }
 
+    /// The row of the tree of the head over the last `n` places, where one look finds it.
+    #[inline(always)]
+    pub(crate) fn find_first(&self, head: Head, n: u32) -> Option<Row>
+        requires { n ≤ length self.now.stack }
+        ensures found { IfSome result
+            (λ row. HasTree (store_of self.now) row (asked (store_of self.now) head n)) }
+        ensures sound { IsSound (store_of self.now) }
+        ensures holds { HoldsReachable self.now }
+    {
+        self.nodes.find_first(head, self.places.last(n as usize))
+    }
+
     /// The row of the tree of the head over the last `n` places.
     pub(crate) fn find(&self, head: Head, n: u32) -> Option<Row>
         requires { n ≤ length self.now.stack }
@@ -79,6 +91,7 @@ impl PlainStore {
     }
 
     /// Puts a row that has the asked tree in the place of the last `n`.
+    #[inline(always)]
     pub(crate) fn place(&mut self, head: Head, n: u32, row: Row)
         requires may { MayBuild (store_of self.old) head n }
         requires room { NeedsPlace (store_of self.old) n → ⊥ }
@@ -124,6 +137,7 @@ impl PlainStore {
     }
 
     /// Finds the tree's row, or takes a free one, or collects and takes one that was freed.
+    #[inline(always)]
     pub(crate) fn try_build(&mut self, head: Head, n: u32) -> Result<(), BuildFault>
         requires { MayBuild (store_of self.old) head n }
         ensures { Outcome self.old self.new head n result }
@@ -131,6 +145,20 @@ impl PlainStore {
         if self.needs_place(n) {
             return Err(BuildFault::Deep);
         }
+        if let Some(row) = self.find_first(head, n) {
+            self.place(head, n, row);
+            return Ok(());
+        }
+        self.build_further(head, n)
+    }
+
+    /// The same where one look didn't find the row.
+    #[inline(never)]
+    fn build_further(&mut self, head: Head, n: u32) -> Result<(), BuildFault>
+        requires may { MayBuild (store_of self.old) head n }
+        requires room { NeedsPlace (store_of self.old) n → ⊥ }
+        ensures { Outcome self.old self.new head n result }
+    {
         if let Some(row) = self.find(head, n) {
             self.place(head, n, row);
             return Ok(());
@@ -155,6 +183,7 @@ impl PlainStore {
     }
 
     /// Whether a tree over `n` places needs one more, and all are in use.
+    #[inline(always)]
     fn needs_place(&self, n: u32) -> bool
         ensures { IsTrue result ↔ NeedsPlace (store_of self.now) n }
     {

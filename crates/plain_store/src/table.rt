@@ -1,11 +1,12 @@
 // What the rows have, in flat arrays.
 ghost use Rattle.std.specs.Prelude.{◌≡◌, ◌+◌, ◌<◌, ◌≤◌, ◌*◌, ◌^◌, ◌↔◌, ℕ, Option, Some, None, IfOk, IsSome, IsTrue, true, false, length, take, drop, replicate, slice_get, slice_index_or};
 ghost use Rattle.std.specs.Option.{option_map};
-ghost use Rattle.term_model.specs.Tree.{head_eq};
+ghost use Rattle.plain_store.specs.Pairs.{filled};
 ghost use Rattle.plain_store.specs.Flat.{written};
 ghost use Rattle.plain_store.specs.Slots.{free_slots, slot_at, children, with_slot, kept_if};
 
-use crate::pairs::{EMPTY, Pair, pair_of};
+use crate::hashing::same_head;
+use crate::pairs::{EMPTY, Pair, pair_of, same_pair};
 use faults::Memory;
 use std::alloc::Global;
 use std::marker::Model;
@@ -45,17 +46,6 @@ impl Model for Table {
     ghost view = { slots_in };
 
     ghost invariant = { IsTable };
-}
-
-fn same_head(one: Head, other: Head) -> bool
-    ensures { result ≡ head_eq one other }
-{
-    match (one, other) {
-        (Head::App(f), Head::App(g)) => f.0 == g.0,
-        (Head::Int(m), Head::Int(n)) => m == n,
-        (Head::Nil, Head::Nil) | (Head::Cons, Head::Cons) => true,
-        _ => false,
-    }
 }
 
 fn same_rows(rows: &[Row], others: &[Row]) -> bool
@@ -105,7 +95,35 @@ impl Table {
     }
 
     /// Whether the row has this head over these rows.
+    #[inline(always)]
     pub(crate) fn is(&self, row: Row, head: Head, arguments: &[Row]) -> bool
+        requires { row.0 < length self.now.slots }
+        ensures { IsTrue result ↔ (slot_at self.now row ≡ Some (head, arguments.now)) }
+    {
+        match pair_of(arguments) {
+            Some(pair) => self.is_pair(row, head, pair, arguments.len() as u32),
+            None => self.is_rows(row, head, arguments),
+        }
+    }
+
+    /// Whether the row has this head over so many rows, which stand in the pair.
+    #[inline(always)]
+    pub(crate) fn is_pair(&self, row: Row, head: Head, pair: Pair, count: u32) -> bool
+        requires below { row.0 < length self.now.slots }
+        requires few { count ≤ 2 }
+        requires filled { pair ≡ filled (take count pair) }
+        ensures { IsTrue result ↔ (slot_at self.now row ≡ Some (head, take count pair)) }
+    {
+        let entry = &self.entries[row.0 as usize];
+        if !entry.used || entry.count != count {
+            return false;
+        }
+        same_pair(entry.pair, pair) && same_head(entry.head, head)
+    }
+
+    // Whether the row has this head over these rows, however many.
+    #[inline(never)]
+    fn is_rows(&self, row: Row, head: Head, arguments: &[Row]) -> bool
         requires { row.0 < length self.now.slots }
         ensures { IsTrue result ↔ (slot_at self.now row ≡ Some (head, arguments.now)) }
     {
@@ -132,6 +150,7 @@ impl Table {
         requires below { row.0 < length self.old.slots }
         requires room { count ≤ self.old.widest }
         requires few { count ≤ 2 }
+        requires filled { pair ≡ filled (take count pair) }
         ensures { self.new ≡ with_slot self.old row (Some (head, take count pair)) }
     {
         self.entries[row.0 as usize] = Entry {
@@ -181,6 +200,7 @@ impl Table {
     }
 
     /// The head of a row, which a free row doesn't have.
+    #[inline(always)]
     pub(crate) fn head(&self, row: Row) -> Option<Head>
         requires { row.0 < length self.now.slots }
         ensures { result ≡ option_map (λ n. n.0) (slot_at self.now row) }
@@ -190,6 +210,7 @@ impl Table {
     }
 
     /// The rows of a row's arguments, none of a free row.
+    #[inline(always)]
     pub(crate) fn arguments(&self, row: Row) -> &[Row]
         requires { row.0 < length self.now.slots }
         ensures arguments { result.now ≡ children self.now row }

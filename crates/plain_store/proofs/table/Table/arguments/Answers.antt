@@ -1,8 +1,9 @@
-use Rattle.std.proofs.Common.{◌∙◌, ◌*◌, ◌<◌, None, length, take, drop, get_or, ap, sym, subst, List, arith}
+use Rattle.std.proofs.Common.{◌∙◌, ◌*◌, ◌<◌, ◌≤◌, None, length, take, drop, get_or, ap, sym, subst, List, arith}
 use Rattle.term_model.specs.declared.Row.{Row}
 use Rattle.plain_store.specs.Slots.{Slots}
 use Rattle.plain_store.specs.Flat.{IsEntry}
 use Rattle.plain_store.proofs.Flattened.{length-slots_of, slot_is, rows_of_slot, rows_in_pair, rows_in_places, place_below}
+use Rattle.plain_store.proofs.Pairing.{filled_has_two}
 use Rattle.plain_store.proofs.table.Table.arguments.Goals as goal
 
 pub index-entry-requires : goal.index-entry-requires
@@ -19,7 +20,8 @@ part-requires c =
     let shown = ap (λ (x : Slots). length x.slots) c.self.view_is in
     let lt : k < length s.entries.items = omega (arith, shown, length-slots_of s.widest s.entries.items s.places.items, c.requires) in
     let ok = subst (IsEntry s.widest) (sym c.index-entry.ensures) (c.self.invariant.entries k e lt) in
-    omega (arith, ok.pair, c.if-count-le2.true)
+    let few : e.count ≤ 2 = omega (arith, c.if-count-le2.true) in
+    omega (arith, filled_has_two e.pair e.count (ok.pair few) few, few)
 
 pub part-requires-2 : goal.part-requires-2
 part-requires-2 c =

@@ -1,0 +1,83 @@
+use Rattle.std.proofs.Common.{◌≡◌, ◌∙◌, ◌*◌, ◌<◌, ◌≤◌, true, false, None, List, length, take, drop, get_or, ap, sym, subst, arith}
+use Rattle.std.proofs.lemmas.List.{length-drop}
+use Rattle.term_model.specs.declared.Row.{Row}
+use Rattle.term_model.specs.declared.Head.{Head}
+use Rattle.term_model.specs.Tree.{head_eq}
+use Rattle.term_model.proofs.Equality.{head_eq_refl, head_eq_sound}
+use Rattle.plain_store.specs.Slots.{Slots}
+use Rattle.plain_store.specs.Flat.{IsEntry}
+use Rattle.plain_store.proofs.Pairing.{filled_has_two}
+use Rattle.plain_store.proofs.Flattened.{length-slots_of, slot_is, place_below}
+use Rattle.plain_store.proofs.Looking.{HasPair, pair_told, pair_shows}
+use Rattle.plain_store.proofs.table.Table.is_pair.Goals as goal
+use Rattle.plain_store.proofs.table.Table.is_pair.Goals.{then-not-entry-via-then-not-entry, then-not-entry-via-else-not-entry+then-entry-count}
+
+pub index-entry-requires : goal.index-entry-requires
+index-entry-requires c =
+    let s = c.self.inside in
+    let shown = ap (λ (x : Slots). length x.slots) c.self.view_is in
+    omega (arith, shown, length-slots_of s.widest s.entries.items s.places.items, s.entries.ok.0, c.requires.below)
+
+pub returns-then-not-entry : goal.returns-then-not-entry
+returns-then-not-entry c =
+    let s = c.self.inside in
+    let k = c.args.row.0 in
+    let e = c.index-entry.result.now in
+    let shown = ap (λ (x : Slots). length x.slots) c.self.view_is in
+    let lt : k < length s.entries.items = omega (arith, shown, length-slots_of s.widest s.entries.items s.places.items, c.requires.below) in
+    let ok = subst (IsEntry s.widest) (sym c.index-entry.ensures) (c.self.invariant.entries k e lt) in
+    let places = drop (k * s.widest) s.places.items in
+    let is = slot_is s.widest s.entries.items s.places.items c.args.self.now.slots k e (ap (λ (x : Slots). x.slots) c.self.view_is) c.requires.below c.index-entry.ensures in
+    let fits : e.count ≤ length places = omega (arith, length-drop (k * s.widest) s.places.items, place_below (length s.entries.items) k s.widest e.count lt ok.fits, c.self.invariant.places) in
+    let told = pair_told s.widest e places (get_or c.args.self.now.slots k None) c.args.head c.args.pair c.args.count ok fits is c.requires.few c.requires.filled in
+    elim c.then-not-entry.branch [
+      | then-not-entry-via-then-not-entry w ↦ (λ t. absurd (cc), λ given. (let used = (told given).used in absurd (cc)))
+      | then-not-entry-via-else-not-entry+then-entry-count w ↦ (λ t. absurd (cc), λ given. absurd (w.if-entry-count.true (told given).count))
+    ]
+
+pub same_pair-requires : goal.same_pair-requires
+same_pair-requires c =
+    let s = c.self.inside in
+    let k = c.args.row.0 in
+    let e = c.index-entry.result.now in
+    let shown = ap (λ (x : Slots). length x.slots) c.self.view_is in
+    let lt : k < length s.entries.items = omega (arith, shown, length-slots_of s.widest s.entries.items s.places.items, c.requires.below) in
+    let ok = subst (IsEntry s.widest) (sym c.index-entry.ensures) (c.self.invariant.entries k e lt) in
+    let places = drop (k * s.widest) s.places.items in
+    let is = slot_is s.widest s.entries.items s.places.items c.args.self.now.slots k e (ap (λ (x : Slots). x.slots) c.self.view_is) c.requires.below c.index-entry.ensures in
+    let few : e.count ≤ 2 = omega (arith, c.if-entry-count.false, c.requires.few) in
+    (filled_has_two e.pair e.count (ok.pair few) few, filled_has_two c.args.pair c.args.count c.requires.filled c.requires.few)
+
+pub returns-then-same_pair : goal.returns-then-same_pair
+returns-then-same_pair c =
+    let s = c.self.inside in
+    let k = c.args.row.0 in
+    let e = c.index-entry.result.now in
+    let shown = ap (λ (x : Slots). length x.slots) c.self.view_is in
+    let lt : k < length s.entries.items = omega (arith, shown, length-slots_of s.widest s.entries.items s.places.items, c.requires.below) in
+    let ok = subst (IsEntry s.widest) (sym c.index-entry.ensures) (c.self.invariant.entries k e lt) in
+    let places = drop (k * s.widest) s.places.items in
+    let is = slot_is s.widest s.entries.items s.places.items c.args.self.now.slots k e (ap (λ (x : Slots). x.slots) c.self.view_is) c.requires.below c.index-entry.ensures in
+    let fits : e.count ≤ length places = omega (arith, length-drop (k * s.widest) s.places.items, place_below (length s.entries.items) k s.widest e.count lt ok.fits, c.self.invariant.places) in
+    let told = pair_told s.widest e places (get_or c.args.self.now.slots k None) c.args.head c.args.pair c.args.count ok fits is c.requires.few c.requires.filled in
+    (
+      λ t. (
+          let heads = head_eq_sound e.head c.args.head (sym c.same_head.ensures ∙ t) in
+          let has : HasPair e c.args.head c.args.pair c.args.count = record { used = c.if-not-entry.false; count = c.if-entry-count.false; same = c.same_pair.ensures.0 c.if-same_pair.true; head = heads } in
+          pair_shows e places (get_or c.args.self.now.slots k None) c.args.head c.args.pair c.args.count is c.requires.few has),
+      λ given. c.same_head.ensures ∙ ap (λ (h : Head). head_eq h c.args.head) (told given).head ∙ head_eq_refl c.args.head,
+    )
+
+pub returns-else-same_pair : goal.returns-else-same_pair
+returns-else-same_pair c =
+    let s = c.self.inside in
+    let k = c.args.row.0 in
+    let e = c.index-entry.result.now in
+    let shown = ap (λ (x : Slots). length x.slots) c.self.view_is in
+    let lt : k < length s.entries.items = omega (arith, shown, length-slots_of s.widest s.entries.items s.places.items, c.requires.below) in
+    let ok = subst (IsEntry s.widest) (sym c.index-entry.ensures) (c.self.invariant.entries k e lt) in
+    let places = drop (k * s.widest) s.places.items in
+    let is = slot_is s.widest s.entries.items s.places.items c.args.self.now.slots k e (ap (λ (x : Slots). x.slots) c.self.view_is) c.requires.below c.index-entry.ensures in
+    let fits : e.count ≤ length places = omega (arith, length-drop (k * s.widest) s.places.items, place_below (length s.entries.items) k s.widest e.count lt ok.fits, c.self.invariant.places) in
+    let told = pair_told s.widest e places (get_or c.args.self.now.slots k None) c.args.head c.args.pair c.args.count ok fits is c.requires.few c.requires.filled in
+    (λ t. (let f : true ≡ false = sym t ∙ c.if-same_pair.false in absurd (cc)), λ given. c.same_pair.ensures.1 (told given).same)
