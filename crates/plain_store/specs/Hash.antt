@@ -1,39 +1,38 @@
 -- The hash of a row, by its head and the rows of its arguments.
-use Rattle.std.specs.Prelude.{ℕ, ◌+◌, ◌*◌, ◌^◌, ◌%◌, List, fold}
+use Rattle.std.specs.Prelude.{ℕ, ◌+◌, ◌*◌, ◌^◌, ◌%◌, List, length, fold, if◌then◌else◌, nat_le}
 use Rattle.std.specs.Int.Bits.{bit_xor}
 use Rattle.term_model.specs.declared.Row.{Row}
 use Rattle.term_model.specs.declared.Head.{Head}
 use Rattle.term_model.specs.declared.Head.TheVariants.{App, Int, Nil, Cons}
-use Rattle.plain_store.specs.Pairs.{filled}
+use Rattle.plain_store.specs.Pairs.{filled, pair_word}
 
--- the kind of a head: no symbol's number is as great
-abbrev pub kind_word : Head → ℕ
-kind_word (App f) = 0
-kind_word (Int n) = 2 ^ 32
-kind_word Nil = 2 * 2 ^ 32
-kind_word Cons = 3 * 2 ^ 32
-
--- the number of its symbol, or the integer
-abbrev pub value_word : Head → ℕ
-value_word (App f) = f.0
-value_word (Int n) = n
-value_word Nil = 0
-value_word Cons = 0
+abbrev pub head_kind : Head → ℕ
+head_kind (App f) = 0
+head_kind (Int n) = 1
+head_kind Nil = 2
+head_kind Cons = 3
 
 -- with one word more
 abbrev pub mixed : ℕ → ℕ → ℕ
 mixed hash word = bit_xor hash word * 11400714819323198485 % 2 ^ 64
 
+-- An integer and a list have words that no symbol has. Their rows tell the lists apart.
 abbrev pub head_hash : Head → ℕ
-head_hash head = mixed (kind_word head) (value_word head)
+head_hash (App f) = mixed 0 f.0
+head_hash (Int n) = mixed (2 ^ 32) n
+head_hash Nil = mixed (2 ^ 33) 0
+head_hash Cons = mixed (2 ^ 33) 0
 
 -- with the words of these rows
 abbrev pub hash_by : ℕ → List Row → ℕ
 hash_by start rows = fold (λ h r. mixed h r.0) start rows
 
-abbrev pub hash_all : Head → List Row → ℕ
-hash_all head rows = hash_by (head_hash head) rows
+abbrev pub pair_hash : Head → List Row → ℕ
+pair_hash head pair = mixed (head_hash head) (pair_word pair)
 
--- Fewer than two arguments are filled up, so that each hash of at most two takes the same steps.
+-- At most two arguments are one word.
 abbrev pub hash : Head → List Row → ℕ
-hash head arguments = hash_all head (filled arguments)
+hash head arguments =
+    if nat_le (length arguments) 2
+    then pair_hash head (filled arguments)
+    else hash_by (head_hash head) arguments

@@ -1,42 +1,45 @@
 // The hash of a row, by its head and the rows of its arguments.
 ghost use Rattle.std.specs.Prelude.{◌≡◌, ◌≤◌, length};
 ghost use Rattle.term_model.specs.Tree.{head_eq};
-ghost use Rattle.plain_store.specs.Hash.{kind_word, value_word, mixed, head_hash, hash_by, hash_all, hash};
+ghost use Rattle.plain_store.specs.Hash.{head_kind, mixed, head_hash, hash_by, pair_hash, hash};
 
-use crate::pairs::{Pair, pair_of};
+use crate::pairs::{Pair, pair_of, word_of};
 use term_model::{Head, Row};
 
-// The kind of a head, as a word.
 #[inline(always)]
-fn kind_word(head: Head) -> u64
-    ensures { result ≡ kind_word head }
+fn kind_of(head: Head) -> u8
+    ensures { result ≡ head_kind head }
 {
     match head {
         Head::App(_) => 0,
-        Head::Int(_) => 1 << 32,
-        Head::Nil => 2 << 32,
-        Head::Cons => 3 << 32,
+        Head::Int(_) => 1,
+        Head::Nil => 2,
+        Head::Cons => 3,
     }
 }
 
-// The symbol or the integer of a head, as a word.
 #[inline(always)]
-fn value_word(head: Head) -> u64
-    ensures { result ≡ value_word head }
+fn same_cases(one: Head, other: Head) -> bool
+    ensures { result ≡ head_eq one other }
 {
-    match head {
-        Head::App(symbol) => symbol.0 as u64,
-        Head::Int(number) => number,
-        Head::Nil | Head::Cons => 0,
+    match (one, other) {
+        (Head::App(f), Head::App(g)) => f.0 == g.0,
+        (Head::Int(m), Head::Int(n)) => m == n,
+        (Head::Nil, Head::Nil) | (Head::Cons, Head::Cons) => true,
+        _ => false,
     }
 }
 
-/// Whether two heads are the same, by their words.
+/// Whether two heads are the same. Their kinds are compared first, which takes no choice between
+/// the cases.
 #[inline(always)]
 pub(crate) fn same_head(one: Head, other: Head) -> bool
     ensures { result ≡ head_eq one other }
 {
-    kind_word(one) == kind_word(other) && value_word(one) == value_word(other)
+    if kind_of(one) != kind_of(other) {
+        return false;
+    }
+    same_cases(one, other)
 }
 
 // One word more: by exclusive or, and then multiplied by 2^64 over the golden ratio, which spreads
@@ -52,7 +55,11 @@ fn mix(hash: u64, word: u64) -> u64
 fn hash_head(head: Head) -> u64
     ensures { result ≡ head_hash head }
 {
-    mix(kind_word(head), value_word(head))
+    match head {
+        Head::App(symbol) => mix(0, symbol.0 as u64),
+        Head::Int(number) => mix(1 << 32, number),
+        Head::Nil | Head::Cons => mix(1 << 33, 0),
+    }
 }
 
 // The hash with the words of these rows.
@@ -71,9 +78,9 @@ fn hash_rows(hash: u64, rows: &[Row]) -> u64
 #[inline(always)]
 pub(crate) fn hash_pair(head: Head, pair: Pair) -> u64
     requires { length pair ≡ 2 }
-    ensures { result ≡ hash_all head pair }
+    ensures { result ≡ pair_hash head pair }
 {
-    mix(mix(hash_head(head), pair[0].0 as u64), pair[1].0 as u64)
+    mix(hash_head(head), word_of(pair))
 }
 
 /// The hash of this head over these rows. Its high bits are the ones to use.

@@ -1,6 +1,6 @@
 // Where the rows are: those in use by their hashes, and the free ones.
 ghost use Rattle.std.specs.Prelude.{◌≡◌, ◌+◌, ◌/◌, ◌^◌, ◌<◌, ◌≤◌, ◌++◌, [], ◌∷◌, ℕ, IfOk, IfSome, IfNone, length};
-ghost use Rattle.plain_store.specs.Hash.{hash, hash_all};
+ghost use Rattle.plain_store.specs.Hash.{hash, pair_hash};
 ghost use Rattle.plain_store.specs.Index.{first_of, next_of, linked, freed, taken, bucket_of, IsIndexed};
 
 use crate::hashing::{hash_of, hash_pair};
@@ -70,7 +70,7 @@ impl Index {
     #[inline(always)]
     pub(crate) fn bucket_of_pair(&self, head: Head, pair: Pair) -> usize
         requires { length pair ≡ 2 }
-        ensures bucket { result ≡ hash_all head pair / 2 ^ self.now.shift }
+        ensures bucket { result ≡ pair_hash head pair / 2 ^ self.now.shift }
         ensures below { result < length self.now.firsts }
     {
         self.bucket_of_hash(hash_pair(head, pair))

@@ -1,6 +1,6 @@
 // At most two arguments, filled up to two, so that they are read and compared without a loop.
-ghost use Rattle.std.specs.Prelude.{◌≡◌, ◌<◌, ◌≤◌, ◌↔◌, IsTrue, IfSome, IfNone, length};
-ghost use Rattle.plain_store.specs.Pairs.{filled};
+ghost use Rattle.std.specs.Prelude.{◌≡◌, ◌^◌, ◌<◌, ◌≤◌, ◌↔◌, IsTrue, IfSome, IfNone, length, slice_index_or};
+ghost use Rattle.plain_store.specs.Pairs.{filled, no_row, pair_word};
 
 use term_model::Row;
 
@@ -25,11 +25,21 @@ pub(crate) fn pair_of(rows: &[Row]) -> Option<Pair>
     }
 }
 
+/// The two rows as one word.
+#[inline(always)]
+pub(crate) fn word_of(pair: Pair) -> u64
+    requires { length pair ≡ 2 }
+    ensures word { result ≡ pair_word pair }
+    ensures low { (slice_index_or pair 0 no_row).0 < 2 ^ 32 }
+{
+    pair[0].0 as u64 + pair[1].0 as u64 * (1 << 32)
+}
+
 /// Whether two pairs are the same.
 #[inline(always)]
 pub(crate) fn same_pair(one: Pair, other: Pair) -> bool
     requires { (length one ≡ 2) × (length other ≡ 2) }
     ensures { IsTrue result ↔ (one ≡ other) }
 {
-    one[0].0 == other[0].0 && one[1].0 == other[1].0
+    word_of(one) == word_of(other)
 }
