@@ -13,65 +13,8 @@ use Rattle.plain_store.specs.Slots.{Slot, arguments_of}
 use Rattle.plain_store.specs.Hash.{hash}
 use Rattle.plain_store.specs.Index.{Index, end, first_of, linked, freed, IsChain, bucket_of, bucket_at, HasChain, IsIndexed}
 use Rattle.plain_store.proofs.Rows.{row_same}
-
-front_or_behind : (r : Row) (rows : List Row) (q : Row) → Contains (r ∷ rows) q → (r ≡ q) ⊎ Contains rows q
-front_or_behind r rows q (zero, lt, e) = inl e
-front_or_behind r rows q (suc k, lt, e) = inr (k, omega arith, e)
-
-in_front : (r : Row) (rows : List Row) → Contains (r ∷ rows) r
-in_front r rows = (0, omega arith, refl)
-
-behind : (r : Row) (rows : List Row) (q : Row) → Contains rows q → Contains (r ∷ rows) q
-behind r rows q (k, lt, e) = (suc k, omega arith, e)
-
--- a chain stays while another row gets a row behind it
-chain_stays : (nexts : List ℕ) (k v : ℕ) (rows : List Row) (at : ℕ) → ((r : Row) → Contains rows r → r.0 ≢ k) → IsChain nexts at rows → IsChain (set nexts k v) at rows
-chain_stays nexts k v [] at away c = c
-chain_stays nexts k v (r ∷ rows) at away c = (
-  c.0,
-  omega (arith, c.1, length-set nexts k v),
-  subst (λ (a : ℕ). IsChain (set nexts k v) a rows) (sym (get_or-set_other nexts k r.0 v end (away r (in_front r rows))))
-      (chain_stays nexts k v rows (get_or nexts r.0 end) (λ q m. away q (behind r rows q m)) c.2),
-)
-
-no_place : (o : Option ℕ) (b : ℕ) → o ≡ None → o ≡ Some b → ⊥
-no_place o b e f = let g : None ≡ Some b = sym e ∙ f in absurd (cc)
-
--- the chains after a row is put in front of one
-chain_linked : (x : Index) (place now : Row → Option ℕ) (most more b c : ℕ) (k : Row) → k.0 < length x.nexts → b < length x.firsts → place k ≡ None → now k ≡ Some b → ((r : Row) → r.0 ≢ k.0 → now r ≡ place r) → most + 1 ≤ more → HasChain x place most c → HasChain (linked x b k) now more c
-chain_linked x place now most more b c k below bucket none some others less h =
-    let away : (r : Row) → Contains h.rows r → r.0 ≢ k.0 = λ r m e. no_place (place r) c (ap place (row_same r k e) ∙ none) (h.only r m) in
-    let kept : (at : ℕ) → IsChain x.nexts at h.rows → IsChain (set x.nexts k.0 (first_of x b)) at h.rows = λ at. chain_stays x.nexts k.0 (first_of x b) h.rows at away in
-    elim (eqb_tells c b) [
-      | inl e ↦ (
-          let first : get_or (set x.firsts b k.0) c end ≡ k.0 = ap (λ i. get_or (set x.firsts b k.0) i end) e.1 ∙ get_or-set_same x.firsts b k.0 end bucket in
-          let next : get_or (set x.nexts k.0 (first_of x b)) k.0 end ≡ first_of x c = get_or-set_same x.nexts k.0 (first_of x b) end below ∙ ap (first_of x) (sym e.1) in
-          record {
-            rows = k ∷ h.rows;
-            chained = (first, omega (arith, length-set x.nexts k.0 (first_of x b)), subst (λ (a : ℕ). IsChain (set x.nexts k.0 (first_of x b)) a h.rows) (sym next) (kept (first_of x c) h.chained));
-            short = omega (arith, h.short);
-            only = λ r m. elim (front_or_behind k h.rows r m) [
-              | inl same ↦ ap now (sym same) ∙ some ∙ ap (λ i. Some i) (sym e.1)
-              | inr m' ↦ others r (away r m') ∙ h.only r m'
-            ];
-            all = λ r p. elim (eqb_tells r.0 k.0) [
-              | inl same ↦ subst (Contains (k ∷ h.rows)) (sym (row_same r k same.1)) (in_front k h.rows)
-              | inr ne ↦ behind k h.rows r (h.all r (sym (others r ne.1) ∙ p))
-            ];
-          })
-      | inr ne ↦ (
-          let first : get_or (set x.firsts b k.0) c end ≡ first_of x c = get_or-set_other x.firsts b c k.0 end ne.1 in
-          record {
-            rows = h.rows;
-            chained = subst (λ (a : ℕ). IsChain (set x.nexts k.0 (first_of x b)) a h.rows) (sym first) (kept (first_of x c) h.chained);
-            short = omega (arith, h.short);
-            only = λ r m. others r (away r m) ∙ h.only r m;
-            all = λ r p. elim (eqb_tells r.0 k.0) [
-              | inl same ↦ absurd (ne.1 (let g : Some c ≡ Some b = sym p ∙ ap now (row_same r k same.1) ∙ some in cc))
-              | inr ne' ↦ h.all r (sym (others r ne'.1) ∙ p)
-            ];
-          })
-    ]
+use Rattle.plain_store.proofs.Chains.{front_or_behind, in_front, behind, no_place, next_below}
+use Rattle.plain_store.proofs.Linking.{linked_firsts, linked_nexts, chain_linked}
 
 -- the slots with one more behind
 more_before : (slots : List Slot) (s : Slot) (i : ℕ) → i < length slots → get_or (slots ++ s ∷ []) i None ≡ get_or slots i None
@@ -104,10 +47,10 @@ added_used slots x k s b at below is bucket h =
     let some : now k ≡ Some b = ap (bucket_of x.shift) (more_at slots s k.0 at) ∙ is in
     let others : (r : Row) → r.0 ≢ k.0 → now r ≡ place r = λ r ne. ap (bucket_of x.shift) (more_other slots s r.0 (omega arith)) in
     record {
-      size = omega (arith, long, length-set x.nexts k.0 (first_of x b));
-      below = omega (arith, h.below, length-set x.nexts k.0 (first_of x b));
+      size = omega (arith, long, linked_nexts x b k);
+      below = omega (arith, h.below, linked_nexts x b k);
       fits = omega (arith, long, h.fits);
-      chains = λ c lt. chain_linked x place now (length slots - length x.free) (length (slots ++ s ∷ []) - length x.free) b c k below bucket none some others (omega (arith, long, h.fits)) (h.chains c (omega (arith, lt, length-set x.firsts b k.0)));
+      chains = λ c lt. chain_linked x place now (length slots - length x.free) (length (slots ++ s ∷ []) - length x.free) b c k h.below below bucket none some others (omega (arith, long, h.fits)) (h.chains b bucket) (h.chains c (omega (arith, lt, linked_firsts x b k)));
       free = λ r lt e. elim (eqb_tells r.0 k.0) [
         | inl same ↦ absurd (some_slot x.shift b s is (sym (more_at slots s r.0 (omega (arith, same.1, at))) ∙ e))
         | inr ne ↦ (let lt' : r.0 < length slots = omega (arith, ne.1, lt, long, at) in h.free r lt' (sym (more_before slots s r.0 lt') ∙ e))
@@ -177,13 +120,12 @@ made_used slots x front k s b room last is bucket h =
     let others : (r : Row) → r.0 ≢ k.0 → now r ≡ place r = λ r ne. ap (bucket_of x.shift) (get_or-set_other slots k.0 r.0 s None ne) in
     let before : (i : ℕ) (d : Row) → i < length front → get_or x.free i d ≡ get_or front i d = λ i d lt. ap (λ xs. get_or xs i d) last ∙ get_or_append_left front (k ∷ []) d i lt in
     record {
-      size = omega (arith, long, room, length-set x.nexts k.0 (first_of x b));
-      below = omega (arith, h.below, length-set x.nexts k.0 (first_of x b));
+      size = omega (arith, long, room, linked_nexts y b k);
+      below = omega (arith, h.below, linked_nexts y b k);
       fits = omega (arith, long, more, h.fits);
       chains = λ c lt. (
-          let was = h.chains c (omega (arith, lt, length-set x.firsts b k.0)) in
-          let same : HasChain y place (length slots - length x.free) c = record { rows = was.rows; chained = was.chained; short = was.short; only = was.only; all = was.all } in
-          chain_linked y place now (length slots - length x.free) (length (set slots k.0 s) - length front) b c k (omega (arith, own.0, room)) bucket none some others (omega (arith, long, more, h.fits)) same);
+          let again : (d : ℕ) → d < length x.firsts → HasChain y place (length slots - length x.free) d = λ d l. (let was = h.chains d l in record { rows = was.rows; chained = was.chained; short = was.short; only = was.only; all = was.all }) in
+          chain_linked y place now (length slots - length x.free) (length (set slots k.0 s) - length front) b c k h.below (omega (arith, own.0, room)) bucket none some others (omega (arith, long, more, h.fits)) (again b bucket) (again c (omega (arith, lt, linked_firsts y b k))));
       free = λ r lt e. elim (eqb_tells r.0 k.0) [
         | inl same ↦ absurd (some_slot x.shift b s is (sym (ap (λ i. get_or (set slots k.0 s) i None) same.1 ∙ here) ∙ e))
         | inr ne ↦ (
@@ -223,10 +165,9 @@ ahead_at_first slots x head arguments b is bucket h =
       all = λ k e. (let r : Row = record { 0 = k } in (r, refl, was.all r (ap (bucket_of x.shift) e ∙ ap (λ i. Some i) (sym is))));
     }
 
--- the row that comes next is one of them
-next_below : (nexts : List ℕ) (rows : List Row) (at : ℕ) → IsChain nexts at rows → at ≢ end → at < length nexts
-next_below nexts [] at c ne = absurd (ne c)
-next_below nexts (r ∷ rows) at c ne = omega (arith, c.0, c.1)
+-- the first row of a chain
+pub first_below : (slots : List Slot) (x : Index) (b : ℕ) → b < length x.firsts → IsIndexed slots x → (first_of x b ≡ end → ⊥) → first_of x b < length x.nexts
+first_below slots x b lt h ne = let was = h.chains b lt in next_below x.nexts was.rows (first_of x b) was.chained ne
 
 pub ahead_below : (slots : List Slot) (nexts : List ℕ) (wanted : Slot) (at passed : ℕ) → Ahead slots nexts wanted at passed → at ≢ end → at < length nexts
 ahead_below slots nexts wanted at passed h ne = next_below nexts h.rows at h.chained ne

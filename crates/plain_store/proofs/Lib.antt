@@ -1,4 +1,6 @@
 pub mod Rows
+pub mod Chains
+pub mod Linking
 pub mod Indexing
 pub mod Pairing
 pub mod Flattened

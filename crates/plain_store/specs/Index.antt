@@ -1,6 +1,6 @@
 -- Where the rows are: those in use stand in chains, one for each bucket of their hashes, and the
 -- free ones on a stack.
-use Rattle.std.specs.Prelude.{◌≡◌, ℕ, ◌-◌, ◌/◌, ◌^◌, ◌<◌, ◌≤◌, List, [], ◌∷◌, ◌++◌, Option, Some, None, Contains, length, slice_index_or, slice_set, take}
+use Rattle.std.specs.Prelude.{◌≡◌, ℕ, ◌-◌, ◌/◌, ◌^◌, ◌<◌, ◌≤◌, List, [], ◌∷◌, ◌++◌, Option, Some, None, Contains, length, slice_index_or, slice_set, take, if◌then◌else◌, ◌==◌}
 use Rattle.std.specs.Option.{option_map}
 use Rattle.term_model.specs.declared.Row.{Row}
 use Rattle.plain_store.specs.Slots.{Slot}
@@ -24,10 +24,14 @@ first_of x b = slice_index_or x.firsts b end
 abbrev pub next_of : Index → ℕ → ℕ
 next_of x r = slice_index_or x.nexts r end
 
--- the row first in the bucket's chain
+-- the row in the bucket's chain: first in an empty one, else second
 abbrev pub linked : Index → ℕ → Row → Index
 linked x b r =
-    record x { firsts = slice_set x.firsts b r.0; nexts = slice_set x.nexts r.0 (first_of x b) }
+    let first = first_of x b in
+    record x {
+      firsts = if first == end then slice_set x.firsts b r.0 else x.firsts;
+      nexts = if first == end then slice_set x.nexts r.0 end else slice_set (slice_set x.nexts r.0 (next_of x first)) first r.0;
+    }
 
 abbrev pub freed : Index → Row → Index
 freed x r = record x { free = x.free ++ r ∷ [] }

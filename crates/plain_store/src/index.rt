@@ -1,7 +1,7 @@
 // Where the rows are: those in use by their hashes, and the free ones.
 ghost use Rattle.std.specs.Prelude.{◌≡◌, ◌+◌, ◌/◌, ◌^◌, ◌<◌, ◌≤◌, ◌++◌, [], ◌∷◌, ℕ, IfOk, IfSome, IfNone, length};
 ghost use Rattle.plain_store.specs.Hash.{hash, pair_hash};
-ghost use Rattle.plain_store.specs.Index.{first_of, next_of, linked, freed, taken, bucket_of, IsIndexed};
+ghost use Rattle.plain_store.specs.Index.{end, first_of, next_of, linked, freed, taken, bucket_of, IsIndexed};
 
 use crate::hashing::{hash_of, hash_pair};
 use crate::pairs::Pair;
@@ -94,15 +94,24 @@ impl Index {
         self.nexts[row as usize]
     }
 
-    /// Puts a row in front of a bucket's chain.
+    /// Puts a row into a bucket's chain: behind the first, if there is one. A row that was there
+    /// before is looked for more often.
     #[inline(always)]
     pub(crate) fn link(&mut self, bucket: usize, row: Row)
         requires bucket { bucket < length self.old.firsts }
         requires row { row.0 < length self.old.nexts }
+        requires first { (first_of self.old bucket ≡ end → ⊥)
+            → first_of self.old bucket < length self.old.nexts }
         ensures { self.new ≡ linked self.old bucket row }
     {
-        self.nexts[row.0 as usize] = self.firsts[bucket];
-        self.firsts[bucket] = row.0;
+        let first = self.firsts[bucket];
+        if first == END {
+            self.nexts[row.0 as usize] = END;
+            self.firsts[bucket] = row.0;
+        } else {
+            self.nexts[row.0 as usize] = self.nexts[first as usize];
+            self.nexts[first as usize] = row.0;
+        }
     }
 
     /// Puts a row on the stack of free ones.

@@ -2,10 +2,11 @@ use Rattle.std.proofs.Common.{◌≡◌, ◌∙◌, ℕ, ◌<◌, ◌/◌, ◌^�
 use Rattle.std.proofs.Math.ListN.{set}
 use Rattle.std.proofs.lemmas.List.{length-set}
 use Rattle.plain_store.specs.Slots.{Slots}
-use Rattle.plain_store.specs.Index.{Index, IsIndexed, first_of, linked, taken}
+use Rattle.plain_store.specs.Index.{Index, IsIndexed, end, first_of, linked, taken}
 use Rattle.plain_store.specs.Hash.{hash}
 use Rattle.plain_store.proofs.Placing.{node_of}
-use Rattle.plain_store.proofs.Indexing.{made_used, last_is_free, none_free}
+use Rattle.plain_store.proofs.Linking.{linked_nexts}
+use Rattle.plain_store.proofs.Indexing.{made_used, last_is_free, none_free, first_below}
 use Rattle.plain_store.proofs.Stepping.{if_none_any}
 use Rattle.plain_store.proofs.nodes.Nodes.make.Goals as goal
 
@@ -40,7 +41,7 @@ invariant_of-self-2 c =
     let made = made_used slots x (taken x).free k s b (sym c.self.invariant.1) last (ap (λ (n : ℕ). Some n) (sym is)) (omega (arith, firsts, c.bucket-bucket.ensures.below)) c.self.invariant.0 in
     let index = subst (λ (i : Index). IsIndexed (set slots k.0 s) i) (sym (c.link.ensures ∙ ap (λ (i : Index). linked i b k) c.in_ok-row.ensures.taken)) made in (
       subst (λ (t : Slots). IsIndexed t.slots c.link.new.self) (sym c.set.ensures) index,
-      omega (arith, ap (λ (i : Index). length i.nexts) c.link.ensures, length-set y.nexts k.0 (first_of y b), nexts, c.self.invariant.1, ap (λ (t : Slots). length t.slots) c.set.ensures, length-set slots k.0 s),
+      omega (arith, ap (λ (i : Index). length i.nexts) c.link.ensures, linked_nexts y b k, nexts, c.self.invariant.1, ap (λ (t : Slots). length t.slots) c.set.ensures, length-set slots k.0 s),
     )
 
 pub returns-clause-free : goal.returns-clause-free
@@ -52,3 +53,12 @@ pub returns-clause-below : goal.returns-clause-below
 returns-clause-below c =
     let own = last_is_free c.self.inside.table.slots c.self.inside.index c.take_free.new.self.free c.in_ok-row.row c.in_ok-row.ensures.last c.self.invariant.0 in
     subst (λ (s : Slots). c.in_ok-row.row.0 < length s.slots) c.self.view_is own.0
+
+pub link-requires-clause-first : goal.link-requires-clause-first
+link-requires-clause-first c =
+    let x = c.self.inside.index in
+    let b = c.bucket-bucket.result in
+    let taken_is = c.in_ok-row.ensures.taken in
+    let firsts = ap (λ (i : Index). length i.firsts) taken_is in
+    subst (λ (i : Index). (first_of i b ≡ end → ⊥) → first_of i b < length i.nexts) (sym taken_is)
+    (first_below c.self.inside.table.slots x b (omega (arith, firsts, c.bucket-bucket.ensures.below)) c.self.invariant.0)
