@@ -1,5 +1,5 @@
 -- What the calls on an index come to.
-use Rattle.std.proofs.Common.{◌≡◌, ◌≢◌, ℕ, zero, suc, ◌+◌, ◌-◌, ◌/◌, ◌^◌, ◌<◌, ◌≤◌, ◌⊎◌, inl, inr, List, [], ◌∷◌, ◌++◌, Option, Some, None, length, take, get_or, refl, ap, sym, ◌∙◌, subst, arith}
+use Rattle.std.proofs.Common.{◌≡◌, ◌≢◌, ℕ, ◌+◌, ◌-◌, ◌/◌, ◌^◌, ◌<◌, ◌≤◌, inl, inr, List, [], ◌∷◌, ◌++◌, Option, Some, None, length, take, get_or, refl, ap, sym, ◌∙◌, subst, arith}
 use Rattle.std.proofs.Math.ListN.{set}
 use Rattle.std.specs.Prelude.{Contains}
 use Rattle.std.proofs.lemmas.Bool.{cases_lt}
@@ -13,7 +13,7 @@ use Rattle.plain_store.specs.Slots.{Slot, arguments_of}
 use Rattle.plain_store.specs.Hash.{hash}
 use Rattle.plain_store.specs.Index.{Index, end, first_of, linked, freed, IsChain, bucket_of, bucket_at, HasChain, IsIndexed}
 use Rattle.plain_store.proofs.Rows.{row_same}
-use Rattle.plain_store.proofs.Chains.{front_or_behind, in_front, behind, no_place, next_below}
+use Rattle.plain_store.proofs.Chains.{front_or_behind, no_place, next_below}
 use Rattle.plain_store.proofs.Linking.{linked_firsts, linked_nexts, chain_linked}
 
 -- the slots with one more behind

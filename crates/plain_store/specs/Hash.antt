@@ -1,5 +1,5 @@
 -- The hash of a row, by its head and the rows of its arguments.
-use Rattle.std.specs.Prelude.{ℕ, ◌+◌, ◌*◌, ◌^◌, ◌%◌, List, length, fold, if◌then◌else◌, nat_le}
+use Rattle.std.specs.Prelude.{ℕ, ◌*◌, ◌^◌, ◌%◌, List, length, fold, if◌then◌else◌, nat_le}
 use Rattle.std.specs.Int.Bits.{bit_xor}
 use Rattle.term_model.specs.declared.Row.{Row}
 use Rattle.term_model.specs.declared.Head.{Head}

@@ -102,7 +102,11 @@ impl Nodes {
     {
         let pair = pair_of(arguments)?;
         let at = self.index.first(self.index.bucket_of_pair(head, pair));
-        if at == END || !self.table.is_pair(Row(at), head, pair, arguments.len() as u32) {
+        if at == END
+            || !self
+                .table
+                .is_pair(Row(at), head, pair, arguments.len() as u32)
+        {
             return None;
         }
         Some(Row(at))

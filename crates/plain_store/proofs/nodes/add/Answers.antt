@@ -1,4 +1,4 @@
-use Rattle.std.proofs.Common.{◌≡◌, ◌∙◌, None, length, ap, get_or, sym, subst}
+use Rattle.std.proofs.Common.{◌∙◌, None, length, ap, get_or, sym, subst}
 use Rattle.plain_store.specs.Index.{Index, IsIndexed}
 use Rattle.std.proofs.Common.{take, ◌+◌}
 use Rattle.plain_store.proofs.Indexing.{slot_bucket, slot_free, added, added_empty, first_below}

@@ -1,6 +1,5 @@
-use Rattle.std.proofs.Common.{◌≡◌, ◌∙◌, List, ap, sym}
+use Rattle.std.proofs.Common.{◌∙◌, ap, sym}
 use Rattle.std.proofs.lemmas.Bool.{eqb-true, eq-eqb}
-use Rattle.term_model.specs.declared.Row.{Row}
 use Rattle.plain_store.specs.Pairs.{pair_word}
 use Rattle.plain_store.proofs.Pairing.{word_told}
 use Rattle.plain_store.proofs.pairs.same_pair.Goals as goal

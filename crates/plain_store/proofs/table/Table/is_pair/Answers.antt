@@ -1,6 +1,5 @@
-use Rattle.std.proofs.Common.{◌≡◌, ◌∙◌, ◌*◌, ◌<◌, ◌≤◌, true, false, None, List, length, take, drop, get_or, ap, sym, subst, arith}
+use Rattle.std.proofs.Common.{◌≡◌, ◌∙◌, ◌*◌, ◌<◌, ◌≤◌, true, false, None, length, drop, get_or, ap, sym, subst, arith}
 use Rattle.std.proofs.lemmas.List.{length-drop}
-use Rattle.term_model.specs.declared.Row.{Row}
 use Rattle.term_model.specs.declared.Head.{Head}
 use Rattle.term_model.specs.Tree.{head_eq}
 use Rattle.term_model.proofs.Equality.{head_eq_refl, head_eq_sound}
@@ -59,8 +58,7 @@ returns-then-same_pair c =
     let places = drop (k * s.widest) s.places.items in
     let is = slot_is s.widest s.entries.items s.places.items c.args.self.now.slots k e (ap (λ (x : Slots). x.slots) c.self.view_is) c.requires.below c.index-entry.ensures in
     let fits : e.count ≤ length places = omega (arith, length-drop (k * s.widest) s.places.items, place_below (length s.entries.items) k s.widest e.count lt ok.fits, c.self.invariant.places) in
-    let told = pair_told s.widest e places (get_or c.args.self.now.slots k None) c.args.head c.args.pair c.args.count ok fits is c.requires.few c.requires.filled in
-    (
+    let told = pair_told s.widest e places (get_or c.args.self.now.slots k None) c.args.head c.args.pair c.args.count ok fits is c.requires.few c.requires.filled in (
       λ t. (
           let heads = head_eq_sound e.head c.args.head (sym c.same_head.ensures ∙ t) in
           let has : HasPair e c.args.head c.args.pair c.args.count = record { used = c.if-not-entry.false; count = c.if-entry-count.false; same = c.same_pair.ensures.0 c.if-same_pair.true; head = heads } in
