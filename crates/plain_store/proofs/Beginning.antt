@@ -1,8 +1,7 @@
 -- A store at first: every row is free.
-use Rattle.std.proofs.Common.{◌≡◌, ℕ, ◌^◌, ◌<◌, ◌≤◌, inl, inr, false, [], Some, None, Option, length, get_or, ap, sym, ◌∙◌, subst, arith}
+use Rattle.std.proofs.Common.{◌≡◌, ℕ, ◌^◌, ◌<◌, ◌≤◌, false, [], Some, None, Option, length, get_or, ap, sym, ◌∙◌, subst, arith}
 use Rattle.std.specs.Prelude.{replicate}
-use Rattle.std.proofs.lemmas.Bool.{cases_lt}
-use Rattle.std.proofs.lemmas.List.{get_or_past, get_or-replicate, length-replicate}
+use Rattle.std.proofs.lemmas.List.{length-replicate}
 use Rattle.term_model.specs.Tree.{Tree}
 use Rattle.terms_api.specs.Terms.{IsSound}
 use Rattle.plain_store.specs.declared.store.PlainStore.TheInside.{Inside}
@@ -10,14 +9,8 @@ use Rattle.plain_store.specs.Slots.{Slots, Slot, free_slots}
 use Rattle.plain_store.specs.Agreement.{Agree}
 use Rattle.plain_store.specs.Contents.{Past, at_first, Contents, store_of, empty}
 use Rattle.plain_store.specs.View.{past_of, contents_of, IsRight}
+use Rattle.plain_store.proofs.Rows.{none_at}
 use Rattle.plain_store.proofs.Stepping.{right_from}
-
-none_at : {A : Type 0} (n k : ℕ) → get_or (replicate {A = Option A} n None) k None ≡ None
-none_at {A} n k =
-    elim (cases_lt k n) [
-      | inl lt ↦ get_or-replicate {A = Option A} n k None None lt
-      | inr le ↦ get_or_past (replicate {A = Option A} n None) k None (omega (arith, length-replicate {A = Option A} n None))
-    ]
 
 some_at : {A : Type 0} (n k : ℕ) (x : A) → get_or (replicate {A = Option A} n None) k None ≡ Some x → ⊥
 some_at {A} n k x e = let f : None ≡ Some x = sym (none_at {A = A} n k) ∙ e in absurd (cc)

@@ -1,8 +1,8 @@
 -- Reading and writing rows in flat lists.
-use Rattle.std.proofs.Common.{◌≡◌, ℕ, zero, suc, ◌+◌, ◌*◌, ◌<◌, ◌≤◌, Bool, true, false, List, [], ◌∷◌, ◌++◌, Option, Some, None, inl, inr, length, take, drop, get_or, refl, ap, sym, ◌∙◌, arith}
+use Rattle.std.proofs.Common.{◌≡◌, ℕ, zero, suc, ◌+◌, ◌-◌, ◌*◌, ◌<◌, ◌≤◌, Bool, true, false, List, [], ◌∷◌, ◌++◌, Option, Some, None, inl, inr, length, take, drop, get_or, refl, ap, sym, ◌∙◌, arith}
 use Rattle.std.proofs.Math.ListN.{set}
-use Rattle.std.specs.Prelude.{All, replicate, if◌then◌else◌}
-use Rattle.std.proofs.lemmas.List.{drop-drop, drop-take, length-drop, length-take-le, take-take, take-append-le, drop-append-le}
+use Rattle.std.specs.Prelude.{replicate, if◌then◌else◌}
+use Rattle.std.proofs.lemmas.List.{drop-drop, drop-take, length-drop, length-take-le, take-take, take-append-le, drop-append-le, get_or_append_left}
 use Rattle.std.proofs.lemmas.Slice.{drop-append-drop}
 use Rattle.std.proofs.lemmas.Bool.{cases_lt, le-leb, lt-leb}
 use Rattle.std.proofs.Math.Nat.{mul-le-mul_right}
@@ -12,7 +12,7 @@ use Rattle.term_model.specs.declared.Head.{Head}
 use Rattle.std.specs.Option.{option_map}
 use Rattle.plain_store.specs.declared.table.Entry.{Entry}
 use Rattle.plain_store.specs.Slots.{Slot, arguments_of}
-use Rattle.plain_store.specs.Flat.{slot_if, rows_of, slot_of, slots_of, written, IsEntry}
+use Rattle.plain_store.specs.Flat.{slot_if, rows_of, slot_of, slots_of, all_slots, written, IsEntry}
 
 pub length-slots_of : (w : ℕ) (es : List Entry) (places : List Row) → length (slots_of w es places) ≡ length es
 length-slots_of w [] places = refl
@@ -70,10 +70,10 @@ rows_in_places e places many =
     ap (λ (b : Bool). take e.count (if b then e.pair else places)) (lt-leb e.count 2 many)
 
 -- a row has the same arguments in places that begin with the same
-same_start : (e : Entry) (places others : List Row) → take e.count places ≡ take e.count others → rows_of e places ≡ rows_of e others
+same_start : (e : Entry) (places others : List Row) → (2 < e.count → take e.count places ≡ take e.count others) → rows_of e places ≡ rows_of e others
 same_start e places others same =
     elim (cases_lt 2 e.count) [
-      | inl many ↦ rows_in_places e places many ∙ same ∙ sym (rows_in_places e others many)
+      | inl many ↦ rows_in_places e places many ∙ same many ∙ sym (rows_in_places e others many)
       | inr few ↦ rows_in_pair e places few ∙ sym (rows_in_pair e others few)
     ]
 
@@ -83,7 +83,19 @@ set-pair w es places k e vs lt few is =
     set-entry w es places k e lt ∙ ap (λ (xs : List Row). set (slots_of w es places) k (slot_if e.used e.head xs)) (rows_in_pair e (drop (k * w) places) few ∙ is)
 
 -- the row at k gets an entry, and more than two arguments
-pub set-row : (w : ℕ) (es : List Entry) (places : List Row) (k i : ℕ) (e : Entry) (vs : List Row) → i ≡ k * w → k < length es → length places ≡ length es * w → All (IsEntry w) es → e.count ≡ length vs → 2 < length vs → length vs ≤ w → slots_of w (set es k e) (written places i vs) ≡ set (slots_of w es places) k (slot_if e.used e.head vs)
+-- the rows are the same in places where each has the same arguments
+pub same_places : (w : ℕ) (es : List Entry) (places others : List Row) → ((k : ℕ) (d : Entry) → k < length es → 2 < (get_or es k d).count → take (get_or es k d).count (drop (k * w) places) ≡ take (get_or es k d).count (drop (k * w) others)) → slots_of w es places ≡ slots_of w es others
+same_places w [] places others same = refl
+same_places w (e ∷ es) places others same =
+    let none : 0 * w ≡ 0 = omega arith in
+    let own : rows_of e places ≡ rows_of e others = same_start e places others (λ many. (
+    ap (λ j. take e.count (drop j places)) (sym none) ∙ same 0 e (omega arith) many ∙ ap (λ j. take e.count (drop j others)) none)) in
+    ap (λ (xs : List Row). slot_if e.used e.head xs ∷ slots_of w es (drop w places)) own
+    ∙ ap (λ ss. slot_of e others ∷ ss) (same_places w es (drop w places) (drop w others) (λ k d lt many. (
+    let n = (get_or es k d).count in
+    ap (take n) (next_places w k places) ∙ same (suc k) d (omega arith) many ∙ ap (take n) (sym (next_places w k others)))))
+
+pub set-row : (w : ℕ) (es : List Entry) (places : List Row) (k i : ℕ) (e : Entry) (vs : List Row) → i ≡ k * w → k < length es → k * w + w ≤ length places → ((j : ℕ) (d : Entry) → j < length es → (get_or es j d).count ≤ w) → e.count ≡ length vs → 2 < length vs → length vs ≤ w → slots_of w (set es k e) (written places i vs) ≡ set (slots_of w es places) k (slot_if e.used e.head vs)
 set-row w [] places k i e vs at lt long counts count many fits = absurd (omega arith)
 set-row w (x ∷ es) places zero i e vs at lt long counts count many fits =
     let z : i ≡ 0 = omega arith in
@@ -95,12 +107,10 @@ set-row w (x ∷ es) places zero i e vs at lt long counts count many fits =
 set-row w (x ∷ es) places (suc k) i e vs at lt long counts count many fits =
     let m = k * w in
     let there : i ≡ w + m = omega arith in
-    let room = place_below (length es) k w w (omega arith) (omega arith) in
-    let more : length (x ∷ es) * w ≡ length es * w + w = omega arith in
     let inside : w + m ≤ length places = omega arith in
-    let long' : length (drop w places) ≡ length es * w = omega (arith, length-drop w places) in
-    let x_fits = (counts 0 x (omega arith)).fits in
-    let own : rows_of x (written places i vs) ≡ rows_of x places = same_start x (written places i vs) places (before_part x.count i places (vs ++ drop (i + length vs) places) (omega arith) (omega arith)) in
+    let long' : k * w + w ≤ length (drop w places) = omega (arith, length-drop w places) in
+    let x_fits = counts 0 x (omega arith) in
+    let own : rows_of x (written places i vs) ≡ rows_of x places = same_start x (written places i vs) places (λ many. before_part x.count i places (vs ++ drop (i + length vs) places) (omega arith) (omega arith)) in
     let rest : drop w (written places i vs) ≡ written (drop w places) m vs = ap (λ j. drop w (written places j vs)) there ∙ behind_part w m places vs inside in
     let ih = set-row w es (drop w places) k m e vs refl (omega arith) long' (λ j d l. counts (suc j) d (omega arith)) count many fits in
     ap (λ (xs : List Row). slot_if x.used x.head xs ∷ slots_of w (set es k e) (drop w (written places i vs))) own
@@ -111,9 +121,11 @@ head_if false h = None
 head_if true h = Some h
 
 -- what a row has, read from its entry
-pub slot_is : (w : ℕ) (es : List Entry) (places : List Row) (slots : List Slot) (k : ℕ) (e : Entry) → slots_of w es places ≡ slots → k < length slots → e ≡ get_or es k e → get_or slots k None ≡ slot_of e (drop (k * w) places)
-slot_is w es places slots k e shown lt is =
-    ap (λ ss. get_or ss k None) (sym shown) ∙ slot-at w es places k e (omega (arith, ap length shown, length-slots_of w es places)) ∙ ap (λ (x : Entry). slot_of x (drop (k * w) places)) (sym is)
+pub slot_is : (w rows : ℕ) (es : List Entry) (places : List Row) (slots : List Slot) (k : ℕ) (e : Entry) → all_slots w rows es places ≡ slots → k < length es → e ≡ get_or es k e → get_or slots k None ≡ slot_of e (drop (k * w) places)
+slot_is w rows es places slots k e shown lt is =
+    ap (λ ss. get_or ss k None) (sym shown)
+    ∙ get_or_append_left (slots_of w es places) (replicate (rows - length es) None) None k (omega (arith, length-slots_of w es places))
+    ∙ slot-at w es places k e lt ∙ ap (λ (x : Entry). slot_of x (drop (k * w) places)) (sym is)
 
 head_again : (b : Bool) (h : Head) (xs : List Row) → option_map (λ (n : Head × List Row). n.0) (slot_if b h xs) ≡ head_if b h
 head_again false h xs = refl
@@ -131,8 +143,8 @@ rows_again : (b : Bool) (h : Head) (xs : List Row) → (b ≡ false → xs ≡ [
 rows_again false h xs none = none refl
 rows_again true h xs none = refl
 
-pub rows_of_slot : (w : ℕ) (e : Entry) (places : List Row) (slot : Slot) → IsEntry w e → slot ≡ slot_of e places → rows_of e places ≡ arguments_of slot
-rows_of_slot w e places slot ok is =
+pub rows_of_slot : (w size k : ℕ) (e : Entry) (places : List Row) (slot : Slot) → IsEntry w size k e → slot ≡ slot_of e places → rows_of e places ≡ arguments_of slot
+rows_of_slot w size k e places slot ok is =
     rows_again e.used e.head (rows_of e places) (λ free. no_rows e places (ok.free free)) ∙ ap arguments_of (sym is)
 
 pub refilled : (n : ℕ) (places rest : List Row) → n ≡ length places → take n (places ++ rest) ≡ places

@@ -5,15 +5,15 @@ use Rattle.std.specs.Prelude.{Contains}
 use Rattle.std.proofs.lemmas.Bool.{cases_lt}
 use Rattle.std.proofs.lemmas.Bool.Decides.{eqb_tells}
 use Rattle.std.specs.Option.{option_map}
-use Rattle.std.proofs.lemmas.List.{length-set, length-append, length-take, take_more, get_or-set_same, get_or-set_other, get_or_past, get_or_append_left, get_or-append_right}
+use Rattle.std.proofs.lemmas.List.{length-set, length-append, length-take, take_more, get_or-set_same, get_or-set_other, get_or_past, get_or-take, get_or_append_left, get_or-append_right}
 use Rattle.std.proofs.lemmas.List.Elements.{Contains-get_or, Contains-append_left, Contains-push, Contains-push_cases}
 use Rattle.term_model.specs.declared.Row.{Row}
 use Rattle.term_model.specs.declared.Head.{Head}
 use Rattle.plain_store.specs.Slots.{Slot, arguments_of}
 use Rattle.plain_store.specs.Hash.{hash}
-use Rattle.plain_store.specs.Index.{Index, end, first_of, linked, freed, IsChain, bucket_of, bucket_at, HasChain, IsIndexed}
+use Rattle.plain_store.specs.Index.{Index, end, first_of, linked, freed, IsChain, bucket_of, bucket_at, HasChain, IsIndexed, IsFront, IsIndexedTo}
 use Rattle.plain_store.proofs.Rows.{row_same}
-use Rattle.plain_store.proofs.Chains.{front_or_behind, no_place, next_below}
+use Rattle.plain_store.proofs.Chains.{front_or_behind, in_front, behind, no_place, next_below}
 use Rattle.plain_store.proofs.Linking.{linked_firsts, linked_nexts, chain_linked}
 
 -- the slots with one more behind
@@ -106,7 +106,7 @@ added_free slots x k s at below is h =
     }
 
 -- the last free row gets a node
-pub made_used : (slots : List Slot) (x : Index) (front : List Row) (k : Row) (s : Slot) (b : ℕ) → length slots ≡ length x.nexts → x.free ≡ front ++ k ∷ [] → bucket_of x.shift s ≡ Some b → b < length x.firsts → IsIndexed slots x → IsIndexed (set slots k.0 s) (linked (record x { free = front }) b k)
+pub made_used : (slots : List Slot) (x : Index) (front : List Row) (k : Row) (s : Slot) (b : ℕ) → length slots ≤ length x.nexts → x.free ≡ front ++ k ∷ [] → bucket_of x.shift s ≡ Some b → b < length x.firsts → IsIndexed slots x → IsIndexed (set slots k.0 s) (linked (record x { free = front }) b k)
 made_used slots x front k s b room last is bucket h =
     let y : Index = record x { free = front } in
     let more : length x.free ≡ length front + 1 = ap length last ∙ length-append front (k ∷ []) in
@@ -153,16 +153,26 @@ pub record Ahead (slots : List Slot) (nexts : List ℕ) (wanted : Slot) (at pass
   pub chained : IsChain nexts at rows
   pub short : length rows + passed ≤ length slots
   pub all : (k : ℕ) → get_or slots k None ≡ wanted → (r : Row) × (r.0 ≡ k) × Contains rows r
+  pub used : (r : Row) → Contains rows r → get_or slots r.0 None ≡ None → ⊥
 
-pub ahead_at_first : (slots : List Slot) (x : Index) (head : Head) (arguments : List Row) (b : ℕ) → b ≡ hash head arguments / 2 ^ x.shift → b < length x.firsts → IsIndexed slots x → (let n : Head × List Row = (head, arguments) in Ahead slots x.nexts (Some n) (first_of x b) 0)
-ahead_at_first slots x head arguments b is bucket h =
+-- the rows that were in use at some time are the first
+pub front_at : (fresh : ℕ) (slots : List Slot) (k : ℕ) → IsFront fresh slots → get_or (take fresh slots) k None ≡ get_or slots k None
+front_at fresh slots k h =
+    elim (cases_lt k fresh) [
+      | inl lt ↦ get_or-take fresh slots k None lt
+      | inr le ↦ get_or_past (take fresh slots) k None (omega (arith, le, length-take fresh slots)) ∙ sym (h.behind k le)
+    ]
+
+pub ahead_at_first : (fresh : ℕ) (slots : List Slot) (x : Index) (head : Head) (arguments : List Row) (b : ℕ) → b ≡ hash head arguments / 2 ^ x.shift → b < length x.firsts → IsIndexedTo fresh slots x → (let n : Head × List Row = (head, arguments) in Ahead slots x.nexts (Some n) (first_of x b) 0)
+ahead_at_first fresh slots x head arguments b is bucket h =
     let n : Head × List Row = (head, arguments) in
-    let was = h.chains b bucket in
+    let was = h.indexed.chains b bucket in
     record {
       rows = was.rows;
       chained = was.chained;
-      short = omega (arith, was.short);
-      all = λ k e. (let r : Row = record { 0 = k } in (r, refl, was.all r (ap (bucket_of x.shift) e ∙ ap (λ i. Some i) (sym is))));
+      short = omega (arith, was.short, length-take fresh slots, h.front.fits);
+      all = λ k e. (let r : Row = record { 0 = k } in (r, refl, was.all r (ap (bucket_of x.shift) (front_at fresh slots k h.front ∙ e) ∙ ap (λ i. Some i) (sym is))));
+      used = λ r m e. some_slot x.shift b (get_or (take fresh slots) r.0 None) (was.only r m) (front_at fresh slots r.0 h.front ∙ e);
     }
 
 -- the first row of a chain
@@ -172,9 +182,19 @@ first_below slots x b lt h ne = let was = h.chains b lt in next_below x.nexts wa
 pub ahead_below : (slots : List Slot) (nexts : List ℕ) (wanted : Slot) (at passed : ℕ) → Ahead slots nexts wanted at passed → at ≢ end → at < length nexts
 ahead_below slots nexts wanted at passed h ne = next_below nexts h.rows at h.chained ne
 
-ahead_step : (slots : List Slot) (nexts : List ℕ) (wanted : Slot) (at passed : ℕ) (rows : List Row) → IsChain nexts at rows → length rows + passed ≤ length slots → ((k : ℕ) → get_or slots k None ≡ wanted → (r : Row) × (r.0 ≡ k) × Contains rows r) → at ≢ end → (get_or slots at None ≡ wanted → ⊥) → Ahead slots nexts wanted (get_or nexts at end) (passed + 1)
-ahead_step slots nexts wanted at passed [] c short all ne other = absurd (ne c)
-ahead_step slots nexts wanted at passed (r ∷ rows) c short all ne other =
+row_at : (nexts : List ℕ) (rows : List Row) (at : ℕ) → IsChain nexts at rows → at ≢ end → (r : Row) × (at ≡ r.0) × Contains rows r
+row_at nexts [] at c ne = absurd (ne c)
+row_at nexts (r ∷ rows) at c ne = (r, c.0, in_front r rows)
+
+-- the row that comes next is in use
+pub ahead_used : (slots : List Slot) (nexts : List ℕ) (wanted : Slot) (at passed : ℕ) → Ahead slots nexts wanted at passed → at ≢ end → get_or slots at None ≡ None → ⊥
+ahead_used slots nexts wanted at passed h ne e =
+    let r = row_at nexts h.rows at h.chained ne in
+    h.used r.0 r.2 (ap (λ i. get_or slots i None) (sym r.1) ∙ e)
+
+ahead_step : (slots : List Slot) (nexts : List ℕ) (wanted : Slot) (at passed : ℕ) (rows : List Row) → IsChain nexts at rows → length rows + passed ≤ length slots → ((k : ℕ) → get_or slots k None ≡ wanted → (r : Row) × (r.0 ≡ k) × Contains rows r) → ((r : Row) → Contains rows r → get_or slots r.0 None ≡ None → ⊥) → at ≢ end → (get_or slots at None ≡ wanted → ⊥) → Ahead slots nexts wanted (get_or nexts at end) (passed + 1)
+ahead_step slots nexts wanted at passed [] c short all used ne other = absurd (ne c)
+ahead_step slots nexts wanted at passed (r ∷ rows) c short all used ne other =
     record {
       rows = rows;
       chained = subst (λ (a : ℕ). IsChain nexts (get_or nexts a end) rows) (sym c.0) c.2;
@@ -187,12 +207,13 @@ ahead_step slots nexts wanted at passed (r ∷ rows) c short all ne other =
                 absurd (other (ap (λ i. get_or slots i None) n ∙ e)))
             | inr m ↦ (was.0, was.1, m)
           ]);
+      used = λ q m. used q (behind r rows q m);
     }
 
 -- one row is passed
 pub ahead_more : (slots : List Slot) (nexts : List ℕ) (wanted : Slot) (at passed : ℕ) → Ahead slots nexts wanted at passed → at ≢ end → (get_or slots at None ≡ wanted → ⊥) → Ahead slots nexts wanted (get_or nexts at end) (passed + 1)
 ahead_more slots nexts wanted at passed h ne other =
-    ahead_step slots nexts wanted at passed h.rows h.chained h.short h.all ne other
+    ahead_step slots nexts wanted at passed h.rows h.chained h.short h.all h.used ne other
 
 none_of : (rows : List Row) (r : Row) → length rows ≡ 0 → Contains rows r → ⊥
 none_of rows r e m = absurd (omega (arith, m.1))

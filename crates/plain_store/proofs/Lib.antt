@@ -4,6 +4,8 @@ pub mod Linking
 pub mod Indexing
 pub mod Pairing
 pub mod Flattened
+pub mod Filling
+pub mod Fronts
 pub mod Placing
 pub mod Looking
 pub mod Keeping

@@ -1,5 +1,5 @@
 -- What a look at an entry tells of its row.
-use Rattle.std.proofs.Common.{◌≡◌, ℕ, ◌≤◌, Bool, true, false, List, inl, inr, length, take, refl, ap, sym, ◌∙◌, arith}
+use Rattle.std.proofs.Common.{◌≡◌, ℕ, ◌<◌, ◌≤◌, Bool, true, false, List, inl, inr, length, take, refl, ap, sym, ◌∙◌, arith}
 use Rattle.std.proofs.lemmas.Bool.{cases_lt}
 use Rattle.std.proofs.lemmas.List.{length-take-le}
 use Rattle.term_model.specs.declared.Row.{Row}
@@ -13,10 +13,10 @@ use Rattle.plain_store.proofs.Placing.{node_of}
 use Rattle.plain_store.proofs.Pairing.{filled_has_two}
 use Rattle.plain_store.proofs.Flattened.{rows_in_pair, rows_in_places}
 
-rows_counted : (w : ℕ) (e : Entry) (places : List Row) → IsEntry w e → e.count ≤ length places → length (rows_of e places) ≡ e.count
-rows_counted w e places ok fits =
+rows_counted : (w size k : ℕ) (e : Entry) (places : List Row) → IsEntry w size k e → (2 < e.count → e.count ≤ length places) → length (rows_of e places) ≡ e.count
+rows_counted w size k e places ok fits =
     elim (cases_lt 2 e.count) [
-      | inl many ↦ ap length (rows_in_places e places many) ∙ length-take-le e.count places fits
+      | inl many ↦ ap length (rows_in_places e places many) ∙ length-take-le e.count places (fits many)
       | inr few ↦ (
           let two = filled_has_two e.pair e.count (ok.pair few) few in
           ap length (rows_in_pair e places few) ∙ length-take-le e.count e.pair (omega arith))
@@ -33,8 +33,8 @@ pub record HasPair (e : Entry) (h : Head) (pair : List Row) (n : ℕ) : Type 0 w
   pub same : e.pair ≡ pair
   pub head : e.head ≡ h
 
-pub pair_told : (w : ℕ) (e : Entry) (places : List Row) (slot : Slot) (h : Head) (pair : List Row) (n : ℕ) → IsEntry w e → e.count ≤ length places → slot ≡ slot_of e places → n ≤ 2 → pair ≡ filled (take n pair) → slot ≡ node_of h (take n pair) → HasPair e h pair n
-pair_told w e places slot h pair n ok fits is few full told =
+pub pair_told : (w size k : ℕ) (e : Entry) (places : List Row) (slot : Slot) (h : Head) (pair : List Row) (n : ℕ) → IsEntry w size k e → (2 < e.count → e.count ≤ length places) → slot ≡ slot_of e places → n ≤ 2 → pair ≡ filled (take n pair) → slot ≡ node_of h (take n pair) → HasPair e h pair n
+pair_told w size k e places slot h pair n ok fits is few full told =
     let rows = rows_of e places in
     let both : slot_if e.used e.head rows ≡ node_of h (take n pair) = sym is ∙ told in
     let used = used_if e.used e.head h rows (take n pair) both in
@@ -42,7 +42,7 @@ pair_told w e places slot h pair n ok fits is few full told =
     let own = rows_of_node (e.head, rows) (h, take n pair) same in
     let two = filled_has_two pair n full few in
     let all = length-take-le n pair (omega arith) in
-    let count : e.count ≡ n = omega (arith, ap length own, rows_counted w e places ok fits, all) in
+    let count : e.count ≡ n = omega (arith, ap length own, rows_counted w size k e places ok fits, all) in
     let low : e.count ≤ 2 = omega arith in
     record {
       used = used;

@@ -1,15 +1,23 @@
 -- Rows in lists, and the nodes of rows.
-use Rattle.std.proofs.Common.{◌≡◌, ℕ, ◌+◌, ◌<◌, ◌≤◌, ◌≢◌, inl, inr, Bool, true, false, List, [], ◌∷◌, Some, None, length, get_or, refl, ap, sym, ◌∙◌, subst, arith, eq-eqb, below_more}
-use Rattle.std.specs.Prelude.{IsSome}
+use Rattle.std.proofs.Common.{◌≡◌, ℕ, ◌+◌, ◌<◌, ◌≤◌, ◌≢◌, inl, inr, Bool, true, false, List, [], ◌∷◌, Option, Some, None, length, get_or, refl, ap, sym, ◌∙◌, subst, arith, eq-eqb, below_more}
+use Rattle.std.specs.Prelude.{IsSome, replicate}
 use Rattle.std.proofs.Math.ListN.{set}
 use Rattle.std.proofs.Math.Dec.{eqb}
 use Rattle.std.proofs.lemmas.Bool.{eqb-true, cases_lt}
-use Rattle.std.proofs.lemmas.List.{length-set, get_or-set_same, get_or-set_other, get_or_past}
+use Rattle.std.proofs.lemmas.List.{length-set, get_or-set_same, get_or-set_other, get_or_past, get_or-replicate, length-replicate}
 use lib.Pointwise.{pointwise}
 use Rattle.term_model.specs.declared.Row.{Row}
 use Rattle.term_model.specs.declared.Head.{Head}
 use Rattle.term_model.proofs.Order.{both, both_hold}
 use Rattle.plain_store.specs.Slots.{Slots, Slot, slot_at, with_slot, kept_if, AreSwept, FreesRow}
+use Rattle.plain_store.specs.Index.{IsFront}
+
+pub none_at : {A : Type 0} (n k : ℕ) → get_or (replicate {A = Option A} n None) k None ≡ None
+none_at {A} n k =
+    elim (cases_lt k n) [
+      | inl lt ↦ get_or-replicate {A = Option A} n k None None lt
+      | inr le ↦ get_or_past (replicate {A = Option A} n None) k None (omega (arith, length-replicate {A = Option A} n None))
+    ]
 
 pub row_same : (r q : Row) → r.0 ≡ q.0 → r ≡ q
 row_same r q e = ap (λ (n : ℕ). let x : Row = record { 0 = n } in x) e
@@ -97,7 +105,7 @@ kept_none : (b : Bool) → kept_if b None ≡ None
 kept_none true = refl
 kept_none false = refl
 
-pub sweeping_all : (marks : List Bool) (was now : Slots) (i : ℕ) → Sweeping marks was now i → length was.slots ≤ i → AreSwept marks was now
+pub sweeping_all : (marks : List Bool) (was now : Slots) (i : ℕ) → Sweeping marks was now i → IsFront i was.slots → AreSwept marks was now
 sweeping_all marks was now i s h =
     record {
       size = s.size;
@@ -105,7 +113,7 @@ sweeping_all marks was now i s h =
       slots = λ r. elim (cases_lt r.0 i) [
         | inl lt ↦ s.before r.0 lt
         | inr le ↦ (
-            let past : get_or was.slots r.0 None ≡ None = get_or_past was.slots r.0 None (omega arith) in
+            let past : get_or was.slots r.0 None ≡ None = h.behind r.0 le in
             s.behind r.0 le ∙ past ∙ sym (kept_none (get_or marks r.0 false)) ∙ ap (kept_if (get_or marks r.0 false)) (sym past))
       ];
     }

@@ -16,7 +16,8 @@ head_kind Cons = 3
 abbrev pub mixed : ℕ → ℕ → ℕ
 mixed hash word = bit_xor hash word * 11400714819323198485 % 2 ^ 64
 
--- An integer and a list have words that no symbol has. Their rows tell the lists apart.
+-- Integers and lists begin from words of their own. Unequal rows may share a hash, so heads, counts
+-- and arguments are compared.
 abbrev pub head_hash : Head → ℕ
 head_hash (App f) = mixed 0 f.0
 head_hash (Int n) = mixed (2 ^ 32) n

@@ -69,3 +69,14 @@ pub record IsIndexed (slots : List Slot) (x : Index) : Type 0 where
   pub free : (r : Row) → r.0 < length slots → slice_index_or slots r.0 None ≡ None → Contains x.free r
   pub only_free : (r : Row) → Contains x.free r → (r.0 < length slots) × (slice_index_or slots r.0 None ≡ None)
   pub once : (i j : ℕ) (d : Row) → i < j → j < length x.free → (slice_index_or x.free i d).0 < (slice_index_or x.free j d).0
+
+-- The rows from this one on were never in use.
+pub record IsFront (fresh : ℕ) (slots : List Slot) : Type 0 where
+  pub fits : fresh ≤ length slots
+  pub behind : (k : ℕ) → fresh ≤ k → slice_index_or slots k None ≡ None
+
+-- The rows before this one are where they are looked for, and the others were never in use.
+pub record IsIndexedTo (fresh : ℕ) (slots : List Slot) (x : Index) : Type 0 where
+  pub front : IsFront fresh slots
+  pub room : length x.nexts ≡ length slots
+  pub indexed : IsIndexed (take fresh slots) x

@@ -1,10 +1,10 @@
 -- What the arrays of an index and of a table show, and the room that they have.
-use Rattle.std.specs.Prelude.{◌≡◌, ◌-◌, ◌*◌, ◌^◌, ◌<◌, ◌≤◌, All, length, vec_capacity}
+use Rattle.std.specs.Prelude.{◌-◌, ◌*◌, ◌^◌, ◌<◌, ◌≤◌, length, vec_capacity}
 use Rattle.plain_store.specs.declared.index.Index.TheInside.{Inside as IndexInside}
 use Rattle.plain_store.specs.declared.table.Table.TheInside.{Inside as TableInside}
 use Rattle.plain_store.specs.Slots.{Slots}
 use Rattle.plain_store.specs.Index.{Index}
-use Rattle.plain_store.specs.Flat.{slots_of, IsEntry}
+use Rattle.plain_store.specs.Flat.{all_slots, HasEntries}
 
 abbrev pub index_of : IndexInside → Index
 index_of s =
@@ -18,11 +18,13 @@ pub record IsIndex (s : IndexInside) : Type 0 where
   pub buckets : 2 ^ (64 - s.shift) ≤ length s.firsts.items
 
 abbrev pub slots_in : TableInside → Slots
-slots_in s = record { slots = slots_of s.widest s.entries.items s.places.items; widest = s.widest }
+slots_in s = record { slots = all_slots s.widest s.rows s.entries.items s.places.items; widest = s.widest }
 
--- Each row has as many places as the widest.
+-- There is room for the entry of each row, and for as many places of each as the widest.
 pub record IsTable (s : TableInside) : Type 0 where
-  pub rows : length s.entries.items < 2 ^ 32
+  pub rows : s.rows < 2 ^ 32
   pub widest : s.widest < 2 ^ 32
-  pub places : length s.places.items ≡ length s.entries.items * s.widest
-  pub entries : All (IsEntry s.widest) s.entries.items
+  pub front : length s.entries.items ≤ s.rows
+  pub room : s.rows ≤ vec_capacity s.entries
+  pub places : s.rows * s.widest ≤ vec_capacity s.places
+  pub entries : HasEntries s.widest (length s.places.items) s.entries.items

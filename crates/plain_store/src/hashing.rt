@@ -1,5 +1,5 @@
 // The hash of a row, by its head and the rows of its arguments.
-ghost use Rattle.std.specs.Prelude.{◌≡◌, ◌≤◌, length};
+ghost use Rattle.std.specs.Prelude.{◌≡◌, length};
 ghost use Rattle.term_model.specs.Tree.{head_eq};
 ghost use Rattle.plain_store.specs.Hash.{head_kind, mixed, head_hash, hash_by, pair_hash, hash};
 
@@ -51,6 +51,7 @@ fn mix(hash: u64, word: u64) -> u64
     (hash ^ word).wrapping_mul(11_400_714_819_323_198_485)
 }
 
+// Symbols are below 2^32. Both lists begin alike, since their rows mostly tell them apart.
 #[inline(always)]
 fn hash_head(head: Head) -> u64
     ensures { result ≡ head_hash head }

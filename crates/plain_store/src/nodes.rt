@@ -2,7 +2,7 @@
 ghost use Rattle.std.specs.Prelude.{◌≡◌, ◌+◌, ◌<◌, ◌≤◌, ◌^◌, ℕ, Option, Some, None, IfOk, IfSome, IfNone, IsSome, true, false, length, replicate, take, [], slice_get, slice_index_or};
 ghost use Rattle.std.specs.Option.{option_map};
 ghost use Rattle.plain_store.specs.Slots.{free_slots, slot_at, children, with_slot, HasNone, IsFull, AreSwept, FreesRow};
-ghost use Rattle.plain_store.specs.Index.{IsIndexed};
+ghost use Rattle.plain_store.specs.Index.{IsFront, IsIndexed, IsIndexedTo};
 
 use crate::index::{END, Index};
 use crate::pairs::pair_of;
@@ -18,18 +18,19 @@ use term_model::{Head, Row};
 pub(crate) struct Nodes {
     table: Table,
     index: Index,
+    // how many rows were ever in use: they are the first
+    fresh: u32,
 }
 
 impl Model for Nodes {
-    ghost use Rattle.std.specs.Prelude.{◌≡◌, length};
     ghost use Rattle.plain_store.specs.Slots.{Slots};
-    ghost use Rattle.plain_store.specs.Index.{IsIndexed};
+    ghost use Rattle.plain_store.specs.Index.{IsIndexedTo};
 
     ghost Value = { Slots };
 
     ghost view = { λ s. s.table };
 
-    ghost invariant = { λ s. IsIndexed s.table.slots s.index × (length s.index.nexts ≡ length s.table.slots) };
+    ghost invariant = { λ s. IsIndexedTo s.fresh s.table.slots s.index };
 }
 
 // Puts a row into the chain of its bucket, or on the stack of free rows.
@@ -49,32 +50,75 @@ fn add(table: &Table, index: &mut Index, row: Row)
     }
 }
 
-// Puts all rows where they are looked for.
-fn add_all(table: &Table, index: &mut Index)
-    requires room { length index.old.nexts ≡ length table.now.slots }
-    requires none { IsIndexed [] index.old }
-    ensures indexed { IsIndexed table.now.slots index.new }
-    ensures room { length index.new.nexts ≡ length index.old.nexts }
+// Gives the last of the freed rows a head and arguments, if there is one.
+fn reuse(
+    table: &mut Table,
+    index: &mut Index,
+    fresh: u32,
+    head: Head,
+    arguments: &[Row],
+) -> Option<Row>
+    requires room { length arguments.now ≤ table.old.widest }
+    requires indexed { IsIndexedTo fresh table.old.slots index.old }
+    ensures free { IfSome result (λ row. slot_at table.old row ≡ None) }
+    ensures below { IfSome result (λ row. row.0 < length table.old.slots) }
+    ensures made { IfSome result
+        (λ row. table.new ≡ with_slot table.old row (Some (head, arguments.now))) }
+    ensures none { IfNone result (index.old.free ≡ []) }
+    ensures unchanged { IfNone result ((table.new ≡ table.old) × (index.new ≡ index.old)) }
+    ensures indexed { IsIndexedTo fresh table.new.slots index.new }
 {
-    for i in 0..table.len() {
-        add(table, index, Row(i));
-    }
+    let row = index.take_free()?;
+    table.set(row, head, arguments);
+    let bucket = index.bucket(head, arguments);
+    index.link(bucket, row);
+    Some(row)
 }
 
-// Frees the rows that aren't marked, puts the others where they are looked for, and says whether
-// there were any to free.
-fn sweep_rows(table: &mut Table, index: &mut Index, marks: &Marks) -> bool
+// Gives the first row that was never in use a head and arguments, if there is one.
+fn take_fresh(
+    table: &mut Table,
+    index: &mut Index,
+    fresh: &mut u32,
+    head: Head,
+    arguments: &[Row],
+) -> Option<Row>
+    requires room { length arguments.now ≤ table.old.widest }
+    requires none { index.old.free ≡ [] }
+    requires indexed { IsIndexedTo fresh.old table.old.slots index.old }
+    ensures free { IfSome result (λ row. slot_at table.old row ≡ None) }
+    ensures below { IfSome result (λ row. row.0 < length table.old.slots) }
+    ensures made { IfSome result
+        (λ row. table.new ≡ with_slot table.old row (Some (head, arguments.now))) }
+    ensures full { IfNone result (IsFull table.old) }
+    ensures unchanged { IfNone result (table.new ≡ table.old) }
+    ensures indexed { IsIndexedTo fresh.new table.new.slots index.new }
+{
+    let row = Row(*fresh);
+    if row.0 == table.len() {
+        return None;
+    }
+    table.set(row, head, arguments);
+    let bucket = index.bucket(head, arguments);
+    index.link(bucket, row);
+    *fresh += 1;
+    Some(row)
+}
+
+// Frees the rows that aren't marked, of those that were ever in use, puts the others where they are
+// looked for, and says whether there were any to free.
+fn sweep_rows(table: &mut Table, index: &mut Index, fresh: u32, marks: &Marks) -> bool
     requires marks { length marks.now ≡ length table.old.slots }
     requires room { length index.old.nexts ≡ length table.old.slots }
+    requires front { IsFront fresh table.old.slots }
     requires none { IsIndexed [] index.old }
     ensures swept { AreSwept marks.now table.old table.new }
     ensures none { result ≡ false → table.new ≡ table.old }
     ensures some { result ≡ true → FreesRow table.old table.new }
-    ensures indexed { IsIndexed table.new.slots index.new }
-    ensures room { length index.new.nexts ≡ length index.old.nexts }
+    ensures indexed { IsIndexedTo fresh table.new.slots index.new }
 {
     let mut lost = false;
-    for i in 0..table.len() {
+    for i in 0..fresh {
         let kept = marks.has(Row(i));
         let freed = table.keep_if(Row(i), kept);
         add(table, index, Row(i));
@@ -89,9 +133,12 @@ impl Nodes {
         ensures { IfOk result (λ nodes. nodes ≡ free_slots rows widest) }
     {
         let table = Table::new(alloc, rows, widest)?;
-        let mut index = Index::new(alloc, rows)?;
-        add_all(&table, &mut index);
-        Ok(Nodes { table, index })
+        let index = Index::new(alloc, rows)?;
+        Ok(Nodes {
+            table,
+            index,
+            fresh: 0,
+        })
     }
 
     /// The row that has this head over these rows, if it is the first of its chain and they are at
@@ -141,11 +188,23 @@ impl Nodes {
         ensures full { IfNone result (IsFull self.old) }
         ensures unchanged { IfNone result (self.new ≡ self.old) }
     {
-        let row = self.index.take_free()?;
-        self.table.set(row, head, arguments);
-        let bucket = self.index.bucket(head, arguments);
-        self.index.link(bucket, row);
-        Some(row)
+        let made = reuse(
+            &mut self.table,
+            &mut self.index,
+            self.fresh,
+            head,
+            arguments,
+        );
+        if let Some(row) = made {
+            return Some(row);
+        }
+        take_fresh(
+            &mut self.table,
+            &mut self.index,
+            &mut self.fresh,
+            head,
+            arguments,
+        )
     }
 
     /// Frees the rows that aren't marked, and says whether there were any.
@@ -156,7 +215,7 @@ impl Nodes {
         ensures some { result ≡ true → FreesRow self.old self.new }
     {
         self.index.clear();
-        sweep_rows(&mut self.table, &mut self.index, marks)
+        sweep_rows(&mut self.table, &mut self.index, self.fresh, marks)
     }
 
     /// The head of a row, which a free row doesn't have.

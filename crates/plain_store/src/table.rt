@@ -1,8 +1,8 @@
 // What the rows have, in flat arrays.
-ghost use Rattle.std.specs.Prelude.{◌≡◌, ◌+◌, ◌<◌, ◌≤◌, ◌*◌, ◌^◌, ◌↔◌, ℕ, Option, Some, None, IfOk, IsSome, IsTrue, true, false, length, take, drop, replicate, slice_get, slice_index_or};
+ghost use Rattle.std.specs.Prelude.{◌≡◌, ◌+◌, ◌-◌, ◌++◌, ◌<◌, ◌≤◌, ◌*◌, ◌^◌, ◌↔◌, ℕ, Option, Some, None, IfOk, IsSome, IsTrue, true, false, length, take, drop, replicate, slice_get, slice_index_or, vec_capacity};
 ghost use Rattle.std.specs.Option.{option_map};
-ghost use Rattle.plain_store.specs.Pairs.{filled};
-ghost use Rattle.plain_store.specs.Flat.{written};
+ghost use Rattle.plain_store.specs.Pairs.{filled, no_row};
+ghost use Rattle.plain_store.specs.Flat.{written, reached};
 ghost use Rattle.plain_store.specs.Slots.{free_slots, slot_at, children, with_slot, kept_if};
 
 use crate::hashing::same_head;
@@ -29,11 +29,13 @@ const FREE: Entry = Entry {
     used: false,
 };
 
-/// Rows with room for so many arguments each. Contracts see what each row has.
+/// Rows with room for so many arguments each. Contracts see what each row has. Entries and places
+/// are there up to the last row that ever needed them, so one that was never in use isn't written.
 #[derive(Drop)]
 pub(crate) struct Table {
     entries: Vec<Entry>,
     places: Vec<Row>,
+    rows: u32,
     widest: u32,
 }
 
@@ -80,24 +82,49 @@ fn write(places: &mut [Row], from: usize, rows: &[Row])
     part.copy_from_slice(rows);
 }
 
+// Makes entries of free rows up to this row's, where they lack.
+fn reach(entries: &mut Vec<Entry>, row: Row)
+    requires { row.0 < vec_capacity entries.old }
+    ensures items { entries.new.items ≡ reached row.0 entries.old.items }
+    ensures room { vec_capacity entries.old ≤ vec_capacity entries.new }
+{
+    if entries.len() <= row.0 as usize {
+        let _ = entries.resize(row.0 as usize + 1, FREE);
+    }
+}
+
+// Makes so many places, where they lack.
+fn reach_places(places: &mut Vec<Row>, end: usize)
+    requires { end ≤ vec_capacity places.old }
+    ensures items { places.new.items
+        ≡ places.old.items ++ replicate (end - length places.old.items) no_row }
+    ensures room { vec_capacity places.old ≤ vec_capacity places.new }
+{
+    if places.len() < end {
+        let _ = places.resize(end, Row(0));
+    }
+}
+
 impl Table {
     /// So many free rows. All their memory is taken here.
     pub(crate) fn new(alloc: Global, rows: u32, widest: u32) -> Result<Table, Memory>
         ensures { IfOk result (λ table. table ≡ free_slots rows widest) }
     {
-        let entries = vec![in alloc; FREE; rows as usize]?;
-        let places = vec![in alloc; Row(0); rows as usize * widest as usize]?;
+        let entries = Vec::with_capacity(alloc, rows as usize)?;
+        let places = Vec::with_capacity(alloc, rows as usize * widest as usize)?;
         Ok(Table {
             entries,
             places,
+            rows,
             widest,
         })
     }
 
-    /// Whether the row has this head over these rows.
+    /// Whether the row, which is in use, has this head over these rows.
     #[inline(always)]
     pub(crate) fn is(&self, row: Row, head: Head, arguments: &[Row]) -> bool
-        requires { row.0 < length self.now.slots }
+        requires below { row.0 < length self.now.slots }
+        requires used { slot_at self.now row ≡ None → ⊥ }
         ensures { IsTrue result ↔ (slot_at self.now row ≡ Some (head, arguments.now)) }
     {
         match pair_of(arguments) {
@@ -106,10 +133,11 @@ impl Table {
         }
     }
 
-    /// Whether the row has this head over so many rows, which stand in the pair.
+    /// Whether the row, which is in use, has this head over so many rows, which stand in the pair.
     #[inline(always)]
     pub(crate) fn is_pair(&self, row: Row, head: Head, pair: Pair, count: u32) -> bool
         requires below { row.0 < length self.now.slots }
+        requires used { slot_at self.now row ≡ None → ⊥ }
         requires few { count ≤ 2 }
         requires filled { pair ≡ filled (take count pair) }
         ensures { IsTrue result ↔ (slot_at self.now row ≡ Some (head, take count pair)) }
@@ -153,6 +181,7 @@ impl Table {
         requires filled { pair ≡ filled (take count pair) }
         ensures { self.new ≡ with_slot self.old row (Some (head, take count pair)) }
     {
+        reach(&mut self.entries, row);
         self.entries[row.0 as usize] = Entry {
             head,
             pair,
@@ -169,6 +198,8 @@ impl Table {
         ensures { self.new ≡ with_slot self.old row (Some (head, arguments.now)) }
     {
         let from = row.0 as usize * self.widest as usize;
+        reach(&mut self.entries, row);
+        reach_places(&mut self.places, from + self.widest as usize);
         write(&mut self.places, from, arguments);
         self.entries[row.0 as usize] = Entry {
             head,
@@ -196,7 +227,7 @@ impl Table {
     pub(crate) fn len(&self) -> u32
         ensures { result ≡ length self.now.slots }
     {
-        self.entries.len() as u32
+        self.rows
     }
 
     /// The head of a row, which a free row doesn't have.
@@ -205,6 +236,9 @@ impl Table {
         requires { row.0 < length self.now.slots }
         ensures { result ≡ option_map (λ n. n.0) (slot_at self.now row) }
     {
+        if row.0 as usize >= self.entries.len() {
+            return None;
+        }
         let entry = self.entries[row.0 as usize];
         if entry.used { Some(entry.head) } else { None }
     }
@@ -216,6 +250,9 @@ impl Table {
         ensures arguments { result.now ≡ children self.now row }
         ensures fits { length result.now < 2 ^ 32 }
     {
+        if row.0 as usize >= self.entries.len() {
+            return &[];
+        }
         let entry = &self.entries[row.0 as usize];
         let count = entry.count as usize;
         if count <= 2 {

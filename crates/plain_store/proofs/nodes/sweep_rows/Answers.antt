@@ -1,10 +1,11 @@
-use Rattle.std.proofs.Common.{◌∙◌, ◌+◌, ◌<◌, ◌≤◌, false, sym, ap, length, take, arith, get_or, refl, subst, List}
-use Rattle.std.proofs.lemmas.List.{take-set, length-set, take_all}
+use Rattle.std.proofs.Common.{◌≡◌, ◌∙◌, ◌+◌, ◌<◌, false, sym, ap, length, take, arith, get_or, refl, subst, List}
+use Rattle.std.proofs.lemmas.List.{take-set, length-set}
 use Rattle.term_model.specs.declared.Row.{Row}
 use Rattle.term_model.proofs.Members.{same_test}
 use Rattle.plain_store.specs.Slots.{Slots, Slot, slot_at, kept_if}
 use Rattle.plain_store.specs.Index.{IsIndexed}
 use Rattle.plain_store.proofs.Rows.{Sweeping, sweeping_none, sweeping_more, sweeping_all, Freed, freed_more, freed_here, freed_row}
+use Rattle.plain_store.proofs.Fronts.{front_swept}
 use Rattle.plain_store.proofs.nodes.sweep_rows.Goals as goal
 use Rattle.plain_store.proofs.nodes.sweep_rows.Goals.{then-lost, else-lost}
 
@@ -32,7 +33,7 @@ pub loop-i-preserved : goal.loop-i-preserved
 loop-i-preserved c =
     let row : Row = record { 0 = c.loop-i.i } in
     let told = same_test c.has-kept.result (get_or c.args.marks.now c.loop-i.i false) c.has-kept.ensures.0 c.has-kept.ensures.1 in
-    let below : c.loop-i.i < length c.loop-i.table.slots = omega (arith, c.loop-i.invariant.rows.size, c.len-i-end.ensures) in
+    let below : c.loop-i.i < length c.loop-i.table.slots = omega (arith, c.loop-i.invariant.rows.size, c.loop-i-test.true, c.requires.front.fits) in
     record {
       rows = subst (λ (s : Slots). Sweeping c.args.marks.now c.args.table.now s (c.loop-i.i + 1)) (sym c.keep_if-freed.ensures.kept)
           (sweeping_more c.args.marks.now c.args.table.now c.loop-i.table row c.has-kept.result c.loop-i.invariant.rows below told);
@@ -53,7 +54,9 @@ loop-i-preserved c =
     }
 
 pub returns-clause-swept : goal.returns-clause-swept
-returns-clause-swept c = sweeping_all _ _ _ c.loop-i.i c.loop-i.invariant.rows (omega arith)
+returns-clause-swept c =
+    let all : c.loop-i.i ≡ c.args.fresh = omega (arith, c.loop-i-test.false) in
+    sweeping_all _ _ _ c.args.fresh (subst (Sweeping c.args.marks.now c.args.table.now c.loop-i.table) all c.loop-i.invariant.rows) c.requires.front
 
 pub returns-clause-some : goal.returns-clause-some
 returns-clause-some c = λ h. freed_row _ _ _ (c.loop-i.invariant.some h)
@@ -63,6 +66,7 @@ returns-clause-none c = c.loop-i.invariant.none
 
 pub returns-clause-indexed : goal.returns-clause-indexed
 returns-clause-indexed c =
-    let slots = c.loop-i.table.slots in
-    let over : length slots ≤ c.loop-i.i = omega (arith, c.loop-i.invariant.rows.size, c.len-i-end.ensures) in
-    subst (λ (xs : List Slot). IsIndexed xs c.loop-i.index) (take_all c.loop-i.i slots over) c.loop-i.invariant.indexed
+    let all : c.loop-i.i ≡ c.args.fresh = omega (arith, c.loop-i-test.false) in
+    front_swept c.args.marks.now c.args.table.now c.loop-i.table c.args.fresh c.loop-i.index
+    (subst (Sweeping c.args.marks.now c.args.table.now c.loop-i.table) all c.loop-i.invariant.rows) c.requires.front (c.loop-i.invariant.room ∙ c.requires.room)
+    (subst (λ i. IsIndexed (take i c.loop-i.table.slots) c.loop-i.index) all c.loop-i.invariant.indexed)

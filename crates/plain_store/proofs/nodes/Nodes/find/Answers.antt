@@ -2,7 +2,7 @@ use Rattle.std.proofs.Common.{◌≡◌, ◌∙◌, true, false, None, get_or, r
 use Rattle.plain_store.specs.Slots.{Slots}
 use Rattle.plain_store.specs.Index.{end}
 use Rattle.plain_store.proofs.Placing.{node_of}
-use Rattle.plain_store.proofs.Indexing.{ahead_at_first, ahead_is, ahead_below, ahead_more}
+use Rattle.plain_store.proofs.Indexing.{ahead_at_first, ahead_is, ahead_below, ahead_used, ahead_more, ahead_at_end}
 use Rattle.plain_store.proofs.nodes.Nodes.find.Goals as goal
 
 pub loop-passed-init : goal.loop-passed-init
@@ -10,12 +10,17 @@ loop-passed-init c =
     let x = c.self.inside.index in
     let slots = ap (λ (s : Slots). s.slots) c.self.view_is in
     ahead_is c.self.inside.table.slots c.args.self.now.slots x.nexts (node_of c.args.head c.args.arguments.now) _ c.first-at.result 0 slots c.first-at.ensures
-    (ahead_at_first c.self.inside.table.slots x c.args.head c.args.arguments.now c.bucket.result c.bucket.ensures.bucket c.bucket.ensures.below c.self.invariant.0)
+    (ahead_at_first c.self.inside.fresh c.self.inside.table.slots x c.args.head c.args.arguments.now c.bucket.result c.bucket.ensures.bucket c.bucket.ensures.below c.self.invariant)
 
-pub is-requires : goal.is-requires
-is-requires c =
+pub is-requires-clause-below : goal.is-requires-clause-below
+is-requires-clause-below c =
     let below = ahead_below c.args.self.now.slots c.self.inside.index.nexts (node_of c.args.head c.args.arguments.now) c.loop-passed.at c.loop-passed.passed c.loop-passed.invariant c.if-at.false in
-    omega (arith, below, c.self.invariant.1)
+    omega (arith, below, c.self.invariant.room)
+
+pub is-requires-clause-used : goal.is-requires-clause-used
+is-requires-clause-used c =
+    let used = ahead_used c.args.self.now.slots c.self.inside.index.nexts (node_of c.args.head c.args.arguments.now) c.loop-passed.at c.loop-passed.passed c.loop-passed.invariant c.if-at.false in
+    λ e. used (ap (λ (s : Slots). get_or s.slots c.loop-passed.at None) (sym c.self.view_is) ∙ e)
 
 pub next-at-requires : goal.next-at-requires
 next-at-requires c =
@@ -31,3 +36,7 @@ loop-passed-preserved c =
     let other : get_or slots at None ≡ wanted → ⊥ = λ e. (let t : true ≡ false = sym (c.is.ensures.1 (same ∙ e)) ∙ c.if-is.false in absurd (cc)) in
     ahead_is slots slots nexts wanted (get_or nexts at end) c.next-at.result _ refl c.next-at.ensures
     (ahead_more slots nexts wanted at c.loop-passed.passed c.loop-passed.invariant c.if-at.false other)
+
+pub returns-then-at-clause-absent : goal.returns-then-at-clause-absent
+returns-then-at-clause-absent c =
+    ahead_at_end c.args.self.now.slots c.self.inside.index.nexts (node_of c.args.head c.args.arguments.now) c.loop-passed.at c.loop-passed.passed c.loop-passed.invariant c.self.invariant.indexed.below c.if-at.true

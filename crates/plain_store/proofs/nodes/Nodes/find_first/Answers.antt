@@ -3,7 +3,7 @@ use Rattle.term_model.specs.declared.Row.{Row}
 use Rattle.plain_store.specs.Slots.{Slots, slot_at}
 use Rattle.plain_store.specs.Hash.{hash, pair_hash}
 use Rattle.plain_store.proofs.Placing.{node_of}
-use Rattle.plain_store.proofs.Indexing.{Ahead, ahead_at_first, ahead_below}
+use Rattle.plain_store.proofs.Indexing.{Ahead, ahead_at_first, ahead_below, ahead_used}
 use Rattle.plain_store.proofs.Pairing.{first_in_pair, pair_filled, pair_has_two, hash_few}
 use Rattle.plain_store.proofs.nodes.Nodes.find_first.Goals as goal
 
@@ -18,9 +18,20 @@ is_pair-requires-clause-below c =
     let rows = c.args.arguments.now in
     let b = c.bucket_of_pair.result in
     let is : b ≡ hash c.args.head rows / 2 ^ x.shift = c.bucket_of_pair.ensures.bucket ∙ ap (λ (xs : List Row). pair_hash c.args.head xs / 2 ^ x.shift) c.in_ok-pair.ensures.filled ∙ ap (λ n. n / 2 ^ x.shift) (sym (hash_few c.args.head rows c.in_ok-pair.ensures.few)) in
-    let ahead = ahead_at_first slots x c.args.head rows b is c.bucket_of_pair.ensures.below c.self.invariant.0 in
+    let ahead = ahead_at_first c.self.inside.fresh slots x c.args.head rows b is c.bucket_of_pair.ensures.below c.self.invariant in
     let at = subst (λ (n : ℕ). Ahead slots x.nexts (node_of c.args.head rows) n 0) (sym c.first-at.ensures) ahead in
-    omega (arith, ahead_below slots x.nexts (node_of c.args.head rows) c.first-at.result 0 at c.if-at.false, c.self.invariant.1)
+    omega (arith, ahead_below slots x.nexts (node_of c.args.head rows) c.first-at.result 0 at c.if-at.false, c.self.invariant.room)
+
+pub is_pair-requires-clause-used : goal.is_pair-requires-clause-used
+is_pair-requires-clause-used c =
+    let x = c.self.inside.index in
+    let slots = c.self.inside.table.slots in
+    let rows = c.args.arguments.now in
+    let b = c.bucket_of_pair.result in
+    let is : b ≡ hash c.args.head rows / 2 ^ x.shift = c.bucket_of_pair.ensures.bucket ∙ ap (λ (xs : List Row). pair_hash c.args.head xs / 2 ^ x.shift) c.in_ok-pair.ensures.filled ∙ ap (λ n. n / 2 ^ x.shift) (sym (hash_few c.args.head rows c.in_ok-pair.ensures.few)) in
+    let ahead = ahead_at_first c.self.inside.fresh slots x c.args.head rows b is c.bucket_of_pair.ensures.below c.self.invariant in
+    let at = subst (λ (n : ℕ). Ahead slots x.nexts (node_of c.args.head rows) n 0) (sym c.first-at.ensures) ahead in
+    ahead_used slots x.nexts (node_of c.args.head rows) c.first-at.result 0 at c.if-at.false
 
 pub is_pair-requires-clause-filled : goal.is_pair-requires-clause-filled
 is_pair-requires-clause-filled c =

@@ -6,7 +6,8 @@ use Rattle.term_model.proofs.Equality.{head_eq_refl, head_eq_sound}
 use Rattle.plain_store.specs.Slots.{Slots}
 use Rattle.plain_store.specs.Flat.{IsEntry}
 use Rattle.plain_store.proofs.Pairing.{filled_has_two}
-use Rattle.plain_store.proofs.Flattened.{length-slots_of, slot_is, place_below}
+use Rattle.plain_store.proofs.Flattened.{slot_is}
+use Rattle.plain_store.proofs.Filling.{used_below}
 use Rattle.plain_store.proofs.Looking.{HasPair, pair_told, pair_shows}
 use Rattle.plain_store.proofs.table.Table.is_pair.Goals as goal
 use Rattle.plain_store.proofs.table.Table.is_pair.Goals.{then-not-entry-via-then-not-entry, then-not-entry-via-else-not-entry+then-entry-count}
@@ -14,21 +15,22 @@ use Rattle.plain_store.proofs.table.Table.is_pair.Goals.{then-not-entry-via-then
 pub index-entry-requires : goal.index-entry-requires
 index-entry-requires c =
     let s = c.self.inside in
-    let shown = ap (λ (x : Slots). length x.slots) c.self.view_is in
-    omega (arith, shown, length-slots_of s.widest s.entries.items s.places.items, s.entries.ok.0, c.requires.below)
+    let shown = ap (λ (x : Slots). x.slots) c.self.view_is in
+    let lt = used_below s.widest s.rows s.entries.items s.places.items c.args.self.now.slots c.args.row.0 shown c.requires.used in
+    omega (arith, lt, s.entries.ok.0)
 
 pub returns-then-not-entry : goal.returns-then-not-entry
 returns-then-not-entry c =
     let s = c.self.inside in
     let k = c.args.row.0 in
     let e = c.index-entry.result.now in
-    let shown = ap (λ (x : Slots). length x.slots) c.self.view_is in
-    let lt : k < length s.entries.items = omega (arith, shown, length-slots_of s.widest s.entries.items s.places.items, c.requires.below) in
-    let ok = subst (IsEntry s.widest) (sym c.index-entry.ensures) (c.self.invariant.entries k e lt) in
+    let shown = ap (λ (x : Slots). x.slots) c.self.view_is in
+    let lt = used_below s.widest s.rows s.entries.items s.places.items c.args.self.now.slots k shown c.requires.used in
+    let ok = subst (IsEntry s.widest (length s.places.items) k) (sym c.index-entry.ensures) (c.self.invariant.entries k e lt) in
     let places = drop (k * s.widest) s.places.items in
-    let is = slot_is s.widest s.entries.items s.places.items c.args.self.now.slots k e (ap (λ (x : Slots). x.slots) c.self.view_is) c.requires.below c.index-entry.ensures in
-    let fits : e.count ≤ length places = omega (arith, length-drop (k * s.widest) s.places.items, place_below (length s.entries.items) k s.widest e.count lt ok.fits, c.self.invariant.places) in
-    let told = pair_told s.widest e places (get_or c.args.self.now.slots k None) c.args.head c.args.pair c.args.count ok fits is c.requires.few c.requires.filled in
+    let is = slot_is s.widest s.rows s.entries.items s.places.items c.args.self.now.slots k e shown lt c.index-entry.ensures in
+    let fits : 2 < e.count → e.count ≤ length places = λ many. (let there = ok.places many in omega (arith, there, length-drop (k * s.widest) s.places.items, ok.fits)) in
+    let told = pair_told s.widest (length s.places.items) k e places (get_or c.args.self.now.slots k None) c.args.head c.args.pair c.args.count ok fits is c.requires.few c.requires.filled in
     elim c.then-not-entry.branch [
       | then-not-entry-via-then-not-entry w ↦ (λ t. absurd (cc), λ given. (let used = (told given).used in absurd (cc)))
       | then-not-entry-via-else-not-entry+then-entry-count w ↦ (λ t. absurd (cc), λ given. absurd (w.if-entry-count.true (told given).count))
@@ -39,11 +41,11 @@ same_pair-requires c =
     let s = c.self.inside in
     let k = c.args.row.0 in
     let e = c.index-entry.result.now in
-    let shown = ap (λ (x : Slots). length x.slots) c.self.view_is in
-    let lt : k < length s.entries.items = omega (arith, shown, length-slots_of s.widest s.entries.items s.places.items, c.requires.below) in
-    let ok = subst (IsEntry s.widest) (sym c.index-entry.ensures) (c.self.invariant.entries k e lt) in
+    let shown = ap (λ (x : Slots). x.slots) c.self.view_is in
+    let lt = used_below s.widest s.rows s.entries.items s.places.items c.args.self.now.slots k shown c.requires.used in
+    let ok = subst (IsEntry s.widest (length s.places.items) k) (sym c.index-entry.ensures) (c.self.invariant.entries k e lt) in
     let places = drop (k * s.widest) s.places.items in
-    let is = slot_is s.widest s.entries.items s.places.items c.args.self.now.slots k e (ap (λ (x : Slots). x.slots) c.self.view_is) c.requires.below c.index-entry.ensures in
+    let is = slot_is s.widest s.rows s.entries.items s.places.items c.args.self.now.slots k e shown lt c.index-entry.ensures in
     let few : e.count ≤ 2 = omega (arith, c.if-entry-count.false, c.requires.few) in
     (filled_has_two e.pair e.count (ok.pair few) few, filled_has_two c.args.pair c.args.count c.requires.filled c.requires.few)
 
@@ -52,13 +54,13 @@ returns-then-same_pair c =
     let s = c.self.inside in
     let k = c.args.row.0 in
     let e = c.index-entry.result.now in
-    let shown = ap (λ (x : Slots). length x.slots) c.self.view_is in
-    let lt : k < length s.entries.items = omega (arith, shown, length-slots_of s.widest s.entries.items s.places.items, c.requires.below) in
-    let ok = subst (IsEntry s.widest) (sym c.index-entry.ensures) (c.self.invariant.entries k e lt) in
+    let shown = ap (λ (x : Slots). x.slots) c.self.view_is in
+    let lt = used_below s.widest s.rows s.entries.items s.places.items c.args.self.now.slots k shown c.requires.used in
+    let ok = subst (IsEntry s.widest (length s.places.items) k) (sym c.index-entry.ensures) (c.self.invariant.entries k e lt) in
     let places = drop (k * s.widest) s.places.items in
-    let is = slot_is s.widest s.entries.items s.places.items c.args.self.now.slots k e (ap (λ (x : Slots). x.slots) c.self.view_is) c.requires.below c.index-entry.ensures in
-    let fits : e.count ≤ length places = omega (arith, length-drop (k * s.widest) s.places.items, place_below (length s.entries.items) k s.widest e.count lt ok.fits, c.self.invariant.places) in
-    let told = pair_told s.widest e places (get_or c.args.self.now.slots k None) c.args.head c.args.pair c.args.count ok fits is c.requires.few c.requires.filled in (
+    let is = slot_is s.widest s.rows s.entries.items s.places.items c.args.self.now.slots k e shown lt c.index-entry.ensures in
+    let fits : 2 < e.count → e.count ≤ length places = λ many. (let there = ok.places many in omega (arith, there, length-drop (k * s.widest) s.places.items, ok.fits)) in
+    let told = pair_told s.widest (length s.places.items) k e places (get_or c.args.self.now.slots k None) c.args.head c.args.pair c.args.count ok fits is c.requires.few c.requires.filled in (
       λ t. (
           let heads = head_eq_sound e.head c.args.head (sym c.same_head.ensures ∙ t) in
           let has : HasPair e c.args.head c.args.pair c.args.count = record { used = c.if-not-entry.false; count = c.if-entry-count.false; same = c.same_pair.ensures.0 c.if-same_pair.true; head = heads } in
@@ -71,11 +73,11 @@ returns-else-same_pair c =
     let s = c.self.inside in
     let k = c.args.row.0 in
     let e = c.index-entry.result.now in
-    let shown = ap (λ (x : Slots). length x.slots) c.self.view_is in
-    let lt : k < length s.entries.items = omega (arith, shown, length-slots_of s.widest s.entries.items s.places.items, c.requires.below) in
-    let ok = subst (IsEntry s.widest) (sym c.index-entry.ensures) (c.self.invariant.entries k e lt) in
+    let shown = ap (λ (x : Slots). x.slots) c.self.view_is in
+    let lt = used_below s.widest s.rows s.entries.items s.places.items c.args.self.now.slots k shown c.requires.used in
+    let ok = subst (IsEntry s.widest (length s.places.items) k) (sym c.index-entry.ensures) (c.self.invariant.entries k e lt) in
     let places = drop (k * s.widest) s.places.items in
-    let is = slot_is s.widest s.entries.items s.places.items c.args.self.now.slots k e (ap (λ (x : Slots). x.slots) c.self.view_is) c.requires.below c.index-entry.ensures in
-    let fits : e.count ≤ length places = omega (arith, length-drop (k * s.widest) s.places.items, place_below (length s.entries.items) k s.widest e.count lt ok.fits, c.self.invariant.places) in
-    let told = pair_told s.widest e places (get_or c.args.self.now.slots k None) c.args.head c.args.pair c.args.count ok fits is c.requires.few c.requires.filled in
+    let is = slot_is s.widest s.rows s.entries.items s.places.items c.args.self.now.slots k e shown lt c.index-entry.ensures in
+    let fits : 2 < e.count → e.count ≤ length places = λ many. (let there = ok.places many in omega (arith, there, length-drop (k * s.widest) s.places.items, ok.fits)) in
+    let told = pair_told s.widest (length s.places.items) k e places (get_or c.args.self.now.slots k None) c.args.head c.args.pair c.args.count ok fits is c.requires.few c.requires.filled in
     (λ t. (let f : true ≡ false = sym t ∙ c.if-same_pair.false in absurd (cc)), λ given. c.same_pair.ensures.1 (told given).same)

@@ -1,17 +1,15 @@
-use Rattle.std.proofs.Common.{◌∙◌, ◌≡◌, List, [], ◌∷◌, false, ap, refl, rules}
+use Rattle.std.proofs.Common.{◌∙◌, ◌≡◌, ◌-◌, ℕ, List, None, ap, arith}
 use Rattle.std.specs.Prelude.{replicate}
-use Rattle.term_model.specs.declared.Head.TheVariants.{Nil}
 use Rattle.plain_store.specs.declared.table.Entry.{Entry}
 use Rattle.plain_store.specs.Slots.{Slots, Slot}
-use Rattle.plain_store.specs.Pairs.{no_row}
-use Rattle.plain_store.specs.Flat.{slots_of}
-use Rattle.plain_store.proofs.Flattened.{free-slots}
+use Rattle.plain_store.specs.Flat.{all_slots}
 use Rattle.plain_store.proofs.table.Table.new.Goals as goal
 
 pub returns : goal.returns
 returns c =
     let w = c.args.widest in
-    let free : Entry = record { head = Nil; pair = no_row ∷ no_row ∷ []; count = 0; used = false } in
-    let places = c.in_ok-places.places.items in
-    let entries : c.in_ok-entries.entries.items ≡ replicate c.args.rows free = c.in_ok-entries.ensures.items_if_clones_equal (search rules) in
-    ap (λ (xs : List Slot). let s : Slots = record { slots = xs; widest = w } in s) (ap (λ (es : List Entry). slots_of w es places) entries ∙ free-slots w c.args.rows free places refl)
+    let rows = c.args.rows in
+    let none : Slot = None in
+    let whole : rows - 0 ≡ rows = omega arith in
+    ap (λ (es : List Entry). let s : Slots = record { slots = all_slots w rows es c.in_ok-places.places.items; widest = w } in s) c.in_ok-entries.ensures.items
+    ∙ ap (λ (n : ℕ). let s : Slots = record { slots = replicate n none; widest = w } in s) whole

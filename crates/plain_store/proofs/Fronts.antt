@@ -1,0 +1,74 @@
+-- The rows that were in use at some time, and those that never were.
+use Rattle.std.proofs.Common.{◌≡◌, ◌≢◌, ℕ, ◌+◌, ◌<◌, ◌≤◌, List, [], ◌∷◌, ◌++◌, Some, None, length, take, get_or, ap, sym, ◌∙◌, subst, arith}
+use Rattle.std.proofs.Math.ListN.{set}
+use Rattle.std.proofs.Math.Seq.{take-set-lt}
+use Rattle.std.specs.Prelude.{Bool, replicate}
+use Rattle.std.proofs.lemmas.List.{length-set, length-take, length-replicate, take-set, get_or-set_same, get_or-set_other}
+use Rattle.term_model.specs.declared.Row.{Row}
+use Rattle.plain_store.specs.Slots.{Slots, Slot}
+use Rattle.plain_store.specs.Index.{Index, linked, bucket_of, IsIndexed, IsFront, IsIndexedTo}
+use Rattle.plain_store.proofs.Rows.{none_at, Sweeping}
+use Rattle.plain_store.proofs.Linking.{linked_nexts}
+use Rattle.plain_store.proofs.Indexing.{front_at, made_used, added, last_is_free, none_free}
+
+-- a store at first
+pub indexed_at_first : (rows : ℕ) (x : Index) → length x.nexts ≡ rows → IsIndexed [] x → IsIndexedTo 0 (replicate rows None) x
+indexed_at_first rows x room h =
+    record {
+      front = record { fits = omega arith; behind = λ k le. none_at rows k };
+      room = room ∙ sym (length-replicate {A = Slot} rows None);
+      indexed = h;
+    }
+
+front_set : (fresh now : ℕ) (slots : List Slot) (k : ℕ) (s : Slot) → k < now → fresh ≤ now → now ≤ length slots → IsFront fresh slots → IsFront now (set slots k s)
+front_set fresh now slots k s lt le fits h =
+    record {
+      fits = omega (arith, fits, length-set slots k s);
+      behind = λ j from. (let ne : j ≢ k = omega (arith, lt, from) in get_or-set_other slots k j s None ne ∙ h.behind j (omega (arith, le, from)));
+    }
+
+-- the last of the freed rows is one that was in use, and is free
+pub last_of_front : (fresh : ℕ) (slots : List Slot) (x : Index) (front : List Row) (k : Row) → x.free ≡ front ++ k ∷ [] → IsIndexedTo fresh slots x → (k.0 < fresh) × (get_or slots k.0 None ≡ None)
+last_of_front fresh slots x front k last h =
+    let own = last_is_free (take fresh slots) x front k last h.indexed in
+    (omega (arith, own.0, length-take fresh slots), sym (front_at fresh slots k.0 h.front) ∙ own.1)
+
+-- it gets a node
+pub front_reused : (fresh : ℕ) (slots : List Slot) (x : Index) (front : List Row) (k : Row) (s : Slot) (b : ℕ) → x.free ≡ front ++ k ∷ [] → bucket_of x.shift s ≡ Some b → b < length x.firsts → IsIndexedTo fresh slots x → IsIndexedTo fresh (set slots k.0 s) (linked (record x { free = front }) b k)
+front_reused fresh slots x front k s b last is bucket h =
+    let y : Index = record x { free = front } in
+    let own = last_of_front fresh slots x front k last h in
+    let fits = h.front.fits in
+    record {
+      front = front_set fresh fresh slots k.0 s own.0 (omega arith) fits h.front;
+      room = linked_nexts y b k ∙ h.room ∙ sym (length-set slots k.0 s);
+      indexed = subst (λ (xs : List Slot). IsIndexed xs (linked y b k)) (sym (take-set-lt fresh slots k.0 s own.0))
+          (made_used (take fresh slots) x front k s b (omega (arith, h.room, length-take fresh slots)) last is bucket h.indexed);
+    }
+
+-- the first row that was never in use gets a node
+pub front_grown : (fresh : ℕ) (slots : List Slot) (x : Index) (s : Slot) (b : ℕ) → fresh < length slots → bucket_of x.shift s ≡ Some b → b < length x.firsts → IsIndexedTo fresh slots x → (let k : Row = record { 0 = fresh } in IsIndexedTo (fresh + 1) (set slots fresh s) (linked x b k))
+front_grown fresh slots x s b lt is bucket h =
+    let k : Row = record { 0 = fresh } in
+    let long = length-set slots fresh s in
+    let here = get_or-set_same slots fresh s None lt in
+    record {
+      front = front_set fresh (fresh + 1) slots fresh s (omega arith) (omega arith) (omega (arith, lt)) h.front;
+      room = linked_nexts x b k ∙ h.room ∙ sym long;
+      indexed = added (set slots fresh s) x k b (omega (arith, lt, long)) (h.room ∙ sym long) (ap (bucket_of x.shift) here ∙ is) bucket
+          (subst (λ (xs : List Slot). IsIndexed xs x) (sym (take-set slots fresh s)) h.indexed);
+    }
+
+-- no row is free where none was freed and each was in use
+pub none_fresh : (fresh : ℕ) (slots : List Slot) (x : Index) → x.free ≡ [] → fresh ≡ length slots → IsIndexedTo fresh slots x → (k : ℕ) → k < length slots → get_or slots k None ≡ None → ⊥
+none_fresh fresh slots x none all h k lt is =
+    none_free (take fresh slots) x none h.indexed k (omega (arith, lt, all, length-take fresh slots)) (front_at fresh slots k h.front ∙ is)
+
+-- a sweep leaves the rows alone that were never in use
+pub front_swept : (marks : List Bool) (was now : Slots) (fresh : ℕ) (x : Index) → Sweeping marks was now fresh → IsFront fresh was.slots → length x.nexts ≡ length was.slots → IsIndexed (take fresh now.slots) x → IsIndexedTo fresh now.slots x
+front_swept marks was now fresh x s h room indexed =
+    record {
+      front = record { fits = omega (arith, h.fits, s.size); behind = λ k le. s.behind k le ∙ h.behind k le };
+      room = room ∙ sym s.size;
+      indexed = indexed;
+    }
