@@ -14,7 +14,7 @@ use crate::token::{Mark, Shape, Token};
 use faults::kinds;
 use read_faults::{ReadFail, refused};
 use std::alloc::Global;
-use tree_text::{begins_name, continues_name};
+use tree_text::continues_name;
 
 /// What begins at a byte: white space of one byte, or a token with the place after it.
 #[derive(Clone, Copy)]
@@ -23,10 +23,24 @@ pub enum Cut {
     Whole(Token, usize),
 }
 
-fn is_space(byte: u8) -> bool
-    ensures { result ≡ spec.is_space byte }
+// Each byte with which a plain name begins is at its own place, and a comma is at every other
+// place.
+static FIRST_BYTES: [u8; 256] = *b"\
+    ,,,,,,,,,,,,,,,,,,,,,,,,,,,,,,,,\
+    ,,,,,,,,,,,,,,,,,,,,,,,,,,,,,,,,\
+    ,ABCDEFGHIJKLMNOPQRSTUVWXYZ,,,,_\
+    ,abcdefghijklmnopqrstuvwxyz,,,,,\
+    ,,,,,,,,,,,,,,,,,,,,,,,,,,,,,,,,\
+    ,,,,,,,,,,,,,,,,,,,,,,,,,,,,,,,,\
+    ,,,,,,,,,,,,,,,,,,,,,,,,,,,,,,,,\
+    ,,,,,,,,,,,,,,,,,,,,,,,,,,,,,,,,";
+
+// Whether a plain name begins with this byte. It is looked up, since most tokens are names.
+#[inline(always)]
+fn begins_name(byte: u8) -> bool
+    ensures { result ≡ name_bytes.begins_name byte }
 {
-    byte == b' ' || byte == b'\t' || byte == b'\r' || byte == b'\n'
+    FIRST_BYTES[byte as usize] != b','
 }
 
 // The place after the name bytes that stand from `start` on.
@@ -56,6 +70,7 @@ fn number_end(bytes: &[u8], start: usize) -> usize
     at
 }
 
+#[inline(always)]
 fn mark_of(byte: u8) -> Option<Mark>
     ensures { result ≡ spec.mark_of byte }
 {
@@ -236,16 +251,14 @@ pub fn piece_at(alloc: Global, bytes: &[u8], at: usize) -> Result<Cut, ReadFail>
     ensures refused { IfErr result (IsDue (spec.piece_at at (drop at bytes.now))) }
 {
     let byte = bytes[at];
-    if is_space(byte) {
-        Ok(Cut::Blank)
-    } else if begins_name(byte) {
-        Ok(plain_name(bytes, at))
-    } else if byte == b'"' {
-        quoted_name(alloc, bytes, at)
-    } else if byte.is_ascii_digit() {
-        Ok(number(bytes, at))
-    } else {
-        mark(bytes, byte, at)
+    if begins_name(byte) {
+        return Ok(plain_name(bytes, at));
+    }
+    match byte {
+        b' ' | b'\t' | b'\r' | b'\n' => Ok(Cut::Blank),
+        b'"' => quoted_name(alloc, bytes, at),
+        b'0'..=b'9' => Ok(number(bytes, at)),
+        _ => mark(bytes, byte, at),
     }
 }
 
