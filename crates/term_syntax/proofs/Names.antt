@@ -5,16 +5,15 @@ use Rattle.symbol_pool.specs.Pool.{Named, named, Lacks, Has, IsFullFor, IsPool, 
 use Rattle.symbol_pool.specs.Taking.{has, with_symbol, is_full_for}
 use Rattle.symbol_pool.proofs.Taking.{has_it, lacks_it, number_is, full_from, not_full, with_old, with_new}
 use Rattle.term_model.specs.declared.Symbol.{Symbol}
-use Rattle.term_model.specs.declared.Item.TheVariants.{App}
 use Rattle.term_syntax.specs.Named.{IsSymbolTaken}
 
 -- a symbol was interned
-pub symbol_taken : (old new : List Named) (name : List ℕ) (count : ℕ) (symbol : Symbol) → length name ≤ 255 → Holds new symbol (named name count) → (Lacks old (named name count) → new ≡ old ++ named name count ∷ []) → (Has old (named name count) → new ≡ old) → (IsFullFor old (named name count) → ⊥) → IsPool new → IsSymbolTaken old name count (App symbol count) new
+pub symbol_taken : (old new : List Named) (name : List ℕ) (count : ℕ) (symbol : Symbol) → length name ≤ 255 → Holds new symbol (named name count) → (Lacks old (named name count) → new ≡ old ++ named name count ∷ []) → (Has old (named name count) → new ≡ old) → (IsFullFor old (named name count) → ⊥) → IsPool new → IsSymbolTaken old name count symbol new
 symbol_taken old new name count symbol short held added found room pool = record {
   short = le-ltb 255 (length name) short;
   room = not_full old (named name count) room;
   pool_is = by (has old (named name count)) refl;
-  item_is = ap (λ k. App (record { 0 = k }) count) (sym (number_is new symbol (named name count) pool held));
+  symbol_is = ap (λ k. record { 0 = k }) (sym (number_is new symbol (named name count) pool held));
 }
   where
     by : (b : Bool) → has old (named name count) ≡ b → new ≡ with_symbol old (named name count)

@@ -1,40 +1,97 @@
 //! Which symbol a name with a number of arguments was lately.
-ghost use Rattle.std.specs.Prelude.{◌≡◌, ◌+◌, ◌<◌, ◌≤◌, IfSome, length, max};
+ghost use Rattle.std.specs.Prelude.{◌≡◌, ◌+◌, ◌*◌, ◌<◌, ◌≤◌, ◌↔◌, IfSome, true, length, max, slice_index};
 ghost use Rattle.symbol_pool.specs.Pool.{Holds, named};
 
 use symbol_pool::Symbols;
 use term_model::Symbol;
 
 /// How many places there are.
-const PLACES: usize = 1024;
+const PLACES: usize = 4096;
 
 /// A symbol at each of some places, one of which a name with a number of arguments has. It is only
 /// a guess, since many have the same place: whoever asks looks whether the symbol is the right one.
 /// A text has many more names than most lists of names, so there are more places here than in
-/// `Symbols`. All symbols that were noted have numbers below `known`.
+/// `Symbols`, each of 16 bits, since all are written at first. All symbols that were noted have
+/// numbers below `known`.
 #[derive(Drop)]
 pub struct Lately {
-    symbols: [u32; PLACES],
+    symbols: [u16; PLACES],
     pub known: u32,
 }
 
-// The place of a name with a number of arguments, by three bytes of the name and by both sizes.
+// Two bytes as one number.
+#[inline(always)]
+fn pair(low: u8, high: u8) -> u32
+    ensures { result ≡ low + high * 256 }
+{
+    u32::from(low) + u32::from(high) * 256
+}
+
+// The bytes of a name that tell most, as one number: both ends, and two between in a long name.
+#[inline(always)]
+fn telling(name: &[u8]) -> u32 {
+    let size = name.len();
+    if size < 2 {
+        return u32::from(name.first().copied().unwrap_or(0));
+    }
+    let front = pair(name[0], name[1]);
+    let back = pair(name[size - 2], name[size - 1]);
+    let ends = back.wrapping_mul(65_536).wrapping_add(front);
+    if size < 5 {
+        return ends;
+    }
+    let between = pair(name[size / 2], name[size - 3]);
+    ends.wrapping_add(between.wrapping_mul(2_048))
+}
+
+// The place of a name with a number of arguments.
 #[inline(always)]
 fn place(name: &[u8], count: u32) -> usize
-    ensures { result < 1024 }
+    ensures { result < 4096 }
+{
+    let size = (name.len() % 256) as u32;
+    let mixed = telling(name)
+        .wrapping_add(size)
+        .wrapping_add(count.wrapping_mul(32));
+    (mixed.wrapping_mul(2_246_822_507) >> 20) as usize % PLACES
+}
+
+// Whether the same two bytes stand at a place of two names.
+#[inline(always)]
+fn is_same_at(name: &[u8], other: &[u8], at: usize) -> bool
+    requires name { at + 1 < length name.now }
+    requires other { at + 1 < length other.now }
+    ensures { (result ≡ true)
+        ↔ (slice_index name.now at ≡ slice_index other.now at)
+        × (slice_index name.now (at + 1) ≡ slice_index other.now (at + 1)) }
+{
+    pair(name[at], name[at + 1]) == pair(other[at], other[at + 1])
+}
+
+// Whether two names are the same. Most are short, so two bytes are compared at once.
+#[inline(always)]
+fn is_same(name: &[u8], other: &[u8]) -> bool
+    ensures { (result ≡ true) ↔ (name.now ≡ other.now) }
 {
     let size = name.len();
-    let first = u32::from(name.first().copied().unwrap_or(0));
-    let middle = u32::from(name.get(size / 2).copied().unwrap_or(0));
-    let last = u32::from(name.last().copied().unwrap_or(0));
-    let sizes = count.wrapping_mul(16).wrapping_add((size % 16) as u32);
-    let ends = first
-        .wrapping_mul(65_536)
-        .wrapping_add(middle.wrapping_mul(256));
-    let mixed = ends
-        .wrapping_add(last)
-        .wrapping_add(sizes.wrapping_mul(16_777_259));
-    (mixed.wrapping_mul(2_654_435_769) >> 16) as usize % PLACES
+    if size != other.len() {
+        return false;
+    }
+    if size < 2 {
+        return size == 0 || name[0] == other[0];
+    }
+    let last = size - 2;
+    if !is_same_at(name, other, 0) || !is_same_at(name, other, last) {
+        return false;
+    }
+    let mut at = 2;
+    while at < last {
+        if !is_same_at(name, other, at) {
+            return false;
+        }
+        at += 2;
+    }
+    true
 }
 
 impl Lately {
@@ -57,11 +114,11 @@ impl Lately {
         ensures held { IfSome result (λ s. Holds symbols.now s (named name.now count)) }
         ensures known { IfSome result (λ s. s.0 < self.now.known) }
     {
-        let symbol = Symbol(self.symbols[place(name, count)]);
+        let symbol = Symbol(u32::from(self.symbols[place(name, count)]));
         if symbol.0 >= self.known {
             return None;
         }
-        if symbols.arity(symbol) == count && symbols.name(symbol) == name {
+        if symbols.arity(symbol) == count && is_same(symbols.name(symbol), name) {
             Some(symbol)
         } else {
             None
@@ -74,7 +131,7 @@ impl Lately {
         requires { symbol.0 < 65535 }
         ensures { self.new.known ≡ max self.old.known (symbol.0 + 1) }
     {
-        self.symbols[place(name, count)] = symbol.0;
+        self.symbols[place(name, count)] = symbol.0 as u16;
         self.known = self.known.max(symbol.0 + 1);
     }
 }

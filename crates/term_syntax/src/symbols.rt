@@ -1,5 +1,5 @@
 //! Takes up the symbols of parts in the order of the text.
-ghost use Rattle.std.specs.Prelude.{◌≡◌, map, Ok, IfOk, IfErr, OnOk, OnErr, All};
+ghost use Rattle.std.specs.Prelude.{◌≡◌, ◌≤◌, length, map, Ok, IfOk, IfErr, OnOk, OnErr, All};
 ghost use Rattle.read_faults.specs.Fault.{IsDue};
 ghost use Rattle.term_syntax.specs.Parts.{taken_up, symbols_of_parts};
 ghost use Rattle.term_syntax.specs.TakenUp.{TookFront};
@@ -17,21 +17,25 @@ use faults::kinds;
 use read_faults::{ReadFail, refused};
 use std::alloc::Global;
 use symbol_pool::{PoolFault, Symbols};
-use term_model::Item;
+use term_model::{Item, Symbol};
 
 /// How many bytes a name may have.
 const LONGEST_NAME: usize = 255;
 
-/// Takes up a name with a number of arguments.
+/// The symbol that is a name with a number of arguments, taken up if there is none yet.
+///
+/// Refuses with kind 13, at the place that is given, a name of more than 255 bytes and a symbol too
+/// many. After an error the symbols are as before.
+#[inline(always)]
 pub fn take_symbol(
     name: &[u8],
     count: u32,
     place: usize,
     lately: &mut Lately,
     symbols: &mut Symbols,
-) -> Result<Item, ReadFail>
+) -> Result<Symbol, ReadFail>
     requires { AreKnown lately.old.known symbols.old }
-    ensures taken { IfOk result (λ i. IsSymbolTaken symbols.old name.now count i symbols.new) }
+    ensures taken { IfOk result (λ s. IsSymbolTaken symbols.old name.now count s symbols.new) }
     ensures refused { IfErr result (IsSymbolRefused symbols.old name.now count place) }
     ensures unchanged { OnErr result (symbols.new ≡ symbols.old) }
     ensures known { OnOk result (AreKnown lately.new.known symbols.new) }
@@ -40,12 +44,31 @@ pub fn take_symbol(
         return Err(refused(kinds::LIMIT, place));
     }
     if let Some(symbol) = lately.guess(symbols, name, count) {
-        return Ok(Item::App(symbol, count));
+        return Ok(symbol);
     }
+    take_anew(name, count, place, lately, symbols)
+}
+
+// The same, of a name that wasn't guessed. It stands apart, so that the guess is inlined alone.
+#[inline(never)]
+fn take_anew(
+    name: &[u8],
+    count: u32,
+    place: usize,
+    lately: &mut Lately,
+    symbols: &mut Symbols,
+) -> Result<Symbol, ReadFail>
+    requires short { length name.now ≤ 255 }
+    requires known { AreKnown lately.old.known symbols.old }
+    ensures taken { IfOk result (λ s. IsSymbolTaken symbols.old name.now count s symbols.new) }
+    ensures refused { IfErr result (IsSymbolRefused symbols.old name.now count place) }
+    ensures unchanged { OnErr result (symbols.new ≡ symbols.old) }
+    ensures known { OnOk result (AreKnown lately.new.known symbols.new) }
+{
     match symbols.intern(name, count) {
         Ok(symbol) => {
             lately.note(name, count, symbol);
-            Ok(Item::App(symbol, count))
+            Ok(symbol)
         }
         Err(PoolFault::Full) => Err(refused(kinds::LIMIT, place)),
         Err(PoolFault::Memory) => Err(ReadFail::Memory),
@@ -60,10 +83,10 @@ fn take_quoted(
     count: u32,
     lately: &mut Lately,
     symbols: &mut Symbols,
-) -> Result<Item, ReadFail>
+) -> Result<Symbol, ReadFail>
     requires { AreKnown lately.old.known symbols.old }
-    ensures taken { IfOk result (λ i.
-        IsSymbolTaken symbols.old (quoted_at text.now place) count i symbols.new) }
+    ensures taken { IfOk result (λ s.
+        IsSymbolTaken symbols.old (quoted_at text.now place) count s symbols.new) }
     ensures refused { IfErr result
         (IsSymbolRefused symbols.old (quoted_at text.now place) count place) }
     ensures unchanged { OnErr result (symbols.new ≡ symbols.old) }
@@ -94,15 +117,14 @@ fn take_part(
     }
     match part.shape {
         Shape::Word => {
-            take_symbol(
-                plain_name_at(text, place),
-                part.count,
-                place,
-                lately,
-                symbols,
-            )
+            let name = plain_name_at(text, place);
+            let symbol = take_symbol(name, part.count, place, lately, symbols)?;
+            Ok(Item::App(symbol, part.count))
         }
-        Shape::Quoted => take_quoted(alloc, text, place, part.count, lately, symbols),
+        Shape::Quoted => {
+            let symbol = take_quoted(alloc, text, place, part.count, lately, symbols)?;
+            Ok(Item::App(symbol, part.count))
+        }
         Shape::Number => match integer_at(text, place) {
             Some(value) => Ok(Item::Int(value)),
             None => Err(refused(kinds::BAD_NUMBER, place)),

@@ -9,7 +9,6 @@ use crate::building::{build_list, build_symbol, count_from};
 use crate::given_up::GivenUp;
 use crate::groups::{Group, Heading};
 use std::alloc::Global;
-use term_model::Item;
 use term_syntax::{quoted_name_at, take_symbol};
 use terms_api::Terms;
 
@@ -59,10 +58,8 @@ impl Builder {
         if count > self.most {
             return Err(GivenUp::TooSmall);
         }
-        match take_symbol(name, count, 0, &mut self.lately, &mut self.symbols)? {
-            Item::App(symbol, _) => build_symbol(store, symbol, count),
-            _ => Err(GivenUp::Otherwise),
-        }
+        let symbol = take_symbol(name, count, 0, &mut self.lately, &mut self.symbols)?;
+        build_symbol(store, symbol, count)
     }
 
     // The same, of a name that stands in the text.
