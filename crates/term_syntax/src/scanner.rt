@@ -1,5 +1,5 @@
 //! Cuts bytes into tokens.
-ghost use Rattle.std.specs.Prelude.{◌≡◌, ◌+◌, ◌≤◌, ◌<◌, length, drop, IfOk, IfErr, IfSome, OnOk, Ok, Err, true, false, slice_index};
+ghost use Rattle.std.specs.Prelude.{◌≡◌, ◌+◌, ◌≤◌, ◌<◌, length, drop, IfOk, IfErr, IfSome, OnOk, Ok, Err, Some, true, false, slice_index};
 ghost use Rattle.std.specs.Char.{is_ascii_digit};
 ghost use Rattle.std.specs.Str.Parse.{digits_value, AllDigits};
 ghost use Rattle.read_faults.specs.declared.fail.ReadFail.TheVariants.{Memory};
@@ -68,20 +68,6 @@ fn number_end(bytes: &[u8], start: usize) -> usize
         at += 1;
     }
     at
-}
-
-#[inline(always)]
-fn mark_of(byte: u8) -> Option<Mark>
-    ensures { result ≡ spec.mark_of byte }
-{
-    match byte {
-        b'(' => Some(Mark::Open),
-        b')' => Some(Mark::Close),
-        b'[' => Some(Mark::OpenList),
-        b']' => Some(Mark::CloseList),
-        b',' => Some(Mark::Comma),
-        _ => None,
-    }
 }
 
 // The integer that digits spell, if they spell one up to 2^64 - 1 without a leading zero.
@@ -215,25 +201,21 @@ fn number(bytes: &[u8], at: usize) -> Cut
 }
 
 #[inline(always)]
-fn mark(bytes: &[u8], byte: u8, at: usize) -> Result<Cut, ReadFail>
-    requires { at < usize.MAX }
-    ensures begins { IfOk result (BeginsCut byte) }
-    ensures mark { IfOk result (λ c.
-        spec.mark_piece at (spec.mark_of byte) ≡ Ok (piece_in bytes.now c)) }
-    ensures after { IfOk result (λ c. spec.next_of at (piece_in bytes.now c) ≡ at + 1) }
-    ensures refused { IfErr result (IsDue (spec.mark_piece at (spec.mark_of byte))) }
+fn mark(bytes: &[u8], byte: u8, mark: Mark, at: usize) -> Cut
+    requires at { at < usize.MAX }
+    requires mark { spec.mark_of byte ≡ Some mark }
+    ensures begins { BeginsCut byte result }
+    ensures mark { spec.mark_piece at (spec.mark_of byte) ≡ Ok (piece_in bytes.now result) }
+    ensures after { spec.next_of at (piece_in bytes.now result) ≡ at + 1 }
 {
+    // Only the contract reads these.
     let _ = bytes;
-    match mark_of(byte) {
-        Some(mark) => {
-            let token = Token {
-                shape: Shape::At(mark),
-                place: at,
-            };
-            Ok(Cut::Whole(token, at + 1))
-        }
-        None => Err(refused(kinds::BAD_BYTE, at)),
-    }
+    let _ = byte;
+    let token = Token {
+        shape: Shape::At(mark),
+        place: at,
+    };
+    Cut::Whole(token, at + 1)
 }
 
 /// What begins at a place of the bytes, in bytes from 0.
@@ -257,8 +239,13 @@ pub fn piece_at(alloc: Global, bytes: &[u8], at: usize) -> Result<Cut, ReadFail>
     match byte {
         b' ' | b'\t' | b'\r' | b'\n' => Ok(Cut::Blank),
         b'"' => quoted_name(alloc, bytes, at),
+        b'(' => Ok(mark(bytes, byte, Mark::Open, at)),
+        b')' => Ok(mark(bytes, byte, Mark::Close, at)),
+        b'[' => Ok(mark(bytes, byte, Mark::OpenList, at)),
+        b']' => Ok(mark(bytes, byte, Mark::CloseList, at)),
+        b',' => Ok(mark(bytes, byte, Mark::Comma, at)),
         b'0'..=b'9' => Ok(number(bytes, at)),
-        _ => mark(bytes, byte, at),
+        _ => Err(refused(kinds::BAD_BYTE, at)),
     }
 }
 
