@@ -14,8 +14,7 @@ use Rattle.term_syntax.specs.declared.token.Mark.TheVariants as mark
 use Rattle.term_syntax.specs.Shown.{token_at}
 use Rattle.term_syntax.specs.TakenUp.{tree_in, cells_in}
 use Rattle.term_syntax.specs.Written.{Written, Call, Listed, End}
-use Rattle.term_building.specs.declared.builder.Stage as code
-use Rattle.term_building.specs.declared.builder.Stage.TheVariants as stage
+use Rattle.term_building.specs.Stages as stage
 use Rattle.term_building.specs.declared.groups.Group.{Group}
 use Rattle.term_building.specs.declared.groups.Heading.{Heading}
 use Rattle.term_building.specs.Progress as read
@@ -54,7 +53,7 @@ count_is pool ts os finished terms base trees b =
     let back = length-map terms (tree_in pool) in
     omega (arith, size, front, back, b)
 
-module _ (text : List ℕ) (place end : ℕ) (gs : List Group) (written : List ℕ) (from : ℕ) (pool : List Named) (ts : List Tree) (st : code.Stage) (os : List Open) (finished : List Written) (g : Group) where
+module _ (text : List ℕ) (place end : ℕ) (gs : List Group) (written : List ℕ) (from : ℕ) (pool : List Named) (ts : List Tree) (st : stage.Stage) (os : List Open) (finished : List Written) (g : Group) where
   abbrev now : State
   now = state st (g ∷ gs) written from pool ts
 

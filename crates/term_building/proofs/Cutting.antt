@@ -119,6 +119,13 @@ mark_piece_is mark.OpenList place bs = refl
 mark_piece_is mark.CloseList place bs = refl
 mark_piece_is mark.Comma place bs = refl
 
+-- the piece that a mark is
+pub piece_of_mark : (text : List ℕ) (place : ℕ) (m : Mark) → place < length text → mark_of (get_or text place 0) ≡ Some m → piece_at place (drop place text) ≡ Ok (Whole (At m place) (place + 1))
+piece_of_mark text place m h is =
+    let b = mark_byte (get_or text place 0) m is in
+    let bs = drop (place + 1) text in
+    ap (piece_at place) (drop_more text place 0 h ∙ ap (λ c. c ∷ bs) b) ∙ mark_piece_is m place bs
+
 mark_cut : (text : List ℕ) (place end : ℕ) (t : Token) (m : Mark) → place < length text → mark_of (get_or text place 0) ≡ Some m → piece_at place (drop place text) ≡ Ok (Whole t end) → IsCut text place end (shape.At m)
 mark_cut text place end t m h is e =
     let b = mark_byte (get_or text place 0) m is in

@@ -6,7 +6,7 @@ use Rattle.term_model.specs.Tree.{Tree}
 use Rattle.symbol_pool.specs.Pool.{Named, IsPool}
 use Rattle.term_syntax.specs.TakenUp.{tree_in}
 use Rattle.term_syntax.specs.Written.{Written, End}
-use Rattle.term_building.specs.declared.builder.Stage as code
+use Rattle.term_building.specs.Stages as stage
 use Rattle.term_building.specs.declared.groups.Group.{Group}
 use Rattle.term_building.specs.Copying.{copied}
 use Rattle.term_building.specs.Progress.{Open, joined, whole}
@@ -74,11 +74,11 @@ some_push : (ws : List Written) (w : Written) → HasSome (ws ++ w ∷ [])
 some_push [] w = tt
 some_push (v ∷ ws) w = tt
 
-abbrev pub state : code.Stage → List Group → List ℕ → ℕ → List Named → List Tree → State
+abbrev pub state : stage.Stage → List Group → List ℕ → ℕ → List Named → List Tree → State
 state stage groups written from symbols trees =
     record { stage = stage; groups = groups; written = written; from = from; symbols = symbols; trees = trees }
 
-pub ended_shows : (text : List ℕ) (at : ℕ) (st : code.Stage) (gs : List Group) (written : List ℕ) (from : ℕ) (pool : List Named) (ts : List Tree) (os : List Open) (finished : List Written) (w : Written) →
+pub ended_shows : (text : List ℕ) (at : ℕ) (st : stage.Stage) (gs : List Group) (written : List ℕ) (from : ℕ) (pool : List Named) (ts : List Tree) (os : List Open) (finished : List Written) (w : Written) →
     ShowsGroups text gs os finished → GoodSoFar pool os finished → IsGood pool w → ts ≡ trees_so_far pool os finished ++ tree_in pool w ∷ [] →
     copied text at written from ≡ text_before os finished ++ text_of w → from ≤ at → IsPool pool →
     Shows text at (ended_under gs text at (state st gs written from pool ts)) (whole os finished w)

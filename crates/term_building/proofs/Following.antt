@@ -11,8 +11,7 @@ use Rattle.term_syntax.specs.declared.token.Mark.TheVariants as mark
 use Rattle.term_syntax.specs.Shown.{token_at, plain_at, quoted_at, value_at}
 use Rattle.term_syntax.specs.TakenUp.{tree_in}
 use Rattle.term_syntax.specs.Written.{Written, Digits}
-use Rattle.term_building.specs.declared.builder.Stage as code
-use Rattle.term_building.specs.declared.builder.Stage.TheVariants as stage
+use Rattle.term_building.specs.Stages as stage
 use Rattle.term_building.specs.declared.groups.Group.{Group}
 use Rattle.term_building.specs.Copying.{copied}
 use Rattle.term_building.specs.Progress as read
@@ -46,7 +45,7 @@ module _ (text : List ℕ) (place end : ℕ) where
       copied_on text place end written from f (omega (arith, l)) ∙ (λ i. e i ++ b i)
 
   -- ---- a term begins
-  module _ (gs : List Group) (written : List ℕ) (from : ℕ) (pool : List Named) (ts : List Tree) (st : code.Stage) (os : List Open) (finished : List Written) where
+  module _ (gs : List Group) (written : List ℕ) (from : ℕ) (pool : List Named) (ts : List Tree) (st : stage.Stage) (os : List Open) (finished : List Written) where
     abbrev now : State
     now = state st gs written from pool ts
 

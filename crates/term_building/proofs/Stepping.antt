@@ -10,8 +10,7 @@ use Rattle.term_syntax.specs.declared.token.Mark.TheVariants as mark
 use Rattle.term_syntax.specs.Shown.{token_at}
 use Rattle.term_syntax.specs.TakenUp.{tree_in}
 use Rattle.term_syntax.specs.Written.{Written, Call, End}
-use Rattle.term_building.specs.declared.builder.Stage as code
-use Rattle.term_building.specs.declared.builder.Stage.TheVariants as stage
+use Rattle.term_building.specs.Stages as stage
 use Rattle.term_building.specs.declared.groups.Group.{Group}
 use Rattle.term_building.specs.declared.groups.Heading.{Heading}
 use Rattle.term_building.specs.Progress as read
@@ -38,7 +37,7 @@ behind_whole text at s [] finished w h = record { fits = tt; holds = h.holds }
 behind_whole text at s (o ∷ os) finished w h = record { fits = h.fits; holds = h.holds }
 
 module _ (text : List ℕ) (place end : ℕ) where
-  after_follows : (gs : List Group) (written : List ℕ) (from : ℕ) (pool : List Named) (ts : List Tree) (st : code.Stage) (os : List Open) (finished : List Written) (sh : Shape) (r : State) →
+  after_follows : (gs : List Group) (written : List ℕ) (from : ℕ) (pool : List Named) (ts : List Tree) (st : stage.Stage) (os : List Open) (finished : List Written) (sh : Shape) (r : State) →
       Behind text place (state st gs written from pool ts) os finished → IsToken text place end sh → build.after_term_under gs text place end sh (state st gs written from pool ts) ≡ Some r →
       Goes text end r (read.after_term_under os finished (token_at text place sh))
   after_follows [] written from pool ts st [] finished sh r b t e = term_follows text place end [] written from pool ts st [] finished Settled sh r b.holds t e
@@ -51,7 +50,7 @@ module _ (text : List ℕ) (place end : ℕ) where
   as_behind s o os finished e h =
       subst (λ ws. Holds text place s (record { opening = o.opening; terms = ws } ∷ os) finished (text_before (record { opening = o.opening; terms = ws } ∷ os) finished)) e h
 
-  none_closes : (gs : List Group) (written : List ℕ) (from : ℕ) (pool : List Named) (ts : List Tree) (st : code.Stage) (os : List Open) (finished : List Written) (r : State) →
+  none_closes : (gs : List Group) (written : List ℕ) (from : ℕ) (pool : List Named) (ts : List Tree) (st : stage.Stage) (os : List Open) (finished : List Written) (r : State) →
       FitsStage Bracketed os → Holds text place (state st gs written from pool ts) os finished (text_before os finished) → IsToken text place end (shape.At mark.CloseList) → build.after_term_under gs text place end (shape.At mark.CloseList) (state st gs written from pool ts) ≡ Some r →
       Goes text end r (read.after_term_under os finished (token_at text place (shape.At mark.CloseList)))
   none_closes [] written from pool ts st os finished r f h t e = absurd cc
@@ -60,7 +59,7 @@ module _ (text : List ℕ) (place end : ℕ) where
       subst (λ ws. Goes text end r (read.close_list o.opening ws os finished)) (sym f)
       (list_closes text place end gs written from pool ts st os finished g g.heading o.opening [] r h.groups.0 (as_behind (state st (g ∷ gs) written from pool ts) o os finished f h) t e)
 
-  brackets_follow : (gs : List Group) (written : List ℕ) (from : ℕ) (pool : List Named) (ts : List Tree) (st : code.Stage) (m : Progress) (sh : Shape) (r : State) →
+  brackets_follow : (gs : List Group) (written : List ℕ) (from : ℕ) (pool : List Named) (ts : List Tree) (st : stage.Stage) (m : Progress) (sh : Shape) (r : State) →
       FitsStage Bracketed m.groups → Holds text place (state st gs written from pool ts) m.groups m.finished (text_before m.groups m.finished) → IsToken text place end sh → build.in_brackets text place end sh (state st gs written from pool ts) ≡ Some r →
       Goes text end r (read.in_brackets m (token_at text place sh))
   brackets_follow gs written from pool ts st m (shape.At mark.CloseList) r f h t e = none_closes gs written from pool ts st m.groups m.finished r f h t e
@@ -133,7 +132,7 @@ module _ (text : List ℕ) (place end : ℕ) where
   name_follows s h p n m shape.Number r named b t e = ends_follows s h p n m shape.Number r named b t e
 
   -- ---- a token
-  taken_at : (st : code.Stage) (ms : read.Stage) (gs : List Group) (written : List ℕ) (from : ℕ) (pool : List Named) (ts : List Tree) (os : List Open) (finished : List Written) (sh : Shape) (r : State) →
+  taken_at : (st : stage.Stage) (ms : read.Stage) (gs : List Group) (written : List ℕ) (from : ℕ) (pool : List Named) (ts : List Tree) (os : List Open) (finished : List Written) (sh : Shape) (r : State) →
       Shows text place (state st gs written from pool ts) (record { stage = ms; groups = os; finished = finished }) → IsToken text place end sh → build.step_at st text place end sh (state st gs written from pool ts) ≡ Some r →
       Goes text end r (read.step_at ms (record { stage = ms; groups = os; finished = finished }) (token_at text place sh))
   taken_at stage.Settled Settled gs written from pool ts os finished sh r s t e = after_follows text place end gs written from pool ts stage.Settled os finished sh r (record { fits = s.fits; holds = s.holds }) t e

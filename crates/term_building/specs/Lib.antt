@@ -5,6 +5,7 @@ pub mod Progress
 pub mod Reached
 pub mod Ready
 pub mod Shows
+pub mod Stages
 pub mod State
 pub mod Text
 pub mod Trees

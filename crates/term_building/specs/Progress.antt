@@ -1,5 +1,5 @@
 -- Reading terms one token at a time: the whole terms so far, and the groups that are open.
-use Rattle.std.specs.Prelude.{ℕ, List, [], ◌∷◌, ◌++◌, Option, Some, None, option_and_then}
+use Rattle.std.specs.Prelude.{ℕ, Bool, true, false, List, [], ◌∷◌, ◌++◌, Option, Some, None, option_and_then}
 use Rattle.term_syntax.specs.Token.{Token, Word, Number, At}
 use Rattle.term_syntax.specs.declared.token.Mark.TheVariants as mark
 use Rattle.term_syntax.specs.Written.{Written, Call, Digits, Listed, Writtens, End, More}
@@ -99,6 +99,16 @@ step_at Settled m t = after_term m t
 step_at Bracketed m t = in_brackets m t
 step_at Expected m t = on_term m t
 step_at (Headed p n) m t = after_name p n m t
+
+-- a name that stands last is a whole term
+abbrev pub settled_at : Stage → Progress → Progress
+settled_at (Headed p n) m = whole m.groups m.finished (Call p n End)
+settled_at _ m = m
+
+-- a name that stands last may be a whole term already: what follows is the same, but that no parenthesis opens
+abbrev pub settled_if : Bool → Progress → Progress
+settled_if true m = settled_at m.stage m
+settled_if false m = m
 
 -- the step at a token, where it may come
 abbrev pub step : Progress → Token → Option Progress

@@ -2,8 +2,7 @@
 use Rattle.std.specs.Prelude.{◌≡◌, ◌≤◌, ℕ, ◌+◌, List, [], ◌∷◌, length, Option, Some, None}
 use Rattle.symbol_pool.specs.Pool.{IsPool}
 use Rattle.term_syntax.specs.Written.{Written}
-use Rattle.term_building.specs.declared.builder.Stage as code
-use Rattle.term_building.specs.declared.builder.Stage.TheVariants as stage
+use Rattle.term_building.specs.Stages as stage
 use Rattle.term_building.specs.declared.groups.Group.{Group}
 use Rattle.term_building.specs.declared.groups.Heading.{Heading}
 use Rattle.term_building.specs.Copying.{copied}
@@ -13,7 +12,7 @@ use Rattle.term_building.specs.Text.{text_at}
 use Rattle.term_building.specs.Trees.{GoodSoFar, trees_so_far}
 
 -- the builder's stage is this one, and behind a name that name stands in the text
-abbrev pub ShowsStage : List ℕ → code.Stage → Stage → Type 0
+abbrev pub ShowsStage : List ℕ → stage.Stage → Stage → Type 0
 ShowsStage text stage.Settled Settled = Unit {0}
 ShowsStage text stage.Bracketed Bracketed = Unit {0}
 ShowsStage text stage.Expected Expected = Unit {0}

@@ -1,5 +1,6 @@
 -- What building and copying do at each token of a text.
 use Rattle.std.specs.Prelude.{ℕ, ◌+◌, ◌-◌, List, [], ◌∷◌, ◌++◌, length, take, drop, nat_le, nat_lt, not, ◌&&◌, Bool, true, false, if◌then◌else◌, Option, Some, None, option_and_then}
+use Rattle.sequences.specs.Lists.{is_nil}
 use Rattle.term_model.specs.Tree as tree
 use Rattle.term_model.specs.Tree.{Tree, Node, trees_of}
 use Rattle.term_model.specs.declared.Head.TheVariants.{App, Int}
@@ -12,12 +13,11 @@ use Rattle.term_syntax.specs.declared.token.Shape.TheVariants.{Word, Quoted, Num
 use Rattle.term_syntax.specs.declared.token.Mark.TheVariants.{Open, Close, OpenList, CloseList, Comma}
 use Rattle.term_syntax.specs.Shown.{quoted_at, value_at}
 use Rattle.term_building.specs.declared.builder.Builder.{Builder}
-use Rattle.term_building.specs.declared.builder.Stage.{Stage}
-use Rattle.term_building.specs.declared.builder.Stage.TheVariants.{Settled, Bracketed, Expected, Headed}
 use Rattle.term_building.specs.declared.groups.Group.{Group}
 use Rattle.term_building.specs.declared.groups.Heading.{Heading}
 use Rattle.term_building.specs.Copying.{copied}
 use Rattle.term_building.specs.Groups.{under}
+use Rattle.term_building.specs.Stages.{Stage, Settled, Bracketed, Expected, Headed, stage_of}
 use Rattle.term_building.specs.Trees.{list_tree}
 
 -- where reading stands, the open groups, what was written, from where on the text is copied, the symbols, and the
@@ -33,7 +33,7 @@ pub record State : Type 0 where
 -- the state of a builder, with these trees on the stack
 abbrev pub state_of : Builder → List Tree → State
 state_of b ts = record {
-  stage = b.stage;
+  stage = stage_of b.stage b.heading;
   groups = b.groups;
   written = b.lines.written.items;
   from = b.lines.from;
@@ -65,6 +65,10 @@ called name n s =
     let symbols = with_symbol s.symbols (named name n) in
     let head = App (record { 0 = number_of symbols (named name n) }) in
     record s { symbols = symbols; trees = but_last n s.trees ++ Node head (trees_of (last n s.trees)) ∷ [] }
+
+-- the plain name between two places
+abbrev pub name_at : ℕ → ℕ → Heading
+name_at place end = record { place = place; end = end; quoted = false }
 
 -- the name that stands in the text
 abbrev pub name_in : List ℕ → Heading → List ℕ
@@ -175,6 +179,13 @@ abbrev pub after_name : List ℕ → Heading → ℕ → ℕ → Shape → State
 after_name text h place end (At Open) s = Some (opened (Some h) Expected s)
 after_name text h place end shape s =
     option_and_then (λ k. after_term text place end shape k) (settled text h place s)
+
+-- a term may begin at this stage and under these groups
+abbrev pub may_begin : Stage → List Group → Bool
+may_begin Settled gs = is_nil gs
+may_begin Bracketed gs = true
+may_begin Expected gs = true
+may_begin (Headed h) gs = false
 
 -- what may come at a stage
 abbrev pub step_at : Stage → List ℕ → ℕ → ℕ → Shape → State → Option State

@@ -4,6 +4,7 @@ ghost use Rattle.terms_api.specs.Terms.{Store};
 ghost use Rattle.term_syntax.specs.Known.{AreKnown};
 ghost use Rattle.term_building.specs.declared.builder.Stage.TheVariants as stage;
 ghost use Rattle.term_building.specs.Ready.{IsReady, state_in};
+ghost use Rattle.term_building.specs.Stages.{stage_of};
 ghost use Rattle.term_building.specs.State as steps;
 
 use crate::given_up::GivenUp;
@@ -17,6 +18,7 @@ use terms_api::Terms;
 mod beginning;
 mod ending;
 mod following;
+mod passing;
 
 /// Where reading stands: after a whole term or at the start, behind an opening bracket, where a
 /// term must come, or behind a name.
@@ -25,15 +27,16 @@ pub(crate) enum Stage {
     Settled,
     Bracketed,
     Expected,
-    Headed(Heading),
+    Headed,
 }
 
-/// Where reading stands, the open groups, the text so far, the symbols so far, some of which are
-/// guessed, and the most arguments that a symbol may have here. The whole terms stand on the
-/// store's stack.
+/// Where reading stands, the name behind which it stands where it is `Headed`, the open groups, the
+/// text so far, the symbols so far, some of which are guessed, and the most arguments that a symbol
+/// may have here. The whole terms stand on the store's stack.
 #[derive(Drop)]
 pub(crate) struct Builder {
     pub(crate) stage: Stage,
+    pub(crate) heading: Heading,
     pub(crate) groups: Groups,
     pub(crate) lines: Lines,
     pub(crate) lately: Lately,
@@ -54,6 +57,11 @@ impl Builder {
     {
         Ok(Builder {
             stage: Stage::Settled,
+            heading: Heading {
+                place: 0,
+                end: 0,
+                quoted: false,
+            },
             groups: Groups::new(alloc),
             lines: Lines::new(alloc, text)?,
             lately: Lately::new(),
@@ -85,7 +93,7 @@ impl Builder {
             Stage::Settled => self.after_term(alloc, text, token, end, store),
             Stage::Bracketed => self.in_brackets(alloc, text, token, end, store),
             Stage::Expected => self.on_term(alloc, text, token, end, store),
-            Stage::Headed(heading) => self.after_name(alloc, text, heading, token, end, store),
+            Stage::Headed => self.after_name(alloc, text, self.heading, token, end, store),
         }
     }
 
@@ -98,13 +106,14 @@ impl Builder {
     ) -> Result<(), GivenUp>
         requires ready { IsReady (T.store store.old) self.old }
         ensures built { OnOk result
-            (steps.settled_at self.old.stage text.now (state_in self.old (T.store store.old))
+            (steps.settled_at (stage_of self.old.stage self.old.heading) text.now
+            (state_in self.old (T.store store.old))
             ≡ Some (state_in self.new (T.store store.new))) }
         ensures ready { OnOk result (IsReady (T.store store.new) self.new) }
         ensures same { OnOk result (T.same store.old store.new) }
     {
         match self.stage {
-            Stage::Headed(heading) => self.settle(alloc, text, heading, text.len(), store),
+            Stage::Headed => self.settle(alloc, text, self.heading, text.len(), store),
             _ => Ok(()),
         }
     }

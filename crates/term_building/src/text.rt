@@ -5,14 +5,13 @@ ghost use Rattle.terms_api.specs.Terms.{trees};
 ghost use Rattle.term_building.specs.declared.builder.Stage.TheVariants as stage;
 ghost use Rattle.term_building.specs.Built.{IsBuilt};
 ghost use Rattle.term_building.specs.Copying.{copied};
-ghost use Rattle.term_building.specs.Reached.{HasRun};
+ghost use Rattle.term_building.specs.Reached.{HasPassed};
 ghost use Rattle.term_building.specs.Ready.{IsReady, state_in};
 
 use crate::builder::{Builder, Stage};
 use crate::given_up::GivenUp;
 use crate::lines::Lines;
 use std::alloc::Global;
-use term_syntax::{Cut, piece_at};
 use terms_api::Terms;
 
 // Takes all tokens of the text.
@@ -21,23 +20,15 @@ fn run<T: Terms>(alloc: Global, text: &[u8], most: u32, store: &mut T) -> Result
     requires wide { most ≤ (T.store store.old).widest }
     requires cells { 2 ≤ (T.store store.old).widest }
     requires empty { trees (T.store store.old) ≡ [] }
-    ensures passed { IfOk result (λ b. HasRun text.now (state_in b (T.store store.new))) }
+    ensures passed { IfOk result (λ b.
+        HasPassed text.now (length text.now) (state_in b (T.store store.new))) }
     ensures ready { IfOk result (IsReady (T.store store.new)) }
     ensures same { OnOk result (T.same store.old store.new) }
 {
     let mut builder = Builder::start(alloc, text, most)?;
     let mut at = 0;
     while at < text.len() {
-        match piece_at(alloc, text, at)? {
-            Cut::Blank => {
-                builder.leave_out(text, at)?;
-                at += 1;
-            }
-            Cut::Whole(token, end) => {
-                builder.take(alloc, text, token, end, store)?;
-                at = end;
-            }
-        }
+        at = builder.pass(alloc, text, at, store)?;
     }
     Ok(builder)
 }
@@ -51,6 +42,7 @@ fn written(builder: Builder, text: &[u8]) -> Result<Vec<u8>, GivenUp>
 {
     let Builder {
         stage,
+        heading: _,
         groups,
         lines,
         lately: _,

@@ -1,17 +1,44 @@
 //! Tokens with which a term begins: names, numbers and opening brackets.
-ghost use Rattle.std.specs.Prelude.{◌≡◌, ◌≤◌, Some, OnOk, length};
+ghost use Rattle.std.specs.Prelude.{◌≡◌, ◌≤◌, false, Some, IfOk, OnOk, length, slice_get};
 ghost use Rattle.term_syntax.specs.Shown.{value_at};
+ghost use Rattle.term_building.specs.declared.builder.beginning.Follows.TheVariants as follows;
+ghost use Rattle.term_building.specs.Reached.{HasPassed};
 ghost use Rattle.term_building.specs.Ready.{IsReady, state_in};
+ghost use Rattle.term_building.specs.Stages.{Expected, stage_of};
 ghost use Rattle.term_building.specs.State as steps;
 
 use crate::builder::{Builder, Stage};
 use crate::building::{build_integer, count_all};
 use crate::given_up::GivenUp;
-use crate::groups::{Group, Heading};
+use crate::groups::{Group, Heading, in_32_bits};
 use crate::names::is_plain;
 use std::alloc::Global;
 use term_syntax::{Mark, Shape, Token, integer_at, quoted_name_at};
 use terms_api::Terms;
+
+/// What follows right behind a name: a parenthesis that opens, or a mark before which the name is
+/// a whole term, or anything else.
+#[derive(Clone, Copy)]
+enum Follows {
+    Opens,
+    Ends,
+    Other,
+}
+
+// What follows right behind a name.
+#[inline(always)]
+fn what_follows(text: &[u8], end: usize) -> Follows
+    ensures opens { result ≡ follows.Opens → slice_get text.now end ≡ Some 40 }
+{
+    if end >= text.len() {
+        return Follows::Other;
+    }
+    match text[end] {
+        b'(' => Follows::Opens,
+        b',' | b')' | b']' => Follows::Ends,
+        _ => Follows::Other,
+    }
+}
 
 impl Builder {
     // A name was read.
@@ -32,7 +59,12 @@ impl Builder {
     {
         // Only the contract reads the store.
         let _ = &store;
-        self.stage = Stage::Headed(Heading { place, end, quoted });
+        self.heading = Heading {
+            place: in_32_bits(place)?,
+            end: in_32_bits(end)?,
+            quoted,
+        };
+        self.stage = Stage::Headed;
         Ok(())
     }
 
@@ -84,7 +116,7 @@ impl Builder {
 
     // A number comes.
     #[inline(always)]
-    fn on_number<T: Terms>(
+    pub(super) fn on_number<T: Terms>(
         &mut self,
         text: &[u8],
         place: usize,
@@ -117,7 +149,8 @@ impl Builder {
     ) -> Result<(), GivenUp>
         requires ready { IsReady (T.store store.old) self.old }
         ensures built { OnOk result
-            (Some (steps.opened heading stage (state_in self.old (T.store store.old)))
+            (Some (steps.opened heading (stage_of stage self.old.heading)
+            (state_in self.old (T.store store.old)))
             ≡ Some (state_in self.new (T.store store.new))) }
         ensures ready { OnOk result (IsReady (T.store store.new) self.new) }
         ensures same { OnOk result (T.same store.old store.new) }
@@ -154,6 +187,79 @@ impl Builder {
             Shape::Number => self.on_number(text, token.place, end, store),
             Shape::At(Mark::OpenList) => self.open(None, Stage::Bracketed, store),
             Shape::At(_) => Err(GivenUp::Otherwise),
+        }
+    }
+
+    // Whether a term may begin here.
+    #[inline(always)]
+    pub(super) fn begins_term(&self) -> bool
+        ensures { result
+            ≡ steps.may_begin (stage_of self.now.stage self.now.heading) self.now.groups }
+    {
+        match self.stage {
+            Stage::Expected | Stage::Bracketed => true,
+            Stage::Settled => self.groups.is_empty(),
+            Stage::Headed => false,
+        }
+    }
+
+    // Parentheses open right behind a plain name.
+    #[inline(always)]
+    fn open_behind<T: Terms>(
+        &mut self,
+        place: usize,
+        end: usize,
+        store: &mut T,
+    ) -> Result<(), GivenUp>
+        requires ready { IsReady (T.store store.old) self.old }
+        ensures built { OnOk result
+            (Some (steps.opened (Some (steps.name_at place end)) Expected
+            (state_in self.old (T.store store.old)))
+            ≡ Some (state_in self.new (T.store store.new))) }
+        ensures ready { OnOk result (IsReady (T.store store.new) self.new) }
+        ensures same { OnOk result (T.same store.old store.new) }
+    {
+        let heading = Heading {
+            place: in_32_bits(place)?,
+            end: in_32_bits(end)?,
+            quoted: false,
+        };
+        self.open(Some(heading), Stage::Expected, store)
+    }
+
+    // A plain name comes. It is taken with a parenthesis that opens right behind it, and is a whole
+    // term at once before a mark behind which none can open.
+    #[inline(always)]
+    pub(super) fn on_word<T: Terms>(
+        &mut self,
+        text: &[u8],
+        place: usize,
+        end: usize,
+        store: &mut T,
+    ) -> Result<usize, GivenUp>
+        requires ready { IsReady (T.store store.old) self.old }
+        requires end { end ≤ length text.now }
+        ensures after { IfOk result (λ next. end ≤ next) }
+        ensures within { IfOk result (λ next. next ≤ length text.now) }
+        ensures passed { IfOk result (λ next. HasPassed text.now end
+            (steps.headed place end false (state_in self.old (T.store store.old)))
+            → HasPassed text.now next (state_in self.new (T.store store.new))) }
+        ensures ready { OnOk result (IsReady (T.store store.new) self.new) }
+        ensures same { OnOk result (T.same store.old store.new) }
+    {
+        match what_follows(text, end) {
+            Follows::Opens => {
+                self.open_behind(place, end, store)?;
+                Ok(end + 1)
+            }
+            Follows::Ends => {
+                self.settle_plain(text, place, end, store)?;
+                Ok(end)
+            }
+            Follows::Other => {
+                self.head(place, end, false, store)?;
+                Ok(end)
+            }
         }
     }
 }

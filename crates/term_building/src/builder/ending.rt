@@ -1,6 +1,7 @@
 //! Where a term is whole: a name that takes up its arguments, and groups that close.
 ghost use Rattle.std.specs.Prelude.{◌≡◌, ◌≤◌, Some, OnOk, length};
 ghost use Rattle.terms_api.specs.Terms.{trees};
+ghost use Rattle.term_syntax.specs.Shown.{quoted_at};
 ghost use Rattle.term_building.specs.Ready.{IsReady, state_in};
 ghost use Rattle.term_building.specs.State as steps;
 
@@ -62,6 +63,55 @@ impl Builder {
         build_symbol(store, symbol, count)
     }
 
+    // The same, of the name in quotes that begins at a place of the text.
+    #[inline(never)]
+    fn call_quoted<T: Terms>(
+        &mut self,
+        alloc: Global,
+        text: &[u8],
+        place: usize,
+        count: u32,
+        store: &mut T,
+    ) -> Result<(), GivenUp>
+        requires ready { IsReady (T.store store.old) self.old }
+        requires there { count ≤ length (trees (T.store store.old)) }
+        ensures built { OnOk result
+            (steps.call_named (quoted_at text.now place) count
+            (state_in self.old (T.store store.old))
+            ≡ Some (state_in self.new (T.store store.new))) }
+        ensures ready { OnOk result (IsReady (T.store store.new) self.new) }
+        ensures same { OnOk result (T.same store.old store.new) }
+    {
+        let name = quoted_name_at(alloc, text, place)?;
+        self.call_name(name.as_slice(), count, store)
+    }
+
+    // The same, of the plain name between two places of the text.
+    #[inline(always)]
+    fn call_plain<T: Terms>(
+        &mut self,
+        text: &[u8],
+        place: usize,
+        end: usize,
+        count: u32,
+        store: &mut T,
+    ) -> Result<(), GivenUp>
+        requires ready { IsReady (T.store store.old) self.old }
+        requires there { count ≤ length (trees (T.store store.old)) }
+        ensures built { OnOk result
+            (steps.call text.now (steps.name_at place end) count
+            (state_in self.old (T.store store.old))
+            ≡ Some (state_in self.new (T.store store.new))) }
+        ensures ready { OnOk result (IsReady (T.store store.new) self.new) }
+        ensures same { OnOk result (T.same store.old store.new) }
+    {
+        if place <= end && end <= text.len() {
+            self.call_name(&text[place..end], count, store)
+        } else {
+            Err(GivenUp::Otherwise)
+        }
+    }
+
     // The same, of a name that stands in the text.
     #[inline(always)]
     fn call<T: Terms>(
@@ -80,14 +130,34 @@ impl Builder {
         ensures ready { OnOk result (IsReady (T.store store.new) self.new) }
         ensures same { OnOk result (T.same store.old store.new) }
     {
+        let place = heading.place as usize;
         if heading.quoted {
-            let name = quoted_name_at(alloc, text, heading.place)?;
-            self.call_name(name.as_slice(), count, store)
-        } else if heading.place <= heading.end && heading.end <= text.len() {
-            self.call_name(&text[heading.place..heading.end], count, store)
+            self.call_quoted(alloc, text, place, count, store)
         } else {
-            Err(GivenUp::Otherwise)
+            self.call_plain(text, place, heading.end as usize, count, store)
         }
+    }
+
+    // A plain name was a whole term, which ends where the name does.
+    #[inline(always)]
+    pub(super) fn settle_plain<T: Terms>(
+        &mut self,
+        text: &[u8],
+        place: usize,
+        end: usize,
+        store: &mut T,
+    ) -> Result<(), GivenUp>
+        requires ready { IsReady (T.store store.old) self.old }
+        requires end { end ≤ length text.now }
+        ensures built { OnOk result
+            (steps.settled text.now (steps.name_at place end) end
+            (state_in self.old (T.store store.old))
+            ≡ Some (state_in self.new (T.store store.new))) }
+        ensures ready { OnOk result (IsReady (T.store store.new) self.new) }
+        ensures same { OnOk result (T.same store.old store.new) }
+    {
+        self.call_plain(text, place, end, 0, store)?;
+        self.end(text, end, store)
     }
 
     // A name was a whole term, which ends before a place.

@@ -13,25 +13,24 @@ use terms_api::Terms;
 impl Builder {
     // What may come after a term in this group, the innermost.
     #[inline(always)]
-    fn in_group<T: Terms>(
+    pub(super) fn in_group<T: Terms>(
         &mut self,
         alloc: Global,
         text: &[u8],
         group: Group,
-        token: Token,
+        shape: Shape,
         end: usize,
         store: &mut T,
     ) -> Result<(), GivenUp>
         requires ready { IsReady (T.store store.old) self.old }
-        requires place { token.place ≤ length text.now }
         requires end { end ≤ length text.now }
         ensures built { OnOk result
-            (steps.in_group text.now end group token.shape (state_in self.old (T.store store.old))
+            (steps.in_group text.now end group shape (state_in self.old (T.store store.old))
             ≡ Some (state_in self.new (T.store store.new))) }
         ensures ready { OnOk result (IsReady (T.store store.new) self.new) }
         ensures same { OnOk result (T.same store.old store.new) }
     {
-        match token.shape {
+        match shape {
             Shape::At(Mark::Comma) => {
                 self.stage = Stage::Expected;
                 Ok(())
@@ -64,7 +63,7 @@ impl Builder {
     {
         match self.groups.innermost() {
             None => self.on_term(alloc, text, token, end, store),
-            Some(group) => self.in_group(alloc, text, group, token, end, store),
+            Some(group) => self.in_group(alloc, text, group, token.shape, end, store),
         }
     }
 

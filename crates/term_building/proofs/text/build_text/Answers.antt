@@ -1,6 +1,7 @@
-use Rattle.std.proofs.Common.{sym, subst}
+use Rattle.std.proofs.Common.{sym, subst, ap}
 use Rattle.terms_api.specs.Terms.{trees}
 use Rattle.term_building.specs.Built.{IsBuilt}
+use Rattle.term_building.specs.Stages.{stage_of}
 use Rattle.term_building.specs.State.{state_of}
 use Rattle.term_building.proofs.Passing.{passed_end, settled_groups}
 use Rattle.term_building.proofs.text.build_text.Goals as goal
@@ -8,9 +9,11 @@ use Rattle.term_building.proofs.text.build_text.Goals as goal
 pub returns-clause-built : goal.returns-clause-built
 returns-clause-built g c =
     let text = c.args.text.now in
+    let last = c.settle_last.new.self in
     let old = state_of c.in_ok-builder.builder (trees (g.T.Terms.store c.run.new.store)) in
-    let new = state_of c.settle_last.new.self (trees (g.T.Terms.store c.settle_last.new.store)) in
+    let new = state_of last (trees (g.T.Terms.store c.settle_last.new.store)) in
     let settled = c.in_ok-settle_last.ensures.built in
     let w = c.in_ok-lines.ensures in
-    let built = passed_end text old new c.in_ok-builder.ensures.passed settled w.stage (settled_groups text old new settled w.groups) in
+    let stage = ap (λ k. stage_of k last.heading) w.stage in
+    let built = passed_end text old new c.in_ok-builder.ensures.passed settled stage (settled_groups text old new settled w.groups) in
     (new.symbols, subst (IsBuilt text new.symbols new.trees) (sym w.written) built)
