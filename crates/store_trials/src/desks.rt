@@ -4,6 +4,7 @@ mod over;
 ghost use Rattle.std.specs.Prelude.{◌≡◌, ◌≤◌, [], All, IfOk, true, false};
 ghost use Rattle.store_model.specs.NewStore.{MaySize};
 ghost use Rattle.node_rows.specs.Told.{view_of};
+ghost use Rattle.terms_api.specs.Terms.{IsHeld};
 ghost use Rattle.shared_desk.specs.Desk.{store_of};
 ghost use Rattle.shared_desk.specs.Telling.{MayHaveDesk};
 
@@ -61,7 +62,7 @@ fn last_pass(rt: &impl Abort, store: &Store, passes: &mut Vec<Pass>) -> Pass
     }
 }
 
-// A desk at a pass, inside.
+// A desk at a pass.
 fn desk_at<'a, R: Wait>(
     rt: &'a R,
     alloc: Global,
@@ -70,7 +71,7 @@ fn desk_at<'a, R: Wait>(
 ) -> Result<Desk<OwnPass<'a, R>>, Memory>
     requires may { MayHaveDesk store.now pass }
     ensures outside { IfOk result (λ desk. (store_of desk).inside ≡ false) }
-    ensures width { IfOk result (λ desk. 1 ≤ (store_of desk).widest) }
+    ensures width { IfOk result (λ desk. 2 ≤ (store_of desk).widest) }
 {
     Desk::<OwnPass<'a, R>>::new(rt, alloc, store, pass)
 }
@@ -97,7 +98,7 @@ fn unnoted_pass(rt: &impl Abort, store: &Store, passes: &mut Vec<Pass>) -> Pass
     }
 }
 
-// A desk that writes a log at a new pass, inside.
+// A desk that writes a log at a new pass.
 fn log_desk_at<'a, R: Wait>(
     rt: &'a R,
     alloc: Global,
@@ -131,15 +132,17 @@ fn build_symbol<T: Terms>(terms: &mut T, symbol: u32, n: u32) -> Option<BuildFau
 // The row at a place.
 fn row_at<T: Terms>(rt: &impl Abort, terms: &mut T, i: u32) -> Row
     requires inside { (T.store terms.old).inside ≡ true }
+    ensures held { IsHeld (T.store terms.old) result }
     ensures unchanged { T.store terms.new ≡ T.store terms.old }
 {
     assert!(rt; i < terms.depth());
     terms.at(i)
 }
 
-// Leaves the lowest places.
+// Leaves the lowest places. The rows of the others are held until they are lost.
 fn keep_lowest<T: Terms>(rt: &impl Abort, terms: &mut T, n: u32)
     requires inside { (T.store terms.old).inside ≡ true }
+    ensures held { (T.store terms.new).held ≡ (T.store terms.old).held }
     ensures inside { (T.store terms.new).inside ≡ true }
     ensures widest { (T.store terms.new).widest ≡ (T.store terms.old).widest }
 {
@@ -263,8 +266,8 @@ fn a_collection_keeps_the_stack_of_another_desk(rt: HostRuntime) -> Result<(), F
 }
 
 // With the first base 2^62 - 5 there is room for one collection with an empty claim:
-// 2^62 - 5 + 0 + 1 + (2 + 1 + 1). Two creations have drawn, so the one that the third needs is worn,
-// and a refused one changes nothing. Its entries were Roots last.
+// 2^62 - 5 + 0 + 1 + (2 + 1 + 1). Two creations have drawn, so the one that the third needs is
+// worn, and a refused one changes nothing. Its entries were Roots last.
 #[test]
 fn a_worn_store_says_so(rt: HostRuntime) -> Result<(), Fail> {
     let (store, mut passes) = new_store(rt.alloc(), sizes(2, 1, (1 << 62) - 5))?;
