@@ -11,8 +11,8 @@ const PLACES: usize = 4096;
 /// A symbol at each of some places, one of which a name with a number of arguments has. It is only
 /// a guess, since many have the same place: whoever asks looks whether the symbol is the right one.
 /// A text has many more names than most lists of names, so there are more places here than in
-/// `Symbols`, each of 16 bits, since all are written at first. All symbols that were noted have
-/// numbers below `known`.
+/// `Symbols`. Each has 16 bits, since all are written at first, and symbols are below 65,535. All
+/// symbols that were noted have numbers below `known`.
 #[derive(Drop)]
 pub struct Lately {
     symbols: [u16; PLACES],
@@ -44,7 +44,8 @@ fn telling(name: &[u8]) -> u32 {
     ends.wrapping_add(between.wrapping_mul(2_048))
 }
 
-// The place of a name with a number of arguments.
+// The place of a name with a number of arguments. Factors spread what tells over the high bits, the
+// highest 12 of which are the place.
 #[inline(always)]
 fn place(name: &[u8], count: u32) -> usize
     ensures { result < 4096 }

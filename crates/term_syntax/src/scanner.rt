@@ -1,5 +1,5 @@
 //! Cuts bytes into tokens.
-ghost use Rattle.std.specs.Prelude.{◌≡◌, ◌+◌, ◌≤◌, ◌<◌, length, drop, IfOk, IfErr, IfSome, OnOk, Ok, Err, Some, true, false, slice_index};
+ghost use Rattle.std.specs.Prelude.{◌≡◌, ◌+◌, ◌≤◌, ◌<◌, length, drop, IfOk, IfErr, OnOk, Ok, Err, Some, true, false, slice_index};
 ghost use Rattle.std.specs.Char.{is_ascii_digit};
 ghost use Rattle.std.specs.Str.Parse.{digits_value, AllDigits};
 ghost use Rattle.read_faults.specs.declared.fail.ReadFail.TheVariants.{Memory};
@@ -35,7 +35,8 @@ static FIRST_BYTES: [u8; 256] = *b"\
     ,,,,,,,,,,,,,,,,,,,,,,,,,,,,,,,,\
     ,,,,,,,,,,,,,,,,,,,,,,,,,,,,,,,,";
 
-// Whether a plain name begins with this byte. It is looked up, since most tokens are names.
+// Whether a plain name begins with this byte. Names are frequent, and a test by
+// ranges takes several comparisons, so it is looked up.
 #[inline(always)]
 fn begins_name(byte: u8) -> bool
     ensures { result ≡ name_bytes.begins_name byte }

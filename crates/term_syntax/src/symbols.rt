@@ -25,7 +25,7 @@ const LONGEST_NAME: usize = 255;
 /// The symbol that is a name with a number of arguments, taken up if there is none yet.
 ///
 /// Refuses with kind 13, at the place that is given, a name of more than 255 bytes and a symbol too
-/// many. After an error the symbols are as before.
+/// many, or has no memory. After an error the symbols are as before.
 #[inline(always)]
 pub fn take_symbol(
     name: &[u8],

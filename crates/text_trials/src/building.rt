@@ -18,7 +18,7 @@ static BUILT: [(&str, u32, u32, &str); 8] = [
     ("\t f\n( a\t,\r[ 1 , b ] ) \r\n c ", 8, 4, "f(a,[1,b])\nc\n"),
     // A name in quotes is plain where it can be.
     ("\"f\"( \"a b\" ) \"_a'.-9\"", 3, 4, "f(\"a b\")\n_a'.-9\n"),
-    // Each mark right behind a name, and a name at the end: a, g over it, b, the empty list and two
+    // Each mark but `[` right behind a name, and a name at the end: a, g over it, b, the empty list and two
     // cells, c, f and d.
     ("f(g(a),[b,a],c)d", 9, 4, "f(g(a),[b,a],c)\nd\n"),
     // No white space is needed between two terms.

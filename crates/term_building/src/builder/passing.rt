@@ -43,7 +43,9 @@ impl Builder {
         }
     }
 
-    // Takes a piece where a term may begin: most are names, numbers and white space.
+    // Takes a piece anywhere but behind a whole term in a group. What is no plain name, number or
+    // white space where a term may begin is cut once more by `pass_any`, so that only these stand
+    // here.
     #[inline(always)]
     fn pass_piece<T: Terms>(
         &mut self,
