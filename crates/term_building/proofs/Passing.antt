@@ -255,6 +255,13 @@ begins_number text place end stage.Bracketed gs s e same = refl
 begins_number text place end stage.Expected gs s e same = refl
 begins_number text place end (stage.Headed h) gs s e same = absurd cc
 
+pub begins_quoted : (text : List ℕ) (place end : ℕ) (st : stage.Stage) (gs : List Group) (s : State) → build.may_begin st gs ≡ true → s.groups ≡ gs → build.step_at st text place end shape.Quoted s ≡ Some (build.on_quoted text place end s)
+begins_quoted text place end stage.Settled [] s e same = ap (λ k. build.after_term_under k text place end shape.Quoted s) same
+begins_quoted text place end stage.Settled (g ∷ gs) s e same = absurd cc
+begins_quoted text place end stage.Bracketed gs s e same = refl
+begins_quoted text place end stage.Expected gs s e same = refl
+begins_quoted text place end (stage.Headed h) gs s e same = absurd cc
+
 -- in a group behind a whole term
 pub step_in_group : (text : List ℕ) (place end : ℕ) (sh : Shape) (st : stage.Stage) (gs : List Group) (g : Group) (s : State) → st ≡ stage.Settled → s.groups ≡ gs → first_of gs ≡ Some g → build.step_at st text place end sh s ≡ build.in_group text end g sh s
 step_in_group text place end sh st [] g s e same f = absurd cc
@@ -287,6 +294,10 @@ module _ (text : List ℕ) (at : ℕ) (c : Cut) (h : at < length text) (piece : 
     pub passes_number : (s r : State) → t.shape ≡ shape.Number → build.may_begin s.stage s.groups ≡ true → build.on_value text end (value_at text t.place) s ≡ Some r → Passes text at s end r
     passes_number s r number may e =
         passes_whole s r (ap (λ k. build.step text t.place end k s) number ∙ begins_number text t.place end s.stage s.groups s may refl ∙ e)
+
+    pub passes_quoted : (s r : State) → t.shape ≡ shape.Quoted → build.may_begin s.stage s.groups ≡ true → Some (build.on_quoted text t.place end s) ≡ Some r → Passes text at s end r
+    passes_quoted s r quotes may e =
+        passes_whole s r (ap (λ k. build.step text t.place end k s) quotes ∙ begins_quoted text t.place end s.stage s.groups s may refl ∙ e)
 
     pub passes_word : (s r : State) (next : ℕ) → t.shape ≡ shape.Word → build.may_begin s.stage s.groups ≡ true → end ≤ next → next ≤ length text → (HasPassed text end (build.headed t.place end false s) → HasPassed text next r) → Passes text at s next r
     passes_word s r next word may from inside on =

@@ -68,8 +68,9 @@ impl Builder {
         Ok(())
     }
 
-    // A name in quotes comes.
-    fn on_quoted<T: Terms>(
+    // A name in quotes comes. It is rarer than a plain one, so it is a call.
+    #[inline(never)]
+    pub(super) fn on_quoted<T: Terms>(
         &mut self,
         alloc: Global,
         text: &[u8],

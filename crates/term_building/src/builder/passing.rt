@@ -43,9 +43,8 @@ impl Builder {
         }
     }
 
-    // Takes a piece anywhere but behind a whole term in a group. What is no plain name, number or
-    // white space where a term may begin is cut once more by `pass_any`, so that only these stand
-    // here.
+    // Takes a piece anywhere but behind a whole term in a group. What is no name, number or white
+    // space where a term may begin is cut once more by `pass_any`, so that only these stand here.
     #[inline(always)]
     fn pass_piece<T: Terms>(
         &mut self,
@@ -71,6 +70,10 @@ impl Builder {
                 Shape::Word if self.begins_term() => self.on_word(text, token.place, end, store),
                 Shape::Number if self.begins_term() => {
                     self.on_number(text, token.place, end, store)?;
+                    Ok(end)
+                }
+                Shape::Quoted if self.begins_term() => {
+                    self.on_quoted(alloc, text, token.place, end, store)?;
                     Ok(end)
                 }
                 _ => self.pass_any(alloc, text, at, store),

@@ -1,6 +1,6 @@
 use Rattle.std.proofs.Common.{ℕ, sym, IfOk, Result, Ok, Err}
 use Rattle.term_building.specs.Ready.{state_in}
-use Rattle.term_building.proofs.Passing.{passes_blank, passes_number, passes_word}
+use Rattle.term_building.proofs.Passing.{passes_blank, passes_number, passes_quoted, passes_word}
 use Rattle.term_building.proofs.builder.Builder.pass_piece.Goals as goal
 
 if_ok : {E : Type 0} {A B C D : ℕ → Type 0} (r : Result ℕ E) → ((n : ℕ) → A n → B n → C n → D n) → IfOk r A → IfOk r B → IfOk r C → IfOk r D
@@ -27,3 +27,9 @@ returns-in_ok-on_number-in-Number-clause-passes g c =
     let cut = c.in_ok-piece_at in
     passes_number c.args.text.now c.args.at cut.field-0 c.requires.at cut.ensures.piece c.in-Whole.token c.in-Whole.end c.in-Whole.is cut.ensures.begins cut.ensures.after cut.ensures.fits
     (state_in c.args.self.now (g.T.Terms.store c.args.store.now)) _ c.in-Number.is (sym c.if-begins_term-2.ensures) c.in_ok-on_number-in-Number.ensures.built
+
+pub returns-in_ok-on_quoted-in-Quoted-clause-passes : goal.returns-in_ok-on_quoted-in-Quoted-clause-passes
+returns-in_ok-on_quoted-in-Quoted-clause-passes g c =
+    let cut = c.in_ok-piece_at in
+    passes_quoted c.args.text.now c.args.at cut.field-0 c.requires.at cut.ensures.piece c.in-Whole.token c.in-Whole.end c.in-Whole.is cut.ensures.begins cut.ensures.after cut.ensures.fits
+    (state_in c.args.self.now (g.T.Terms.store c.args.store.now)) _ c.in-Quoted.is (sym c.if-begins_term-3.ensures) c.in_ok-on_quoted-in-Quoted.ensures.built
