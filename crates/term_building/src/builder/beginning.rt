@@ -1,5 +1,5 @@
 //! Tokens with which a term begins: names, numbers and opening brackets.
-ghost use Rattle.std.specs.Prelude.{◌≡◌, ◌≤◌, false, Some, IfOk, OnOk, length, slice_get};
+ghost use Rattle.std.specs.Prelude.{◌≡◌, ◌≤◌, ◌⊎◌, false, Some, IfOk, OnOk, length, slice_get};
 ghost use Rattle.term_syntax.specs.Shown.{value_at};
 ghost use Rattle.term_building.specs.declared.builder.beginning.Follows.TheVariants as follows;
 ghost use Rattle.term_building.specs.Reached.{HasPassed};
@@ -29,6 +29,8 @@ enum Follows {
 #[inline(always)]
 fn what_follows(text: &[u8], end: usize) -> Follows
     ensures opens { result ≡ follows.Opens → slice_get text.now end ≡ Some 40 }
+    ensures ends { result ≡ follows.Ends → (slice_get text.now end ≡ Some 44)
+        ⊎ ((slice_get text.now end ≡ Some 41) ⊎ (slice_get text.now end ≡ Some 93)) }
 {
     if end >= text.len() {
         return Follows::Other;
