@@ -42,6 +42,18 @@ fn what_follows(text: &[u8], end: usize) -> Follows
     }
 }
 
+// The name between two places. A text in which these have more than 32 bits is given up.
+#[inline(always)]
+fn heading_at(place: usize, end: usize, quoted: bool) -> Result<Heading, GivenUp>
+    ensures { IfOk result (λ h. h ≡ record { place = place; end = end; quoted = quoted }) }
+{
+    Ok(Heading {
+        place: in_32_bits(place)?,
+        end: in_32_bits(end)?,
+        quoted,
+    })
+}
+
 impl Builder {
     // A name was read.
     #[inline(always)]
@@ -61,11 +73,7 @@ impl Builder {
     {
         // Only the contract reads the store.
         let _ = &store;
-        self.heading = Heading {
-            place: in_32_bits(place)?,
-            end: in_32_bits(end)?,
-            quoted,
-        };
+        self.heading = heading_at(place, end, quoted)?;
         self.stage = Stage::Headed;
         Ok(())
     }
@@ -222,11 +230,7 @@ impl Builder {
         ensures ready { OnOk result (IsReady (T.store store.new) self.new) }
         ensures same { OnOk result (T.same store.old store.new) }
     {
-        let heading = Heading {
-            place: in_32_bits(place)?,
-            end: in_32_bits(end)?,
-            quoted: false,
-        };
+        let heading = heading_at(place, end, false)?;
         self.open(Some(heading), Stage::Expected, store)
     }
 
