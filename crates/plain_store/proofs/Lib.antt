@@ -7,6 +7,7 @@ pub mod Flattened
 pub mod Filling
 pub mod Fronts
 pub mod Placing
+pub mod Seeking
 pub mod Looking
 pub mod Keeping
 pub mod Reaching

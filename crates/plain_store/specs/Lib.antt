@@ -3,6 +3,7 @@ pub mod Pairs
 pub mod Flat
 pub mod Hash
 pub mod Index
+pub mod Looks
 pub mod Rooms
 pub mod Contents
 pub mod Agreement

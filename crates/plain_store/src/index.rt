@@ -1,10 +1,9 @@
 // Where the rows are: those in use by their hashes, and the free ones.
 ghost use Rattle.std.specs.Prelude.{◌≡◌, ◌+◌, ◌/◌, ◌^◌, ◌<◌, ◌≤◌, ◌++◌, [], ◌∷◌, ℕ, IfOk, IfSome, IfNone, length};
-ghost use Rattle.plain_store.specs.Hash.{hash, pair_hash};
+ghost use Rattle.plain_store.specs.Hash.{hash};
 ghost use Rattle.plain_store.specs.Index.{end, first_of, next_of, linked, freed, taken, bucket_of, IsIndexed};
 
-use crate::hashing::{hash_of, hash_pair};
-use crate::pairs::Pair;
+use crate::hashing::hash_of;
 use faults::Memory;
 use std::alloc::Global;
 use std::marker::Model;
@@ -48,9 +47,9 @@ impl Index {
         })
     }
 
-    // The bucket of a hash.
+    /// The bucket of a hash.
     #[inline(always)]
-    fn bucket_of_hash(&self, hash: u64) -> usize
+    pub(crate) fn bucket_of_hash(&self, hash: u64) -> usize
         ensures bucket { result ≡ hash / 2 ^ self.now.shift }
         ensures below { result < length self.now.firsts }
     {
@@ -64,16 +63,6 @@ impl Index {
         ensures below { result < length self.now.firsts }
     {
         self.bucket_of_hash(hash_of(head, arguments))
-    }
-
-    /// The bucket of this head over the rows of a pair.
-    #[inline(always)]
-    pub(crate) fn bucket_of_pair(&self, head: Head, pair: Pair) -> usize
-        requires { length pair ≡ 2 }
-        ensures bucket { result ≡ pair_hash head pair / 2 ^ self.now.shift }
-        ensures below { result < length self.now.firsts }
-    {
-        self.bucket_of_hash(hash_pair(head, pair))
     }
 
     /// The first row of a bucket's chain.

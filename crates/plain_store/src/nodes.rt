@@ -3,7 +3,10 @@ ghost use Rattle.std.specs.Prelude.{◌≡◌, ◌+◌, ◌<◌, ◌≤◌, ◌^
 ghost use Rattle.std.specs.Option.{option_map};
 ghost use Rattle.plain_store.specs.Slots.{free_slots, slot_at, children, with_slot, HasNone, IsFull, AreSwept, FreesRow};
 ghost use Rattle.plain_store.specs.Index.{IsFront, IsIndexed, IsIndexedTo};
+ghost use Rattle.plain_store.specs.Hash.{hash};
+ghost use Rattle.plain_store.specs.Looks.{Looks};
 
+use crate::hashing::hash_pair;
 use crate::index::{END, Index};
 use crate::pairs::pair_of;
 use crate::table::Table;
@@ -33,6 +36,16 @@ impl Model for Nodes {
     ghost invariant = { λ s. IsIndexedTo s.fresh s.table.slots s.index };
 }
 
+/// What a look at the first row of a chain tells.
+pub(crate) enum Look {
+    /// This row is the one.
+    Found(Row),
+    /// It isn't the first row, by the hash of what was looked for.
+    Missed(u64),
+    /// There are more than two arguments, and none was looked at.
+    Many,
+}
+
 // Puts a row into the chain of its bucket, or on the stack of free rows.
 fn add(table: &Table, index: &mut Index, row: Row)
     requires below { row.0 < length table.now.slots }
@@ -57,8 +70,10 @@ fn reuse(
     fresh: u32,
     head: Head,
     arguments: &[Row],
+    hashed: u64,
 ) -> Option<Row>
     requires room { length arguments.now ≤ table.old.widest }
+    requires hashed { hashed ≡ hash head arguments.now }
     requires indexed { IsIndexedTo fresh table.old.slots index.old }
     ensures free { IfSome result (λ row. slot_at table.old row ≡ None) }
     ensures below { IfSome result (λ row. row.0 < length table.old.slots) }
@@ -70,7 +85,7 @@ fn reuse(
 {
     let row = index.take_free()?;
     table.set(row, head, arguments);
-    let bucket = index.bucket(head, arguments);
+    let bucket = index.bucket_of_hash(hashed);
     index.link(bucket, row);
     Some(row)
 }
@@ -82,8 +97,10 @@ fn take_fresh(
     fresh: &mut u32,
     head: Head,
     arguments: &[Row],
+    hashed: u64,
 ) -> Option<Row>
     requires room { length arguments.now ≤ table.old.widest }
+    requires hashed { hashed ≡ hash head arguments.now }
     requires none { index.old.free ≡ [] }
     requires indexed { IsIndexedTo fresh.old table.old.slots index.old }
     ensures free { IfSome result (λ row. slot_at table.old row ≡ None) }
@@ -99,7 +116,7 @@ fn take_fresh(
         return None;
     }
     table.set(row, head, arguments);
-    let bucket = index.bucket(head, arguments);
+    let bucket = index.bucket_of_hash(hashed);
     index.link(bucket, row);
     *fresh += 1;
     Some(row)
@@ -141,30 +158,34 @@ impl Nodes {
         })
     }
 
-    /// The row that has this head over these rows, if it is the first of its chain and they are at
-    /// most two. Most rows are found so.
+    /// Looks for the row that has this head over these rows at the first of its chain, if they are
+    /// at most two. Most rows are found so.
     #[inline(always)]
-    pub(crate) fn find_first(&self, head: Head, arguments: &[Row]) -> Option<Row>
-        ensures { IfSome result (λ row. slot_at self.now row ≡ Some (head, arguments.now)) }
+    pub(crate) fn find_first(&self, head: Head, arguments: &[Row]) -> Look
+        ensures { Looks self.now head arguments.now result }
     {
-        let pair = pair_of(arguments)?;
-        let at = self.index.first(self.index.bucket_of_pair(head, pair));
+        let Some(pair) = pair_of(arguments) else {
+            return Look::Many;
+        };
+        let hashed = hash_pair(head, pair);
+        let at = self.index.first(self.index.bucket_of_hash(hashed));
         if at == END
             || !self
                 .table
                 .is_pair(Row(at), head, pair, arguments.len() as u32)
         {
-            return None;
+            return Look::Missed(hashed);
         }
-        Some(Row(at))
+        Look::Found(Row(at))
     }
 
-    /// The row that has this head over these rows.
-    pub(crate) fn find(&self, head: Head, arguments: &[Row]) -> Option<Row>
+    /// The row that has this head over these rows, of this hash.
+    pub(crate) fn find(&self, head: Head, arguments: &[Row], hashed: u64) -> Option<Row>
+        requires { hashed ≡ hash head arguments.now }
         ensures found { IfSome result (λ row. slot_at self.now row ≡ Some (head, arguments.now)) }
         ensures absent { IfNone result (HasNone self.now (Some (head, arguments.now))) }
     {
-        let mut at = self.index.first(self.index.bucket(head, arguments));
+        let mut at = self.index.first(self.index.bucket_of_hash(hashed));
         for passed in 0..self.table.len() {
             let _ = passed;
             if at == END {
@@ -178,9 +199,10 @@ impl Nodes {
         None
     }
 
-    /// Gives a free row a head and arguments, if there is one.
-    pub(crate) fn make(&mut self, head: Head, arguments: &[Row]) -> Option<Row>
-        requires { length arguments.now ≤ self.old.widest }
+    /// Gives a free row a head and arguments, of this hash, if there is one.
+    pub(crate) fn make(&mut self, head: Head, arguments: &[Row], hashed: u64) -> Option<Row>
+        requires room { length arguments.now ≤ self.old.widest }
+        requires hashed { hashed ≡ hash head arguments.now }
         ensures free { IfSome result (λ row. slot_at self.old row ≡ None) }
         ensures below { IfSome result (λ row. row.0 < length self.old.slots) }
         ensures made { IfSome result
@@ -194,6 +216,7 @@ impl Nodes {
             self.fresh,
             head,
             arguments,
+            hashed,
         );
         if let Some(row) = made {
             return Some(row);
@@ -204,6 +227,7 @@ impl Nodes {
             &mut self.fresh,
             head,
             arguments,
+            hashed,
         )
     }
 

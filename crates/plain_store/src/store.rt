@@ -1,12 +1,15 @@
 // The store.
 ghost use Rattle.std.specs.Prelude.{◌≡◌, ◌<◌, ◌≤◌, ◌^◌, ◌↔◌, IsTrue, IfOk, IfSome, IfNone, length, max};
-ghost use Rattle.terms_api.specs.Terms.{HasTree, asked, IsSound, MayBuild, NeedsPlace};
+ghost use Rattle.terms_api.specs.Terms.{HasTree, asked, last, IsSound, MayBuild, NeedsPlace};
+ghost use Rattle.plain_store.specs.Hash.{hash};
+ghost use Rattle.plain_store.specs.Looks.{LooksFor};
 ghost use Rattle.plain_store.specs.Outcome.{HoldsReachable, Outcome};
 ghost use Rattle.plain_store.specs.Contents.{store_of, empty, placed, refused, IsAbsent, IsFreeRow, HasNoFree, Collected};
 
 use crate::collecting::{keep_reachable, raised_once};
 use crate::event::Event;
-use crate::nodes::Nodes;
+use crate::hashing::hash_of;
+use crate::nodes::{Look, Nodes};
 use faults::Memory;
 use mark_phase::Marks;
 use row_stack::{History, Stack};
@@ -66,28 +69,36 @@ impl PlainStore {
         })
     }
 
-    /// The row of the tree of the head over the last `n` places, where one look finds it.
+    /// Looks for the row of the tree of the head over the last `n` places at one row.
     #[inline(always)]
-    pub(crate) fn find_first(&self, head: Head, n: u32) -> Option<Row>
+    pub(crate) fn find_first(&self, head: Head, n: u32) -> Look
         requires { n ≤ length self.now.stack }
-        ensures found { IfSome result
-            (λ row. HasTree (store_of self.now) row (asked (store_of self.now) head n)) }
+        ensures looks { LooksFor self.now head n result }
         ensures sound { IsSound (store_of self.now) }
         ensures holds { HoldsReachable self.now }
     {
         self.nodes.find_first(head, self.places.last(n as usize))
     }
 
-    /// The row of the tree of the head over the last `n` places.
-    pub(crate) fn find(&self, head: Head, n: u32) -> Option<Row>
+    /// The hash of the head over the last `n` places.
+    fn hash(&self, head: Head, n: u32) -> u64
         requires { n ≤ length self.now.stack }
+        ensures { result ≡ hash head (last n self.now.stack) }
+    {
+        hash_of(head, self.places.last(n as usize))
+    }
+
+    /// The row of the tree of the head over the last `n` places, of this hash.
+    pub(crate) fn find(&self, head: Head, n: u32, hashed: u64) -> Option<Row>
+        requires places { n ≤ length self.now.stack }
+        requires hashed { hashed ≡ hash head (last n self.now.stack) }
         ensures found { IfSome result
             (λ row. HasTree (store_of self.now) row (asked (store_of self.now) head n)) }
         ensures absent { IfNone result (IsAbsent self.now (asked (store_of self.now) head n)) }
         ensures sound { IsSound (store_of self.now) }
         ensures holds { HoldsReachable self.now }
     {
-        self.nodes.find(head, self.places.last(n as usize))
+        self.nodes.find(head, self.places.last(n as usize), hashed)
     }
 
     /// Puts a row that has the asked tree in the place of the last `n`.
@@ -102,17 +113,19 @@ impl PlainStore {
         self.places.put(n as usize, row);
     }
 
-    /// Gives a free row the asked tree, if there is one, and puts it in the place of the last `n`.
-    pub(crate) fn make(&mut self, head: Head, n: u32) -> Option<Row>
+    /// Gives a free row the asked tree, of this hash, if there is one, and puts it in the place of
+    /// the last `n`.
+    pub(crate) fn make(&mut self, head: Head, n: u32, hashed: u64) -> Option<Row>
         requires may { MayBuild (store_of self.old) head n }
         requires room { NeedsPlace (store_of self.old) n → ⊥ }
         requires absent { IsAbsent self.old (asked (store_of self.old) head n) }
+        requires hashed { hashed ≡ hash head (last n self.old.stack) }
         ensures made { IfSome result (λ row. self.new ≡ placed self.old head n row) }
         ensures free { IfSome result (IsFreeRow self.old) }
         ensures full { IfNone result (HasNoFree self.old) }
         ensures unchanged { IfNone result (self.new ≡ self.old) }
     {
-        let row = self.nodes.make(head, self.places.last(n as usize))?;
+        let row = self.nodes.make(head, self.places.last(n as usize), hashed)?;
         self.history = self.history.and(&self.places, &Event::Built(head, n, row));
         self.places.put(n as usize, row);
         Some(row)
@@ -145,29 +158,44 @@ impl PlainStore {
         if self.needs_place(n) {
             return Err(BuildFault::Deep);
         }
-        if let Some(row) = self.find_first(head, n) {
-            self.place(head, n, row);
-            return Ok(());
+        match self.find_first(head, n) {
+            Look::Found(row) => {
+                self.place(head, n, row);
+                Ok(())
+            }
+            Look::Missed(hashed) => self.build_further(head, n, hashed),
+            Look::Many => self.build_many(head, n),
         }
-        self.build_further(head, n)
     }
 
-    /// The same where one look didn't find the row.
+    /// The same where there are more than two arguments.
     #[inline(never)]
-    fn build_further(&mut self, head: Head, n: u32) -> Result<(), BuildFault>
+    fn build_many(&mut self, head: Head, n: u32) -> Result<(), BuildFault>
         requires may { MayBuild (store_of self.old) head n }
         requires room { NeedsPlace (store_of self.old) n → ⊥ }
         ensures { Outcome self.old self.new head n result }
     {
-        if let Some(row) = self.find(head, n) {
+        let hashed = self.hash(head, n);
+        self.build_further(head, n, hashed)
+    }
+
+    /// The same where one look didn't find the row, by the hash.
+    #[inline(never)]
+    fn build_further(&mut self, head: Head, n: u32, hashed: u64) -> Result<(), BuildFault>
+        requires may { MayBuild (store_of self.old) head n }
+        requires room { NeedsPlace (store_of self.old) n → ⊥ }
+        requires hashed { hashed ≡ hash head (last n self.old.stack) }
+        ensures { Outcome self.old self.new head n result }
+    {
+        if let Some(row) = self.find(head, n, hashed) {
             self.place(head, n, row);
             return Ok(());
         }
-        if let Some(_made) = self.make(head, n) {
+        if let Some(_made) = self.make(head, n, hashed) {
             return Ok(());
         }
         self.collect();
-        if let Some(_made) = self.make(head, n) {
+        if let Some(_made) = self.make(head, n, hashed) {
             return Ok(());
         }
         self.refuse();

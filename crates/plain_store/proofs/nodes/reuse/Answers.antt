@@ -21,11 +21,11 @@ link-requires-clause-row c =
 pub link-requires-clause-first : goal.link-requires-clause-first
 link-requires-clause-first c =
     let x = c.args.index.now in
-    let b = c.bucket-bucket.result in
+    let b = c.bucket_of_hash-bucket.result in
     let taken_is = c.in_ok-row.ensures.taken in
     let firsts = ap (λ (i : Index). length i.firsts) taken_is in
     subst (λ (i : Index). (first_of i b ≡ end → ⊥) → first_of i b < length i.nexts) (sym taken_is)
-    (first_below (take c.args.fresh c.args.table.now.slots) x b (omega (arith, firsts, c.bucket-bucket.ensures.below)) c.requires.indexed.indexed)
+    (first_below (take c.args.fresh c.args.table.now.slots) x b (omega (arith, firsts, c.bucket_of_hash-bucket.ensures.below)) c.requires.indexed.indexed)
 
 pub returns-clause-free : goal.returns-clause-free
 returns-clause-free c =
@@ -42,12 +42,12 @@ returns-clause-indexed c =
     let x = c.args.index.now in
     let k = c.in_ok-row.row in
     let s = node_of c.args.head c.args.arguments.now in
-    let b = c.bucket-bucket.result in
+    let b = c.bucket_of_hash-bucket.result in
     let taken_is = c.in_ok-row.ensures.taken in
     let shift = ap (λ (i : Index). i.shift) taken_is in
     let firsts = ap (λ (i : Index). length i.firsts) taken_is in
-    let is : b ≡ hash c.args.head c.args.arguments.now / 2 ^ x.shift = c.bucket-bucket.ensures.bucket ∙ ap (λ (n : ℕ). hash c.args.head c.args.arguments.now / 2 ^ n) shift in
+    let is : b ≡ hash c.args.head c.args.arguments.now / 2 ^ x.shift = c.bucket_of_hash-bucket.ensures.bucket ∙ ap (λ (m : ℕ). m / 2 ^ c.take_free.new.self.shift) c.requires.hashed ∙ ap (λ (n : ℕ). hash c.args.head c.args.arguments.now / 2 ^ n) shift in
     let last = c.in_ok-row.ensures.last ∙ ap (λ (i : Index). i.free ++ k ∷ []) taken_is in
-    let made = front_reused c.args.fresh slots x (taken x).free k s b last (ap (λ (n : ℕ). Some n) (sym is)) (omega (arith, firsts, c.bucket-bucket.ensures.below)) c.requires.indexed in
+    let made = front_reused c.args.fresh slots x (taken x).free k s b last (ap (λ (n : ℕ). Some n) (sym is)) (omega (arith, firsts, c.bucket_of_hash-bucket.ensures.below)) c.requires.indexed in
     let index = subst (λ (i : Index). IsIndexedTo c.args.fresh (set slots k.0 s) i) (sym (c.link.ensures ∙ ap (λ (i : Index). linked i b k) taken_is)) made in
     subst (λ (t : Slots). IsIndexedTo c.args.fresh t.slots c.link.new.self) (sym c.set.ensures) index

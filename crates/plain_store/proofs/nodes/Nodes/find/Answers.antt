@@ -1,4 +1,4 @@
-use Rattle.std.proofs.Common.{◌≡◌, ◌∙◌, true, false, None, get_or, refl, ap, sym, arith}
+use Rattle.std.proofs.Common.{◌≡◌, ◌∙◌, ◌/◌, ◌^◌, ℕ, true, false, None, get_or, refl, ap, sym, arith}
 use Rattle.plain_store.specs.Slots.{Slots}
 use Rattle.plain_store.specs.Index.{end}
 use Rattle.plain_store.proofs.Placing.{node_of}
@@ -10,7 +10,7 @@ loop-passed-init c =
     let x = c.self.inside.index in
     let slots = ap (λ (s : Slots). s.slots) c.self.view_is in
     ahead_is c.self.inside.table.slots c.args.self.now.slots x.nexts (node_of c.args.head c.args.arguments.now) _ c.first-at.result 0 slots c.first-at.ensures
-    (ahead_at_first c.self.inside.fresh c.self.inside.table.slots x c.args.head c.args.arguments.now c.bucket.result c.bucket.ensures.bucket c.bucket.ensures.below c.self.invariant)
+    (ahead_at_first c.self.inside.fresh c.self.inside.table.slots x c.args.head c.args.arguments.now c.bucket_of_hash.result (c.bucket_of_hash.ensures.bucket ∙ ap (λ (m : ℕ). m / 2 ^ x.shift) c.requires) c.bucket_of_hash.ensures.below c.self.invariant)
 
 pub is-requires-clause-below : goal.is-requires-clause-below
 is-requires-clause-below c =

@@ -5,11 +5,11 @@ use Rattle.plain_store.specs.Outcome.{IsBuilt}
 use Rattle.plain_store.proofs.Outcomes.{outcome_found}
 use Rattle.plain_store.proofs.store.PlainStore.try_build.Goals as goal
 
-pub returns-in-Some : goal.returns-in-Some
-returns-in-Some c =
+pub returns-in-Found : goal.returns-in-Found
+returns-in-Found c =
     let old = c.args.self.now in
     let h = c.args.head in
     let n = c.args.n in
     let place : NeedsPlace (store_of old) n → ⊥ = λ x. (let t : true ≡ false = sym (c.needs_place.ensures.1 x) ∙ c.if-needs_place.false in absurd (cc)) in
     subst (λ (x : Contents). IsBuilt old x h n) (sym c.place.ensures)
-    (outcome_found old h n c.in-Some.row c.find_first.ensures.sound c.find_first.ensures.holds c.requires place c.in-Some.ensures.found)
+    (outcome_found old h n c.in-Found.row c.find_first.ensures.sound c.find_first.ensures.holds c.requires place c.in-Found.ensures.looks)
