@@ -215,22 +215,26 @@ pub stack_held : (s : Store) → IsSound s → (r : Row) → Contains s.stack r 
 stack_held s sound r k = subst (IsHeld s) k.2 (sound.stack k.0 r k.1)
 
 slot_cases : (slots : Slots) (c : Contents) (h : Head) (n : ℕ) → Agree slots c.trees → IsSound (store_of c)
-    → ((k : ℕ) → get_or slots.slots k None ≡ node_of h (last n c.stack) → ⊥)
-    → (r : Row) → HasTree (store_of c) r (asked (store_of c) h n) → (slot : Slot) → slot_at slots r ≡ slot → ⊥
-slot_cases slots c h n agree sound none r has None e = absurd (let f = agree.free r e in let x : None ≡ Some (asked (store_of c) h n) = sym f ∙ has in cc)
-slot_cases slots c h n agree sound none r has (Some node) e =
+    → (r : Row) → (slot_at slots r ≡ node_of h (last n c.stack) → ⊥) → HasTree (store_of c) r (asked (store_of c) h n) → (slot : Slot) → slot_at slots r ≡ slot → ⊥
+slot_cases slots c h n agree sound r other has None e = absurd (let f = agree.free r e in let x : None ≡ Some (asked (store_of c) h n) = sym f ∙ has in cc)
+slot_cases slots c h n agree sound r other has (Some node) e =
     let s = store_of c in
     let both = sym (agree.node r node.0 node.1 e) ∙ has ∙ ap Some (asked_is c h n) in
     let heads = head_inj node.0 h (trees_of (trees_on c.trees node.1)) (trees_of (trees_on c.trees (last n c.stack))) both in
     let args = trees_inj (trees_on c.trees node.1) (trees_on c.trees (last n c.stack)) (args_inj node.0 h (trees_of (trees_on c.trees node.1)) (trees_of (trees_on c.trees (last n c.stack))) both) in
     let rows = rows_equal s sound node.1 (last n c.stack) (λ q k. agree.held r node.0 node.1 e q k) (λ q k. stack_held s sound q (contains_drop (length c.stack - n) c.stack q k)) args in
-    none r.0 (e ∙ node_same node.0 h node.1 (last n c.stack) heads rows)
+    other (e ∙ node_same node.0 h node.1 (last n c.stack) heads rows)
+
+-- a row that hasn't the asked head over the asked rows hasn't the asked tree
+pub other_tree : (slots : Slots) (c : Contents) (h : Head) (n : ℕ) → Agree slots c.trees → IsSound (store_of c)
+    → (r : Row) → (slot_at slots r ≡ node_of h (last n c.stack) → ⊥) → HasTree (store_of c) r (asked (store_of c) h n) → ⊥
+other_tree slots c h n agree sound r other has = slot_cases slots c h n agree sound r other has (slot_at slots r) refl
 
 -- where no row has the asked head over the asked rows, none has the asked tree
 pub absent_tree : (slots : Slots) (c : Contents) (h : Head) (n : ℕ) → Agree slots c.trees → IsSound (store_of c)
     → ((k : ℕ) → get_or slots.slots k None ≡ node_of h (last n c.stack) → ⊥)
     → (r : Row) → HasTree (store_of c) r (asked (store_of c) h n) → ⊥
-absent_tree slots c h n agree sound none r has = slot_cases slots c h n agree sound none r has (slot_at slots r) refl
+absent_tree slots c h n agree sound none r has = other_tree slots c h n agree sound r (none r.0) has
 
 pub no_some : (o : Option Tree) → IsSome o → o ≡ None → ⊥
 no_some None h e = absurd (cc)

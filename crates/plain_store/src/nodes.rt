@@ -4,7 +4,7 @@ ghost use Rattle.std.specs.Option.{option_map};
 ghost use Rattle.plain_store.specs.Slots.{free_slots, slot_at, children, with_slot, HasNone, IsFull, AreSwept, FreesRow};
 ghost use Rattle.plain_store.specs.Index.{IsFront, IsIndexed, IsIndexedTo};
 ghost use Rattle.plain_store.specs.Hash.{hash};
-ghost use Rattle.plain_store.specs.Looks.{Looks};
+ghost use Rattle.plain_store.specs.Looks.{IsOther, Looks};
 
 use crate::hashing::hash_pair;
 use crate::index::{END, Index};
@@ -40,8 +40,8 @@ impl Model for Nodes {
 pub(crate) enum Look {
     /// This row is the one.
     Found(Row),
-    /// It isn't the first row, by the hash of what was looked for.
-    Missed(u64),
+    /// It isn't the row at this place, the first of its chain, by the hash of what was looked for.
+    Missed(u64, u32),
     /// There are more than two arguments, and none was looked at.
     Many,
 }
@@ -174,14 +174,16 @@ impl Nodes {
                 .table
                 .is_pair(Row(at), head, pair, arguments.len() as u32)
         {
-            return Look::Missed(hashed);
+            return Look::Missed(hashed, at);
         }
         Look::Found(Row(at))
     }
 
-    /// The row that has this head over these rows, of this hash.
-    pub(crate) fn find(&self, head: Head, arguments: &[Row], hashed: u64) -> Option<Row>
-        requires { hashed ≡ hash head arguments.now }
+    /// The row that has this head over these rows, of this hash. The one that was seen isn't looked
+    /// at.
+    pub(crate) fn find(&self, head: Head, arguments: &[Row], hashed: u64, seen: u32) -> Option<Row>
+        requires hashed { hashed ≡ hash head arguments.now }
+        requires seen { IsOther self.now head arguments.now seen }
         ensures found { IfSome result (λ row. slot_at self.now row ≡ Some (head, arguments.now)) }
         ensures absent { IfNone result (HasNone self.now (Some (head, arguments.now))) }
     {
@@ -191,7 +193,7 @@ impl Nodes {
             if at == END {
                 return None;
             }
-            if self.table.is(Row(at), head, arguments) {
+            if at != seen && self.table.is(Row(at), head, arguments) {
                 return Some(Row(at));
             }
             at = self.index.next(at);

@@ -14,7 +14,7 @@ returns-clause-looks c =
     let h = c.args.head in
     let n = c.args.n in
     subst (λ (x : Contents). LooksFor x h n c.find_first.result) c.self.view_is
-    (look_for s.nodes (contents_of s) h n c.last.result.now c.find_first.result c.self.invariant.agree c.last.ensures c.find_first.ensures)
+    (look_for s.nodes (contents_of s) h n c.last.result.now c.find_first.result c.self.invariant.agree c.self.invariant.sound c.last.ensures c.find_first.ensures)
 
 pub returns-clause-sound : goal.returns-clause-sound
 returns-clause-sound c = subst (λ (x : Contents). IsSound (store_of x)) c.self.view_is c.self.invariant.sound
