@@ -1,5 +1,5 @@
 -- What a look at an entry tells of its row.
-use Rattle.std.proofs.Common.{◌≡◌, ℕ, ◌<◌, ◌≤◌, Bool, true, false, List, inl, inr, length, take, refl, ap, sym, ◌∙◌, arith}
+use Rattle.std.proofs.Common.{◌≡◌, ℕ, ◌<◌, ◌≤◌, Bool, true, false, List, None, inl, inr, length, take, refl, ap, sym, ◌∙◌, arith}
 use Rattle.std.proofs.lemmas.Bool.{cases_lt}
 use Rattle.std.proofs.lemmas.List.{length-take-le}
 use Rattle.term_model.specs.declared.Row.{Row}
@@ -25,6 +25,11 @@ rows_counted w size k e places ok fits =
 used_if : (b : Bool) (h g : Head) (xs ys : List Row) → slot_if b h xs ≡ node_of g ys → b ≡ true
 used_if false h g xs ys e = absurd (cc)
 used_if true h g xs ys e = refl
+
+-- a row that isn't free is in use
+pub used_so : (used : Bool) (h : Head) (rows : List Row) → (slot_if used h rows ≡ None → ⊥) → used ≡ true
+used_so false h rows some = absurd (some refl)
+used_so true h rows some = refl
 
 -- an entry whose row has at most two arguments, as they stand in the pair
 pub record HasPair (e : Entry) (h : Head) (pair : List Row) (n : ℕ) : Type 0 where

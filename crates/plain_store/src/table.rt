@@ -143,7 +143,7 @@ impl Table {
         ensures { IsTrue result ↔ (slot_at self.now row ≡ Some (head, take count pair)) }
     {
         let entry = &self.entries[row.0 as usize];
-        if !entry.used || entry.count != count {
+        if entry.count != count {
             return false;
         }
         same_pair(entry.pair, pair) && same_head(entry.head, head)

@@ -4,13 +4,12 @@ use Rattle.term_model.specs.declared.Head.{Head}
 use Rattle.term_model.specs.Tree.{head_eq}
 use Rattle.term_model.proofs.Equality.{head_eq_refl, head_eq_sound}
 use Rattle.plain_store.specs.Slots.{Slots}
-use Rattle.plain_store.specs.Flat.{IsEntry}
+use Rattle.plain_store.specs.Flat.{rows_of, IsEntry}
 use Rattle.plain_store.proofs.Pairing.{filled_has_two}
 use Rattle.plain_store.proofs.Flattened.{slot_is}
 use Rattle.plain_store.proofs.Filling.{used_below}
-use Rattle.plain_store.proofs.Looking.{HasPair, pair_told, pair_shows}
+use Rattle.plain_store.proofs.Looking.{HasPair, used_so, pair_told, pair_shows}
 use Rattle.plain_store.proofs.table.Table.is_pair.Goals as goal
-use Rattle.plain_store.proofs.table.Table.is_pair.Goals.{then-not-entry-via-then-not-entry, then-not-entry-via-else-not-entry+then-entry-count}
 
 pub index-entry-requires : goal.index-entry-requires
 index-entry-requires c =
@@ -19,8 +18,8 @@ index-entry-requires c =
     let lt = used_below s.widest s.rows s.entries.items s.places.items c.args.self.now.slots c.args.row.0 shown c.requires.used in
     omega (arith, lt, s.entries.ok.0)
 
-pub returns-then-not-entry : goal.returns-then-not-entry
-returns-then-not-entry c =
+pub returns-then-entry-count : goal.returns-then-entry-count
+returns-then-entry-count c =
     let s = c.self.inside in
     let k = c.args.row.0 in
     let e = c.index-entry.result.now in
@@ -31,10 +30,7 @@ returns-then-not-entry c =
     let is = slot_is s.widest s.rows s.entries.items s.places.items c.args.self.now.slots k e shown lt c.index-entry.ensures in
     let fits : 2 < e.count → e.count ≤ length places = λ many. (let there = ok.places many in omega (arith, there, length-drop (k * s.widest) s.places.items, ok.fits)) in
     let told = pair_told s.widest (length s.places.items) k e places (get_or c.args.self.now.slots k None) c.args.head c.args.pair c.args.count ok fits is c.requires.few c.requires.filled in
-    elim c.then-not-entry.branch [
-      | then-not-entry-via-then-not-entry w ↦ (λ t. absurd (cc), λ given. (let used = (told given).used in absurd (cc)))
-      | then-not-entry-via-else-not-entry+then-entry-count w ↦ (λ t. absurd (cc), λ given. absurd (w.if-entry-count.true (told given).count))
-    ]
+    (λ t. absurd (cc), λ given. absurd (c.if-entry-count.true (told given).count))
 
 pub same_pair-requires : goal.same_pair-requires
 same_pair-requires c =
@@ -63,7 +59,7 @@ returns-then-same_pair c =
     let told = pair_told s.widest (length s.places.items) k e places (get_or c.args.self.now.slots k None) c.args.head c.args.pair c.args.count ok fits is c.requires.few c.requires.filled in (
       λ t. (
           let heads = head_eq_sound e.head c.args.head (sym c.same_head.ensures ∙ t) in
-          let has : HasPair e c.args.head c.args.pair c.args.count = record { used = c.if-not-entry.false; count = c.if-entry-count.false; same = c.same_pair.ensures.0 c.if-same_pair.true; head = heads } in
+          let has : HasPair e c.args.head c.args.pair c.args.count = record { used = used_so e.used e.head (rows_of e places) (λ none. c.requires.used (is ∙ none)); count = c.if-entry-count.false; same = c.same_pair.ensures.0 c.if-same_pair.true; head = heads } in
           pair_shows e places (get_or c.args.self.now.slots k None) c.args.head c.args.pair c.args.count is c.requires.few has),
       λ given. c.same_head.ensures ∙ ap (λ (h : Head). head_eq h c.args.head) (told given).head ∙ head_eq_refl c.args.head,
     )
