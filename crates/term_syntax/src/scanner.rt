@@ -14,34 +14,13 @@ use crate::token::{Mark, Shape, Token};
 use faults::kinds;
 use read_faults::{ReadFail, refused};
 use std::alloc::Global;
-use tree_text::continues_name;
+use tree_text::{begins_name, continues_name};
 
 /// What begins at a byte: white space of one byte, or a token with the place after it.
 #[derive(Clone, Copy)]
 pub enum Cut {
     Blank,
     Whole(Token, usize),
-}
-
-// Each byte with which a plain name begins is at its own place, and a comma is at every other
-// place.
-static FIRST_BYTES: [u8; 256] = *b"\
-    ,,,,,,,,,,,,,,,,,,,,,,,,,,,,,,,,\
-    ,,,,,,,,,,,,,,,,,,,,,,,,,,,,,,,,\
-    ,ABCDEFGHIJKLMNOPQRSTUVWXYZ,,,,_\
-    ,abcdefghijklmnopqrstuvwxyz,,,,,\
-    ,,,,,,,,,,,,,,,,,,,,,,,,,,,,,,,,\
-    ,,,,,,,,,,,,,,,,,,,,,,,,,,,,,,,,\
-    ,,,,,,,,,,,,,,,,,,,,,,,,,,,,,,,,\
-    ,,,,,,,,,,,,,,,,,,,,,,,,,,,,,,,,";
-
-// Whether a plain name begins with this byte. Names are frequent, and a test by
-// ranges takes several comparisons, so it is looked up.
-#[inline(always)]
-fn begins_name(byte: u8) -> bool
-    ensures { result ≡ name_bytes.begins_name byte }
-{
-    FIRST_BYTES[byte as usize] != b','
 }
 
 // The place after the name bytes that stand from `start` on.

@@ -1,3 +1,4 @@
 pub mod Arriving
 pub mod CellCounts
+pub mod Tables
 pub mod Writings

@@ -14,12 +14,25 @@ static NAME_BYTES: [u8; 256] = *b"\
     ,,,,,,,,,,,,,,,,,,,,,,,,,,,,,,,,\
     ,,,,,,,,,,,,,,,,,,,,,,,,,,,,,,,,";
 
-/// Whether a plain name may begin with this byte.
+// Each byte with which a plain name begins is at its own place, and a comma is at every other
+// place.
+static FIRST_BYTES: [u8; 256] = *b"\
+    ,,,,,,,,,,,,,,,,,,,,,,,,,,,,,,,,\
+    ,,,,,,,,,,,,,,,,,,,,,,,,,,,,,,,,\
+    ,ABCDEFGHIJKLMNOPQRSTUVWXYZ,,,,_\
+    ,abcdefghijklmnopqrstuvwxyz,,,,,\
+    ,,,,,,,,,,,,,,,,,,,,,,,,,,,,,,,,\
+    ,,,,,,,,,,,,,,,,,,,,,,,,,,,,,,,,\
+    ,,,,,,,,,,,,,,,,,,,,,,,,,,,,,,,,\
+    ,,,,,,,,,,,,,,,,,,,,,,,,,,,,,,,,";
+
+/// Whether a plain name may begin with this byte. Names are frequent, and a test by ranges takes
+/// several comparisons, so it is looked up.
 #[inline(always)]
 pub fn begins_name(byte: u8) -> bool
     ensures { result ≡ spec.begins_name byte }
 {
-    byte.is_ascii_alphabetic() || byte == b'_'
+    FIRST_BYTES[byte as usize] != b','
 }
 
 /// Whether a plain name may go on with this byte.

@@ -1,13 +1,11 @@
--- The table is held against the definition at each of the 256 bytes, by computing.
+-- A table of bytes, with a comma where a test fails, is held against the test at each of the 256
+-- bytes, by computing.
 use Rattle.std.proofs.Common.{◌≡◌, ℕ, zero, suc, ◌<◌, Bool, true, false, ◌&&◌, not, nat_eq, get_or, List, refl, arith, inl, inr}
 use Rattle.std.specs.Bool.{beq}
 use Rattle.std.proofs.lemmas.Bool.{cases_eq}
-use Rattle.term_syntax.specs.declared.scanner.TheConstants.{FIRST_BYTES}
-use Rattle.tree_text.specs.NameBytes.{begins_name}
-use Rattle.term_syntax.proofs.scanner.begins_name.Goals as goal
 
 -- the two tests agree below n
-agree_below : (ℕ → Bool) → (ℕ → Bool) → ℕ → Bool
+unfoldable pub agree_below : (ℕ → Bool) → (ℕ → Bool) → ℕ → Bool
 agree_below f g zero = true
 agree_below f g (suc n) = beq (f n) (g n) && agree_below f g n
 
@@ -24,11 +22,7 @@ agree_at f g (suc n) h b lt =
     let both = both_of (f n) (g n) (agree_below f g n) h in
     elim (cases_eq b n) [ inl same ↦ rw same both.0 | inr other ↦ agree_at f g n both.1 b (omega arith) ]
 
-from_table : (table : List ℕ) (b : ℕ) → b < 256
-    → agree_below (λ k. not (nat_eq (get_or table k 0) 44)) begins_name 256 ≡ true
-    → not (nat_eq (get_or table b 0) 44) ≡ begins_name b
-from_table table b lt h = agree_at _ _ 256 h b lt
-
-pub returns : goal.returns
-unfolding agree_below
-returns c = from_table FIRST_BYTES c.args.byte (omega arith) refl
+pub from_table : (f : ℕ → Bool) (table : List ℕ) (b : ℕ) → b < 256
+    → agree_below (λ k. not (nat_eq (get_or table k 0) 44)) f 256 ≡ true
+    → not (nat_eq (get_or table b 0) 44) ≡ f b
+from_table f table b lt h = agree_at _ _ 256 h b lt
