@@ -17,7 +17,7 @@ somes [] = []
 somes (None ∷ os) = somes os
 somes (Some t ∷ os) = t ∷ somes os
 
-somes_length : (os : List (Option Tree)) → length (somes os) ≤ length os
+pub somes_length : (os : List (Option Tree)) → length (somes os) ≤ length os
 somes_length [] = omega arith
 somes_length (None ∷ os) = let r = somes_length os in omega (arith, r)
 somes_length (Some t ∷ os) = let r = somes_length os in omega (arith, r)
@@ -33,14 +33,14 @@ none_missing [] all = refl
 none_missing (None ∷ os) all = absurd (all 0 (omega arith) refl)
 none_missing (Some t ∷ os) all = let r = none_missing os (λ k h e. all (suc k) (omega arith) e) in omega (arith, r)
 
-among_somes : (os : List (Option Tree)) (k : ℕ) (t : Tree) → get_or os k None ≡ Some t → among t (somes os) ≡ true
+pub among_somes : (os : List (Option Tree)) (k : ℕ) (t : Tree) → get_or os k None ≡ Some t → among t (somes os) ≡ true
 among_somes [] k t e = absurd (cc)
 among_somes (None ∷ os) zero t e = absurd (cc)
 among_somes (None ∷ os) (suc k) t e = among_somes os k t e
 among_somes (Some u ∷ os) zero t e = among_here t u (somes os) (let f : u ≡ t = cc in sym f)
 among_somes (Some u ∷ os) (suc k) t e = among_there t u (somes os) (among_somes os k t e)
 
-place_somes : (os : List (Option Tree)) (t : Tree) → among t (somes os) ≡ true → (k : ℕ) × (get_or os k None ≡ Some t)
+pub place_somes : (os : List (Option Tree)) (t : Tree) → among t (somes os) ≡ true → (k : ℕ) × (get_or os k None ≡ Some t)
 place_somes [] t h = absurd (cc)
 place_somes (None ∷ os) t h = let r = place_somes os t h in (suc r.0, r.1)
 place_somes (Some u ∷ os) t h =
@@ -57,7 +57,7 @@ not_among true no_true = absurd (no_true refl)
 not_among false no_true = refl
 
 -- where no tree is there twice, all are different
-all_differ : (os : List (Option Tree)) → ((i j : ℕ) (t : Tree) → get_or os i None ≡ Some t → get_or os j None ≡ Some t → i ≡ j) → distinct (somes os) ≡ length (somes os)
+pub all_differ : (os : List (Option Tree)) → ((i j : ℕ) (t : Tree) → get_or os i None ≡ Some t → get_or os j None ≡ Some t → i ≡ j) → distinct (somes os) ≡ length (somes os)
 all_differ [] one = refl
 all_differ (None ∷ os) one = all_differ os (λ i j t e f. (let s : suc i ≡ suc j = one (suc i) (suc j) t e f in omega arith))
 all_differ (Some t ∷ os) one =

@@ -21,6 +21,16 @@ length-reached k es =
     let n = k + 1 - length es in
     length-append es (replicate n free_entry) ∙ ap (λ j. length es + j) (length-replicate n free_entry)
 
+-- the next entry is written by setting it
+pub set_behind : (es : List Entry) (d e : Entry) → set (es ++ d ∷ []) (length es) e ≡ es ++ e ∷ []
+set_behind [] d e = refl
+set_behind (x ∷ es) d e = ap (λ xs. x ∷ xs) (set_behind es d e)
+
+pub put_next : (k : ℕ) (es : List Entry) (e : Entry) → length es ≡ k → es ++ e ∷ [] ≡ set (reached k es) k e
+put_next k es e is =
+    let one : k + 1 - length es ≡ 1 = omega (arith, is) in
+    sym (ap (λ n. set (es ++ replicate n free_entry) k e) one ∙ ap (λ i. set (es ++ free_entry ∷ []) i e) (sym is) ∙ set_behind es free_entry e)
+
 pub all_reached : (w rows k : ℕ) (es : List Entry) (places : List Row) → length es ≤ rows → k < rows → all_slots w rows (reached k es) places ≡ all_slots w rows es places
 all_reached w rows k es places le lt =
     let n = k + 1 - length es in

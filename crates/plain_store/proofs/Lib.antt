@@ -16,3 +16,4 @@ pub mod Stepping
 pub mod Beginning
 pub mod Outcomes
 pub mod Ends
+pub mod Used

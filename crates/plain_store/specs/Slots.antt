@@ -1,5 +1,5 @@
 -- Rows: each is free, or has a head over the rows of its arguments.
-use Rattle.std.specs.Prelude.{◌≡◌, ℕ, ◌<◌, Bool, true, false, List, [], Option, Some, None, IsSome, length, slice_index_or, slice_set, replicate}
+use Rattle.std.specs.Prelude.{◌≡◌, ℕ, ◌+◌, ◌<◌, Bool, true, false, List, [], ◌∷◌, Option, Some, None, IsSome, length, slice_index_or, slice_set, replicate}
 use Rattle.term_model.specs.declared.Row.{Row}
 use Rattle.term_model.specs.declared.Head.{Head}
 
@@ -28,6 +28,12 @@ children s r = arguments_of (slot_at s r)
 
 abbrev pub with_slot : Slots → Row → Slot → Slots
 with_slot s r n = record s { slots = slice_set s.slots r.0 n }
+
+-- how many of these aren't None
+abbrev pub some_count : {A : Type 0} → List (Option A) → ℕ
+some_count [] = 0
+some_count (None ∷ os) = some_count os
+some_count (Some a ∷ os) = some_count os + 1
 
 -- no row has this
 abbrev pub HasNone : Slots → Slot → Type 0

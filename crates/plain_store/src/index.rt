@@ -1,5 +1,5 @@
 // Where the rows are: those in use by their hashes, and the free ones.
-ghost use Rattle.std.specs.Prelude.{◌≡◌, ◌+◌, ◌/◌, ◌^◌, ◌<◌, ◌≤◌, ◌++◌, [], ◌∷◌, ℕ, IfOk, IfSome, IfNone, length};
+ghost use Rattle.std.specs.Prelude.{◌≡◌, ◌+◌, ◌/◌, ◌^◌, ◌<◌, ◌≤◌, ◌↔◌, ◌++◌, [], ◌∷◌, ℕ, IfOk, IfSome, IfNone, false, length};
 ghost use Rattle.plain_store.specs.Hash.{hash};
 ghost use Rattle.plain_store.specs.Index.{end, first_of, next_of, linked, freed, taken, bucket_of, IsIndexed};
 
@@ -110,6 +110,13 @@ impl Index {
         ensures { self.new ≡ freed self.old row }
     {
         let _ = self.free.push(row);
+    }
+
+    /// Whether there is a free row that was in use before.
+    pub(crate) fn has_free(&self) -> bool
+        ensures { (result ≡ false) ↔ (self.now.free ≡ []) }
+    {
+        !self.free.is_empty()
     }
 
     /// Takes the last free row.

@@ -1,7 +1,7 @@
 // The rows of a store, each tree of which is found by its hash.
 ghost use Rattle.std.specs.Prelude.{◌≡◌, ◌+◌, ◌<◌, ◌≤◌, ◌^◌, ℕ, Option, Some, None, IfOk, IfSome, IfNone, IsSome, true, false, length, replicate, take, [], slice_get, slice_index_or};
 ghost use Rattle.std.specs.Option.{option_map};
-ghost use Rattle.plain_store.specs.Slots.{free_slots, slot_at, children, with_slot, HasNone, IsFull, AreSwept, FreesRow};
+ghost use Rattle.plain_store.specs.Slots.{free_slots, slot_at, children, with_slot, some_count, HasNone, IsFull, AreSwept, FreesRow};
 ghost use Rattle.plain_store.specs.Index.{IsFront, IsIndexed, IsIndexedTo};
 ghost use Rattle.plain_store.specs.Hash.{hash};
 ghost use Rattle.plain_store.specs.Looks.{IsOther, Looks};
@@ -144,6 +144,19 @@ fn sweep_rows(table: &mut Table, index: &mut Index, fresh: u32, marks: &Marks) -
     lost
 }
 
+// How many rows are in use.
+fn count_used(table: &Table) -> u32
+    ensures { result ≡ some_count table.now.slots }
+{
+    let mut used: u32 = 0;
+    for i in 0..table.len() {
+        if table.head(Row(i)).is_some() {
+            used += 1;
+        }
+    }
+    used
+}
+
 impl Nodes {
     /// So many free rows. All their memory is taken here.
     pub(crate) fn new(alloc: Global, rows: u32, widest: u32) -> Result<Nodes, Memory>
@@ -242,6 +255,17 @@ impl Nodes {
     {
         self.index.clear();
         sweep_rows(&mut self.table, &mut self.index, self.fresh, marks)
+    }
+
+    /// How many rows are in use.
+    pub(crate) fn used(&self) -> u32
+        ensures { result ≡ some_count self.now.slots }
+    {
+        if self.index.has_free() {
+            count_used(&self.table)
+        } else {
+            self.fresh
+        }
     }
 
     /// The head of a row, which a free row doesn't have.

@@ -2,6 +2,7 @@
 ghost use Rattle.std.specs.Prelude.{◌≡◌, ◌<◌, ◌≤◌, ◌^◌, ◌↔◌, IsTrue, IfOk, IfSome, IfNone, length, max};
 ghost use Rattle.terms_api.specs.Terms.{HasTree, asked, last, IsSound, MayBuild, NeedsPlace};
 ghost use Rattle.plain_store.specs.Hash.{hash};
+ghost use Rattle.plain_store.specs.Slots.{some_count};
 ghost use Rattle.plain_store.specs.Looks.{HasOther, LooksFor};
 ghost use Rattle.plain_store.specs.Outcome.{HoldsReachable, Outcome};
 ghost use Rattle.plain_store.specs.Contents.{store_of, empty, placed, refused, IsAbsent, IsFreeRow, HasNoFree, Collected};
@@ -68,6 +69,14 @@ impl PlainStore {
             raised: 0,
             history: History::new(),
         })
+    }
+
+    /// How many rows have a tree.
+    pub fn used(&self) -> u32
+        ensures used { result ≡ some_count self.now.trees }
+        ensures sound { IsSound (store_of self.now) }
+    {
+        self.nodes.used()
     }
 
     /// Looks for the row of the tree of the head over the last `n` places at one row.

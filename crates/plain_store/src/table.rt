@@ -1,5 +1,5 @@
 // What the rows have, in flat arrays.
-ghost use Rattle.std.specs.Prelude.{◌≡◌, ◌+◌, ◌-◌, ◌++◌, ◌<◌, ◌≤◌, ◌*◌, ◌^◌, ◌↔◌, ℕ, Option, Some, None, IfOk, IsSome, IsTrue, true, false, length, take, drop, replicate, slice_get, slice_index_or, vec_capacity};
+ghost use Rattle.std.specs.Prelude.{◌≡◌, ◌+◌, ◌-◌, ◌++◌, ◌<◌, ◌≤◌, ◌*◌, ◌^◌, ◌↔◌, ℕ, Option, Some, None, IfOk, IsSome, IsTrue, true, false, length, take, drop, replicate, slice_get, slice_index_or, slice_set, vec_capacity};
 ghost use Rattle.std.specs.Option.{option_map};
 ghost use Rattle.plain_store.specs.Pairs.{filled, no_row};
 ghost use Rattle.plain_store.specs.Flat.{written, reached};
@@ -82,6 +82,31 @@ fn write(places: &mut [Row], from: usize, rows: &[Row])
     part.copy_from_slice(rows);
 }
 
+// Writes the entry of a row. That of a new row mostly comes right behind the last.
+#[inline(always)]
+fn put(entries: &mut Vec<Entry>, row: Row, entry: Entry)
+    requires { row.0 < vec_capacity entries.old }
+    ensures items { entries.new.items ≡ slice_set (reached row.0 entries.old.items) row.0 entry }
+    ensures room { vec_capacity entries.old ≤ vec_capacity entries.new }
+{
+    if entries.len() == row.0 as usize {
+        entries.push_reserved(entry);
+    } else {
+        put_apart(entries, row, entry);
+    }
+}
+
+// The same wherever the row is.
+#[inline(never)]
+fn put_apart(entries: &mut Vec<Entry>, row: Row, entry: Entry)
+    requires { row.0 < vec_capacity entries.old }
+    ensures items { entries.new.items ≡ slice_set (reached row.0 entries.old.items) row.0 entry }
+    ensures room { vec_capacity entries.old ≤ vec_capacity entries.new }
+{
+    reach(entries, row);
+    entries[row.0 as usize] = entry;
+}
+
 // Makes entries of free rows up to this row's, where they lack.
 fn reach(entries: &mut Vec<Entry>, row: Row)
     requires { row.0 < vec_capacity entries.old }
@@ -162,6 +187,7 @@ impl Table {
     }
 
     /// Gives the row a head and arguments, for which it has the room.
+    #[inline(always)]
     pub(crate) fn set(&mut self, row: Row, head: Head, arguments: &[Row])
         requires below { row.0 < length self.old.slots }
         requires room { length arguments.now ≤ self.old.widest }
@@ -174,6 +200,7 @@ impl Table {
     }
 
     // Gives the row a head and at most two arguments.
+    #[inline(always)]
     fn set_pair(&mut self, row: Row, head: Head, pair: Pair, count: u32)
         requires below { row.0 < length self.old.slots }
         requires room { count ≤ self.old.widest }
@@ -181,16 +208,17 @@ impl Table {
         requires filled { pair ≡ filled (take count pair) }
         ensures { self.new ≡ with_slot self.old row (Some (head, take count pair)) }
     {
-        reach(&mut self.entries, row);
-        self.entries[row.0 as usize] = Entry {
+        let entry = Entry {
             head,
             pair,
             count,
             used: true,
         };
+        put(&mut self.entries, row, entry);
     }
 
     // Gives the row a head and more than two arguments.
+    #[inline(never)]
     fn set_rows(&mut self, row: Row, head: Head, arguments: &[Row])
         requires below { row.0 < length self.old.slots }
         requires room { length arguments.now ≤ self.old.widest }
@@ -198,15 +226,15 @@ impl Table {
         ensures { self.new ≡ with_slot self.old row (Some (head, arguments.now)) }
     {
         let from = row.0 as usize * self.widest as usize;
-        reach(&mut self.entries, row);
         reach_places(&mut self.places, from + self.widest as usize);
         write(&mut self.places, from, arguments);
-        self.entries[row.0 as usize] = Entry {
+        let entry = Entry {
             head,
             pair: EMPTY,
             count: arguments.len() as u32,
             used: true,
         };
+        put(&mut self.entries, row, entry);
     }
 
     /// Frees the row unless it is to be kept, and says whether it wasn't free.

@@ -1,4 +1,4 @@
-use Rattle.std.proofs.Common.{◌≡◌, ◌∙◌, ◌/◌, ◌^◌, ℕ, List, Some, ap, sym, subst, arith}
+use Rattle.std.proofs.Common.{◌≡◌, ◌∙◌, ◌/◌, ◌^◌, ℕ, List, ap, sym, subst, arith}
 use Rattle.term_model.specs.declared.Row.{Row}
 use Rattle.plain_store.specs.Slots.{Slots, slot_at}
 use Rattle.plain_store.specs.Hash.{pair_hash}

@@ -1,5 +1,4 @@
 use Rattle.std.proofs.Common.{◌∙◌, ◌+◌, ◌-◌, ◌*◌, ◌<◌, ◌≤◌, ◌++◌, ◌∷◌, [], true, List, length, take, drop, ap, sym, subst, refl, arith}
-use Rattle.std.proofs.Math.ListN.{set}
 use Rattle.std.specs.Prelude.{replicate}
 use Rattle.std.proofs.lemmas.List.{length-set, length-append, length-replicate}
 use Rattle.term_model.specs.declared.Row.{Row}
@@ -9,23 +8,15 @@ use Rattle.plain_store.specs.Pairs.{no_row}
 use Rattle.plain_store.specs.Flat.{all_slots, written, IsEntry, HasEntries, reached}
 use Rattle.plain_store.proofs.Placing.{node_of}
 use Rattle.plain_store.proofs.Flattened.{place_below, refilled}
-use Rattle.plain_store.proofs.Filling.{length-all, length-reached, reached_below, row_made, entries_reached, entries_set, entries_more}
+use Rattle.plain_store.proofs.Filling.{length-all, length-reached, row_made, entries_reached, entries_set, entries_more}
 use Rattle.plain_store.proofs.table.Table.set_rows.Goals as goal
 
-pub reach-requires : goal.reach-requires
-reach-requires c =
+pub put-requires : goal.put-requires
+put-requires c =
     let s = c.self.inside in
-    let k = c.args.row.0 in
-    let es = s.entries.items in
     let shown = ap (λ (x : Slots). length x.slots) c.self.view_is in
-    let below : k < s.rows = omega (arith, shown, length-all s.widest s.rows es s.places.items c.self.invariant.front, c.requires.below) in
+    let below : c.args.row.0 < s.rows = omega (arith, shown, length-all s.widest s.rows s.entries.items s.places.items c.self.invariant.front, c.requires.below) in
     omega (arith, below, c.self.invariant.room)
-
-pub index_mut-requires : goal.index_mut-requires
-index_mut-requires c =
-    let k = c.args.row.0 in
-    let es = c.self.inside.entries.items in
-    omega (arith, reached_below k es, ap (λ (xs : List Entry). length xs) c.reach.ensures.items, c.reach.new.entries.ok.0)
 
 pub reach_places-requires : goal.reach_places-requires
 reach_places-requires c =
@@ -63,8 +54,8 @@ returns c =
     let deref = ap (λ (xs : List Row). length xs) c.deref_mut.ensures.value in
     let whole = refilled now.len c.write.new.places (drop (length c.write.new.places) now.items) (omega (arith, c.write.ensures.size, now.ok.0, deref)) in
     let places = whole ∙ c.write.ensures.written ∙ ap (λ (xs : List Row). written xs (k * w) vs) (c.deref_mut.ensures.value ∙ c.reach_places.ensures.items) in
-    let made = ap (λ (xs : List Row). all_slots w s.rows (set c.reach.new.entries.items k e) xs) places
-    ∙ ap (λ (xs : List Entry). all_slots w s.rows (set xs k e) (written (s.places.items ++ more) (k * w) vs)) c.reach.ensures.items
+    let made = ap (λ (xs : List Row). all_slots w s.rows c.put.new.entries.items xs) places
+    ∙ ap (λ (xs : List Entry). all_slots w s.rows xs (written (s.places.items ++ more) (k * w) vs)) c.put.ensures.items
     ∙ row_made w s.rows es s.places.items more k e vs c.self.invariant.front below c.self.invariant.entries there refl c.requires.many (omega (arith, wide, c.requires.room)) in
     ap (λ (xs : List Slot). let x : Slots = record { slots = xs; widest = w } in x) made
     ∙ ap (λ (x : Slots). with_slot x c.args.row (node_of c.args.head vs)) c.self.view_is
@@ -94,8 +85,8 @@ invariant_of-self c =
     record {
       rows = c.self.invariant.rows;
       widest = c.self.invariant.widest;
-      front = omega (arith, below, c.self.invariant.front, length-set c.reach.new.entries.items k e, ap (λ (xs : List Entry). length xs) c.reach.ensures.items, length-reached k es);
-      room = omega (arith, c.self.invariant.room, c.reach.ensures.room);
+      front = omega (arith, below, c.self.invariant.front, length-set fs k e, ap (λ (xs : List Entry). length xs) c.put.ensures.items, length-reached k es);
+      room = omega (arith, c.self.invariant.room, c.put.ensures.room);
       places = omega (arith, c.self.invariant.places, c.reach_places.ensures.room);
-      entries = subst (λ (xs : List Entry). HasEntries w after (set xs k e)) (sym c.reach.ensures.items) all;
+      entries = subst (HasEntries w after) (sym c.put.ensures.items) all;
     }
