@@ -10,6 +10,7 @@ pub mod Viable
 pub mod Verdicts
 pub mod Names
 pub mod Known
+pub mod Short
 pub mod TakingTerms
 pub mod TakingUp
 pub mod Spelling

@@ -1,125 +1,179 @@
 //! Which symbol a name with a number of arguments was lately.
-ghost use Rattle.std.specs.Prelude.{◌≡◌, ◌+◌, ◌*◌, ◌<◌, ◌≤◌, ◌↔◌, IfSome, true, length, max, slice_index};
-ghost use Rattle.symbol_pool.specs.Pool.{Holds, named};
+ghost use Rattle.std.specs.Prelude.{◌≡◌, ◌+◌, ◌*◌, ◌<◌, ◌≤◌, List, IfSome, length, slice_index};
+ghost use Rattle.symbol_pool.specs.Pool.{Holds, IsPool, Named, named};
+ghost use Rattle.term_syntax.specs.Known.{AreKnown, name_of};
 
+use std::marker::Model;
 use symbol_pool::Symbols;
 use term_model::Symbol;
 
 /// How many places there are.
 const PLACES: usize = 4096;
 
-/// A symbol at each of some places, one of which a name with a number of arguments has. It is only
-/// a guess, since many have the same place: whoever asks looks whether the symbol is the right one.
-/// A text has many more names than most lists of names, so there are more places here than in
-/// `Symbols`. Each has 16 bits, since all are written at first, and symbols are below 65,535. All
-/// symbols that were noted have numbers below `known`.
+/// How many bytes a short name may have.
+pub(crate) const SHORT: usize = 8;
+
+/// How many bytes a name may have that is noted.
+const LONGEST: usize = 255;
+
+/// With how many arguments a name may be noted.
+const MOST_ARGUMENTS: u32 = 65_535;
+
+/// The sizes of no name.
+const NO_SIZES: u32 = u32::MAX;
+
+/// A name as a number, its size and its number of arguments in one, and the symbol that they are.
+/// Of a long name the number tells only some bytes.
+#[derive(Clone, Copy)]
+pub(crate) struct Noted {
+    pub(crate) number: u64,
+    pub(crate) sizes: u32,
+    pub(crate) symbol: u32,
+}
+
+/// A name with its symbol at each of some places, one of which a name with a number of arguments
+/// has. Many have the same place, so the last that was noted stands there. A text has many more
+/// names than most lists of names, so there are more places here than in `Symbols`. A short name is
+/// a number, so that it is compared at once, and nothing else is looked at.
 #[derive(Drop)]
 pub struct Lately {
-    symbols: [u16; PLACES],
-    pub known: u32,
+    noted: [Noted; PLACES],
 }
 
-// Two bytes as one number.
+impl Model for Lately {
+    ghost use Rattle.std.specs.Prelude.{List};
+    ghost use Rattle.term_syntax.specs.declared.lately.Noted.{Noted};
+
+    ghost Value = { List Noted };
+
+    ghost view = { λ s. s.noted };
+}
+
+// Two bytes of a name as one number.
 #[inline(always)]
-fn pair(low: u8, high: u8) -> u32
-    ensures { result ≡ low + high * 256 }
+fn two_bytes(name: &[u8], at: usize) -> u64
+    requires { at + 1 < length name.now }
+    ensures is { result ≡ slice_index name.now at + slice_index name.now (at + 1) * 256 }
+    ensures bound { result < 65536 }
 {
-    u32::from(low) + u32::from(high) * 256
+    u64::from(name[at]) + u64::from(name[at + 1]) * 256
 }
 
-// The bytes of a name that tell most, as one number: both ends, and two between in a long name.
+// Four bytes of a name as one number.
 #[inline(always)]
-fn telling(name: &[u8]) -> u32 {
-    let size = name.len();
-    if size < 2 {
-        return u32::from(name.first().copied().unwrap_or(0));
-    }
-    let front = pair(name[0], name[1]);
-    let back = pair(name[size - 2], name[size - 1]);
-    let ends = back.wrapping_mul(65_536).wrapping_add(front);
-    if size < 5 {
-        return ends;
-    }
-    let between = pair(name[size / 2], name[size - 3]);
-    ends.wrapping_add(between.wrapping_mul(2_048))
+fn four_bytes(name: &[u8], at: usize) -> u64
+    requires { at + 3 < length name.now }
+    ensures is { result ≡ slice_index name.now at + slice_index name.now (at + 1) * 256
+        + (slice_index name.now (at + 2) + slice_index name.now (at + 3) * 256) * 65536 }
+    ensures bound { result < 4294967296 }
+{
+    two_bytes(name, at) + two_bytes(name, at + 2) * 65_536
 }
 
-// The place of a name with a number of arguments. Factors spread what tells over the high bits, the
+// Bytes that tell most of a long name: both ends, and some between.
+#[inline(always)]
+fn telling(name: &[u8]) -> u64
+    requires { 8 < length name.now }
+{
+    let size = name.len();
+    let ends = four_bytes(name, 0) + four_bytes(name, size - 4) * 4_294_967_296;
+    ends.wrapping_add(four_bytes(name, size / 2).wrapping_mul(1_000_000_007))
+}
+
+// A name as a number. Of a short one it is the first four bytes and the last four, some of which
+// may be the same; where it has two or three, the first two and the last two; else its one byte,
+// or 0.
+#[inline(always)]
+fn number_of(name: &[u8]) -> u64
+    ensures { length name.now ≤ 8 → name_of (length name.now) result ≡ name.now }
+{
+    let size = name.len();
+    if size > SHORT {
+        return telling(name);
+    }
+    if size >= 4 {
+        return four_bytes(name, 0) + four_bytes(name, size - 4) * 4_294_967_296;
+    }
+    if size >= 2 {
+        return two_bytes(name, 0) + two_bytes(name, size - 2) * 65_536;
+    }
+    if size == 1 { u64::from(name[0]) } else { 0 }
+}
+
+// The size of a name and its number of arguments.
+#[inline(always)]
+fn sizes_of(name: &[u8], count: u32) -> u32
+    requires name { length name.now ≤ 255 }
+    requires count { count ≤ 65535 }
+    ensures { result ≡ length name.now + count * 256 }
+{
+    name.len() as u32 + count * 256
+}
+
+// The place of a name by its number and its sizes. A factor spreads them over the high bits, the
 // highest 12 of which are the place.
 #[inline(always)]
-fn place(name: &[u8], count: u32) -> usize
+fn place(number: u64, sizes: u32) -> usize
     ensures { result < 4096 }
 {
-    let size = (name.len() % 256) as u32;
-    let mixed = telling(name)
-        .wrapping_add(size)
-        .wrapping_add(count.wrapping_mul(32));
-    (mixed.wrapping_mul(2_246_822_507) >> 20) as usize % PLACES
-}
-
-// Whether the same two bytes stand at a place of two names.
-#[inline(always)]
-fn is_same_at(name: &[u8], other: &[u8], at: usize) -> bool
-    requires name { at + 1 < length name.now }
-    requires other { at + 1 < length other.now }
-    ensures { (result ≡ true)
-        ↔ (slice_index name.now at ≡ slice_index other.now at)
-        × (slice_index name.now (at + 1) ≡ slice_index other.now (at + 1)) }
-{
-    pair(name[at], name[at + 1]) == pair(other[at], other[at + 1])
-}
-
-// Whether two names are the same. Most are short, so two bytes are compared at once.
-#[inline(always)]
-fn is_same(name: &[u8], other: &[u8]) -> bool
-    ensures { (result ≡ true) ↔ (name.now ≡ other.now) }
-{
-    let size = name.len();
-    if size != other.len() {
-        return false;
-    }
-    if size < 2 {
-        return size == 0 || name[0] == other[0];
-    }
-    let last = size - 2;
-    if !is_same_at(name, other, 0) || !is_same_at(name, other, last) {
-        return false;
-    }
-    let mut at = 2;
-    while at < last {
-        if !is_same_at(name, other, at) {
-            return false;
-        }
-        at += 2;
-    }
-    true
+    let mixed = number.wrapping_add(u64::from(sizes));
+    (mixed.wrapping_mul(11_400_714_819_323_198_485) >> 52) as usize % PLACES
 }
 
 impl Lately {
     /// Nothing was noted.
     pub fn new() -> Self
-        ensures { result.known ≡ 0 }
+        ensures { (pool : List Named) → AreKnown result pool }
     {
         Lately {
-            symbols: [0; PLACES],
-            known: 0,
+            noted: [Noted {
+                number: 0,
+                sizes: NO_SIZES,
+                symbol: 0,
+            }; PLACES],
         }
     }
 
-    /// The symbol that was noted last at the place of this name with this number of arguments, if
-    /// it is that one.
-    #[tactic(auto, using(crate::proofs::Known::held_by))]
+    /// The symbol that a short name with a number of arguments is, where it was noted last at its
+    /// place.
     #[inline(always)]
-    pub(crate) fn guess(&self, symbols: &Symbols, name: &[u8], count: u32) -> Option<Symbol>
-        requires { self.now.known ≤ length symbols.now }
-        ensures held { IfSome result (λ s. Holds symbols.now s (named name.now count)) }
-        ensures known { IfSome result (λ s. s.0 < self.now.known) }
+    pub(crate) fn find_short(&self, name: &[u8], count: u32) -> Option<Symbol>
+        requires { length name.now ≤ 8 }
+        ensures { IfSome result (λ s. (pool : List Named) → AreKnown self.now pool
+            → Holds pool s (named name.now count) × IsPool pool) }
     {
-        let symbol = Symbol(u32::from(self.symbols[place(name, count)]));
-        if symbol.0 >= self.known {
+        if count > MOST_ARGUMENTS {
             return None;
         }
-        if symbols.arity(symbol) == count && is_same(symbols.name(symbol), name) {
+        let number = number_of(name);
+        let sizes = sizes_of(name, count);
+        let noted = self.noted[place(number, sizes)];
+        if noted.number == number && noted.sizes == sizes {
+            Some(Symbol(noted.symbol))
+        } else {
+            None
+        }
+    }
+
+    /// The same of any name: what was noted is compared with the symbol's name.
+    #[tactic(auto, using(crate::proofs::Known::held_by, crate::proofs::Known::noted_there))]
+    pub(crate) fn find(&self, symbols: &Symbols, name: &[u8], count: u32) -> Option<Symbol>
+        requires name { length name.now ≤ 255 }
+        requires known { AreKnown self.now symbols.now }
+        ensures held { IfSome result (λ s. Holds symbols.now s (named name.now count)) }
+        ensures is_pool { IfSome result (λ _. IsPool symbols.now) }
+    {
+        if count > MOST_ARGUMENTS {
+            return None;
+        }
+        let number = number_of(name);
+        let sizes = sizes_of(name, count);
+        let noted = self.noted[place(number, sizes)];
+        if noted.number != number || noted.sizes != sizes {
+            return None;
+        }
+        let symbol = Symbol(noted.symbol);
+        if symbols.arity(symbol) == count && symbols.name(symbol) == name {
             Some(symbol)
         } else {
             None
@@ -127,12 +181,19 @@ impl Lately {
     }
 
     /// Notes a symbol at its place.
-    #[inline(always)]
     pub(crate) fn note(&mut self, name: &[u8], count: u32, symbol: Symbol)
-        requires { symbol.0 < 65535 }
-        ensures { self.new.known ≡ max self.old.known (symbol.0 + 1) }
+        ensures { (pool : List Named) → AreKnown self.old pool → symbol.0 < length pool
+            → Holds pool symbol (named name.now count) → IsPool pool → AreKnown self.new pool }
     {
-        self.symbols[place(name, count)] = symbol.0 as u16;
-        self.known = self.known.max(symbol.0 + 1);
+        if name.len() > LONGEST || count > MOST_ARGUMENTS {
+            return;
+        }
+        let number = number_of(name);
+        let sizes = sizes_of(name, count);
+        self.noted[place(number, sizes)] = Noted {
+            number,
+            sizes,
+            symbol: symbol.0,
+        };
     }
 }

@@ -218,7 +218,10 @@ pub fn piece_at(alloc: Global, bytes: &[u8], at: usize) -> Result<Cut, ReadFail>
     }
     match byte {
         b' ' | b'\t' | b'\r' | b'\n' => Ok(Cut::Blank),
-        b'"' => quoted_name(alloc, bytes, at),
+        b'"' => {
+            let cut = quoted_name(alloc, bytes, at)?;
+            Ok(cut)
+        }
         b'(' => Ok(mark(bytes, byte, Mark::Open, at)),
         b')' => Ok(mark(bytes, byte, Mark::Close, at)),
         b'[' => Ok(mark(bytes, byte, Mark::OpenList, at)),

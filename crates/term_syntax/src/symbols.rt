@@ -9,7 +9,7 @@ ghost use Rattle.term_syntax.specs.Named.{IsSymbolTaken, IsSymbolRefused};
 ghost use Rattle.term_syntax.specs.Known.{AreKnown};
 ghost use Rattle.term_syntax.specs.Shown.{part_in, parts_in, quoted_at};
 
-use crate::lately::Lately;
+use crate::lately::{Lately, SHORT};
 use crate::machine::Entry;
 use crate::scanner::{integer_at, plain_name_at, quoted_name_at};
 use crate::token::Shape;
@@ -34,22 +34,46 @@ pub fn take_symbol(
     lately: &mut Lately,
     symbols: &mut Symbols,
 ) -> Result<Symbol, ReadFail>
-    requires { AreKnown lately.old.known symbols.old }
+    requires { AreKnown lately.old symbols.old }
     ensures taken { IfOk result (λ s. IsSymbolTaken symbols.old name.now count s symbols.new) }
     ensures refused { IfErr result (IsSymbolRefused symbols.old name.now count place) }
     ensures unchanged { OnErr result (symbols.new ≡ symbols.old) }
-    ensures known { OnOk result (AreKnown lately.new.known symbols.new) }
+    ensures known { OnOk result (AreKnown lately.new symbols.new) }
 {
-    if name.len() > LONGEST_NAME {
-        return Err(refused(kinds::LIMIT, place));
+    if name.len() > SHORT {
+        return take_long(name, count, place, lately, symbols);
     }
-    if let Some(symbol) = lately.guess(symbols, name, count) {
+    if let Some(symbol) = lately.find_short(name, count) {
         return Ok(symbol);
     }
     take_anew(name, count, place, lately, symbols)
 }
 
-// The same, of a name that wasn't guessed. It stands apart, so that the guess is inlined alone.
+// The same, of a long name.
+#[inline(never)]
+fn take_long(
+    name: &[u8],
+    count: u32,
+    place: usize,
+    lately: &mut Lately,
+    symbols: &mut Symbols,
+) -> Result<Symbol, ReadFail>
+    requires { AreKnown lately.old symbols.old }
+    ensures taken { IfOk result (λ s. IsSymbolTaken symbols.old name.now count s symbols.new) }
+    ensures refused { IfErr result (IsSymbolRefused symbols.old name.now count place) }
+    ensures unchanged { OnErr result (symbols.new ≡ symbols.old) }
+    ensures known { OnOk result (AreKnown lately.new symbols.new) }
+{
+    if name.len() > LONGEST_NAME {
+        return Err(refused(kinds::LIMIT, place));
+    }
+    if let Some(symbol) = lately.find(symbols, name, count) {
+        return Ok(symbol);
+    }
+    take_anew(name, count, place, lately, symbols)
+}
+
+// The same, of a name that isn't known. It stands apart, so that the look-up is inlined alone.
 #[inline(never)]
 fn take_anew(
     name: &[u8],
@@ -59,11 +83,11 @@ fn take_anew(
     symbols: &mut Symbols,
 ) -> Result<Symbol, ReadFail>
     requires short { length name.now ≤ 255 }
-    requires known { AreKnown lately.old.known symbols.old }
+    requires known { AreKnown lately.old symbols.old }
     ensures taken { IfOk result (λ s. IsSymbolTaken symbols.old name.now count s symbols.new) }
     ensures refused { IfErr result (IsSymbolRefused symbols.old name.now count place) }
     ensures unchanged { OnErr result (symbols.new ≡ symbols.old) }
-    ensures known { OnOk result (AreKnown lately.new.known symbols.new) }
+    ensures known { OnOk result (AreKnown lately.new symbols.new) }
 {
     match symbols.intern(name, count) {
         Ok(symbol) => {
@@ -84,13 +108,13 @@ fn take_quoted(
     lately: &mut Lately,
     symbols: &mut Symbols,
 ) -> Result<Symbol, ReadFail>
-    requires { AreKnown lately.old.known symbols.old }
+    requires { AreKnown lately.old symbols.old }
     ensures taken { IfOk result (λ s.
         IsSymbolTaken symbols.old (quoted_at text.now place) count s symbols.new) }
     ensures refused { IfErr result
         (IsSymbolRefused symbols.old (quoted_at text.now place) count place) }
     ensures unchanged { OnErr result (symbols.new ≡ symbols.old) }
-    ensures known { OnOk result (AreKnown lately.new.known symbols.new) }
+    ensures known { OnOk result (AreKnown lately.new symbols.new) }
 {
     let name = quoted_name_at(alloc, text, place)?;
     take_symbol(name.as_slice(), count, place, lately, symbols)
@@ -104,12 +128,12 @@ fn take_part(
     lately: &mut Lately,
     symbols: &mut Symbols,
 ) -> Result<Item, ReadFail>
-    requires { AreKnown lately.old.known symbols.old }
+    requires { AreKnown lately.old symbols.old }
     ensures taken { IfOk result (λ i.
         IsTakenUp symbols.old (part_in text.now part) i symbols.new) }
     ensures refused { IfErr result (IsPartFault symbols.old (part_in text.now part)) }
     ensures unchanged { OnErr result (symbols.new ≡ symbols.old) }
-    ensures known { OnOk result (AreKnown lately.new.known symbols.new) }
+    ensures known { OnOk result (AreKnown lately.new symbols.new) }
 {
     let place = part.place as usize;
     if part.over {
@@ -137,7 +161,6 @@ fn take_part(
 ///
 /// Refuses the first part with a fault at its place: with kind 13 a 17th argument, a name of more
 /// than 255 bytes and a symbol too many, with kind 17 a number that isn't an integer.
-#[tactic(auto, using(crate::proofs::Known::known_none))]
 pub(crate) fn items_of(
     alloc: Global,
     text: &[u8],
