@@ -29,12 +29,15 @@ use Rattle.term_building.specs.declared.groups.Group.{Group}
 use Rattle.term_building.specs.declared.groups.Heading.{Heading}
 use Rattle.term_building.specs.Built.{IsBuilt}
 use Rattle.term_building.specs.Copying.{copied}
-use Rattle.term_building.specs.Reached.{HasPassed, Passes, before}
+use Rattle.term_building.specs.Reached.{HasPassed, Passes, Reaches, before}
 use Rattle.term_building.specs.Progress as read
 use Rattle.term_building.specs.Progress.{Progress, Settled, Bracketed, Expected, Headed, Open, step, run, start, whole, settled_if, all_read}
 use Rattle.term_building.specs.Shows.{Shows}
 use Rattle.term_building.specs.State as build
 use Rattle.term_building.specs.State.{State}
+use Rattle.term_building.specs.Taken.{stage_behind, HasBegun, Begins}
+use Rattle.term_building.specs.declared.builder.passing.Begun.{Begun}
+use Rattle.term_building.specs.declared.builder.passing.Begun.TheVariants as begun
 use Rattle.term_building.proofs.Calling.{made}
 use Rattle.term_building.proofs.Cutting.{token_cut, piece_of_mark}
 use Rattle.term_building.proofs.Ending.{state, copied_none}
@@ -192,7 +195,7 @@ passed_mark text at m s r h is step_is p =
     passed_token text at (at + 1) (shape.At m) s r h (omega arith) (omega (arith, h)) is (piece_of_mark text at m h is) step_is p
 
 -- the byte at a place
-byte_at : (bytes : List ℕ) (at b : ℕ) → slice_get bytes at ≡ Some b → (at < length bytes) × (get_or bytes at 0 ≡ b)
+pub byte_at : (bytes : List ℕ) (at b : ℕ) → slice_get bytes at ≡ Some b → (at < length bytes) × (get_or bytes at 0 ≡ b)
 byte_at [] at b e = absurd cc
 byte_at (x ∷ bytes) zero b e = (omega arith, let same : x ≡ b = cc in same)
 byte_at (x ∷ bytes) (suc at) b e = let r = byte_at bytes at b e in (let l = r.0 in omega (arith, l), r.1)
@@ -241,26 +244,36 @@ passed_settled text place end s r e p =
     }
 
 -- where a term may begin, a name or a number is taken so
-pub begins_word : (text : List ℕ) (place end : ℕ) (st : stage.Stage) (gs : List Group) (s : State) → build.may_begin st gs ≡ true → s.groups ≡ gs → build.step_at st text place end shape.Word s ≡ Some (build.headed place end false s)
+begins_word : (text : List ℕ) (place end : ℕ) (st : stage.Stage) (gs : List Group) (s : State) → build.may_begin st gs ≡ true → s.groups ≡ gs → build.step_at st text place end shape.Word s ≡ Some (build.headed place end false s)
 begins_word text place end stage.Settled [] s e same = ap (λ k. build.after_term_under k text place end shape.Word s) same
 begins_word text place end stage.Settled (g ∷ gs) s e same = absurd cc
 begins_word text place end stage.Bracketed gs s e same = refl
 begins_word text place end stage.Expected gs s e same = refl
 begins_word text place end (stage.Headed h) gs s e same = absurd cc
 
-pub begins_number : (text : List ℕ) (place end : ℕ) (st : stage.Stage) (gs : List Group) (s : State) → build.may_begin st gs ≡ true → s.groups ≡ gs → build.step_at st text place end shape.Number s ≡ build.on_value text end (value_at text place) s
+begins_number : (text : List ℕ) (place end : ℕ) (st : stage.Stage) (gs : List Group) (s : State) → build.may_begin st gs ≡ true → s.groups ≡ gs → build.step_at st text place end shape.Number s ≡ build.on_value text end (value_at text place) s
 begins_number text place end stage.Settled [] s e same = ap (λ k. build.after_term_under k text place end shape.Number s) same
 begins_number text place end stage.Settled (g ∷ gs) s e same = absurd cc
 begins_number text place end stage.Bracketed gs s e same = refl
 begins_number text place end stage.Expected gs s e same = refl
 begins_number text place end (stage.Headed h) gs s e same = absurd cc
 
-pub begins_quoted : (text : List ℕ) (place end : ℕ) (st : stage.Stage) (gs : List Group) (s : State) → build.may_begin st gs ≡ true → s.groups ≡ gs → build.step_at st text place end shape.Quoted s ≡ Some (build.on_quoted text place end s)
+begins_quoted : (text : List ℕ) (place end : ℕ) (st : stage.Stage) (gs : List Group) (s : State) → build.may_begin st gs ≡ true → s.groups ≡ gs → build.step_at st text place end shape.Quoted s ≡ Some (build.on_quoted text place end s)
 begins_quoted text place end stage.Settled [] s e same = ap (λ k. build.after_term_under k text place end shape.Quoted s) same
 begins_quoted text place end stage.Settled (g ∷ gs) s e same = absurd cc
 begins_quoted text place end stage.Bracketed gs s e same = refl
 begins_quoted text place end stage.Expected gs s e same = refl
 begins_quoted text place end (stage.Headed h) gs s e same = absurd cc
+
+module _ (text : List ℕ) (place end : ℕ) (sh : Shape) (s : State) (may : build.may_begin s.stage s.groups ≡ true) where
+  pub step_word : sh ≡ shape.Word → build.step text place end sh s ≡ Some (build.headed place end false s)
+  step_word is = ap (λ k. build.step text place end k s) is ∙ begins_word text place end s.stage s.groups s may refl
+
+  pub step_number : sh ≡ shape.Number → build.step text place end sh s ≡ build.on_value text end (value_at text place) s
+  step_number is = ap (λ k. build.step text place end k s) is ∙ begins_number text place end s.stage s.groups s may refl
+
+  pub step_quoted : sh ≡ shape.Quoted → build.step text place end sh s ≡ Some (build.on_quoted text place end s)
+  step_quoted is = ap (λ k. build.step text place end k s) is ∙ begins_quoted text place end s.stage s.groups s may refl
 
 -- in a group behind a whole term
 pub step_in_group : (text : List ℕ) (place end : ℕ) (sh : Shape) (st : stage.Stage) (gs : List Group) (g : Group) (s : State) → st ≡ stage.Settled → s.groups ≡ gs → first_of gs ≡ Some g → build.step_at st text place end sh s ≡ build.in_group text end g sh s
@@ -291,19 +304,70 @@ module _ (text : List ℕ) (at : ℕ) (c : Cut) (h : at < length text) (piece : 
           passed = passed_cut text at t.place end t.shape s r h later inside (subst (BeginsCut (get_or text at 0)) is begins) (piece ∙ ap (λ d. Ok (piece_in text d)) is) step_is;
         }
 
-    pub passes_number : (s r : State) → t.shape ≡ shape.Number → build.may_begin s.stage s.groups ≡ true → build.on_value text end (value_at text t.place) s ≡ Some r → Passes text at s end r
-    passes_number s r number may e =
-        passes_whole s r (ap (λ k. build.step text t.place end k s) number ∙ begins_number text t.place end s.stage s.groups s may refl ∙ e)
+    -- a token that was cut ends behind its place
+    pub cut_place : t.place ≤ end
+    cut_place =
+        let later : at < end = subst (λ d. at < next_of at (piece_in text d)) is after in
+        let same = token_place text at t.place end t.shape (piece ∙ ap (λ d. Ok (piece_in text d)) is) in
+        omega (arith, later, same)
 
-    pub passes_quoted : (s r : State) → t.shape ≡ shape.Quoted → build.may_begin s.stage s.groups ≡ true → Some (build.on_quoted text t.place end s) ≡ Some r → Passes text at s end r
-    passes_quoted s r quotes may e =
-        passes_whole s r (ap (λ k. build.step text t.place end k s) quotes ∙ begins_quoted text t.place end s.stage s.groups s may refl ∙ e)
+-- ---- what is taken at once
+pub passes_on : (text : List ℕ) (at end next : ℕ) (s m r : State) → Passes text at s end m → Reaches text end m next r → Passes text at s next r
+passes_on text at end next s m r p q =
+    let after = p.after in
+    let from = q.from in
+    record { after = omega (arith, after, from); within = q.within; passed = λ h. q.passed (p.passed h) }
 
-    pub passes_word : (s r : State) (next : ℕ) → t.shape ≡ shape.Word → build.may_begin s.stage s.groups ≡ true → end ≤ next → next ≤ length text → (HasPassed text end (build.headed t.place end false s) → HasPassed text next r) → Passes text at s next r
-    passes_word s r next word may from inside on =
-        let named = passes_whole s (build.headed t.place end false s) (ap (λ k. build.step text t.place end k s) word ∙ begins_word text t.place end s.stage s.groups s may refl) in
-        let later = named.after in
-        record { after = omega (arith, later, from); within = inside; passed = λ p. on (named.passed p) }
+pub reaches_on : (text : List ℕ) (at end next : ℕ) (s m r : State) → Reaches text at s end m → Passes text end m next r → Reaches text at s next r
+reaches_on text at end next s m r p q =
+    let from = p.from in
+    let after = q.after in
+    record { from = omega (arith, from, after); within = q.within; passed = λ h. q.passed (p.passed h) }
+
+pub reaches_none : (text : List ℕ) (at : ℕ) (s r : State) → at ≤ length text → r ≡ s → Reaches text at s at r
+reaches_none text at s r h same = record { from = omega arith; within = h; passed = subst (HasPassed text at) (sym same) }
+
+-- a name was taken with what stands behind it
+pub begins_so : (b : Begun) (text : List ℕ) (place end : ℕ) (sh : Shape) (s m r : State) → build.step text place end sh s ≡ Some m → HasBegun b text end m r → Begins b text place end sh s r
+begins_so begun.Whole text place end sh s m r e h = record { state = m; step_is = e; begun = h }
+begins_so begun.Group text place end sh s m r e h = record { state = m; step_is = e; begun = h }
+begins_so begun.Name text place end sh s m r e h = record { state = m; step_is = e; begun = h }
+begins_so begun.Nothing text place end sh s m r e h = absurd h
+
+ended_stage : (gs : List Group) (text : List ℕ) (at : ℕ) (s : State) → (build.ended_under gs text at s).stage ≡ stage.Settled
+ended_stage [] text at s = refl
+ended_stage (g ∷ gs) text at s = refl
+
+-- a term that was ended is settled
+then_ended : (text : List ℕ) (at : ℕ) (f : State → State) (o : Option State) (r : State) → option_and_then (λ k. Some (build.ended text at (f k))) o ≡ Some r → r.stage ≡ stage.Settled
+then_ended text at f None r e = absurd cc
+then_ended text at f (Some k) r e =
+    let same : build.ended text at (f k) ≡ r = cc in
+    ap (λ (j : State). j.stage) (sym same) ∙ ended_stage (f k).groups text at (f k)
+
+pub settled_stage : (text : List ℕ) (h : Heading) (at : ℕ) (s r : State) → build.settled text h at s ≡ Some r → r.stage ≡ stage.Settled
+settled_stage text h at s r e = then_ended text at (λ k. k) (build.call text h 0 s) r e
+
+pub value_stage : (text : List ℕ) (end : ℕ) (v : Option ℕ) (s r : State) → build.on_value text end v s ≡ Some r → r.stage ≡ stage.Settled
+value_stage text end None s r e = absurd cc
+value_stage text end (Some v) s r e = then_ended text end (λ k. k) (Some (build.with_integer v s)) r e
+
+pub mark_stage : (text : List ℕ) (end : ℕ) (g : Group) (m : Mark) (s r : State) → build.in_group text end g (shape.At m) s ≡ Some r → r.stage ≡ stage_behind m
+mark_stage text end g mark.Comma s r e =
+    let same : build.staged stage.Expected s ≡ r = cc in
+    ap (λ (j : State). j.stage) (sym same)
+mark_stage text end g mark.Close s r e = by g.heading e
+  where
+    by : (o : Option Heading) → build.close_call text end o (build.count_in g s) s ≡ Some r → r.stage ≡ stage.Settled
+    by None f = absurd cc
+    by (Some h) f = then_ended text end build.without (build.call text h (build.count_in g s) s) r f
+mark_stage text end g mark.CloseList s r e = by g.heading e
+  where
+    by : (o : Option Heading) → build.close_list text end o (build.count_in g s) s ≡ Some r → r.stage ≡ stage.Settled
+    by (Some h) f = absurd cc
+    by None f = then_ended text end build.without (Some (build.listed (build.count_in g s) s)) r f
+mark_stage text end g mark.Open s r e = absurd cc
+mark_stage text end g mark.OpenList s r e = absurd cc
 
 -- ---- the end
 module _ (text : List ℕ) (m : Progress) (spells : (finished : List Written) → all_read m ≡ Some finished → Spells text finished) where

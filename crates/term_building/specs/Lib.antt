@@ -7,5 +7,6 @@ pub mod Ready
 pub mod Shows
 pub mod Stages
 pub mod State
+pub mod Taken
 pub mod Text
 pub mod Trees

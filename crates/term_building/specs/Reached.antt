@@ -27,3 +27,9 @@ pub record Passes (text : List ℕ) (at : ℕ) (s : State) (next : ℕ) (r : Sta
   pub after : at < next
   pub within : next ≤ length text
   pub passed : HasPassed text at s → HasPassed text next r
+
+-- the same, or nothing was taken
+pub record Reaches (text : List ℕ) (at : ℕ) (s : State) (next : ℕ) (r : State) : Type 0 where
+  pub from : at ≤ next
+  pub within : next ≤ length text
+  pub passed : HasPassed text at s → HasPassed text next r

@@ -8,10 +8,10 @@ use Rattle.term_building.specs.State.{State, state_of}
 abbrev pub state_in : Builder → Store → State
 state_in b s = state_of b (trees s)
 
--- the store was entered, its rows have room for as many arguments as are taken, and for a cell, and the symbols that
--- are guessed are there
+-- the store was entered, its rows have room for as many arguments as are taken, and for a cell, and
+-- each name that was noted has its symbol there
 pub record IsReady (s : Store) (b : Builder) : Type 0 where
   pub inside : s.inside ≡ true
   pub wide : b.most ≤ s.widest
   pub cells : 2 ≤ s.widest
-  pub known : AreKnown b.lately.known b.symbols
+  pub known : AreKnown b.lately b.symbols

@@ -31,8 +31,8 @@ pub(crate) enum Stage {
 }
 
 /// Where reading stands, the name behind which it stands where it is `Headed`, the open groups, the
-/// text so far, the symbols so far, some of which are guessed, and the most arguments that a symbol
-/// may have here. The whole terms stand on the store's stack.
+/// text so far, the names that were noted with their symbols, the symbols so far, and the most
+/// arguments that a symbol may have here. The whole terms stand on the store's stack.
 #[derive(Drop)]
 pub(crate) struct Builder {
     pub(crate) stage: Stage,
@@ -52,7 +52,7 @@ impl Builder {
         ensures written { IfOk result (λ b. b.lines.written.items ≡ []) }
         ensures from { IfOk result (λ b. b.lines.from ≡ 0) }
         ensures symbols { IfOk result (λ b. b.symbols ≡ []) }
-        ensures known { IfOk result (λ b. AreKnown b.lately.known b.symbols) }
+        ensures known { IfOk result (λ b. AreKnown b.lately b.symbols) }
         ensures most { IfOk result (λ b. b.most ≡ most) }
     {
         Ok(Builder {
@@ -81,7 +81,7 @@ impl Builder {
         store: &mut T,
     ) -> Result<(), GivenUp>
         requires ready { IsReady (T.store store.old) self.old }
-        requires place { token.place ≤ length text.now }
+        requires place { token.place ≤ end }
         requires end { end ≤ length text.now }
         ensures built { OnOk result
             (steps.step text.now token.place end token.shape (state_in self.old (T.store store.old))
@@ -124,8 +124,8 @@ impl Builder {
         requires at { at < length text.now }
         ensures left_out { OnOk result ((store : Store) → state_in self.new store
             ≡ steps.left_out text.now at (state_in self.old store)) }
-        ensures known { OnOk result (AreKnown self.old.lately.known self.old.symbols
-            → AreKnown self.new.lately.known self.new.symbols) }
+        ensures known { OnOk result (AreKnown self.old.lately self.old.symbols
+            → AreKnown self.new.lately self.new.symbols) }
         ensures most { OnOk result (self.new.most ≡ self.old.most) }
     {
         self.lines.leave_out(text, at)?;

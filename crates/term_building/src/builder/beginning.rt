@@ -2,11 +2,12 @@
 ghost use Rattle.std.specs.Prelude.{◌≡◌, ◌≤◌, ◌⊎◌, false, Some, IfOk, OnOk, length, slice_get};
 ghost use Rattle.term_syntax.specs.Shown.{value_at};
 ghost use Rattle.term_building.specs.declared.builder.beginning.Follows.TheVariants as follows;
-ghost use Rattle.term_building.specs.Reached.{HasPassed};
 ghost use Rattle.term_building.specs.Ready.{IsReady, state_in};
 ghost use Rattle.term_building.specs.Stages.{Expected, stage_of};
 ghost use Rattle.term_building.specs.State as steps;
+ghost use Rattle.term_building.specs.Taken.{HasBegun};
 
+use crate::builder::passing::Begun;
 use crate::builder::{Builder, Stage};
 use crate::building::{build_integer, count_all};
 use crate::given_up::GivenUp;
@@ -45,11 +46,13 @@ fn what_follows(text: &[u8], end: usize) -> Follows
 // The name between two places. A text in which these have more than 32 bits is given up.
 #[inline(always)]
 fn heading_at(place: usize, end: usize, quoted: bool) -> Result<Heading, GivenUp>
+    requires { place ≤ end }
     ensures { IfOk result (λ h. h ≡ record { place = place; end = end; quoted = quoted }) }
 {
+    let end = in_32_bits(end)?;
     Ok(Heading {
-        place: in_32_bits(place)?,
-        end: in_32_bits(end)?,
+        place: place as u32,
+        end,
         quoted,
     })
 }
@@ -65,6 +68,7 @@ impl Builder {
         store: &mut T,
     ) -> Result<(), GivenUp>
         requires ready { IsReady (T.store store.old) self.old }
+        requires place { place ≤ end }
         ensures built { OnOk result
             (Some (steps.headed place end quoted (state_in self.old (T.store store.old)))
             ≡ Some (state_in self.new (T.store store.new))) }
@@ -89,7 +93,7 @@ impl Builder {
         store: &mut T,
     ) -> Result<(), GivenUp>
         requires ready { IsReady (T.store store.old) self.old }
-        requires place { place ≤ length text.now }
+        requires place { place ≤ end }
         requires end { end ≤ length text.now }
         ensures built { OnOk result
             (Some (steps.on_quoted text.now place end (state_in self.old (T.store store.old)))
@@ -135,7 +139,7 @@ impl Builder {
         store: &mut T,
     ) -> Result<(), GivenUp>
         requires ready { IsReady (T.store store.old) self.old }
-        requires place { place ≤ length text.now }
+        requires place { place ≤ end }
         requires end { end ≤ length text.now }
         ensures built { OnOk result
             (steps.on_value text.now end (value_at text.now place)
@@ -183,7 +187,7 @@ impl Builder {
         store: &mut T,
     ) -> Result<(), GivenUp>
         requires ready { IsReady (T.store store.old) self.old }
-        requires place { token.place ≤ length text.now }
+        requires place { token.place ≤ end }
         requires end { end ≤ length text.now }
         ensures built { OnOk result
             (steps.on_term text.now token.place end token.shape
@@ -223,6 +227,7 @@ impl Builder {
         store: &mut T,
     ) -> Result<(), GivenUp>
         requires ready { IsReady (T.store store.old) self.old }
+        requires place { place ≤ end }
         ensures built { OnOk result
             (Some (steps.opened (Some (steps.name_at place end)) Expected
             (state_in self.old (T.store store.old)))
@@ -243,29 +248,28 @@ impl Builder {
         place: usize,
         end: usize,
         store: &mut T,
-    ) -> Result<usize, GivenUp>
+    ) -> Result<Begun, GivenUp>
         requires ready { IsReady (T.store store.old) self.old }
+        requires place { place ≤ end }
         requires end { end ≤ length text.now }
-        ensures after { IfOk result (λ next. end ≤ next) }
-        ensures within { IfOk result (λ next. next ≤ length text.now) }
-        ensures passed { IfOk result (λ next. HasPassed text.now end
+        ensures begun { IfOk result (λ b. HasBegun b text.now end
             (steps.headed place end false (state_in self.old (T.store store.old)))
-            → HasPassed text.now next (state_in self.new (T.store store.new))) }
+            (state_in self.new (T.store store.new))) }
         ensures ready { OnOk result (IsReady (T.store store.new) self.new) }
         ensures same { OnOk result (T.same store.old store.new) }
     {
         match what_follows(text, end) {
             Follows::Opens => {
                 self.open_behind(place, end, store)?;
-                Ok(end + 1)
+                Ok(Begun::Group)
             }
             Follows::Ends => {
                 self.settle_plain(text, place, end, store)?;
-                Ok(end)
+                Ok(Begun::Whole)
             }
             Follows::Other => {
                 self.head(place, end, false, store)?;
-                Ok(end)
+                Ok(Begun::Name)
             }
         }
     }

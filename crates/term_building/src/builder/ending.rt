@@ -148,6 +148,7 @@ impl Builder {
         store: &mut T,
     ) -> Result<(), GivenUp>
         requires ready { IsReady (T.store store.old) self.old }
+        requires place { place ≤ end }
         requires end { end ≤ length text.now }
         ensures built { OnOk result
             (steps.settled text.now (steps.name_at place end) end
@@ -156,7 +157,7 @@ impl Builder {
         ensures ready { OnOk result (IsReady (T.store store.new) self.new) }
         ensures same { OnOk result (T.same store.old store.new) }
     {
-        self.call_plain(text, place, end, 0, store)?;
+        self.call_name(&text[place..end], 0, store)?;
         self.end(text, end, store)
     }
 
@@ -205,8 +206,8 @@ impl Builder {
         let count = count_from(store, group.base);
         match group.heading {
             Some(heading) => {
-                self.call(alloc, text, heading, count, store)?;
                 self.groups.close();
+                self.call(alloc, text, heading, count, store)?;
                 self.end(text, end, store)
             }
             None => Err(GivenUp::Otherwise),

@@ -52,7 +52,7 @@ impl Builder {
         store: &mut T,
     ) -> Result<(), GivenUp>
         requires ready { IsReady (T.store store.old) self.old }
-        requires place { token.place ≤ length text.now }
+        requires place { token.place ≤ end }
         requires end { end ≤ length text.now }
         ensures built { OnOk result
             (steps.after_term text.now token.place end token.shape
@@ -78,7 +78,7 @@ impl Builder {
         store: &mut T,
     ) -> Result<(), GivenUp>
         requires ready { IsReady (T.store store.old) self.old }
-        requires place { token.place ≤ length text.now }
+        requires place { token.place ≤ end }
         requires end { end ≤ length text.now }
         ensures built { OnOk result
             (steps.in_brackets text.now token.place end token.shape
@@ -105,7 +105,7 @@ impl Builder {
         store: &mut T,
     ) -> Result<(), GivenUp>
         requires ready { IsReady (T.store store.old) self.old }
-        requires place { token.place ≤ length text.now }
+        requires place { token.place ≤ end }
         requires end { end ≤ length text.now }
         ensures built { OnOk result
             (steps.after_name text.now heading token.place end token.shape

@@ -1,5 +1,5 @@
 use Rattle.term_building.specs.Ready.{state_in}
-use Rattle.term_building.proofs.Passing.{passes_blank, passes_whole}
+use Rattle.term_building.proofs.Passing.{passes_blank, passes_whole, cut_place}
 use Rattle.term_building.proofs.builder.Builder.pass_any.Goals as goal
 
 pub returns-in_ok-leave_out-in-Blank-clause-passes : goal.returns-in_ok-leave_out-in-Blank-clause-passes
@@ -13,3 +13,8 @@ returns-in_ok-take-in-Whole-clause-passes g c =
     let cut = c.in_ok-piece_at in
     passes_whole c.args.text.now c.args.at cut.field-0 c.requires.at cut.ensures.piece c.in-Whole.token c.in-Whole.end c.in-Whole.is cut.ensures.begins cut.ensures.after cut.ensures.fits
     (state_in c.args.self.now (g.T.Terms.store c.args.store.now)) _ c.in_ok-take-in-Whole.ensures.built
+
+pub take-requires-clause-place : goal.take-requires-clause-place
+take-requires-clause-place g c =
+    let cut = c.in_ok-piece_at in
+    cut_place c.args.text.now c.args.at cut.field-0 c.requires.at cut.ensures.piece c.in-Whole.token c.in-Whole.end c.in-Whole.is cut.ensures.begins cut.ensures.after cut.ensures.fits
