@@ -236,11 +236,10 @@ built_read text all trees lines b =
     }
 
 -- how wide the rows are of a store that was made and entered
-pub entered_wide : (first entered : Contents) (rows depth widest : ℕ) → first ≡ empty rows depth (max widest 2) → entered ≡ record first { inside = true } → (widest ≤ entered.widest) × (2 ≤ entered.widest)
-entered_wide first entered rows depth widest new enters =
+pub entered_wide : (first entered : Contents) (rows depth widest : ℕ) → first ≡ empty rows depth (max widest 2) → entered.widest ≡ first.widest → (widest ≤ entered.widest) × (2 ≤ entered.widest)
+entered_wide first entered rows depth widest new after =
     let before : first.widest ≡ max widest 2 = ap (λ (s : Contents). s.widest) new in
-    let after : entered.widest ≡ first.widest = ap (λ (s : Contents). s.widest) enters in
-    (omega arith, omega arith)
+    (omega (arith, before, after), omega (arith, before, after))
 
 -- where few rows suffice, more do
 pub more_rows : (few rows : ℕ) (input text : List ℕ) → few ≤ rows → IsListed few input text → IsListed rows input text

@@ -1,41 +1,22 @@
 -- A store holds no more different trees than it has rows, and one that is filled has too few for one more.
-use Rattle.std.proofs.Common.{◌≡◌, ℕ, zero, suc, ◌<◌, ◌≤◌, inl, inr, List, [], ◌∷◌, ◌++◌, Option, Some, None, length, get_or, true, sym, ap, arith}
+use Rattle.std.proofs.Common.{◌≡◌, ℕ, ◌<◌, ◌≤◌, [], ◌∷◌, ◌++◌, Some, None, length, get_or, ap, arith}
 use Rattle.std.specs.Prelude.{Contains, All}
 use Rattle.std.proofs.lemmas.List.Elements.{All-map, All-weaker, All-contains}
 use Rattle.term_model.specs.declared.Row.{Row}
 use Rattle.term_model.specs.declared.Head.{Head}
-use Rattle.term_model.specs.Tree.{Tree, among}
+use Rattle.term_model.specs.Tree.{Tree}
 use Rattle.term_model.specs.Laws.{IsClosed}
-use Rattle.term_model.proofs.Equality.{among_here, among_there, among_cases, among_from_contains, contains_from_among}
+use Rattle.term_model.proofs.Equality.{among_from_contains, contains_from_among}
 use Rattle.term_model.proofs.Members.{distinct_of_part, distinct_is_bounded}
 use Rattle.term_model.proofs.Subtrees.{closed_holds_subtrees}
 use Rattle.terms_api.specs.Terms.{IsHeld, IsSound, tree_at, trees, reachable, asked}
 use Rattle.terms_api.proofs.Callers.{has-held}
+use Rattle.plain_store.specs.Slots.{some_count}
 use Rattle.plain_store.specs.Contents.{Contents, store_of, IsFilled}
-use Rattle.plain_store.proofs.Crowding.{somes}
+use Rattle.plain_store.proofs.Crowding.{somes, somes_length, among_somes, place_somes, all_differ}
+use Rattle.plain_store.proofs.Used.{somes_count}
 use Rattle.term_commands.specs.Different.{different}
 use Rattle.term_commands.proofs.Within.{within_flat, one_more}
-
-somes_length : (os : List (Option Tree)) → length (somes os) ≤ length os
-somes_length [] = omega arith
-somes_length (None ∷ os) = let r = somes_length os in omega (arith, r)
-somes_length (Some t ∷ os) = let r = somes_length os in omega (arith, r)
-
-among_somes : (os : List (Option Tree)) (k : ℕ) (t : Tree) → get_or os k None ≡ Some t → among t (somes os) ≡ true
-among_somes [] k t e = absurd (cc)
-among_somes (None ∷ os) zero t e = absurd (cc)
-among_somes (None ∷ os) (suc k) t e = among_somes os k t e
-among_somes (Some u ∷ os) zero t e = among_here t u (somes os) (let f : u ≡ t = cc in sym f)
-among_somes (Some u ∷ os) (suc k) t e = among_there t u (somes os) (among_somes os k t e)
-
-place_somes : (os : List (Option Tree)) (t : Tree) → among t (somes os) ≡ true → (k : ℕ) × (get_or os k None ≡ Some t)
-place_somes [] t h = absurd (cc)
-place_somes (None ∷ os) t h = let r = place_somes os t h in (suc r.0, r.1)
-place_somes (Some u ∷ os) t h =
-    elim (among_cases t u (somes os) h) [
-      | inl e ↦ (0, ap (λ (x : Tree). Some x) (sym e))
-      | inr g ↦ (let r = place_somes os t g in (suc r.0, r.1))
-    ]
 
 module _ (c : Contents) (sound : IsSound (store_of c)) where
   held : (r : Row) (t : Tree) → get_or c.trees r.0 None ≡ Some t → Contains (somes c.trees) t
@@ -52,15 +33,27 @@ module _ (c : Contents) (sound : IsSound (store_of c)) where
       All-map (Contains (somes c.trees)) (tree_at (store_of c)) c.stack
       (All-weaker (IsHeld (store_of c)) (λ r. Contains (somes c.trees) (tree_at (store_of c) r)) (λ r h. held r (tree_at (store_of c) r) (has-held (store_of c) r h)) c.stack sound.stack)
 
+  reached_held : (t : Tree) → Contains (reachable (store_of c)) t → Contains (somes c.trees) t
+  reached_held t h =
+      let w = within_flat (trees (store_of c)) t h in
+      closed_holds_subtrees (somes c.trees) closed w.0 t (All-contains (Contains (somes c.trees)) (trees (store_of c)) w.0 stacked w.1) w.2
+
   -- the trees under the stack have no more different subtrees than there are rows
   pub fits : different (trees (store_of c)) ≤ length c.trees
   fits =
-      let part = distinct_of_part (reachable (store_of c)) (somes c.trees) (λ t h.
-      (let w = within_flat (trees (store_of c)) t h in
-      closed_holds_subtrees (somes c.trees) closed w.0 t (All-contains (Contains (somes c.trees)) (trees (store_of c)) w.0 stacked w.1) w.2)) in
+      let part = distinct_of_part (reachable (store_of c)) (somes c.trees) reached_held in
       let few = distinct_is_bounded (somes c.trees) in
       let short = somes_length c.trees in
       omega (arith, part, few, short)
+
+  -- where no row has another tree, they have as many as rows have a tree
+  pub all_under : ((r : Row) (t : Tree) → get_or c.trees r.0 None ≡ Some t → Contains (reachable (store_of c)) t) → some_count c.trees ≡ different (trees (store_of c))
+  all_under under =
+      let part = distinct_of_part (reachable (store_of c)) (somes c.trees) reached_held in
+      let back = distinct_of_part (somes c.trees) (reachable (store_of c)) (λ t h.
+      (let p = place_somes c.trees t (among_from_contains t (somes c.trees) h) in under (record { 0 = p.0 }) t p.1)) in
+      let differ = all_differ c.trees (λ i j t e f. ap (λ (x : Row). x.0) (sound.one_row (record { 0 = i }) (record { 0 = j }) t e f)) in
+      omega (arith, part, back, differ, somes_count c.trees)
 
 -- where the trees under the stack fill all rows, one more has no row
 pub too_full : (c : Contents) (h : Head) (n : ℕ) → IsFilled (store_of c) h n → length c.trees < different (trees (store_of c) ++ asked (store_of c) h n ∷ [])

@@ -1,4 +1,5 @@
 pub mod AtOnce
+pub mod Exact
 pub mod Filling
 pub mod Fitting
 pub mod Lines

@@ -1,4 +1,5 @@
 pub mod Building
+pub mod Counting
 pub mod Different
 pub mod Failing
 pub mod Listing

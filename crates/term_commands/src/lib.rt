@@ -2,6 +2,7 @@
 #![tactic(auto)]
 
 mod building;
+mod counted;
 mod counting;
 mod fault;
 mod listing;

@@ -1,12 +1,18 @@
 //! The command `terms` in one pass over the text, where all is well.
-ghost use Rattle.std.specs.Prelude.{◌≤◌, IfOk};
+ghost use Rattle.std.specs.Prelude.{◌≡◌, ◌≤◌, IfOk, true, length, sum_by};
+ghost use Rattle.term_model.specs.Tree.{nodes};
+ghost use Rattle.terms_api.specs.Terms.{trees};
+ghost use Rattle.plain_store.specs.Contents.{store_of};
+ghost use Rattle.term_text.specs.Sizes.{saturated};
+ghost use Rattle.term_commands.specs.Different.{different};
 ghost use Rattle.term_commands.specs.Listing.{IsListed};
 
+use crate::counted::Counted;
 use crate::listing::write_sizes;
 use plain_store::PlainStore;
 use std::alloc::Global;
 use term_building::{GivenUp, build_text};
-use term_text::{SizeMarks, stack_sizes};
+use term_text::{SizeMarks, TermSizes, stack_sizes};
 use terms_api::Terms;
 
 /// How many rows are tried first for a text of few bytes.
@@ -47,6 +53,23 @@ fn places_for(count: usize) -> Result<u32, GivenUp> {
     }
 }
 
+/// How large the trees of the stack are, where the store has so many rows.
+fn sizes_in(alloc: Global, store: &mut Counted, rows: u32) -> Result<TermSizes, GivenUp>
+    requires inside { store.old.inside ≡ true }
+    requires rows { length store.old.trees ≡ rows }
+    ensures distinct { IfOk result (λ s. s.distinct ≡ different (trees (store_of store.old))) }
+    ensures nodes { IfOk result
+        (λ s. s.nodes ≡ saturated (sum_by nodes (trees (store_of store.old)))) }
+    ensures fit { IfOk result (λ s. s.distinct ≤ rows) }
+{
+    if let Some(sizes) = store.sizes() {
+        return Ok(sizes);
+    }
+    let _ = store.depth();
+    let mut marks = SizeMarks::new(alloc, rows)?;
+    Ok(stack_sizes(store, &mut marks))
+}
+
 /// The output, with so many rows, places and arguments.
 fn told_in(
     alloc: Global,
@@ -57,12 +80,10 @@ fn told_in(
 ) -> Result<Vec<u8>, GivenUp>
     ensures { IfOk result (λ text. IsListed rows input.now text.items) }
 {
-    let mut store = PlainStore::new(alloc, rows, places, widest)?;
+    let mut store = Counted::new(PlainStore::new(alloc, rows, places, widest)?);
     store.enter();
     let mut text = build_text(alloc, input, widest, &mut store)?;
-    let mut marks = SizeMarks::new(alloc, rows)?;
-    let sizes = stack_sizes(&mut store, &mut marks);
-    store.leave();
+    let sizes = sizes_in(alloc, &mut store, rows)?;
     write_sizes(sizes, &mut text)?;
     Ok(text)
 }
