@@ -13,7 +13,7 @@ use Rattle.term_file.specs.Contents.{Record, Contents}
 use Rattle.term_file.specs.InOrder.{came_after, visits, visits_at, visits_over, uses}
 use Rattle.term_file.specs.Right.{IsRight, all_after, is_right_symbol, is_right_record}
 use Rattle.term_file.specs.File.{symbol_bytes, record_bytes, numbers_bytes, magic, file_bytes}
-use Rattle.term_file.specs.Reading.{◌>>=◌, checked, text_where, number_where, symbols_at, Records, records_at, Roots, roots_at, is_nil, no_records, no_roots, read_file}
+use Rattle.term_file.specs.Reading.{◌>>=◌, checked, text_where, number_where, symbols_at, Records, records_at, Roots, roots_at, is_nil, no_records, no_roots, roots_to_end, records_to_end, read_file}
 use Rattle.term_file.proofs.FieldLaws.{IsBytes, bind_ok, checked_ok, wide4, number_where_takes, number_where_again, text_where_takes, text_where_again}
 use Rattle.term_file.proofs.SymbolFields.{symbols_take, symbols_again}
 use Rattle.term_file.proofs.RecordFields.{records_take}
@@ -70,7 +70,7 @@ pub record FileTaken (bytes : List ℕ) (c : Contents) : Type 0 where
   pub bytes_are : bytes ≡ file_bytes c
 
 pub file_takes : (bytes : List ℕ) (c : Contents) → IsBytes bytes → read_file bytes ≡ Ok c → FileTaken bytes c
-unfolding read_file
+unfolding read_file records_to_end roots_to_end
 file_takes bytes c fits e =
     let total : ℕ = length bytes in
     let a = bind_ok (text_where total 8 (pointwise nat_eq magic) bytes) (after_magic total) c e in
@@ -122,7 +122,7 @@ file_takes bytes c fits e =
     subst (λ (x : Contents). FileTaken bytes x) k.1 (record { right = right; bytes_are = parts1 })
 
 pub file_again : (c : Contents) → IsRight c → read_file (file_bytes c) ≡ Ok c
-unfolding read_file
+unfolding read_file records_to_end roots_to_end
 file_again c right =
     let bytes : List ℕ = file_bytes c in
     let total : ℕ = length bytes in
@@ -156,57 +156,39 @@ file_again c right =
     ∙ ap (λ (q : Result (Roots × List ℕ) Refusal). q >>= after_roots total c.symbols found) roots_read
     ∙ ap (λ (b : Bool). checked total [] (b && is_nil []) c) (eq-eqb (length c.records) (length c.records) refl)
 
--- ---- a file that was read as far as some field
+-- ---- the roots that were read as far as some field
 
 -- a rule that was kept is kept for each value
 kept_for : {A B : Type 0} (total : ℕ) (bytes : List ℕ) (rule : Bool) (x : A) (y : B) → checked total bytes rule x ≡ Ok x → checked total bytes rule y ≡ Ok y
 kept_for total bytes true x y h = refl
 kept_for total bytes false x y h = absurd cc
 
-read_is : (total : ℕ) (bytes : List ℕ) → total ≡ length bytes → read_file bytes ≡ text_where total 8 (pointwise nat_eq magic) bytes >>= after_magic total
-unfolding read_file
-read_is total bytes is = ap (λ t. text_where t 8 (pointwise nat_eq magic) bytes >>= after_magic t) (sym is)
+module _ (total : ℕ) (symbols : List Named) (found : Records) (bytes : List ℕ) where
+  pub due_at_root_count : (e : ReadFail) → IsDue (number_where total 4 (all_used symbols found) bytes) e → IsDue (roots_to_end total symbols found bytes) e
+  unfolding roots_to_end
+  due_at_root_count e h = first_due (number_where total 4 (all_used symbols found) bytes) (after_root_count total symbols found) e h
 
-module _ (bytes : List ℕ) (total : ℕ) (is : total ≡ length bytes)
-    (start : List ℕ × List ℕ) (e1 : text_where total 8 (pointwise nat_eq magic) bytes ≡ Ok start)
-    (symbol_count : ℕ × List ℕ) (e2 : number_where total 4 few_symbols start.1 ≡ Ok symbol_count)
-    (symbols : List Named × List ℕ) (e3 : symbols_at total symbol_count.0 [] symbol_count.1 ≡ Ok symbols)
-    (record_count : ℕ × List ℕ) (e4 : number_where total 4 few_records symbols.1 ≡ Ok record_count)
-    (found : Records × List ℕ) (e5 : records_at total symbols.0 record_count.0 no_records record_count.1 ≡ Ok found) where
-  as_far : read_file bytes ≡ after_records total symbols.0 found
-  as_far =
-      read_is total bytes is
-      ∙ ap (λ (q : Result (List ℕ × List ℕ) Refusal). q >>= after_magic total) e1
-      ∙ ap (λ (q : Result (ℕ × List ℕ) Refusal). q >>= after_symbol_count total) e2
-      ∙ ap (λ (q : Result (List Named × List ℕ) Refusal). q >>= after_symbols total) e3
-      ∙ ap (λ (q : Result (ℕ × List ℕ) Refusal). q >>= after_record_count total symbols.0) e4
-      ∙ ap (λ (q : Result (Records × List ℕ) Refusal). q >>= after_records total symbols.0) e5
+  module _ (root_count : ℕ × List ℕ) (e1 : number_where total 4 (all_used symbols found) bytes ≡ Ok root_count) where
+    as_far_as_roots : roots_to_end total symbols found bytes ≡ after_root_count total symbols found root_count
+    unfolding roots_to_end
+    as_far_as_roots = ap (λ (q : Result (ℕ × List ℕ) Refusal). q >>= after_root_count total symbols found) e1
 
-  pub due_at_root_count : (e : ReadFail) → IsDue (number_where total 4 (all_used symbols.0 found.0) found.1) e → IsDue (read_file bytes) e
-  due_at_root_count e h =
-      same_due (after_records total symbols.0 found) (read_file bytes) e (sym as_far)
-      (first_due (number_where total 4 (all_used symbols.0 found.0) found.1) (after_root_count total symbols.0 found.0) e h)
-
-  module _ (root_count : ℕ × List ℕ) (e6 : number_where total 4 (all_used symbols.0 found.0) found.1 ≡ Ok root_count) where
-    as_far_as_roots : read_file bytes ≡ after_root_count total symbols.0 found.0 root_count
-    as_far_as_roots = as_far ∙ ap (λ (q : Result (ℕ × List ℕ) Refusal). q >>= after_root_count total symbols.0 found.0) e6
-
-    pub due_at_roots : (e : ReadFail) → IsDue (roots_at total (visits found.0.records) root_count.0 no_roots root_count.1) e → IsDue (read_file bytes) e
+    pub due_at_roots : (e : ReadFail) → IsDue (roots_at total (visits found.records) root_count.0 no_roots root_count.1) e → IsDue (roots_to_end total symbols found bytes) e
     due_at_roots e h =
-        same_due (after_root_count total symbols.0 found.0 root_count) (read_file bytes) e (sym as_far_as_roots)
-        (first_due (roots_at total (visits found.0.records) root_count.0 no_roots root_count.1) (after_roots total symbols.0 found.0) e h)
+        same_due (after_root_count total symbols found root_count) (roots_to_end total symbols found bytes) e (sym as_far_as_roots)
+        (first_due (roots_at total (visits found.records) root_count.0 no_roots root_count.1) (after_roots total symbols found) e h)
 
-    module _ (roots : Roots × List ℕ) (e7 : roots_at total (visits found.0.records) root_count.0 no_roots root_count.1 ≡ Ok roots) where
-      as_far_as_end : read_file bytes ≡ after_roots total symbols.0 found.0 roots
-      as_far_as_end = as_far_as_roots ∙ ap (λ (q : Result (Roots × List ℕ) Refusal). q >>= after_roots total symbols.0 found.0) e7
+    module _ (roots : Roots × List ℕ) (e2 : roots_at total (visits found.records) root_count.0 no_roots root_count.1 ≡ Ok roots) where
+      as_far_as_end : roots_to_end total symbols found bytes ≡ after_roots total symbols found roots
+      as_far_as_end = as_far_as_roots ∙ ap (λ (q : Result (Roots × List ℕ) Refusal). q >>= after_roots total symbols found) e2
 
       abbrev pub ends_well : Bool
-      ends_well = eqb roots.0.visited (length found.0.records) && is_nil roots.1
+      ends_well = eqb roots.0.visited (length found.records) && is_nil roots.1
 
-      pub due_at_end : (e : ReadFail) → IsDue (checked {A = Unit {0}} total roots.1 ends_well tt) e → IsDue (read_file bytes) e
+      pub due_at_end : (e : ReadFail) → IsDue (checked {A = Unit {0}} total roots.1 ends_well tt) e → IsDue (roots_to_end total symbols found bytes) e
       due_at_end e h =
-          same_due (after_roots total symbols.0 found.0 roots) (read_file bytes) e (sym as_far_as_end)
-          (checked_due total roots.1 ends_well tt (made symbols.0 found.0 roots.0) e h)
+          same_due (after_roots total symbols found roots) (roots_to_end total symbols found bytes) e (sym as_far_as_end)
+          (checked_due total roots.1 ends_well tt (made symbols found roots.0) e h)
 
-      pub read_whole : checked {A = Unit {0}} total roots.1 ends_well tt ≡ Ok tt → read_file bytes ≡ Ok (made symbols.0 found.0 roots.0)
-      read_whole h = as_far_as_end ∙ kept_for total roots.1 ends_well tt (made symbols.0 found.0 roots.0) h
+      pub read_whole : checked {A = Unit {0}} total roots.1 ends_well tt ≡ Ok tt → roots_to_end total symbols found bytes ≡ Ok (made symbols found roots.0)
+      read_whole h = as_far_as_end ∙ kept_for total roots.1 ends_well tt (made symbols found roots.0) h

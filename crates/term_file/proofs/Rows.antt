@@ -3,7 +3,7 @@ use Rattle.std.proofs.Common.{◌≡◌, ℕ, List, [], ◌∷◌, Ok, refl}
 use Rattle.term_model.specs.declared.Head.TheVariants.{App}
 use Rattle.term_file.specs.Contents.{Contents}
 use Rattle.term_file.specs.File.{file_bytes}
-use Rattle.term_file.specs.Reading.{read_file, text_where, number_where, symbols_at, symbol_at, records_at, record_at, head_at, arguments_at, roots_at}
+use Rattle.term_file.specs.Reading.{read_file, records_to_end, roots_to_end, text_where, number_where, symbols_at, symbol_at, records_at, record_at, head_at, arguments_at, roots_at}
 
 -- f(a,a)
 abbrev pair : Contents
@@ -22,5 +22,5 @@ written : file_bytes pair ≡ pair_file
 written = refl
 
 read_back : read_file pair_file ≡ Ok pair
-unfolding read_file text_where number_where symbols_at symbol_at records_at record_at head_at arguments_at roots_at
+unfolding read_file records_to_end roots_to_end text_where number_where symbols_at symbol_at records_at record_at head_at arguments_at roots_at
 read_back = refl

@@ -139,16 +139,26 @@ no_records = record { records = []; used = 0 }
 abbrev pub no_roots : Roots
 no_roots = record { roots = []; visited = 0 }
 
--- The contents of a right file, or the first fault of another. An unused symbol is told at the count of the
+-- The roots behind the records, and the contents of the file. An unused symbol is told at the count of the
 -- roots; records that no walk visits, and surplus bytes, are told after the last root
+unfoldable pub roots_to_end : ℕ → List Named → Records → List ℕ → Result Contents Refusal
+roots_to_end total symbols found bytes = do
+  root_count ← number_where total 4 (λ n. found.used == length symbols) bytes
+  roots ← roots_at total (visits found.records) root_count.0 no_roots root_count.1
+  checked total roots.1 (roots.0.visited == length found.records && is_nil roots.1)
+      (record { symbols = symbols; records = found.records; roots = roots.0.roots })
+
+-- the records behind the symbols, and what follows
+unfoldable pub records_to_end : ℕ → List Named → List ℕ → Result Contents Refusal
+records_to_end total symbols bytes = do
+  record_count ← number_where total 4 (λ n. nat_le n 262144) bytes
+  found ← records_at total symbols record_count.0 no_records record_count.1
+  roots_to_end total symbols found.0 found.1
+
+-- the contents of a right file, or the first fault of another
 unfoldable pub read_file : List ℕ → Result Contents Refusal
 read_file bytes = do
   start ← text_where (length bytes) 8 (pointwise nat_eq magic) bytes
   symbol_count ← number_where (length bytes) 4 (λ n. nat_le n 65535) start.1
   symbols ← symbols_at (length bytes) symbol_count.0 [] symbol_count.1
-  record_count ← number_where (length bytes) 4 (λ n. nat_le n 262144) symbols.1
-  found ← records_at (length bytes) symbols.0 record_count.0 no_records record_count.1
-  root_count ← number_where (length bytes) 4 (λ n. found.0.used == length symbols.0) found.1
-  roots ← roots_at (length bytes) (visits found.0.records) root_count.0 no_roots root_count.1
-  checked (length bytes) roots.1 (roots.0.visited == length found.0.records && is_nil roots.1)
-      (record { symbols = symbols.0; records = found.0.records; roots = roots.0.roots })
+  records_to_end (length bytes) symbols.0 symbols.1

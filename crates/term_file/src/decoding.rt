@@ -1,13 +1,16 @@
 //! Reads a file.
-ghost use Rattle.std.specs.Prelude.{◌≡◌, ◌==◌, ◌&&◌, length, nat_le, IfOk, IfErr};
+ghost use Rattle.std.specs.Prelude.{◌≡◌, ◌==◌, ◌&&◌, List, length, nat_le, IfOk, IfErr};
 ghost use Rattle.read_faults.specs.declared.fail.ReadFail.TheVariants.{Memory};
 ghost use Rattle.read_faults.specs.Fault.{IsDue};
 ghost use Rattle.term_file.specs.File.{Terms, IsFile};
 ghost use Rattle.term_file.specs.Reading as spec;
 ghost use Rattle.term_file.specs.Outcome.{Gives};
 ghost use Rattle.term_file.specs.Parts.{contents_of_parts};
+ghost use Rattle.term_file.specs.Found.{records_of};
+ghost use Rattle.symbol_pool.specs.Pool.{Named};
 
 use crate::fields::{after_magic, bad_at, count_at, u32_at};
+use crate::found::Found;
 use crate::records::records_at;
 use crate::roots::roots_at;
 use crate::shared::Shared;
@@ -49,6 +52,43 @@ fn ended(total: usize, visited: usize, table: &Table, rest: &[u8]) -> Result<(),
     Ok(())
 }
 
+/// The roots behind the records, up to the end of the file.
+fn roots_to_end(
+    alloc: Global,
+    total: usize,
+    symbol_count: u32,
+    found: &Found,
+    bytes: &[u8],
+) -> Result<Vec<u32>, ReadFail>
+    ensures { (symbols : List Named) → symbol_count ≡ length symbols
+        → Gives (λ roots. contents_of_parts symbols found.now.table roots.items) result
+        (spec.roots_to_end total symbols (records_of found.now) bytes.now) }
+{
+    let (count, rest) = root_count_at(total, found.used, symbol_count, bytes)?;
+    let (roots, visited, rest) = roots_at(alloc, total, &found.table, count, rest)?;
+    ended(total, visited, &found.table, rest)?;
+    Ok(roots)
+}
+
+/// The records and the roots behind the symbols, up to the end of the file.
+#[tactic(auto, unfolding(crate::specs::Reading::records_to_end))]
+fn records_to_end(
+    alloc: Global,
+    total: usize,
+    symbols: &Symbols,
+    symbol_count: u32,
+    bytes: &[u8],
+) -> Result<(Table, Vec<u32>), ReadFail>
+    requires { symbol_count ≡ length symbols.now }
+    ensures { Gives (λ x. contents_of_parts symbols.now x.0 x.1.items) result
+        (spec.records_to_end total symbols.now bytes.now) }
+{
+    let (count, rest) = count_at(total, MOST_RECORDS, bytes)?;
+    let (found, rest) = records_at(alloc, total, symbols, symbol_count, count, rest)?;
+    let roots = roots_to_end(alloc, total, symbol_count, &found, rest)?;
+    Ok((found.table, roots))
+}
+
 /// What the bytes hold, where they are a right file.
 #[tactic(auto, unfolding(crate::specs::Reading::read_file))]
 fn parts(alloc: Global, bytes: &[u8]) -> Result<(Symbols, u32, Table, Vec<u32>), ReadFail>
@@ -60,12 +100,8 @@ fn parts(alloc: Global, bytes: &[u8]) -> Result<(Symbols, u32, Table, Vec<u32>),
     let rest = after_magic(total, bytes)?;
     let (symbol_count, rest) = count_at(total, MOST_SYMBOLS as u32, rest)?;
     let (symbols, rest) = symbols_at(alloc, total, symbol_count, rest)?;
-    let (record_count, rest) = count_at(total, MOST_RECORDS, rest)?;
-    let (found, rest) = records_at(alloc, total, &symbols, symbol_count, record_count, rest)?;
-    let (root_count, rest) = root_count_at(total, found.used, symbol_count, rest)?;
-    let (roots, visited, rest) = roots_at(alloc, total, &found.table, root_count, rest)?;
-    ended(total, visited, &found.table, rest)?;
-    Ok((symbols, symbol_count, found.table, roots))
+    let (table, roots) = records_to_end(alloc, total, &symbols, symbol_count, rest)?;
+    Ok((symbols, symbol_count, table, roots))
 }
 
 /// The terms of a file.
