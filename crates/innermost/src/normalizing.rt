@@ -13,6 +13,7 @@ ghost use Rattle.innermost.specs.Remembered.{AreRight, BuildsCached};
 ghost use Rattle.innermost.specs.Traced.{TracedAnswers, TracedBuilds, RefusedOnlyWhereTold, TracedSweeps, TellsReplacements};
 ghost use Rattle.innermost.specs.Machines.{IsFor, settled};
 
+use crate::building::BREATH;
 use crate::caching::evaluate_with;
 use crate::coding::code_plan;
 use crate::compile::Code;
@@ -74,7 +75,7 @@ impl Machine {
                 matcher: Matcher::of(alloc, plan)?,
                 frames: Vec::with_capacity(alloc, room)?,
                 left: 0,
-                builds: 0,
+                builds: BREATH,
             },
             window: Window {
                 depths: vec![in alloc; 0u32; SHOWN]?,
