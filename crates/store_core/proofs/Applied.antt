@@ -1,6 +1,6 @@
 -- What a store that runs keeps, and lists of its steps.
-use Rattle.std.proofs.Common.{◌≡◌, ℕ, suc, ◌+◌, ◌*◌, ◌<◌, ◌≤◌, ◌^◌, Bool, true, false, cond, None, Some, List, [], ◌∷◌, ◌++◌, length, get_or, take, drop, replicate, add-one, refl, sym, ap, ◌∙◌, subst, ⊎_elim, arith, ltb-true, ltb-false, true≢false}
-use Rattle.std.specs.Prelude.{nat_lt, MatchBool}
+use Rattle.std.proofs.Common.{◌≡◌, ℕ, suc, ◌+◌, ◌*◌, ◌<◌, ◌≤◌, ◌^◌, Bool, true, false, cond, None, Some, List, [], ◌∷◌, ◌++◌, length, get_or, take, drop, replicate, add-one, refl, sym, ap, ◌∙◌, subst, ⊎_elim, arith, true≢false}
+use Rattle.std.specs.Prelude.{MatchBool}
 use Rattle.std.proofs.lemmas.Bool.{cases_lt}
 use Rattle.std.proofs.lemmas.List.{take-append-drop}
 use Rattle.std.proofs.Math.Seq.{take-suc, drop-cons}

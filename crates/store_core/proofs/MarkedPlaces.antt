@@ -1,12 +1,12 @@
 -- Marks of the rows in free places.
-use Rattle.std.proofs.Common.{◌≡◌, ◌≢◌, ℕ, zero, suc, ◌+◌, ◌<◌, ◌≤◌, eqb, Bool, true, false, cond, List, [], ◌∷◌, ◌++◌, length, get_or, set, refl, sym, ap, ◌∙◌, subst, ⊎_elim, arith, true≢false, get_or-set_same, get_or-set_other}
+use Rattle.std.proofs.Common.{◌≡◌, ◌≢◌, ℕ, zero, suc, ◌+◌, ◌<◌, ◌≤◌, eqb, Bool, true, false, cond, List, length, get_or, set, refl, sym, ap, ◌∙◌, subst, ⊎_elim, arith, get_or-set_same, get_or-set_other}
 use Rattle.std.specs.Prelude.{replicate}
 use Rattle.std.proofs.lemmas.Bool.{cases_lt}
-use Rattle.std.proofs.lemmas.List.{length-replicate, get_or-replicate, get_or_read, length-set, length_push}
+use Rattle.std.proofs.lemmas.List.{length-replicate, get_or-replicate, get_or_read, length-set}
 use Rattle.store_model.specs.declared.view.Place.{Place}
 use Rattle.store_model.specs.declared.view.Place.TheVariants.{FreeCount, FreePlace}
 use Rattle.store_model.specs.declared.view.Sizes.{Sizes}
-use Rattle.store_model.specs.Steps.{is_free, rows_left}
+use Rattle.store_model.specs.Steps.{is_free}
 use Rattle.store_core.specs.RowLists.{AreListed, IsList, IsPast}
 use Rattle.store_core.specs.declared.machine.row_lists.RowList.TheVariants.{Free}
 use Rattle.store_model.specs.Marks.{MarksPlaces, MarksFree, AreNotApart, Repeats}

@@ -6,26 +6,72 @@ use std::alloc::AllocError;
 use std::collections::LinkedList;
 use store_model::{Call, Content, KnownWord, Passed, Place, Refusal, StoreStep, View};
 
+/// The rows that a seat protects, those that it got, and the words that it knows of them.
+#[derive(Drop)]
+struct Known {
+    roots: LinkedList<u32>,
+    got: LinkedList<u32>,
+    knows: LinkedList<KnownWord>,
+}
+
+/// What a seat has noted.
+#[derive(Drop)]
+struct Noted {
+    entries: LinkedList<Entry>,
+    path: LinkedList<Passed>,
+    refused: LinkedList<Refusal>,
+}
+
+fn copy_known(view: &View) -> Result<Known, AllocError>
+    ensures roots { IfOk result (λ k. k.roots ≡ view.now.roots) }
+    ensures got { IfOk result (λ k. k.got ≡ view.now.got) }
+    ensures knows { IfOk result (λ k. k.knows ≡ view.now.knows) }
+{
+    Ok(Known {
+        roots: copy_rows(&view.roots)?,
+        got: copy_rows(&view.got)?,
+        knows: copy_words(&view.knows)?,
+    })
+}
+
+fn copy_noted(view: &View) -> Result<Noted, AllocError>
+    ensures entries { IfOk result (λ n. n.entries ≡ view.now.entries) }
+    ensures path { IfOk result (λ n. n.path ≡ view.now.path) }
+    ensures refused { IfOk result (λ n. n.refused ≡ view.now.refused) }
+{
+    Ok(Noted {
+        entries: copy_entries(&view.entries)?,
+        path: copy_path(&view.path)?,
+        refused: copy_refusals(&view.refused)?,
+    })
+}
+
 /// The same view.
 pub(crate) fn copy(view: &View) -> Result<View, AllocError>
     ensures { IfOk result (λ v. v ≡ view.now) }
 {
+    let Known { roots, got, knows } = copy_known(view)?;
+    let Noted {
+        entries,
+        path,
+        refused,
+    } = copy_noted(view)?;
     Ok(View {
         call: copy_call(&view.call)?,
         stay: view.stay,
         base: view.base,
         in_use: view.in_use,
-        roots: copy_rows(&view.roots)?,
+        roots,
         root_count: view.root_count,
-        got: copy_rows(&view.got)?,
-        knows: copy_words(&view.knows)?,
+        got,
+        knows,
         seen: view.seen,
         overdraw: view.overdraw,
-        entries: copy_entries(&view.entries)?,
+        entries,
         fresh: view.fresh,
         passed: view.passed,
-        path: copy_path(&view.path)?,
-        refused: copy_refusals(&view.refused)?,
+        path,
+        refused,
     })
 }
 

@@ -2,6 +2,7 @@
 ghost use Rattle.store_model.specs.NewStore.{MaySize};
 
 use crate::machine::contents::{word_at, words_of};
+use crate::machine::copies::copy_step;
 use crate::state::StoreState;
 use faults::Memory;
 use history_core::Entry;
@@ -51,7 +52,7 @@ impl Driven {
     }
 
     pub(crate) fn step(&mut self, seat: u32, step: StoreStep) -> Result<(), Memory> {
-        self.steps.push((seat, step.clone()?))?;
+        self.steps.push((seat, copy_step(&step)?))?;
         if !self.store.apply(seat, step)? {
             self.refused = self.refused.wrapping_add(1);
         }

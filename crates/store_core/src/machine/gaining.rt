@@ -1,6 +1,7 @@
 //! How a creation ends: with a row, or with Full.
-ghost use Rattle.std.specs.Prelude.{◌≡◌, ◌++◌, IfOk};
+ghost use Rattle.std.specs.Prelude.{◌≡◌, ◌+◌, ◌++◌, ◌∷◌, [], IfOk, OnOk};
 ghost use Rattle.store_model.specs.Calls.{words_of};
+ghost use Rattle.history_core.specs.declared.entry.Entry.TheVariants.{Make};
 ghost use Rattle.store_model.specs.Machine as machine;
 ghost use Rattle.store_model.specs.declared.view.Content.{Content};
 ghost use Rattle.store_model.specs.declared.view.Call.TheVariants.{Finding, Counting, Drawing, Publishing};
@@ -14,16 +15,11 @@ use history_core::Entry;
 use std::collections::LinkedList;
 use store_model::{Call, Content, KnownWord, Refusal, View};
 
-// The words of row r, before those that are known already.
+// Puts the words of row r before those that are known already.
 #[tactic(auto, using(crate::proofs::Contents::known_more, crate::proofs::Contents::known_none))]
-fn with_words(
-    known: LinkedList<KnownWord>,
-    row: u32,
-    words: &[u64],
-) -> Result<LinkedList<KnownWord>, Memory>
-    ensures { IfOk result (λ k. k ≡ machine.words_known row 0 words.now ++ known) }
+fn put_words(known: &mut LinkedList<KnownWord>, row: u32, words: &[u64]) -> Result<(), Memory>
+    ensures { OnOk result (known.new ≡ machine.words_known row 0 words.now ++ known.old) }
 {
-    let mut known = known;
     let mut word = words.len();
     while word > 0 {
         word -= 1;
@@ -33,7 +29,7 @@ fn with_words(
             value: words[word],
         })?;
     }
-    Ok(known)
+    Ok(())
 }
 
 // A creation ends with a row.
@@ -49,32 +45,33 @@ fn gained(
 {
     view.call = Call::Idle;
     view.got.push_front(row)?;
-    view.knows = with_words(view.knows, row, words)?;
+    put_words(&mut view.knows, row, words)?;
     view.seen = view.seen.max(number);
     view.entries.push_back(entry)?;
     Ok(view)
 }
 
+// A creation that ended with Full is noted.
+fn with_refusal(mut view: View, refusal: Refusal) -> Result<View, Memory>
+    ensures { IfOk result (λ v. v ≡ record view { refused = view.refused ++ refusal ∷ [] }) }
+{
+    view.refused.push_back(refusal)?;
+    Ok(view)
+}
+
 // A creation ends with Full.
-fn refusing(
-    mut view: View,
-    content: Content,
-    head: u32,
-    claim: u64,
-    count: u64,
-) -> Result<View, Memory>
+fn refusing(view: View, content: Content, head: u32, claim: u64, count: u64) -> Result<View, Memory>
     ensures { IfOk result (λ v. v ≡ machine.refusing view content head claim count) }
 {
-    view.call = Call::Idle;
     let path = copy_path(&view.path)?;
-    view.refused.push_back(Refusal {
+    let refusal = Refusal {
         content,
         head,
         path,
         claim,
         count,
-    })?;
-    Ok(view)
+    };
+    with_refusal(with_call(view, Call::Idle), refusal)
 }
 
 // A creation ends with Full by a draw past the free count.
@@ -148,6 +145,22 @@ pub(crate) fn after_drawn(
     }
 }
 
+// The bucket's head was exchanged for the own row.
+fn after_exchange(view: View, content: Content, index: u32, row: u32) -> Result<View, Memory>
+    ensures { IfOk result (λ v. v ≡ machine.gained view content row (view.base + index)
+        (Make (view.base + index) content.head content.arguments row)) }
+{
+    let number = sum(view.base, index)?;
+    let words = words_of(&content)?;
+    let entry = Entry::Make {
+        number,
+        head: content.head,
+        args: content.arguments,
+        row,
+    };
+    gained(view, words.as_slice(), row, number, entry)
+}
+
 /// The bucket's head was exchanged for the own row, or another head was found there.
 pub(crate) fn after_published(
     view: View,
@@ -161,15 +174,7 @@ pub(crate) fn after_published(
         (λ v. v ≡ (machine.action view (Publishing content from index row)).moved word) }
 {
     if word == u64::from(from) {
-        let words = words_of(&content)?;
-        let number = sum(view.base, index)?;
-        let entry = Entry::Make {
-            number,
-            head: content.head,
-            args: content.arguments,
-            row,
-        };
-        gained(view, words.as_slice(), row, number, entry)
+        after_exchange(view, content, index, row)
     } else {
         let found = narrow(word)?;
         Ok(with_call(

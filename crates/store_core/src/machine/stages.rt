@@ -1,5 +1,5 @@
 //! What a seat knows after a stage of a creation, by what it knew and the word that it found.
-ghost use Rattle.std.specs.Prelude.{◌≡◌, suc, IfOk};
+ghost use Rattle.std.specs.Prelude.{◌≡◌, ◌++◌, ◌∷◌, [], suc, IfOk};
 ghost use Rattle.store_model.specs.Machine as machine;
 ghost use Rattle.store_model.specs.declared.view.Call.TheVariants.{Comparing, Passing, Filling};
 
@@ -121,9 +121,20 @@ pub(crate) fn after_compared(
     }
 }
 
+// The view whose walk has passed one more row.
+fn with_passed(mut view: View, one: Passed) -> Result<View, Memory>
+    ensures { IfOk result
+        (λ v. v ≡ machine.with_path view (suc view.passed) (view.path ++ one ∷ [])) }
+{
+    let passed = next(view.passed)?;
+    view.path.push_back(one)?;
+    view.passed = passed;
+    Ok(view)
+}
+
 /// The next word of the chain was loaded.
 pub(crate) fn after_passed(
-    mut view: View,
+    view: View,
     content: Content,
     drawn: Option<(u32, u32)>,
     from: u32,
@@ -136,16 +147,14 @@ pub(crate) fn after_passed(
         (λ v. v ≡ (machine.action view (Passing content drawn from old at differs)).moved word) }
 {
     let next_at = narrow(word)?;
-    let passed = next(view.passed)?;
-    view.path.push_back(Passed {
+    let one = Passed {
         row: at.saturating_sub(1),
         word: differs.0,
         found: differs.1,
         next: next_at,
-    })?;
-    view.passed = passed;
-    view.call = arrived(content, drawn, from, old, next_at);
-    Ok(view)
+    };
+    let view = with_passed(view, one)?;
+    Ok(with_call(view, arrived(content, drawn, from, old, next_at)))
 }
 
 /// A word of the own row was stored.
