@@ -1,5 +1,5 @@
 -- An input without offence is spelled.
-use Rattle.std.proofs.Common.{◌≡◌, ℕ, ◌-◌, ◌<◌, ◌≤◌, Bool, true, false, ◌&&◌, List, [], ◌∷◌, ◌++◌, length, take, slice_get, Option, Some, None, is_some, All, refl, sym, ap, subst, ◌∙◌, arith, length-append}
+use Rattle.std.proofs.Common.{rules, ◌≡◌, ℕ, ◌-◌, ◌<◌, ◌≤◌, true, ◌&&◌, List, [], ◌∷◌, ◌++◌, length, take, slice_get, Option, Some, None, is_some, All, refl, sym, ap, subst, ◌∙◌, arith, length-append}
 use Rattle.std.specs.Prelude.{nat_lt, nat_le, if◌then◌else◌}
 use Rattle.std.specs.Option.{option_to_list}
 use Rattle.std.specs.List.{list_all, flat_map}
@@ -14,42 +14,27 @@ use Rattle.rec_reader.specs.declared.syntax_tree.Specification.{Specification}
 use Rattle.rec_reader.specs.Parsed.{Parsed}
 use Rattle.rec_reader.specs.Whole.{HasWholeTerms}
 use Rattle.rec_includes.specs.Material.{Header, symbols_by, specifications_at, included, headers_of, header_after, material_of}
-use Rattle.rec_offences.specs.Faults.{offences_after, offences_from, offences_of}
-use Rattle.rec_includes.proofs.Inputs.{headers_more, headers_counted}
+use Rattle.rec_offences.specs.Faults.{offences_after, offences_from}
+use Rattle.rec_includes.proofs.Gathered.{headers_more, headers_counted}
 use Rattle.rec_includes.proofs.Brought.{material_is}
 use Rattle.rec_check.specs.Rule.{◌>>=◌}
 use Rattle.rec_check.specs.Symbols.{named_in, with_symbols}
 use Rattle.rec_check.specs.Spelled.{Specified, rules_of, terms_in, with_few_rules, most_rules}
 use Rattle.rec_check.specs.Run.{last_of, spelled_with, spelled_in}
 use Rattle.rec_check.proofs.Chains.{goes}
-use Rattle.rec_check.proofs.Faultless.{left_empty, right_empty, Faultless, faultless, material}
-use Rattle.rec_check.proofs.Repeating.{all_added}
 use Rattle.rec_check.proofs.Readable.{rules_spelled, length-rules, terms_spelled, TermReads}
+use Rattle.rec_check.proofs.Faultless.{left_empty, right_empty, Faultless, faultless, material}
+use Rattle.rec_check.proofs.Sound.{all_added}
 use Rattle.rec_check.proofs.Entire.{Together, IsSound, together_of, sound_of, together_more, included_sound, terms_of_last, more_symbols}
 
 -- numbers of earlier specifications mean the same where more follow
 still_at : (earlier more : List Specification) (ms : List ℕ) → list_all (λ n. nat_lt n (length earlier)) ms ≡ true → specifications_at (earlier ++ more) ms ≡ specifications_at earlier ms
 still_at earlier more [] h = refl
-still_at earlier more (n ∷ ms) h = by (nat_lt n (length earlier)) refl h (λ k. still_at earlier more ms k)
-  where
-    by : (b : Bool) → nat_lt n (length earlier) ≡ b → (b && list_all (λ n. nat_lt n (length earlier)) ms) ≡ true
-        → (list_all (λ n. nat_lt n (length earlier)) ms ≡ true → specifications_at (earlier ++ more) ms ≡ specifications_at earlier ms)
-        → option_to_list (slice_get (earlier ++ more) n) ++ specifications_at (earlier ++ more) ms ≡ option_to_list (slice_get earlier n) ++ specifications_at earlier ms
-    by false e h on = absurd cc
-    by true e h on =
-        let l : n < length earlier = grind (arith, nat_tests) in
-        (λ i. option_to_list (slice_get-append earlier more n l i) ++ on h i)
+still_at earlier more (n ∷ ms) h = grind (arith, nat_tests, still_at earlier more ms, slice_get-append)
 
 still_within : (k m : ℕ) (ms : List ℕ) → k ≤ m → list_all (λ n. nat_lt n k) ms ≡ true → list_all (λ n. nat_lt n m) ms ≡ true
 still_within k m [] l h = refl
-still_within k m (n ∷ ms) l h = by (nat_lt n k) refl h (λ g. still_within k m ms l g)
-  where
-    by : (b : Bool) → nat_lt n k ≡ b → (b && list_all (λ n. nat_lt n k) ms) ≡ true → (list_all (λ n. nat_lt n k) ms ≡ true → list_all (λ n. nat_lt n m) ms ≡ true) → (nat_lt n m && list_all (λ n. nat_lt n m) ms) ≡ true
-    by false e h on = absurd cc
-    by true e h on =
-        let a : n < k = grind (arith, nat_tests) in
-        let e2 : nat_lt n m ≡ true = grind (arith, nat_tests) in
-        λ i. e2 i && on h i
+still_within k m (n ∷ ms) l h = grind (arith, nat_tests, still_within k m ms l)
 
 at_end : (earlier : List Specification) (s : Specification) → slice_get (earlier ++ s ∷ []) (length earlier) ≡ Some s
 at_end [] s = refl
@@ -165,9 +150,3 @@ module _ (bytes : List ℕ) where
   pub accepted : (specs : List Specification) → offences_from bytes [] specs ≡ [] → All HasWholeTerms specs → is_some (spelled_in (record { bytes = bytes; specifications = specs })) ≡ true
   accepted [] h w = refl
   accepted (s ∷ ss) h w = accepted_from [] s ss (All-nil (λ h. IsSound bytes [] h.material)) h w
-
--- nothing but an offence keeps an input from being spelled
-pub never_unspelled : (syntax : Parsed) → offences_of syntax ≡ [] → All HasWholeTerms syntax.specifications → spelled_in syntax ≡ None → ⊥
-never_unspelled syntax h w none =
-    let bad : false ≡ true = sym (ap is_some none) ∙ accepted syntax.bytes syntax.specifications h w in
-    cc

@@ -1,7 +1,8 @@
 -- The names of what is spelled have no space and no line feed: their bytes are those of names of
 -- the input.
-use Rattle.std.proofs.Common.{◌≡◌, ℕ, zero, suc, Bool, true, false, List, [], ◌∷◌, ◌++◌, map, Some, None, Ok, subst}
-use Rattle.std.specs.Prelude.{slice_get, if◌then◌else◌}
+use Rattle.std.proofs.lemmas.Bool.Decides.{nat_tests}
+use Rattle.std.proofs.Common.{arith, ◌≡◌, ℕ, zero, suc, List, [], ◌∷◌, ◌++◌, map, Some, Ok, subst}
+use Rattle.std.specs.Prelude.{slice_get}
 use Rattle.std.specs.List.{flat_map, AllByRecursion}
 use Rattle.std.specs.Option.{option_to_list}
 use Rattle.symbol_pool.specs.Pool.{Named}
@@ -13,7 +14,7 @@ use Rattle.rec_reader.specs.Parsed.{Parsed}
 use Rattle.rec_reader.specs.Tokens.{tokens_of}
 use Rattle.rec_reader.specs.Grammar.{IsInput}
 use Rattle.rec_includes.specs.Material.{Declared, declared, symbols_of_declaration, symbols_by, symbols_of, specifications_at}
-use Rattle.rec_check.specs.Symbols.{named_in, may_be_added, with_symbol, with_symbols}
+use Rattle.rec_check.specs.Symbols.{named_in, with_symbol, with_symbols}
 use Rattle.rec_check.specs.Spelled.{Specified}
 use Rattle.rec_check.specs.Run.{spelled_in}
 use Rattle.rec_check.proofs.Plans.{cc_some, from_then, last_material, of_spelled}
@@ -80,12 +81,7 @@ pushed (t ∷ ts) s a c = (a.0, pushed ts s a.1 c)
 
 added : (symbols made : List Named) (s : Named) → with_symbol symbols s ≡ Some made
     → symbols ++ s ∷ [] ≡ made
-added symbols made s h = by (may_be_added symbols s) h
-  where
-    by : (b : Bool) → (if b then Some (symbols ++ s ∷ []) else None) ≡ Some made
-        → symbols ++ s ∷ [] ≡ made
-    by true g = cc_some (symbols ++ s ∷ []) made g
-    by false g = absurd cc
+added symbols made s h = grind (arith, nat_tests)
 
 stay_clear : (symbols ss made : List Named) → ClearSymbols symbols → ClearSymbols ss
     → with_symbols symbols ss ≡ Some made → ClearSymbols made

@@ -1,5 +1,6 @@
 -- A specification without offence, after others whose materials are sound: its own material is sound.
-use Rattle.std.proofs.Common.{◌≡◌, ℕ, ◌+◌, ◌-◌, ◌≤◌, Bool, true, false, eqb, not, ◌&&◌, ◌⊎◌, inl, inr, List, [], ◌∷◌, ◌++◌, length, map, slice_get, get_or, Option, Some, None, is_some, All, refl, sym, ap, subst, ◌∙◌, arith, position, length-append}
+use Rattle.std.proofs.lemmas.Bool.Decides.{nat_tests}
+use Rattle.std.proofs.Common.{rules, ◌≡◌, ℕ, ◌+◌, ◌-◌, ◌≤◌, Bool, true, false, eqb, not, ◌&&◌, ◌⊎◌, inl, inr, List, [], ◌∷◌, ◌++◌, length, map, slice_get, get_or, Option, Some, None, is_some, All, refl, sym, ap, subst, ◌∙◌, arith, position, length-append}
 use Rattle.std.specs.Prelude.{nat_le, nat_lt, if◌then◌else◌, option_and_then}
 use Rattle.std.specs.Option.{option_map, option_map_or, option_to_list}
 use Rattle.std.specs.List.{list_any, list_all, flat_map, filter}
@@ -17,17 +18,15 @@ use Rattle.rec_reader.specs.Whole.{IsWhole, IsWholeRule, HasWholeTerms}
 use Rattle.rec_includes.specs.Names.{text_of, is_among}
 use Rattle.rec_includes.specs.Material.{Declared, symbols_by, variables_by, symbols_of, rules_of, specifications_at, headers_of}
 use Rattle.rec_offences.specs.Scope.{symbol_entry, variable_entry, own_entries, names_of, look_up, is_variable, heads, root, visits}
-use Rattle.rec_offences.specs.Offences.{includes_from, is_clashing, is_passing, is_long, names_in as all_names_in, repeated, first_past, most, terms_of, nodes_but_left, all_visits, unknown_name, wrong_count, unknown_names, wrong_counts, bare_variables, free_variables, not_ground}
+use Rattle.rec_offences.specs.Offences.{includes_from, is_clashing, is_passing, is_long, names_in as all_names_in, repeated, first_past, most, terms_of, nodes_but_left, all_visits, unknown_name, wrong_count, unknown_names, wrong_counts, not_ground}
 use Rattle.rec_check.specs.Rule.{variables_in}
 use Rattle.rec_check.specs.Symbols.{named_in}
 use Rattle.rec_check.specs.Spelled.{variables_of}
 use Rattle.rec_check.proofs.Faultless.{left_empty, right_empty, Faultless, headers, material, known, entries}
-use Rattle.rec_check.proofs.Positions.{place_if_any}
-use Rattle.rec_check.proofs.Repeating.{repeated-append, few_arguments}
-use Rattle.rec_check.proofs.Sound.{Holds, Sound, sound_none, sound_entries, all_front, all_back, holds_first}
+use Rattle.rec_check.proofs.Heads.{place_if_any}
+use Rattle.rec_check.proofs.Sound.{repeated-append, few_arguments, Holds, Sound, sound_none, sound_entries, all_front, all_back, holds_first}
 use Rattle.rec_check.proofs.Readable.{TermReads, RuleReads, Reads, reads_more, All-at, last_node, none_of}
-use Rattle.rec_check.proofs.Own.{all_empty, all_flat, all_filtered, visited, HeadSymbol, HeadVariable, classify, entries_of}
-use Rattle.rec_check.proofs.Judged.{option_empty, within_most, few_declared, all_pair, all_mapped, term_read, ground_read, heads_among, not_there}
+use Rattle.rec_check.proofs.Judged.{all_empty, all_flat, all_filtered, visited, HeadSymbol, HeadVariable, classify, entries_of, option_empty, within_most, few_declared, all_pair, all_mapped, term_read, ground_read, heads_among, not_there}
 
 -- what a list of specifications has together
 pub record Together (bytes : List ℕ) (ts : List Specification) : Type 0 where
@@ -44,18 +43,14 @@ pub together_of : (bytes : List ℕ) (specs : List Specification) (ms : List ℕ
 together_of bytes specs ms s = record { distinct = s.distinct; few_symbols = s.few_symbols; few_rules = s.few_rules; few = s.few; reads = s.reads }
 
 pub sound_of : (bytes : List ℕ) (specs : List Specification) (ms : List ℕ) (ts : List Specification) → list_all (λ n. nat_lt n (length specs)) ms ≡ true → specifications_at specs ms ≡ ts → Together bytes ts → IsSound bytes specs ms
-sound_of bytes specs ms ts w e t =
-    let u = subst (Together bytes) (sym e) t in
-    record { within = w; distinct = u.distinct; few_symbols = u.few_symbols; few_rules = u.few_rules; few = u.few; reads = u.reads }
+sound_of bytes specs ms ts w e t = grind (arith, nat_tests)
 
 names_symbols : (ds : List Declared) → names_of (map symbol_entry ds) ≡ map (λ d. d.name) ds
 names_symbols [] = refl
 names_symbols (d ∷ ds) = ap (λ ns. d.name ∷ ns) (names_symbols ds)
 
 implied : (a b : Bool) → (a && not b) ≡ false → a ≡ true → b ≡ true
-implied true true h k = refl
-implied true false h k = absurd cc
-implied false b h k = absurd cc
+implied a b h k = grind (arith, nat_tests)
 
 module _ (bytes : List ℕ) (earlier : List Specification) (s : Specification) (f : Faultless bytes earlier s) (w : HasWholeTerms s) where
   abbrev ms : List ℕ
@@ -72,44 +67,23 @@ module _ (bytes : List ℕ) (earlier : List Specification) (s : Specification) (
 
   -- the entries are those of all symbols and of the variables
   regroup : entries bytes earlier s ≡ entries_of bytes all_symbols s
-  regroup =
-      sym (append_assoc (map symbol_entry before) (map symbol_entry (symbols_by s)) (map variable_entry (variables_by s)))
-      ∙ ap (λ es. es ++ map variable_entry (variables_by s)) (sym (map-append symbol_entry before (symbols_by s)))
+  regroup = grind (arith, nat_tests, append_assoc, map-append)
 
   -- own names are repeated nowhere
   own_new : repeated bytes (names_of (known bytes earlier s)) (names_of (own_entries s)) ≡ []
-  own_new =
-      let includes = includes_from bytes (headers bytes earlier s) [] s.includes in
-      let a = filter (is_among bytes (map (λ h. h.name) (headers bytes earlier s))) (s.name ∷ []) in
-      let b = repeated bytes [] s.sorts in
-      let c = repeated bytes (names_of (known bytes earlier s)) (names_of (own_entries s)) in
-      let d = map (λ i. i.entry) (filter (is_clashing bytes earlier) includes) in
-      right_empty (a ++ b) c (left_empty (a ++ b ++ c) d f.repeated_none)
+  own_new = grind (arith, nat_tests, headers, known, right_empty, left_empty)
 
   clashing_none : map (λ i. i.entry) (filter (is_clashing bytes earlier) (includes_from bytes (headers bytes earlier s) [] s.includes)) ≡ []
-  clashing_none =
-      let includes = includes_from bytes (headers bytes earlier s) [] s.includes in
-      let a = filter (is_among bytes (map (λ h. h.name) (headers bytes earlier s))) (s.name ∷ []) in
-      let b = repeated bytes [] s.sorts in
-      let c = repeated bytes (names_of (known bytes earlier s)) (names_of (own_entries s)) in
-      right_empty (a ++ b ++ c) (map (λ i. i.entry) (filter (is_clashing bytes earlier) includes)) f.repeated_none
+  clashing_none = grind (arith, nat_tests, headers, known, right_empty)
 
   split_new : repeated bytes (names_of (known bytes earlier s)) (names_of (map symbol_entry (symbols_by s))) ++ repeated bytes (names_of (known bytes earlier s) ++ names_of (map symbol_entry (symbols_by s))) (names_of (map variable_entry (variables_by s))) ≡ []
-  split_new =
-      sym (repeated-append bytes (names_of (known bytes earlier s)) (names_of (map symbol_entry (symbols_by s))) (names_of (map variable_entry (variables_by s))))
-      ∙ ap (repeated bytes (names_of (known bytes earlier s))) (sym (map-append (λ e. e.declared.name) (map symbol_entry (symbols_by s)) (map variable_entry (variables_by s))))
-      ∙ own_new
+  split_new = grind (arith, nat_tests, repeated-append, known, map-append, own_new)
 
   symbols_new : repeated bytes (map (λ d. d.name) before) (map (λ d. d.name) (symbols_by s)) ≡ []
-  symbols_new =
-      (λ i. repeated bytes (sym (names_symbols before) i) (sym (names_symbols (symbols_by s)) i))
-      ∙ left_empty (repeated bytes (names_of (known bytes earlier s)) (names_of (map symbol_entry (symbols_by s)))) (repeated bytes (names_of (known bytes earlier s) ++ names_of (map symbol_entry (symbols_by s))) (names_of (map variable_entry (variables_by s)))) split_new
+  symbols_new = grind (arith, nat_tests, names_symbols, left_empty, known, split_new)
 
   variables_apart : repeated bytes (map (λ d. d.name) all_symbols) (names_of (map variable_entry (variables_by s))) ≡ []
-  variables_apart =
-      ap (λ e. repeated bytes e (names_of (map variable_entry (variables_by s)))) (map-append (λ d. d.name) before (symbols_by s))
-      ∙ (λ i. repeated bytes (sym (names_symbols before) i ++ sym (names_symbols (symbols_by s)) i) (names_of (map variable_entry (variables_by s))))
-      ∙ right_empty (repeated bytes (names_of (known bytes earlier s)) (names_of (map symbol_entry (symbols_by s)))) (repeated bytes (names_of (known bytes earlier s) ++ names_of (map symbol_entry (symbols_by s))) (names_of (map variable_entry (variables_by s)))) split_new
+  variables_apart = grind (arith, nat_tests, map-append, names_symbols, right_empty, known, split_new)
 
   -- ---- the limits
 
@@ -150,19 +124,11 @@ module _ (bytes : List ℕ) (earlier : List Specification) (s : Specification) (
   arguments_none = right_empty l_long l_arguments (left_empty (l_long ++ l_arguments) l_symbols to_symbols)
 
   no_symbol_past : first_past (length before) (symbols_by s) ≡ None
-  no_symbol_past = by (first_past (length before) (symbols_by s)) symbols_none
-    where
-      by : (o : Option Declared) → map (λ d. d.name) (option_to_list o) ≡ [] → o ≡ None
-      by None h = refl
-      by (Some d) h = absurd cc
+  no_symbol_past = grind (arith, nat_tests, symbols_none)
 
   -- a rule of a whole left side has a root
   rooted : (r : Rule) → IsWhole r.left → root r.left ≡ None → ⊥
-  rooted r h e =
-      let n = last_node bytes r.left h in
-      let there : root r.left ≡ Some n.0.head = ap (option_map (λ n. n.head)) n.1 in
-      let bad : Some n.0.head ≡ None = sym there ∙ e in
-      cc
+  rooted r h e = grind (arith, nat_tests, last_node)
 
   no_rule_past : first_past (length (rules_of earlier (material bytes earlier s))) s.rules ≡ None
   no_rule_past = by (nat_le (length (rules_of earlier (material bytes earlier s))) most) refl
@@ -225,16 +191,10 @@ module _ (bytes : List ℕ) (earlier : List Specification) (s : Specification) (
   among_left r n = is_among bytes (heads r.left) n
 
   rule_free : All (λ r. All (λ n. (is_var n && not (among_left r n)) ≡ false) (heads (nodes_but_left r))) s.rules
-  rule_free =
-      All-weaker (λ r. filter (λ n. is_var n && not (among_left r n)) (heads (nodes_but_left r)) ≡ []) (λ r. All (λ n. (is_var n && not (among_left r n)) ≡ false) (heads (nodes_but_left r)))
-      (λ r h. all_filtered (λ n. is_var n && not (among_left r n)) (heads (nodes_but_left r)) h) s.rules
-      (all_empty (λ r. filter (λ n. is_var n && not (among_left r n)) (heads (nodes_but_left r))) s.rules (ap (λ es. free_variables bytes es s) (sym regroup) ∙ f.free_none))
+  rule_free = grind (arith, nat_tests, all_filtered, all_empty, regroup)
 
   rule_bare : All (λ r. All (λ n. is_var n ≡ false) (option_to_list (root r.left))) s.rules
-  rule_bare =
-      All-weaker (λ r. filter is_var (option_to_list (root r.left)) ≡ []) (λ r. All (λ n. is_var n ≡ false) (option_to_list (root r.left)))
-      (λ r h. all_filtered is_var (option_to_list (root r.left)) h) s.rules
-      (all_empty (λ r. filter is_var (option_to_list (root r.left))) s.rules (ap (λ es. bare_variables bytes es s) (sym regroup) ∙ f.bare_none))
+  rule_bare = grind (arith, nat_tests, all_filtered, all_empty, regroup)
 
   term_ground : All (λ t. All (λ n. is_var n.head ≡ false) t) s.terms
   term_ground =

@@ -1,20 +1,98 @@
 -- What a head stands for, by cases.
-use Rattle.std.proofs.Common.{◌≡◌, ℕ, zero, suc, ◌<◌, ◌≤◌, Bool, true, false, ◌&&◌, ◌⊎◌, inl, inr, List, [], ◌∷◌, length, get_or, Option, Some, None, All, refl, sym, ap, subst, ◌∙◌, arith, position}
-use Rattle.std.specs.Prelude.{option_and_then, nat_le, if◌then◌else◌}
+use Rattle.std.proofs.Common.{◌≡◌, ℕ, suc, ◌+◌, ◌<◌, ◌≤◌, Bool, true, false, cond, List, [], ◌∷◌, ◌++◌, length, Option, Some, None, is_some, refl, sym, ap, ◌∙◌, arith, position, zero, eqb, ◌&&◌, get_or, slice_get, IfNone, ◌⊎◌, All, subst}
 use Rattle.std.specs.Option.{option_map}
-use Rattle.std.specs.List.{list_all}
+use Rattle.std.specs.List.{list_any, list_all}
+use Rattle.std.proofs.lemmas.Bool.Decides.{nat_tests}
 use Rattle.std.specs.Str.{bytes_eq}
-use Rattle.std.proofs.lemmas.List.Quantifiers.{position-Some}
-use Rattle.std.proofs.lemmas.List.Elements.{All-cons}
+use Rattle.std.specs.Cmp.{first_so, second_so}
+use Rattle.std.specs.Cmp.Lexicographic.{bytes_decides}
+use Rattle.std.proofs.lemmas.Option.{slice_get_within, slice_get-get_or, get_or_from_slice_get}
+use Rattle.std.proofs.lemmas.List.Sums.{position_or_len_is}
+use Rattle.std.proofs.lemmas.Bool.{eqb-true, eq-eqb, false_from_ne_true}
+use Rattle.std.specs.Prelude.{nat_le}
 use Rattle.term_model.specs.declared.Item.{Item}
-use Rattle.term_model.specs.declared.Item.TheVariants.{Var, App}
-use Rattle.symbol_pool.specs.Pool.{Named, named}
+use Rattle.term_model.specs.declared.Item.TheVariants.{App, Var}
+use Rattle.symbol_pool.specs.Pool.{Named, named, Holds, Lacks, IsPool}
+use Rattle.term_model.specs.declared.Symbol.{Symbol}
+use Rattle.rec_check.specs.Term.{same_symbol, symbol_item, item_by, most_arguments, Scope, all_of, item_in}
+use Rattle.std.proofs.lemmas.List.Quantifiers.{position-Some}
 use Rattle.rec_reader.specs.declared.syntax_tree.Node.{Node}
 use Rattle.rule_match.specs.Planned.{is_plain, is_item_below}
 use Rattle.rec_includes.specs.Names.{text_of}
 use Rattle.rec_check.specs.Symbols.{widest_of}
-use Rattle.rec_check.specs.Term.{Scope, all_of, item_in, item_by, symbol_item, variable_item, same_symbol, most_arguments}
-use Rattle.rec_check.proofs.Found.{same_from}
+
+-- ---- where a test first passes, by recursion
+
+module _ {X : Type 0} (p : X → Bool) where
+  pub position_cons : (x : X) (xs : List X) → position p (x ∷ xs) ≡ cond (p x) (Some 0) (option_map suc (position p xs))
+  position_cons x xs = grind (arith, nat_tests)
+
+  -- there is a place exactly where something passes
+  pub place_if_any : (xs : List X) → is_some (position p xs) ≡ list_any p xs
+  place_if_any [] = refl
+  place_if_any (x ∷ xs) = grind (arith, nat_tests, place_if_any xs)
+
+  -- what comes last moves no place
+  pub stays_first : (xs ys : List X) (i : ℕ) → position p xs ≡ Some i → position p (xs ++ ys) ≡ Some i
+  stays_first [] ys i e = absurd (let bad : None ≡ Some i = e in cc)
+  stays_first (x ∷ xs) ys i e = grind (arith, nat_tests, stays_first xs ys)
+
+  -- what is new is at the end
+  pub new_at_end : (xs : List X) (y : X) (ys : List X) → list_any p xs ≡ false → p y ≡ true → position p (xs ++ y ∷ ys) ≡ Some (length xs)
+  new_at_end [] y ys none passes = position_cons y ys ∙ ap (λ b. cond b (Some 0) (option_map suc (position p ys))) passes
+  new_at_end (x ∷ xs) y ys none passes = grind (arith, nat_tests, new_at_end xs y ys)
+
+-- ---- finding a symbol in a pool, and a name among names
+
+-- the first place at which a test passes
+pub position_is : {X : Type 0} (p : X → Bool) (xs : List X) (i : ℕ) (x : X) → slice_get xs i ≡ Some x → p x ≡ true
+    → ((k : ℕ) (y : X) → k < i → slice_get xs k ≡ Some y → p y ≡ false) → position p xs ≡ Some i
+position_is {X} p xs i x at passes before = grind (arith, nat_tests, slice_get_within xs i x at, slice_get-get_or xs, get_or_from_slice_get xs i x x at, position_or_len_is p xs i x)
+
+-- no place, where nothing passes
+pub position_none : {X : Type 0} (p : X → Bool) (xs : List X) (d : X) → ((k : ℕ) (y : X) → slice_get xs k ≡ Some y → p y ≡ false) → position p xs ≡ None
+position_none {X} p xs d fails = grind (arith, nat_tests, slice_get-get_or xs, position_or_len_is p xs (length xs) d)
+
+-- two symbols are the same exactly where the test says so
+pub same_from : (s t : Named) → same_symbol s t ≡ true → s ≡ t
+same_from s t h =
+    let name : s.name ≡ t.name = (bytes_decides s.name t.name).0 (first_so (bytes_eq s.name t.name) (eqb s.arity t.arity) h) in
+    let arity : s.arity ≡ t.arity = eqb-true s.arity t.arity (second_so (bytes_eq s.name t.name) (eqb s.arity t.arity) h) in
+    λ i. named (name i) (arity i)
+
+pub same_self : (s : Named) → same_symbol s s ≡ true
+same_self s =
+    let name : bytes_eq s.name s.name ≡ true = (bytes_decides s.name s.name).1 refl in
+    let arity : eqb s.arity s.arity ≡ true = eq-eqb s.arity s.arity refl in
+    λ i. name i && arity i
+
+differs : (s t : Named) → (s ≡ t → ⊥) → same_symbol s t ≡ false
+differs s t h = false_from_ne_true (same_symbol s t) (λ e. h (same_from s t e))
+
+-- the place of a symbol that is held is its number
+pub held_at : (pool : List Named) (f : Symbol) (s : Named) → IsPool pool → Holds pool f s → position (same_symbol s) pool ≡ Some f.0
+held_at pool f s is held = grind (arith, nat_tests, position_is, same_self, differs)
+
+pub lacking : (pool : List Named) (s : Named) → Lacks pool s → position (same_symbol s) pool ≡ None
+lacking pool s lacks = position_none (same_symbol s) pool s (λ k t at. differs s t (λ e. lacks k (at ∙ ap Some (sym e))))
+
+item_lacking : (pool : List Named) (name : List ℕ) (count : ℕ) → Lacks pool (named name count) → symbol_item pool name count ≡ None
+item_lacking pool name count lacks = grind (arith, nat_tests, lacking)
+
+-- where a head stands for a symbol, it has no more arguments than may be, and the symbol is found
+module _ (pool : List Named) (name : List ℕ) (count : ℕ) (h : is_some (symbol_item pool name count) ≡ true) where
+  pub is_small : nat_le count most_arguments ≡ true
+  is_small = grind (arith, nat_tests)
+
+  pub is_found : (o : Option Symbol) → IfNone o (Lacks pool (named name count)) → is_some o ≡ true
+  is_found o lacks = grind (arith, nat_tests, item_lacking)
+
+  pub item_found : (f : Symbol) → IsPool pool → Holds pool f (named name count) → symbol_item pool name count ≡ Some (App f count)
+  item_found f is held = grind (arith, nat_tests, is_small, held_at)
+
+-- a head with arguments that stands for something is no variable
+pub no_variable : (symbols : List Named) (name : List ℕ) (count : ℕ) (o : Option ℕ) → is_some (item_by symbols name count o) ≡ true → 0 < count → None ≡ o
+no_variable symbols name count o h some = grind (arith, nat_tests)
 
 -- the head is a symbol
 pub record IsSymbol (symbols : List Named) (name : List ℕ) (count : ℕ) (i : Item) : Type 0 where
@@ -23,12 +101,7 @@ pub record IsSymbol (symbols : List Named) (name : List ℕ) (count : ℕ) (i : 
   pub is : i ≡ App (record { 0 = number }) count
 
 pub symbol_cases : (symbols : List Named) (name : List ℕ) (count : ℕ) (i : Item) → symbol_item symbols name count ≡ Some i → IsSymbol symbols name count i
-symbol_cases symbols name count i h = by (nat_le count most_arguments) (position (same_symbol (named name count)) symbols) refl h
-  where
-    by : (b : Bool) (o : Option ℕ) → position (same_symbol (named name count)) symbols ≡ o → (if b then option_map (λ f. App (record { 0 = f }) count) o else None) ≡ Some i → IsSymbol symbols name count i
-    by false o e h = absurd cc
-    by true None e h = absurd cc
-    by true (Some f) e h = let is : i ≡ App (record { 0 = f }) count = cc in record { number = f; at = e; is = is }
+symbol_cases symbols name count i h = grind (arith, nat_tests)
 
 -- the head is a variable
 pub record IsVariable (o : Option ℕ) (i : Item) : Type 0 where
@@ -36,14 +109,9 @@ pub record IsVariable (o : Option ℕ) (i : Item) : Type 0 where
   pub at : o ≡ Some number
   pub is : i ≡ Var number
 
-pub variable_cases : (x count : ℕ) (i : Item) → variable_item x count ≡ Some i → i ≡ Var x
-variable_cases x zero i h = cc
-variable_cases x (suc count) i h = absurd cc
-
 pub head_cases : (symbols : List Named) (name : List ℕ) (count : ℕ) (o : Option ℕ) (i : Item) → item_by symbols name count o ≡ Some i
     → IsVariable o i ⊎ ((o ≡ None) × IsSymbol symbols name count i)
-head_cases symbols name count None i h = inr (refl, symbol_cases symbols name count i h)
-head_cases symbols name count (Some x) i h = inl (record { number = x; at = refl; is = variable_cases x count i h })
+head_cases symbols name count o i h = grind (arith, nat_tests)
 
 -- a symbol's number of arguments is at most the greatest
 arity_at : (symbols : List Named) (f : ℕ) (d : Named) → f < length symbols → (get_or symbols f d).arity ≤ widest_of symbols
@@ -75,48 +143,17 @@ module _ (scope : Scope) where
   cases_at n i h = head_cases scope.symbols (name_at n) n.count (variable_at n) i h
 
   pub one_below : (n : Node) (i : Item) → item_in scope n ≡ Some i → is_item_below vars i ≡ true
-  one_below n i h = by (cases_at n i h)
-    where
-      by : IsVariable (variable_at n) i ⊎ ((variable_at n ≡ None) × IsSymbol scope.symbols (name_at n) n.count i) → is_item_below vars i ≡ true
-      by (inl v) =
-          let l = (position-Some (bytes_eq (name_at n)) scope.variables v.number [] v.at).0 in
-          ap (is_item_below vars) v.is ∙ (search arith)
-      by (inr s) = ap (is_item_below vars) s.1.is
+  one_below n i h = grind (arith, nat_tests)
 
   pub one_plain : (n : Node) (i : Item) → item_in scope n ≡ Some i → is_plain (widest_of scope.symbols) i ≡ true
-  one_plain n i h = by (cases_at n i h)
-    where
-      by : IsVariable (variable_at n) i ⊎ ((variable_at n ≡ None) × IsSymbol scope.symbols (name_at n) n.count i) → is_plain (widest_of scope.symbols) i ≡ true
-      by (inl v) = ap (is_plain (widest_of scope.symbols)) v.is
-      by (inr s) =
-          let l = count_within scope.symbols (name_at n) n.count s.1.number s.1.at in
-          ap (is_plain (widest_of scope.symbols)) s.1.is ∙ (search arith)
+  one_plain n i h = grind (arith, nat_tests, cases_at, count_within)
 
 -- what holds of what each of a list spells
 module _ {X Y : Type 0} (f : X → Option Y) where
-  record Both (x : X) (xs : List X) (ys : List Y) : Type 0 where
-    y : Y
-    more : List Y
-    first : f x ≡ Some y
-    rest : all_of f xs ≡ Some more
-    is : ys ≡ y ∷ more
-
-  both : (x : X) (xs : List X) (ys : List Y) → all_of f (x ∷ xs) ≡ Some ys → Both x xs ys
-  both x xs ys h = by (f x) (all_of f xs) refl refl h
-    where
-      by : (o : Option Y) (rest : Option (List Y)) → f x ≡ o → all_of f xs ≡ rest → option_and_then (λ y. option_map (λ more. y ∷ more) rest) o ≡ Some ys → Both x xs ys
-      by None rest e r h = absurd cc
-      by (Some y) None e r h = absurd cc
-      by (Some y) (Some more) e r h = let is : ys ≡ y ∷ more = cc in record { y = y; more = more; first = e; rest = r; is = is }
-
   pub all_pass : (p : Y → Bool) → ((x : X) (y : Y) → f x ≡ Some y → p y ≡ true) → (xs : List X) (ys : List Y) → all_of f xs ≡ Some ys → list_all p ys ≡ true
   all_pass p each [] ys h = let e : ys ≡ [] = cc in ap (list_all p) e
-  all_pass p each (x ∷ xs) ys h =
-      let b = both x xs ys h in
-      ap (list_all p) b.is ∙ (λ j. each x b.y b.first j && all_pass p each xs b.more b.rest j)
+  all_pass p each (x ∷ xs) ys h = grind (arith, nat_tests, all_pass p each xs)
 
   pub all_hold : (P : Y → Type 0) → ((x : X) (y : Y) → f x ≡ Some y → P y) → (xs : List X) (ys : List Y) → all_of f xs ≡ Some ys → All P ys
   all_hold P each [] ys h = let e : [] ≡ ys = cc in subst (All P) e (λ k d l. absurd (omega arith))
-  all_hold P each (x ∷ xs) ys h =
-      let b = both x xs ys h in
-      subst (All P) (sym b.is) (All-cons P b.y b.more (each x b.y b.first) (all_hold P each xs b.more b.rest))
+  all_hold P each (x ∷ xs) ys h = grind (arith, nat_tests, all_hold P each xs)

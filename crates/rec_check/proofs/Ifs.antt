@@ -1,9 +1,10 @@
 -- The least of places in lists one after another.
-use Rattle.std.proofs.Common.{◌≡◌, ℕ, ◌+◌, ◌-◌, ◌<◌, List, [], ◌∷◌, ◌++◌, length, drop, get_or, slice_get, Option, Some, None, refl, sym, ap, ◌∙◌}
+use Rattle.std.proofs.lemmas.Bool.Decides.{nat_tests}
+use Rattle.std.proofs.Common.{arith, rules, ◌≡◌, ℕ, ◌+◌, ◌-◌, ◌<◌, List, [], ◌∷◌, ◌++◌, length, drop, get_or, slice_get, Option, Some, None, refl, sym, ap, ◌∙◌}
+use Rattle.std.proofs.lemmas.Grind.{common_steps, flat_map-append}
 use Rattle.std.specs.Option.{option_to_list}
 use Rattle.std.specs.List.{flat_map}
 use Rattle.std.proofs.lemmas.List.{at_drop_more}
-use Rattle.std.proofs.lemmas.Grind.{flat_map-append}
 use Rattle.rec_reader.specs.Parsed.{Parsed}
 use Rattle.rec_reader.specs.declared.syntax_tree.Rule.{Rule}
 use Rattle.rec_reader.specs.declared.syntax_tree.Specification.{Specification}
@@ -30,12 +31,7 @@ module _ (specifications : List Specification) (material : List ℕ) (i d : ℕ)
 
   pub past_specification : (s : Specification) (rules : List Rule) (new : Option ℕ) → Some s ≡ slice_get specifications (get_or material i d) → rules ≡ s.rules
       → new ≡ least_with found (ifs_of rules) → from (i + 1) new ≡ from i found
-  past_specification s rules new e same h =
-      let rest = rules_of specifications (drop (i + 1) material) in
-      ap (λ f. least_with f (ifs_of rest)) (h ∙ ap (λ rs. least_with found (ifs_of rs)) same)
-      ∙ sym (least_with-append found (ifs_of s.rules) (ifs_of rest))
-      ∙ ap (least_with found) (sym (ifs_of-append s.rules rest))
-      ∙ sym (at_one (Some s) e)
+  past_specification s rules new e same h = grind (arith, nat_tests, common_steps, least_with-append, ifs_of-append, at_one)
 
   pub past_nothing : None ≡ slice_get specifications (get_or material i d) → from (i + 1) found ≡ from i found
   past_nothing e = sym (at_one None e)

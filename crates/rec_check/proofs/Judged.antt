@@ -1,59 +1,161 @@
 -- A specification without offence: its rules are read by the symbols of its material, and its terms too.
-use Rattle.std.proofs.Common.{◌≡◌, ℕ, ◌+◌, ◌-◌, ◌<◌, ◌≤◌, Bool, true, false, cond, eqb, ◌&&◌, ◌||◌, ◌⊎◌, inl, inr, List, [], ◌∷◌, length, map, slice_get, get_or, Option, Some, None, is_some, All, refl, sym, ap, ◌∙◌, arith, position}
-use Rattle.std.specs.Prelude.{nat_le, if◌then◌else◌}
-use Rattle.std.specs.Option.{option_to_list}
-use Rattle.std.specs.List.{list_any, list_all, flat_map, filter}
+use Rattle.std.proofs.lemmas.Bool.Decides.{nat_tests}
+use Rattle.std.proofs.Common.{arith, ◌≡◌, ℕ, ◌-◌, Bool, true, false, cond, eqb, ◌&&◌, ◌||◌, ◌⊎◌, inl, inr, List, [], ◌∷◌, ◌++◌, length, map, take, Option, Some, None, is_some, All, refl, sym, ap, ◌∙◌, ◌+◌, ◌≤◌, slice_get, get_or, position}
+use Rattle.std.specs.Prelude.{if◌then◌else◌, find, nat_le}
+use Rattle.std.specs.Option.{option_map_or, option_or, option_to_list}
+use Rattle.std.specs.List.{list_any, flat_map, filter, list_all}
 use Rattle.std.specs.Str.{bytes_eq}
 use Rattle.std.specs.Cmp.Lexicographic.{bytes_decides}
-use Rattle.std.proofs.lemmas.Bool.Decides.{nat_tests}
-use Rattle.std.proofs.lemmas.Bool.{eqb-true}
-use Rattle.std.specs.Cmp.{second_so}
-use Rattle.std.proofs.lemmas.List.Elements.{All-nil, All-cons, All-head, All-tail, All-weaker}
-use Rattle.std.proofs.lemmas.List.Folds.{list_all-append}
-use Rattle.std.proofs.lemmas.Option.{slice_get-get_or}
+use Rattle.std.proofs.lemmas.List.Elements.{All-nil, All-cons, All-head, All-tail}
 use Rattle.symbol_pool.specs.Pool.{named}
 use Rattle.rec_reader.specs.declared.token.Name.{Name}
 use Rattle.rec_reader.specs.declared.syntax_tree.Node.{Node}
-use Rattle.rec_reader.specs.declared.syntax_tree.Declaration.{Declaration}
 use Rattle.rec_reader.specs.declared.syntax_tree.Specification.{Specification}
-use Rattle.rec_reader.specs.Whole.{IsWhole}
 use Rattle.rec_includes.specs.Names.{text_of, same_text, is_among}
-use Rattle.rec_includes.specs.Material.{Declared, declared, symbols_of_declaration}
-use Rattle.rec_offences.specs.Scope.{is_variable, heads}
-use Rattle.rec_offences.specs.Offences.{first_past, most}
+use Rattle.rec_includes.specs.Material.{Declared, Variable, variables_by, declared, symbols_of_declaration}
+use Rattle.rec_offences.specs.Scope.{Entry, symbol_entry, variable_entry, names_of, look_up, is_variable, visits, heads}
+use Rattle.rec_offences.specs.Offences.{repeated, first_past, most}
 use Rattle.rec_check.specs.Term.{same_symbol, most_arguments, item_by, variable_item}
-use Rattle.rec_check.specs.Rule.{variables_in}
+use Rattle.rec_check.specs.Named.{with_names}
 use Rattle.rec_check.specs.Symbols.{named_in}
 use Rattle.rec_check.specs.Spelled.{variables_of}
 use Rattle.rec_check.proofs.Faultless.{left_empty, right_empty}
-use Rattle.rec_check.proofs.Numbered.{all_declared}
-use Rattle.rec_check.proofs.Positions.{place_if_any}
-use Rattle.rec_check.proofs.Repeating.{few_arguments, both_true}
-use Rattle.rec_check.proofs.Sound.{or_left, or_right}
+use Rattle.rec_check.proofs.Numbered.{any_append, all_declared}
+use Rattle.rec_check.proofs.Sound.{new_first, among-append, or_left, all_front, all_back, few_arguments, or_right}
+use Rattle.std.proofs.lemmas.List.Folds.{list_all-append}
+use Rattle.std.proofs.lemmas.Option.{slice_get-get_or}
+use Rattle.rec_reader.specs.declared.syntax_tree.Declaration.{Declaration}
+use Rattle.rec_reader.specs.Whole.{IsWhole}
+use Rattle.rec_check.specs.Rule.{variables_in}
+use Rattle.rec_check.proofs.Heads.{place_if_any}
 use Rattle.rec_check.proofs.Readable.{IsRead, TermReads, symbol_known, some_of, none_of}
-use Rattle.rec_check.proofs.Own.{HeadSymbol, HeadVariable, entries_of, any_with_names}
+
+-- ---- what a specification declares itself: each head of its terms is a symbol or a variable
+
+-- ---- lists that come to nothing
+
+pub all_empty : {A B : Type 0} (f : A → List B) (xs : List A) → flat_map f xs ≡ [] → All (λ x. f x ≡ []) xs
+all_empty f [] h = All-nil (λ x. f x ≡ [])
+all_empty f (x ∷ xs) h = All-cons (λ x. f x ≡ []) x xs (left_empty (f x) (flat_map f xs) h) (all_empty f xs (right_empty (f x) (flat_map f xs) h))
+
+pub all_flat : {A B : Type 0} (P : B → Type 0) (f : A → List B) (xs : List A) → All P (flat_map f xs) → All (λ x. All P (f x)) xs
+all_flat P f [] h = All-nil (λ x. All P (f x))
+all_flat P f (x ∷ xs) h = All-cons (λ x. All P (f x)) x xs (all_front P (f x) (flat_map f xs) h) (all_flat P f xs (all_back P (f x) (flat_map f xs) h))
+
+pub all_filtered : {A : Type 0} (p : A → Bool) (xs : List A) → filter p xs ≡ [] → All (λ x. p x ≡ false) xs
+all_filtered p [] h = All-nil (λ x. p x ≡ false)
+all_filtered p (x ∷ xs) h = grind (arith, nat_tests, all_filtered p xs)
+
+-- what holds of the visits of a term's nodes
+pub visited : (P : Node → Type 0) (stack : List Name) (nodes : List Node) → All (λ v. P v.node) (visits stack nodes) → All P nodes
+visited P stack [] h = All-nil P
+visited P stack (n ∷ nodes) h =
+    let rest = take (length stack - n.count) stack ++ n.head ∷ [] in
+    All-cons P n nodes (All-head (λ v. P v.node) _ (visits rest nodes) h) (visited P rest nodes (All-tail (λ v. P v.node) _ (visits rest nodes) h))
+
+module _ (bytes : List ℕ) where
+  -- equal texts
+  text_same : (a b : Name) → same_text bytes a b ≡ true → text_of bytes a ≡ text_of bytes b
+  text_same a b h = (bytes_decides (text_of bytes a) (text_of bytes b)).0 h
+
+  pub among_same : (e : List Name) (a b : Name) → text_of bytes a ≡ text_of bytes b → is_among bytes e a ≡ is_among bytes e b
+  among_same e a b h = ap (λ t. list_any (λ n. bytes_eq t (text_of bytes n)) e) h
+
+  -- a name is not in both of two lists
+  pub apart : (e xs : List Name) (n : Name) → repeated bytes e xs ≡ [] → is_among bytes e n ≡ true → is_among bytes xs n ≡ false
+  apart e [] n h k = refl
+  apart e (x ∷ xs) n h k = grind (arith, nat_tests, apart (e ++ x ∷ []) xs n, new_first, among-append, or_left, among_same, text_same)
+
+  -- ---- what a name is declared as
+
+  find-append : {A : Type 0} (p : A → Bool) (xs ys : List A) → find p (xs ++ ys) ≡ option_or (find p xs) (find p ys)
+  find-append p [] ys = refl
+  find-append p (x ∷ xs) ys = grind (arith, nat_tests, find-append p xs ys)
+
+  -- a symbol of this name
+  pub record AsSymbol (symbols : List Declared) (n : Name) (e : Entry) : Type 0 where
+    pub no_variable : e.is_variable ≡ false
+    pub among : is_among bytes (map (λ d. d.name) symbols) n ≡ true
+    pub known : list_any (same_symbol (named (text_of bytes n) (length e.declared.arguments))) (named_in bytes symbols) ≡ true
+
+  in_symbols : (symbols : List Declared) (n : Name) (e : Entry) → find (λ e. same_text bytes n e.declared.name) (map symbol_entry symbols) ≡ Some e → AsSymbol symbols n e
+  in_symbols [] n e h = absurd cc
+  in_symbols (d ∷ ds) n e h = grind (arith, nat_tests, in_symbols ds n e)
+
+  -- a variable of this name
+  pub record AsVariable (variables : List Variable) (n : Name) (e : Entry) : Type 0 where
+    pub a_variable : e.is_variable ≡ true
+    pub alone : length e.declared.arguments ≡ 0
+    pub declared : list_any (bytes_eq (text_of bytes n)) (map (λ v. text_of bytes v.name) variables) ≡ true
+
+  in_variables : (variables : List Variable) (n : Name) (e : Entry) → find (λ e. same_text bytes n e.declared.name) (map variable_entry variables) ≡ Some e → AsVariable variables n e
+  in_variables [] n e h = absurd cc
+  in_variables (v ∷ vs) n e h = grind (arith, nat_tests, in_variables vs n e)
+
+  -- the names of variables
+  variable_names : (n : Name) (variables : List Variable) → list_any (bytes_eq (text_of bytes n)) (map (λ v. text_of bytes v.name) variables) ≡ is_among bytes (names_of (map variable_entry variables)) n
+  variable_names n [] = refl
+  variable_names n (v ∷ vs) = ap (λ b. same_text bytes n v.name || b) (variable_names n vs)
+
+  or_none : (a : Bool) → a ≡ (a || false)
+  or_none a = grind (arith, nat_tests)
+
+  or_assoc : (a b c : Bool) → ((a || b) || c) ≡ (a || (b || c))
+  or_assoc a b c = grind (arith, nat_tests)
+
+  already_there : (w n : List ℕ) (e : List (List ℕ)) (more : Bool) → list_any (bytes_eq n) e ≡ true → (list_any (bytes_eq w) e || more) ≡ (list_any (bytes_eq w) e || (bytes_eq w n || more))
+  already_there w n e more h = by (bytes_eq w n) refl
+    where
+      by : (b : Bool) → bytes_eq w n ≡ b → (list_any (bytes_eq w) e || more) ≡ (list_any (bytes_eq w) e || (b || more))
+      by false s = refl
+      by true s =
+          let there : list_any (bytes_eq w) e ≡ true = ap (λ x. list_any (bytes_eq x) e) ((bytes_decides w n).0 s) ∙ h in
+          ap (λ b. b || more) there ∙ sym (ap (λ b. b || true) there)
+
+  pub any_with_names : (w : List ℕ) (e ns : List (List ℕ)) → list_any (bytes_eq w) (with_names e ns) ≡ (list_any (bytes_eq w) e || list_any (bytes_eq w) ns)
+  any_with_names w e [] = or_none (list_any (bytes_eq w) e)
+  any_with_names w e (n ∷ ns) = grind (arith, nat_tests, any_with_names w e ns, any_with_names w (e ++ n ∷ []) ns, already_there, any_append, or_assoc)
+
+  -- whether a name is declared as a variable
+  declared_among : (s : Specification) (n : Name) → list_any (bytes_eq (text_of bytes n)) (variables_of bytes s) ≡ is_among bytes (names_of (map variable_entry (variables_by s))) n
+  declared_among s n = variable_names n (variables_by s)
+
+  -- ---- what the heads of nodes are
+
+  module _ (symbols : List Declared) (s : Specification) where
+    abbrev pub entries_of : List Entry
+    entries_of = map symbol_entry symbols ++ map variable_entry (variables_by s)
+
+    pub record HeadSymbol (n : Node) : Type 0 where
+      pub known : list_any (same_symbol (named (text_of bytes n.head) n.count)) (named_in bytes symbols) ≡ true
+      pub not_declared : list_any (bytes_eq (text_of bytes n.head)) (variables_of bytes s) ≡ false
+      pub no_variable : is_variable bytes entries_of n.head ≡ false
+
+    pub record HeadVariable (n : Node) : Type 0 where
+      pub alone : n.count ≡ 0
+      pub declared : list_any (bytes_eq (text_of bytes n.head)) (variables_of bytes s) ≡ true
+      pub a_variable : is_variable bytes entries_of n.head ≡ true
+
+    right_count : (n : Node) (e : Entry) → (if eqb n.count (length e.declared.arguments) then (let none : List Name = [] in none) else n.head ∷ []) ≡ [] → n.count ≡ length e.declared.arguments
+    right_count n e h = grind (arith, nat_tests)
+
+    pub classify : (apart_names : repeated bytes (map (λ d. d.name) symbols) (names_of (map variable_entry (variables_by s))) ≡ []) (n : Node)
+        → (if is_some (look_up bytes entries_of n.head) then (let none : List Name = [] in none) else n.head ∷ []) ≡ []
+        → option_map_or (λ e. if eqb n.count (length e.declared.arguments) then (let none : List Name = [] in none) else n.head ∷ []) (look_up bytes entries_of n.head) [] ≡ []
+        → HeadSymbol n ⊎ HeadVariable n
+    classify apart_names n u w = grind (arith, nat_tests, find-append, right_count, in_symbols, declared_among, apart, in_variables, variable_names)
 
 -- ---- limits
 
 pub option_empty : {A : Type 0} (o : Option A) → option_to_list o ≡ [] → o ≡ None
-option_empty None h = refl
-option_empty (Some x) h = absurd cc
+option_empty o h = grind (arith, nat_tests)
 
 none_past : {A : Type 0} (xs : List A) (k : ℕ) → slice_get xs k ≡ None → length xs ≤ k
 none_past [] k h = omega arith
-none_past (x ∷ xs) k h = by (nat_le (length (x ∷ xs)) k) refl
-  where
-    by : (b : Bool) → nat_le (length (x ∷ xs)) k ≡ b → length (x ∷ xs) ≤ k
-    by true e = grind (arith, nat_tests)
-    by false e =
-        let l : k < length (x ∷ xs) = grind (arith, nat_tests) in
-        absurd (let bad : None ≡ Some (get_or (x ∷ xs) k x) = sym h ∙ slice_get-get_or (x ∷ xs) k x l in cc)
+none_past (x ∷ xs) k h = grind (arith, nat_tests, slice_get-get_or (x ∷ xs) k x)
 
 pub within_most : {A : Type 0} (before : ℕ) (xs : List A) → before ≤ most → first_past before xs ≡ None → before + length xs ≤ most
-within_most before xs l h =
-    let e : nat_le before most ≡ true = grind (arith, nat_tests) in
-    let r : length xs ≤ most - before = none_past xs (most - before) (sym (ap (λ b. if b then slice_get xs (most - before) else None) e) ∙ h) in
-    omega arith
+within_most before xs l h = grind (arith, nat_tests, none_past)
 
 -- the arguments of declarations are few
 few_named : (names : List Name) (arguments : List Name) (sort : Name) → nat_le (length arguments) most_arguments ≡ true → list_all few_arguments (map (λ n. declared n arguments sort) names) ≡ true
@@ -79,24 +181,12 @@ module _ (bytes : List ℕ) where
   -- a symbol that is known has few arguments
   few_known : (w : List ℕ) (c : ℕ) (ds : List Declared) → list_any (same_symbol (named w c)) (named_in bytes ds) ≡ true → list_all few_arguments ds ≡ true → nat_le c most_arguments ≡ true
   few_known w c [] h f = absurd cc
-  few_known w c (d ∷ ds) h f =
-      by (same_symbol (named w c) (named (text_of bytes d.name) (length d.arguments))) refl h (both_true (few_arguments d) (list_all few_arguments ds) f) (λ g k. few_known w c ds g k)
-    where
-      by : (b : Bool) → same_symbol (named w c) (named (text_of bytes d.name) (length d.arguments)) ≡ b → (b || list_any (same_symbol (named w c)) (named_in bytes ds)) ≡ true
-          → (few_arguments d ≡ true) × (list_all few_arguments ds ≡ true) → (list_any (same_symbol (named w c)) (named_in bytes ds) ≡ true → list_all few_arguments ds ≡ true → nat_le c most_arguments ≡ true) → nat_le c most_arguments ≡ true
-      by true e h p on =
-          let same : c ≡ length d.arguments = eqb-true c (length d.arguments) (second_so (bytes_eq w (text_of bytes d.name)) (eqb c (length d.arguments)) e) in
-          ap (λ n. nat_le n most_arguments) same ∙ p.0
-      by false e h p on = on h p.1
+  few_known w c (d ∷ ds) h f = grind (arith, nat_tests, few_known w c ds)
 
   -- each node's head is among the heads
   pub heads_among : (nodes : List Node) → All (λ n. is_among bytes (heads nodes) n.head ≡ true) nodes
   heads_among [] = All-nil (λ n. is_among bytes [] n.head ≡ true)
-  heads_among (m ∷ nodes) =
-      All-cons (λ n. is_among bytes (heads (m ∷ nodes)) n.head ≡ true) m nodes
-      (or_left (same_text bytes m.head m.head) (is_among bytes (heads nodes) m.head) ((bytes_decides (text_of bytes m.head) (text_of bytes m.head)).1 refl))
-      (All-weaker (λ n. is_among bytes (heads nodes) n.head ≡ true) (λ n. is_among bytes (heads (m ∷ nodes)) n.head ≡ true)
-      (λ n h. or_right (same_text bytes n.head m.head) (is_among bytes (heads nodes) n.head) h) nodes (heads_among nodes))
+  heads_among (m ∷ nodes) = grind (arith, nat_tests, heads_among nodes, or_left (same_text bytes m.head m.head) (is_among bytes (heads nodes) m.head) ((bytes_decides (text_of bytes m.head) (text_of bytes m.head)).1 refl), or_right)
 
   -- a variable among the heads of a left side is one of its variables
   module _ (vars : List (List ℕ)) where
@@ -136,24 +226,14 @@ module _ (bytes : List ℕ) where
     IsHead n = HeadSymbol bytes symbols s n ⊎ HeadVariable bytes symbols s n
 
     symbol_read : (names : List (List ℕ)) (n : Node) → list_any (bytes_eq (text_of bytes n.head)) names ≡ false → HeadSymbol bytes symbols s n → IsRead bytes (named_in bytes symbols) names n
-    symbol_read names n absent h =
-        let at : position (bytes_eq (text_of bytes n.head)) names ≡ None = none_of (position (bytes_eq (text_of bytes n.head)) names) (place_if_any (bytes_eq (text_of bytes n.head)) names ∙ absent) in
-        ap (λ o. is_some (item_by (named_in bytes symbols) (text_of bytes n.head) n.count o)) at
-        ∙ symbol_known (named_in bytes symbols) (text_of bytes n.head) n.count
-        ∙ (λ i. few_known (text_of bytes n.head) n.count symbols h.known few i && h.known i)
+    symbol_read names n absent h = grind (arith, nat_tests, none_of (position (bytes_eq (text_of bytes n.head)) names) (place_if_any (bytes_eq (text_of bytes n.head)) names ∙ absent), place_if_any (bytes_eq (text_of bytes n.head)) names, symbol_known (named_in bytes symbols) (text_of bytes n.head) n.count, few_known (text_of bytes n.head) n.count symbols h.known)
 
     module _ (left : List Node) where
       abbrev vars_of : List (List ℕ)
       vars_of = variables_in bytes declared_by left
 
       pub not_there : (n : Node) → list_any (bytes_eq (text_of bytes n.head)) declared_by ≡ false → list_any (bytes_eq (text_of bytes n.head)) vars_of ≡ false
-      not_there n h = by (list_any (bytes_eq (text_of bytes n.head)) vars_of) refl
-        where
-          by : (b : Bool) → list_any (bytes_eq (text_of bytes n.head)) vars_of ≡ b → b ≡ false
-          by false e = refl
-          by true e =
-              let there = all_declared bytes declared_by [] (map (λ m. text_of bytes m.head) left) (λ w k. absurd (let bad : false ≡ true = k in cc)) (text_of bytes n.head) e in
-              absurd (let bad : true ≡ false = sym there ∙ h in cc)
+      not_there n h = grind (arith, nat_tests, all_declared)
 
       head_read : (n : Node) → IsHead n → (is_variable bytes (entries_of bytes symbols s) n.head ≡ true → is_among bytes (heads left) n.head ≡ true) → IsRead bytes (named_in bytes symbols) vars_of n
       head_read n (inl h) among = symbol_read vars_of n (not_there n h.not_declared) h

@@ -1,19 +1,18 @@
 -- The names of tokens, and of the declarations that they spell, have no space and no line feed.
-use Rattle.std.proofs.Common.{◌≡◌, ℕ, zero, suc, ◌+◌, ◌-◌, ◌<◌, ◌≤◌, Bool, true, false, ◌⊎◌, inl, inr, List, [], ◌∷◌, ◌++◌, length, take, drop, Option, Some, None, Ok, refl, sym, ap, subst, ◌∙◌, arith, append_assoc, lt-ltb, ne_eqb, codes, ⊎_elim}
-use Rattle.std.specs.Prelude.{◌&&◌, ◌||◌, ◌==◌, not, nat_lt, slice_range}
+use Rattle.std.proofs.lemmas.Bool.Decides.{nat_tests}
+use Rattle.std.proofs.Common.{◌≡◌, ℕ, suc, ◌+◌, ◌-◌, ◌<◌, Bool, true, List, [], ◌∷◌, ◌++◌, length, take, drop, Option, Some, None, Ok, refl, sym, ap, subst, ◌∙◌, arith, append_assoc}
+use Rattle.std.specs.Prelude.{◌&&◌, nat_lt, slice_range}
 use Rattle.std.specs.List.{list_all, AllByRecursion}
 use Rattle.std.specs.Option.{option_to_list}
-use Rattle.std.proofs.lemmas.Bool.{cases_lt}
 use Rattle.std.proofs.lemmas.List.{length-append}
 use Rattle.std.proofs.Math.Seq.{drop-append_seam, take-append_seam}
-use Rattle.term_model.proofs.Order.{both_hold}
 use Rattle.rec_reader.specs.declared.token.Name.{Name}
 use Rattle.rec_reader.specs.declared.token.Token.{Token}
 use Rattle.rec_reader.specs.declared.token.Token.TheVariants as token
 use Rattle.rec_reader.specs.declared.token.Sign.{Sign}
 use Rattle.rec_reader.specs.declared.syntax_tree.Declaration.{Declaration}
 use Rattle.rec_reader.specs.declared.syntax_tree.Specification.{Specification}
-use Rattle.rec_reader.specs.Tokens.{is_plain, is_name_byte, begins, tokens_of}
+use Rattle.rec_reader.specs.Tokens.{is_name_byte, tokens_of}
 use Rattle.rec_reader.specs.Cut.{Part, IsPart, joined, tokens_in, AreParts, IsCut}
 use Rattle.rec_reader.specs.Grammar.{Any, none, next, Maybe, without, with, Section, absent, present, Listed, last, beside, with_comma, IsName, named as name_read, IsNames, IsDeclaration, declaration, IsVariables, variables, IsTerm, constant, call, IsArguments, only, more, IsTerms, IsCondition, condition, IsConditions, one, and, IsRule, plain, conditional, IsSpecification, specification, IsInput, input}
 use Rattle.rec_reader.proofs.Cutting.{tokens_are_cut}
@@ -29,39 +28,10 @@ abbrev pub IsClear : List ℕ → Type 0
 IsClear bytes = is_clear bytes ≡ true
 
 both : (a b : Bool) → a ≡ true → b ≡ true → (a && b) ≡ true
-both true b e f = f
-both false b e f = absurd cc
-
-abbrev none_below : (ℕ → Bool) → ℕ → Bool
-none_below p zero = true
-none_below p (suc n) = not (p n) && none_below p n
-
-not_one : (b : Bool) → not b ≡ true → b ≡ false
-not_one true e = absurd cc
-not_one false e = refl
-
-none_is : (p : ℕ → Bool) (n : ℕ) → none_below p n ≡ true → (b : ℕ) → b < n → p b ≡ false
-none_is p zero e b lt = absurd (omega arith)
-none_is p (suc n) e b lt =
-    let q = both_hold (not (p n)) (none_below p n) e in
-    let last_one : n ≤ b → p b ≡ false = λ l. let same : n ≡ b = omega (arith, l, lt) in subst
-    (λ k. p k ≡ false) same (not_one (p n) q.0) in
-    ⊎_elim (λ l. none_is p n q.1 b l) last_one (cases_lt b n)
-
-low_is_not_plain : (b : ℕ) → b < 33 → is_plain b ≡ false
-low_is_not_plain = none_is is_plain 33 refl
+both a b e f = grind (arith, nat_tests)
 
 name_byte_clear : (b : ℕ) (bs : List ℕ) → is_name_byte (b ∷ bs) ≡ true → nat_lt 32 b ≡ true
-name_byte_clear b bs e = by (cases_lt 32 b)
-  where
-    never : (p q : Bool) → is_plain b ≡ false → (b == 45) ≡ false
-        → (is_plain b || (b == 45 && q)) ≡ true → nat_lt 32 b ≡ true
-    never p q f g h = absurd (let bad : false ≡ true = sym (λ i. f i || (g i && q)) ∙ h in cc)
-
-    by : (32 < b) ⊎ (b ≤ 32) → nat_lt 32 b ≡ true
-    by (inl l) = lt-ltb 32 b l
-    by (inr l) = never true (not (begins bs (codes ">"))) (low_is_not_plain b (omega (arith, l)))
-        (ne_eqb b 45 (λ s. omega (arith, l, s))) e
+name_byte_clear b bs e = grind (arith, nat_tests)
 
 text_clear : (text rest : List ℕ)
     → ((k : ℕ) → k < length text → is_name_byte (drop k (text ++ rest)) ≡ true) → IsClear text

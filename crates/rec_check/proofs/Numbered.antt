@@ -1,23 +1,44 @@
 -- The variables of a left side are numbered in order of first occurrence.
-use Rattle.std.proofs.Common.{◌≡◌, ℕ, ◌+◌, ◌<◌, Bool, true, false, cond, ◌||◌, ◌⊎◌, inl, inr, List, [], ◌∷◌, ◌++◌, length, map, filter, nat_lt, Option, Some, None, is_some, refl, sym, ap, subst, ◌∙◌, arith, position, append_assoc, append-nil, length-append}
-use Rattle.std.specs.Prelude.{option_and_then, if◌then◌else◌, ◌==◌}
-use Rattle.std.specs.Option.{option_map}
+use Rattle.std.proofs.lemmas.Bool.Decides.{nat_tests}
+use Rattle.std.proofs.Common.{◌≡◌, ◌<◌, ◌≤◌, ℕ, ◌+◌, Bool, true, false, not, cond, List, [], ◌∷◌, ◌++◌, length, map, filter, Some, None, ◌⊎◌, inl, inr, refl, ◌∙◌, subst, arith, ◌||◌, nat_lt, Option, is_some, sym, ap, position, append_assoc, append-nil, length-append}
+use Rattle.std.specs.Prelude.{All, slice_get, option_and_then, if◌then◌else◌, ◌==◌}
 use Rattle.std.specs.List.{list_any}
 use Rattle.std.specs.Str.{bytes_eq}
+use Rattle.std.proofs.lemmas.List.{length-map}
+use Rattle.std.proofs.lemmas.List.Filters.{length-filter_both}
+use Rattle.std.proofs.lemmas.Option.{slice_get_cases}
+use Rattle.rec_reader.specs.declared.syntax_tree.Node.{Node}
+use Rattle.rec_includes.specs.Names.{text_of}
+use Rattle.rec_check.specs.Named.{with_name, with_names}
+use Rattle.rec_check.specs.Rule.{variables_in}
+use Rattle.std.specs.Option.{option_map}
 use Rattle.std.specs.Cmp.Lexicographic.{bytes_decides}
-use Rattle.std.proofs.lemmas.Bool.Decides.{nat_tests}
 use Rattle.std.proofs.lemmas.List.Quantifiers.{position-Some}
 use Rattle.term_model.specs.declared.Item.{Item}
 use Rattle.term_model.specs.declared.Item.TheVariants.{Var}
 use Rattle.symbol_pool.specs.Pool.{Named}
-use Rattle.rec_reader.specs.declared.syntax_tree.Node.{Node}
 use Rattle.rule_match.proofs.Numbering.{count_in, count_with}
-use Rattle.rec_includes.specs.Names.{text_of}
-use Rattle.rec_check.specs.Named.{with_name, with_names}
 use Rattle.rec_check.specs.Term.{Scope, all_of, item_in}
-use Rattle.rec_check.specs.Rule.{variables_in}
-use Rattle.rec_check.proofs.Positions.{place_if_any, stays_first, new_at_end}
-use Rattle.rec_check.proofs.Heads.{IsVariable, IsSymbol, head_cases}
+use Rattle.rec_check.proofs.Heads.{place_if_any, stays_first, new_at_end, IsVariable, IsSymbol, head_cases}
+
+-- ---- a rule has at most as many variables as its left side has nodes
+
+-- what holds of each of a list holds of the one at a place
+pub at_place : {X : Type 0} (P : X → Type 0) (xs : List X) (i : ℕ) (x : X) → Some x ≡ slice_get xs i → All P xs → P x
+at_place {X} P xs i x e all = grind (arith, nat_tests, slice_get_cases)
+
+one_more : (b : Bool) (names : List (List ℕ)) (n : List ℕ) → length (cond b names (names ++ n ∷ [])) ≤ length names + 1
+one_more b names n = grind (arith, nat_tests, length-append)
+
+each_once : (names ns : List (List ℕ)) → length (with_names names ns) ≤ length names + length ns
+each_once names [] = omega arith
+each_once names (n ∷ ns) = grind (arith, nat_tests, each_once (with_name names n) ns, one_more)
+
+passed : {X : Type 0} (p : X → Bool) (xs : List X) → length (filter p xs) ≤ length xs
+passed p xs = let both = length-filter_both p (λ x. not (p x)) (λ x. refl) xs in omega (arith, both)
+
+pub variables_few : (text : List ℕ) (declared : List (List ℕ)) (nodes : List Node) → length nodes < 4294967296 → length (variables_in text declared nodes) < 4294967296
+variables_few text declared nodes below = grind (arith, nat_tests, each_once, passed, length-map)
 
 -- names that were added come last
 pub grown : (seen ns : List (List ℕ)) → (more : List (List ℕ)) × (with_names seen ns ≡ seen ++ more)
@@ -37,16 +58,11 @@ self_equal : (n : List ℕ) → bytes_eq n n ≡ true
 self_equal n = (bytes_decides n n).1 refl
 
 either : (a b : Bool) → (a || b) ≡ true → (a ≡ true) ⊎ (b ≡ true)
-either true b h = inl refl
-either false b h = inr h
+either a b h = grind (arith, nat_tests)
 
 pub any_append : {X : Type 0} (p : X → Bool) (xs ys : List X) → list_any p (xs ++ ys) ≡ (list_any p xs || list_any p ys)
 any_append p [] ys = refl
-any_append p (x ∷ xs) ys = ap (λ b. p x || b) (any_append p xs ys) ∙ by (p x)
-  where
-    by : (b : Bool) → (b || (list_any p xs || list_any p ys)) ≡ ((b || list_any p xs) || list_any p ys)
-    by true = refl
-    by false = refl
+any_append p (x ∷ xs) ys = grind (arith, nat_tests, any_append p xs ys)
 
 module _ (text : List ℕ) (declared : List (List ℕ)) where
   abbrev is_declared : List ℕ → Bool
@@ -101,9 +117,7 @@ module _ (text : List ℕ) (declared : List (List ℕ)) where
     old_variable x n l = ap (λ b. if b then Some n else if x == n then Some (n + 1) else None) (let e : nat_lt x n ≡ true = grind (arith, nat_tests) in e)
 
     new_variable : (n : ℕ) → count_with (Var n) n ≡ Some (n + 1)
-    new_variable n =
-        ap (λ b. if b then Some n else if n == n then Some (n + 1) else None) (let e : nat_lt n n ≡ false = grind (arith, nat_tests) in e)
-        ∙ ap (λ (b : Bool). if b then Some (n + 1) else None) (let e : (n == n) ≡ true = grind (arith, nat_tests) in e)
+    new_variable n = grind (arith, nat_tests)
 
     -- the number of a declared name that occurred before
     occurred : (n : Node) (seen : List (List ℕ)) (ns : List (List ℕ)) → vars ≡ with_names seen ns → list_any (bytes_eq (text_of text n.head)) seen ≡ true
@@ -145,29 +159,7 @@ module _ (text : List ℕ) (declared : List (List ℕ)) where
           (on : (before : List (List ℕ)) → vars ≡ with_names before (filter is_declared (names_at nodes)) → count_in more (length before) ≡ Some (length vars)) where
         cases : (b : Bool) → is_declared (text_of text n.head) ≡ b → (c : Bool) → list_any (bytes_eq (text_of text n.head)) seen ≡ c
             → IsVariable (place n) i ⊎ ((place n ≡ None) × IsSymbol symbols (text_of text n.head) n.count i) → count_in (i ∷ more) (length seen) ≡ Some (length vars)
-        cases true d true s (inl x) =
-            let o = occurred n seen (filter is_declared (names_at nodes)) (added true s d) s in
-            let same : x.number ≡ o.0 = let e : Some x.number ≡ Some o.0 = sym x.at ∙ o.2 in cc in
-            let l : x.number < length seen = let k = o.1 in omega arith in
-            counts_on more i (length seen) (length seen) (ap (λ j. count_with j (length seen)) x.is ∙ old_variable x.number (length seen) l)
-            ∙ on seen (added true s d)
-        cases true d true s (inr y) =
-            let o = occurred n seen (filter is_declared (names_at nodes)) (added true s d) s in
-            absurd (let bad : None ≡ Some o.0 = sym y.0 ∙ o.2 in cc)
-        cases true d false s (inl x) =
-            let at = occurs n seen (filter is_declared (names_at nodes)) (added false s d) s in
-            let same : x.number ≡ length seen = let e : Some x.number ≡ Some (length seen) = sym x.at ∙ at in cc in
-            let longer : length seen + 1 ≡ length (seen ++ text_of text n.head ∷ []) = sym (length-append seen (text_of text n.head ∷ [])) in
-            counts_on more i (length seen) (length seen + 1) (ap (λ j. count_with j (length seen)) (x.is ∙ ap Var same) ∙ new_variable (length seen))
-            ∙ ap (count_in more) longer
-            ∙ on (seen ++ text_of text n.head ∷ []) (added false s d)
-        cases true d false s (inr y) =
-            let at = occurs n seen (filter is_declared (names_at nodes)) (added false s d) s in
-            absurd (let bad : None ≡ Some (length seen) = sym y.0 ∙ at in cc)
-        cases false d c s (inl x) = absurd (no_place n x.number x.at d)
-        cases false d c s (inr y) =
-            counts_on more i (length seen) (length seen) (ap (λ j. count_with j (length seen)) y.1.is)
-            ∙ on seen (this false d)
+        cases b d c s h = grind (arith, nat_tests, occurred, added, counts_on, count_with, old_variable, occurs, length-append, new_variable, count_in, no_place, this)
 
     pub numbers : (nodes : List Node) (seen : List (List ℕ)) (items : List Item) → vars ≡ with_names seen (filter is_declared (names_at nodes))
         → all_of (λ n. item_in scope n) nodes ≡ Some items → count_in items (length seen) ≡ Some (length vars)

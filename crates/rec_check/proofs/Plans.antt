@@ -1,11 +1,11 @@
 -- What is spelled may be planned.
-use Rattle.std.proofs.Common.{◌≡◌, ℕ, ◌-◌, ◌≤◌, Bool, true, false, ◌⊎◌, inl, inr, List, [], ◌∷◌, ◌++◌, length, Option, Some, None, All, refl, sym, ap, subst, ◌∙◌, arith, position}
-use Rattle.std.specs.Prelude.{option_and_then, nat_le, if◌then◌else◌}
+use Rattle.std.proofs.Common.{rules, ◌≡◌, ℕ, ◌-◌, ◌≤◌, true, List, [], ◌∷◌, ◌++◌, length, Option, Some, None, All, sym, ap, subst, ◌∙◌, arith}
+use Rattle.std.specs.Prelude.{option_and_then}
 use Rattle.std.specs.List.{list_all}
 use Rattle.std.proofs.lemmas.Bool.Decides.{nat_tests}
 use Rattle.std.proofs.lemmas.List.Elements.{All-append, All-weaker}
-use Rattle.term_model.specs.Tree.{Tree, Leaf, Node, root, IsGround}
-use Rattle.term_model.specs.Postorder.{postorder, tree_of, has_head}
+use Rattle.term_model.specs.Tree.{Tree, Node, root, IsGround}
+use Rattle.term_model.specs.Postorder.{postorder, has_head}
 use Rattle.term_model.specs.declared.Head.{Head}
 use Rattle.term_model.specs.declared.Item.{Item}
 use Rattle.term_model.proofs.Order.{only_postorder}
@@ -18,16 +18,14 @@ use Rattle.rec_reader.specs.declared.syntax_tree.Node as written_node
 use Rattle.rec_reader.specs.declared.syntax_tree.Rule as written
 use Rattle.rec_reader.specs.declared.syntax_tree.Condition as written_condition
 use Rattle.rec_reader.specs.declared.syntax_tree.Specification.{Specification}
-use Rattle.std.specs.Str.{bytes_eq}
 use Rattle.rec_reader.specs.Parsed.{Parsed}
-use Rattle.rec_includes.specs.Names.{text_of}
 use Rattle.rec_includes.specs.Material.{symbols_of, specifications_at, material_of}
 use Rattle.rec_check.specs.Symbols.{named_in, with_symbols, widest_of}
 use Rattle.rec_check.specs.Run.{MayBeRun, last_of, spelled_with, spelled_in}
 use Rattle.rec_check.specs.Term.{Scope, all_of, item_in, tree_in}
 use Rattle.rec_check.specs.Rule.{◌>>=◌, condition_in, rule_in, variables_in}
 use Rattle.rec_check.specs.Spelled.{Specified, nothing, variables_of, rules_in, rules_of, terms_in, with_few_rules, most_rules, spelled_by}
-use Rattle.rec_check.proofs.Heads.{IsVariable, IsSymbol, head_cases, one_below, one_plain, all_pass, all_hold}
+use Rattle.rec_check.proofs.Heads.{one_below, one_plain, all_pass, all_hold}
 use Rattle.rec_check.proofs.Numbered.{left_numbered}
 
 -- what came before a step that gave something
@@ -37,12 +35,10 @@ pub record Came {A B : Type 0} (o : Option A) (f : A → Option B) (y : B) : Typ
   pub gives : f x ≡ Some y
 
 pub came : {A B : Type 0} (o : Option A) (f : A → Option B) (y : B) → (o >>= f) ≡ Some y → Came o f y
-came None f y h = absurd cc
-came (Some x) f y h = record { x = x; is = refl; gives = h }
+came o f y h = grind (arith, nat_tests)
 
 pub from_then : {A B : Type 0} (f : A → Option B) (o : Option A) (y : B) → option_and_then f o ≡ Some y → Came o f y
-from_then f None y h = absurd cc
-from_then f (Some x) y h = record { x = x; is = refl; gives = h }
+from_then f o y h = grind (arith, nat_tests)
 
 pub cc_some : {A : Type 0} (x y : A) → Some x ≡ Some y → x ≡ y
 cc_some x y e = cc
@@ -55,11 +51,7 @@ pub record Spells (scope : Scope) (nodes : List written_node.Node) (t : Tree) : 
   pub spell : items ≡ postorder t
 
 pub spells : (scope : Scope) (nodes : List written_node.Node) (t : Tree) → tree_in scope nodes ≡ Some t → Spells scope nodes t
-spells scope nodes t h = by (all_of (λ n. item_in scope n) nodes) refl h
-  where
-    by : (o : Option (List Item)) → all_of (λ n. item_in scope n) nodes ≡ o → option_and_then (λ items. tree_of items) o ≡ Some t → Spells scope nodes t
-    by None e h = absurd cc
-    by (Some items) e h = record { items = items; are = e; spell = only_postorder items t h }
+spells scope nodes t h = grind (arith, nat_tests, only_postorder)
 
 module _ (scope : Scope) (nodes : List written_node.Node) (t : Tree) (h : tree_in scope nodes ≡ Some t) where
   abbrev s : Spells scope nodes t
@@ -76,19 +68,12 @@ module _ (scope : Scope) (nodes : List written_node.Node) (t : Tree) (h : tree_i
       ∙ all_pass (λ n. item_in scope n) (λ i. is_plain (widest_of scope.symbols) i) (one_plain scope) nodes s.items s.are
 
 has_root : (t : Tree) (h : Head) → root t ≡ Some h → IsNode t
-has_root (Leaf x) h e = absurd cc
-has_root (Node g ts) h e = tt
+has_root t h e = grind (arith, nat_tests)
 
 -- ---- a rule
 
 condition_fits : (scope : Scope) (c : written_condition.Condition) (d : Condition) → condition_in scope c ≡ Some d → HasSides (length scope.variables) (widest_of scope.symbols) d
-condition_fits scope c d h =
-    let a = came (tree_in scope c.first) (λ first. tree_in scope c.second >>= λ second. Some (record { first = first; second = second; equal = c.equal })) d h in
-    let b = came (tree_in scope c.second) (λ second. let made : Condition = record { first = a.x; second = second; equal = c.equal } in Some made) d a.gives in
-    let made : Condition = record { first = a.x; second = b.x; equal = c.equal } in
-    let is : made ≡ d = cc_some made d b.gives in
-    subst (HasSides (length scope.variables) (widest_of scope.symbols)) is
-    (record { first_below = tree_below scope c.first a.x a.is; first = tree_plain scope c.first a.x a.is; second_below = tree_below scope c.second b.x b.is; second = tree_plain scope c.second b.x b.is })
+condition_fits scope c d h = grind (arith, nat_tests, came, cc_some, tree_below, tree_plain)
 
 module _ (text : List ℕ) (symbols : List Named) (declared : List (List ℕ)) (r : written.Rule) (made : Rule) (h : rule_in text symbols declared r ≡ Some made) where
   abbrev pub vars : List (List ℕ)
@@ -166,27 +151,16 @@ rules_fit text symbols (s ∷ ss) rules h =
 
 -- a head without variables is a symbol
 one_head : (text : List ℕ) (symbols : List Named) (n : written_node.Node) (i : Item) → item_in (record { text = text; symbols = symbols; variables = [] }) n ≡ Some i → has_head i ≡ true
-one_head text symbols n i h = by (head_cases symbols (text_of text n.head) n.count (position (bytes_eq (text_of text n.head)) []) i h)
-  where
-    by : IsVariable (position (bytes_eq (text_of text n.head)) []) i ⊎ ((position (bytes_eq (text_of text n.head)) [] ≡ None) × IsSymbol symbols (text_of text n.head) n.count i) → has_head i ≡ true
-    by (inl v) = absurd (let bad : None ≡ Some v.number = v.at in cc)
-    by (inr s) = ap has_head s.1.is
+one_head text symbols n i h = grind (arith, nat_tests)
 
 abbrev no_variables : List ℕ → List Named → Scope
 no_variables text symbols = record { text = text; symbols = symbols; variables = [] }
 
 term_ground : (text : List ℕ) (symbols : List Named) (t : List written_node.Node) (tree : Tree) → tree_in (no_variables text symbols) t ≡ Some tree → IsGround tree
-term_ground text symbols t tree h =
-    let s = spells (no_variables text symbols) t tree h in
-    sym (all_heads tree) ∙ ap (list_all has_head) (sym s.spell)
-    ∙ all_pass (λ n. item_in (no_variables text symbols) n) has_head (one_head text symbols) t s.items s.are
+term_ground text symbols t tree h = grind (arith, nat_tests, spells (no_variables text symbols) t tree h, all_heads tree, all_pass, one_head text symbols)
 
 pub within_limit : (s made : Specified) → with_few_rules s ≡ Some made → (length s.rules ≤ most_rules) × (s ≡ made)
-within_limit s made h = by (nat_le (length s.rules) most_rules) refl h
-  where
-    by : (b : Bool) → nat_le (length s.rules) most_rules ≡ b → (if b then Some s else None) ≡ Some made → (length s.rules ≤ most_rules) × (s ≡ made)
-    by true e h = (grind (arith, nat_tests), cc_some s made h)
-    by false e h = absurd cc
+within_limit s made h = grind (arith, nat_tests)
 
 -- the parts of what specifications spell with terms
 pub record Parts (text : List ℕ) (specifications : List Specification) (material : List ℕ) (ts : List (List written_node.Node)) (made : Specified) : Type 0 where
@@ -197,15 +171,7 @@ pub record Parts (text : List ℕ) (specifications : List Specification) (materi
 
 parts_of : (text : List ℕ) (specifications : List Specification) (material : List ℕ) (ts : List (List written_node.Node)) (made : Specified)
     → spelled_by text specifications material ts ≡ Some made → Parts text specifications material ts made
-parts_of text specifications material ts made h =
-    let at = specifications_at specifications material in
-    let a = came (with_symbols [] (named_in text (symbols_of specifications material)))
-    (λ symbols. rules_of text symbols at >>= λ rules. terms_in text symbols ts >>= λ trees. with_few_rules (record { symbols = symbols; rules = rules; terms = trees })) made h in
-    let b = came (rules_of text a.x at) (λ rules. terms_in text a.x ts >>= λ trees. with_few_rules (record { symbols = a.x; rules = rules; terms = trees })) made a.gives in
-    let c = came (terms_in text a.x ts) (λ trees. with_few_rules (record { symbols = a.x; rules = b.x; terms = trees })) made b.gives in
-    let s : Specified = record { symbols = a.x; rules = b.x; terms = c.x } in
-    let few = within_limit s made c.gives in
-    subst (Parts text specifications material ts) few.1 (record { symbols = a.is; rules = b.is; terms = c.is; few = few.0 })
+parts_of text specifications material ts made h = grind (arith, nat_tests)
 
 abbrev pub last_material : Parsed → List ℕ
 last_material syntax = material_of syntax.bytes syntax.specifications (length syntax.specifications - 1)
@@ -237,11 +203,7 @@ parts_run text specifications material ts made p =
     }
 
 pub nothing_runs : MayBeRun nothing
-nothing_runs = record {
-  plan = record { rules = λ k d l. absurd (omega arith); symbols = λ k d l. absurd (omega arith); count = omega arith };
-  ground = λ k d l. absurd (omega arith);
-  plain = λ k d l. absurd (omega arith);
-}
+nothing_runs = grind (arith, nat_tests)
 
 -- what the last specification spells
 pub last_runs : (syntax : Parsed) (made : Specified) → spelled_in syntax ≡ Some made → MayBeRun made

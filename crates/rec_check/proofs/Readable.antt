@@ -1,6 +1,7 @@
 -- What terms and rules are read by: symbols and variables for all their heads.
-use Rattle.std.proofs.Common.{◌≡◌, ℕ, zero, suc, ◌+◌, ◌-◌, Bool, true, false, ◌&&◌, List, [], ◌∷◌, ◌++◌, length, slice_get, get_or, Option, Some, None, is_some, All, refl, sym, ap, subst, ◌∙◌, arith, position, length-append}
-use Rattle.std.specs.Prelude.{option_and_then, nat_le, if◌then◌else◌}
+use Rattle.std.proofs.lemmas.Bool.Decides.{nat_tests}
+use Rattle.std.proofs.Common.{rules, ◌≡◌, ℕ, ◌+◌, ◌-◌, Bool, true, false, ◌&&◌, List, [], ◌∷◌, ◌++◌, length, slice_get, get_or, Option, Some, None, is_some, All, refl, sym, ap, subst, ◌∙◌, arith, position, length-append}
+use Rattle.std.specs.Prelude.{option_and_then, nat_le}
 use Rattle.std.specs.Option.{option_map}
 use Rattle.std.specs.List.{list_any, flat_map}
 use Rattle.std.specs.Str.{bytes_eq}
@@ -9,7 +10,6 @@ use Rattle.std.proofs.lemmas.Option.{slice_get_within, slice_get-get_or, get_or_
 use Rattle.term_model.specs.Tree.{Tree, root}
 use Rattle.term_model.specs.Postorder.{postorder, tree_of, head_of}
 use Rattle.term_model.specs.declared.Item.{Item}
-use Rattle.term_model.specs.declared.Item.TheVariants.{Var, App}
 use Rattle.term_model.proofs.Order.{only_postorder}
 use Rattle.term_model.proofs.Subtrees.{root_is_last}
 use Rattle.rewrite_model.specs.Rule.{Rule, Condition}
@@ -23,38 +23,29 @@ use Rattle.rec_includes.specs.Names.{text_of}
 use Rattle.rec_check.specs.Term.{Scope, all_of, item_in, item_by, symbol_item, variable_item, tree_in, same_symbol, most_arguments}
 use Rattle.rec_check.specs.Rule.{◌>>=◌, condition_in, rule_in, variables_in}
 use Rattle.rec_check.specs.Spelled.{variables_of, rules_in, rules_of, terms_in}
-use Rattle.rec_check.proofs.Positions.{place_if_any}
-use Rattle.rec_check.proofs.Heads.{symbol_cases}
+use Rattle.rec_check.proofs.Heads.{place_if_any, symbol_cases}
 use Rattle.rec_check.proofs.Chains.{goes, joined}
 use Rattle.rec_check.proofs.Sound.{Holds}
 use Rattle.rec_check.proofs.Whole.{IsOver, variable_over, symbol_over, whole_spells}
 
 pub some_of : {A : Type 0} (o : Option A) → is_some o ≡ true → (x : A) × (o ≡ Some x)
-some_of None h = absurd cc
-some_of (Some x) h = (x, refl)
+some_of o h = grind (arith, nat_tests)
 
 pub none_of : {A : Type 0} (o : Option A) → is_some o ≡ false → o ≡ None
-none_of None h = refl
-none_of (Some x) h = absurd cc
+none_of o h = grind (arith, nat_tests)
 
 is_some-map : {A B : Type 0} (f : A → B) (o : Option A) → is_some (option_map f o) ≡ is_some o
-is_some-map f None = refl
-is_some-map f (Some x) = refl
+is_some-map f o = grind (arith, nat_tests)
 
 -- whether a symbol stands for a head
 pub symbol_known : (symbols : List Named) (name : List ℕ) (count : ℕ) → is_some (symbol_item symbols name count) ≡ (nat_le count most_arguments && list_any (same_symbol (named name count)) symbols)
-symbol_known symbols name count = by (nat_le count most_arguments)
-  where
-    by : (b : Bool) → is_some (if b then option_map (λ f. App (record { 0 = f }) count) (position (same_symbol (named name count)) symbols) else None) ≡ (b && list_any (same_symbol (named name count)) symbols)
-    by true = is_some-map (λ f. App (record { 0 = f }) count) (position (same_symbol (named name count)) symbols) ∙ place_if_any (same_symbol (named name count)) symbols
-    by false = refl
+symbol_known symbols name count = grind (arith, nat_tests, is_some-map, place_if_any)
 
 not_one : (m : ℕ) → m ≡ 0 → Some m ≡ Some 1 → ⊥
 not_one m z h = let e : m ≡ 1 = cc in omega arith
 
 and_more : (a b c : Bool) → (b ≡ true → c ≡ true) → (a && b) ≡ true → (a && c) ≡ true
-and_more true b c f h = f h
-and_more false b c f h = absurd cc
+and_more a b c f h = grind (arith, nat_tests)
 
 module _ (bytes : List ℕ) where
   abbrev pub scope : List Named → List (List ℕ) → Scope
@@ -64,17 +55,7 @@ module _ (bytes : List ℕ) where
   IsRead symbols vars n = is_some (item_in (scope symbols vars) n) ≡ true
 
   read_more : (a b : List Named) (vars : List (List ℕ)) → Holds a b → (n : node.Node) → IsRead a vars n → IsRead b vars n
-  read_more a b vars h n r = by (position (bytes_eq (text_of bytes n.head)) vars) r
-    where
-      name : List ℕ
-      name = text_of bytes n.head
-
-      by : (o : Option ℕ) → is_some (item_by a (text_of bytes n.head) n.count o) ≡ true → is_some (item_by b (text_of bytes n.head) n.count o) ≡ true
-      by (Some x) r = r
-      by None r =
-          symbol_known b (text_of bytes n.head) n.count
-          ∙ and_more (nat_le n.count most_arguments) (list_any (same_symbol (named (text_of bytes n.head) n.count)) a) (list_any (same_symbol (named (text_of bytes n.head) n.count)) b)
-          (h.each (named (text_of bytes n.head) n.count)) (sym (symbol_known a (text_of bytes n.head) n.count) ∙ r)
+  read_more a b vars h n r = grind (arith, nat_tests, symbol_known, and_more)
 
   pub record TermReads (symbols : List Named) (vars : List (List ℕ)) (nodes : List node.Node) : Type 0 where
     pub heads : All (IsRead symbols vars) nodes
@@ -112,15 +93,10 @@ module _ (bytes : List ℕ) where
   -- ---- what is read is spelled
 
   variable_at_zero : (x count : ℕ) (i : Item) → variable_item x count ≡ Some i → IsOver i count
-  variable_at_zero x zero i h = let e : Var x ≡ i = cc in subst (λ j. IsOver j zero) e (variable_over x)
-  variable_at_zero x (suc count) i h = absurd cc
+  variable_at_zero x count i h = grind (arith, nat_tests, variable_over)
 
   over : (s : Scope) (n : node.Node) (i : Item) → item_in s n ≡ Some i → IsOver i n.count
-  over s n i h = by (position (bytes_eq (text_of s.text n.head)) s.variables) h
-    where
-      by : (o : Option ℕ) → item_by s.symbols (text_of s.text n.head) n.count o ≡ Some i → IsOver i n.count
-      by (Some x) h = variable_at_zero x n.count i h
-      by None h = let k = symbol_cases s.symbols (text_of s.text n.head) n.count i h in subst (λ j. IsOver j n.count) (sym k.is) (symbol_over k.number n.count)
+  over s n i h = grind (arith, nat_tests, variable_at_zero, symbol_cases, symbol_over)
 
   -- each of a list is spelled
   all_spelled : {X Y : Type 0} (f : X → Option Y) (xs : List X) → All (λ x. is_some (f x) ≡ true) xs → (ys : List Y) × (all_of f xs ≡ Some ys)
@@ -135,30 +111,11 @@ module _ (bytes : List ℕ) where
   -- what stands at a place is spelled there
   spelled_at : {X Y : Type 0} (f : X → Option Y) (xs : List X) (ys : List Y) (k : ℕ) (x : X) (y : Y) → all_of f xs ≡ Some ys → slice_get xs k ≡ Some x → f x ≡ Some y → slice_get ys k ≡ Some y
   spelled_at f [] ys k x y h e g = absurd (let bad : None ≡ Some x = e in cc)
-  spelled_at {X} {Y} f (z ∷ xs) ys k x y h e g = by k (f z) (all_of f xs) refl refl h e (λ j more r i. spelled_at f xs more j x y r i g)
-    where
-      by : (k : ℕ) (o : Option Y) (rest : Option (List Y)) → f z ≡ o → all_of f xs ≡ rest → option_and_then (λ w. option_map (λ more. w ∷ more) rest) o ≡ Some ys → slice_get (z ∷ xs) k ≡ Some x
-          → ((j : ℕ) (more : List Y) → all_of f xs ≡ Some more → slice_get xs j ≡ Some x → slice_get more j ≡ Some y) → slice_get ys k ≡ Some y
-      by k None rest p q h e on = absurd cc
-      by k (Some w) None p q h e on = absurd cc
-      by zero (Some w) (Some more) p q h e on =
-          let is : ys ≡ w ∷ more = cc in
-          let same : z ≡ x = cc in
-          let both : Some w ≡ Some y = sym p ∙ ap f same ∙ g in
-          ap (λ l. slice_get l 0) is ∙ both
-      by (suc k) (Some w) (Some more) p q h e on =
-          let is : ys ≡ w ∷ more = cc in
-          ap (λ l. slice_get l (suc k)) is ∙ on k more q e
+  spelled_at {X} {Y} f (z ∷ xs) ys k x y h e g = grind (arith, nat_tests, spelled_at f xs)
 
   same_length : {X Y : Type 0} (f : X → Option Y) (xs : List X) (ys : List Y) → all_of f xs ≡ Some ys → length ys ≡ length xs
   same_length f [] ys h = let e : ys ≡ [] = cc in ap length e
-  same_length {X} {Y} f (x ∷ xs) ys h = by (f x) (all_of f xs) refl h (λ more r. same_length f xs more r)
-    where
-      by : (o : Option Y) (rest : Option (List Y)) → all_of f xs ≡ rest → option_and_then (λ w. option_map (λ more. w ∷ more) rest) o ≡ Some ys
-          → ((more : List Y) → all_of f xs ≡ Some more → length more ≡ length xs) → length ys ≡ length (x ∷ xs)
-      by None rest q h on = absurd cc
-      by (Some w) None q h on = absurd cc
-      by (Some w) (Some more) q h on = let is : ys ≡ w ∷ more = cc in ap length is ∙ ap suc (on more q)
+  same_length {X} {Y} f (x ∷ xs) ys h = grind (arith, nat_tests, same_length f xs)
 
   pub record Spelled (s : Scope) (nodes : List node.Node) : Type 0 where
     pub items : List Item
@@ -233,17 +190,7 @@ module _ (bytes : List ℕ) where
   -- how many rules are spelled
   pub length-rules : (symbols : List Named) (ts : List Specification) (rules : List Rule) → rules_of bytes symbols ts ≡ Some rules → length rules ≡ length (flat_map (λ t. t.rules) ts)
   length-rules symbols [] rules h = let e : [] ≡ rules = cc in ap length (sym e)
-  length-rules symbols (t ∷ ts) rules h = by (rules_in bytes symbols t) (rules_of bytes symbols ts) refl refl h (λ more r. length-rules symbols ts more r)
-    where
-      by : (one rest : Option (List Rule)) → rules_in bytes symbols t ≡ one → rules_of bytes symbols ts ≡ rest → (one >>= λ rules. rest >>= λ more. Some (rules ++ more)) ≡ Some rules
-          → ((more : List Rule) → rules_of bytes symbols ts ≡ Some more → length more ≡ length (flat_map (λ t. t.rules) ts)) → length rules ≡ length (t.rules ++ flat_map (λ t. t.rules) ts)
-      by None rest p q h on = absurd cc
-      by (Some one) None p q h on = absurd cc
-      by (Some one) (Some more) p q h on =
-          let is : one ++ more ≡ rules = cc in
-          let a : length one ≡ length t.rules = same_length (λ r. rule_in bytes symbols (variables_of bytes t) r) t.rules one p in
-          let b : length more ≡ length (flat_map (λ t. t.rules) ts) = on more q in
-          ap length (sym is) ∙ length-append one more ∙ (λ j. a j + b j) ∙ sym (length-append t.rules (flat_map (λ t. t.rules) ts))
+  length-rules symbols (t ∷ ts) rules h = grind (arith, nat_tests, length-rules symbols ts, same_length, length-append)
 
   -- terms without variables
   pub terms_spelled : (symbols : List Named) (terms : List (List node.Node)) → All (TermReads symbols []) terms → (trees : List Tree) × (terms_in bytes symbols terms ≡ Some trees)

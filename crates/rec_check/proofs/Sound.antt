@@ -1,25 +1,89 @@
 -- Material without offence: what its symbols are, and that its rules are spelled by them.
-use Rattle.std.proofs.Common.{◌≡◌, ℕ, ◌≤◌, Bool, true, false, cond, not, ◌&&◌, ◌||◌, List, [], ◌∷◌, ◌++◌, length, map, fold, nat_eq, nat_lt, slice_get, All, refl, sym, ap, subst, ◌∙◌, arith}
+use Rattle.std.proofs.Common.{◌≡◌, ℕ, ◌+◌, ◌<◌, ◌≤◌, Bool, true, false, ◌&&◌, ◌||◌, List, [], ◌∷◌, ◌++◌, length, map, nat_lt, Some, refl, sym, ap, ◌∙◌, arith, length-append, fold, nat_eq, slice_get, All, subst}
 use Rattle.std.specs.Prelude.{nat_le, if◌then◌else◌}
-use Rattle.std.specs.Option.{option_to_list}
 use Rattle.std.specs.List.{list_any, list_all, flat_map, filter}
 use Rattle.std.proofs.lemmas.Bool.Decides.{nat_tests}
+use Rattle.std.proofs.lemmas.List.{append_assoc, append-nil, map-append, length-map}
+use Rattle.symbol_pool.specs.Pool.{named, most_symbols, Named}
+use Rattle.rec_reader.specs.declared.token.Name.{Name}
+use Rattle.rec_includes.specs.Names.{text_of, same_text, is_among}
+use Rattle.rec_includes.specs.Material.{Declared, Header, brought, fresh, with_numbers, symbols_by, symbols_of, rules_of, specifications_at}
+use Rattle.rec_offences.specs.Offences.{repeated, Include, includes_from, symbol_names, is_clashing, is_passing, passes, most}
+use Rattle.rec_check.specs.Term.{same_symbol, most_arguments}
+use Rattle.rec_check.specs.Symbols.{named_in, with_symbol, with_symbols}
+use Rattle.rec_check.proofs.Numbered.{any_append}
+use Rattle.std.proofs.lemmas.Grind.{common_steps, flat_map-append}
+use Rattle.std.specs.Option.{option_to_list}
 use Rattle.std.proofs.lemmas.Bool.{eqb-true}
-use Rattle.std.proofs.lemmas.List.{append_assoc, append-nil, map-append}
 use Rattle.std.proofs.lemmas.List.Elements.{All-append, All-weaker, All-nil, All-cons, All-head, All-tail}
 use Rattle.std.proofs.lemmas.List.Folds.{list_all-append}
-use Rattle.std.proofs.lemmas.Grind.{flat_map-append}
-use Rattle.symbol_pool.specs.Pool.{Named}
-use Rattle.rec_reader.specs.declared.token.Name.{Name}
 use Rattle.rec_reader.specs.declared.syntax_tree.Specification.{Specification}
-use Rattle.rec_includes.specs.Names.{is_among, same_text}
-use Rattle.rec_includes.specs.Material.{Header, brought, fresh, with_numbers, symbols_by, symbols_of, rules_of, specifications_at}
-use Rattle.rec_offences.specs.Offences.{Include, includes_from, symbol_names, is_clashing, is_passing, passes, repeated, most}
-use Rattle.rec_check.specs.Term.{same_symbol}
-use Rattle.rec_check.specs.Symbols.{named_in}
 use Rattle.rec_check.proofs.Faultless.{left_empty, right_empty}
-use Rattle.rec_check.proofs.Numbered.{any_append}
-use Rattle.rec_check.proofs.Repeating.{Within, within_more, within_after, fewer, beside_others, repeated-append, few_arguments, or_false, both_true}
+
+-- ---- names that aren't repeated, and symbols with such names
+
+pub or_false : (a b : Bool) → (a || b) ≡ false → (a ≡ false) × (b ≡ false)
+or_false a b h = grind (arith, nat_tests)
+
+pub false_or : (a b : Bool) → a ≡ false → b ≡ false → (a || b) ≡ false
+false_or a b p q = (λ i. p i || q i)
+
+abbrev pub names_in : List Declared → List Name
+names_in ds = map (λ d. d.name) ds
+
+abbrev pub few_arguments : Declared → Bool
+few_arguments d = nat_le (length d.arguments) most_arguments
+
+pub both_true : (a b : Bool) → (a && b) ≡ true → (a ≡ true) × (b ≡ true)
+both_true a b h = grind (arith, nat_tests)
+
+module _ (bytes : List ℕ) where
+  pub repeated-append : (e xs ys : List Name) → repeated bytes e (xs ++ ys) ≡ repeated bytes e xs ++ repeated bytes (e ++ xs) ys
+  repeated-append e [] ys = ap (λ f. repeated bytes f ys) (sym (append-nil e))
+  repeated-append e (x ∷ xs) ys = grind (arith, nat_tests, repeated-append (e ++ x ∷ []) xs ys, append_assoc)
+
+  pub new_first : (e xs : List Name) (x : Name) → repeated bytes e (x ∷ xs) ≡ [] → (is_among bytes e x ≡ false) × (repeated bytes (e ++ x ∷ []) xs ≡ [])
+  new_first e xs x h = grind (arith, nat_tests)
+
+  pub first_new : (e xs : List Name) (x : Name) → is_among bytes e x ≡ false → repeated bytes (e ++ x ∷ []) xs ≡ [] → repeated bytes e (x ∷ xs) ≡ []
+  first_new e xs x p q = (λ i. (if p i then x ∷ [] else []) ++ repeated bytes (e ++ x ∷ []) xs) ∙ q
+
+  pub among-append : (a e : List Name) (x : Name) → is_among bytes (a ++ e) x ≡ (is_among bytes a x || is_among bytes e x)
+  among-append a e x = any_append (same_text bytes x) a e
+
+  -- fewer earlier names
+  pub record Within (e f : List Name) : Type 0 where
+    pub each : (n : Name) → is_among bytes f n ≡ false → is_among bytes e n ≡ false
+
+  pub within_more : (e f more : List Name) → Within e f → Within (e ++ more) (f ++ more)
+  within_more e f more w = grind (arith, nat_tests, or_false, among-append, false_or)
+
+  pub within_after : (e f more : List Name) → Within e f → Within e (f ++ more)
+  within_after e f more w = record { each = λ n h. w.each n (or_false (is_among bytes f n) (is_among bytes more n) (sym (among-append f more n) ∙ h)).0 }
+
+  pub fewer : (e f xs : List Name) → Within e f → repeated bytes f xs ≡ [] → repeated bytes e xs ≡ []
+  fewer e f [] w h = refl
+  fewer e f (x ∷ xs) w h = grind (arith, nat_tests, fewer (e ++ x ∷ []) (f ++ x ∷ []) xs (within_more e f (x ∷ []) w))
+
+  -- names that aren't among others either
+  pub beside_others : (a e xs : List Name) → list_any (is_among bytes a) xs ≡ false → repeated bytes e xs ≡ [] → repeated bytes (a ++ e) xs ≡ []
+  beside_others a e [] p h = refl
+  beside_others a e (x ∷ xs) p h = grind (arith, nat_tests, beside_others a (e ++ x ∷ []) xs, or_false, new_first, first_new, among-append, false_or, append_assoc)
+
+  -- ---- symbols
+
+  differs : (pool : List Declared) (n : Name) (arity : ℕ) → is_among bytes (names_in pool) n ≡ false → list_any (same_symbol (named (text_of bytes n) arity)) (named_in bytes pool) ≡ false
+  differs [] n arity h = refl
+  differs (d ∷ pool) n arity h = grind (arith, nat_tests, differs pool n arity)
+
+  one_more : (pool : List Declared) (d : Declared) → is_among bytes (names_in pool) d.name ≡ false → few_arguments d ≡ true → length pool < most_symbols
+      → with_symbol (named_in bytes pool) (named (text_of bytes d.name) (length d.arguments)) ≡ Some (named_in bytes (pool ++ d ∷ []))
+  one_more pool d p few l = grind (arith, nat_tests, differs, length-map, map-append)
+
+  pub all_added : (pool ds : List Declared) → repeated bytes (names_in pool) (names_in ds) ≡ [] → list_all few_arguments ds ≡ true → length pool + length ds ≤ most_symbols
+      → with_symbols (named_in bytes pool) (named_in bytes ds) ≡ Some (named_in bytes (pool ++ ds))
+  all_added pool [] h few room = ap (λ ps. Some (named_in bytes ps)) (sym (append-nil pool))
+  all_added pool (d ∷ ds) h few room = grind (arith, nat_tests, all_added (pool ++ d ∷ []) ds, new_first, both_true, length-append, map-append, one_more, append_assoc)
 
 -- each symbol among some is among others
 pub record Holds (symbols more : List Named) : Type 0 where
@@ -29,12 +93,10 @@ pub or_left : (a b : Bool) → a ≡ true → (a || b) ≡ true
 or_left a b h = ap (λ x. x || b) h
 
 pub or_right : (a b : Bool) → b ≡ true → (a || b) ≡ true
-or_right true b h = refl
-or_right false b h = h
+or_right a b h = grind (arith, nat_tests)
 
 pub or_cases : {P : Type 0} (a b : Bool) → (a || b) ≡ true → (a ≡ true → P) → (b ≡ true → P) → P
-or_cases true b h f g = f refl
-or_cases false b h f g = g h
+or_cases a b h f g = grind (arith, nat_tests)
 
 pub holds_first : (a b : List Named) → Holds a (a ++ b)
 holds_first a b = record { each = λ s h. any_append (same_symbol s) a b ∙ or_left (list_any (same_symbol s) a) (list_any (same_symbol s) b) h }
@@ -49,11 +111,7 @@ all_back P (x ∷ xs) ys h = all_back P xs ys (All-tail P x (xs ++ ys) h)
 
 -- where none passes, the first doesn't
 none_first : (p : Include → Bool) (i : Include) (is : List Include) → map (λ j. j.entry) (filter p (i ∷ is)) ≡ [] → (p i ≡ false) × (map (λ j. j.entry) (filter p is) ≡ [])
-none_first p i is h = by (p i) refl h
-  where
-    by : (b : Bool) → p i ≡ b → map (λ j. j.entry) (cond b (i ∷ filter p is) (filter p is)) ≡ [] → (p i ≡ false) × (map (λ j. j.entry) (filter p is) ≡ [])
-    by true e h = absurd cc
-    by false e h = (e, h)
+none_first p i is h = grind (arith, nat_tests)
 
 -- what a specification's rules are read by: a fact that more symbols keep
 module _ (bytes : List ℕ) (Reads : List Named → Specification → Type 0) (keeps : (a b : List Named) (t : Specification) → Holds a b → Reads a t → Reads b t) where
@@ -95,54 +153,18 @@ module _ (bytes : List ℕ) (Reads : List Named → Specification → Type 0) (k
 
   distinct_fresh : (specs : List Specification) (a b : List ℕ) (e f : List Name) → Within bytes e f → repeated bytes f (symbol_names specs b) ≡ [] → repeated bytes e (symbol_names specs (fresh a b)) ≡ []
   distinct_fresh specs a [] e f w h = refl
-  distinct_fresh specs a (n ∷ ns) e f w h =
-      by (list_any (nat_eq n) a) (λ x y v k. distinct_fresh specs a ns x y v k) (λ x y v k. distinct_fresh specs (a ++ n ∷ []) ns x y v k)
-    where
-      this : List Name
-      this = symbol_names specs (n ∷ [])
-
-      both : repeated bytes f (symbol_names specs (n ∷ [])) ++ repeated bytes (f ++ symbol_names specs (n ∷ [])) (symbol_names specs ns) ≡ []
-      both = sym (repeated-append bytes f (symbol_names specs (n ∷ [])) (symbol_names specs ns)) ∙ ap (repeated bytes f) (sym (names-append specs (n ∷ []) ns)) ∙ h
-
-      by : (b : Bool)
-          → ((x y : List Name) → Within bytes x y → repeated bytes y (symbol_names specs ns) ≡ [] → repeated bytes x (symbol_names specs (fresh a ns)) ≡ [])
-          → ((x y : List Name) → Within bytes x y → repeated bytes y (symbol_names specs ns) ≡ [] → repeated bytes x (symbol_names specs (fresh (a ++ n ∷ []) ns)) ≡ [])
-          → repeated bytes e (symbol_names specs (if b then fresh a ns else n ∷ fresh (a ++ n ∷ []) ns)) ≡ []
-      by true p q =
-          p e (f ++ symbol_names specs (n ∷ [])) (within_after bytes e f (symbol_names specs (n ∷ [])) w)
-          (right_empty (repeated bytes f (symbol_names specs (n ∷ []))) (repeated bytes (f ++ symbol_names specs (n ∷ [])) (symbol_names specs ns)) both)
-      by false p q =
-          let new = fresh (a ++ n ∷ []) ns in
-          let first : repeated bytes e (symbol_names specs (n ∷ [])) ≡ [] =
-          fewer bytes e f (symbol_names specs (n ∷ [])) w (left_empty (repeated bytes f (symbol_names specs (n ∷ []))) (repeated bytes (f ++ symbol_names specs (n ∷ [])) (symbol_names specs ns)) both) in
-          let rest : repeated bytes (e ++ symbol_names specs (n ∷ [])) (symbol_names specs new) ≡ [] =
-          q (e ++ symbol_names specs (n ∷ [])) (f ++ symbol_names specs (n ∷ [])) (within_more bytes e f (symbol_names specs (n ∷ [])) w)
-          (right_empty (repeated bytes f (symbol_names specs (n ∷ []))) (repeated bytes (f ++ symbol_names specs (n ∷ [])) (symbol_names specs ns)) both) in
-          ap (repeated bytes e) (names-append specs (n ∷ []) new) ∙ repeated-append bytes e (symbol_names specs (n ∷ [])) (symbol_names specs new) ∙ (λ i. first i ++ rest i)
+  distinct_fresh specs a (n ∷ ns) e f w h = grind (arith, nat_tests, distinct_fresh specs a ns, distinct_fresh specs (a ++ n ∷ []) ns, repeated-append bytes f (symbol_names specs (n ∷ [])) (symbol_names specs ns), repeated-append bytes e (symbol_names specs (n ∷ [])), names-append specs (n ∷ []) ns, names-append specs (n ∷ []), within_after bytes e f (symbol_names specs (n ∷ [])) w, right_empty (repeated bytes f (symbol_names specs (n ∷ []))) (repeated bytes (f ++ symbol_names specs (n ∷ [])) (symbol_names specs ns)), fewer bytes e f (symbol_names specs (n ∷ [])) w, left_empty (repeated bytes f (symbol_names specs (n ∷ []))) (repeated bytes (f ++ symbol_names specs (n ∷ [])) (symbol_names specs ns)), within_more bytes e f (symbol_names specs (n ∷ [])) w)
 
   few_append : (specs : List Specification) (a b : List ℕ) → list_all few_arguments (symbols_of specs (a ++ b)) ≡ (list_all few_arguments (symbols_of specs a) && list_all few_arguments (symbols_of specs b))
   few_append specs a b = ap (list_all few_arguments) (symbols-append specs a b) ∙ list_all-append few_arguments (symbols_of specs a) (symbols_of specs b)
 
   few_fresh : (specs : List Specification) (a b : List ℕ) → list_all few_arguments (symbols_of specs b) ≡ true → list_all few_arguments (symbols_of specs (fresh a b)) ≡ true
   few_fresh specs a [] h = refl
-  few_fresh specs a (n ∷ ns) h =
-      let p = both_true (list_all few_arguments (symbols_of specs (n ∷ []))) (list_all few_arguments (symbols_of specs ns)) (sym (few_append specs (n ∷ []) ns) ∙ h) in
-      by (list_any (nat_eq n) a) p.0 (few_fresh specs a ns p.1) (few_fresh specs (a ++ n ∷ []) ns p.1)
-    where
-      by : (b : Bool) → list_all few_arguments (symbols_of specs (n ∷ [])) ≡ true → list_all few_arguments (symbols_of specs (fresh a ns)) ≡ true → list_all few_arguments (symbols_of specs (fresh (a ++ n ∷ []) ns)) ≡ true
-          → list_all few_arguments (symbols_of specs (if b then fresh a ns else n ∷ fresh (a ++ n ∷ []) ns)) ≡ true
-      by true x y z = y
-      by false x y z = few_append specs (n ∷ []) (fresh (a ++ n ∷ []) ns) ∙ (λ i. x i && z i)
+  few_fresh specs a (n ∷ ns) h = grind (arith, nat_tests, common_steps, few_fresh specs a ns, few_fresh specs (a ++ n ∷ []) ns, both_true, few_arguments, few_append)
 
   pass_fresh : (p : ℕ → Bool) (a b : List ℕ) → list_all p b ≡ true → list_all p (fresh a b) ≡ true
   pass_fresh p a [] h = refl
-  pass_fresh p a (n ∷ ns) h =
-      let q = both_true (p n) (list_all p ns) h in
-      by (list_any (nat_eq n) a) q.0 (pass_fresh p a ns q.1) (pass_fresh p (a ++ n ∷ []) ns q.1)
-    where
-      by : (b : Bool) → p n ≡ true → list_all p (fresh a ns) ≡ true → list_all p (fresh (a ++ n ∷ []) ns) ≡ true → list_all p (if b then fresh a ns else n ∷ fresh (a ++ n ∷ []) ns) ≡ true
-      by true x y z = y
-      by false x y z = λ i. x i && z i
+  pass_fresh p a (n ∷ ns) h = grind (arith, nat_tests, pass_fresh p a ns, pass_fresh p (a ++ n ∷ []) ns)
 
   all_fresh : (P : Specification → Type 0) (specs : List Specification) (a b : List ℕ) → All P (specifications_at specs b) → All P (specifications_at specs (fresh a b))
   all_fresh P specs a [] h = h
@@ -158,34 +180,12 @@ module _ (bytes : List ℕ) (Reads : List Named → Specification → Type 0) (k
 
   among_numbers : (s : Named) (specs : List Specification) (a : List ℕ) (n : ℕ) → list_any (nat_eq n) a ≡ true → any_at s specs (n ∷ []) ≡ true → any_at s specs a ≡ true
   among_numbers s specs [] n h k = absurd cc
-  among_numbers s specs (m ∷ a) n h k =
-      any_at-append s specs (m ∷ []) a ∙ by (nat_eq n m) refl h (λ g. among_numbers s specs a n g k)
-    where
-      by : (b : Bool) → nat_eq n m ≡ b → (b || list_any (nat_eq n) a) ≡ true → (list_any (nat_eq n) a ≡ true → any_at s specs a ≡ true) → (any_at s specs (m ∷ []) || any_at s specs a) ≡ true
-      by true e h on = or_left (any_at s specs (m ∷ [])) (any_at s specs a) (ap (λ j. any_at s specs (j ∷ [])) (sym (eqb-true n m e)) ∙ k)
-      by false e h on = or_right (any_at s specs (m ∷ [])) (any_at s specs a) (on h)
+  among_numbers s specs (m ∷ a) n h k = grind (arith, nat_tests, common_steps, among_numbers s specs a n, any_at-append, or_left, eqb-true, or_right)
 
   -- every number of a list is among those to which it was added
   brought_there : (s : Named) (specs : List Specification) (a b : List ℕ) → any_at s specs b ≡ true → any_at s specs (a ++ fresh a b) ≡ true
   brought_there s specs a [] h = absurd cc
-  brought_there s specs a (n ∷ ns) h =
-      by (list_any (nat_eq n) a) refl
-      (λ k. brought_there s specs a ns k) (λ k. brought_there s specs (a ++ n ∷ []) ns k)
-    where
-      by : (c : Bool) → list_any (nat_eq n) a ≡ c → (any_at s specs ns ≡ true → any_at s specs (a ++ fresh a ns) ≡ true)
-          → (any_at s specs ns ≡ true → any_at s specs ((a ++ n ∷ []) ++ fresh (a ++ n ∷ []) ns) ≡ true)
-          → any_at s specs (a ++ (if c then fresh a ns else n ∷ fresh (a ++ n ∷ []) ns)) ≡ true
-      by true e p q =
-          or_cases (any_at s specs (n ∷ [])) (any_at s specs ns) (sym (any_at-append s specs (n ∷ []) ns) ∙ h)
-          (λ k. any_at-append s specs a (fresh a ns) ∙ or_left (any_at s specs a) (any_at s specs (fresh a ns)) (among_numbers s specs a n e k))
-          p
-      by false e p q =
-          let new = fresh (a ++ n ∷ []) ns in
-          let regroup : (a ++ n ∷ []) ++ new ≡ a ++ n ∷ new = append_assoc a (n ∷ []) new in
-          or_cases (any_at s specs (n ∷ [])) (any_at s specs ns) (sym (any_at-append s specs (n ∷ []) ns) ∙ h)
-          (λ k. any_at-append s specs a (n ∷ new) ∙ or_right (any_at s specs a) (any_at s specs (n ∷ new))
-          (any_at-append s specs (n ∷ []) new ∙ or_left (any_at s specs (n ∷ [])) (any_at s specs new) k))
-          (λ k. ap (any_at s specs) (sym regroup) ∙ q k)
+  brought_there s specs a (n ∷ ns) h = grind (arith, nat_tests, common_steps, brought_there s specs a ns, brought_there s specs (a ++ n ∷ []) ns, or_cases, any_at-append, or_left, among_numbers, append_assoc, or_right)
 
   pub holds_brought : (specs : List Specification) (a b : List ℕ) → Holds (symbols_at specs b) (symbols_at specs (with_numbers a b))
   holds_brought specs a b = record { each = λ s h. brought_there s specs a b h }
@@ -196,11 +196,7 @@ module _ (bytes : List ℕ) (Reads : List Named → Specification → Type 0) (k
   -- ---- an entry adds what it brings
 
   not_passing : (before after : ℕ) → before ≤ most → passes before after ≡ false → after ≤ most
-  not_passing before after l h = by (nat_le after most) refl (sym (λ i. (let e : nat_le before most ≡ true = grind (arith, nat_tests) in e) i && not (nat_le after most)) ∙ h)
-    where
-      by : (b : Bool) → nat_le after most ≡ b → not b ≡ false → after ≤ most
-      by true e k = grind (arith, nat_tests)
-      by false e k = absurd cc
+  not_passing before after l h = grind (arith, nat_tests)
 
   pub sound_with : (specs : List Specification) (i : Include) (brings : List ℕ) → i.added ≡ fresh i.before brings → Sound specs i.before → Sound specs brings
       → is_clashing bytes specs i ≡ false → is_passing specs i ≡ false → Sound specs (with_numbers i.before brings)

@@ -22,10 +22,7 @@ record Took (n : ℕ) (stack : List Tree) (taken : Trees) : Type 0 where
 takes : (n : ℕ) (stack : List Tree) (taken : Trees) → n ≤ length stack → Took n stack taken
 takes zero stack taken l = record { args = taken; left = stack; is = refl; count = omega arith }
 takes (suc n) [] taken l = absurd (omega arith)
-takes (suc n) (t ∷ stack) taken l =
-    let r = takes n stack (More t taken) (omega arith) in
-    let c = r.count in
-    record { args = r.args; left = r.left; is = r.is; count = omega arith }
+takes (suc n) (t ∷ stack) taken l = grind (arith, nat_tests, takes n stack (More t taken))
 
 -- a variable or a symbol, over so many trees
 pub record IsOver (i : Item) (count : ℕ) : Type 0 where

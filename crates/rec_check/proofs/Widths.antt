@@ -1,12 +1,10 @@
 -- What is spelled has no symbol of more than 16 arguments.
-use Rattle.std.proofs.Common.{◌≡◌, ◌≤◌, List, [], ◌∷◌, ◌++◌, Bool, true, false, Some, None, refl, ap, subst, arith}
-use Rattle.std.specs.Prelude.{◌&&◌, not, nat_le, nat_lt, length, max, if◌then◌else◌}
+use Rattle.std.proofs.Common.{◌≡◌, ◌≤◌, List, [], ◌∷◌, ◌++◌, Some, ap, subst, arith}
+use Rattle.std.specs.Prelude.{max}
 use Rattle.std.proofs.lemmas.Bool.Decides.{nat_tests}
-use Rattle.std.specs.List.{list_any}
-use Rattle.symbol_pool.specs.Pool.{Named, most_symbols}
+use Rattle.symbol_pool.specs.Pool.{Named}
 use Rattle.rec_reader.specs.Parsed.{Parsed}
 use Rattle.rec_includes.specs.Material.{symbols_of}
-use Rattle.rec_check.specs.Term.{same_symbol, most_arguments}
 use Rattle.rec_check.specs.Symbols.{named_in, with_symbol, with_symbols, widest_of}
 use Rattle.rec_check.specs.Spelled.{Specified}
 use Rattle.rec_check.specs.Run.{spelled_in}
@@ -16,16 +14,7 @@ use Rattle.rec_check.proofs.Declaring.{widest_of-push}
 -- a symbol that is added has few arguments
 added : (symbols more : List Named) (s : Named) → with_symbol symbols s ≡ Some more
     → (s.arity ≤ 16) × (symbols ++ s ∷ [] ≡ more)
-added symbols more s h =
-    by (nat_le s.arity most_arguments)
-    (not (list_any (same_symbol s) symbols) && nat_lt (length symbols) most_symbols) refl h
-  where
-    by : (b c : Bool) → nat_le s.arity most_arguments ≡ b
-        → (if b && c then Some (symbols ++ s ∷ []) else None) ≡ Some more
-        → (s.arity ≤ 16) × (symbols ++ s ∷ [] ≡ more)
-    by true true e g = (grind (arith, nat_tests), cc_some (symbols ++ s ∷ []) more g)
-    by true false e g = absurd cc
-    by false c e g = absurd cc
+added symbols more s h = grind (arith, nat_tests)
 
 -- so those that are added to others stay narrow
 stays : (symbols ss made : List Named) → widest_of symbols ≤ 16

@@ -1,11 +1,12 @@
 -- A specification without an `if` in the rules that run has rules without conditions.
-use Rattle.std.proofs.Common.{◌≡◌, ℕ, zero, suc, List, [], ◌∷◌, ◌++◌, refl, sym, ap, subst, ◌∙◌, arith}
-use Rattle.std.specs.Prelude.{Option, Some, None, slice_get, min, All}
+use Rattle.std.proofs.lemmas.Bool.Decides.{nat_tests}
+use Rattle.std.proofs.Common.{rules, ◌≡◌, ℕ, zero, suc, List, [], ◌∷◌, ◌++◌, refl, subst, arith}
+use Rattle.std.specs.Prelude.{Some, None, slice_get, min, All}
 use Rattle.std.specs.List.{flat_map}
-use Rattle.std.specs.Option.{option_to_list, option_map}
+use Rattle.std.specs.Option.{option_to_list}
 use Rattle.std.proofs.lemmas.List.Concat.{flat_map-cons}
 use Rattle.std.proofs.lemmas.List.Elements.{All-append}
-use Rattle.std.proofs.lemmas.Option.{same_Some, option_and_then_some}
+use Rattle.std.proofs.lemmas.Option.{same_Some}
 use Rattle.rewrite_model.specs.Rule.{Rule, IsUnconditional}
 use Rattle.symbol_pool.specs.Pool.{Named}
 use Rattle.rec_reader.specs.declared.token.Token.{Token}
@@ -13,13 +14,13 @@ use Rattle.rec_reader.specs.declared.token.Sign.TheVariants.{Rules}
 use Rattle.rec_reader.specs.declared.syntax_tree.Rule as written
 use Rattle.rec_reader.specs.declared.syntax_tree.Specification.{Specification}
 use Rattle.rec_reader.specs.Parsed.{Parsed}
-use Rattle.rec_reader.specs.Grammar.{Any, none, next, Section, absent, present, IsRule, plain, conditional, IsSpecification, specification, IsInput, input}
+use Rattle.rec_reader.specs.Grammar.{Any, none, next, Section, absent, present, IsRule, IsSpecification, specification, IsInput, input}
 use Rattle.rec_includes.specs.Material.{specifications_at, rules_of}
 use Rattle.rec_check.specs.Conditional.{ifs_of, least_with, first_if}
-use Rattle.rec_check.specs.Rule.{◌>>=◌, condition_in, rule_in}
+use Rattle.rec_check.specs.Rule.{◌>>=◌, rule_in}
 use Rattle.rec_check.specs.Term.{all_of}
 use Rattle.rec_check.specs.Spelled as spelled
-use Rattle.rec_check.specs.Spelled.{Specified, nothing, variables_of}
+use Rattle.rec_check.specs.Spelled.{Specified, variables_of}
 use Rattle.rec_check.specs.Run.{spelled_in}
 use Rattle.rec_check.proofs.Plans as plans
 
@@ -34,8 +35,7 @@ AllWhole (s ∷ ss) = AreWhole s.rules × AllWhole ss
 
 rule_whole : {ts rest : List Token} {r : written.Rule} → IsRule ts r rest → r.condition_at ≡ None
     → r.conditions ≡ []
-rule_whole (plain x y) e = refl
-rule_whole (conditional x y c) e = cc
+rule_whole h e = grind (arith, nat_tests)
 
 rules_whole : {ts rest : List Token} {rs : List written.Rule} → Any IsRule ts rs rest → AreWhole rs
 rules_whole none = tt
@@ -71,10 +71,7 @@ one_whole (s ∷ ss) (suc n) a = one_whole ss n a.1
 material_whole : (ss : List Specification) (ns : List ℕ) → AllWhole ss
     → AllWhole (specifications_at ss ns)
 material_whole ss [] a = tt
-material_whole ss (n ∷ ns) a =
-    subst AllWhole (sym (flat_map-cons (λ m. option_to_list (slice_get ss m)) n ns))
-    (both_whole (option_to_list (slice_get ss n)) (specifications_at ss ns) (one_whole ss n a)
-    (material_whole ss ns a))
+material_whole ss (n ∷ ns) a = grind (arith, nat_tests, material_whole ss ns a, flat_map-cons, both_whole, one_whole)
 
 -- ---- there is no `if`
 least_some : (m : ℕ) (ns : List ℕ) → least_with (Some m) ns ≡ None → ⊥
@@ -91,30 +88,13 @@ HaveNoIf (r ∷ rs) = (r.condition_at ≡ None) × HaveNoIf rs
 
 have_no_if : (rs : List written.Rule) → ifs_of rs ≡ [] → HaveNoIf rs
 have_no_if [] e = tt
-have_no_if (r ∷ rs) e =
-    go r.condition_at refl
-    (sym (flat_map-cons (λ (x : written.Rule). option_to_list x.condition_at) r rs) ∙ e)
-    (λ h. have_no_if rs h)
-  where
-    go : (o : Option ℕ) → r.condition_at ≡ o → option_to_list o ++ ifs_of rs ≡ []
-        → (ifs_of rs ≡ [] → HaveNoIf rs) → HaveNoIf (r ∷ rs)
-    go None is h more = (is, more h)
-    go (Some p) is h more = cc
+have_no_if (r ∷ rs) e = grind (arith, nat_tests, have_no_if rs)
 
 first_of_two : (rs us : List written.Rule) → HaveNoIf (rs ++ us) → HaveNoIf rs × HaveNoIf us
 first_of_two [] us h = (tt, h)
 first_of_two (r ∷ rs) us h = let k = first_of_two rs us h.1 in ((h.0, k.0), k.1)
 
 -- ---- what is spelled then has no condition
-no_conditions : (text : List ℕ) (symbols : List Named) (declared : List (List ℕ))
-    (r : written.Rule) (made : Rule)
-    → r.conditions ≡ [] → rule_in text symbols declared r ≡ Some made → made.conditions ≡ []
-no_conditions text symbols declared r made bare h =
-    let found = plans.c text symbols declared r made h in
-    let empty : Some found.x ≡ Some [] = sym found.is
-    ∙ ap (all_of (λ d. condition_in (plans.scope text symbols declared r made h) d)) bare in
-    ap (λ (x : Rule). x.conditions) (sym (plans.is_made text symbols declared r made h))
-    ∙ same_Some found.x [] empty
 
 abbrev ArePlain : List Rule → Type 0
 ArePlain rules = All IsUnconditional rules
@@ -122,32 +102,11 @@ ArePlain rules = All IsUnconditional rules
 none_plain : ArePlain []
 none_plain k d lt = absurd (omega arith)
 
-one_rule : (y : Rule) → y.conditions ≡ [] → ArePlain (y ∷ [])
-one_rule y e zero d lt = e
-one_rule y e (suc k) d lt = absurd (omega arith)
-
 rules_are : (text : List ℕ) (symbols : List Named) (declared : List (List ℕ))
     (rs : List written.Rule) (out : List Rule) → AreWhole rs → HaveNoIf rs
     → all_of (λ r. rule_in text symbols declared r) rs ≡ Some out → ArePlain out
 rules_are text symbols declared [] out w h e = subst ArePlain (same_Some [] out e) none_plain
-rules_are text symbols declared (r ∷ rs) out w h e =
-    option_and_then_some
-    (λ (y : Rule). option_map (λ (ys : List Rule). y ∷ ys)
-    (all_of (λ x. rule_in text symbols declared x) rs)) (rule_in text symbols declared r) out
-    e (λ y is f.
-    go y (no_conditions text symbols declared r y (w.0 h.0) is)
-    (all_of (λ x. rule_in text symbols declared x) rs) refl f
-    (λ ys more. rules_are text symbols declared rs ys w.1 h.1 more))
-  where
-    go : (y : Rule) → y.conditions ≡ [] → (o : Option (List Rule))
-        → all_of (λ x. rule_in text symbols declared x) rs ≡ o
-        → option_map (λ (ys : List Rule). y ∷ ys) o ≡ Some out
-        → ((ys : List Rule) → all_of (λ x. rule_in text symbols declared x) rs ≡ Some ys
-        → ArePlain ys) → ArePlain out
-    go y bare None is f more = absurd cc
-    go y bare (Some ys) is f more =
-        subst ArePlain (same_Some (y ∷ ys) out f)
-        (All-append IsUnconditional (y ∷ []) ys (one_rule y bare) (more ys is))
+rules_are text symbols declared (r ∷ rs) out w h e = grind (arith, nat_tests, rules_are text symbols declared rs)
 
 all_are : (text : List ℕ) (symbols : List Named) (ss : List Specification) (out : List Rule)
     → AllWhole ss → HaveNoIf (flat_map (λ (s : Specification). s.rules) ss)
@@ -169,12 +128,4 @@ all_are text symbols (s ∷ ss) out w h e =
 pub unconditional_rules : (syntax : Parsed) (tokens : List Token) (spec : Specified)
     → IsInput tokens syntax.specifications → first_if syntax ≡ None → spelled_in syntax ≡ Some spec
     → All IsUnconditional spec.rules
-unconditional_rules syntax tokens spec read bare e =
-    let material = plans.last_material syntax in
-    let rules = rules_of syntax.specifications material in
-    plans.of_spelled (λ made. ArePlain made.rules) syntax spec none_plain
-    (λ ts p. all_are syntax.bytes spec.symbols (specifications_at syntax.specifications material)
-    spec.rules
-    (material_whole syntax.specifications material
-    (input_whole tokens syntax.specifications read))
-    (have_no_if rules (least_none (ifs_of rules) bare)) p.rules) e
+unconditional_rules syntax tokens spec read bare e = grind (arith, nat_tests, none_plain, all_are, material_whole, input_whole, have_no_if, least_none)

@@ -1,26 +1,19 @@
 -- What an entry of a specification brings is the material of the specification that it includes.
-use Rattle.std.proofs.Common.{◌≡◌, ℕ, zero, suc, ◌<◌, ◌≤◌, Bool, true, false, cond, List, [], ◌∷◌, ◌++◌, append_assoc, append-nil, length, map, fold, take, slice_get, get_or, Option, Some, None, inl, inr, refl, sym, ap, ◌∙◌, arith, take_all, take-suc, length-take, length-take-le, ◌⊎◌}
-use Rattle.std.specs.Option.{option_map, option_map_or}
+use Rattle.std.proofs.lemmas.Bool.Decides.{nat_tests}
+use Rattle.std.proofs.Common.{◌≡◌, ℕ, zero, suc, ◌<◌, ◌≤◌, Bool, List, [], ◌∷◌, ◌++◌, append_assoc, append-nil, length, map, fold, take, slice_get, get_or, Some, None, inl, inr, refl, sym, ap, ◌∙◌, arith, take_all, take-suc, length-take, length-take-le, ◌⊎◌}
+use Rattle.std.specs.Option.{option_map_or}
 use Rattle.std.proofs.lemmas.Bool.{cases_lt}
 use Rattle.std.proofs.lemmas.List.{map-append, take-map, length-map}
 use Rattle.std.proofs.lemmas.Option.{slice_get-get_or, slice_get_within, get_or_from_slice_get}
 use Rattle.rec_reader.specs.declared.token.Name.{Name}
 use Rattle.rec_reader.specs.declared.syntax_tree.Specification.{Specification}
-use Rattle.rec_includes.specs.Names.{same_text}
 use Rattle.rec_includes.specs.Material.{Header, brought, included, header_after, headers_of, material_of}
 use Rattle.rec_includes.specs.Listing.{place_in}
 use Rattle.rec_includes.specs.Numbered.{header_names, target}
 use Rattle.rec_includes.proofs.Places.{brought_at, material_at}
-use Rattle.rec_includes.proofs.Inputs.{headers_more, headers_counted}
+use Rattle.rec_includes.proofs.Gathered.{headers_more, headers_counted}
 
 -- ---- places in lists
-
--- an element of a front of a list
-pub slice_get_take : {X : Type 0} (xs : List X) (n p : ℕ) → p < n → slice_get (take n xs) p ≡ slice_get xs p
-slice_get_take xs zero p l = absurd (omega arith)
-slice_get_take [] (suc n) p l = refl
-slice_get_take (x ∷ xs) (suc n) zero l = refl
-slice_get_take (x ∷ xs) (suc n) (suc p) l = slice_get_take xs n p (omega arith)
 
 -- an element of the first of two lists
 pub slice_get_left : {X : Type 0} (xs ys : List X) (p : ℕ) → p < length xs → slice_get (xs ++ ys) p ≡ slice_get xs p
@@ -44,12 +37,7 @@ slice_get_none (x ∷ xs) (suc p) e = let h = slice_get_none xs p e in omega ari
 -- a place is within the list
 pub place_within : {A : Type 0} (test : A → Bool) (xs : List A) (p : ℕ) → place_in test xs ≡ Some p → p < length xs
 place_within test [] p e = absurd cc
-place_within test (x ∷ xs) p e = by (test x) (place_in test xs) (place_within test xs) e
-  where
-    by : (b : Bool) (o : Option ℕ) → ((q : ℕ) → o ≡ Some q → q < length xs) → cond b (Some 0) (option_map suc o) ≡ Some p → p < suc (length xs)
-    by true o rest h = let z : 0 ≡ p = cc in omega arith
-    by false None rest h = absurd cc
-    by false (Some q) rest h = let z : suc q ≡ p = cc in let l : q < length xs = rest q refl in omega arith
+place_within test (x ∷ xs) p e = grind (arith, place_within test xs)
 
 -- ---- headers
 
@@ -73,9 +61,7 @@ headers_before bytes xs n l = headers_counted bytes (take n xs) ∙ length-take-
 -- the headers with one specification more
 pub headers_suc : (bytes : List ℕ) (xs : List Specification) (n : ℕ) (x : Specification) → slice_get xs n ≡ Some x →
     headers_of bytes (take (suc n) xs) ≡ headers_of bytes (take n xs) ++ header_after bytes (headers_of bytes (take n xs)) x ∷ []
-headers_suc bytes xs n x e =
-    ap (headers_of bytes) (take-suc xs n x (slice_get_within xs n x e) ∙ ap (λ y. take n xs ++ y ∷ []) (get_or_from_slice_get xs n x x e))
-    ∙ headers_more bytes (take n xs) x
+headers_suc bytes xs n x e = grind (arith, nat_tests, take-suc xs n x (slice_get_within xs n x e), slice_get_within xs n x e, get_or_from_slice_get xs n x x e, headers_more bytes (take n xs) x)
 
 -- the header of each specification, among those of the first ones
 pub header_at : (bytes : List ℕ) (xs : List Specification) (n p : ℕ) (s : Specification) → slice_get xs p ≡ Some s → p < n →
@@ -112,32 +98,16 @@ header_at bytes xs (suc n) p s e l =
 -- the material of a specification among the headers of the first ones
 pub material_before : (bytes : List ℕ) (xs : List Specification) (n p : ℕ) → p < n → p < length xs → material_at (headers_of bytes (take n xs)) p ≡ material_of bytes xs p
 unfolding material_of
-material_before bytes xs n p l m = by (slice_get xs p) refl
-  where
-    by : (o : Option Specification) → slice_get xs p ≡ o →
-        option_map_or (λ h. h.material) (slice_get (headers_of bytes (take n xs)) p) [] ≡ option_map_or (λ s. (header_after bytes (headers_of bytes (take p xs)) s).material) o []
-    by None e = let h = slice_get_none xs p e in absurd (omega arith)
-    by (Some s) e = ap (λ o. option_map_or (λ h. h.material) o []) (header_at bytes xs n p s e l)
+material_before bytes xs n p l m = grind (arith, slice_get_none, header_at)
 
 -- the specification that an entry includes comes before the one with the entry
 pub target_before : (bytes : List ℕ) (xs : List Specification) (n : ℕ) (entry : Name) (p : ℕ) → target bytes (header_names xs) n entry ≡ Some p → (p < n) × (p < length xs)
-target_before bytes xs n entry p e =
-    let l : p < length (take n (header_names xs)) = place_within (same_text bytes entry) (take n (header_names xs)) p e in
-    let c = length-take n (header_names xs) in
-    let m = length-map xs (λ s. s.name) in
-    (omega arith, omega arith)
+target_before bytes xs n entry p e = grind (arith, place_within, length-take, length-map)
 
 -- what an entry brings is the material of the specification that it includes
 pub brought_target : (bytes : List ℕ) (xs : List Specification) (n : ℕ) (entry : Name) →
     brought bytes (headers_of bytes (take n xs)) entry ≡ option_map_or (material_of bytes xs) (target bytes (header_names xs) n entry) []
-brought_target bytes xs n entry =
-    brought_at bytes (headers_of bytes (take n xs)) entry
-    ∙ ap (λ ns. option_map_or (material_at (headers_of bytes (take n xs))) (place_in (same_text bytes entry) ns) []) (headers_named bytes (take n xs) ∙ sym (take-map (λ s. s.name) n xs))
-    ∙ by (target bytes (header_names xs) n entry) refl
-  where
-    by : (o : Option ℕ) → target bytes (header_names xs) n entry ≡ o → option_map_or (material_at (headers_of bytes (take n xs))) o [] ≡ option_map_or (material_of bytes xs) o []
-    by None e = refl
-    by (Some p) e = let l = target_before bytes xs n entry p e in material_before bytes xs n p l.0 l.1
+brought_target bytes xs n entry = grind (arith, brought_at, headers_named, take-map, target_before, material_before)
 
 -- an entry that includes no specification brings nothing
 pub brings_nothing : (bytes : List ℕ) (xs : List Specification) (n : ℕ) (entry : Name) → target bytes (header_names xs) n entry ≡ None → brought bytes (headers_of bytes (take n xs)) entry ≡ []
@@ -152,10 +122,7 @@ brings_material bytes xs n entry p e = brought_target bytes xs n entry ∙ ap (�
 pub material_is : (bytes : List ℕ) (xs : List Specification) (n : ℕ) (s : Specification) → slice_get xs n ≡ Some s →
     material_of bytes xs n ≡ included bytes (headers_of bytes (take n xs)) s.includes ++ n ∷ []
 unfolding material_of
-material_is bytes xs n s e =
-    let l : n < length xs = slice_get_within xs n s e in
-    ap (λ o. option_map_or (λ t. (header_after bytes (headers_of bytes (take n xs)) t).material) o []) e
-    ∙ ap (λ k. included bytes (headers_of bytes (take n xs)) s.includes ++ k ∷ []) (headers_before bytes xs n (omega arith))
+material_is bytes xs n s e = grind (arith, nat_tests, slice_get_within xs n s e, headers_before bytes xs n)
 
 -- a specification that isn't there has no material
 pub no_material : (bytes : List ℕ) (xs : List Specification) (n : ℕ) → slice_get xs n ≡ None → material_of bytes xs n ≡ []

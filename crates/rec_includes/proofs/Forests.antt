@@ -1,53 +1,281 @@
 -- The forest of specifications: what each includes first comes before it.
-use Rattle.std.proofs.Common.{◌≡◌, ℕ, ◌<◌, Bool, true, false, cond, List, [], ◌∷◌, length, get_or, nat_lt, slice_get, Option, Some, None, IfSome, refl, sym, ap, ◌∙◌, arith}
-use Rattle.std.specs.Option.{option_or, option_and_then}
+use Rattle.std.proofs.Common.{◌≡◌, ℕ, zero, suc, ◌<◌, Bool, true, false, cond, List, [], ◌∷◌, nat_eq, Option, Some, None, IfSome, refl, sym, ap, subst, ◌∙◌, ◌||◌, arith, true≢false, length, get_or, ◌-◌, ◌++◌, append-nil, length-append, set, All, Contains, length-set, get_or-set_other, get_or-set_same}
+use Rattle.std.specs.List.{list_any, AllByRecursion, IsDistinct}
+use Rattle.rec_includes.specs.Forest.{put, preorder, cut, Follows, parent_of, Leads}
 use Rattle.std.proofs.lemmas.Option.{slice_get-get_or}
-use Rattle.std.proofs.lemmas.Bool.Decides.{nat_tests}
 use Rattle.rec_reader.specs.declared.token.Name.{Name}
 use Rattle.rec_reader.specs.declared.syntax_tree.Specification.{Specification}
-use Rattle.rec_includes.specs.Names.{same_text}
-use Rattle.rec_includes.specs.Listing.{place_in}
-use Rattle.rec_includes.specs.Forest.{parent_of}
 use Rattle.rec_includes.specs.Numbered.{target, first_target}
-use Rattle.rec_includes.proofs.Fronts.{below, place_in_front}
+use Rattle.rec_includes.proofs.Places.{place_in_front, below}
+use Rattle.std.proofs.lemmas.List.Elements.{All-from_recursion}
+use Rattle.indexmap.proofs.CallerLemmas.{Contains-list_any}
 
-less_is : (p n : ℕ) → nat_lt p n ≡ true → p < n
-less_is p n h = grind (arith, nat_tests)
+-- ---- each number right after its parent: all numbers below a count are there, each once
+
+pub same_number : (m n : ℕ) → nat_eq m n ≡ true → m ≡ n
+same_number m n h = grind arith
+
+is_same : (m n : ℕ) → m ≡ n → nat_eq m n ≡ true
+is_same m n h = grind arith
+
+pub differs : (m n : ℕ) → m < n → nat_eq n m ≡ false
+differs m n h = grind arith
+
+pub differs_back : (m n : ℕ) → m < n → nat_eq m n ≡ false
+differs_back m n h = grind arith
+
+pub not_same : (m n : ℕ) → nat_eq m n ≡ false → n ≡ m → ⊥
+not_same m n h e = true≢false (sym (is_same m n (sym e)) ∙ h)
+
+less : (m n : ℕ) → nat_eq m n ≡ false → m < suc n → m < n
+less m n h l = grind arith
+
+pub either_more : (a x y : Bool) → (x ≡ true → y ≡ true) → (a || x) ≡ true → (a || y) ≡ true
+either_more a x y f h = grind arith
+
+pub or_true : (a x : Bool) → x ≡ true → (a || x) ≡ true
+or_true a x h = grind arith
+
+pub true_or : (a x : Bool) → a ≡ true → (a || x) ≡ true
+true_or a x h = ap (λ b. b || x) h
+
+-- what holds of all numbers holds with one more
+put_all : (P : ℕ → Type 0) (o : Option ℕ) (n : ℕ) (ns : List ℕ) → P n → AllByRecursion P ns → AllByRecursion P (put o n ns)
+put_all P None n ns p h = (p, h)
+put_all P (Some q) n [] p h = tt
+put_all P (Some q) n (m ∷ ms) p h = grind (arith, put_all P (Some q) n ms p h.1)
+
+pub apart : (n : ℕ) (ns : List ℕ) → AllByRecursion (λ m. m < n) ns → AllByRecursion (λ m. nat_eq n m ≡ false) ns
+apart n [] h = tt
+apart n (m ∷ ms) h = (differs m n h.0, apart n ms h.1)
+
+one_more : (n : ℕ) (ns : List ℕ) → AllByRecursion (λ m. m < n) ns → AllByRecursion (λ m. m < suc n) ns
+one_more n [] h = tt
+one_more n (m ∷ ms) h = (let l = h.0 in omega (arith, l), one_more n ms h.1)
+
+put_distinct : (o : Option ℕ) (n : ℕ) (ns : List ℕ) → IsDistinct nat_eq ns → AllByRecursion (λ m. m < n) ns → IsDistinct nat_eq (put o n ns)
+unfolding IsDistinct
+put_distinct None n ns d l = (apart n ns l, d)
+put_distinct (Some q) n [] d l = tt
+put_distinct (Some q) n (m ∷ ms) d l = by (nat_eq q m) (put_distinct (Some q) n ms d.1 l.1)
+  where
+    by : (b : Bool) → IsDistinct nat_eq (put (Some q) n ms) → IsDistinct nat_eq (cond b (m ∷ n ∷ ms) (m ∷ put (Some q) n ms))
+    by true r = ((differs_back m n l.0, d.0), (apart n ms l.1, d.1))
+    by false r = (put_all (λ y. nat_eq m y ≡ false) (Some q) n ms (differs_back m n l.0) d.0, r)
+
+put_keeps : (t : ℕ → Bool) (o : Option ℕ) (n : ℕ) (ns : List ℕ) → list_any t ns ≡ true → list_any t (put o n ns) ≡ true
+put_keeps t None n ns h = or_true (t n) (list_any t ns) h
+put_keeps t (Some q) n [] h = h
+put_keeps t (Some q) n (m ∷ ms) h = grind (arith, put_keeps t (Some q) n ms)
+
+put_adds : (o : Option ℕ) (n : ℕ) (ns : List ℕ) → IfSome o (λ q. list_any (nat_eq q) ns ≡ true) → list_any (nat_eq n) (put o n ns) ≡ true
+put_adds None n ns h = true_or (nat_eq n n) (list_any (nat_eq n) ns) (is_same n n refl)
+put_adds (Some q) n [] h = h
+put_adds (Some q) n (m ∷ ms) h = grind (arith, put_adds (Some q) n ms)
+
+pub preorder_below : (parent : ℕ → Option ℕ) (n : ℕ) → AllByRecursion (λ m. m < n) (preorder parent n)
+preorder_below parent zero = tt
+preorder_below parent (suc n) = put_all (λ m. m < suc n) (parent n) n (preorder parent n) (omega arith) (one_more n (preorder parent n) (preorder_below parent n))
+
+pub preorder_distinct : (parent : ℕ → Option ℕ) (n : ℕ) → IsDistinct nat_eq (preorder parent n)
+unfolding IsDistinct
+preorder_distinct parent zero = tt
+preorder_distinct parent (suc n) = put_distinct (parent n) n (preorder parent n) (preorder_distinct parent n) (preorder_below parent n)
+
+pub preorder_has : (parent : ℕ → Option ℕ) → ((n p : ℕ) → parent n ≡ Some p → p < n) → (n m : ℕ) → m < n → list_any (nat_eq m) (preorder parent n) ≡ true
+preorder_has parent before zero m l = absurd (omega arith)
+preorder_has parent before (suc n) m l = by (nat_eq m n) refl (λ k. preorder_has parent before n k)
+  where
+    earlier : (o : Option ℕ) → parent n ≡ o → ((k : ℕ) → k < n → list_any (nat_eq k) (preorder parent n) ≡ true) → IfSome o (λ q. list_any (nat_eq q) (preorder parent n) ≡ true)
+    earlier None e r = tt
+    earlier (Some q) e r = r q (before n q e)
+
+    by : (b : Bool) → nat_eq m n ≡ b → ((k : ℕ) → k < n → list_any (nat_eq k) (preorder parent n) ≡ true) → list_any (nat_eq m) (preorder parent (suc n)) ≡ true
+    by true e r = subst (λ k. list_any (nat_eq k) (preorder parent (suc n)) ≡ true) (sym (same_number m n e)) (put_adds (parent n) n (preorder parent n) (earlier (parent n) refl r))
+    by false e r = put_keeps (nat_eq m) (parent n) n (preorder parent n) (r m (less m n e l))
+
+-- ---- in this order a number's parent is on the path when its turn comes
+
+-- the numbers of the first path are on the second, in the same order
+data Within : List ℕ → List ℕ → Type 0 where
+  none : Within [] []
+  same : {x : ℕ} {xs ys : List ℕ} → Within xs ys → Within (x ∷ xs) (x ∷ ys)
+  more : {y : ℕ} {xs ys : List ℕ} → Within xs ys → Within xs (y ∷ ys)
+
+itself : (xs : List ℕ) → Within xs xs
+itself [] = none
+itself (x ∷ xs) = same (itself xs)
+
+cut_one : (p : ℕ) {xs ys : List ℕ} → Within xs ys → Within (cut (Some p) xs) ys
+cut_one p none = none
+cut_one p (same {x = x} {xs = xs} {ys = ys} s) = by (nat_eq p x) (cut_one p s)
+  where
+    by : (b : Bool) → Within (cut (Some p) xs) ys → Within (cond b (x ∷ xs) (cut (Some p) xs)) (x ∷ ys)
+    by true r = same s
+    by false r = more r
+cut_one p (more s) = more (cut_one p s)
+
+cut_both : (p : ℕ) {xs ys : List ℕ} → Within xs ys → Within (cut (Some p) xs) (cut (Some p) ys)
+cut_both p none = none
+cut_both p (same {x = x} {xs = xs} {ys = ys} s) = by (nat_eq p x) (cut_both p s)
+  where
+    by : (b : Bool) → Within (cut (Some p) xs) (cut (Some p) ys) → Within (cond b (x ∷ xs) (cut (Some p) xs)) (cond b (x ∷ ys) (cut (Some p) ys))
+    by true r = same s
+    by false r = r
+cut_both p (more {y = y} {xs = xs} {ys = ys} s) = by (nat_eq p y) (cut_both p s)
+  where
+    by : (b : Bool) → Within (cut (Some p) xs) (cut (Some p) ys) → Within (cut (Some p) xs) (cond b (y ∷ ys) (cut (Some p) ys))
+    by true r = more (cut_one p s)
+    by false r = r
+
+any_within : (t : ℕ → Bool) {xs ys : List ℕ} → Within xs ys → list_any t xs ≡ true → list_any t ys ≡ true
+any_within t none h = h
+any_within t (same {x = x} {xs = xs} {ys = ys} s) h = either_more (t x) (list_any t xs) (list_any t ys) (any_within t s) h
+any_within t (more {y = y} {xs = xs} {ys = ys} s) h = or_true (t y) (list_any t ys) (any_within t s h)
+
+-- a path that has more has the parents too
+follows_within : (parent : ℕ → Option ℕ) (xs ys ns : List ℕ) → Within xs ys → Follows parent xs ns → Follows parent ys ns
+follows_within parent xs ys [] s h = tt
+follows_within parent xs ys (n ∷ ns) s h = by (parent n) h (λ vs ws. follows_within parent vs ws ns)
+  where
+    by : (o : Option ℕ) → IfSome o (λ p. list_any (nat_eq p) xs ≡ true) × Follows parent (n ∷ cut o xs) ns →
+        ((vs ws : List ℕ) → Within vs ws → Follows parent vs ns → Follows parent ws ns) →
+        IfSome o (λ p. list_any (nat_eq p) ys ≡ true) × Follows parent (n ∷ cut o ys) ns
+    by None g r = g
+    by (Some p) g r = (any_within (nat_eq p) s g.0, r (n ∷ cut (Some p) xs) (n ∷ cut (Some p) ys) (same (cut_both p s)) g.1)
+
+-- what `Follows` says of a number and those after it, where the number has this parent
+abbrev Turn : (parent : ℕ → Option ℕ) (path : List ℕ) (n : ℕ) (ns : List ℕ) → Option ℕ → Type 0
+Turn parent path n ns o = IfSome o (λ p. list_any (nat_eq p) path ≡ true) × Follows parent (n ∷ cut o path) ns
+
+follows_put : (parent : ℕ → Option ℕ) (n p : ℕ) (path ns : List ℕ) → parent n ≡ Some p → Follows parent path ns → Follows parent path (put (Some p) n ns)
+follows_put parent n p path [] e h = tt
+follows_put parent n p path (m ∷ ms) e h = by (nat_eq p m) refl (follows_put parent n p (m ∷ cut (parent m) path) ms e h.1)
+  where
+    by : (b : Bool) → nat_eq p m ≡ b → Follows parent (m ∷ cut (parent m) path) (put (Some p) n ms) → Follows parent path (cond b (m ∷ n ∷ ms) (m ∷ put (Some p) n ms))
+    by true f r =
+        let at = m ∷ cut (parent m) path in
+        let rest = cut (Some p) (cut (parent m) path) in
+        let there = follows_within parent at (n ∷ at) ms (more (itself at)) h.1 in
+        let turn : Turn parent at n ms (Some p) = (
+          true_or (nat_eq p m) (list_any (nat_eq p) (cut (parent m) path)) f,
+          subst (λ b. Follows parent (n ∷ cond b at rest) ms) (sym f) there,
+        ) in
+        (h.0, subst (Turn parent at n ms) (sym e) turn)
+    by false f r = (h.0, r)
+
+pub preorder_follows : (parent : ℕ → Option ℕ) (n : ℕ) → Follows parent [] (preorder parent n)
+preorder_follows parent zero = tt
+preorder_follows parent (suc n) = by (parent n) refl (preorder_follows parent n)
+  where
+    by : (o : Option ℕ) → parent n ≡ o → Follows parent [] (preorder parent n) → Follows parent [] (put o n (preorder parent n))
+    by None e r = subst (Turn parent [] n (preorder parent n)) (sym e) (tt, follows_within parent [] (n ∷ []) (preorder parent n) (more none) r)
+    by (Some p) e r = follows_put parent n p [] (preorder parent n) e r
 
 -- what an entry includes comes before
 target_before : (bytes : List ℕ) (headers : List Name) (number p : ℕ) (entry : Name) → target bytes headers number entry ≡ Some p → p < number
-target_before bytes headers number p entry h = by (place_in (same_text bytes entry) headers) (sym (place_in_front (same_text bytes entry) number headers) ∙ h)
-  where
-    by : (o : Option ℕ) → below number o ≡ Some p → p < number
-    by None e = absurd cc
-    by (Some q) e = before (nat_lt q number) refl e
-      where
-        before : (b : Bool) → nat_lt q number ≡ b → cond b (Some q) None ≡ Some p → p < number
-        before true l f = let same : q ≡ p = cc in let m = less_is q number l in omega (arith, same, m)
-        before false l f = absurd cc
+target_before bytes headers number p entry h = grind (arith, place_in_front)
 
 pub first_before : (bytes : List ℕ) (headers : List Name) (number p : ℕ) (entries : List Name) → first_target bytes headers number entries ≡ Some p → p < number
 first_before bytes headers number p [] h = absurd cc
-first_before bytes headers number p (n ∷ ns) h = by (target bytes headers number n) refl h (first_before bytes headers number p ns)
-  where
-    by : (o : Option ℕ) → target bytes headers number n ≡ o → option_or o (first_target bytes headers number ns) ≡ Some p →
-        (first_target bytes headers number ns ≡ Some p → p < number) → p < number
-    by None e f rest = rest f
-    by (Some q) e f rest = target_before bytes headers number p n (e ∙ f)
+first_before bytes headers number p (n ∷ ns) h = grind (arith, first_before bytes headers number p ns, target_before)
 
 pub parent_before : (bytes : List ℕ) (headers : List Name) (specifications : List Specification) (n p : ℕ) → parent_of bytes headers specifications n ≡ Some p → p < n
-parent_before bytes headers specifications n p e = by (slice_get specifications n) e
-  where
-    by : (o : Option Specification) → option_and_then (λ s. first_target bytes headers n s.includes) o ≡ Some p → p < n
-    by None f = absurd cc
-    by (Some s) f = first_before bytes headers n p s.includes f
+parent_before bytes headers specifications n p e = grind (arith, first_before)
 
 -- what a specification includes first, where it is the one at hand
 pub parent_is : (bytes : List ℕ) (headers : List Name) (specifications : List Specification) (n : ℕ) (s : Specification) → n < length specifications →
     first_target bytes headers n (get_or specifications n s).includes ≡ parent_of bytes headers specifications n
-parent_is bytes headers specifications n s l =
-    ap (option_and_then (λ t. first_target bytes headers n t.includes)) (sym (slice_get-get_or specifications n s l))
+parent_is bytes headers specifications n s l = grind (arith, slice_get-get_or)
 
 pub all_before : (parent : Option ℕ) (n : ℕ) → ((p : ℕ) → parent ≡ Some p → p < n) → IfSome parent (λ p. p < n)
-all_before None n h = tt
-all_before (Some p) n h = h p refl
+all_before parent n h = grind arith
+
+-- ---- the order as a chain of links, each number's to the next
+
+-- a link that none of these numbers has is written
+leads_other : (next : List (Option ℕ)) (k : ℕ) (v at : Option ℕ) (ns : List ℕ) → AllByRecursion (λ y. nat_eq k y ≡ false) ns → Leads next at ns → Leads (set next k v) at ns
+leads_other next k v at [] a h = h
+leads_other next k v at (n ∷ ns) a h = grind (arith, leads_other next k v (get_or next n None) ns a.1 h.2, length-set, get_or-set_other)
+
+-- a number is put first
+pub leads_first : (next : List (Option ℕ)) (n : ℕ) (at : Option ℕ) (ns : List ℕ) → n < length next → AllByRecursion (λ m. m < n) ns → Leads next at ns →
+    Leads (set next n at) (Some n) (n ∷ ns)
+leads_first next n at ns l below h = grind (arith, length-set, get_or-set_same, leads_other, apart)
+
+-- a number is put after the first
+leads_here : (next : List (Option ℕ)) (n p : ℕ) (at : Option ℕ) (ns : List ℕ) → n < length next → p < n →
+    AllByRecursion (λ y. nat_eq p y ≡ false) ns → AllByRecursion (λ m. m < n) ns → Leads next at (p ∷ ns) →
+    Leads (set (set next n (get_or next p None)) p (Some n)) at (p ∷ n ∷ ns)
+leads_here next n p at ns l m differ below h = grind (arith, length-set, get_or-set_other, get_or-set_same, leads_other, apart)
+
+pub leads_after : (next : List (Option ℕ)) (n p : ℕ) (at : Option ℕ) (ns : List ℕ) → n < length next → p < n →
+    IsDistinct nat_eq ns → AllByRecursion (λ m. m < n) ns → Leads next at ns →
+    Leads (set (set next n (get_or next p None)) p (Some n)) at (put (Some p) n ns)
+unfolding IsDistinct
+leads_after next n p at [] l m d below h = h
+leads_after next n p at (q ∷ qs) l m d below h = by (nat_eq p q) refl (leads_after next n p (get_or next q None) qs l m d.1 below.1 h.2)
+  where
+    by : (b : Bool) → nat_eq p q ≡ b → Leads (set (set next n (get_or next p None)) p (Some n)) (get_or next q None) (put (Some p) n qs) →
+        Leads (set (set next n (get_or next p None)) p (Some n)) at (cond b (q ∷ n ∷ qs) (q ∷ put (Some p) n qs))
+    by true e r =
+        let is : q ≡ p = sym (same_number p q e) in
+        let new = set (set next n (get_or next p None)) p (Some n) in
+        let differ = subst (λ k. AllByRecursion (λ y. nat_eq k y ≡ false) qs) is d.0 in
+        let there = subst (λ k. Leads next at (k ∷ qs)) is h in
+        subst (λ k. Leads new at (k ∷ n ∷ qs)) (sym is) (leads_here next n p at qs l m differ below.1 there)
+    by false e r =
+        let v = get_or next p None in
+        let one = set next n v in
+        let new = set one p (Some n) in
+        let k : length one ≡ length next = length-set next n v in
+        let j : length new ≡ length one = length-set one p (Some n) in
+        let in_range = h.1 in
+        let long : q < length new = omega (arith, j, k, in_range) in
+        let link : get_or new q None ≡ get_or next q None =
+        get_or-set_other one p q (Some n) None (not_same p q e) ∙ get_or-set_other next n q v None (not_same n q (differs q n below.0)) in
+        (h.0, long, subst (λ o. Leads new o (put (Some p) n qs)) (sym link) r)
+
+-- a step over the links
+pub leads_step : (next : List (Option ℕ)) (at : Option ℕ) (n : ℕ) (left : List ℕ) → Leads next at left → at ≡ Some n →
+    (rest : List ℕ) × (left ≡ n ∷ rest) × (n < length next) × Leads next (get_or next n None) rest
+leads_step next at n [] h e = absurd cc
+leads_step next at n (m ∷ ms) h e = grind arith
+
+pub leads_end : (next : List (Option ℕ)) (left : List ℕ) → Leads next None left → left ≡ []
+leads_end next [] h = refl
+leads_end next (m ∷ ms) h = let first = h.0 in absurd cc
+
+-- where the links end, all is in order
+pub all_there : (next : List (Option ℕ)) (at : Option ℕ) (order left all : List ℕ) → at ≡ None → Leads next at left → order ++ left ≡ all → order ≡ all
+all_there next at order left all e h is = grind (arith, leads_end, append-nil)
+
+pub one_less : (order new left rest all : List ℕ) (n : ℕ) → new ≡ order ++ n ∷ [] → left ≡ n ∷ rest → order ++ left ≡ all →
+    length all - length new < length all - length order
+one_less order new left rest all n pushed first is = grind (arith, length-append)
+
+-- numbers in order: all below a count and no others, each once, and each where its parent is on the path
+pub record IsOrder (parent : ℕ → Option ℕ) (count : ℕ) (ns : List ℕ) : Type 0 where
+  pub all : (n : ℕ) → n < count → Contains ns n
+  pub no_others : All (λ n. n < count) ns
+  pub once : IsDistinct nat_eq ns
+  pub near : Follows parent [] ns
+
+preorder_is : (parent : ℕ → Option ℕ) → ((n p : ℕ) → parent n ≡ Some p → p < n) → (count : ℕ) → IsOrder parent count (preorder parent count)
+preorder_is parent before count =
+    let ns = preorder parent count in
+    record {
+      all = λ n l. Contains-list_any nat_eq same_number ns n (preorder_has parent before count n l);
+      no_others = All-from_recursion (λ n. n < count) ns (preorder_below parent count);
+      once = preorder_distinct parent count;
+      near = preorder_follows parent count;
+    }
+
+-- where the links end, all numbers are in order
+pub in_order : (bytes : List ℕ) (headers : List Name) (specifications : List Specification) (next : List (Option ℕ)) (at : Option ℕ) (order left : List ℕ) →
+    at ≡ None → Leads next at left → order ++ left ≡ preorder (parent_of bytes headers specifications) (length specifications) →
+    IsOrder (parent_of bytes headers specifications) (length specifications) order
+in_order bytes headers specifications next at order left e h is =
+    let parent = parent_of bytes headers specifications in
+    let count = length specifications in
+    subst (IsOrder parent count) (sym (all_there next at order left (preorder parent count) e h is)) (preorder_is parent (parent_before bytes headers specifications) count)

@@ -1,6 +1,6 @@
 -- Numbers that are added to others, each once at its first mention.
-use Rattle.std.proofs.Common.{◌≡◌, ℕ, Bool, true, false, ◌||◌, ◌&&◌, cond, List, [], ◌∷◌, ◌++◌, append_assoc, append-nil, nat_eq, refl, sym, ap, ◌∙◌, eqb-true, eq-eqb}
-use Rattle.std.specs.List.{list_any, list_all}
+use Rattle.std.proofs.Common.{arith, ◌≡◌, ℕ, Bool, true, false, ◌||◌, cond, List, [], ◌∷◌, ◌++◌, append_assoc, append-nil, nat_eq, refl, sym, ap, ◌∙◌, eq-eqb}
+use Rattle.std.specs.List.{list_any}
 use Rattle.std.proofs.lemmas.List.Folds.{list_any-append}
 use Rattle.rec_includes.specs.Material.{fresh, with_numbers}
 
@@ -13,24 +13,14 @@ abbrev pub with_number : List ℕ → ℕ → List ℕ
 with_number numbers n = cond (has numbers n) numbers (numbers ++ n ∷ [])
 
 or_false : (b : Bool) → (b || false) ≡ b
-or_false true = refl
-or_false false = refl
+or_false b = grind arith
 
 pub or_true : (b : Bool) → (b || true) ≡ true
-or_true true = refl
-or_true false = refl
-
-or_assoc : (a b c : Bool) → ((a || b) || c) ≡ (a || (b || c))
-or_assoc true b c = refl
-or_assoc false b c = refl
+or_true b = grind arith
 
 -- the first of several numbers is added before the others
 pub first_number : (ks ns : List ℕ) (n : ℕ) → with_numbers ks (n ∷ ns) ≡ with_numbers (with_number ks n) ns
-first_number ks ns n = by (has ks n)
-  where
-    by : (b : Bool) → ks ++ cond b (fresh ks ns) (n ∷ fresh (ks ++ n ∷ []) ns) ≡ with_numbers (cond b ks (ks ++ n ∷ [])) ns
-    by true = refl
-    by false = sym (append_assoc ks (n ∷ []) (fresh (ks ++ n ∷ []) ns))
+first_number ks ns n = grind (arith, append_assoc)
 
 -- to add no numbers changes nothing
 pub no_numbers : (ks : List ℕ) → with_numbers ks [] ≡ ks
@@ -47,10 +37,7 @@ nothing_new ks ns e = ap (λ f. ks ++ f) e ∙ append-nil ks
 -- numbers that are added together are added one list after the other
 pub with_append : (m a b : List ℕ) → with_numbers m (a ++ b) ≡ with_numbers (with_numbers m a) b
 with_append m [] b = ap (λ k. with_numbers k b) (sym (no_numbers m))
-with_append m (n ∷ a) b =
-    first_number m (a ++ b) n
-    ∙ with_append (with_number m n) a b
-    ∙ ap (λ k. with_numbers k b) (sym (first_number m a n))
+with_append m (n ∷ a) b = grind (arith, with_append (with_number m n) a b, first_number)
 
 -- a number is among two lists where it is among one of them
 pub has_append : (a b : List ℕ) (j : ℕ) → has (a ++ b) j ≡ (has a j || has b j)
@@ -58,26 +45,12 @@ has_append a b j = list_any-append (nat_eq j) a b
 
 -- which numbers there are when one was added
 pub has_one : (ks : List ℕ) (n j : ℕ) → has (with_number ks n) j ≡ (has ks j || nat_eq j n)
-has_one ks n j = by (has ks n) refl
-  where
-    there : has ks n ≡ true → (c : Bool) → nat_eq j n ≡ c → has ks j ≡ (has ks j || c)
-    there e true f =
-        let t : has ks j ≡ true = ap (has ks) (eqb-true j n f) ∙ e in
-        t ∙ sym (or_true (has ks j))
-    there e false f = sym (or_false (has ks j))
-
-    by : (b : Bool) → has ks n ≡ b → has (cond b ks (ks ++ n ∷ [])) j ≡ (has ks j || nat_eq j n)
-    by true e = there e (nat_eq j n) refl
-    by false e = has_append ks (n ∷ []) j ∙ ap (λ c. has ks j || c) (or_false (nat_eq j n))
+has_one ks n j = grind (arith, has_append)
 
 -- which numbers there are when some were added: those that were there, and those that were added
 pub has_with : (ks ns : List ℕ) (j : ℕ) → has (with_numbers ks ns) j ≡ (has ks j || has ns j)
 has_with ks [] j = ap (λ k. has k j) (no_numbers ks) ∙ sym (or_false (has ks j))
-has_with ks (n ∷ ns) j =
-    ap (λ k. has k j) (first_number ks ns n)
-    ∙ has_with (with_number ks n) ns j
-    ∙ ap (λ b. b || has ns j) (has_one ks n j)
-    ∙ or_assoc (has ks j) (nat_eq j n) (has ns j)
+has_with ks (n ∷ ns) j = grind (arith, has_with (with_number ks n) ns j, first_number, has_one)
 
 -- a number that was there is there when some were added
 pub has_before : (ks ns : List ℕ) (j : ℕ) → has ks j ≡ true → has (with_numbers ks ns) j ≡ true
@@ -93,20 +66,12 @@ has_first n ns = ap (λ b. b || has ns n) (eq-eqb n n refl)
 
 -- one number is added to what has been gathered of two lists
 with_one : (m a : List ℕ) (n : ℕ) → with_numbers m (with_number a n) ≡ with_number (with_numbers m a) n
-with_one m a n = by (has a n) refl
-  where
-    by : (b : Bool) → has a n ≡ b → with_numbers m (cond b a (a ++ n ∷ [])) ≡ with_number (with_numbers m a) n
-    by true e = sym (ap (λ b. cond b (with_numbers m a) (with_numbers m a ++ n ∷ [])) (has_added m a n e))
-    by false e = with_append m a (n ∷ []) ∙ one_number (with_numbers m a) n
+with_one m a n = grind (arith, has_added, with_append, one_number)
 
 -- what was gathered from two lists is added as the two lists are
 pub with_with : (m a b : List ℕ) → with_numbers m (with_numbers a b) ≡ with_numbers (with_numbers m a) b
 with_with m a [] = ap (with_numbers m) (no_numbers a) ∙ sym (no_numbers (with_numbers m a))
-with_with m a (n ∷ b) =
-    ap (with_numbers m) (first_number a b n)
-    ∙ with_with m (with_number a n) b
-    ∙ ap (λ k. with_numbers k b) (with_one m a n)
-    ∙ sym (first_number (with_numbers m a) b n)
+with_with m a (n ∷ b) = grind (arith, with_with m (with_number a n) b, first_number, with_one)
 
 -- each of these numbers is among those
 pub record Within (ns ms : List ℕ) : Type 0 where
@@ -130,39 +95,13 @@ within_added ks ns = record { each = λ j h. has_added ks ns j h }
 
 -- of two lists, where each is within
 pub within_both : (a b ms : List ℕ) → Within a ms → Within b ms → Within (with_numbers a b) ms
-within_both a b ms v w = record { each = λ j h. by j (has a j) refl (sym (has_with a b j) ∙ h) }
-  where
-    by : (j : ℕ) (c : Bool) → has a j ≡ c → (has a j || has b j) ≡ true → has ms j ≡ true
-    by j true e h = v.each j e
-    by j false e h = w.each j (ap (λ c. c || has b j) (sym e) ∙ h)
+within_both a b ms v w = grind (arith, has_with)
 
 -- nothing is new where each is there
 pub none_fresh : (ns ms : List ℕ) → Within ms ns → fresh ns ms ≡ []
 none_fresh ns [] w = refl
-none_fresh ns (m ∷ ms) w =
-    ap (λ b. cond b (fresh ns ms) (m ∷ fresh (ns ++ m ∷ []) ms)) (w.each m (has_first m ms))
-    ∙ none_fresh ns ms (record { each = λ j h. w.each j (ap (λ b. nat_eq j m || b) h ∙ or_true (nat_eq j m)) })
+none_fresh ns (m ∷ ms) w = grind (arith, none_fresh ns ms)
 
 -- each is there where nothing is new
 pub within_fresh : (ns ms : List ℕ) → fresh ns ms ≡ [] → Within ms ns
 within_fresh ns ms e = record { each = λ j h. ap (λ k. has k j) (sym (nothing_new ns ms e)) ∙ has_added ns ms j h }
-
--- each is there, as a test
-pub within_test : (ns ms : List ℕ) → list_all (has ns) ms ≡ true → Within ms ns
-within_test ns [] h = within_none ns
-within_test ns (m ∷ ms) h = by (has ns m) refl h (within_test ns ms)
-  where
-    one : has ns m ≡ true → Within ms ns → (j : ℕ) (c : Bool) → nat_eq j m ≡ c → (c || has ms j) ≡ true → has ns j ≡ true
-    one e w j true f k = ap (has ns) (eqb-true j m f) ∙ e
-    one e w j false f k = w.each j k
-
-    by : (b : Bool) → has ns m ≡ b → (b && list_all (has ns) ms) ≡ true → (list_all (has ns) ms ≡ true → Within ms ns) → Within (m ∷ ms) ns
-    by false e h rest = absurd cc
-    by true e h rest = record { each = λ j k. one e (rest h) j (nat_eq j m) refl k }
-
--- the test holds where each is there
-pub test_within : (ns ms : List ℕ) → Within ms ns → list_all (has ns) ms ≡ true
-test_within ns [] w = refl
-test_within ns (m ∷ ms) w =
-    let rest = test_within ns ms (record { each = λ j h. w.each j (ap (λ b. nat_eq j m || b) h ∙ or_true (nat_eq j m)) }) in
-    λ i. w.each m (has_first m ms) i && rest i

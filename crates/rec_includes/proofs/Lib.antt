@@ -1,15 +1,7 @@
 pub mod Gathered
 pub mod Places
-pub mod Fronts
 pub mod Forests
-pub mod Preorders
-pub mod Paths
-pub mod Chains
-pub mod Inputs
 pub mod Fresh
 pub mod Brought
 pub mod Materials
-pub mod Closed
 pub mod Walk
-pub mod Steps
-pub mod Weight

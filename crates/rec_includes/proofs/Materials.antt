@@ -1,10 +1,11 @@
 -- The numbers of a material: how large they are, and that none stands twice.
-use Rattle.std.proofs.Common.{◌≡◌, ℕ, zero, suc, ◌<◌, ◌≤◌, Bool, true, false, ◌||◌, cond, List, [], ◌∷◌, ◌++◌, fold, take, slice_get, nat_eq, Option, Some, None, refl, sym, ap, subst, ◌∙◌, arith, eqb-true}
+use Rattle.std.proofs.lemmas.Bool.Decides.{nat_tests}
+use Rattle.std.proofs.Common.{◌≡◌, ℕ, zero, suc, ◌<◌, ◌≤◌, true, ◌||◌, List, [], ◌∷◌, ◌++◌, fold, take, slice_get, Option, Some, None, refl, sym, ap, subst, ◌∙◌, arith, eqb-true}
 use Rattle.rec_reader.specs.declared.token.Name.{Name}
 use Rattle.rec_reader.specs.declared.syntax_tree.Specification.{Specification}
 use Rattle.rec_includes.specs.Material.{Header, brought, included, with_numbers, headers_of, material_of}
-use Rattle.rec_includes.specs.Numbered.{header_names, target}
-use Rattle.rec_includes.proofs.Fresh.{has, with_number, has_append, has_with, no_numbers, one_number, with_append, with_with}
+use Rattle.rec_includes.specs.Numbered.{header_names, target, IsClosed}
+use Rattle.rec_includes.proofs.Fresh.{has, with_number, has_append, has_with, no_numbers, one_number, with_append, with_with, has_one, Within, within_along, within_more, within_added, none_fresh, within_fresh}
 use Rattle.rec_includes.proofs.Brought.{target_before, brings_nothing, brings_material, material_is, no_material}
 
 -- ---- how large numbers are
@@ -23,18 +24,10 @@ below_larger a b ns l w = record { each = λ j h. let k = w.each j h in omega ar
 
 -- one number
 pub below_one : (bound n : ℕ) → n < bound → Below bound (n ∷ [])
-below_one bound n l = record { each = λ j h. by j (nat_eq j n) refl h }
-  where
-    by : (j : ℕ) (c : Bool) → nat_eq j n ≡ c → (c || false) ≡ true → j < bound
-    by j true e h = let same : j ≡ n = eqb-true j n e in omega arith
-    by j false e h = absurd cc
+below_one bound n l = grind arith
 
 either_below : (bound : ℕ) (ks ns : List ℕ) → Below bound ks → Below bound ns → (j : ℕ) → (has ks j || has ns j) ≡ true → j < bound
-either_below bound ks ns v w j h = by (has ks j) refl h
-  where
-    by : (c : Bool) → has ks j ≡ c → (c || has ns j) ≡ true → j < bound
-    by true e h = v.each j e
-    by false e h = w.each j h
+either_below bound ks ns v w j h = grind arith
 
 -- two lists, one after the other
 pub below_append : (bound : ℕ) (ks ns : List ℕ) → Below bound ks → Below bound ns → Below bound (ks ++ ns)
@@ -66,16 +59,7 @@ module _ (bytes : List ℕ) (xs : List Specification) where
 
   material_below_from : (fuel n : ℕ) → n < fuel → Below (suc n) (material_of bytes xs n)
   material_below_from zero n l = absurd (omega arith)
-  material_below_from (suc fuel) n l = by (slice_get xs n) refl (λ p m. material_below_from fuel p (omega arith))
-    where
-      by : (o : Option Specification) → slice_get xs n ≡ o → ((p : ℕ) → p < n → Below (suc p) (material_of bytes xs p)) → Below (suc n) (material_of bytes xs n)
-      by None e each = subst (λ ns. Below (suc n) ns) (sym (no_material bytes xs n e)) (below_none (suc n))
-      by (Some s) e each =
-          let hs = headers_of bytes (take n xs) in
-          subst (λ ns. Below (suc n) ns) (sym (material_is bytes xs n s e))
-          (below_append (suc n) (included bytes hs s.includes) (n ∷ [])
-          (below_larger n (suc n) (included bytes hs s.includes) (omega arith) (below_gathered n bytes hs (brings_below_from n each) s.includes [] (below_none n)))
-          (below_one (suc n) n (omega arith)))
+  material_below_from (suc fuel) n l = grind (arith, nat_tests, material_below_from fuel, no_material bytes, below_none (suc n), below_none n, material_is bytes, below_append (suc n), below_larger n (suc n), below_gathered n bytes, brings_below_from n, below_one (suc n) n)
 
   -- no number of a specification's material is above its own
   pub material_below : (n : ℕ) → Below (suc n) (material_of bytes xs n)
@@ -94,9 +78,7 @@ module _ (bytes : List ℕ) (xs : List Specification) where
 -- what was gathered is added as if it were gathered anew
 pub with_gathered : (bytes : List ℕ) (hs : List Header) (m : List ℕ) (es : List Name) (ks : List ℕ) → with_numbers m (gathered bytes hs ks es) ≡ gathered bytes hs (with_numbers m ks) es
 with_gathered bytes hs m [] ks = refl
-with_gathered bytes hs m (e ∷ es) ks =
-    with_gathered bytes hs m es (with_numbers ks (brought bytes hs e))
-    ∙ ap (λ k. gathered bytes hs k es) (with_with m ks (brought bytes hs e))
+with_gathered bytes hs m (e ∷ es) ks = grind (arith, with_gathered bytes hs m es (with_numbers ks (brought bytes hs e)), with_with)
 
 -- to add what entries bring is to gather it
 pub with_included : (bytes : List ℕ) (hs : List Header) (m : List ℕ) (es : List Name) → with_numbers m (included bytes hs es) ≡ gathered bytes hs m es
@@ -104,28 +86,17 @@ with_included bytes hs m es = with_gathered bytes hs m es [] ∙ ap (λ k. gathe
 
 -- a number is new to smaller ones
 pub number_new : (n : ℕ) (ns : List ℕ) → Below n ns → with_number ns n ≡ ns ++ n ∷ []
-number_new n ns w = by (has ns n) refl
-  where
-    by : (b : Bool) → has ns n ≡ b → cond b ns (ns ++ n ∷ []) ≡ ns ++ n ∷ []
-    by true e = let h = w.each n e in absurd (omega arith)
-    by false e = refl
+number_new n ns w = grind arith
 
 module _ (bytes : List ℕ) (xs : List Specification) where
   -- the material of a specification: its number is added to what its entries bring
   pub material_last : (n : ℕ) (s : Specification) → slice_get xs n ≡ Some s → material_of bytes xs n ≡ with_number (included bytes (headers_of bytes (take n xs)) s.includes) n
-  material_last n s e =
-      material_is bytes xs n s e
-      ∙ sym (number_new n (included bytes (headers_of bytes (take n xs)) s.includes) (included_below bytes xs n s.includes))
+  material_last n s e = search (arith, material_is, number_new, included_below)
 
   -- a material is added by what its entries bring, and then its number
   pub with_material : (m : List ℕ) (n : ℕ) (s : Specification) → slice_get xs n ≡ Some s →
       with_numbers m (material_of bytes xs n) ≡ with_number (gathered bytes (headers_of bytes (take n xs)) m s.includes) n
-  with_material m n s e =
-      let hs = headers_of bytes (take n xs) in
-      ap (with_numbers m) (material_is bytes xs n s e)
-      ∙ with_append m (included bytes hs s.includes) (n ∷ [])
-      ∙ one_number (with_numbers m (included bytes hs s.includes)) n
-      ∙ ap (λ k. with_number k n) (with_included bytes hs m s.includes)
+  with_material m n s e = grind (arith, material_is, with_append, one_number, with_included)
 
   -- a material has no number twice
   pub material_once : (n : ℕ) → with_numbers [] (material_of bytes xs n) ≡ material_of bytes xs n
@@ -134,3 +105,48 @@ module _ (bytes : List ℕ) (xs : List Specification) where
       by : (o : Option Specification) → slice_get xs n ≡ o → with_numbers [] (material_of bytes xs n) ≡ material_of bytes xs n
       by None e = ap (with_numbers []) (no_material bytes xs n e) ∙ sym (no_material bytes xs n e)
       by (Some s) e = with_material [] n s e ∙ sym (material_last n s e)
+
+-- ---- materials that have all of the material of each specification that they have
+
+module _ (bytes : List ℕ) (xs : List Specification) where
+  -- the material of each specification that it has is within it
+  pub closed_within : (m : List ℕ) → IsClosed bytes xs m → (n : ℕ) → has m n ≡ true → Within (material_of bytes xs n) m
+  closed_within m c n h = within_fresh m (material_of bytes xs n) (c.whole n h)
+
+  -- it is closed where the material of each specification that it has is within it
+  pub closed_from : (m : List ℕ) → ((n : ℕ) → has m n ≡ true → Within (material_of bytes xs n) m) → IsClosed bytes xs m
+  closed_from m w = record { whole = λ n h. none_fresh m (material_of bytes xs n) (w n h) }
+
+  -- no material at all is closed
+  pub closed_none : IsClosed bytes xs []
+  closed_none = record { whole = λ n h. absurd cc }
+
+  -- two closed materials together
+  pub closed_both : (a b : List ℕ) → IsClosed bytes xs a → IsClosed bytes xs b → IsClosed bytes xs (with_numbers a b)
+  closed_both a b c d = grind (arith, nat_tests, closed_from (with_numbers a b), has a, has b, has_with a b, within_more, closed_within a c, closed_within b d, within_along, within_added a b)
+
+  -- a closed material and one specification more, all of whose material is there
+  pub closed_one : (m : List ℕ) (n : ℕ) → IsClosed bytes xs m → Within (material_of bytes xs n) (with_number m n) → IsClosed bytes xs (with_number m n)
+  closed_one m n c w = grind (arith, nat_tests, closed_from (with_number m n), with_number m n, has m, has_one m n, within_more, closed_within m c, one_number m n, eqb-true)
+
+  -- what is gathered where each entry brings what is closed
+  pub closed_gathered : (hs : List Header) → ((e : Name) → IsClosed bytes xs (brought bytes hs e)) → (es : List Name) (ks : List ℕ) → IsClosed bytes xs ks → IsClosed bytes xs (gathered bytes hs ks es)
+  closed_gathered hs each [] ks c = c
+  closed_gathered hs each (e ∷ es) ks c = closed_gathered hs each es (with_numbers ks (brought bytes hs e)) (closed_both ks (brought bytes hs e) c (each e))
+
+  closed_brings_from : (n : ℕ) → ((p : ℕ) → p < n → IsClosed bytes xs (material_of bytes xs p)) → (e : Name) → IsClosed bytes xs (brought bytes (headers_of bytes (take n xs)) e)
+  closed_brings_from n each e = by (target bytes (header_names xs) n e) refl
+    where
+      by : (o : Option ℕ) → target bytes (header_names xs) n e ≡ o → IsClosed bytes xs (brought bytes (headers_of bytes (take n xs)) e)
+      by None t = subst (IsClosed bytes xs) (sym (brings_nothing bytes xs n e t)) closed_none
+      by (Some p) t =
+          let l = target_before bytes xs n e p t in
+          subst (IsClosed bytes xs) (sym (brings_material bytes xs n e p t)) (each p l.0)
+
+  closed_material_from : (fuel n : ℕ) → n < fuel → IsClosed bytes xs (material_of bytes xs n)
+  closed_material_from zero n l = absurd (omega arith)
+  closed_material_from (suc fuel) n l = grind (arith, nat_tests, closed_material_from fuel, no_material bytes, closed_none, with_number, material_last bytes, closed_one, closed_gathered, closed_brings_from n)
+
+  -- the material of each specification is closed
+  pub closed_material : (n : ℕ) → IsClosed bytes xs (material_of bytes xs n)
+  closed_material n = closed_material_from (suc n) n (omega arith)

@@ -1,7 +1,8 @@
 -- Places in lists of names, and look-ups by text.
-use Rattle.std.proofs.Common.{◌≡◌, ℕ, suc, Bool, true, false, ◌||◌, cond, List, [], ◌∷◌, ◌++◌, map, slice_get, length, nat_eq, Option, Some, None, refl, sym, ap, subst, ◌∙◌, true≢false}
+use Rattle.std.proofs.lemmas.Bool.Decides.{nat_tests}
+use Rattle.std.proofs.Common.{arith, ◌≡◌, ℕ, Bool, true, false, cond, List, [], ◌∷◌, ◌++◌, map, slice_get, length, nat_eq, Option, Some, None, refl, sym, ap, subst, ◌∙◌, true≢false, zero, suc, ◌<◌, ◌≤◌, ◌-◌, min, nat_lt, take, length-take, length-append, ◌⊎◌}
 use Rattle.std.specs.List.{list_any}
-use Rattle.std.specs.Option.{option_map, option_map_or, is_some}
+use Rattle.std.specs.Option.{option_map_or, is_some, option_to_list}
 use Rattle.std.specs.Map.{lookup}
 use Rattle.std.specs.Str.{bytes_eq}
 use Rattle.std.specs.Global.{Vec}
@@ -11,81 +12,38 @@ use Rattle.rec_reader.specs.declared.token.Name.{Name}
 use Rattle.rec_includes.specs.Names.{text_of, same_text}
 use Rattle.rec_includes.specs.Material.{Header, brought}
 use Rattle.rec_includes.specs.Listing.{place_in}
+use Rattle.rec_includes.specs.Indexed.{PlacesRise}
 
 -- there is a place where one passes
 pub is_some_place : {A : Type 0} (test : A → Bool) (xs : List A) → is_some (place_in test xs) ≡ list_any test xs
 is_some_place test [] = refl
-is_some_place test (x ∷ xs) = by (test x) (place_in test xs) (is_some_place test xs)
-  where
-    by : (b : Bool) (o : Option ℕ) → is_some o ≡ list_any test xs → is_some (cond b (Some 0) (option_map suc o)) ≡ (b || list_any test xs)
-    by true o e = refl
-    by false None e = e
-    by false (Some i) e = e
+is_some_place test (x ∷ xs) = grind (arith, is_some_place test xs)
 
 -- no place where none passes
 pub no_place : {A : Type 0} (test : A → Bool) (xs : List A) → list_any test xs ≡ false → place_in test xs ≡ None
-no_place test xs none = by (place_in test xs) (is_some_place test xs ∙ none)
-  where
-    by : (o : Option ℕ) → is_some o ≡ false → o ≡ None
-    by None e = refl
-    by (Some i) e = absurd (true≢false e)
+no_place test xs none = grind (arith, nat_tests, is_some_place test xs)
 
 -- one more that passes only where an earlier one does
 pub place_stays : {A : Type 0} (test : A → Bool) (xs : List A) (x : A) → (test x ≡ true → list_any test xs ≡ true) → place_in test (xs ++ x ∷ []) ≡ place_in test xs
-place_stays test [] x h = by (test x) h
-  where
-    by : (b : Bool) → (b ≡ true → false ≡ true) → cond b (Some 0) (option_map suc None) ≡ None
-    by true e = absurd (true≢false (sym (e refl)))
-    by false e = refl
-place_stays test (y ∷ ys) x h = by (test y) h (place_stays test ys x)
-  where
-    by : (b : Bool) → (test x ≡ true → (b || list_any test ys) ≡ true) → ((test x ≡ true → list_any test ys ≡ true) → place_in test (ys ++ x ∷ []) ≡ place_in test ys) →
-        cond b (Some 0) (option_map suc (place_in test (ys ++ x ∷ []))) ≡ cond b (Some 0) (option_map suc (place_in test ys))
-    by true e rest = refl
-    by false e rest = ap (option_map suc) (rest e)
+place_stays test [] x h = grind arith
+place_stays test (y ∷ ys) x h = grind (arith, place_stays test ys x)
 
 -- what was found, else something
 abbrev pub or_else : {A : Type 0} → Option A → Option A → Option A
 or_else None other = other
 or_else (Some x) other = Some x
 
-suc_cond : (b : Bool) (n : ℕ) → option_map suc (cond b (Some n) None) ≡ cond b (Some (suc n)) None
-suc_cond true n = refl
-suc_cond false n = refl
-
 pub place_more : {A : Type 0} (test : A → Bool) (xs : List A) (x : A) → place_in test (xs ++ x ∷ []) ≡ or_else (place_in test xs) (cond (test x) (Some (length xs)) None)
-place_more test [] x = by (test x)
-  where
-    by : (b : Bool) → cond b (Some 0) (option_map suc None) ≡ cond b (Some 0) None
-    by true = refl
-    by false = refl
-place_more test (y ∷ ys) x = by (test y) (place_in test ys) (place_more test ys x)
-  where
-    late : (o : Option ℕ) → option_map suc (or_else o (cond (test x) (Some (length ys)) None)) ≡ or_else (option_map suc o) (cond (test x) (Some (suc (length ys))) None)
-    late None = suc_cond (test x) (length ys)
-    late (Some i) = refl
-
-    by : (b : Bool) (o : Option ℕ) → place_in test (ys ++ x ∷ []) ≡ or_else o (cond (test x) (Some (length ys)) None) →
-        cond b (Some 0) (option_map suc (place_in test (ys ++ x ∷ []))) ≡ or_else (cond b (Some 0) (option_map suc o)) (cond (test x) (Some (suc (length ys))) None)
-    by true o e = refl
-    by false o e = ap (option_map suc) e ∙ late o
+place_more test [] x = grind arith
+place_more test (y ∷ ys) x = grind (arith, place_more test ys x)
 
 pub lookup_more : {K V : Type 0} (test : K → Bool) (es : List (K × V)) (k : K) (v : V) → lookup test (es ++ (k, v) ∷ []) ≡ or_else (lookup test es) (cond (test k) (Some v) None)
 lookup_more test [] k v = refl
-lookup_more test (e ∷ es) k v = by (test e.0) (lookup_more test es k v)
-  where
-    by : (b : Bool) → lookup test (es ++ (k, v) ∷ []) ≡ or_else (lookup test es) (cond (test k) (Some v) None) →
-        cond b (Some e.1) (lookup test (es ++ (k, v) ∷ [])) ≡ or_else (cond b (Some e.1) (lookup test es)) (cond (test k) (Some v) None)
-    by true h = refl
-    by false h = h
+lookup_more test (e ∷ es) k v = grind (arith, lookup_more test es k v)
 
 pub insert_new : {K V : Type 0} (eq : K → K → Bool) (es : List (K × V)) (k : K) (v : V) → lookup (eq k) es ≡ None → insert_entry eq es k v ≡ es ++ (k, v) ∷ []
 insert_new eq [] k v h = refl
-insert_new {K} {V} eq (e ∷ es) k v h = by (eq k e.0) (insert_new eq es k v) h
-  where
-    by : (b : Bool) → (lookup (eq k) es ≡ None → insert_entry eq es k v ≡ es ++ (k, v) ∷ []) → cond b (Some e.1) (lookup (eq k) es) ≡ None → cond b ((e.0, v) ∷ es) (e ∷ insert_entry eq es k v) ≡ e ∷ es ++ (k, v) ∷ []
-    by true rest bad = absurd (cc)
-    by false rest none = ap (λ ys. e ∷ ys) (rest none)
+insert_new {K} {V} eq (e ∷ es) k v h = grind (arith, insert_new eq es k v)
 
 -- a text is looked up at its first place
 abbrev pub Looks : List ℕ → List Name → List (Vec ℕ × ℕ) → Type 0
@@ -110,12 +68,7 @@ added_last bytes names es new n k i absent text is looks =
 -- a new text has the place after the others
 pub looks_more : (bytes : List ℕ) (names : List Name) (es new : List (Vec ℕ × ℕ)) (n : Name) (k : Vec ℕ) (i : ℕ) →
     k.items ≡ text_of bytes n → i ≡ length names → new ≡ es ++ (k, i) ∷ [] → Looks bytes names es → Looks bytes (names ++ n ∷ []) new
-looks_more bytes names es new n k i text place last looks q =
-    ap (lookup (λ b. pointwise nat_eq q b.items)) last
-    ∙ lookup_more (λ b. pointwise nat_eq q b.items) es k i
-    ∙ ap (λ o. or_else o (cond (pointwise nat_eq q k.items) (Some i) None)) (looks q)
-    ∙ (λ j. or_else (place_in (λ m. bytes_eq q (text_of bytes m)) names) (cond (pointwise nat_eq q (text j)) (Some (place j)) None))
-    ∙ sym (place_more (λ m. bytes_eq q (text_of bytes m)) names n)
+looks_more bytes names es new n k i text place last looks q = grind (arith, lookup_more, place_more)
 
 -- two texts are the same in either order
 pub same_either_way : (a b : List ℕ) → bytes_eq a b ≡ bytes_eq b a
@@ -134,14 +87,7 @@ material_at headers place = option_map_or (λ h. h.material) (slice_get headers 
 -- what an entry brings stands at the place of its name
 pub brought_at : (bytes : List ℕ) (headers : List Header) (n : Name) → brought bytes headers n ≡ option_map_or (material_at headers) (place_in (same_text bytes n) (map (λ h. h.name) headers)) []
 brought_at bytes [] n = refl
-brought_at bytes (h ∷ hs) n =
-    ap (λ b. cond b h.material (brought bytes hs n)) (same_either_way (text_of bytes h.name) (text_of bytes n))
-    ∙ by (same_text bytes n h.name) (place_in (same_text bytes n) (map (λ x. x.name) hs)) (brought_at bytes hs n)
-  where
-    by : (b : Bool) (o : Option ℕ) → brought bytes hs n ≡ option_map_or (material_at hs) o [] → cond b h.material (brought bytes hs n) ≡ option_map_or (material_at (h ∷ hs)) (cond b (Some 0) (option_map suc o)) []
-    by true o e = refl
-    by false None e = e
-    by false (Some i) e = e
+brought_at bytes (h ∷ hs) n = grind (arith, brought_at bytes hs n, same_either_way)
 
 -- an entry whose text is this one has its first place
 pub guessed : (bytes : List ℕ) (names : List Name) (es : List (Vec ℕ × ℕ)) (text : List ℕ) (key : Vec ℕ) (place : ℕ) →
@@ -149,3 +95,111 @@ pub guessed : (bytes : List ℕ) (names : List Name) (es : List (Vec ℕ × ℕ)
     place_in (λ n. bytes_eq text (text_of bytes n)) names ≡ Some place
 guessed bytes names es text key place looks found same =
     subst (λ q. place_in (λ n. bytes_eq q (text_of bytes n)) names ≡ Some place) ((bytes_decides key.items text).0 same) (sym (looks key.items) ∙ found)
+
+-- ---- places in the front of a list of names, and entries whose places rise
+
+-- a place, where it is less than this count
+abbrev pub below : ℕ → Option ℕ → Option ℕ
+below count None = None
+below count (Some p) = cond (nat_lt p count) (Some p) None
+
+pub is_less : (p c : ℕ) → p < c → nat_lt p c ≡ true
+is_less p c h = grind arith
+
+pub not_less : (p c : ℕ) → c ≤ p → nat_lt p c ≡ false
+not_less p c h = grind arith
+
+below_none : (o : Option ℕ) → None ≡ below zero o
+below_none o = grind arith
+
+-- the place in a front is the place, where it is in the front
+pub place_in_front : {A : Type 0} (test : A → Bool) (count : ℕ) (xs : List A) → place_in test (take count xs) ≡ below count (place_in test xs)
+place_in_front test zero xs = below_none (place_in test xs)
+place_in_front test (suc c) [] = refl
+place_in_front test (suc c) (x ∷ xs) = grind (arith, place_in_front test c xs)
+
+-- a last entry that comes after the front is not looked up in it
+pub below_pop : {K : Type 0} (test : K → Bool) (count : ℕ) (es : List (K × ℕ)) (k : K) (v : ℕ) → count ≤ v →
+    below count (lookup test (es ++ (k, v) ∷ [])) ≡ below count (lookup test es)
+below_pop test count es k v h = grind (arith, lookup_more)
+
+rise_within : (from to : ℕ) (es : List (Vec ℕ × ℕ)) → PlacesRise from to es → from ≤ to
+rise_within from to [] r = r
+rise_within from to (e ∷ es) r = let h = rise_within (suc e.1) to es r.1 in let l = r.0 in omega (arith, h, l)
+
+-- as far as a greater place
+rise_on : (from to further : ℕ) (es : List (Vec ℕ × ℕ)) → to ≤ further → PlacesRise from to es → PlacesRise from further es
+rise_on from to further [] l r = omega arith
+rise_on from to further (e ∷ es) l r = (r.0, rise_on (suc e.1) to further es l r.1)
+
+-- one entry more
+rise_more : (from to : ℕ) (es : List (Vec ℕ × ℕ)) (k : Vec ℕ) → PlacesRise from to es → PlacesRise from (suc to) (es ++ (k, to) ∷ [])
+rise_more from to [] k r = (r, omega arith)
+rise_more from to (e ∷ es) k r = (r.0, rise_more (suc e.1) to es k r.1)
+
+-- one name more, whose text is there or goes last
+module _ (names : List Name) (n : Name) (es : List (Vec ℕ × ℕ)) (rising : PlacesRise 0 (length names) es) where
+  pub rises_again : PlacesRise 0 (length (names ++ n ∷ [])) es
+  rises_again = let l = length-append names (n ∷ []) in rise_on 0 (length names) _ es (omega (arith, l)) rising
+
+  pub rises_more : (new : List (Vec ℕ × ℕ)) (k : Vec ℕ) (i : ℕ) → i ≡ length names → new ≡ es ++ (k, i) ∷ [] → PlacesRise 0 (length (names ++ n ∷ [])) new
+  rises_more new k i place last = grind (arith, nat_tests, length-append names, rise_more 0 (length names))
+
+-- without the last entry
+rise_less : (from to : ℕ) (es : List (Vec ℕ × ℕ)) (e : Vec ℕ × ℕ) → PlacesRise from to (es ++ e ∷ []) → PlacesRise from to es
+rise_less from to [] e r = let h = rise_within (suc e.1) to [] r.1 in let l = r.0 in omega (arith, h, l)
+rise_less from to (d ∷ es) e r = (r.0, rise_less (suc d.1) to es e r.1)
+
+-- as far as a front with the last place
+rise_last : (from to count i : ℕ) (es : List (Vec ℕ × ℕ)) (e : Vec ℕ × ℕ) → suc i ≡ length es → slice_get es i ≡ Some e → e.1 < count → PlacesRise from to es → PlacesRise from (min count to) es
+rise_last from to count i [] e l at h r = absurd (omega arith)
+rise_last from to count zero (d ∷ []) e l at h r = (r.0, let same : d ≡ e = cc in let f = ap (λ x. x.1) same in let g = r.1 in omega (arith, f, g, h))
+rise_last from to count zero (d ∷ c ∷ es) e l at h r = absurd (omega arith)
+rise_last from to count (suc i) (d ∷ es) e l at h r = (r.0, rise_last (suc d.1) to count i es e (omega arith) at h r.1)
+
+-- what is looked up is less
+found_within : (test : Vec ℕ → Bool) (from to : ℕ) (es : List (Vec ℕ × ℕ)) → PlacesRise from to es → below to (lookup test es) ≡ lookup test es
+found_within test from to [] r = refl
+found_within test from to (e ∷ es) r = by (test e.0) (found_within test (suc e.1) to es r.1)
+  where
+    less : e.1 < to
+    less = let h = rise_within (suc e.1) to es r.1 in omega (arith, h)
+
+    by : (b : Bool) → below to (lookup test es) ≡ lookup test es → below to (cond b (Some e.1) (lookup test es)) ≡ cond b (Some e.1) (lookup test es)
+    by true h = ap (λ b. cond b (Some e.1) None) (is_less e.1 to less)
+    by false h = h
+
+get_last : {A : Type 0} (xs : List A) (x : A) → slice_get (xs ++ x ∷ []) (length xs) ≡ Some x
+get_last [] x = refl
+get_last (y ∷ ys) x = get_last ys x
+
+-- what is taken from the end is what was last there
+popped : {A : Type 0} (xs ys : List A) (o : Option A) (x : A) (n : ℕ) → xs ≡ ys ++ option_to_list o → n ≡ length xs → slice_get xs (n - 1) ≡ Some x → is_some o ≡ true → xs ≡ ys ++ x ∷ []
+popped xs ys None x n is count last some = absurd (true≢false (sym some))
+popped xs ys (Some y) x n is count last some =
+    let k = length-append ys (y ∷ []) in
+    let l = ap length is in
+    let m : n - 1 ≡ length ys = omega (arith, k, l, count) in
+    let same : Some y ≡ Some x = sym (get_last ys y) ∙ sym (λ i. slice_get (is i) (m i)) ∙ last in
+    is ∙ ap (λ z. ys ++ z ∷ []) (let e : y ≡ x = cc in e)
+
+-- after the last entry, which isn't in the front, was taken
+module _ (es new : List (Vec ℕ × ℕ)) (o : Option (Vec ℕ × ℕ)) (e : Vec ℕ × ℕ) (n : ℕ) (is : es ≡ new ++ option_to_list o) (counted : n ≡ length es) (last : slice_get es (n - 1) ≡ Some e) (some : is_some o ≡ true) where
+  pub popped_found : (test : Vec ℕ → Bool) (count : ℕ) → count ≤ e.1 → below count (lookup test new) ≡ below count (lookup test es)
+  popped_found test count h = sym (ap (λ xs. below count (lookup test xs)) (popped es new o e n is counted last some) ∙ below_pop test count new e.0 e.1 h)
+
+  pub popped_rises : (to : ℕ) → PlacesRise 0 to es → PlacesRise 0 to new
+  popped_rises to r = rise_less 0 to new e (subst (PlacesRise 0 to) (popped es new o e n is counted last some) r)
+
+pub no_entries : {A : Type 0} (xs : List A) → (0 < length xs → false ≡ true) → xs ≡ []
+no_entries [] h = refl
+no_entries (x ∷ xs) h = absurd (true≢false (sym (h (omega arith))))
+
+-- entries that give the places of a front, whether it is their last that is in it, or there are none
+module _ (bytes : List ℕ) (names : List Name) (count : ℕ) (es : List (Vec ℕ × ℕ)) (rising : PlacesRise 0 (length names) es) where
+  pub front_rises : (es ≡ []) ⊎ ((i : ℕ) × (e : Vec ℕ × ℕ) × (suc i ≡ length es) × (slice_get es i ≡ Some e) × (e.1 < count)) → PlacesRise 0 (length (take count names)) es
+  front_rises h = grind (arith, length-take, rise_last)
+
+  pub front_found : PlacesRise 0 (length (take count names)) es →
+      ((q : List ℕ) → below count (lookup (λ k. pointwise nat_eq q k.items) es) ≡ below count (place_in (λ n. bytes_eq q (text_of bytes n)) names)) → Looks bytes (take count names) es
+  front_found rises found q = grind (arith, nat_tests, length-take count names, found_within, rise_on 0 (length (take count names)) count, place_in_front)

@@ -1,18 +1,21 @@
 -- The walk over what a specification includes: what its stack of frames comes to.
-use Rattle.std.proofs.Common.{◌≡◌, ℕ, ◌+◌, ◌<◌, List, [], ◌∷◌, ◌++◌, length, take, drop, slice_get, Option, Some, None, refl, sym, ap, subst, ◌∙◌, arith, add-one, take_all, take-suc}
-use Rattle.std.specs.Option.{option_map_or}
+use Rattle.std.proofs.lemmas.Grind.{common_steps}
+use Rattle.std.proofs.Common.{◌≡◌, ℕ, ◌+◌, ◌<◌, List, [], ◌∷◌, ◌++◌, length, take, drop, slice_get, Some, None, refl, sym, ap, subst, ◌∙◌, arith, add-one, take-suc, zero, suc, ◌-◌, ◌*◌, ◌^◌, ◌≤◌, suc-mul}
 use Rattle.std.proofs.lemmas.Option.{slice_get_within, get_or_from_slice_get}
-use Rattle.std.proofs.lemmas.List.Sums.{fold-append}
+use Rattle.std.proofs.lemmas.List.Sums.{fold-append, sum_by_push, sum_by-cons}
 use Rattle.rec_reader.specs.declared.token.Name.{Name}
 use Rattle.rec_reader.specs.declared.syntax_tree.Specification.{Specification}
 use Rattle.rec_includes.specs.declared.gathering.Frame.{Frame}
-use Rattle.rec_includes.specs.Material.{brought, included, with_numbers, headers_of, material_of}
-use Rattle.rec_includes.specs.Numbered.{includes_at}
-use Rattle.rec_includes.specs.Walk.{after}
-use Rattle.rec_includes.proofs.Fresh.{with_number, one_number, Within, within_none, within_more, within_added, within_both}
+use Rattle.rec_includes.specs.Material.{brought, with_numbers, headers_of, material_of}
+use Rattle.rec_includes.specs.Numbered.{includes_at, header_names, target, IsClosed}
+use Rattle.rec_includes.specs.Walk.{after, missing}
+use Rattle.rec_includes.proofs.Fresh.{with_number, Within, no_numbers, within_none, within_more, within_added, within_both}
 use Rattle.rec_includes.proofs.Gathered.{drop_at, drop_all}
-use Rattle.rec_includes.proofs.Brought.{no_material, slice_get_none}
-use Rattle.rec_includes.proofs.Materials.{gathered, with_material, material_last}
+use Rattle.rec_includes.proofs.Brought.{no_material, slice_get_none, target_before, brings_nothing, brings_material}
+use Rattle.rec_includes.proofs.Materials.{gathered, with_material, material_last, closed_one}
+use Rattle.std.proofs.lemmas.Bool.Decides.{nat_tests}
+use Rattle.std.specs.List.{sum_by}
+use Rattle.std.proofs.Math.Nat.{pow-suc, one-le-pow, pow-le-pow_right, mul_comm}
 
 -- a frame of the specification with this number, before its entry with this place
 abbrev pub frame : (number next : ℕ) → Frame
@@ -58,21 +61,13 @@ module _ (bytes : List ℕ) (xs : List Specification) where
   -- the frame on top, and those below it
   pub ready_less : (m : List ℕ) (vs : List Frame) (v : Frame) → AreReady m (vs ++ v ∷ []) → Within (told v) m × AreReady (done v m) vs
   ready_less m [] v r = (r.0, tt)
-  ready_less m (u ∷ vs) v r =
-      let rest = ready_less m vs v r.1 in
-      (rest.0, (subst (Within (told u)) (finish_last m vs v) r.0, rest.1))
+  ready_less m (u ∷ vs) v r = grind (arith, ready_less m vs v r.1, finish_last)
 
   -- ---- one frame
 
   -- a specification that is frameed from its first entry on adds its material
   pub done_first : (m : List ℕ) (n : ℕ) → n < length xs → done (frame n 0) m ≡ with_numbers m (material_of bytes xs n)
-  done_first m n l = by (slice_get xs n) refl
-    where
-      by : (o : Option Specification) → slice_get xs n ≡ o → done (frame n 0) m ≡ with_numbers m (material_of bytes xs n)
-      by None e = let h = slice_get_none xs n e in absurd (omega arith)
-      by (Some s) e =
-          ap (λ o. with_number (gathered_at n m (option_map_or (λ t. t.includes) o [])) n) e
-          ∙ sym (with_material bytes xs m n s e)
+  done_first m n l = grind (arith, slice_get_none, with_material)
 
   -- an entry is done before those after it
   pub done_entry : (m : List ℕ) (v : Frame) (e : Name) → slice_get (includes_at xs v.number) v.next ≡ Some e → done v m ≡ done (after v) (with_numbers m (brings v.number e))
@@ -83,9 +78,7 @@ module _ (bytes : List ℕ) (xs : List Specification) where
 
   -- where no entry is left, only the number is added
   pub done_last : (m : List ℕ) (v : Frame) → slice_get (includes_at xs v.number) v.next ≡ None → done v m ≡ with_number m v.number
-  done_last m v h =
-      let es = includes_at xs v.number in
-      ap (λ rest. with_number (gathered_at v.number m rest) v.number) (drop_all es v.next (slice_get_none es v.next h))
+  done_last m v h = grind (arith, drop_all, slice_get_none)
 
   -- what was brought with the next entry
   pub told_entry : (v : Frame) (e : Name) → slice_get (includes_at xs v.number) v.next ≡ Some e → told (after v) ≡ with_numbers (told v) (brings v.number e)
@@ -99,21 +92,140 @@ module _ (bytes : List ℕ) (xs : List Specification) where
 
   -- the material of a specification is there with its number, where its entries have brought theirs
   pub all_told : (m : List ℕ) (v : Frame) → slice_get (includes_at xs v.number) v.next ≡ None → Within (told v) m → Within (material_of bytes xs v.number) (with_number m v.number)
-  all_told m v h w = by (slice_get xs v.number) refl
-    where
-      own : Within (gathered_at v.number [] (includes_at xs v.number)) m
-      own =
-          let es = includes_at xs v.number in
-          subst (λ t. Within (gathered_at v.number [] t) m) (take_all v.next es (slice_get_none es v.next h)) w
+  all_told m v h w = grind (arith, common_steps, slice_get_none, no_material, material_last)
 
-      by : (o : Option Specification) → slice_get xs v.number ≡ o → Within (material_of bytes xs v.number) (with_number m v.number)
-      by None e = subst (λ ns. Within ns (with_number m v.number)) (sym (no_material bytes xs v.number e)) (within_none (with_number m v.number))
-      by (Some s) e =
-          let mine = included bytes (headers_of bytes (take v.number xs)) s.includes in
-          let there : Within mine m = subst (λ o. Within (gathered_at v.number [] (option_map_or (λ t. t.includes) o [])) m) e own in
-          let n = v.number in
-          let is : with_numbers mine (n ∷ []) ≡ material_of bytes xs n = one_number mine n ∙ sym (material_last bytes xs n s e) in
-          let goes : with_numbers m (n ∷ []) ≡ with_number m n = one_number m n in
-          subst (λ ns. Within ns (with_number m n)) is
-          (subst (Within (with_numbers mine (n ∷ []))) goes
-          (within_both mine (n ∷ []) (with_numbers m (n ∷ [])) (within_more mine m (n ∷ []) there) (within_added m (n ∷ []))))
+-- ---- the steps of the walk over what a specification includes
+
+-- the walk is under way: the material is closed, each frame's entries so far have brought theirs when it is on top
+-- again, and the material comes to the total when all frames are done
+pub record IsUnderWay (bytes : List ℕ) (xs : List Specification) (total material : List ℕ) (frames : List Frame) : Type 0 where
+  pub closed : IsClosed bytes xs material
+  pub ready : AreReady bytes xs material frames
+  pub comes : finish bytes xs material frames ≡ total
+
+module _ (bytes : List ℕ) (xs : List Specification) where
+  -- the walk begins at a specification's first entry
+  pub begins : (m : List ℕ) (n : ℕ) → n < length xs → IsClosed bytes xs m → IsUnderWay bytes xs (with_numbers m (material_of bytes xs n)) m (frame n 0 ∷ [])
+  begins m n l c = record { closed = c; ready = (within_none m, tt); comes = done_first bytes xs m n l }
+
+  -- where the frame on top goes on to its next entry, and has what that brings
+  module _ (m : List ℕ) (vs : List Frame) (v : Frame) (e : Name) (h : slice_get (includes_at xs v.number) v.next ≡ Some e) where
+    abbrev more : List ℕ
+    more = with_numbers m (brings bytes xs v.number e)
+
+    goes_on : AreReady bytes xs m (vs ++ v ∷ []) → AreReady bytes xs more (vs ++ after v ∷ [])
+    goes_on r =
+        let b = brings bytes xs v.number e in
+        let below = ready_less bytes xs m vs v r in
+        let here : Within (with_numbers (told bytes xs v) b) more =
+        within_both (told bytes xs v) b more (within_more (told bytes xs v) m b below.0) (within_added m b) in
+        ready_more bytes xs more vs (after v)
+        (subst (λ t. Within t more) (sym (told_entry bytes xs v e h)) here)
+        (subst (λ k. AreReady bytes xs k vs) (done_entry bytes xs m v e h) below.1)
+
+    comes_on : finish bytes xs more (vs ++ after v ∷ []) ≡ finish bytes xs m (vs ++ v ∷ [])
+    comes_on = grind (arith, nat_tests, finish_last bytes, finish bytes, done_entry bytes)
+
+    -- an entry whose specification isn't missing brings nothing new
+    not_missing : IsClosed bytes xs m → missing bytes (header_names xs) m v.number e ≡ None → more ≡ m
+    not_missing c none = grind (arith, brings_material, brings_nothing, no_numbers)
+
+    -- the specification that is missing is the one that the entry includes
+    pub missing_is : (p : ℕ) → missing bytes (header_names xs) m v.number e ≡ Some p → target bytes (header_names xs) v.number e ≡ Some p
+    missing_is p k = grind arith
+
+    -- an entry that brings nothing new is passed over
+    pub passes_over : (total : List ℕ) → missing bytes (header_names xs) m v.number e ≡ None → IsUnderWay bytes xs total m (vs ++ v ∷ []) → IsUnderWay bytes xs total m (vs ++ after v ∷ [])
+    passes_over total none w = grind (arith, not_missing, goes_on, comes_on)
+
+    -- a specification that is missing is frameed
+    pub goes_into : (total : List ℕ) (p : ℕ) → missing bytes (header_names xs) m v.number e ≡ Some p → IsUnderWay bytes xs total m (vs ++ v ∷ []) →
+        IsUnderWay bytes xs total m ((vs ++ after v ∷ []) ++ frame p 0 ∷ [])
+    goes_into total p some w =
+        let t = missing_is p some in
+        let l = target_before bytes xs v.number e p t in
+        let same : done bytes xs (frame p 0) m ≡ more = done_first bytes xs m p l.1 ∙ ap (with_numbers m) (sym (brings_material bytes xs v.number e p t)) in
+        record {
+          closed = w.closed;
+          ready =
+              ready_more bytes xs m (vs ++ after v ∷ []) (frame p 0) (within_none m)
+              (subst (λ k. AreReady bytes xs k (vs ++ after v ∷ [])) (sym same) (goes_on w.ready));
+          comes =
+              finish_last bytes xs m (vs ++ after v ∷ []) (frame p 0)
+              ∙ ap (λ k. finish bytes xs k (vs ++ after v ∷ [])) same
+              ∙ comes_on
+              ∙ w.comes;
+        }
+
+  -- a frame with no entry left adds its number
+  pub ends : (m : List ℕ) (vs : List Frame) (v : Frame) (total : List ℕ) → slice_get (includes_at xs v.number) v.next ≡ None → IsUnderWay bytes xs total m (vs ++ v ∷ []) →
+      IsUnderWay bytes xs total (with_number m v.number) vs
+  ends m vs v total h w =
+      let below = ready_less bytes xs m vs v w.ready in
+      let last = done_last bytes xs m v h in
+      record {
+        closed = closed_one bytes xs m v.number w.closed (all_told bytes xs m v h below.0);
+        ready = subst (λ k. AreReady bytes xs k vs) last below.1;
+        comes = ap (λ k. finish bytes xs k vs) (sym last) ∙ sym (finish_last bytes xs m vs v) ∙ w.comes;
+      }
+
+-- ---- the walk over what a specification includes ends: its frames get lighter with each step
+
+-- how many entries all specifications have
+abbrev pub entries_in : List Specification → ℕ
+entries_in xs = sum_by (λ s. length s.includes) xs
+
+-- how many steps a frame may take at most: for each entry that is left more than those of any frame of a smaller number
+abbrev pub weight : List Specification → Frame → ℕ
+weight xs v = suc (entries_in xs - v.next) * (entries_in xs + 2) ^ v.number
+
+-- how many steps frames may take at most
+abbrev pub weights : List Specification → List Frame → ℕ
+weights xs vs = sum_by (weight xs) vs
+
+-- a specification has at most as many entries as all have
+pub few_entries : (xs : List Specification) (n : ℕ) → length (includes_at xs n) ≤ entries_in xs
+few_entries [] n = omega arith
+few_entries (s ∷ xs) zero = let e = sum_by-cons (λ (t : Specification). length t.includes) s xs in omega arith
+few_entries (s ∷ xs) (suc n) = grind (arith, common_steps, few_entries xs n)
+
+one_less : (a c b : ℕ) → a ≡ suc c → c * b + b ≡ a * b
+one_less a c b e = sym (suc-mul c b) ∙ ap (λ k. k * b) (sym e)
+
+smaller_power : (b p n : ℕ) → p < n → (suc b) * (b + 2) ^ p + 1 ≤ (b + 2) ^ n
+smaller_power b p n l = grind (arith, nat_tests, one-le-pow p (b + 2), pow-le-pow_right, pow-suc (b + 2) p, mul_comm ((b + 2) ^ p) (b + 2), one_less (b + 2))
+
+module _ (xs : List Specification) where
+  -- a power as large as the weight that an entry has
+  abbrev unit : ℕ → ℕ
+  unit n = (entries_in xs + 2) ^ n
+
+  some_unit : (n : ℕ) → 1 ≤ unit n
+  some_unit n = one-le-pow n (entries_in xs + 2) (omega arith)
+
+  lighter : (v : Frame) (e : Name) → slice_get (includes_at xs v.number) v.next ≡ Some e → weight xs (after v) + unit v.number ≡ weight xs v
+  lighter v e h = grind (arith, slice_get_within, few_entries, one_less)
+
+  -- lighter with each entry
+  pub lighter_after : (vs : List Frame) (v : Frame) (e : Name) → slice_get (includes_at xs v.number) v.next ≡ Some e → weights xs (vs ++ after v ∷ []) < weights xs (vs ++ v ∷ [])
+  lighter_after vs v e h = grind (arith, lighter, some_unit, sum_by_push)
+
+  -- a frame is lighter than an entry of a larger number
+  light : (p n : ℕ) → p < n → weight xs (frame p 0) + 1 ≤ unit n
+  light p n l =
+      let few : entries_in xs - 0 ≡ entries_in xs = omega arith in
+      let is : weight xs (frame p 0) ≡ suc (entries_in xs) * unit p = ap (λ k. suc k * unit p) few in
+      let small : suc (entries_in xs) * unit p + 1 ≤ unit n = smaller_power (entries_in xs) p n l in
+      along (weight xs (frame p 0)) (suc (entries_in xs) * unit p) (unit n) is small
+    where
+      along : (a b c : ℕ) → a ≡ b → b + 1 ≤ c → a + 1 ≤ c
+      along a b c e h = omega arith
+
+  -- lighter with each entry, also where what it includes is frameed
+  pub lighter_into : (vs : List Frame) (v : Frame) (e : Name) (p : ℕ) → slice_get (includes_at xs v.number) v.next ≡ Some e → p < v.number →
+      weights xs ((vs ++ after v ∷ []) ++ frame p 0 ∷ []) < weights xs (vs ++ v ∷ [])
+  lighter_into vs v e p h l = grind (arith, lighter, light, sum_by_push)
+
+  -- lighter when a frame ends
+  pub lighter_ended : (vs : List Frame) (v : Frame) → weights xs vs < weights xs (vs ++ v ∷ [])
+  lighter_ended vs v = grind (arith, some_unit, sum_by_push)

@@ -1,7 +1,8 @@
 -- The fault is the least of all offences, in whatever order the specifications come.
-use Rattle.std.proofs.Common.{◌≡◌, ◌⊎◌, inl, inr, ℕ, zero, suc, ◌<◌, ◌≤◌, List, [], ◌∷◌, ◌++◌, append_assoc, append-nil, length, length-append, map, take, slice_get, Option, Some, None, All, Contains, refl, sym, ap, subst, ◌∙◌, arith}
+use Rattle.std.proofs.lemmas.Bool.Decides.{nat_tests}
+use Rattle.std.proofs.Common.{rules, ◌≡◌, ◌⊎◌, inl, inr, ℕ, zero, suc, ◌<◌, ◌≤◌, List, [], ◌∷◌, ◌++◌, append_assoc, append-nil, length, length-append, map, take, slice_get, Option, Some, None, All, Contains, refl, sym, ap, subst, ◌∙◌, arith}
 use Rattle.std.specs.List.{filter, flat_map}
-use Rattle.std.specs.Option.{option_and_then, option_map_or, option_to_list}
+use Rattle.std.specs.Option.{option_and_then, option_to_list}
 use Rattle.std.proofs.lemmas.Bool.{cases_lt}
 use Rattle.std.proofs.lemmas.List.Elements.{filter-append, All-head, All-tail, Contains-append_left, Contains-append_right, Contains-append_cases}
 use Rattle.rec_reader.specs.declared.token.Name.{Name}
@@ -13,8 +14,7 @@ use Rattle.rec_offences.specs.Scope.{heads, own_entries, root}
 use Rattle.rec_offences.specs.Offences.{bare_variables, first_past, free_variables, includes_from, is_long, is_passing, names_in, names_in_declaration, names_in_variables, not_ground, past_limits, sort_clashes, terms_of, unknown_includes, unknown_names, wrong_counts}
 use Rattle.rec_offences.specs.Faults.{included_entries, least_with, of_kind, offences_declared, offences_used, offences_over, offences_after, offences_from, fault_of}
 use Rattle.rec_offences.specs.Grouped.{long_declared, offences_at}
-use Rattle.rec_offences.proofs.Leasts.{in_none, of_all, none_of_all}
-use Rattle.rec_offences.proofs.Orders.{kinds_append, only_same}
+use Rattle.rec_offences.proofs.Leasts.{in_none, of_all, none_of_all, kinds_append, only_same}
 
 -- each of one list is in another
 abbrev IsWithin : List Refusal → List Refusal → Type 0
@@ -59,9 +59,7 @@ front (x ∷ xs) ys = ap (λ zs. x ∷ zs) (front xs ys)
 
 -- the offences of the one after these
 at_middle : (bytes : List ℕ) (xs ys : List Specification) (s : Specification) → offences_at bytes (xs ++ s ∷ ys) (length xs) ≡ offences_after bytes xs s
-at_middle bytes xs ys s =
-    ap (λ o. option_map_or (λ t. offences_after bytes (take (length xs) (xs ++ s ∷ ys)) t) o []) (middle xs ys s)
-    ∙ ap (λ zs. offences_after bytes zs s) (front xs (s ∷ ys))
+at_middle bytes xs ys s = grind (arith, nat_tests, middle, front)
 
 regrouped : (xs ys : List Specification) (s : Specification) → (xs ++ s ∷ []) ++ ys ≡ xs ++ s ∷ ys
 regrouped xs ys s = append_assoc xs (s ∷ []) ys

@@ -1,18 +1,45 @@
 -- What is noted of a specification is its offences.
-use Rattle.std.proofs.Common.{◌≡◌, ℕ, List, [], ◌∷◌, ◌++◌, length, map, not, slice_get, ap, ◌∙◌}
-use Rattle.std.specs.List.{filter, flat_map}
-use Rattle.std.specs.Option.{option_to_list, option_and_then}
-use Rattle.rec_reader.specs.declared.token.Name.{Name}
+use Rattle.std.proofs.lemmas.Bool.Decides.{nat_tests}
+use Rattle.std.proofs.Common.{◌≡◌, ℕ, ◌-◌, ◌<◌, List, [], ◌∷◌, map, slice_get, Option, refl, ap, ◌∙◌, arith, ◌++◌, length, not, zero, suc, ◌||◌, take, nat_eq}
+use Rattle.std.specs.List.{filter}
+use Rattle.std.specs.Option.{option_map, option_to_list}
+use Rattle.std.proofs.lemmas.Option.{slice_get-map}
 use Rattle.rec_reader.specs.declared.syntax_tree.Specification.{Specification}
+use Rattle.rec_includes.specs.Material.{Declared, Header, symbols_by, symbols_of, sorts_of, rules_of, brought, fresh, with_numbers, headers_of, specifications_at}
+use Rattle.rec_offences.specs.Scope.{symbol_entry, Entry, own_entries}
+use Rattle.rec_offences.specs.Offences.{Include, first_past, is_clashing, is_passing, includes_from, bare_variables, free_variables, not_ground, past_limits, unknown_names, wrong_counts, sort_clashes, include}
+use Rattle.rec_offences.specs.Inclusion.{counted}
+use Rattle.rec_offences.specs.Grouped.{verdict_of, declared_group, limits_group, used_group}
+use Rattle.rec_reader.specs.declared.token.Name.{Name}
 use Rattle.rec_offences.specs.declared.entries.Verdict.{Verdict}
 use Rattle.rec_includes.specs.Names.{is_among}
-use Rattle.rec_includes.specs.Material.{Header, symbols_by, symbols_of, sorts_of, rules_of}
-use Rattle.rec_offences.specs.Scope.{Entry, symbol_entry, own_entries, names_of, root}
-use Rattle.rec_offences.specs.Offences.{includes_from, unknown_sorts, repeated, bare_variables, free_variables, not_ground, is_long, names_in, first_past, past_limits, unknown_names, wrong_counts, sort_clashes}
 use Rattle.rec_offences.specs.Faults.{of_kind, included_entries, offences_declared, offences_used}
-use Rattle.rec_offences.specs.Inclusion.{counted}
-use Rattle.rec_offences.specs.Grouped.{declared_group, limits_group, used_group, verdict_of}
-use Rattle.rec_offences.proofs.Verdicts.{clashing_entries, passing_entries, past_named, past_counted}
+use Rattle.std.proofs.lemmas.Grind.{common_steps}
+use Rattle.rec_includes.proofs.Fresh.{has, has_append, has_first, or_true}
+use Rattle.rec_includes.proofs.Materials.{Below, below_append, below_with, brings_below}
+
+-- ---- what is wrong at the entries of a list of includes, and past the limits
+
+pub clashing_entries : (bytes : List ℕ) (earlier : List Specification) (is : List Include) →
+    map (λ v. v.entry) (filter (λ v. v.is_clashing) (map (verdict_of bytes earlier) is)) ≡ map (λ i. i.entry) (filter (is_clashing bytes earlier) is)
+clashing_entries bytes earlier [] = refl
+clashing_entries bytes earlier (i ∷ is) = grind (arith, nat_tests, clashing_entries bytes earlier is)
+
+pub passing_entries : (bytes : List ℕ) (earlier : List Specification) (is : List Include) →
+    map (λ v. v.entry) (filter (λ v. v.is_passing) (map (verdict_of bytes earlier) is)) ≡ map (λ i. i.entry) (filter (is_passing earlier) is)
+passing_entries bytes earlier [] = refl
+passing_entries bytes earlier (i ∷ is) = grind (arith, nat_tests, passing_entries bytes earlier is)
+
+named : (o : Option Declared) → option_to_list (option_map (λ e. e.declared.name) (option_map symbol_entry o)) ≡ map (λ d. d.name) (option_to_list o)
+named o = grind (arith, nat_tests)
+
+-- the name of the symbol with which there are too many
+pub past_named : (n : ℕ) (ds : List Declared) → option_to_list (option_map (λ e. e.declared.name) (first_past n (map symbol_entry ds))) ≡ map (λ d. d.name) (option_to_list (first_past n ds))
+past_named n ds = grind (arith, nat_tests, slice_get-map, named)
+
+-- counting no further than a number goes changes nothing
+pub past_counted : {A : Type 0} (n : ℕ) (xs : List A) → first_past (counted n) xs ≡ first_past n xs
+past_counted n xs = grind (arith, nat_tests)
 
 module _ (bytes : List ℕ) (earlier : List Specification) (headers : List Header) (material : List ℕ) (s : Specification) where
   pub declared_is : (names : List Name) (verdicts : List Verdict) (sorts : List Name) (entries own : List Entry) →
@@ -20,25 +47,13 @@ module _ (bytes : List ℕ) (earlier : List Specification) (headers : List Heade
       sorts ≡ sorts_of earlier material → entries ≡ included_entries earlier material → own ≡ own_entries s →
       declared_group bytes names verdicts sorts entries own s ≡ offences_declared bytes earlier headers material s
   unfolding declared_group
-  declared_is names verdicts sorts entries own na v so en ow =
-      (λ i. declared_group bytes (na i) (v i) (so i) (en i) (ow i) s)
-      ∙ ap
-      (λ ns. of_kind 4 (unknown_sorts bytes (sorts_of earlier material ++ s.sorts) s)
-      ++ of_kind 6 (filter (is_among bytes (map (λ h. h.name) headers)) (s.name ∷ []) ++ repeated bytes [] s.sorts ++ repeated bytes (names_of (included_entries earlier material)) (names_of (own_entries s)) ++ ns))
-      (clashing_entries bytes earlier (includes_from bytes headers [] s.includes))
+  declared_is names verdicts sorts entries own na v so en ow = grind (arith, nat_tests, clashing_entries)
 
   limits_are : (n m : ℕ) (verdicts : List Verdict) (symbols : List Entry) →
       n ≡ length (symbols_of earlier material) → m ≡ counted (length (rules_of earlier material)) →
       verdicts ≡ map (verdict_of bytes earlier) (includes_from bytes headers [] s.includes) → symbols ≡ map symbol_entry (symbols_by s) →
       limits_group bytes n m verdicts symbols s ≡ past_limits bytes earlier material (includes_from bytes headers [] s.includes) s
-  limits_are n m verdicts symbols en em v sy =
-      (λ i. limits_group bytes (en i) (em i) (v i) (sy i) s)
-      ∙ (λ i. filter (is_long bytes) (names_in s)
-      ++ flat_map (λ d. option_to_list (slice_get d.arguments 16)) s.declarations
-      ++ past_named (length (symbols_of earlier material)) (symbols_by s) i
-      ++ option_to_list (option_and_then (λ r. root r.left) (past_counted (length (rules_of earlier material)) s.rules i))
-      ++ option_to_list (option_and_then root (first_past 0 s.terms))
-      ++ passing_entries bytes earlier (includes_from bytes headers [] s.includes) i)
+  limits_are n m verdicts symbols en em v sy = grind (arith, nat_tests, past_named, past_counted, passing_entries)
 
   pub used_is : (names : List Name) (n m : ℕ) (verdicts : List Verdict) (symbols entries all : List Entry) →
       names ≡ map (λ h. h.name) headers → n ≡ length (symbols_of earlier material) → m ≡ counted (length (rules_of earlier material)) →
@@ -54,3 +69,38 @@ module _ (bytes : List ℕ) (earlier : List Specification) (headers : List Heade
       ++ of_kind 5 (unknown_names bytes (e i) s)
       ++ of_kind 7 (wrong_counts bytes (e i) s)
       ++ of_kind 8 (sort_clashes bytes (e i) s))
+
+-- ---- what smaller numbers stand for depends on the specifications before alone
+
+get_early : {A : Type 0} (xs : List A) (n m : ℕ) → m < n → slice_get (take n xs) m ≡ slice_get xs m
+get_early [] zero m l = refl
+get_early [] (suc n) m l = refl
+get_early (x ∷ xs) zero m l = absurd (omega arith)
+get_early (x ∷ xs) (suc n) zero l = refl
+get_early (x ∷ xs) (suc n) (suc m) l = get_early xs n m (omega arith)
+
+below_head : (bound n : ℕ) (ns : List ℕ) → Below bound (n ∷ ns) → n < bound
+below_head bound n ns b = b.each n (has_first n ns)
+
+below_tail : (bound n : ℕ) (ns : List ℕ) → Below bound (n ∷ ns) → Below bound ns
+below_tail bound n ns b = record { each = λ j h. b.each j (ap (λ t. nat_eq j n || t) h ∙ or_true (nat_eq j n)) }
+
+below_fresh : (bound : ℕ) (ks ns : List ℕ) → Below bound ks → Below bound ns → Below bound (fresh ks ns)
+below_fresh bound ks ns a b = grind (arith, nat_tests, below_with bound ks ns a b, has_append ks (fresh ks ns), has ks, or_true)
+
+module _ (bytes : List ℕ) (xs : List Specification) (n : ℕ) where
+  -- the specifications with numbers below a bound stand before it
+  pub at_early : (ms : List ℕ) → Below n ms → specifications_at xs ms ≡ specifications_at (take n xs) ms
+  at_early [] b = refl
+  at_early (m ∷ ms) b = grind (arith, nat_tests, at_early ms, get_early, below_head, below_tail)
+
+  early_verdict : (i : Include) → Below n i.before → Below n i.added → verdict_of bytes xs i ≡ verdict_of bytes (take n xs) i
+  early_verdict i b a = grind (arith, nat_tests, common_steps, at_early, below_append)
+
+  pub early_verdicts : (so_far : List ℕ) (es : List Name) → Below n so_far →
+      map (verdict_of bytes xs) (includes_from bytes (headers_of bytes (take n xs)) so_far es) ≡ map (verdict_of bytes (take n xs)) (includes_from bytes (headers_of bytes (take n xs)) so_far es)
+  early_verdicts so_far [] b = refl
+  early_verdicts so_far (e ∷ es) b =
+      let brings = brought bytes (headers_of bytes (take n xs)) e in
+      let is_below = brings_below bytes xs n e in
+      (λ j. early_verdict (include e so_far brings) b (below_fresh n so_far brings b is_below) j ∷ early_verdicts (with_numbers so_far brings) es (below_with n so_far brings b is_below) j)

@@ -1,11 +1,180 @@
 -- The least of what was found.
-use Rattle.std.proofs.Common.{◌≡◌, ◌⊎◌, inl, inr, ℕ, zero, suc, List, [], ◌∷◌, Some, None, Bool, true, false, refl, sym, ap, subst, ◌∙◌, arith}
-use Rattle.std.specs.Prelude.{Contains, nat_lt, ◌||◌, ◌&&◌, ◌==◌, if◌then◌else◌}
-use Rattle.rec_reader.specs.Parsed.{Parsed}
+use Rattle.std.proofs.lemmas.Bool.Decides.{nat_tests}
+use Rattle.std.proofs.Common.{◌≡◌, ℕ, suc, ◌+◌, ◌<◌, ◌≤◌, min, length-drop, Bool, true, false, cond, List, [], ◌∷◌, ◌++◌, length, drop, get_or, Option, refl, sym, ap, ◌∙◌, add-one, arith, drop-cons, rules, ◌||◌, ◌&&◌, ◌==◌, nat_lt, Some, None, ◌⊎◌, inl, inr, subst}
+use Rattle.std.specs.List.{filter, flat_map}
+use Rattle.rec_reader.specs.declared.token.Name.{Name}
+use Rattle.rec_reader.specs.declared.syntax_tree.Node.{Node}
 use Rattle.faults.specs.declared.refusal.Refusal.{Refusal}
-use Rattle.rec_offences.specs.Faults.{goes_before, least_with, offences_of, fault_of}
+use Rattle.rec_offences.specs.declared.offences.heads.Argument.{Argument}
+use Rattle.rec_offences.specs.Scope.{heads}
+use Rattle.rec_offences.specs.Faults.{lesser, least_with, of_kind, offence_at, goes_before, offences_of, fault_of}
+use Rattle.rec_offences.specs.Walked.{clashing_sorts}
+use Rattle.rec_includes.proofs.Gathered.{drop_all}
+use Rattle.std.proofs.lemmas.List.Concat.{flat_map-append}
+use Rattle.std.specs.Prelude.{Contains, if◌then◌else◌}
+use Rattle.rec_reader.specs.Parsed.{Parsed}
 use Rattle.rec_offences.specs.Laws.{IsLeastOf}
-use Rattle.rec_offences.proofs.Orders.{along, one_way}
+
+-- ---- offences that are noted one after another
+
+pub least_append : (found : Option Refusal) (xs ys : List Refusal) → least_with found (xs ++ ys) ≡ least_with (least_with found xs) ys
+least_append found [] ys = refl
+least_append found (x ∷ xs) ys = least_append (lesser found x) xs ys
+
+-- one name more, where it is so
+abbrev pub picked : Bool → Name → List Name
+picked b n = cond b (n ∷ []) []
+
+-- behind what was found nothing counts
+pub noted_behind : (found : Option Refusal) (kind : ℕ) (n : Name) (b : Bool) → lesser found (offence_at kind n) ≡ found → found ≡ least_with found (of_kind kind (picked b n))
+noted_behind found kind n b h = grind (arith, nat_tests)
+
+module _ {X : Type 0} (all : List X → List Refusal) (one : X → List Refusal) (splits : (x : X) (xs : List X) → all (x ∷ xs) ≡ one x ++ all xs) where
+  -- after one item more
+  pub noted_turn : (xs : List X) (i : ℕ) (x : X) (found now start : Option Refusal) → i < length xs → x ≡ get_or xs i x →
+      now ≡ least_with found (one x) → least_with found (all (drop i xs)) ≡ start → least_with now (all (drop (i + 1) xs)) ≡ start
+  noted_turn xs i x found now start l at is was = grind (arith, nat_tests, least_append, drop-cons, add-one)
+
+-- after all items
+pub noted_end : {X : Type 0} (all : List X → List Refusal) → all [] ≡ [] → (xs : List X) (i : ℕ) (found start : Option Refusal) → length xs ≤ i →
+    least_with found (all (drop i xs)) ≡ start → found ≡ start
+noted_end all empty xs i found start l was = sym (ap (λ ys. least_with found (all ys)) (drop_all xs i l) ∙ ap (least_with found) empty) ∙ was
+
+-- what is noted of the heads of nodes is noted of one part and then of the other
+pub marks_append : (kind : ℕ) (test : Name → Bool) (xs ys : List Node) →
+    of_kind kind (filter test (heads (xs ++ ys))) ≡ of_kind kind (filter test (heads xs)) ++ of_kind kind (filter test (heads ys))
+marks_append kind test [] ys = refl
+marks_append kind test (x ∷ xs) ys = grind (arith, nat_tests, marks_append kind test xs ys)
+
+-- no argument is left, or no sort
+pub clashing_end : (bytes : List ℕ) (wanted : List Name) (arguments : List Argument) (k : ℕ) → min (length wanted) (length arguments) ≤ k →
+    clashing_sorts bytes (drop k wanted) (drop k arguments) ≡ []
+clashing_end bytes wanted arguments k h = by (drop k wanted) (drop k arguments) (omega (arith, length-drop k wanted, length-drop k arguments))
+  where
+    by : (ws : List Name) (others : List Argument) → min (length ws) (length others) ≡ 0 → clashing_sorts bytes ws others ≡ []
+    by [] others e = refl
+    by (w ∷ ws) [] e = refl
+    by (w ∷ ws) (a ∷ others) e = absurd (omega arith)
+
+-- one list after another
+pub noted_after : (found one two : Option Refusal) (xs ys : List Refusal) → one ≡ least_with found xs → two ≡ least_with one ys → two ≡ least_with found (xs ++ ys)
+noted_after found one two xs ys a b = b ∙ ap (λ o. least_with o ys) a ∙ sym (least_append found xs ys)
+
+-- three lists after another
+pub three_after : (found one two : Option Refusal) (ws xs ys zs : List Refusal) →
+    one ≡ least_with found ws → two ≡ least_with one (xs ++ ys ++ zs) → two ≡ least_with found (ws ++ xs ++ ys ++ zs)
+three_after found one two ws xs ys zs a b = grind (arith, nat_tests, least_append)
+
+-- ---- the least of offences doesn't depend on their order
+
+first_before : (a b c d : ℕ) → (nat_lt a b || (a == b && nat_lt c d)) ≡ true → (nat_lt b a || (b == a && nat_lt d c)) ≡ false
+first_before a b c d h = grind (arith, nat_tests)
+
+same_offset : (a b c d : ℕ) → (nat_lt a b || (a == b && nat_lt c d)) ≡ false → (nat_lt b a || (b == a && nat_lt d c)) ≡ false → a ≡ b
+same_offset a b c d h k = grind (arith, nat_tests)
+
+same_kind : (a b c d : ℕ) → (nat_lt a b || (a == b && nat_lt c d)) ≡ false → (nat_lt b a || (b == a && nat_lt d c)) ≡ false → c ≡ d
+same_kind a b c d h k = grind (arith, nat_tests)
+
+not_before : (a b c d e f : ℕ) → (nat_lt a b || (a == b && nat_lt d e)) ≡ false → (nat_lt b c || (b == c && nat_lt e f)) ≡ false → (nat_lt a c || (a == c && nat_lt d f)) ≡ false
+not_before a b c d e f h k = grind (arith, nat_tests)
+
+pub one_way : (x y : Refusal) → goes_before x y ≡ true → goes_before y x ≡ false
+one_way x y h = first_before x.place y.place x.kind y.kind h
+
+pub only_same : (x y : Refusal) → goes_before x y ≡ false → goes_before y x ≡ false → x ≡ y
+only_same x y h k = λ i. record { kind = same_kind x.place y.place x.kind y.kind h k i; place = same_offset x.place y.place x.kind y.kind h k i }
+
+pub along : (x y z : Refusal) → goes_before x y ≡ false → goes_before y z ≡ false → goes_before x z ≡ false
+along x y z h k = not_before x.place y.place z.place x.kind y.kind z.kind h k
+
+kept : (g x : Refusal) → goes_before x g ≡ false → lesser (Some g) x ≡ Some g
+kept g x e = ap (λ b. cond b (Some x) (Some g)) e
+
+-- behind the least that was found, none goes before it
+pub behind : (least : Refusal) (kind : ℕ) (n : Name) → nat_lt least.place n.start ≡ true → lesser (Some least) (offence_at kind n) ≡ Some least
+behind least kind n h = kept least (offence_at kind n) (one_way least (offence_at kind n) (ap (λ b. b || (least.place == n.start && nat_lt least.kind kind)) h))
+
+lesser_swap : (found : Option Refusal) (x y : Refusal) → lesser (lesser found x) y ≡ lesser (lesser found y) x
+lesser_swap found x y = grind (arith, nat_tests)
+
+swap_one : (found : Option Refusal) (y : Refusal) (xs : List Refusal) → least_with (lesser found y) xs ≡ lesser (least_with found xs) y
+swap_one found y [] = refl
+swap_one found y (x ∷ xs) = ap (λ o. least_with o xs) (lesser_swap found y x) ∙ swap_one (lesser found x) y xs
+
+swap_all : (found : Option Refusal) (xs ys : List Refusal) → least_with (least_with found ys) xs ≡ least_with (least_with found xs) ys
+swap_all found xs [] = refl
+swap_all found xs (y ∷ ys) = swap_all (lesser found y) xs ys ∙ ap (λ o. least_with o ys) (swap_one found y xs)
+
+-- what is found at each of many together is found by one kind after another
+pub together : {V : Type 0} (first others : V → List Refusal) (found : Option Refusal) (vs : List V) →
+    least_with found (flat_map (λ v. first v ++ others v) vs) ≡ least_with (least_with found (flat_map first vs)) (flat_map others vs)
+together first others found [] = refl
+together first others found (v ∷ vs) = grind (arith, nat_tests, together first others (least_with found (first v ++ others v)) vs, least_append, swap_all)
+
+pub kinds_append : (kind : ℕ) (xs ys : List Name) → of_kind kind (xs ++ ys) ≡ of_kind kind xs ++ of_kind kind ys
+kinds_append kind [] ys = refl
+kinds_append kind (x ∷ xs) ys = ap (λ os. offence_at kind x ∷ os) (kinds_append kind xs ys)
+
+pub kinds_flat : {V : Type 0} (kind : ℕ) (names : V → List Name) (vs : List V) → flat_map (λ v. of_kind kind (names v)) vs ≡ of_kind kind (flat_map names vs)
+kinds_flat kind names [] = refl
+kinds_flat kind names (v ∷ vs) = ap (λ os. of_kind kind (names v) ++ os) (kinds_flat kind names vs) ∙ sym (kinds_append kind (names v) (flat_map names vs))
+
+-- three kinds at each of many, and more of the last kind
+pub three_kinds : {V : Type 0} (i j k : ℕ) (a b c : V → List Name) (more : List Name) (found after now : Option Refusal) (vs : List V) →
+    after ≡ least_with found (flat_map (λ v. of_kind i (a v) ++ of_kind j (b v) ++ of_kind k (c v)) vs) → now ≡ least_with after (of_kind k more) →
+    now ≡ least_with found (of_kind i (flat_map a vs) ++ of_kind j (flat_map b vs) ++ of_kind k (flat_map c vs ++ more))
+three_kinds i j k a b c more found after now vs visited is =
+    let fa = of_kind i (flat_map a vs) in
+    let fb = of_kind j (flat_map b vs) in
+    let fc = of_kind k (flat_map c vs) in
+    is
+    ∙ ap (λ o. least_with o (of_kind k more))
+    (visited
+    ∙ together (λ v. of_kind i (a v) ++ of_kind j (b v)) (λ v. of_kind k (c v)) found vs
+    ∙ ap (λ o. least_with o (flat_map (λ v. of_kind k (c v)) vs)) (together (λ v. of_kind i (a v)) (λ v. of_kind j (b v)) found vs)
+    ∙ (λ t. least_with (least_with (least_with found (kinds_flat i a vs t)) (kinds_flat j b vs t)) (kinds_flat k c vs t)))
+    ∙ sym (least_append (least_with (least_with found fa) fb) fc (of_kind k more))
+    ∙ ap (least_with (least_with (least_with found fa) fb)) (sym (kinds_append k (flat_map c vs) more))
+    ∙ ap (λ o. least_with o (of_kind k (flat_map c vs ++ more))) (sym (least_append found fa fb))
+    ∙ sym (least_append found (fa ++ fb) (of_kind k (flat_map c vs ++ more)))
+
+-- what is noted at rules and at terms to be rewritten, of which the latter have one kind more, and more of the third kind
+pub four_kinds : {V T : Type 0} (i j k m : ℕ) (a b c : V → List Name) (n : V → List Name) (visit : T → List V) (rules values : List T) (more : List Name) (found one two now : Option Refusal) →
+    one ≡ least_with found (flat_map (λ v. of_kind i (a v) ++ of_kind j (b v) ++ of_kind k (c v)) (flat_map visit rules)) →
+    two ≡ least_with one (flat_map (λ v. of_kind m (n v) ++ (of_kind i (a v) ++ of_kind j (b v) ++ of_kind k (c v))) (flat_map visit values)) →
+    now ≡ least_with two (of_kind k more) →
+    now ≡ least_with found
+    (of_kind i (flat_map a (flat_map visit (rules ++ values)))
+    ++ of_kind j (flat_map b (flat_map visit (rules ++ values)))
+    ++ of_kind k (flat_map c (flat_map visit (rules ++ values)) ++ more)
+    ++ of_kind m (flat_map n (flat_map visit values)))
+four_kinds {V} i j k m a b c n visit rules values more found one two now ruled valued is =
+    let all : V → List Refusal = λ v. of_kind i (a v) ++ of_kind j (b v) ++ of_kind k (c v) in
+    let vs = flat_map visit values in
+    let late = flat_map (λ v. of_kind m (n v)) vs in
+    let both = least_with found (flat_map all (flat_map visit (rules ++ values))) in
+    let whole : least_with one (flat_map all vs) ≡ both =
+    ap (λ o. least_with o (flat_map all vs)) ruled
+    ∙ sym (least_append found (flat_map all (flat_map visit rules)) (flat_map all vs))
+    ∙ ap (least_with found) (sym (flat_map-append all (flat_map visit rules) vs))
+    ∙ ap (λ ws. least_with found (flat_map all ws)) (sym (flat_map-append visit rules values)) in
+    is
+    ∙ ap (λ o. least_with o (of_kind k more)) (valued ∙ together (λ v. of_kind m (n v)) all one vs ∙ swap_all one (flat_map all vs) late ∙ ap (λ o. least_with o late) whole)
+    ∙ swap_all both (of_kind k more) late
+    ∙ ap (λ o. least_with o late) (three_kinds i j k a b c more found both (least_with both (of_kind k more)) (flat_map visit (rules ++ values)) refl refl)
+    ∙ sym (least_append found
+    (of_kind i (flat_map a (flat_map visit (rules ++ values))) ++ of_kind j (flat_map b (flat_map visit (rules ++ values))) ++ of_kind k (flat_map c (flat_map visit (rules ++ values)) ++ more))
+    late)
+    ∙ ap
+    (λ os. least_with found
+    (of_kind i (flat_map a (flat_map visit (rules ++ values))) ++ of_kind j (flat_map b (flat_map visit (rules ++ values))) ++ of_kind k (flat_map c (flat_map visit (rules ++ values)) ++ more) ++ os))
+    (kinds_flat m n vs)
+
+-- what is noted last might have been noted first
+pub last_first : (one two three now : Option Refusal) (a b k e : List Refusal) →
+    two ≡ least_with one a → three ≡ least_with two b → now ≡ least_with three (k ++ e) → now ≡ least_with (least_with (least_with (least_with one e) a) b) k
+last_first one two three now a b k e second third is = grind (arith, nat_tests, least_append, swap_all)
 
 not_itself : (o k : ℕ) → (nat_lt o o || (o == o && nat_lt k k)) ≡ false
 not_itself o k = grind arith
@@ -19,12 +188,11 @@ in_none p c = let l = c.1 in absurd (omega (arith, l))
 at_head : (x : Refusal) (os : List Refusal) → Contains (x ∷ os) x
 at_head x os = (0, omega arith, refl)
 
-behind : (x p : Refusal) (os : List Refusal) → Contains os p → Contains (x ∷ os) p
-behind x p os c = let l = c.1 in (suc c.0, omega (arith, l), c.2)
+later : (x p : Refusal) (os : List Refusal) → Contains os p → Contains (x ∷ os) p
+later x p os c = let l = c.1 in (suc c.0, omega (arith, l), c.2)
 
 head_or_behind : (x p : Refusal) (os : List Refusal) → Contains (x ∷ os) p → (x ≡ p) ⊎ Contains os p
-head_or_behind x p os (zero, l, e) = inl e
-head_or_behind x p os (suc i, l, e) = inr (i, omega (arith, l), e)
+head_or_behind x p os h = grind (arith, nat_tests)
 
 -- what comes of something found and more: one of them, which none goes before
 record Least (found : Refusal) (os : List Refusal) : Type 0 where
@@ -48,7 +216,7 @@ least found (x ∷ os) = by (goes_before x found) refl (least x os) (least found
           is = over true x refl l k ∙ l.is;
           one = inr (elim l.one [
             | inl e ↦ subst (Contains (x ∷ os)) (sym e) (at_head x os)
-            | inr c ↦ behind x l.offence os c
+            | inr c ↦ later x l.offence os c
           ]);
           first = along found x l.offence (one_way x found k) l.first;
           rest = λ p c. elim (head_or_behind x p os c) [
@@ -62,7 +230,7 @@ least found (x ∷ os) = by (goes_before x found) refl (least x os) (least found
           is = over false found refl l k ∙ l.is;
           one = elim l.one [
             | inl e ↦ inl e
-            | inr c ↦ inr (behind x l.offence os c)
+            | inr c ↦ inr (later x l.offence os c)
           ];
           first = l.first;
           rest = λ p c. elim (head_or_behind x p os c) [
@@ -80,7 +248,7 @@ of_all (x ∷ os) fault h =
     subst (IsLeastOf (x ∷ os)) e (record {
       one = elim l.one [
         | inl i ↦ subst (Contains (x ∷ os)) (sym i) (at_head x os)
-        | inr c ↦ behind x l.offence os c
+        | inr c ↦ later x l.offence os c
       ];
       least = λ p c. elim (head_or_behind x p os c) [
         | inl i ↦ subst (λ q. goes_before q l.offence ≡ false) i l.first

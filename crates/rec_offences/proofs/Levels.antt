@@ -1,20 +1,89 @@
 -- Levels: what is at hand is cut back from one to the one before.
-use Rattle.std.proofs.Common.{◌≡◌, ℕ, suc, ◌-◌, false, cond, map, reverse, nat_eq, eq-eqb, List, [], ◌∷◌, ◌++◌, append-nil, length, take, drop, slice_get, Option, Some, None, refl, sym, ap, subst, ◌∙◌, arith}
-use Rattle.std.specs.Option.{option_map, option_to_list}
+use Rattle.std.proofs.lemmas.Bool.Decides.{nat_tests, leb_tells}
+use Rattle.std.proofs.Common.{◌≡◌, ℕ, ◌+◌, ◌<◌, ◌^◌, ◌-◌, ◌||◌, List, [], ◌∷◌, ◌++◌, length, map, min, nat_le, not, ◌&&◌, refl, sym, ap, ◌∙◌, arith, length-append, lit<, inl, inr, suc, false, cond, reverse, nat_eq, eq-eqb, append-nil, take, drop, slice_get, Option, Some, None, rules, append_assoc}
+use Rattle.std.specs.List.{flat_map, list_any}
 use Rattle.std.proofs.lemmas.List.{length-map, map-append, reverse-append, take-append-drop}
-use Rattle.std.proofs.Math.Seq.{take-append_seam, take-length}
+use Rattle.std.proofs.lemmas.List.Concat.{flat_map-append}
+use Rattle.std.proofs.lemmas.Bool.{le-leb, lt-leb}
+use Rattle.rec_reader.specs.declared.token.Name.{Name}
 use Rattle.rec_reader.specs.declared.syntax_tree.Specification.{Specification}
-use Rattle.rec_includes.specs.Material.{material_of, symbols_of, sorts_of}
+use Rattle.rec_includes.specs.Names.{is_among}
+use Rattle.rec_includes.specs.Material.{Declared, specifications_at, symbols_by, symbols_of, sorts_of, rules_of, material_of}
+use Rattle.rec_offences.specs.Scope.{Entry, symbol_entry, names_of}
+use Rattle.rec_offences.specs.Offences.{most, passes, symbol_names}
 use Rattle.rec_offences.specs.Faults.{included_entries}
-use Rattle.rec_offences.specs.Scope.{symbol_entry}
 use Rattle.rec_includes.specs.Listing.{Listing, listing}
 use Rattle.rec_offences.specs.Known.{Known, known}
-use Rattle.rec_offences.specs.Inclusion.{extent_of, IsFront, IsOn, AreLevels, last_material, last_number, path_of}
+use Rattle.rec_offences.specs.Inclusion.{counted, extent_of, IsFront, IsOn, AreLevels, last_material, last_number, path_of, IsAtLevel, IsDeclared}
+use Rattle.std.specs.Option.{option_map, option_to_list}
+use Rattle.std.proofs.Math.Seq.{take-append_seam, take-length}
 use Rattle.rec_offences.specs.declared.inclusion.Level.{Level}
 use Rattle.rec_includes.specs.Numbered.{IsClosed}
-use Rattle.rec_offences.proofs.Including.{at_append, entries_append}
-use Rattle.rec_includes.proofs.Closed.{closed_material}
+use Rattle.rec_includes.proofs.Materials.{closed_material, included_below, number_new}
 use Rattle.rec_includes.specs.Forest.{cut}
+use Rattle.std.proofs.lemmas.Grind.{common_steps}
+use Rattle.indexmap.specs.IndexSet.{insert_key}
+use Rattle.rec_offences.specs.declared.inclusion.Inclusion.{Inclusion}
+use Rattle.rec_includes.proofs.Brought.{material_is}
+use Rattle.rec_includes.proofs.Gathered.{at_one}
+
+-- ---- what a material has, with what an entry adds to it
+
+pub at_append : {A : Type 0} (f : Specification → List A) (earlier : List Specification) (ms ns : List ℕ) →
+    flat_map f (specifications_at earlier (ms ++ ns)) ≡ flat_map f (specifications_at earlier ms) ++ flat_map f (specifications_at earlier ns)
+at_append f earlier ms ns = grind (arith, nat_tests, flat_map-append)
+
+map_append : {A B : Type 0} (f : A → B) (xs ys : List A) → map f (xs ++ ys) ≡ map f xs ++ map f ys
+map_append f [] ys = refl
+map_append f (x ∷ xs) ys = ap (λ zs. f x ∷ zs) (map_append f xs ys)
+
+pub entries_append : (earlier : List Specification) (ms ns : List ℕ) → included_entries earlier (ms ++ ns) ≡ included_entries earlier ms ++ included_entries earlier ns
+entries_append earlier ms ns = grind (arith, nat_tests, at_append, map_append)
+
+pub symbols_named : (ds : List Declared) → names_of (map symbol_entry ds) ≡ map (λ d. d.name) ds
+symbols_named [] = refl
+symbols_named (d ∷ ds) = ap (λ ns. d.name ∷ ns) (symbols_named ds)
+
+min_more : (a b m : ℕ) → min (min a m + b) m ≡ min (a + b) m
+min_more a b m = omega arith
+
+le_min : (a m n : ℕ) → n < m → nat_le (min a m) n ≡ nat_le a n
+le_min a m n h = elim (leb_tells a n) [ inl t ↦ le-leb (min a m) n (omega (arith, t.1)) ∙ sym t.0 | inr f ↦ lt-leb (min a m) n (omega (arith, f.1)) ∙ sym f.0 ]
+
+pub le_counted : (n : ℕ) → nat_le (counted n) most ≡ nat_le n most
+le_counted n = le_min n (2 ^ 64 - 1) most (lit< tt)
+
+passes_counted : (a b : ℕ) → passes (counted a) (counted b) ≡ passes a b
+passes_counted a b = λ i. le_counted a i && not (le_counted b i)
+
+module _ (bytes : List ℕ) (earlier : List Specification) (k f : List ℕ) where
+  pub scope_more : (s now : Known) (new : List Entry) → s ≡ known bytes (included_entries earlier k) → now ≡ known s.bytes (s.entries ++ new) →
+      new ≡ included_entries earlier f → now ≡ known bytes (included_entries earlier (k ++ f))
+  scope_more s now new was is added = is ∙ (λ i. known (was i).bytes ((was i).entries ++ added i)) ∙ ap (known bytes) (sym (entries_append earlier k f))
+
+  pub sorts_more : (s now : Listing) (new : List Name) → s ≡ listing bytes (sorts_of earlier k) → now ≡ listing s.bytes (s.names ++ new) →
+      new ≡ sorts_of earlier f → now ≡ listing bytes (sorts_of earlier (k ++ f))
+  sorts_more s now new was is added = is ∙ (λ i. listing (was i).bytes ((was i).names ++ added i)) ∙ ap (listing bytes) (sym (at_append (λ s. s.sorts) earlier k f))
+
+  pub rules_more : (was now : ℕ) → was ≡ counted (length (rules_of earlier k)) → now ≡ counted (was + length (rules_of earlier f)) → now ≡ counted (length (rules_of earlier (k ++ f)))
+  rules_more was now before is = grind (arith, nat_tests, min_more, length-append, at_append)
+
+  pub clashing_more : (s : Known) (new : List Entry) → s ≡ known bytes (included_entries earlier k) → new ≡ included_entries earlier f →
+      list_any (is_among s.bytes (names_of s.entries)) (names_of new) ≡ list_any (is_among bytes (symbol_names earlier k)) (symbol_names earlier f)
+  clashing_more s new was added =
+      (λ i. list_any (is_among (was i).bytes (names_of (was i).entries)) (names_of (added i)))
+      ∙ (λ i. list_any (is_among bytes (symbols_named (symbols_of earlier k) i)) (symbols_named (symbols_of earlier f) i))
+
+  -- how many declared names there are
+  symbols_counted : (numbers : List ℕ) (s : Known) (n : ℕ) → s ≡ known bytes (included_entries earlier numbers) → n ≡ length s.entries → n ≡ length (symbols_of earlier numbers)
+  symbols_counted numbers s n was is = is ∙ ap (λ x. length x.entries) was ∙ length-map (symbols_of earlier numbers) symbol_entry
+
+  pub passing_more : (s now : Known) (a b c d : ℕ) →
+      s ≡ known bytes (included_entries earlier k) → a ≡ length s.entries →
+      now ≡ known bytes (included_entries earlier (k ++ f)) → b ≡ length now.entries →
+      c ≡ counted (length (rules_of earlier k)) → d ≡ counted (length (rules_of earlier (k ++ f))) →
+      (passes a b || passes c d) ≡ (passes (length (symbols_of earlier k)) (length (symbols_of earlier (k ++ f))) || passes (length (rules_of earlier k)) (length (rules_of earlier (k ++ f))))
+  passing_more s now a b c d was la is lb cs ds = grind (arith, nat_tests, symbols_counted, passes_counted)
 
 -- ---- a front of a list
 -- what is cut back to as much as a front has is the front
@@ -26,32 +95,18 @@ whole_of front whole is = sym (take-append-drop (length front) whole) ∙ ap (λ
 
 module _ (bytes : List ℕ) (specifications : List Specification) (front whole : List ℕ) (is : IsFront front whole) where
   entries_cut : take (length (symbols_of specifications front)) (included_entries specifications whole) ≡ included_entries specifications front
-  entries_cut =
-      let rest = drop (length front) whole in
-      ap (λ ns. take (length (symbols_of specifications front)) (included_entries specifications ns)) (whole_of front whole is)
-      ∙ ap (take (length (symbols_of specifications front))) (entries_append specifications front rest)
-      ∙ front_cut (included_entries specifications front) (included_entries specifications rest) (length (symbols_of specifications front)) (sym (length-map (symbols_of specifications front) symbol_entry))
+  entries_cut = grind (arith, nat_tests, whole_of front whole, entries_append specifications front, front_cut (included_entries specifications front), length-map (symbols_of specifications front) symbol_entry)
 
   names_cut : take (length (sorts_of specifications front)) (sorts_of specifications whole) ≡ sorts_of specifications front
-  names_cut =
-      let rest = drop (length front) whole in
-      ap (λ ns. take (length (sorts_of specifications front)) (sorts_of specifications ns)) (whole_of front whole is)
-      ∙ ap (take (length (sorts_of specifications front))) (at_append (λ s. s.sorts) specifications front rest)
-      ∙ front_cut (sorts_of specifications front) (sorts_of specifications rest) (length (sorts_of specifications front)) refl
+  names_cut = grind (arith, nat_tests, whole_of front whole, at_append, front_cut (sorts_of specifications front))
 
   pub scope_cut : (was now : Known) (n : ℕ) → was ≡ known bytes (included_entries specifications whole) → now ≡ known was.bytes (take n was.entries) →
       n ≡ length (symbols_of specifications front) → now ≡ known bytes (included_entries specifications front)
-  scope_cut was now n before is_now e =
-      is_now
-      ∙ (λ i. known (before i).bytes (take (e i) (before i).entries))
-      ∙ ap (known bytes) entries_cut
+  scope_cut was now n before is_now e = grind (arith, nat_tests, entries_cut)
 
   pub sorts_cut : (was now : Listing) (n : ℕ) → was ≡ listing bytes (sorts_of specifications whole) → now ≡ listing was.bytes (take n was.names) →
       n ≡ length (sorts_of specifications front) → now ≡ listing bytes (sorts_of specifications front)
-  sorts_cut was now n before is_now e =
-      is_now
-      ∙ (λ i. listing (before i).bytes (take (e i) (before i).names))
-      ∙ ap (listing bytes) names_cut
+  sorts_cut was now n before is_now e = grind (arith, nat_tests, names_cut)
 
 -- ---- the last level
 one_further : {A : Type 0} (x y : A) (ys : List A) → slice_get (x ∷ y ∷ ys) (length (x ∷ y ∷ ys) - 1) ≡ slice_get (y ∷ ys) (length (y ∷ ys) - 1)
@@ -61,9 +116,7 @@ one_further x y ys = let e : length (x ∷ y ∷ ys) - 1 ≡ suc (length (y ∷ 
 last_apart : (ls : List Level) (l : Level) → Some l ≡ slice_get ls (length ls - 1) → ls ≡ take (length ls - 1) ls ++ l ∷ []
 last_apart [] l e = absurd cc
 last_apart (x ∷ []) l e = let same : x ≡ l = cc in ap (λ y. y ∷ []) same
-last_apart (x ∷ y ∷ ls) l e =
-    let k : length (x ∷ y ∷ ls) - 1 ≡ suc (length (y ∷ ls) - 1) = omega arith in
-    ap (λ zs. x ∷ zs) (last_apart (y ∷ ls) l (e ∙ one_further x y ls)) ∙ ap (λ n. take n (x ∷ y ∷ ls) ++ l ∷ []) (sym k)
+last_apart (x ∷ y ∷ ls) l e = grind (arith, nat_tests, last_apart (y ∷ ls) l (e ∙ one_further x y ls))
 
 -- ---- the path that is cut back
 -- a level that is put at the end comes first on the path
@@ -82,9 +135,7 @@ path_apart ls n e = by (slice_get ls (length ls - 1)) refl e
 
 -- the last level is the one to which is cut back
 pub cut_there : (ls : List Level) (n : ℕ) → last_number ls ≡ Some n → cut (Some n) (path_of ls) ≡ path_of ls
-cut_there ls n e =
-    let rest = path_of (take (length ls - 1) ls) in
-    ap (cut (Some n)) (path_apart ls n e) ∙ ap (λ b. cond b (n ∷ rest) (cut (Some n) rest)) (eq-eqb n n refl) ∙ sym (path_apart ls n e)
+cut_there ls n e = grind (arith, nat_tests, path_apart, eq-eqb)
 
 -- the last level is another one
 pub cut_further : (number : Option ℕ) (ls : List Level) (n : ℕ) → last_number ls ≡ Some n → ((p : ℕ) → number ≡ Some p → nat_eq p n ≡ false) →
@@ -95,8 +146,7 @@ cut_further (Some p) ls n e other =
     sym (ap (λ b. cond b (n ∷ rest) (cut (Some p) rest)) (other p refl)) ∙ ap (cut (Some p)) (sym (path_apart ls n e))
 
 pub cut_none : (number : Option ℕ) → cut number [] ≡ []
-cut_none None = refl
-cut_none (Some p) = refl
+cut_none number = grind (arith, nat_tests)
 
 -- no level is last where there is none
 none_last : (ls : List Level) → None ≡ slice_get ls (length ls - 1) → ls ≡ []
@@ -151,17 +201,40 @@ module _ (bytes : List ℕ) (specifications : List Specification) where
     pub front : IsFront (last_material bytes specifications [] new) (last_material bytes specifications [] old)
 
   pub left : (old new : List Level) (popped : Option Level) → old ≡ new ++ option_to_list popped → AreLevels bytes specifications [] old → Left old new
-  left old new None e r =
-      let same : new ≡ old = sym (append-nil new) ∙ sym e in
-      let P : List Level → Type 0 = λ ls. Left old ls in
-      subst P (sym same) (record { levels = r; front = take-length (last_material bytes specifications [] old) })
-  left old new (Some l) e r =
-      let P : List Level → Type 0 = λ ls. Left ls new in
-      let R : List Level → Type 0 = λ ls. AreLevels bytes specifications [] ls in
-      let rises : AreLevels bytes specifications [] (new ++ l ∷ []) = subst R e r in
-      subst P (sym e) (record {
-        levels = levels_popped [] new l rises;
-        front =
-            ap (take (length (last_material bytes specifications [] new))) (last_pushed [] new l)
-            ∙ (last_on [] new l rises).front;
-      })
+  left old new popped e r = grind (arith, nat_tests, append-nil, take-length, levels_popped, last_pushed, last_on)
+
+-- ---- a specification becomes a level: its material is at hand once its own names are declared
+
+module _ (bytes : List ℕ) (specifications : List Specification) (number count : ℕ) (s : Specification) (i j : Inclusion) (d : IsDeclared bytes specifications number s count i) where
+  there : Some s ≡ slice_get specifications number
+  there = sym d.is
+
+  -- the material with the specification's own number
+  is_material : i.material.keys ++ number ∷ [] ≡ material_of bytes specifications number
+  is_material = ap (λ ns. ns ++ number ∷ []) d.material ∙ sym (material_is bytes specifications number s d.is)
+
+  keys_are : j.material.keys ≡ insert_key nat_eq i.material.keys number → j.material.keys ≡ material_of bytes specifications number
+  keys_are e = grind (arith, nat_tests, number_new number, included_below bytes specifications number, material_is bytes specifications number)
+
+  own_symbols : map symbol_entry (symbols_by s) ≡ included_entries specifications (number ∷ [])
+  own_symbols = ap (map symbol_entry) (at_one symbols_by specifications number s there)
+
+  -- without its variables, the declared names are those of its material
+  scope_is : j.scope ≡ known i.scope.bytes (take count i.scope.entries) → j.scope ≡ known bytes (included_entries specifications (material_of bytes specifications number))
+  scope_is e = grind (arith, nat_tests, length-map, length-append, append_assoc, front_cut, own_symbols, entries_append, is_material)
+
+  sorts_are : i.sorts ≡ listing bytes (sorts_of specifications (material_of bytes specifications number))
+  sorts_are = grind (arith, nat_tests, at_one, there, at_append, is_material)
+
+  rules_are : j.rules ≡ min (i.rules + length s.rules) (2 ^ 64 - 1) → j.rules ≡ counted (length (rules_of specifications (material_of bytes specifications number)))
+  rules_are e = grind (arith, nat_tests, rules_more, at_one, there, is_material)
+
+  front_is : IsFront (last_material bytes specifications [] i.levels.items) (material_of bytes specifications number)
+  front_is = grind (arith, nat_tests, common_steps, is_material, whole_of, append_assoc, front_cut)
+
+  pub entered : (l : Level) → j.scope ≡ known i.scope.bytes (take count i.scope.entries) → j.sorts ≡ i.sorts →
+      j.rules ≡ min (i.rules + length s.rules) (2 ^ 64 - 1) → j.material.keys ≡ insert_key nat_eq i.material.keys number →
+      j.levels.items ≡ i.levels.items ++ l ∷ [] → l.number ≡ number →
+      l.extent ≡ record { material = length j.material.keys; symbols = length j.scope.entries; sorts = length j.sorts.names; rules = j.rules } →
+      IsAtLevel bytes specifications j
+  entered l scope sorts rules keys levels numbered extent = grind (arith, nat_tests, keys_are, scope_is, sorts_are, rules_are, length-map, closed_material, levels_pushed, front_is, last_pushed)

@@ -1,13 +1,7 @@
-pub mod Including
-pub mod Noted
-pub mod Orders
-pub mod Verdicts
 pub mod Groups
 pub mod Leasts
 pub mod Levels
 pub mod Along
-pub mod Entered
-pub mod Early
 pub mod AnyOrder
 pub mod Visits
 pub mod Walks

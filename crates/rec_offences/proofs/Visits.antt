@@ -1,5 +1,6 @@
 -- Visits of whole terms beside one another.
-use Rattle.std.proofs.Common.{◌≡◌, ◌≤◌, ◌∙◌, ℕ, ◌+◌, ◌-◌, List, [], ◌∷◌, ◌++◌, length, take, drop, map, Bool, true, false, nat_lt, cond, refl, ap, sym, arith, append_assoc, append-nil, Some, None}
+use Rattle.std.proofs.lemmas.Bool.Decides.{nat_tests}
+use Rattle.std.proofs.Common.{◌≡◌, ◌≤◌, ◌∙◌, ℕ, ◌+◌, ◌-◌, List, [], ◌∷◌, ◌++◌, length, take, map, refl, ap, sym, arith, append_assoc, append-nil, Some}
 use Rattle.std.specs.Prelude.{All}
 use Rattle.std.specs.List.{flat_map}
 use Rattle.std.proofs.lemmas.Bool.{ltb-false}
@@ -11,7 +12,7 @@ use Rattle.std.proofs.Math.Seq.{drop-append-add, take-append-add}
 use Rattle.rec_reader.specs.declared.token.Name.{Name}
 use Rattle.rec_reader.specs.declared.syntax_tree.Node.{Node}
 use Rattle.rec_reader.specs.Whole.{terms_after, IsWhole}
-use Rattle.rec_offences.specs.Scope.{Visit, visit, visits}
+use Rattle.rec_offences.specs.Scope.{Visit, visits}
 use Rattle.rec_offences.specs.Laws.{Argument, nodes_of, VisitsAreOfArguments}
 
 -- the stack after a node, and after nodes
@@ -28,18 +29,7 @@ record Fits (s : List Name) (n : Node) (ns : List Node) (m : ℕ) : Type 0 where
   then' : terms_after (length (stack_with s n)) ns ≡ Some m
 
 fits : (s : List Name) (n : Node) (ns : List Node) (m : ℕ) → terms_after (length s) (n ∷ ns) ≡ Some m → Fits s n ns m
-fits s n ns m e = by (nat_lt (length s) n.count) refl
-  where
-    by : (b : Bool) → nat_lt (length s) n.count ≡ b → Fits s n ns m
-    by true h = absurd (none-some m (sym (ap (λ b. cond b None (terms_after (length s - n.count + 1) ns)) h) ∙ e))
-    by false h =
-        let enough : n.count ≤ length s = ltb-false (length s) n.count h in
-        let less : length s - n.count ≤ length s = omega arith in
-        let long : length (stack_with s n) ≡ length s - n.count + 1 = length-append (take (length s - n.count) s) (n.head ∷ []) ∙ ap (λ k. k + 1) (length-take-le (length s - n.count) s less) in
-        record {
-          enough = enough;
-          then' = ap (λ k. terms_after k ns) long ∙ sym (ap (λ b. cond b None (terms_after (length s - n.count + 1) ns)) h) ∙ e;
-        }
+fits s n ns m e = grind (arith, nat_tests, none-some, ltb-false, length-append, length-take-le)
 
 long_after : (s : List Name) (ns : List Node) (m : ℕ) → terms_after (length s) ns ≡ Some m → length (stack_after s ns) ≡ m
 long_after s [] m e = let same : length s ≡ m = cc in same
@@ -52,24 +42,11 @@ last_after s (k ∷ ns) n = last_after (stack_with s k) ns n
 -- nodes that have their arguments among themselves are visited alike over any stack
 over : (base s : List Name) (ns rest : List Node) (m : ℕ) → terms_after (length s) ns ≡ Some m → visits (base ++ s) (ns ++ rest) ≡ visits s ns ++ visits (base ++ stack_after s ns) rest
 over base s [] rest m e = refl
-over base s (n ∷ ns) rest m e =
-    let f = fits s n ns m e in
-    let enough = f.enough in
-    let whole = length-append base s in
-    let left : length (base ++ s) - n.count ≡ length base + (length s - n.count) = omega (arith, whole, enough) in
-    let dropped : drop (length (base ++ s) - n.count) (base ++ s) ≡ drop (length s - n.count) s = ap (λ k. drop k (base ++ s)) left ∙ drop-append-add base s (length s - n.count) in
-    let taken : stack_with (base ++ s) n ≡ base ++ stack_with s n = ap (λ k. take k (base ++ s) ++ n.head ∷ []) left ∙ ap (λ l. l ++ n.head ∷ []) (take-append-add base s (length s - n.count)) ∙ append_assoc base (take (length s - n.count) s) (n.head ∷ []) in
-    ap (λ d. visit n d ∷ visits (stack_with (base ++ s) n) (ns ++ rest)) dropped
-    ∙ ap (λ l. visit n (drop (length s - n.count) s) ∷ visits l (ns ++ rest)) taken
-    ∙ ap (λ vs. visit n (drop (length s - n.count) s) ∷ vs) (over base (stack_with s n) ns rest m f.then')
+over base s (n ∷ ns) rest m e = grind (arith, nat_tests, over base (stack_with s n) ns rest m, fits, length-append, drop-append-add, take-append-add, append_assoc)
 
 -- a list of one is its last
 one_alone : (s : List Name) (k : ℕ) (h : Name) → length (take k s ++ h ∷ []) ≡ 1 → take k s ++ h ∷ [] ≡ h ∷ []
-one_alone s k h e = by (take k s) e
-  where
-    by : (t : List Name) → length (t ++ h ∷ []) ≡ 1 → t ++ h ∷ [] ≡ h ∷ []
-    by [] e = refl
-    by (x ∷ t) e = let n = length-append t (h ∷ []) in absurd (omega (arith, e, n))
+one_alone s k h e = grind (arith, nat_tests, length-append)
 
 -- a whole term leaves its head on the stack
 one_whole : (base : List Name) (a : Argument) (rest : List Node) → IsWhole (nodes_of a) → visits base (nodes_of a ++ rest) ≡ visits [] (nodes_of a) ++ visits (base ++ a.last.head ∷ []) rest
@@ -105,8 +82,4 @@ whole_terms base (a ∷ others) rest w =
     ∙ ap (λ b. all_visits_of (a ∷ others) ++ visits b rest) (append_assoc base (h ∷ []) (heads_of others))
 
 pub visits_are_of_arguments : VisitsAreOfArguments
-visits_are_of_arguments node arguments w n =
-    let m = length-map arguments (λ a. a.last.head) in
-    let none : length (heads_of arguments) - node.count ≡ 0 = omega (arith, m, n) in
-    whole_terms [] arguments (node ∷ []) w
-    ∙ ap (λ k. all_visits_of arguments ++ visit node (drop k (heads_of arguments)) ∷ []) none
+visits_are_of_arguments node arguments w n = grind (arith, nat_tests, length-map, whole_terms)

@@ -1,5 +1,6 @@
 -- A walk that keeps sorts notes what is wrong at the visits of a term.
-use Rattle.std.proofs.Common.{◌≡◌, ℕ, ◌+◌, ◌-◌, ◌<◌, List, [], ◌∷◌, ◌++◌, length, take, drop, get_or, Bool, true, false, not, cond, Option, Some, None, refl, sym, ap, ◌∙◌}
+use Rattle.std.proofs.lemmas.Bool.Decides.{nat_tests}
+use Rattle.std.proofs.Common.{arith, ◌≡◌, ℕ, ◌+◌, ◌-◌, ◌<◌, List, [], ◌∷◌, ◌++◌, length, take, drop, get_or, Bool, true, false, not, cond, Option, refl, ap, ◌∙◌}
 use Rattle.std.specs.List.{filter, flat_map}
 use Rattle.std.specs.Option.{option_map, option_map_or}
 use Rattle.std.proofs.lemmas.List.{drop_more, length-map, take-map, drop-map, map-append}
@@ -11,16 +12,15 @@ use Rattle.faults.specs.declared.refusal.Refusal.{Refusal}
 use Rattle.rec_offences.specs.declared.offences.heads.Argument.{Argument}
 use Rattle.rec_includes.specs.Names.{same_text}
 use Rattle.rec_offences.specs.Scope.{Entry, Visit, visits, look_up, is_variable, heads}
-use Rattle.rec_offences.specs.Offences.{clashing, unknown_name, wrong_count}
-use Rattle.rec_offences.specs.Faults.{of_kind, least_with}
+use Rattle.rec_offences.specs.Offences.{clashing}
+use Rattle.rec_offences.specs.Faults.{least_with}
 use Rattle.rec_offences.specs.Walked.{sort_of, argument, arguments_of, heads_on, clashing_sorts, misplaced, at_side, at_node, visit_over, names_with}
-use Rattle.rec_offences.proofs.Noted.{least_append}
+use Rattle.rec_offences.proofs.Leasts.{least_append}
 
 module _ (bytes : List ℕ) (entries : List Entry) where
   other_sort : (w : Name) (o : Option Entry) →
       option_map_or (λ s. not (same_text bytes w s)) (option_map (λ e. e.declared.sort) o) false ≡ option_map_or (λ e. not (same_text bytes w e.declared.sort)) o false
-  other_sort w None = refl
-  other_sort w (Some e) = refl
+  other_sort w o = grind (arith, nat_tests)
 
   same_clashes : (ws ns : List Name) → clashing_sorts bytes ws (arguments_of bytes entries ns) ≡ clashing bytes entries ws ns
   same_clashes [] ns = refl
@@ -30,12 +30,7 @@ module _ (bytes : List ℕ) (entries : List Entry) where
   -- what is wrong at a node whose arguments come with their sorts
   same_offences : (is_value : Bool) (node : Node) (names : List Name) →
       at_node is_value bytes entries node (arguments_of bytes entries (drop (length names - node.count) names)) ≡ at_side is_value bytes entries (visit_over names node)
-  same_offences is_value node names =
-      let v = visit_over names node in
-      λ i. of_kind 11 (misplaced is_value bytes entries node.head)
-      ++ (of_kind 5 (unknown_name bytes entries v)
-      ++ of_kind 7 (wrong_count bytes entries v)
-      ++ of_kind 8 (option_map_or (λ e. same_clashes e.declared.arguments v.arguments i) (look_up bytes entries node.head) []))
+  same_offences is_value node names = grind (arith, nat_tests, same_clashes)
 
   below_is : (names : List Name) (items : List Argument) (count : ℕ) → items ≡ arguments_of bytes entries names → length items - count ≡ length names - count
   below_is names items count is = ap (λ k. k - count) (ap length is ∙ length-map names (argument bytes entries))
@@ -43,24 +38,12 @@ module _ (bytes : List ℕ) (entries : List Entry) where
   pub noted_over : (is_value : Bool) (node : Node) (names : List Name) (items : List Argument) (below : ℕ) (found now : Option Refusal) →
       items ≡ arguments_of bytes entries names → below ≡ length items - node.count →
       now ≡ least_with found (at_node is_value bytes entries node (drop below items)) → now ≡ least_with found (at_side is_value bytes entries (visit_over names node))
-  noted_over is_value node names items below found now is at noted =
-      let from = at ∙ below_is names items node.count is in
-      noted
-      ∙ (λ i. least_with found (at_node is_value bytes entries node (drop (from i) (is i))))
-      ∙ ap (λ arguments. least_with found (at_node is_value bytes entries node arguments)) (drop-map (argument bytes entries) (length names - node.count) names)
-      ∙ ap (least_with found) (same_offences is_value node names)
+  noted_over is_value node names items below found now is at noted = grind (arith, nat_tests, below_is, drop-map, same_offences)
 
   pub stacked : (node : Node) (names : List Name) (items rest new : List Argument) (below : ℕ) (sort : Option Name) →
       items ≡ arguments_of bytes entries names → below ≡ length items - node.count → sort ≡ sort_of bytes entries node.head →
       rest ≡ take below items → new ≡ rest ++ record { head = node.head; sort = sort } ∷ [] → new ≡ arguments_of bytes entries (names_with names node)
-  stacked node names items rest new below sort is at sorted cut last =
-      let from = at ∙ below_is names items node.count is in
-      let with : Option Name → Argument = λ o. record { head = node.head; sort = o } in
-      last
-      ∙ (λ i. cut i ++ with (sorted i) ∷ [])
-      ∙ (λ i. take (from i) (is i) ++ argument bytes entries node.head ∷ [])
-      ∙ ap (λ xs. xs ++ argument bytes entries node.head ∷ []) (take-map (argument bytes entries) (length names - node.count) names)
-      ∙ sym (map-append (argument bytes entries) (take (length names - node.count) names) (node.head ∷ []))
+  stacked node names items rest new below sort is at sorted cut last = grind (arith, nat_tests, below_is, take-map, map-append)
 
   pub heads_same : (names : List Name) → heads_on (arguments_of bytes entries names) ≡ names
   heads_same [] = refl
@@ -70,29 +53,15 @@ module _ (bytes : List ℕ) (entries : List Entry) where
   value_variables : (stack : List Name) (nodes : List Node) →
       flat_map (λ v. misplaced true bytes entries v.node.head) (visits stack nodes) ≡ filter (is_variable bytes entries) (heads nodes)
   value_variables stack [] = refl
-  value_variables stack (n ∷ ns) = by (is_variable bytes entries n.head) (value_variables (names_with stack n) ns)
-    where
-      by : (b : Bool) → flat_map (λ v. misplaced true bytes entries v.node.head) (visits (names_with stack n) ns) ≡ filter (is_variable bytes entries) (heads ns) →
-          cond b (n.head ∷ []) [] ++ flat_map (λ v. misplaced true bytes entries v.node.head) (visits (names_with stack n) ns)
-          ≡ cond b (n.head ∷ filter (is_variable bytes entries) (heads ns)) (filter (is_variable bytes entries) (heads ns))
-      by true e = ap (λ xs. n.head ∷ xs) e
-      by false e = e
+  value_variables stack (n ∷ ns) = grind (arith, nat_tests, value_variables (names_with stack n) ns)
 
   pub values_variables : (terms : List (List Node)) →
       flat_map (λ v. misplaced true bytes entries v.node.head) (flat_map (visits []) terms) ≡ filter (is_variable bytes entries) (flat_map heads terms)
   values_variables [] = refl
-  values_variables (t ∷ ts) =
-      flat_map-append (λ v. misplaced true bytes entries v.node.head) (visits [] t) (flat_map (visits []) ts)
-      ∙ (λ i. value_variables [] t i ++ values_variables ts i)
-      ∙ sym (filter-append (is_variable bytes entries) (heads t) (flat_map heads ts))
+  values_variables (t ∷ ts) = grind (arith, nat_tests, values_variables ts, flat_map-append, value_variables, filter-append)
 
 -- after one node more
 pub node_turn : (f : Visit → List Refusal) (names new : List Name) (nodes : List Node) (i : ℕ) (other : Node) (found now start : Option Refusal) →
     i < length nodes → new ≡ names_with names (get_or nodes i other) → now ≡ least_with found (f (visit_over names (get_or nodes i other))) →
     least_with found (flat_map f (visits names (drop i nodes))) ≡ start → least_with now (flat_map f (visits new (drop (i + 1) nodes))) ≡ start
-node_turn f names new nodes i other found now start l is seen was =
-    let node = get_or nodes i other in
-    (λ j. least_with (seen j) (flat_map f (visits (is j) (drop (i + 1) nodes))))
-    ∙ sym (least_append found (f (visit_over names node)) (flat_map f (visits (names_with names node) (drop (i + 1) nodes))))
-    ∙ ap (λ ns. least_with found (flat_map f (visits names ns))) (sym (drop_more nodes i other l))
-    ∙ was
+node_turn f names new nodes i other found now start l is seen was = grind (arith, nat_tests, least_append, drop_more)

@@ -1,13 +1,10 @@
-use Rattle.std.proofs.Common.{◌∙◌, sym, refl}
+use Rattle.std.proofs.Common.{arith}
+use Rattle.std.proofs.lemmas.Grind.{common_steps}
 use Rattle.rec_check.proofs.Ifs.{is_first}
 use Rattle.rec_check.proofs.conditions.unconditional.Goals as goal
 
 pub returns-in-Some-clause-refused_only_at_the_first : goal.returns-in-Some-clause-refused_only_at_the_first
-returns-in-Some-clause-refused_only_at_the_first c = (
-  refl,
-  sym (c.in-Some.ensures ∙ is_first c.args.syntax.now c.as_slice.result.now c.deref.result.now c.as_slice.ensures.specifications (c.deref.ensures.value ∙ c.in_ok-material.ensures)),
-)
+returns-in-Some-clause-refused_only_at_the_first c = grind (arith, common_steps, is_first)
 
 pub returns-clause-accepted_only_without_conditions : goal.returns-clause-accepted_only_without_conditions
-returns-clause-accepted_only_without_conditions c =
-    sym (c.in-None.ensures ∙ is_first c.args.syntax.now c.as_slice.result.now c.deref.result.now c.as_slice.ensures.specifications (c.deref.ensures.value ∙ c.in_ok-material.ensures))
+returns-clause-accepted_only_without_conditions c = grind (arith, common_steps, is_first)

@@ -1,4 +1,5 @@
-use Rattle.std.proofs.Common.{◌≡◌, ◌∙◌, ◌<◌, List, Option, Some, IfOk, is_some, length, ap, sym, subst, arith}
+use Rattle.std.proofs.lemmas.Grind.{common_steps}
+use Rattle.std.proofs.Common.{◌≡◌, ◌∙◌, ◌<◌, List, Option, Some, IfOk, length, ap, sym, subst, arith}
 use Rattle.std.proofs.lemmas.List.{length-map}
 use Rattle.rewrite_model.specs.Rule.{Rule}
 use Rattle.rec_reader.specs.declared.syntax_tree.Node.{Node}
@@ -6,14 +7,11 @@ use Rattle.rec_includes.specs.Names.{text_of}
 use Rattle.rec_includes.specs.Listing.{texts}
 use Rattle.rec_check.specs.Rule.{variables_in}
 use Rattle.rec_check.proofs.Chains.{in_scope}
-use Rattle.rec_check.proofs.Fewness.{variables_few}
+use Rattle.rec_check.proofs.Numbered.{variables_few}
 use Rattle.rec_check.proofs.rules.rule_of.Goals as goal
 
 pub sides_of-requires : goal.sides_of-requires
-sides_of-requires c =
-    let d = c.args.declared.now in
-    let names = c.in_ok-variables.ensures.texts ∙ ap (variables_in d.bytes (texts d)) c.as_slice.ensures in
-    ap is_some (in_scope _ _ c.args.symbols.now _ _ c.args.written.now c.in_ok-variables.ensures.bytes names) ∙ c.requires.spelled
+sides_of-requires c = grind (arith, common_steps, in_scope)
 
 pub returns : goal.returns
 returns c =

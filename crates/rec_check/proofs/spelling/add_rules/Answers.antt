@@ -1,7 +1,7 @@
-use Rattle.std.proofs.Common.{◌∙◌, ◌++◌, ap, is_some}
+use Rattle.std.proofs.Common.{rules, ◌∙◌, ◌++◌, ap, is_some}
 use Rattle.std.specs.List.{flat_map}
 use Rattle.rec_includes.specs.Listing.{listing}
-use Rattle.rec_check.proofs.Gathering.{of_rules, on_rules}
+use Rattle.rec_check.proofs.Declaring.{of_rules, on_rules}
 use Rattle.rec_check.proofs.spelling.add_rules.Goals as goal
 
 pub push_rules-requires-clause-spelled : goal.push_rules-requires-clause-spelled

@@ -1,5 +1,5 @@
 use Rattle.rec_reader.specs.Few.{HasFewLeftNodes}
-use Rattle.rec_check.proofs.Fewness.{at_place}
+use Rattle.rec_check.proofs.Numbered.{at_place}
 use Rattle.rec_check.proofs.spelling.rules_of.Goals as goal
 
 pub add_rules-requires-clause-few : goal.add_rules-requires-clause-few

@@ -1,12 +1,11 @@
-use Rattle.std.proofs.Common.{◌∙◌, ap, is_some}
+use Rattle.std.proofs.Common.{arith, ◌∙◌}
+use Rattle.std.proofs.lemmas.Grind.{common_steps}
 use Rattle.rec_check.proofs.Declaring.{brings, is_brought, brings_nothing}
 use Rattle.rec_check.proofs.spelling.table_of.Goals.{in-Some+in_ok-declare, in_default}
 use Rattle.rec_check.proofs.spelling.table_of.Goals as goal
 
 pub declare-requires : goal.declare-requires
-declare-requires c =
-    is_brought c.args.text.now c.args.specifications.now c.args.material.now c.loop-number.number-index 0 c.loop-number-test.true c.loop-number.table.symbols c.in-Some.specification.now c.as_slice.result.now c.in-Some.ensures c.as_slice.ensures
-    (ap is_some c.loop-number.invariant ∙ c.requires)
+declare-requires c = grind (arith, common_steps, is_brought)
 
 pub loop-number-preserved : goal.loop-number-preserved
 loop-number-preserved c =

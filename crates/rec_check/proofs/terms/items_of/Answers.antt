@@ -1,4 +1,4 @@
-use Rattle.rec_check.proofs.OneByOne.{next, one_spelled}
+use Rattle.rec_check.proofs.Declaring.{next, one_spelled}
 use Rattle.rec_check.proofs.terms.items_of.Goals as goal
 
 pub item_of-requires : goal.item_of-requires

@@ -1,28 +1,24 @@
+use Rattle.std.proofs.lemmas.Bool.Decides.{nat_tests}
+use Rattle.std.proofs.lemmas.Grind.{common_steps}
 use Rattle.std.proofs.Common.{◌≡◌, ℕ, ◌<◌, List, [], ◌∷◌, ◌++◌, slice_get, Option, Some, None, refl, sym, ap, subst, ◌∙◌, append_assoc, append-nil, length, arith}
 use Rattle.std.specs.Option.{option_map}
-use Rattle.std.proofs.lemmas.Option.{some_pair_parts}
 use Rattle.rec_reader.specs.declared.token.Name.{Name}
 use Rattle.rec_reader.specs.declared.syntax_tree.Specification.{Specification}
 use Rattle.rec_includes.specs.declared.gathering.Frame.{Frame}
 use Rattle.rec_includes.specs.Material.{fresh, with_numbers, material_of}
-use Rattle.rec_includes.specs.Numbered.{header_names}
-use Rattle.rec_includes.specs.Numbered.{includes_at}
+use Rattle.rec_includes.specs.Numbered.{header_names, includes_at}
 use Rattle.rec_includes.specs.Walk.{after, entry_in, next_in, missing}
 use Rattle.rec_includes.proofs.Fresh.{one_number}
 use Rattle.rec_includes.proofs.Brought.{target_before}
-use Rattle.rec_includes.proofs.Walk.{frame, finish}
-use Rattle.rec_includes.proofs.Steps.{IsUnderWay, begins, passes_over, goes_into, missing_is, ends}
-use Rattle.rec_includes.proofs.Weight.{weights, lighter_after, lighter_into, lighter_ended}
+use Rattle.rec_includes.proofs.Walk.{frame, finish, IsUnderWay, begins, passes_over, goes_into, missing_is, ends, weights, lighter_after, lighter_into, lighter_ended}
 use Rattle.rec_includes.proofs.gathering.gather_absent.Goals as goal
 
 -- the next entry, and the frame after it
 next_is : (o : Option Name) (v : Frame) (e : Name) (rest : Frame) → ◌≡◌ {A = Option (Name × Frame)} (Some (e, rest)) (option_map (entry_in v) o) → (o ≡ Some e) × (rest ≡ after v)
-next_is None v e rest h = absurd cc
-next_is (Some x) v e rest h = let p = some_pair_parts e x rest (after v) h in (ap Some (sym p.0), p.1)
+next_is o v e rest h = grind (arith, nat_tests)
 
 none_next : (o : Option Name) (v : Frame) → None ≡ option_map (entry_in v) o → o ≡ None
-none_next None v h = refl
-none_next (Some x) v h = absurd cc
+none_next o v h = grind (arith, nat_tests)
 
 module _ (bytes : List ℕ) (xs : List Specification) (names : List Name) (named : names ≡ header_names xs) (m total : List ℕ) (vs frames : List Frame) (v : Frame) (top : frames ≡ vs ++ v ∷ []) where
   module _ (e : Name) (rest : Frame) (next : ◌≡◌ {A = Option (Name × Frame)} (Some (e, rest)) (next_in xs v)) where
@@ -33,10 +29,7 @@ module _ (bytes : List ℕ) (xs : List Specification) (names : List Name) (named
         (passes_over bytes xs m vs v e n.0 total (ap (λ ns. missing bytes ns m v.number e) (sym named) ∙ none) (subst (IsUnderWay bytes xs total m) top w))
 
     over_lighter : (now : List Frame) → now ≡ vs ++ rest ∷ [] → weights xs now < weights xs frames
-    over_lighter now is =
-        let n = next_is (slice_get (includes_at xs v.number) v.next) v e rest next in
-        subst (λ k. weights xs now < weights xs k) (sym top)
-        (subst (λ k. weights xs k < weights xs (vs ++ v ∷ [])) (sym (is ∙ ap (λ r. vs ++ r ∷ []) n.1)) (lighter_after xs vs v e n.0))
+    over_lighter now is = grind (arith, nat_tests, next_is, weights, lighter_after)
 
     into : (p : ℕ) (between now : List Frame) → between ≡ vs ++ rest ∷ [] → now ≡ between ++ frame p 0 ∷ [] → missing bytes names m v.number e ≡ Some p →
         IsUnderWay bytes xs total m frames → IsUnderWay bytes xs total m now
@@ -46,13 +39,7 @@ module _ (bytes : List ℕ) (xs : List Specification) (names : List Name) (named
         (goes_into bytes xs m vs v e n.0 total p (ap (λ ns. missing bytes ns m v.number e) (sym named) ∙ some) (subst (IsUnderWay bytes xs total m) top w))
 
     into_lighter : (p : ℕ) (between now : List Frame) → between ≡ vs ++ rest ∷ [] → now ≡ between ++ frame p 0 ∷ [] → missing bytes names m v.number e ≡ Some p → weights xs now < weights xs frames
-    into_lighter p between now was is some =
-        let n = next_is (slice_get (includes_at xs v.number) v.next) v e rest next in
-        let t = missing_is bytes xs m vs v e n.0 p (ap (λ ns. missing bytes ns m v.number e) (sym named) ∙ some) in
-        let l = target_before bytes xs v.number e p t in
-        subst (λ k. weights xs now < weights xs k) (sym top)
-        (subst (λ k. weights xs k < weights xs (vs ++ v ∷ [])) (sym (is ∙ ap (λ b. b ++ frame p 0 ∷ []) (was ∙ ap (λ r. vs ++ r ∷ []) n.1)))
-        (lighter_into xs vs v e p n.0 l.0))
+    into_lighter p between now was is some = grind (arith, nat_tests, next_is, missing_is, target_before, weights, frame, lighter_into)
 
   ended : (now : List ℕ) → None ≡ next_in xs v → now ≡ with_numbers m (v.number ∷ []) →
       IsUnderWay bytes xs total m frames → IsUnderWay bytes xs total now vs
@@ -64,15 +51,7 @@ module _ (bytes : List ℕ) (xs : List Specification) (names : List Name) (named
   ended_lighter = subst (λ k. weights xs vs < weights xs k) (sym top) (lighter_ended xs vs v)
 
 pub loop-frame-init : goal.loop-frame-init
-loop-frame-init c =
-    let bytes = c.args.headers.now.bytes in
-    let xs = c.args.specifications.now in
-    let m = c.args.material.now.keys in
-    let first : c.push.new.self.items ≡ frame c.args.number 0 ∷ [] = c.in_ok-push.ensures.items ∙ ap (λ k. k ++ frame c.args.number 0 ∷ []) c.new-frames.ensures.items in
-    record {
-      walk = subst (IsUnderWay bytes xs (with_numbers m (material_of bytes xs c.args.number)) m) (sym first) (begins bytes xs m c.args.number c.requires.there c.requires.closed);
-      added = sym (append-nil m) ∙ ap (λ k. m ++ k) (sym c.new-added.ensures.items);
-    }
+loop-frame-init c = grind (arith, common_steps, frame, begins, append-nil)
 
 pub loop-frame-smaller-in-Continue-branch-3 : goal.loop-frame-smaller-in-Continue-branch-3
 loop-frame-smaller-in-Continue-branch-3 c =
@@ -96,11 +75,7 @@ loop-frame-preserved-in-Continue-branch-3 c =
     }
 
 pub loop-frame-smaller-in_default-missing : goal.loop-frame-smaller-in_default-missing
-loop-frame-smaller-in_default-missing c =
-    over_lighter c.args.headers.now.bytes c.args.specifications.now c.args.headers.now.names c.requires.names c.loop-frame.material.keys []
-    c.pop.new.self.items c.loop-frame.frames.items c.in-Some.frame c.in-Some.ensures.items
-    c.in-Some-next_entry.entry c.in-Some-next_entry.rest c.in-Some-next_entry.ensures
-    c.push-in-Some-next_entry.new.self.items c.in_ok-push-in-Some-next_entry.ensures.items
+loop-frame-smaller-in_default-missing c = grind (arith, common_steps, over_lighter, frame)
 
 pub loop-frame-preserved-in_default-missing : goal.loop-frame-preserved-in_default-missing
 loop-frame-preserved-in_default-missing c =
@@ -115,9 +90,7 @@ loop-frame-preserved-in_default-missing c =
     }
 
 pub loop-frame-smaller : goal.loop-frame-smaller
-loop-frame-smaller c =
-    ended_lighter c.args.headers.now.bytes c.args.specifications.now c.args.headers.now.names c.requires.names c.loop-frame.material.keys []
-    c.pop.new.self.items c.loop-frame.frames.items c.in-Some.frame c.in-Some.ensures.items
+loop-frame-smaller c = grind (arith, common_steps, ended_lighter, frame)
 
 pub loop-frame-preserved : goal.loop-frame-preserved
 loop-frame-preserved c =
@@ -145,11 +118,4 @@ same_rest [] b c e = e
 same_rest (x ∷ a) b c e = same_rest a b c (let h : ◌≡◌ {A = List ℕ} (x ∷ (a ++ b)) (x ∷ (a ++ c)) = e in cc)
 
 pub returns-clause-added : goal.returns-clause-added
-returns-clause-added c =
-    let bytes = c.args.headers.now.bytes in
-    let xs = c.args.specifications.now in
-    let m = c.args.material.now.keys in
-    let none : c.loop-frame.frames.items ≡ [] = none_left c.loop-frame.frames.items (omega (arith, c.loop-frame.frames.ok.0, c.in_default.ensures.cases.0)) in
-    let all : c.loop-frame.material.keys ≡ with_numbers m (material_of bytes xs c.args.number) =
-    ap (finish bytes xs c.loop-frame.material.keys) (sym none) ∙ c.loop-frame.invariant.walk.comes in
-    same_rest m c.loop-frame.added.items (fresh m (material_of bytes xs c.args.number)) (sym c.loop-frame.invariant.added ∙ all)
+returns-clause-added c = grind (arith, common_steps, none_left, finish, same_rest)

@@ -1,7 +1,6 @@
 use Rattle.std.proofs.Common.{◌≡◌, ◌++◌}
 use Rattle.rec_includes.specs.Material.{with_numbers, material_of}
-use Rattle.rec_includes.proofs.Steps.{IsUnderWay}
-use Rattle.rec_includes.proofs.Weight.{weights}
+use Rattle.rec_includes.proofs.Walk.{IsUnderWay, weights}
 use Rattle.rec_includes.proofs.gathering.gather_absent.Given as goal
 
 abbrev pub invariant-loop-frame : goal.invariant-loop-frame

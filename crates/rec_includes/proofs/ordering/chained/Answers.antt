@@ -1,20 +1,13 @@
-use Rattle.std.proofs.Common.{◌<◌, length, sym, subst, ap, ◌∙◌, add-one, arith}
+use Rattle.std.proofs.lemmas.Grind.{common_steps}
+use Rattle.std.proofs.Common.{◌<◌, length, subst, ap, ◌∙◌, add-one, arith}
 use Rattle.std.proofs.lemmas.List.Elements.{All-from_recursion}
 use Rattle.rec_includes.specs.Forest.{Leads, parent_of, preorder, put}
 use Rattle.rec_includes.specs.Numbered.{first_target}
-use Rattle.rec_includes.proofs.Forests.{parent_before, parent_is, all_before}
-use Rattle.rec_includes.proofs.Preorders.{preorder_below, preorder_distinct}
+use Rattle.rec_includes.proofs.Forests.{parent_before, parent_is, all_before, preorder_below, preorder_distinct}
 use Rattle.rec_includes.proofs.ordering.chained.Goals as goal
 
 pub put-requires-clause-parent : goal.put-requires-clause-parent
-put-requires-clause-parent c =
-    let h = c.args.headers.now in
-    let ss = c.args.specifications.now in
-    let n = c.loop-number.number in
-    let s = c.index-specifications-number.result in
-    let l : n < length ss = omega arith in
-    let is = c.first_target.ensures ∙ ap (first_target h.bytes h.names n) c.as_slice-entries.ensures ∙ parent_is h.bytes h.names ss n s l in
-    all_before c.first_target.result n (λ p e. parent_before h.bytes h.names ss n p (sym is ∙ e))
+put-requires-clause-parent c = grind (arith, common_steps, parent_is, all_before, parent_before)
 
 pub loop-number-preserved : goal.loop-number-preserved
 loop-number-preserved c =

@@ -1,7 +1,8 @@
-use Rattle.std.proofs.Common.{◌++◌, [], ◌∷◌, length, None, sym, subst, ap, ◌∙◌, append_assoc, arith}
+use Rattle.std.proofs.lemmas.Grind.{common_steps}
+use Rattle.std.proofs.Common.{◌++◌, [], ◌∷◌, None, sym, subst, ap, ◌∙◌, append_assoc, arith}
 use Rattle.std.proofs.lemmas.List.{get_or_default}
-use Rattle.rec_includes.specs.Forest.{Leads, parent_of, preorder}
-use Rattle.rec_includes.proofs.Chains.{leads_step, one_less, in_order}
+use Rattle.rec_includes.specs.Forest.{Leads}
+use Rattle.rec_includes.proofs.Forests.{leads_step, one_less, in_order}
 use Rattle.rec_includes.proofs.ordering.order.Goals as goal
 
 pub index-rest-requires : goal.index-rest-requires
@@ -26,34 +27,11 @@ loop-rest-preserved c =
     )
 
 pub loop-rest-smaller : goal.loop-rest-smaller
-loop-rest-smaller c =
-    let h = c.args.headers.now in
-    let ss = c.args.specifications.now in
-    let i = c.loop-rest.invariant in
-    let n = c.in-Some.number in
-    let step = leads_step c.in_ok-chain.chain.next.items c.loop-rest.rest n i.0 i.2 c.in-Some.is in
-    one_less c.loop-rest.order.items c.push.new.self.items i.0 step.0 (preorder (parent_of h.bytes h.names ss) (length ss)) n c.in_ok-push.ensures.items step.1 i.1
+loop-rest-smaller c = grind (arith, common_steps, leads_step, one_less)
 
-pub returns-clause-all : goal.returns-clause-all
-returns-clause-all c =
+pub returns : goal.returns
+returns c =
     let h = c.args.headers.now in
     let i = c.loop-rest.invariant in
-    (in_order h.bytes h.names c.args.specifications.now c.in_ok-chain.chain.next.items c.loop-rest.rest c.loop-rest.order.items i.0 c.in_default.is i.2 i.1).all
-
-pub returns-clause-no_others : goal.returns-clause-no_others
-returns-clause-no_others c =
-    let h = c.args.headers.now in
-    let i = c.loop-rest.invariant in
-    (in_order h.bytes h.names c.args.specifications.now c.in_ok-chain.chain.next.items c.loop-rest.rest c.loop-rest.order.items i.0 c.in_default.is i.2 i.1).no_others
-
-pub returns-clause-once : goal.returns-clause-once
-returns-clause-once c =
-    let h = c.args.headers.now in
-    let i = c.loop-rest.invariant in
-    (in_order h.bytes h.names c.args.specifications.now c.in_ok-chain.chain.next.items c.loop-rest.rest c.loop-rest.order.items i.0 c.in_default.is i.2 i.1).once
-
-pub returns-clause-near : goal.returns-clause-near
-returns-clause-near c =
-    let h = c.args.headers.now in
-    let i = c.loop-rest.invariant in
-    (in_order h.bytes h.names c.args.specifications.now c.in_ok-chain.chain.next.items c.loop-rest.rest c.loop-rest.order.items i.0 c.in_default.is i.2 i.1).near
+    let o = in_order h.bytes h.names c.args.specifications.now c.in_ok-chain.chain.next.items c.loop-rest.rest c.loop-rest.order.items i.0 c.in_default.is i.2 i.1 in
+    record { all = o.all; no_others = o.no_others; once = o.once; near = o.near }

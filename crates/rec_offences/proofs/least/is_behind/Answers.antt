@@ -1,6 +1,6 @@
 use Rattle.std.proofs.Common.{◌≡◌, sym, subst}
 use Rattle.rec_offences.specs.Faults.{lesser, offence_at}
-use Rattle.rec_offences.proofs.Orders.{behind}
+use Rattle.rec_offences.proofs.Leasts.{behind}
 use Rattle.rec_offences.proofs.least.is_behind.Goals as goal
 
 pub returns-in-Some : goal.returns-in-Some

@@ -1,4 +1,4 @@
-use Rattle.std.proofs.Common.{length, ap, ◌∙◌}
+use Rattle.std.proofs.Common.{rules, length, ap, ◌∙◌}
 use Rattle.rec_includes.proofs.Gathered.{at_one, at_none}
 use Rattle.rec_offences.proofs.numbered.rules_at.Goals as goal
 

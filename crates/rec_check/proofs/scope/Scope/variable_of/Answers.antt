@@ -1,9 +1,9 @@
-use Rattle.std.proofs.Common.{◌∙◌, position, arith}
+use Rattle.std.proofs.lemmas.Grind.{common_steps}
+use Rattle.std.proofs.Common.{◌∙◌, arith}
 use Rattle.std.specs.Str.{bytes_eq}
 use Rattle.rec_includes.specs.Names.{text_of}
-use Rattle.rec_includes.specs.Listing.{texts}
-use Rattle.rec_check.proofs.Found.{no_variable}
-use Rattle.rec_check.proofs.Listed.{place_of_name}
+use Rattle.rec_check.proofs.Heads.{no_variable}
+use Rattle.rec_check.proofs.Declaring.{place_of_name}
 use Rattle.rec_check.proofs.scope.Scope.variable_of.Goals as goal
 
 pub returns-then-node-eq0 : goal.returns-then-node-eq0
@@ -12,6 +12,4 @@ returns-then-node-eq0 c =
     c.place.ensures ∙ place_of_name v.bytes (bytes_eq (text_of v.bytes c.args.node.head)) v.names
 
 pub returns-else-node-eq0 : goal.returns-else-node-eq0
-returns-else-node-eq0 c =
-    let v = c.args.self.now.variables.now in
-    no_variable c.args.self.now.symbols.now (text_of v.bytes c.args.node.head) c.args.node.count (position (bytes_eq (text_of v.bytes c.args.node.head)) (texts v)) c.requires (omega (arith, c.if-node-eq0.false))
+returns-else-node-eq0 c = grind (arith, common_steps, no_variable)

@@ -1,8 +1,7 @@
 use Rattle.std.proofs.Common.{◌∙◌, length, ap, sym, subst}
 use Rattle.rec_includes.specs.Names.{is_among}
 use Rattle.rec_includes.specs.Indexed.{PlacesRise}
-use Rattle.rec_includes.proofs.Places.{Looks, looks_again}
-use Rattle.rec_includes.proofs.Fronts.{rises_again}
+use Rattle.rec_includes.proofs.Places.{Looks, looks_again, rises_again}
 use Rattle.rec_includes.proofs.directory.Directory.add.Goals as goal
 
 pub invariant_of-self-then-has : goal.invariant_of-self-then-has

@@ -1,17 +1,15 @@
-use Rattle.std.proofs.Common.{nat_eq, ◌∙◌, ap, sym}
+use Rattle.std.proofs.Common.{arith, nat_eq, ◌∙◌, ap, sym}
+use Rattle.std.proofs.lemmas.Grind.{common_steps}
 use Rattle.std.specs.Map.{lookup}
 use Rattle.std.specs.Str.{bytes_eq}
 use Rattle.std.specs.Cmp.Lexicographic.{pointwise}
 use Rattle.std.proofs.lemmas.List.{nil_from_length}
 use Rattle.rec_includes.specs.Names.{text_of}
-use Rattle.rec_includes.specs.Listing.{place_in, place_of_text}
+use Rattle.rec_includes.specs.Listing.{place_in}
 use Rattle.rec_includes.proofs.directory.Directory.place.Goals as goal
 
 pub returns-in-Some : goal.returns-in-Some
-returns-in-Some c =
-    let l = c.args.self.now in
-    let same = c.text_of-text.ensures ∙ ap (λ l. text_of l.bytes c.args.name) c.self.view_is in
-    sym c.in-Some.ensures ∙ ap (place_of_text l) same
+returns-in-Some c = grind (arith, common_steps)
 
 pub returns-in-None : goal.returns-in-None
 returns-in-None c =

@@ -2,8 +2,7 @@ use Rattle.std.proofs.Common.{◌<◌, ℕ, ◌-◌, length, nat_eq, inl, inr, r
 use Rattle.std.specs.Global.{Vec}
 use Rattle.std.specs.Cmp.Lexicographic.{pointwise}
 use Rattle.rec_includes.specs.Indexed.{PlacesRise}
-use Rattle.rec_includes.proofs.Places.{Looks}
-use Rattle.rec_includes.proofs.Fronts.{popped_found, popped_rises, no_entries, front_rises, front_found}
+use Rattle.rec_includes.proofs.Places.{Looks, popped_found, popped_rises, no_entries, front_rises, front_found}
 use Rattle.rec_includes.proofs.directory.Directory.truncate.Goals as goal
 
 pub invariant_of-self : goal.invariant_of-self

@@ -5,7 +5,7 @@ use Rattle.std.specs.Cmp.Lexicographic.{pointwise}
 use Rattle.rec_includes.specs.Names.{text_of}
 use Rattle.rec_includes.specs.Listing.{place_in}
 use Rattle.rec_includes.specs.Indexed.{PlacesRise}
-use Rattle.rec_includes.proofs.Fronts.{below}
+use Rattle.rec_includes.proofs.Places.{below}
 use Rattle.rec_includes.proofs.directory.Directory.truncate.Given as goal
 
 abbrev pub invariant-loop-place : goal.invariant-loop-place

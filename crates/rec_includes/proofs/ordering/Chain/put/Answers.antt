@@ -1,8 +1,9 @@
+use Rattle.std.proofs.lemmas.Grind.{common_steps}
 use Rattle.std.proofs.Common.{◌<◌, ℕ, Option, set, length, Some, None, IfSome, sym, subst, ◌∙◌, arith}
 use Rattle.std.proofs.lemmas.List.{get_or_default}
 use Rattle.std.proofs.lemmas.List.Elements.{recursion_from_All}
 use Rattle.rec_includes.specs.Forest.{Leads, put}
-use Rattle.rec_includes.proofs.Chains.{leads_first, leads_after}
+use Rattle.rec_includes.proofs.Forests.{leads_first, leads_after}
 use Rattle.rec_includes.proofs.ordering.Chain.put.Goals as goal
 
 pub returns-in-Some-clause-put : goal.returns-in-Some-clause-put
@@ -19,8 +20,4 @@ returns-in-Some-clause-put c ns distinct below leads =
     (subst (λ v. Leads (then v) s.first (put (Some p) n ns)) read after)
 
 pub returns-in-None-clause-put : goal.returns-in-None-clause-put
-returns-in-None-clause-put c ns distinct below leads =
-    let s = c.args.self.now in
-    let n = c.args.number in
-    subst (λ o. Leads (set s.next.items n s.first) (Some n) (put o n ns)) (sym c.in-None.is)
-    (leads_first s.next.items n s.first ns c.requires.number (recursion_from_All (λ m. m < n) ns below) leads)
+returns-in-None-clause-put c ns distinct below leads = grind (arith, common_steps, leads_first, recursion_from_All)

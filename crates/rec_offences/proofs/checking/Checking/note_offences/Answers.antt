@@ -1,10 +1,11 @@
-use Rattle.std.proofs.Common.{◌≡◌, ℕ, ◌+◌, List, [], ◌∷◌, ◌++◌, length, map, take, slice_get, Option, Some, Result, Ok, Err, OnOk, refl, sym, ap, subst, ◌∙◌}
+use Rattle.std.proofs.lemmas.Bool.Decides.{nat_tests}
+use Rattle.std.proofs.Common.{arith, rules, ◌≡◌, ℕ, ◌+◌, List, [], ◌++◌, length, map, take, slice_get, Option, Some, Result, OnOk, refl, sym, ap, ◌∙◌}
+use Rattle.std.proofs.lemmas.Grind.{common_steps}
 use Rattle.std.specs.List.{flat_map}
 use Rattle.std.proofs.lemmas.Option.{slice_get_read}
 use Rattle.std.proofs.lemmas.Result.{on_ok_weaker}
-use Rattle.std.proofs.lemmas.List.{take-map}
+use Rattle.std.proofs.lemmas.List.{take-map, length-map}
 use Rattle.std.specs.Option.{option_map_or}
-use Rattle.std.proofs.lemmas.List.{length-map}
 use Rattle.rec_reader.specs.declared.token.Name.{Name}
 use Rattle.rec_reader.specs.declared.syntax_tree.Specification.{Specification}
 use Rattle.rec_includes.specs.Material.{included, headers_of, symbols_by, symbols_of, sorts_of, rules_of}
@@ -13,29 +14,24 @@ use Rattle.rec_offences.specs.Offences.{includes_from}
 use Rattle.rec_offences.specs.Faults.{least_with, included_entries, offences_over, offences_after}
 use Rattle.faults.specs.declared.refusal.Refusal.{Refusal}
 use Rattle.rec_offences.specs.declared.entries.Verdict.{Verdict}
-use Rattle.rec_offences.specs.Grouped.{declared_group, used_group, verdict_of}
+use Rattle.rec_offences.specs.Grouped.{declared_group, used_group, verdict_of, offences_at}
 use Rattle.rec_includes.specs.Listing.{Listing, listing}
 use Rattle.rec_offences.specs.Known.{Known, known}
 use Rattle.rec_includes.specs.Numbered.{header_names, includes_at}
-use Rattle.rec_offences.specs.Grouped.{offences_at}
-use Rattle.rec_offences.specs.Inclusion.{counted, AreLevels, last_material, path_of}
+use Rattle.rec_offences.specs.Inclusion.{counted}
 use Rattle.rec_includes.proofs.Brought.{headers_named}
-use Rattle.rec_offences.proofs.Early.{at_early, early_verdicts}
-use Rattle.rec_offences.proofs.Groups.{declared_is, used_is}
+use Rattle.rec_offences.proofs.Groups.{at_early, early_verdicts, declared_is, used_is}
 use Rattle.rec_includes.proofs.Materials.{below_none, included_below}
 use Rattle.rec_offences.proofs.checking.Checking.note_offences.Goals as goal
 
 pub note_included-requires : goal.note_included-requires
-note_included-requires c =
-    let i = c.in_ok-verdicts.ensures.past.inclusion in
-    record { sorts = ap (λ s. s.bytes) i.sorts; scope = ap (λ s. s.bytes) i.scope }
+note_included-requires c = grind (arith, common_steps)
 
 entries_are : (xs : List Specification) (n : ℕ) (s : Specification) → slice_get xs n ≡ Some s → includes_at xs n ≡ s.includes
 entries_are xs n s e = ap (λ o. option_map_or (λ t. t.includes) o []) e
 
 always : {X E P : Type 0} (r : Result X E) → P → OnOk r P
-always (Ok x) p = p
-always (Err e) p = _
+always r p = grind (arith, nat_tests)
 
 -- what is noted where the included material is at hand is the offences of the specification
 noted : (bytes : List ℕ) (xs : List Specification) (n : ℕ) (s : Specification) (found now : Option Refusal) (names : List Name) (verdicts : List Verdict) (sorts : Listing) (scope : Known) (rules : ℕ) (keys : List ℕ) →
@@ -88,46 +84,7 @@ returns-clause-noted c =
     ++ used_group h.bytes (take n h.names) (length i.scope.entries) i.rules (c.deref.ensures.value j) (map symbol_entry (symbols_by s)) (i.scope.entries ++ own_entries s) s))))
 
 pub returns-clause-checking : goal.returns-clause-checking
-returns-clause-checking c =
-    let h = c.args.self.now.headers.now in
-    let xs = c.args.self.now.specifications.now in
-    let n = c.args.number in
-    let s = c.index-specifications-number.result in
-    let i = c.include_all.new.self in
-    let v = c.in_ok-verdicts.ensures in
-    let d = c.in_ok-symbols.ensures in
-    let at : slice_get xs n ≡ Some s = slice_get_read xs (length xs) n s refl c.requires.there c.index-specifications-number.is in
-    let keys : c.note_included.new.included.material.keys ≡ i.material.keys = ap (λ m. m.keys) d.material in
-    let levels : c.note_included.new.included.levels.items ≡ i.levels.items = ap (λ m. m.items) d.levels in
-    let scope = v.past.inclusion.scope in
-    let sorts = v.past.inclusion.sorts in
-    on_ok_weaker c.enter.result
-    (λ a. record { names = c.requires.checking.names; at_level = a })
-    (c.enter.ensures.at_level h.bytes xs (record {
-      is = at;
-      material = keys ∙ v.material ∙ ap (included h.bytes (headers_of h.bytes (take n xs))) (entries_are xs n s at);
-      scope =
-          d.declared
-          ∙ (λ j. known (scope j).bytes ((scope j).entries ++ own_entries s))
-          ∙ ap (λ ns. known h.bytes (included_entries xs ns ++ own_entries s)) (sym keys);
-      sorts =
-          d.listed
-          ∙ (λ j. listing (sorts j).bytes ((sorts j).names ++ s.sorts))
-          ∙ ap (λ ns. listing h.bytes (sorts_of xs ns ++ s.sorts)) (sym keys);
-      rules = d.rules ∙ v.past.inclusion.rules ∙ ap (λ ns. counted (length (rules_of xs ns))) (sym keys);
-      levels = subst (λ ls. AreLevels h.bytes xs [] ls) (sym levels) v.past.levels;
-      front = (λ j. take (length (last_material h.bytes xs [] (levels j))) (keys j)) ∙ v.past.front ∙ ap (last_material h.bytes xs []) (sym levels);
-      symbols =
-          d.symbols
-          ∙ ap (λ k. length k.entries + length (symbols_by s)) scope
-          ∙ ap (λ k. k + length (symbols_by s)) (length-map (symbols_of xs i.material.keys) symbol_entry)
-          ∙ ap (λ ns. length (symbols_of xs ns) + length (symbols_by s)) (sym keys);
-    }))
+returns-clause-checking c = grind (arith, common_steps, slice_get_read, on_ok_weaker, entries_are, length-map)
 
 pub returns-clause-path : goal.returns-clause-path
-returns-clause-path c =
-    on_ok_weaker c.enter.result
-    (λ e. e
-    ∙ ap (λ ls. c.args.number ∷ path_of ls.items) c.in_ok-symbols.ensures.levels
-    ∙ ap (λ ns. c.args.number ∷ ns) c.in_ok-verdicts.ensures.path)
-    c.enter.ensures.path
+returns-clause-path c = grind (arith, common_steps, on_ok_weaker)

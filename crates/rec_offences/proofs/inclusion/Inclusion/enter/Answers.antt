@@ -1,10 +1,9 @@
-use Rattle.std.proofs.Common.{◌+◌, ◌-◌, ◌^◌, length, min, refl, ap, ◌∙◌}
+use Rattle.std.proofs.Common.{rules, ◌+◌, ◌-◌, ◌^◌, length, min, refl, ap, ◌∙◌}
 use Rattle.rec_offences.specs.Inclusion.{path_of}
 use Rattle.rec_offences.specs.declared.inclusion.Extent.{Extent}
 use Rattle.rec_offences.specs.declared.inclusion.Inclusion.{Inclusion}
 use Rattle.rec_offences.specs.declared.inclusion.Level.{Level}
-use Rattle.rec_offences.proofs.Entered.{entered}
-use Rattle.rec_offences.proofs.Levels.{path_pushed}
+use Rattle.rec_offences.proofs.Levels.{entered, path_pushed}
 use Rattle.rec_offences.proofs.inclusion.Inclusion.enter.Goals as goal
 
 pub returns-clause-at_level : goal.returns-clause-at_level

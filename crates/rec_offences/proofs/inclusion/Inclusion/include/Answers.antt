@@ -1,11 +1,11 @@
-use Rattle.std.proofs.Common.{◌≡◌, ℕ, ◌+◌, Bool, List, ◌++◌, length, ap, sym, ◌∙◌}
+use Rattle.std.proofs.Common.{arith, rules, ◌≡◌, ℕ, ◌+◌, Bool, List, ◌++◌, length, ap, ◌∙◌}
+use Rattle.std.proofs.lemmas.Grind.{common_steps}
 use Rattle.rec_offences.specs.declared.entries.Verdict.{Verdict}
-use Rattle.rec_includes.specs.Material.{material_of, fresh, sorts_of, rules_of}
+use Rattle.rec_includes.specs.Material.{material_of, fresh, rules_of}
 use Rattle.rec_offences.specs.Faults.{included_entries}
 use Rattle.rec_offences.specs.Inclusion.{counted}
-use Rattle.rec_includes.specs.Listing.{listing}
 use Rattle.rec_offences.specs.Known.{known, entries_of}
-use Rattle.rec_offences.proofs.Including.{scope_more, sorts_more, rules_more, clashing_more, passing_more}
+use Rattle.rec_offences.proofs.Levels.{scope_more, sorts_more, rules_more, clashing_more, passing_more}
 use Rattle.rec_offences.proofs.inclusion.Inclusion.include.Goals as goal
 
 added : goal.After-drop-added-2 → List ℕ
@@ -26,25 +26,11 @@ scope_is c =
 
 rules_are : (c : goal.After-drop-added-2) → c.count_rules-self.result ≡ counted (length (rules_of c.args.specifications.now (c.args.self.now.material.keys ++ added c)))
 unfolding added
-rules_are c =
-    rules_more c.args.headers.now.bytes c.args.specifications.now c.args.self.now.material.keys (added c) c.args.self.now.rules c.count_rules-self.result c.requires.at_hand.rules
-    (c.count_rules-self.ensures ∙ ap (λ ns. counted (c.args.self.now.rules + length (rules_of c.args.specifications.now ns))) (c.deref-5.ensures.value ∙ c.in_ok-added.ensures.added))
+rules_are c = grind (arith, common_steps, rules_more)
 
 pub returns-clause-kept : goal.returns-clause-kept
 unfolding added
-returns-clause-kept c =
-    let bytes = c.args.headers.now.bytes in
-    let e = c.args.specifications.now in
-    let k = c.args.self.now.material.keys in
-    record {
-      scope = scope_is c ∙ ap (λ x. known bytes (included_entries e x)) (sym (keys_are c));
-      sorts =
-          sorts_more bytes e k (added c) c.args.self.now.sorts c.add_sorts.new.sorts
-          (sorts_of e c.deref-4.result.now) c.requires.at_hand.sorts c.in_ok-add_sorts.ensures (ap (sorts_of e) (c.deref-4.ensures.value ∙ c.in_ok-added.ensures.added))
-          ∙ ap (λ x. listing bytes (sorts_of e x)) (sym (keys_are c));
-      rules = rules_are c ∙ ap (λ x. counted (length (rules_of e x))) (sym (keys_are c));
-      closed = c.in_ok-added.ensures.closed;
-    }
+returns-clause-kept c = grind (arith, common_steps, sorts_more)
 
 pub returns-clause-verdict : goal.returns-clause-verdict
 unfolding added

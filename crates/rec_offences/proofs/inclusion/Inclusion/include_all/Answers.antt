@@ -1,16 +1,13 @@
-use Rattle.std.proofs.Common.{◌≡◌, ℕ, ◌+◌, Bool, false, List, [], ◌∷◌, ◌++◌, None, Some, Option, map, slice_get, drop, take, get_or, refl, ap, sym, subst, ◌∙◌, arith}
-use Rattle.std.specs.Option.{option_map_or, option_and_then}
+use Rattle.std.proofs.lemmas.Bool.Decides.{nat_tests}
+use Rattle.std.proofs.lemmas.Grind.{common_steps}
+use Rattle.std.proofs.Common.{◌≡◌, ℕ, ◌+◌, Bool, false, List, [], ◌∷◌, ◌++◌, None, Some, Option, drop, take, get_or, ap, sym, subst, ◌∙◌, arith}
 use Rattle.rec_reader.specs.declared.token.Name.{Name}
 use Rattle.rec_reader.specs.declared.syntax_tree.Specification.{Specification}
 use Rattle.rec_offences.specs.declared.entries.Verdict.{Verdict}
 use Rattle.rec_offences.specs.declared.inclusion.Inclusion.{Inclusion}
 use Rattle.rec_includes.specs.Names.{same_text}
 use Rattle.rec_includes.specs.Listing.{place_in}
-use Rattle.rec_includes.specs.Material.{included, headers_of}
-use Rattle.rec_offences.specs.Offences.{includes_from}
-use Rattle.rec_offences.specs.Grouped.{verdict_of}
-use Rattle.rec_offences.specs.Inclusion.{path_of}
-use Rattle.rec_includes.specs.Forest.{cut, parent_of}
+use Rattle.rec_includes.specs.Forest.{parent_of}
 use Rattle.rec_includes.specs.Numbered.{header_names, includes_at, target, first_target}
 use Rattle.rec_includes.proofs.Brought.{target_before}
 use Rattle.rec_includes.proofs.Gathered.{drop_at, drop_all, default_in}
@@ -25,24 +22,14 @@ targeted bytes names headers number x found o e is was = ap (λ ns. place_in (sa
 
 -- the specification under which one hangs is the first that its entries include
 hangs : (bytes : List ℕ) (headers : List Name) (xs : List Specification) (n : ℕ) → first_target bytes headers n (includes_at xs n) ≡ parent_of bytes headers xs n
-hangs bytes headers xs n = by (slice_get xs n)
-  where
-    by : (o : Option Specification) → first_target bytes headers n (option_map_or (λ s. s.includes) o []) ≡ option_and_then (λ s. first_target bytes headers n s.includes) o
-    by None = refl
-    by (Some s) = refl
+hangs bytes headers xs n = grind (arith, nat_tests)
 
 blank : Name
 blank = record { start = 0; end = 0 }
 
 pub include-requires-clause-there : goal.include-requires-clause-there
 unfolding blank
-include-requires-clause-there c =
-    let h = c.args.headers.now in
-    let specifications = c.args.specifications.now in
-    let number = c.args.number in
-    let x = get_or c.includes_at-entries.result.now c.loop-entry.entry-index blank in
-    (target_before h.bytes specifications number x c.in-Some.field-0
-    (targeted h.bytes h.names (header_names specifications) number x c.place_before.result (Some c.in-Some.field-0) c.requires.names c.place_before.ensures c.in-Some.is)).1
+include-requires-clause-there c = grind (arith, common_steps, blank, target_before, in-Some, targeted)
 
 pub loop-entry-preserved : goal.loop-entry-preserved
 unfolding blank
@@ -95,12 +82,7 @@ loop-entry-preserved c =
     }
 
 at_end : (c : goal.After-loop-entry) → Ended c.args.headers.now.bytes c.args.specifications.now c.args.number c.includes_at-entries.result.now c.loop-entry.verdicts.items c.loop-entry.self
-at_end c =
-    let xs = c.includes_at-entries.result.now in
-    let l = c.loop-entry in
-    let P : List Name → Type 0 = λ ns. Along c.args.headers.now.bytes c.args.specifications.now c.args.number xs ns l.is_there l.verdicts.items l.self in
-    ended c.args.headers.now.bytes c.args.specifications.now c.args.number xs l.is_there l.verdicts.items l.self
-    (subst P (drop_all xs l.entry-index (omega (arith, c.loop-entry-test.false))) l.invariant.along)
+at_end c = grind (arith, common_steps, ended, drop_all)
 
 pub returns-clause-past : goal.returns-clause-past
 unfolding at_end
@@ -108,22 +90,11 @@ returns-clause-past c = (at_end c).past
 
 pub returns-clause-material : goal.returns-clause-material
 unfolding at_end
-returns-clause-material c =
-    let h = c.args.headers.now in
-    (at_end c).material ∙ ap (included h.bytes (headers_of h.bytes (take c.args.number c.args.specifications.now))) c.includes_at-entries.ensures
+returns-clause-material c = grind (arith, common_steps)
 
 pub returns-clause-verdicts : goal.returns-clause-verdicts
 unfolding at_end
-returns-clause-verdicts c =
-    let h = c.args.headers.now in
-    let xs = c.args.specifications.now in
-    (at_end c).judged
-    ∙ ap (λ ns. map (verdict_of h.bytes xs) (includes_from h.bytes (headers_of h.bytes (take c.args.number xs)) [] ns)) c.includes_at-entries.ensures
+returns-clause-verdicts c = grind (arith, common_steps)
 
 pub returns-clause-path : goal.returns-clause-path
-returns-clause-path c =
-    let h = c.args.headers.now in
-    let old = path_of c.args.self.now.levels.items in
-    ap (λ v. path_of v.items) c.loop-entry.invariant.levels
-    ∙ c.return_to-is_there.ensures.path
-    ∙ ap (λ o. cut o old) (c.first_target.ensures ∙ ap (first_target h.bytes h.names c.args.number) c.includes_at-entries.ensures ∙ hangs h.bytes h.names c.args.specifications.now c.args.number)
+returns-clause-path c = grind (arith, common_steps, hangs)

@@ -1,12 +1,11 @@
-use Rattle.std.proofs.Common.{[], length, take, ap, sym, subst, ◌∙◌}
-use Rattle.rec_includes.specs.Material.{rules_of}
+use Rattle.std.proofs.Common.{rules, [], length, take, ap, sym, subst, ◌∙◌}
+use Rattle.rec_includes.specs.Material.{rules_of, sorts_of}
 use Rattle.rec_includes.specs.Numbered.{IsClosed}
 use Rattle.rec_offences.specs.Faults.{included_entries}
 use Rattle.rec_includes.specs.Listing.{listing}
 use Rattle.rec_offences.specs.Known.{known}
-use Rattle.rec_includes.specs.Material.{sorts_of}
 use Rattle.rec_offences.specs.Inclusion.{counted, IsFront, last_material}
-use Rattle.rec_includes.proofs.Closed.{closed_none}
+use Rattle.rec_includes.proofs.Materials.{closed_none}
 use Rattle.rec_offences.proofs.Levels.{left, last_closed, scope_cut, sorts_cut}
 use Rattle.rec_offences.proofs.inclusion.Inclusion.leave.Goals as goal
 

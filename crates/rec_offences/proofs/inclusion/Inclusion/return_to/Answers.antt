@@ -1,4 +1,6 @@
-use Rattle.std.proofs.Common.{◌≡◌, ℕ, true, false, nat_eq, eqb-true, Option, None, Some, ap, sym, ◌∙◌}
+use Rattle.std.proofs.lemmas.Bool.Decides.{nat_tests}
+use Rattle.std.proofs.Common.{arith, ◌≡◌, ℕ, true, false, nat_eq, Option, Some, ap, sym, ◌∙◌}
+use Rattle.std.proofs.lemmas.Grind.{common_steps}
 use Rattle.std.specs.Option.{option_eq}
 use Rattle.rec_offences.specs.Inclusion.{path_of}
 use Rattle.rec_includes.specs.Forest.{cut}
@@ -6,8 +8,7 @@ use Rattle.rec_offences.proofs.Levels.{cut_further, cut_none, cut_there, no_leve
 use Rattle.rec_offences.proofs.inclusion.Inclusion.return_to.Goals as goal
 
 same_some : (o : Option ℕ) (n : ℕ) → option_eq nat_eq o (Some n) ≡ true → o ≡ Some n
-same_some None n e = absurd cc
-same_some (Some p) n e = ap Some (eqb-true p n e)
+same_some o n e = grind (arith, nat_tests)
 
 other_some : (o : Option ℕ) (n : ℕ) → option_eq nat_eq o (Some n) ≡ false → (p : ℕ) → o ≡ Some p → nat_eq p n ≡ false
 other_some o n e p is = ap (λ q. option_eq nat_eq q (Some n)) (sym is) ∙ e
@@ -16,16 +17,10 @@ pub returns-clause-none : goal.returns-clause-none
 returns-clause-none c = λ _. no_level c.loop-last.self.levels.items (λ n e. c.in_default.not-Some n (c.last_number.ensures ∙ e))
 
 pub returns-then-eq-clause-path : goal.returns-then-eq-clause-path
-returns-then-eq-clause-path c =
-    let ls = c.loop-last.self.levels.items in
-    let is = same_some c.args.number c.in-Some.last (sym c.eq.ensures ∙ c.if-eq.true) in
-    sym (cut_there ls c.in-Some.last (sym c.last_number.ensures ∙ c.in-Some.is)) ∙ ap (λ o. cut o (path_of ls)) (sym is) ∙ c.loop-last.invariant.path
+returns-then-eq-clause-path c = grind (arith, common_steps, same_some, cut_there)
 
 pub returns-clause-path : goal.returns-clause-path
-returns-clause-path c =
-    let ls = c.loop-last.self.levels.items in
-    let none = no_level ls (λ n e. c.in_default.not-Some n (c.last_number.ensures ∙ e)) in
-    ap path_of none ∙ sym (cut_none c.args.number) ∙ ap (λ xs. cut c.args.number (path_of xs)) (sym none) ∙ c.loop-last.invariant.path
+returns-clause-path c = grind (arith, common_steps, no_level, cut_none)
 
 pub loop-last-preserved : goal.loop-last-preserved
 loop-last-preserved c =

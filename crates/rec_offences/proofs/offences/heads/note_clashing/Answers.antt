@@ -1,7 +1,7 @@
 use Rattle.std.proofs.Common.{◌≡◌, ◌≤◌, length, min, ap, sym, ◌∙◌, arith, rules}
 use Rattle.std.proofs.lemmas.Slice.Zip.{zip_end}
 use Rattle.rec_offences.specs.Faults.{least_with, of_kind}
-use Rattle.rec_offences.proofs.Noted.{clashing_end}
+use Rattle.rec_offences.proofs.Leasts.{clashing_end}
 use Rattle.rec_offences.proofs.offences.heads.note_clashing.Goals as goal
 
 pub returns : goal.returns

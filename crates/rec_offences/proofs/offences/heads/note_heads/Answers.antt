@@ -1,10 +1,10 @@
-use Rattle.std.proofs.Common.{[], ◌++◌, true, false, ap, ◌∙◌}
+use Rattle.std.proofs.Common.{rules, [], ◌++◌, true, false, ap, ◌∙◌}
 use Rattle.std.specs.List.{flat_map}
 use Rattle.rec_offences.specs.Scope.{visits}
 use Rattle.rec_offences.specs.Offences.{unknown_name, wrong_count, clashing_arguments, clashing_sides, terms_of, unknown_names, wrong_counts, sort_clashes}
 use Rattle.rec_offences.specs.Faults.{least_with, of_kind}
 use Rattle.rec_offences.specs.Walked.{at_side, misplaced}
-use Rattle.rec_offences.proofs.Orders.{four_kinds}
+use Rattle.rec_offences.proofs.Leasts.{four_kinds}
 use Rattle.rec_offences.proofs.Walks.{values_variables}
 use Rattle.rec_offences.proofs.offences.heads.note_heads.Goals as goal
 

@@ -1,7 +1,7 @@
-use Rattle.rec_offences.specs.Walked.{is_other}
-use Rattle.rec_offences.proofs.Noted.{noted_behind}
+use Rattle.std.proofs.Common.{arith}
+use Rattle.std.proofs.lemmas.Grind.{common_steps}
+use Rattle.rec_offences.proofs.Leasts.{noted_behind}
 use Rattle.rec_offences.proofs.offences.sides.note_other_sort.Goals as goal
 
 pub returns-then-is_behind : goal.returns-then-is_behind
-returns-then-is_behind c =
-    noted_behind c.args.found.now 8 c.args.head (is_other c.args.scope.now.bytes c.args.wanted c.args.sort) (c.is_behind.ensures 8 c.if-is_behind.true)
+returns-then-is_behind c = grind (arith, common_steps, noted_behind)

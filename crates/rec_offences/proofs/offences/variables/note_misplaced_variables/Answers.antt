@@ -5,7 +5,7 @@ use Rattle.rec_offences.specs.Scope.{is_variable, root}
 use Rattle.rec_offences.specs.Offences.{bare_variables, free_variables}
 use Rattle.rec_offences.specs.Visited.{free_variables_of}
 use Rattle.rec_offences.specs.Faults.{least_with, of_kind}
-use Rattle.rec_offences.proofs.Noted.{noted_after}
+use Rattle.rec_offences.proofs.Leasts.{noted_after}
 use Rattle.rec_offences.proofs.offences.variables.note_misplaced_variables.Goals as goal
 
 pub returns : goal.returns
