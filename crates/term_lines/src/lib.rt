@@ -5,6 +5,7 @@
 mod ending;
 mod laws;
 mod rewriter;
+mod rewriting;
 mod stop;
 mod strategy;
 mod value;
