@@ -6,6 +6,8 @@ mod caches;
 #[cfg(test)]
 mod checks;
 #[cfg(test)]
+mod files;
+#[cfg(test)]
 mod gates;
 #[cfg(test)]
 mod large;

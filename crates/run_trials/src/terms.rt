@@ -145,8 +145,11 @@ fn other_texts_are_refused(rt: HostRuntime) -> Result<(), Fail> {
     check_all(&rt, &REFUSALS)
 }
 
-/// The file of `f(a,a)`: two symbols, a and f over a twice, and a root.
-const PAIR_FILE: &[u8] =
+/// f(a,a): the magic; two symbols, a of no arguments and f of two; two records, a, and f over
+/// records 0 and 0; one root, record 1. By offsets: 8 the count of the symbols, 12 and 15 the
+/// symbols, 18 the count of the records, 22 and 27 the records, 40 the count of the roots, 44 the
+/// root.
+pub(crate) const PAIR_FILE: &[u8] =
     b"RECTERM1\0\0\0\x02\x01a\0\x01f\x02\0\0\0\x02\0\0\0\0\0\0\0\0\0\x01\0\0\0\0\0\0\0\0\0\0\0\x01\0\0\0\x01";
 
 /// The same without its last byte, and with another last byte.
