@@ -8,7 +8,8 @@ use Rattle.std.proofs.lemmas.Bool.Decides.{eqb_tells}
 use Rattle.term_model.specs.declared.Row.{Row}
 use Rattle.plain_store.specs.declared.table.Entry.{Entry}
 use Rattle.plain_store.specs.Slots.{Slot}
-use Rattle.plain_store.specs.Flat.{slot_if, slot_of, slots_of, all_slots, written, IsEntry, HasEntries, free_entry, reached}
+use Rattle.plain_store.specs.Flat.{slot_if, slot_of, slots_of, all_slots, written, IsEntry, HasEntries, free_entry, other_row, reached}
+use Rattle.plain_store.specs.Pairs.{filled, no_row}
 use Rattle.plain_store.proofs.Rows.{none_at}
 use Rattle.plain_store.proofs.Flattened.{length-slots_of, free-slots, same_places, set-pair, set-row}
 
@@ -82,9 +83,12 @@ more_places w es places more ok =
     let fits : e.count ≤ length (drop (k * w) places) = omega (arith, there, (ok k d lt).fits, length-drop (k * w) places) in
     ap (take e.count) (drop-append-le (k * w) places more le) ∙ take-append-le e.count (drop (k * w) places) more fits))
 
+pairs_differ : no_row ∷ other_row ∷ [] ≡ filled [] → ⊥
+pairs_differ e = let second : other_row.0 ≡ no_row.0 = ap (λ (xs : List Row). (get_or xs 1 no_row).0) e in omega (arith, second)
+
 pub entry_is_free : (w size k : ℕ) (e : Entry) → e ≡ free_entry → IsEntry w size k e
 entry_is_free w size k e is =
-    subst (IsEntry w size k) (sym is) (record { pair = λ few. refl; fits = omega arith; places = λ many. absurd (omega (arith, many)); free = λ u. refl })
+    subst (IsEntry w size k) (sym is) (record { two = refl; pair = λ u few. absurd (cc); fits = omega arith; places = λ many. absurd (omega (arith, many)); free = λ u. refl; other = λ u same. pairs_differ same })
 
 pub entries_reached : (w size k : ℕ) (es : List Entry) → HasEntries w size es → HasEntries w size (reached k es)
 entries_reached w size k es ok j d lt =
@@ -109,7 +113,7 @@ entries_set w size k es e own ok j d lt =
 pub entries_more : (w size more : ℕ) (es : List Entry) → size ≤ more → HasEntries w size es → HasEntries w more es
 entries_more w size more es le ok j d lt =
     let was = ok j d lt in
-    record { pair = was.pair; fits = was.fits; places = λ many. (let there = was.places many in omega (arith, there, le)); free = was.free }
+    record { two = was.two; pair = was.pair; fits = was.fits; places = λ many. (let there = was.places many in omega (arith, there, le)); free = was.free; other = was.other }
 
 pub free_behind : (w rows : ℕ) (es : List Entry) (places : List Row) (slots : List Slot) (k : ℕ) → all_slots w rows es places ≡ slots → length es ≤ k → get_or slots k None ≡ None
 free_behind w rows es places slots k shown le =

@@ -1,5 +1,5 @@
 -- What the calls on an index come to.
-use Rattle.std.proofs.Common.{◌≡◌, ◌≢◌, ℕ, ◌+◌, ◌-◌, ◌/◌, ◌^◌, ◌<◌, ◌≤◌, inl, inr, List, [], ◌∷◌, ◌++◌, Option, Some, None, length, take, get_or, refl, ap, sym, ◌∙◌, subst, arith}
+use Rattle.std.proofs.Common.{◌≡◌, ◌≢◌, ℕ, ◌+◌, ◌-◌, ◌<◌, ◌≤◌, inl, inr, List, [], ◌∷◌, ◌++◌, Option, Some, None, length, take, get_or, refl, ap, sym, ◌∙◌, subst, arith, below_more}
 use Rattle.std.proofs.Math.ListN.{set}
 use Rattle.std.specs.Prelude.{Contains}
 use Rattle.std.proofs.lemmas.Bool.{cases_lt}
@@ -11,10 +11,9 @@ use Rattle.term_model.specs.declared.Row.{Row}
 use Rattle.term_model.specs.declared.Head.{Head}
 use Rattle.plain_store.specs.Slots.{Slot, arguments_of}
 use Rattle.plain_store.specs.Hash.{hash}
-use Rattle.plain_store.specs.Index.{Index, end, first_of, linked, freed, IsChain, bucket_of, bucket_at, HasChain, IsIndexed, IsFront, IsIndexedTo}
-use Rattle.plain_store.proofs.Rows.{row_same}
-use Rattle.plain_store.proofs.Chains.{front_or_behind, in_front, behind, no_place, next_below}
-use Rattle.plain_store.proofs.Linking.{linked_firsts, linked_nexts, chain_linked}
+use Rattle.plain_store.specs.Index.{Index, vacant, filled_count, word_at, tag_of, place_of, freed, IsFilled, IsReached, IsLinked, IsIndexed, IsFront, IsIndexedTo}
+use Rattle.plain_store.proofs.Rows.{row_same, node_same}
+use Rattle.plain_store.proofs.Linking.{linked_filled, linked_free, reached_new, reached_stays}
 
 -- the slots with one more behind
 more_before : (slots : List Slot) (s : Slot) (i : ℕ) → i < length slots → get_or (slots ++ s ∷ []) i None ≡ get_or slots i None
@@ -34,54 +33,62 @@ more_other slots s i ne =
           get_or_past (slots ++ s ∷ []) i None long ∙ sym (get_or_past slots i None le))
     ]
 
-some_slot : (shift b : ℕ) (s : Slot) → bucket_of shift s ≡ Some b → s ≡ None → ⊥
-some_slot shift b s e f = no_place (bucket_of shift s) b (ap (bucket_of shift) f) e
+-- no row is there
+pub indexed_none : (x : Index) → x.free ≡ [] → filled_count x.words ≡ 0 → IsIndexed [] x
+indexed_none x free none =
+    record {
+      fits = omega (arith, ap length free);
+      filled = omega (arith, ap length free, none);
+      reached = λ r n e. absurd (let bad : None ≡ Some n = sym (get_or_past {X = Slot} [] r.0 None (omega arith)) ∙ e in cc);
+      free = λ r lt e. absurd (omega arith);
+      only_free = λ r m. absurd (let m' = subst (λ (xs : List Row). Contains xs r) free m in omega (arith, m'.1));
+      once = λ i j d lt below. absurd (omega (arith, ap length free));
+    }
+
+some_same : (n m : Head × List Row) → Some n ≡ Some m → n ≡ m
+some_same n m e = cc
 
 -- a row in use is added
-pub added_used : (slots : List Slot) (x : Index) (k : Row) (s : Slot) (b : ℕ) → k.0 ≡ length slots → k.0 < length x.nexts → bucket_of x.shift s ≡ Some b → b < length x.firsts → IsIndexed slots x → IsIndexed (slots ++ s ∷ []) (linked x b k)
-added_used slots x k s b at below is bucket h =
+pub added_used : (slots : List Slot) (x y : Index) (k : Row) (n : Head × List Row) → k.0 ≡ length slots → IsLinked x y (hash n.0 n.1) k → IsIndexed slots x → IsIndexed (slots ++ Some n ∷ []) y
+added_used slots x y k n at l h =
+    let s = Some n in
     let long = length-append slots (s ∷ []) in
-    let place = bucket_at slots x in
-    let now = bucket_at (slots ++ s ∷ []) (linked x b k) in
-    let none : place k ≡ None = ap (bucket_of x.shift) (get_or_past slots k.0 None (omega arith)) in
-    let some : now k ≡ Some b = ap (bucket_of x.shift) (more_at slots s k.0 at) ∙ is in
-    let others : (r : Row) → r.0 ≢ k.0 → now r ≡ place r = λ r ne. ap (bucket_of x.shift) (more_other slots s r.0 (omega arith)) in
+    let frees = linked_free x y (hash n.0 n.1) k l in
+    let fewer = ap length frees in
     record {
-      size = omega (arith, long, linked_nexts x b k);
-      below = omega (arith, h.below, linked_nexts x b k);
-      fits = omega (arith, long, h.fits);
-      chains = λ c lt. chain_linked x place now (length slots - length x.free) (length (slots ++ s ∷ []) - length x.free) b c k h.below below bucket none some others (omega (arith, long, h.fits)) (h.chains b bucket) (h.chains c (omega (arith, lt, linked_firsts x b k)));
-      free = λ r lt e. elim (eqb_tells r.0 k.0) [
-        | inl same ↦ absurd (some_slot x.shift b s is (sym (more_at slots s r.0 (omega (arith, same.1, at))) ∙ e))
-        | inr ne ↦ (let lt' : r.0 < length slots = omega (arith, ne.1, lt, long, at) in h.free r lt' (sym (more_before slots s r.0 lt') ∙ e))
+      fits = omega (arith, long, h.fits, fewer);
+      filled = omega (arith, long, h.filled, fewer, linked_filled x y (hash n.0 n.1) k l);
+      reached = λ r m e. elim (eqb_tells r.0 k.0) [
+        | inl same ↦ (
+            let is : n ≡ m = some_same n m (sym (more_at slots s r.0 (omega (arith, same.1, at))) ∙ e) in
+            let new = subst (λ (q : Row). IsReached y (hash n.0 n.1) q) (sym (row_same r k same.1)) (reached_new x y (hash n.0 n.1) k l) in
+            subst (λ (q : Head × List Row). IsReached y (hash q.0 q.1) r) is new)
+        | inr ne ↦ reached_stays x y (hash n.0 n.1) (hash m.0 m.1) k r l (h.reached r m (sym (more_other slots s r.0 (omega (arith, ne.1, at))) ∙ e))
       ];
-      only_free = λ r m. (let o = h.only_free r m in (omega (arith, o.0, long), more_before slots s r.0 o.0 ∙ o.1));
-      once = h.once;
+      free = λ r lt e. elim (eqb_tells r.0 k.0) [
+        | inl same ↦ absurd (let bad : Some n ≡ None = sym (more_at slots s r.0 (omega (arith, same.1, at))) ∙ e in cc)
+        | inr ne ↦ (
+            let lt' : r.0 < length slots = omega (arith, ne.1, lt, long, at) in
+            subst (λ (xs : List Row). Contains xs r) (sym frees) (h.free r lt' (sym (more_before slots s r.0 lt') ∙ e)))
+      ];
+      only_free = λ r m. (let o = h.only_free r (subst (λ (xs : List Row). Contains xs r) frees m) in (omega (arith, o.0, long), more_before slots s r.0 o.0 ∙ o.1));
+      once = subst (λ (xs : List Row). (i j : ℕ) (d : Row) → i < j → j < length xs → (get_or xs i d).0 < (get_or xs j d).0) (sym frees) h.once;
     }
 
 -- a free row is added
-pub added_free : (slots : List Slot) (x : Index) (k : Row) (s : Slot) → k.0 ≡ length slots → k.0 < length x.nexts → s ≡ None → IsIndexed slots x → IsIndexed (slots ++ s ∷ []) (freed x k)
-added_free slots x k s at below is h =
+pub added_free : (slots : List Slot) (x : Index) (k : Row) (s : Slot) → k.0 ≡ length slots → s ≡ None → IsIndexed slots x → IsIndexed (slots ++ s ∷ []) (freed x k)
+added_free slots x k s at is h =
     let long = length-append slots (s ∷ []) in
     let more = length-append x.free (k ∷ []) in
-    let place = bucket_at slots x in
-    let now = bucket_at (slots ++ s ∷ []) (freed x k) in
-    let same : (r : Row) → now r ≡ place r = λ r. elim (eqb_tells r.0 (length slots)) [
-      | inl e ↦ ap (bucket_of x.shift) (more_at slots s r.0 e.1 ∙ is ∙ sym (get_or_past slots r.0 None (omega (arith, e.1))))
-      | inr ne ↦ ap (bucket_of x.shift) (more_other slots s r.0 ne.1)
-    ] in
     record {
-      size = omega (arith, long);
-      below = h.below;
       fits = omega (arith, long, more, h.fits);
-      chains = λ c lt. (let was = h.chains c lt in
-          record {
-            rows = was.rows;
-            chained = was.chained;
-            short = omega (arith, was.short, long, more);
-            only = λ r m. same r ∙ was.only r m;
-            all = λ r p. was.all r (sym (same r) ∙ p);
-          });
+      filled = omega (arith, long, more, h.filled);
+      reached = λ r m e. elim (eqb_tells r.0 k.0) [
+        | inl same ↦ absurd (let bad : None ≡ Some m = sym is ∙ sym (more_at slots s r.0 (omega (arith, same.1, at))) ∙ e in cc)
+        | inr ne ↦ (
+            let was = h.reached r m (sym (more_other slots s r.0 (omega (arith, ne.1, at))) ∙ e) in
+            record { steps = was.steps; within = was.within; there = was.there; fits = was.fits; filled = was.filled })
+      ];
       free = λ r lt e. elim (eqb_tells r.0 k.0) [
         | inl e' ↦ subst (Contains (x.free ++ k ∷ [])) (sym (row_same r k e'.1)) (Contains-push x.free k)
         | inr ne ↦ (let lt' : r.0 < length slots = omega (arith, ne.1, lt, long, at) in Contains-append_left x.free (k ∷ []) r (h.free r lt' (sym (more_before slots s r.0 lt') ∙ e)))
@@ -106,54 +113,71 @@ added_free slots x k s at below is h =
     }
 
 -- the last free row gets a node
-pub made_used : (slots : List Slot) (x : Index) (front : List Row) (k : Row) (s : Slot) (b : ℕ) → length slots ≤ length x.nexts → x.free ≡ front ++ k ∷ [] → bucket_of x.shift s ≡ Some b → b < length x.firsts → IsIndexed slots x → IsIndexed (set slots k.0 s) (linked (record x { free = front }) b k)
-made_used slots x front k s b room last is bucket h =
-    let y : Index = record x { free = front } in
+pub made_used : (slots : List Slot) (x y : Index) (front : List Row) (k : Row) (n : Head × List Row) → x.free ≡ front ++ k ∷ [] → IsLinked (record x { free = front }) y (hash n.0 n.1) k → IsIndexed slots x → IsIndexed (set slots k.0 (Some n)) y
+made_used slots x y front k n last l h =
+    let z : Index = record x { free = front } in
+    let s : Slot = Some n in
     let more : length x.free ≡ length front + 1 = ap length last ∙ length-append front (k ∷ []) in
     let own = h.only_free k (subst (λ xs. Contains xs k) (sym last) (Contains-push front k)) in
     let long = length-set slots k.0 s in
-    let place = bucket_at slots x in
-    let now = bucket_at (set slots k.0 s) (linked y b k) in
-    let none : place k ≡ None = ap (bucket_of x.shift) own.1 in
     let here : get_or (set slots k.0 s) k.0 None ≡ s = get_or-set_same slots k.0 s None own.0 in
-    let some : now k ≡ Some b = ap (bucket_of x.shift) here ∙ is in
-    let others : (r : Row) → r.0 ≢ k.0 → now r ≡ place r = λ r ne. ap (bucket_of x.shift) (get_or-set_other slots k.0 r.0 s None ne) in
     let before : (i : ℕ) (d : Row) → i < length front → get_or x.free i d ≡ get_or front i d = λ i d lt. ap (λ xs. get_or xs i d) last ∙ get_or_append_left front (k ∷ []) d i lt in
+    let frees = linked_free z y (hash n.0 n.1) k l in
+    let fewer = ap length frees in
     record {
-      size = omega (arith, long, room, linked_nexts y b k);
-      below = omega (arith, h.below, linked_nexts y b k);
-      fits = omega (arith, long, more, h.fits);
-      chains = λ c lt. (
-          let again : (d : ℕ) → d < length x.firsts → HasChain y place (length slots - length x.free) d = λ d l. (let was = h.chains d l in record { rows = was.rows; chained = was.chained; short = was.short; only = was.only; all = was.all }) in
-          chain_linked y place now (length slots - length x.free) (length (set slots k.0 s) - length front) b c k h.below (omega (arith, own.0, room)) bucket none some others (omega (arith, long, more, h.fits)) (again b bucket) (again c (omega (arith, lt, linked_firsts y b k))));
+      fits = omega (arith, long, more, h.fits, fewer);
+      filled = omega (arith, long, more, h.filled, fewer, linked_filled z y (hash n.0 n.1) k l);
+      reached = λ r m e. elim (eqb_tells r.0 k.0) [
+        | inl same ↦ (
+            let is : n ≡ m = some_same n m (sym (ap (λ i. get_or (set slots k.0 s) i None) same.1 ∙ here) ∙ e) in
+            let new = subst (λ (q : Row). IsReached y (hash n.0 n.1) q) (sym (row_same r k same.1)) (reached_new z y (hash n.0 n.1) k l) in
+            subst (λ (q : Head × List Row). IsReached y (hash q.0 q.1) r) is new)
+        | inr ne ↦ (
+            let was = h.reached r m (sym (get_or-set_other slots k.0 r.0 s None ne.1) ∙ e) in
+            let so : IsReached z (hash m.0 m.1) r = record { steps = was.steps; within = was.within; there = was.there; fits = was.fits; filled = was.filled } in
+            reached_stays z y (hash n.0 n.1) (hash m.0 m.1) k r l so)
+      ];
       free = λ r lt e. elim (eqb_tells r.0 k.0) [
-        | inl same ↦ absurd (some_slot x.shift b s is (sym (ap (λ i. get_or (set slots k.0 s) i None) same.1 ∙ here) ∙ e))
+        | inl same ↦ absurd (let bad : Some n ≡ None = sym (ap (λ i. get_or (set slots k.0 s) i None) same.1 ∙ here) ∙ e in cc)
         | inr ne ↦ (
             let m = h.free r (omega (arith, lt, long)) (sym (get_or-set_other slots k.0 r.0 s None ne.1) ∙ e) in
             elim (Contains-push_cases front k r (subst (λ xs. Contains xs r) last m)) [
-              | inl m' ↦ m'
+              | inl m' ↦ subst (λ (xs : List Row). Contains xs r) (sym frees) m'
               | inr same ↦ absurd (ne.1 (ap (λ (q : Row). q.0) (sym same)))
             ])
       ];
-      only_free = λ r m. (
+      only_free = λ r m'. (
+          let m = subst (λ (xs : List Row). Contains xs r) frees m' in
           let o = h.only_free r (subst (λ xs. Contains xs r) (sym last) (Contains-append_left front (k ∷ []) r m)) in
           let at : get_or x.free (length front) r ≡ k = ap (λ xs. get_or xs (length front) r) last ∙ get_or-append_right front (k ∷ []) (length front) (length front) r refl (omega arith) ∙ ap (λ n. get_or (k ∷ []) n r) (let z : length front - length front ≡ 0 = omega arith in z) in
           let less = h.once m.0 (length front) r m.1 (omega (arith, more)) in
           let ne : r.0 ≢ k.0 = omega (arith, less, ap (λ (q : Row). q.0) at, ap (λ (q : Row). q.0) (before m.0 r m.1 ∙ m.2)) in
           (omega (arith, o.0, long), get_or-set_other slots k.0 r.0 s None ne ∙ o.1));
-      once = λ i j d lt below. (
+      once = subst (λ (xs : List Row). (i j : ℕ) (d : Row) → i < j → j < length xs → (get_or xs i d).0 < (get_or xs j d).0) (sym frees) (λ i j d lt below. (
           let a = before i d (omega arith) in
           let c = before j d below in
-          omega (arith, h.once i j d lt (omega (arith, more)), ap (λ (q : Row). q.0) a, ap (λ (q : Row). q.0) c));
+          omega (arith, h.once i j d lt (omega (arith, more)), ap (λ (q : Row). q.0) a, ap (λ (q : Row). q.0) c)));
     }
 
--- Rows that are still ahead in a chain: every row that is wanted is one of them.
-pub record Ahead (slots : List Slot) (nexts : List ℕ) (wanted : Slot) (at passed : ℕ) : Type 0 where
-  pub rows : List Row
-  pub chained : IsChain nexts at rows
-  pub short : length rows + passed ≤ length slots
-  pub all : (k : ℕ) → get_or slots k None ≡ wanted → (r : Row) × (r.0 ≡ k) × Contains rows r
-  pub used : (r : Row) → Contains rows r → get_or slots r.0 None ≡ None → ⊥
+-- None of so many places that are looked at first is vacant, or has a row that is wanted.
+pub record Passed (slots : List Slot) (x : Index) (hashed : ℕ) (wanted : Slot) (n : ℕ) : Type 0 where
+  pub filled : IsFilled x hashed n
+  pub others : (k : ℕ) (r : Row) → k < n → get_or slots r.0 None ≡ wanted → word_at x (place_of x hashed k) ≡ r.0 + tag_of x hashed → ⊥
+
+pub passed_none : (slots : List Slot) (x : Index) (hashed : ℕ) (wanted : Slot) → Passed slots x hashed wanted 0
+passed_none slots x hashed wanted =
+    record { filled = λ k lt e. omega (arith, lt); others = λ k r lt is there. omega (arith, lt) }
+
+-- one place is passed
+pub passed_more : (slots : List Slot) (x : Index) (hashed : ℕ) (wanted : Slot) (n d : ℕ) → Passed slots x hashed wanted n → (word_at x (place_of x hashed n) ≡ vacant → ⊥) → ((r : Row) → word_at x (place_of x hashed n) ≡ r.0 + tag_of x hashed → d ≡ r.0) → (get_or slots d None ≡ wanted → ⊥) → Passed slots x hashed wanted (n + 1)
+passed_more slots x hashed wanted n d was some told other =
+    record {
+      filled = below_more (λ k. word_at x (place_of x hashed k) ≡ vacant → ⊥) n was.filled some;
+      others = λ k r lt is there. elim (eqb_tells k n) [
+        | inl same ↦ other (ap (λ i. get_or slots i None) (told r (ap (λ i. word_at x (place_of x hashed i)) (sym same.1) ∙ there)) ∙ is)
+        | inr ne ↦ was.others k r (omega (arith, ne.1, lt)) is there
+      ];
+    }
 
 -- the rows that were in use at some time are the first
 pub front_at : (fresh : ℕ) (slots : List Slot) (k : ℕ) → IsFront fresh slots → get_or (take fresh slots) k None ≡ get_or slots k None
@@ -163,102 +187,44 @@ front_at fresh slots k h =
       | inr le ↦ get_or_past (take fresh slots) k None (omega (arith, le, length-take fresh slots)) ∙ sym (h.behind k le)
     ]
 
-pub ahead_at_first : (fresh : ℕ) (slots : List Slot) (x : Index) (head : Head) (arguments : List Row) (b : ℕ) → b ≡ hash head arguments / 2 ^ x.shift → b < length x.firsts → IsIndexedTo fresh slots x → (let n : Head × List Row = (head, arguments) in Ahead slots x.nexts (Some n) (first_of x b) 0)
-ahead_at_first fresh slots x head arguments b is bucket h =
-    let n : Head × List Row = (head, arguments) in
-    let was = h.indexed.chains b bucket in
-    record {
-      rows = was.rows;
-      chained = was.chained;
-      short = omega (arith, was.short, length-take fresh slots, h.front.fits);
-      all = λ k e. (let r : Row = record { 0 = k } in (r, refl, was.all r (ap (bucket_of x.shift) (front_at fresh slots k h.front ∙ e) ∙ ap (λ i. Some i) (sym is))));
-      used = λ r m e. some_slot x.shift b (get_or (take fresh slots) r.0 None) (was.only r m) (front_at fresh slots r.0 h.front ∙ e);
-    }
+-- no row is wanted where a place is vacant, or after all of them
+pub passed_all : (fresh : ℕ) (slots : List Slot) (x : Index) (m : Head × List Row) (hashed n : ℕ) → hashed ≡ hash m.0 m.1 → IsIndexedTo fresh slots x → Passed slots x hashed (Some m) n → (n < length x.words → word_at x (place_of x hashed n) ≡ vacant) → (k : ℕ) → get_or slots k None ≡ Some m → ⊥
+passed_all fresh slots x m hashed n is h p none k e =
+    let r : Row = record { 0 = k } in
+    let o = subst (λ (i : ℕ). IsReached x i r) (sym is) (h.indexed.reached r m (front_at fresh slots k h.front ∙ e)) in
+    elim (cases_lt o.steps n) [
+      | inl lt ↦ p.others o.steps r lt e o.there
+      | inr le ↦ (
+          let free = none (omega (arith, le, o.within)) in
+          elim (eqb_tells o.steps n) [
+            | inl same ↦ omega (arith, o.there, o.fits, free, ap (λ i. word_at x (place_of x hashed i)) same.1)
+            | inr ne ↦ o.filled n (omega (arith, ne.1, le)) free
+          ])
+    ]
 
--- the first row of a chain
-pub first_below : (slots : List Slot) (x : Index) (b : ℕ) → b < length x.firsts → IsIndexed slots x → (first_of x b ≡ end → ⊥) → first_of x b < length x.nexts
-first_below slots x b lt h ne = let was = h.chains b lt in next_below x.nexts was.rows (first_of x b) was.chained ne
-
-pub ahead_below : (slots : List Slot) (nexts : List ℕ) (wanted : Slot) (at passed : ℕ) → Ahead slots nexts wanted at passed → at ≢ end → at < length nexts
-ahead_below slots nexts wanted at passed h ne = next_below nexts h.rows at h.chained ne
-
-row_at : (nexts : List ℕ) (rows : List Row) (at : ℕ) → IsChain nexts at rows → at ≢ end → (r : Row) × (at ≡ r.0) × Contains rows r
-row_at nexts [] at c ne = absurd (ne c)
-row_at nexts (r ∷ rows) at c ne = (r, c.0, in_front r rows)
-
--- the row that comes next is in use
-pub ahead_used : (slots : List Slot) (nexts : List ℕ) (wanted : Slot) (at passed : ℕ) → Ahead slots nexts wanted at passed → at ≢ end → get_or slots at None ≡ None → ⊥
-ahead_used slots nexts wanted at passed h ne e =
-    let r = row_at nexts h.rows at h.chained ne in
-    h.used r.0 r.2 (ap (λ i. get_or slots i None) (sym r.1) ∙ e)
-
-ahead_step : (slots : List Slot) (nexts : List ℕ) (wanted : Slot) (at passed : ℕ) (rows : List Row) → IsChain nexts at rows → length rows + passed ≤ length slots → ((k : ℕ) → get_or slots k None ≡ wanted → (r : Row) × (r.0 ≡ k) × Contains rows r) → ((r : Row) → Contains rows r → get_or slots r.0 None ≡ None → ⊥) → at ≢ end → (get_or slots at None ≡ wanted → ⊥) → Ahead slots nexts wanted (get_or nexts at end) (passed + 1)
-ahead_step slots nexts wanted at passed [] c short all used ne other = absurd (ne c)
-ahead_step slots nexts wanted at passed (r ∷ rows) c short all used ne other =
-    record {
-      rows = rows;
-      chained = subst (λ (a : ℕ). IsChain nexts (get_or nexts a end) rows) (sym c.0) c.2;
-      short = omega arith;
-      all = λ k e. (
-          let was = all k e in
-          elim (front_or_behind r rows was.0 was.2) [
-            | inl same ↦ (
-                let n : at ≡ k = c.0 ∙ ap (λ (q : Row). q.0) same ∙ was.1 in
-                absurd (other (ap (λ i. get_or slots i None) n ∙ e)))
-            | inr m ↦ (was.0, was.1, m)
-          ]);
-      used = λ q m. used q (behind r rows q m);
-    }
-
--- one row is passed
-pub ahead_more : (slots : List Slot) (nexts : List ℕ) (wanted : Slot) (at passed : ℕ) → Ahead slots nexts wanted at passed → at ≢ end → (get_or slots at None ≡ wanted → ⊥) → Ahead slots nexts wanted (get_or nexts at end) (passed + 1)
-ahead_more slots nexts wanted at passed h ne other =
-    ahead_step slots nexts wanted at passed h.rows h.chained h.short h.all h.used ne other
-
-none_of : (rows : List Row) (r : Row) → length rows ≡ 0 → Contains rows r → ⊥
-none_of rows r e m = absurd (omega (arith, m.1))
-
-none_at_end : (nexts : List ℕ) (rows : List Row) (at : ℕ) → length nexts ≤ end → at ≡ end → IsChain nexts at rows → length rows ≡ 0
-none_at_end nexts [] at le e c = refl
-none_at_end nexts (r ∷ rows) at le e c = absurd (omega (arith, c.0, c.1))
-
--- at the end of the chain no row is wanted
-pub ahead_at_end : (slots : List Slot) (nexts : List ℕ) (wanted : Slot) (at passed : ℕ) → Ahead slots nexts wanted at passed → length nexts ≤ end → at ≡ end → (k : ℕ) → get_or slots k None ≡ wanted → ⊥
-ahead_at_end slots nexts wanted at passed h le e k is =
-    let m = h.all k is in none_of h.rows m.0 (none_at_end nexts h.rows at le e h.chained) m.2
-
--- nor after as many as there are rows
-pub ahead_of_all : (slots : List Slot) (nexts : List ℕ) (wanted : Slot) (at passed : ℕ) → Ahead slots nexts wanted at passed → length slots ≤ passed → (k : ℕ) → get_or slots k None ≡ wanted → ⊥
-ahead_of_all slots nexts wanted at passed h le k is =
-    let m = h.all k is in none_of h.rows m.0 (omega (arith, h.short)) m.2
-
-pub ahead_is : (was slots : List Slot) (nexts : List ℕ) (wanted : Slot) (from at passed : ℕ) → was ≡ slots → at ≡ from → Ahead was nexts wanted from passed → Ahead slots nexts wanted at passed
-ahead_is was slots nexts wanted from at passed e f h =
-    subst (λ (a : ℕ). Ahead slots nexts wanted a passed) (sym f) (subst (λ (xs : List Slot). Ahead xs nexts wanted from passed) e h)
-
--- the bucket of a row by its head and arguments
-pub slot_bucket : (shift : ℕ) (slot : Slot) (head : Head) (arguments : List Row) (b : ℕ) → Some head ≡ option_map (λ (n : Head × List Row). n.0) slot → arguments ≡ arguments_of slot → b ≡ hash head arguments / 2 ^ shift → bucket_of shift slot ≡ Some b
-slot_bucket shift None head arguments b e f g = absurd (cc)
-slot_bucket shift (Some n) head arguments b e f g =
+-- what a row has by its head and arguments
+pub node_is : (slot : Slot) (head : Head) (arguments : List Row) → Some head ≡ option_map (λ (n : Head × List Row). n.0) slot → arguments ≡ arguments_of slot → slot ≡ Some (head, arguments)
+node_is None head arguments e f = absurd (cc)
+node_is (Some n) head arguments e f =
     let h : head ≡ n.0 = cc in
-    ap (λ (i : ℕ). Some i) (ap (λ (x : Head). hash x n.1 / 2 ^ shift) (sym h) ∙ ap (λ (xs : List Row). hash head xs / 2 ^ shift) (sym f) ∙ sym g)
+    sym (node_same head n.0 arguments n.1 h f)
 
 pub slot_free : (slot : Slot) (head : Option Head) → head ≡ None → head ≡ option_map (λ (n : Head × List Row). n.0) slot → slot ≡ None
 slot_free None head e f = refl
 slot_free (Some n) head e f = let g : None ≡ Some n.0 = sym e ∙ f in absurd (cc)
 
 -- the row behind those before is added
-pub added : (slots : List Slot) (x : Index) (k : Row) (b : ℕ) → k.0 < length slots → length x.nexts ≡ length slots → bucket_of x.shift (get_or slots k.0 None) ≡ Some b → b < length x.firsts → IsIndexed (take k.0 slots) x → IsIndexed (take (k.0 + 1) slots) (linked x b k)
-added slots x k b below room is bucket h =
+pub added : (slots : List Slot) (x y : Index) (k : Row) (n : Head × List Row) → k.0 < length slots → get_or slots k.0 None ≡ Some n → IsLinked x y (hash n.0 n.1) k → IsIndexed (take k.0 slots) x → IsIndexed (take (k.0 + 1) slots) y
+added slots x y k n below is l h =
     let long : k.0 ≡ length (take k.0 slots) = omega (arith, length-take k.0 slots) in
-    subst (λ (xs : List Slot). IsIndexed xs (linked x b k)) (sym (take_more slots k.0 None below))
-    (added_used (take k.0 slots) x k (get_or slots k.0 None) b long (omega (arith, room)) is bucket h)
+    subst (λ (xs : List Slot). IsIndexed xs y) (sym (take_more slots k.0 None below ∙ ap (λ (s : Slot). take k.0 slots ++ s ∷ []) is))
+    (added_used (take k.0 slots) x y k n long l h)
 
-pub added_empty : (slots : List Slot) (x : Index) (k : Row) → k.0 < length slots → length x.nexts ≡ length slots → get_or slots k.0 None ≡ None → IsIndexed (take k.0 slots) x → IsIndexed (take (k.0 + 1) slots) (freed x k)
-added_empty slots x k below room is h =
+pub added_empty : (slots : List Slot) (x : Index) (k : Row) → k.0 < length slots → get_or slots k.0 None ≡ None → IsIndexed (take k.0 slots) x → IsIndexed (take (k.0 + 1) slots) (freed x k)
+added_empty slots x k below is h =
     let long : k.0 ≡ length (take k.0 slots) = omega (arith, length-take k.0 slots) in
     subst (λ (xs : List Slot). IsIndexed xs (freed x k)) (sym (take_more slots k.0 None below))
-    (added_free (take k.0 slots) x k (get_or slots k.0 None) long (omega (arith, room)) is h)
+    (added_free (take k.0 slots) x k (get_or slots k.0 None) long is h)
 
 -- the last free row is free
 pub last_is_free : (slots : List Slot) (x : Index) (front : List Row) (k : Row) → x.free ≡ front ++ k ∷ [] → IsIndexed slots x → (k.0 < length slots) × (get_or slots k.0 None ≡ None)

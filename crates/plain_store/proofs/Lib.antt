@@ -1,5 +1,4 @@
 pub mod Rows
-pub mod Chains
 pub mod Linking
 pub mod Indexing
 pub mod Pairing

@@ -1,163 +1,142 @@
--- The chains after a row is put into one.
-use Rattle.std.proofs.Common.{◌≡◌, ◌≢◌, ℕ, ◌+◌, ◌<◌, ◌≤◌, inl, inr, Bool, List, [], ◌∷◌, Option, Some, None, length, get_or, refl, ap, sym, ◌∙◌, subst, arith}
+-- The places after a row is put into one.
+use Rattle.std.proofs.Common.{◌≡◌, ◌≢◌, ℕ, zero, suc, ◌+◌, ◌-◌, ◌<◌, ◌≤◌, inl, inr, List, [], ◌∷◌, length, get_or, refl, ap, sym, ◌∙◌, subst, arith}
 use Rattle.std.proofs.Math.ListN.{set}
-use Rattle.std.specs.Prelude.{Contains, if◌then◌else◌}
-use Rattle.std.proofs.lemmas.Bool.{eq-eqb, ne_eqb}
+use Rattle.std.specs.Prelude.{Bool, replicate, if◌then◌else◌, ◌==◌, nat_lt}
+use Rattle.std.proofs.lemmas.Bool.{eq-eqb, ne_eqb, lt-ltb, le-ltb, cases_lt}
 use Rattle.std.proofs.lemmas.Bool.Decides.{eqb_tells}
 use Rattle.std.proofs.lemmas.List.{length-set, get_or-set_same, get_or-set_other}
 use Rattle.term_model.specs.declared.Row.{Row}
-use Rattle.plain_store.specs.Index.{Index, end, first_of, next_of, linked, IsChain, HasChain}
-use Rattle.plain_store.proofs.Rows.{row_same}
-use Rattle.plain_store.proofs.Chains.{front_or_behind, in_front, behind, chain_stays, no_place, no_cycle}
+use Rattle.plain_store.specs.Index.{Index, vacant, word_at, home_of, place_behind, place_of, tag_of, filled_count, IsReached, IsLinked}
 
--- the row first in the bucket's chain
-abbrev front : Index → ℕ → Row → Index
-front x b r = record x { firsts = set x.firsts b r.0; nexts = set x.nexts r.0 (first_of x b) }
+-- how many places a word fills
+abbrev one_if : ℕ → ℕ
+one_if w = if w == vacant then 0 else 1
 
--- the row second in the bucket's chain
-abbrev second : Index → ℕ → Row → Index
-second x b r = record x { nexts = set (set x.nexts r.0 (next_of x (first_of x b))) (first_of x b) r.0 }
+one_vacant : (w : ℕ) → w ≡ vacant → one_if w ≡ 0
+one_vacant w e = ap (λ (b : Bool). if b then 0 else 1) (eq-eqb w vacant e)
 
-abbrev either : Index → ℕ → Row → Bool → Index
-either x b r t =
-    record x {
-      firsts = if t then set x.firsts b r.0 else x.firsts;
-      nexts = if t then set x.nexts r.0 end else set (set x.nexts r.0 (next_of x (first_of x b))) (first_of x b) r.0;
-    }
+one_filled : (w : ℕ) → (w ≡ vacant → ⊥) → one_if w ≡ 1
+one_filled w ne = ap (λ (b : Bool). if b then 0 else 1) (ne_eqb w vacant ne)
 
-linked_front : (x : Index) (b : ℕ) (k : Row) → first_of x b ≡ end → linked x b k ≡ front x b k
-linked_front x b k e =
-    ap (either x b k) (eq-eqb (first_of x b) end e)
-    ∙ ap (λ n. let y : Index = record x { firsts = set x.firsts b k.0; nexts = set x.nexts k.0 n } in y) (sym e)
-
-linked_second : (x : Index) (b : ℕ) (k : Row) → (first_of x b ≡ end → ⊥) → linked x b k ≡ second x b k
-linked_second x b k ne = ap (either x b k) (ne_eqb (first_of x b) end ne)
-
-pub linked_nexts : (x : Index) (b : ℕ) (k : Row) → length (linked x b k).nexts ≡ length x.nexts
-linked_nexts x b k =
-    elim (eqb_tells (first_of x b) end) [
-      | inl e ↦ ap (λ (y : Index). length y.nexts) (linked_front x b k e.1) ∙ length-set x.nexts k.0 (first_of x b)
-      | inr ne ↦ (
-          let ones = set x.nexts k.0 (next_of x (first_of x b)) in
-          ap (λ (y : Index). length y.nexts) (linked_second x b k ne.1) ∙ length-set ones (first_of x b) k.0 ∙ length-set x.nexts k.0 (next_of x (first_of x b)))
+one_at_most : (w : ℕ) → one_if w ≤ 1
+one_at_most w =
+    elim (eqb_tells w vacant) [
+      | inl e ↦ omega (arith, one_vacant w e.1)
+      | inr ne ↦ omega (arith, one_filled w ne.1)
     ]
 
-pub linked_firsts : (x : Index) (b : ℕ) (k : Row) → length (linked x b k).firsts ≡ length x.firsts
-linked_firsts x b k =
-    elim (eqb_tells (first_of x b) end) [
-      | inl e ↦ ap (λ (y : Index). length y.firsts) (linked_front x b k e.1) ∙ length-set x.firsts b k.0
-      | inr ne ↦ ap (λ (y : Index). length y.firsts) (linked_second x b k ne.1)
+-- at first no place is filled
+pub none_filled : (n : ℕ) → filled_count (replicate n vacant) ≡ 0
+none_filled zero = refl
+none_filled (suc n) = omega (arith, none_filled n, one_vacant vacant refl)
+
+-- at most one place more is filled
+pub filled_set : (words : List ℕ) (p w : ℕ) → get_or words p vacant ≡ vacant → filled_count (set words p w) ≤ filled_count words + 1
+filled_set [] p w e = omega arith
+filled_set (v ∷ words) zero w e = omega (arith, one_at_most w)
+filled_set (v ∷ words) (suc p) w e = let r = filled_set words p w e in omega (arith, r)
+
+-- where no place is vacant, as many are filled
+pub all_filled : (words : List ℕ) → ((p : ℕ) → p < length words → get_or words p vacant ≡ vacant → ⊥) → length words ≤ filled_count words
+all_filled [] h = omega arith
+all_filled (w ∷ words) h =
+    let r = all_filled words (λ p lt. h (suc p) (omega (arith, lt))) in
+    omega (arith, r, one_filled w (h 0 (omega arith)))
+
+pub behind_ahead : (x : Index) (p n : ℕ) → p + n < length x.words → place_behind x p n ≡ p + n
+behind_ahead x p n lt = ap (λ (b : Bool). if b then p + n else p + n - length x.words) (lt-ltb (p + n) (length x.words) lt)
+
+pub behind_around : (x : Index) (p n : ℕ) → length x.words ≤ p + n → place_behind x p n ≡ p + n - length x.words
+behind_around x p n le = ap (λ (b : Bool). if b then p + n else p + n - length x.words) (le-ltb (p + n) (length x.words) le)
+
+pub behind_first : (x : Index) (p : ℕ) → p < length x.words → p ≡ place_behind x p 0
+behind_first x p lt = omega (arith, behind_ahead x p 0 (omega (arith, lt)))
+
+-- one place further
+pub behind_next : (x : Index) (p n q : ℕ) → p < length x.words → n < length x.words → q ≡ place_behind x p n → place_behind x q 1 ≡ place_behind x p (n + 1)
+behind_next x p n q lt le is =
+    elim (cases_lt (p + n) (length x.words)) [
+      | inl near ↦ (
+          let at : q ≡ p + n = is ∙ behind_ahead x p n near in
+          elim (cases_lt (q + 1) (length x.words)) [
+            | inl more ↦ omega (arith, at, behind_ahead x q 1 more, behind_ahead x p (n + 1) (omega (arith, at, more)))
+            | inr end ↦ omega (arith, at, behind_around x q 1 end, behind_around x p (n + 1) (omega (arith, at, end)))
+          ])
+      | inr far ↦ (
+          let at : q ≡ p + n - length x.words = is ∙ behind_around x p n far in
+          omega (arith, at, far, lt, le, behind_ahead x q 1 (omega (arith, at, far, lt, le)), behind_around x p (n + 1) (omega (arith, far))))
     ]
 
--- the chains after a row is put in front of one
-chain_front : (x : Index) (place now : Row → Option ℕ) (most more b c : ℕ) (k : Row) → k.0 < length x.nexts → b < length x.firsts → place k ≡ None → now k ≡ Some b → ((r : Row) → r.0 ≢ k.0 → now r ≡ place r) → most + 1 ≤ more → HasChain x place most c → HasChain (front x b k) now more c
-chain_front x place now most more b c k below bucket none some others less h =
-    let away : (r : Row) → Contains h.rows r → r.0 ≢ k.0 = λ r m e. no_place (place r) c (ap place (row_same r k e) ∙ none) (h.only r m) in
-    let kept : (at : ℕ) → IsChain x.nexts at h.rows → IsChain (set x.nexts k.0 (first_of x b)) at h.rows = λ at. chain_stays x.nexts k.0 (first_of x b) h.rows at away in
-    elim (eqb_tells c b) [
-      | inl e ↦ (
-          let first : get_or (set x.firsts b k.0) c end ≡ k.0 = ap (λ i. get_or (set x.firsts b k.0) i end) e.1 ∙ get_or-set_same x.firsts b k.0 end bucket in
-          let next : get_or (set x.nexts k.0 (first_of x b)) k.0 end ≡ first_of x c = get_or-set_same x.nexts k.0 (first_of x b) end below ∙ ap (first_of x) (sym e.1) in
-          record {
-            rows = k ∷ h.rows;
-            chained = (first, omega (arith, length-set x.nexts k.0 (first_of x b)), subst (λ (a : ℕ). IsChain (set x.nexts k.0 (first_of x b)) a h.rows) (sym next) (kept (first_of x c) h.chained));
-            short = omega (arith, h.short);
-            only = λ r m. elim (front_or_behind k h.rows r m) [
-              | inl same ↦ ap now (sym same) ∙ some ∙ ap (λ i. Some i) (sym e.1)
-              | inr m' ↦ others r (away r m') ∙ h.only r m'
-            ];
-            all = λ r p. elim (eqb_tells r.0 k.0) [
-              | inl same ↦ subst (Contains (k ∷ h.rows)) (sym (row_same r k same.1)) (in_front k h.rows)
-              | inr ne ↦ behind k h.rows r (h.all r (sym (others r ne.1) ∙ p))
-            ];
-          })
-      | inr ne ↦ (
-          let first : get_or (set x.firsts b k.0) c end ≡ first_of x c = get_or-set_other x.firsts b c k.0 end ne.1 in
-          record {
-            rows = h.rows;
-            chained = subst (λ (a : ℕ). IsChain (set x.nexts k.0 (first_of x b)) a h.rows) (sym first) (kept (first_of x c) h.chained);
-            short = omega (arith, h.short);
-            only = λ r m. others r (away r m) ∙ h.only r m;
-            all = λ r p. elim (eqb_tells r.0 k.0) [
-              | inl same ↦ absurd (ne.1 (let g : Some c ≡ Some b = sym p ∙ ap now (row_same r k same.1) ∙ some in cc))
-              | inr ne' ↦ h.all r (sym (others r ne'.1) ∙ p)
-            ];
-          })
-    ]
+-- each place comes behind another within as many steps as there are places
+pub none_vacant : (x : Index) (from : ℕ) → from < length x.words → ((k : ℕ) → k < length x.words → word_at x (place_behind x from k) ≡ vacant → ⊥) → length x.words ≤ filled_count x.words
+none_vacant x from lt h =
+    all_filled x.words (λ p below e. elim (cases_lt p from) [
+      | inl before ↦ (
+          let k = p + length x.words - from in
+          let is : place_behind x from k ≡ p = omega (arith, behind_around x from k (omega arith)) in
+          h k (omega arith) (ap (word_at x) is ∙ e))
+      | inr le ↦ (
+          let k = p - from in
+          let is : place_behind x from k ≡ p = omega (arith, behind_ahead x from k (omega arith)) in
+          h k (omega arith) (ap (word_at x) is ∙ e))
+    ])
 
--- a chain that isn't empty
-record Begun (nexts : List ℕ) (at : ℕ) (rows : List Row) : Type 0 where
-  row : Row
-  rest : List Row
-  is : rows ≡ row ∷ rest
-  first : at ≡ row.0
-  below : row.0 < length nexts
-  chained : IsChain nexts (get_or nexts row.0 end) rest
+pub linked_filled : (x y : Index) (hashed : ℕ) (k : Row) → IsLinked x y hashed k → filled_count y.words ≤ filled_count x.words + 1
+linked_filled x y hashed k l =
+    let w = k.0 + tag_of x hashed in
+    let same = ap (λ (z : Index). filled_count z.words) l.is in
+    omega (arith, same, filled_set x.words (place_of x hashed l.steps) w l.none)
 
-begun : (nexts : List ℕ) (at : ℕ) (rows : List Row) → (at ≡ end → ⊥) → IsChain nexts at rows → Begun nexts at rows
-begun nexts at [] ne c = absurd (ne c)
-begun nexts at (r ∷ rows) ne c = record { row = r; rest = rows; is = refl; first = c.0; below = c.1; chained = c.2 }
+pub linked_free : (x y : Index) (hashed : ℕ) (k : Row) → IsLinked x y hashed k → y.free ≡ x.free
+linked_free x y hashed k l = ap (λ (z : Index). z.free) l.is
 
--- the chains after a row is put behind the first of one
-chain_second : (x : Index) (place now : Row → Option ℕ) (most more b c : ℕ) (k : Row) → length x.nexts ≤ end → k.0 < length x.nexts → (first_of x b ≡ end → ⊥) → place k ≡ None → now k ≡ Some b → ((r : Row) → r.0 ≢ k.0 → now r ≡ place r) → most + 1 ≤ more → HasChain x place most b → HasChain x place most c → HasChain (second x b k) now more c
-chain_second x place now most more b c k le below filled none some others less own h =
-    let at = first_of x b in
-    let p = begun x.nexts at own.rows filled own.chained in
-    let q = p.row in
-    let ones = set x.nexts k.0 (next_of x at) in
-    let twos = set ones at k.0 in
-    let long : length twos ≡ length x.nexts = length-set ones at k.0 ∙ length-set x.nexts k.0 (next_of x at) in
-    let stays : (rows : List Row) (from : ℕ) → ((r : Row) → Contains rows r → r.0 ≢ k.0) → ((r : Row) → Contains rows r → r.0 ≢ at) → IsChain x.nexts from rows → IsChain twos from rows = λ rows from one two d. chain_stays ones at k.0 rows from two (chain_stays x.nexts k.0 (next_of x at) rows from one d) in
-    let there : (r : Row) → Contains (q ∷ p.rest) r → Contains own.rows r = λ r m. subst (λ (xs : List Row). Contains xs r) (sym p.is) m in
-    let q_place : place q ≡ Some b = own.only q (there q (in_front q p.rest)) in
-    let other : q.0 ≢ k.0 = λ e. no_place (place q) b (ap place (row_same q k e) ∙ none) q_place in
-    elim (eqb_tells c b) [
-      | inl e ↦ (
-          let first : first_of x c ≡ q.0 = ap (first_of x) e.1 ∙ p.first in
-          let there_now : get_or twos q.0 end ≡ k.0 = ap (λ i. get_or twos i end) (sym p.first) ∙ get_or-set_same ones at k.0 end (omega (arith, p.first, p.below, length-set x.nexts k.0 (next_of x at))) in
-          let apart : k.0 ≢ at = omega (arith, other, p.first) in
-          let behind_now : get_or twos k.0 end ≡ get_or x.nexts q.0 end = get_or-set_other ones at k.0 k.0 end apart ∙ get_or-set_same x.nexts k.0 (next_of x at) end below ∙ ap (next_of x) p.first in
-          let away : (r : Row) → Contains p.rest r → r.0 ≢ k.0 = λ r m g. no_place (place r) b (ap place (row_same r k g) ∙ none) (own.only r (there r (behind q p.rest r m))) in
-          let once : (r : Row) → Contains p.rest r → r.0 ≢ at = λ r m g. no_cycle x.nexts q p.rest le p.below p.chained (subst (Contains p.rest) (row_same r q (g ∙ p.first)) m) in
-          let last : IsChain twos k.0 (k ∷ p.rest) = (refl, omega (arith, below, long), subst (λ (a : ℕ). IsChain twos a p.rest) (sym behind_now) (stays p.rest (get_or x.nexts q.0 end) away once p.chained)) in
-          record {
-            rows = q ∷ k ∷ p.rest;
-            chained = (first, omega (arith, p.below, long), subst (λ (a : ℕ). IsChain twos a (k ∷ p.rest)) (sym there_now) last);
-            short = omega (arith, own.short, ap length p.is, less);
-            only = λ r m. elim (front_or_behind q (k ∷ p.rest) r m) [
-              | inl same ↦ ap now (sym same) ∙ others q other ∙ q_place ∙ ap (λ i. Some i) (sym e.1)
-              | inr m' ↦ elim (front_or_behind k p.rest r m') [
-                | inl same ↦ ap now (sym same) ∙ some ∙ ap (λ i. Some i) (sym e.1)
-                | inr m'' ↦ others r (away r m'') ∙ own.only r (there r (behind q p.rest r m'')) ∙ ap (λ i. Some i) (sym e.1)
-              ]
-            ];
-            all = λ r g. elim (eqb_tells r.0 k.0) [
-              | inl same ↦ behind q (k ∷ p.rest) r (subst (Contains (k ∷ p.rest)) (sym (row_same r k same.1)) (in_front k p.rest))
-              | inr ne ↦ elim (front_or_behind q p.rest r (subst (λ (xs : List Row). Contains xs r) p.is (own.all r (sym (others r ne.1) ∙ g ∙ ap (λ i. Some i) e.1)))) [
-                | inl same ↦ subst (Contains (q ∷ k ∷ p.rest)) same (in_front q (k ∷ p.rest))
-                | inr m ↦ behind q (k ∷ p.rest) r (behind k p.rest r m)
-              ]
-            ];
-          })
-      | inr ne ↦ (
-          let away : (r : Row) → Contains h.rows r → r.0 ≢ k.0 = λ r m g. no_place (place r) c (ap place (row_same r k g) ∙ none) (h.only r m) in
-          let once : (r : Row) → Contains h.rows r → r.0 ≢ at = λ r m g. ne.1 (let same : Some c ≡ Some b = sym (h.only r m) ∙ ap place (row_same r q (g ∙ p.first)) ∙ q_place in cc) in
-          record {
-            rows = h.rows;
-            chained = stays h.rows (first_of x c) away once h.chained;
-            short = omega (arith, h.short);
-            only = λ r m. others r (away r m) ∙ h.only r m;
-            all = λ r g. elim (eqb_tells r.0 k.0) [
-              | inl same ↦ absurd (ne.1 (let own_bucket : Some c ≡ Some b = sym g ∙ ap now (row_same r k same.1) ∙ some in cc))
-              | inr ne' ↦ h.all r (sym (others r ne'.1) ∙ g)
-            ];
-          })
-    ]
+pub linked_tags : (x y : Index) (hashed : ℕ) (k : Row) → IsLinked x y hashed k → y.tags ≡ x.tags
+linked_tags x y hashed k l = ap (λ (z : Index). z.tags) l.is
 
--- the chains after a row is put into one
-pub chain_linked : (x : Index) (place now : Row → Option ℕ) (most more b c : ℕ) (k : Row) → length x.nexts ≤ end → k.0 < length x.nexts → b < length x.firsts → place k ≡ None → now k ≡ Some b → ((r : Row) → r.0 ≢ k.0 → now r ≡ place r) → most + 1 ≤ more → HasChain x place most b → HasChain x place most c → HasChain (linked x b k) now more c
-chain_linked x place now most more b c k le below bucket none some others less own h =
-    elim (eqb_tells (first_of x b) end) [
-      | inl e ↦ subst (λ (y : Index). HasChain y now more c) (sym (linked_front x b k e.1)) (chain_front x place now most more b c k below bucket none some others less h)
-      | inr ne ↦ subst (λ (y : Index). HasChain y now more c) (sym (linked_second x b k ne.1)) (chain_second x place now most more b c k le below ne.1 none some others less own h)
-    ]
+-- with another word in a place
+abbrev with_word : Index → ℕ → ℕ → Index
+with_word x p w = record x { words = set x.words p w }
+
+same_place : (x : Index) (p w hashed n : ℕ) → place_of (with_word x p w) hashed n ≡ place_of x hashed n
+same_place x p w hashed n =
+    let i = home_of x hashed + n in
+    ap (λ (l : ℕ). if nat_lt i l then i else i - l) (length-set x.words p w)
+
+-- a word that stands in another place stays
+word_stays : (x : Index) (p w hashed n : ℕ) → place_of x hashed n ≢ p → word_at (with_word x p w) (place_of (with_word x p w) hashed n) ≡ word_at x (place_of x hashed n)
+word_stays x p w hashed n ne =
+    ap (word_at (with_word x p w)) (same_place x p w hashed n) ∙ get_or-set_other x.words p (place_of x hashed n) w vacant ne
+
+-- the row stands where it is looked for
+pub reached_new : (x y : Index) (hashed : ℕ) (k : Row) → IsLinked x y hashed k → IsReached y hashed k
+reached_new x y hashed k l =
+    let w = k.0 + tag_of x hashed in
+    let p = place_of x hashed l.steps in
+    subst (λ (z : Index). IsReached z hashed k) (sym l.is)
+    (record {
+      steps = l.steps;
+      within = omega (arith, l.within, length-set x.words p w);
+      there = ap (word_at (with_word x p w)) (same_place x p w hashed l.steps) ∙ get_or-set_same x.words p w vacant l.below;
+      fits = l.fits;
+      filled = λ n lt e. (let ne : place_of x hashed n ≢ p = λ same. l.filled n lt (ap (word_at x) same ∙ l.none) in l.filled n lt (sym (word_stays x p w hashed n ne) ∙ e));
+    })
+
+-- and so do the others
+pub reached_stays : (x y : Index) (hashed other : ℕ) (k r : Row) → IsLinked x y hashed k → IsReached x other r → IsReached y other r
+reached_stays x y hashed other k r l o =
+    let w = k.0 + tag_of x hashed in
+    let p = place_of x hashed l.steps in
+    let apart : place_of x other o.steps ≢ p = λ e. omega (arith, l.none, o.there, o.fits, ap (word_at x) e) in
+    subst (λ (z : Index). IsReached z other r) (sym l.is)
+    (record {
+      steps = o.steps;
+      within = omega (arith, o.within, length-set x.words p w);
+      there = word_stays x p w other o.steps apart ∙ o.there;
+      fits = o.fits;
+      filled = λ n lt e. elim (eqb_tells (place_of x other n) p) [
+        | inl same ↦ (
+            let here = ap (word_at (with_word x p w)) (same_place x p w other n ∙ same.1) ∙ get_or-set_same x.words p w vacant l.below in
+            omega (arith, here, e, l.fits))
+        | inr ne ↦ o.filled n lt (sym (word_stays x p w other n ne.1) ∙ e)
+      ];
+    })

@@ -1,5 +1,5 @@
 -- What a look at an entry tells of its row.
-use Rattle.std.proofs.Common.{◌≡◌, ℕ, ◌<◌, ◌≤◌, Bool, true, false, List, None, inl, inr, length, take, refl, ap, sym, ◌∙◌, arith}
+use Rattle.std.proofs.Common.{◌≡◌, ℕ, ◌<◌, ◌≤◌, Bool, true, false, List, inl, inr, length, take, refl, ap, sym, ◌∙◌, arith}
 use Rattle.std.proofs.lemmas.Bool.{cases_lt}
 use Rattle.std.proofs.lemmas.List.{length-take-le}
 use Rattle.term_model.specs.declared.Row.{Row}
@@ -18,7 +18,7 @@ rows_counted w size k e places ok fits =
     elim (cases_lt 2 e.count) [
       | inl many ↦ ap length (rows_in_places e places many) ∙ length-take-le e.count places (fits many)
       | inr few ↦ (
-          let two = filled_has_two e.pair e.count (ok.pair few) few in
+          let two = ok.two in
           ap length (rows_in_pair e places few) ∙ length-take-le e.count e.pair (omega arith))
     ]
 
@@ -26,10 +26,15 @@ used_if : (b : Bool) (h g : Head) (xs ys : List Row) → slot_if b h xs ≡ node
 used_if false h g xs ys e = absurd (cc)
 used_if true h g xs ys e = refl
 
--- a row that isn't free is in use
-pub used_so : (used : Bool) (h : Head) (rows : List Row) → (slot_if used h rows ≡ None → ⊥) → used ≡ true
-used_so false h rows some = absurd (some refl)
-used_so true h rows some = refl
+-- an entry with the pair of a row in use isn't that of a free one
+pub used_so : (w size k : ℕ) (e : Entry) (pair : List Row) (n : ℕ) → IsEntry w size k e → e.count ≡ n → e.pair ≡ pair → pair ≡ filled (take n pair) → e.used ≡ true
+used_so w size k e pair n ok count same full = by e.used refl
+  where
+    by : (b : Bool) → e.used ≡ b → e.used ≡ true
+    by true is = is
+    by false is =
+        let none : n ≡ 0 = sym count ∙ ok.free is in
+        absurd (ok.other is (same ∙ full ∙ ap (λ i. filled (take i pair)) none))
 
 -- an entry whose row has at most two arguments, as they stand in the pair
 pub record HasPair (e : Entry) (h : Head) (pair : List Row) (n : ℕ) : Type 0 where
@@ -52,7 +57,7 @@ pair_told w size k e places slot h pair n ok fits is few full told =
     record {
       used = used;
       count = count;
-      same = ok.pair low ∙ ap filled (sym (rows_in_pair e places low) ∙ own) ∙ sym full;
+      same = ok.pair used low ∙ ap filled (sym (rows_in_pair e places low) ∙ own) ∙ sym full;
       head = head_of_node (e.head, rows) (h, take n pair) same;
     }
 

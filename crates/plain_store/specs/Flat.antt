@@ -1,6 +1,6 @@
 -- Rows in flat lists: what each one has, and the arguments of those that have more than two, each
 -- with as many places as the widest. The last rows, which were never in use, have no entry.
-use Rattle.std.specs.Prelude.{◌≡◌, ℕ, ◌+◌, ◌-◌, ◌*◌, ◌<◌, ◌≤◌, Bool, true, false, List, [], ◌∷◌, ◌++◌, Some, None, length, take, drop, replicate, slice_index_or, if◌then◌else◌, nat_le}
+use Rattle.std.specs.Prelude.{◌≡◌, ℕ, ◌+◌, ◌-◌, ◌*◌, ◌^◌, ◌<◌, ◌≤◌, Bool, true, false, List, [], ◌∷◌, ◌++◌, Some, None, length, take, drop, replicate, slice_index_or, if◌then◌else◌, nat_le}
 use Rattle.term_model.specs.declared.Row.{Row}
 use Rattle.term_model.specs.declared.Head.{Head}
 use Rattle.term_model.specs.declared.Head.TheVariants.{Nil}
@@ -29,20 +29,26 @@ abbrev pub all_slots : ℕ → ℕ → List Entry → List Row → List Slot
 all_slots widest rows entries places = slots_of widest entries places ++ replicate (rows - length entries) None
 
 -- the entry of the row at k: of so many places its arguments have theirs, a pair's others are
--- filled up, and a free row has no arguments
+-- filled up, and a free row has no arguments, but a pair that isn't so
 pub record IsEntry (widest size k : ℕ) (e : Entry) : Type 0 where
-  pub pair : e.count ≤ 2 → e.pair ≡ filled (take e.count e.pair)
+  pub two : length e.pair ≡ 2
+  pub pair : e.used ≡ true → e.count ≤ 2 → e.pair ≡ filled (take e.count e.pair)
   pub fits : e.count ≤ widest
   pub places : 2 < e.count → k * widest + widest ≤ size
   pub free : e.used ≡ false → e.count ≡ 0
+  pub other : e.used ≡ false → e.pair ≡ filled [] → ⊥
 
 -- the entry of each row is so
 abbrev pub HasEntries : ℕ → ℕ → List Entry → Type 0
 HasEntries widest size entries = (k : ℕ) (d : Entry) → k < length entries → IsEntry widest size k (slice_index_or entries k d)
 
+-- what stands in the pair of a free row
+abbrev pub other_row : Row
+other_row = record { 0 = 2 ^ 32 - 1 }
+
 -- the entry of a free row
 abbrev pub free_entry : Entry
-free_entry = record { head = Nil; pair = no_row ∷ no_row ∷ []; count = 0; used = false }
+free_entry = record { head = Nil; pair = no_row ∷ other_row ∷ []; count = 0; used = false }
 
 -- with entries of free rows up to the row at k, where they lack
 abbrev pub reached : ℕ → List Entry → List Entry

@@ -1,5 +1,5 @@
 -- What the arrays of an index and of a table show, and the room that they have.
-use Rattle.std.specs.Prelude.{◌-◌, ◌*◌, ◌^◌, ◌<◌, ◌≤◌, length, vec_capacity}
+use Rattle.std.specs.Prelude.{◌+◌, ◌*◌, ◌^◌, ◌<◌, ◌≤◌, length, vec_capacity}
 use Rattle.plain_store.specs.declared.index.Index.TheInside.{Inside as IndexInside}
 use Rattle.plain_store.specs.declared.table.Table.TheInside.{Inside as TableInside}
 use Rattle.plain_store.specs.Slots.{Slots}
@@ -7,15 +7,14 @@ use Rattle.plain_store.specs.Index.{Index}
 use Rattle.plain_store.specs.Flat.{all_slots, HasEntries}
 
 abbrev pub index_of : IndexInside → Index
-index_of s =
-    record { firsts = s.firsts.items; nexts = s.nexts.items; free = s.free.items; shift = s.shift }
+index_of s = record { words = s.words.items; free = s.free.items; homes = s.homes; tags = s.tags }
 
--- There is room for each row on the stack of free rows, and each hash has its bucket.
+-- There is room on the stack for each row whose word fits, each hash has its place, and there are
+-- more places than rows.
 pub record IsIndex (s : IndexInside) : Type 0 where
-  pub rows : length s.nexts.items < 2 ^ 32
-  pub free : length s.nexts.items ≤ vec_capacity s.free
-  pub shift : s.shift < 64
-  pub buckets : 2 ^ (64 - s.shift) ≤ length s.firsts.items
+  pub free : 2 ^ 32 ≤ vec_capacity s.free + s.tags + 1
+  pub homes : s.homes < length s.words.items
+  pub places : 2 ^ 32 ≤ length s.words.items + s.tags
 
 abbrev pub slots_in : TableInside → Slots
 slots_in s = record { slots = all_slots s.widest s.rows s.entries.items s.places.items; widest = s.widest }

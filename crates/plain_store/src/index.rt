@@ -1,24 +1,23 @@
 // Where the rows are: those in use by their hashes, and the free ones.
-ghost use Rattle.std.specs.Prelude.{◌≡◌, ◌+◌, ◌/◌, ◌^◌, ◌<◌, ◌≤◌, ◌↔◌, ◌++◌, [], ◌∷◌, ℕ, IfOk, IfSome, IfNone, false, length};
-ghost use Rattle.plain_store.specs.Hash.{hash};
-ghost use Rattle.plain_store.specs.Index.{end, first_of, next_of, linked, freed, taken, bucket_of, IsIndexed};
+ghost use Rattle.std.specs.Prelude.{◌≡◌, ◌+◌, ◌/◌, ◌^◌, ◌<◌, ◌≤◌, ◌↔◌, ◌++◌, [], ◌∷◌, IfOk, IfSome, IfNone, false, length};
+ghost use Rattle.plain_store.specs.Index.{home_of, tag_of, place_behind, word_at, filled_count, freed, taken, HasRoom, IsIndexed, IsLinked};
 
-use crate::hashing::hash_of;
 use faults::Memory;
 use std::alloc::Global;
 use std::marker::Model;
-use term_model::{Head, Row};
+use term_model::Row;
 
-/// What stands behind the last row of a chain.
-pub(crate) const END: u32 = u32::MAX;
+/// The word of a place where no row stands.
+pub(crate) const VACANT: u32 = u32::MAX;
 
-/// A table of hashed rows with a chain for each bucket, and a stack of free rows.
+/// A table of hashed rows, each in the first place from that of its hash on which was empty, and a
+/// stack of free rows. The word of a place tells of most other rows that they aren't the one.
 #[derive(Drop)]
 pub(crate) struct Index {
-    firsts: Vec<u32>,
-    nexts: Vec<u32>,
+    words: Vec<u32>,
     free: Vec<Row>,
-    shift: u32,
+    homes: u32,
+    tags: u32,
 }
 
 impl Model for Index {
@@ -32,81 +31,99 @@ impl Model for Index {
     ghost invariant = { IsIndex };
 }
 
+// The high bits of a hash, which are mixed best.
+#[inline(always)]
+fn high(hash: u64) -> u32
+    ensures { result ≡ hash / 2 ^ 32 }
+{
+    (hash >> 32) as u32
+}
+
 impl Index {
-    /// Room for so many rows, and none of them.
+    /// Room for so many rows, and none of them. There are at least twice as many places, up to 2^31
+    /// rows.
     pub(crate) fn new(alloc: Global, rows: u32) -> Result<Index, Memory>
         ensures none { IfOk result (λ x. IsIndexed [] x) }
-        ensures room { IfOk result (λ x. length x.nexts ≡ rows) }
+        ensures room { IfOk result (λ x. HasRoom x rows) }
     {
-        let bits = 32 - rows.max(1).leading_zeros();
+        let homes = u32::MAX >> rows.saturating_sub(1).leading_zeros().saturating_sub(1);
         Ok(Index {
-            firsts: vec![in alloc; END; 1usize << bits]?,
-            nexts: vec![in alloc; END; rows as usize]?,
+            words: vec![in alloc; VACANT; homes.max(rows) as usize + 1]?,
             free: Vec::with_capacity(alloc, rows as usize)?,
-            shift: 64 - bits,
+            homes,
+            tags: u32::MAX - rows,
         })
     }
 
-    /// The bucket of a hash.
+    /// The place from which rows of this hash are looked for.
     #[inline(always)]
-    pub(crate) fn bucket_of_hash(&self, hash: u64) -> usize
-        ensures bucket { result ≡ hash / 2 ^ self.now.shift }
-        ensures below { result < length self.now.firsts }
+    pub(crate) fn home(&self, hash: u64) -> usize
+        ensures home { result ≡ home_of self.now hash }
+        ensures below { result < length self.now.words }
     {
-        (hash >> self.shift) as usize
+        (high(hash) & self.homes) as usize
     }
 
-    /// The bucket of this head over these rows.
+    /// What the word of a row of this hash has beside the row.
     #[inline(always)]
-    pub(crate) fn bucket(&self, head: Head, arguments: &[Row]) -> usize
-        ensures bucket { result ≡ hash head arguments.now / 2 ^ self.now.shift }
-        ensures below { result < length self.now.firsts }
+    pub(crate) fn tag(&self, hash: u64) -> u32
+        ensures tag { result ≡ tag_of self.now hash }
+        ensures below { result ≤ self.now.tags }
     {
-        self.bucket_of_hash(hash_of(head, arguments))
+        high(hash) & self.tags
     }
 
-    /// The first row of a bucket's chain.
+    /// How many places there are.
     #[inline(always)]
-    pub(crate) fn first(&self, bucket: usize) -> u32
-        requires { bucket < length self.now.firsts }
-        ensures { result ≡ first_of self.now bucket }
+    pub(crate) fn len(&self) -> usize
+        ensures { result ≡ length self.now.words }
     {
-        self.firsts[bucket]
+        self.words.len()
     }
 
-    /// The row behind this one in its chain.
+    /// The place behind this one. Behind the last comes the first.
     #[inline(always)]
-    pub(crate) fn next(&self, row: u32) -> u32
-        requires { row < length self.now.nexts }
-        ensures { result ≡ next_of self.now row }
+    pub(crate) fn after(&self, place: usize) -> usize
+        requires { place < length self.now.words }
+        ensures after { result ≡ place_behind self.now place 1 }
+        ensures below { result < length self.now.words }
     {
-        self.nexts[row as usize]
+        let last = self.words.len() - 1;
+        if place == last { 0 } else { place + 1 }
     }
 
-    /// Puts a row into a bucket's chain: behind the first, if there is one. A row that was there
-    /// before is looked for more often.
+    /// The word of a place.
     #[inline(always)]
-    pub(crate) fn link(&mut self, bucket: usize, row: Row)
-        requires bucket { bucket < length self.old.firsts }
-        requires row { row.0 < length self.old.nexts }
-        requires first { (first_of self.old bucket ≡ end → ⊥)
-            → first_of self.old bucket < length self.old.nexts }
-        ensures { self.new ≡ linked self.old bucket row }
+    pub(crate) fn word(&self, place: usize) -> u32
+        requires { place < length self.now.words }
+        ensures { result ≡ word_at self.now place }
     {
-        let first = self.firsts[bucket];
-        if first == END {
-            self.nexts[row.0 as usize] = END;
-            self.firsts[bucket] = row.0;
-        } else {
-            self.nexts[row.0 as usize] = self.nexts[first as usize];
-            self.nexts[first as usize] = row.0;
+        self.words[place]
+    }
+
+    /// Puts a row of this hash into the first vacant place.
+    #[inline(always)]
+    pub(crate) fn link(&mut self, hash: u64, row: Row)
+        requires room { HasRoom self.old (filled_count self.old.words + 1) }
+        requires row { HasRoom self.old (row.0 + 1) }
+        ensures { IsLinked self.old self.new hash row }
+    {
+        let word = row.0 + self.tag(hash);
+        let mut place = self.home(hash);
+        for passed in 0..self.words.len() {
+            let _ = passed;
+            if self.words[place] == VACANT {
+                self.words[place] = word;
+                return;
+            }
+            place = self.after(place);
         }
     }
 
     /// Puts a row on the stack of free ones.
     #[inline(always)]
     pub(crate) fn free(&mut self, row: Row)
-        requires { length self.old.free < length self.old.nexts }
+        requires { HasRoom self.old (length self.old.free + 1) }
         ensures { self.new ≡ freed self.old row }
     {
         let _ = self.free.push(row);
@@ -131,9 +148,9 @@ impl Index {
     /// Takes all rows away.
     pub(crate) fn clear(&mut self)
         ensures none { IsIndexed [] self.new }
-        ensures room { length self.new.nexts ≡ length self.old.nexts }
+        ensures tags { self.new.tags ≡ self.old.tags }
     {
-        self.firsts.fill(END);
+        self.words.fill(VACANT);
         self.free.clear();
     }
 }

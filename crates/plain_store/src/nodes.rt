@@ -2,12 +2,12 @@
 ghost use Rattle.std.specs.Prelude.{◌≡◌, ◌+◌, ◌<◌, ◌≤◌, ◌^◌, ℕ, Option, Some, None, IfOk, IfSome, IfNone, IsSome, true, false, length, replicate, take, [], slice_get, slice_index_or};
 ghost use Rattle.std.specs.Option.{option_map};
 ghost use Rattle.plain_store.specs.Slots.{free_slots, slot_at, children, with_slot, some_count, HasNone, IsFull, AreSwept, FreesRow};
-ghost use Rattle.plain_store.specs.Index.{IsFront, IsIndexed, IsIndexedTo};
+ghost use Rattle.plain_store.specs.Index.{HasRoom, IsFront, IsIndexed, IsIndexedTo};
 ghost use Rattle.plain_store.specs.Hash.{hash};
-ghost use Rattle.plain_store.specs.Looks.{IsOther, Looks};
+ghost use Rattle.plain_store.specs.Looks.{Looks};
 
-use crate::hashing::hash_pair;
-use crate::index::{END, Index};
+use crate::hashing::{hash_of, hash_pair};
+use crate::index::{Index, VACANT};
 use crate::pairs::pair_of;
 use crate::table::Table;
 use faults::Memory;
@@ -36,28 +36,27 @@ impl Model for Nodes {
     ghost invariant = { λ s. IsIndexedTo s.fresh s.table.slots s.index };
 }
 
-/// What a look at the first row of a chain tells.
+/// What a look at the place of a hash tells.
 pub(crate) enum Look {
     /// This row is the one.
     Found(Row),
-    /// It isn't the row at this place, the first of its chain, by the hash of what was looked for.
-    Missed(u64, u32),
+    /// The row isn't there, by the hash of what was looked for.
+    Missed(u64),
     /// There are more than two arguments, and none was looked at.
     Many,
 }
 
-// Puts a row into the chain of its bucket, or on the stack of free rows.
+// Puts a row where it is looked for, or on the stack of free rows.
 fn add(table: &Table, index: &mut Index, row: Row)
     requires below { row.0 < length table.now.slots }
-    requires room { length index.old.nexts ≡ length table.now.slots }
+    requires room { HasRoom index.old (length table.now.slots) }
     requires before { IsIndexed (take row.0 table.now.slots) index.old }
     ensures indexed { IsIndexed (take (row.0 + 1) table.now.slots) index.new }
-    ensures room { length index.new.nexts ≡ length index.old.nexts }
+    ensures tags { index.new.tags ≡ index.old.tags }
 {
     match table.head(row) {
         Some(head) => {
-            let bucket = index.bucket(head, table.arguments(row));
-            index.link(bucket, row);
+            index.link(hash_of(head, table.arguments(row)), row);
         }
         None => index.free(row),
     }
@@ -85,8 +84,7 @@ fn reuse(
 {
     let row = index.take_free()?;
     table.set(row, head, arguments);
-    let bucket = index.bucket_of_hash(hashed);
-    index.link(bucket, row);
+    index.link(hashed, row);
     Some(row)
 }
 
@@ -116,8 +114,7 @@ fn take_fresh(
         return None;
     }
     table.set(row, head, arguments);
-    let bucket = index.bucket_of_hash(hashed);
-    index.link(bucket, row);
+    index.link(hashed, row);
     *fresh += 1;
     Some(row)
 }
@@ -126,7 +123,7 @@ fn take_fresh(
 // looked for, and says whether there were any to free.
 fn sweep_rows(table: &mut Table, index: &mut Index, fresh: u32, marks: &Marks) -> bool
     requires marks { length marks.now ≡ length table.old.slots }
-    requires room { length index.old.nexts ≡ length table.old.slots }
+    requires room { HasRoom index.old (length table.old.slots) }
     requires front { IsFront fresh table.old.slots }
     requires none { IsIndexed [] index.old }
     ensures swept { AreSwept marks.now table.old table.new }
@@ -171,7 +168,7 @@ impl Nodes {
         })
     }
 
-    /// Looks for the row that has this head over these rows at the first of its chain, if they are
+    /// Looks for the row that has this head over these rows at the place of their hash, if they are
     /// at most two. Most rows are found so.
     #[inline(always)]
     pub(crate) fn find_first(&self, head: Head, arguments: &[Row]) -> Look
@@ -181,35 +178,33 @@ impl Nodes {
             return Look::Many;
         };
         let hashed = hash_pair(head, pair);
-        let at = self.index.first(self.index.bucket_of_hash(hashed));
-        if at == END
-            || !self
-                .table
-                .is_pair(Row(at), head, pair, arguments.len() as u32)
-        {
-            return Look::Missed(hashed, at);
+        let word = self.index.word(self.index.home(hashed));
+        let row = Row(word.wrapping_sub(self.index.tag(hashed)));
+        if !self.table.is_pair(row, head, pair, arguments.len() as u32) {
+            return Look::Missed(hashed);
         }
-        Look::Found(Row(at))
+        Look::Found(row)
     }
 
-    /// The row that has this head over these rows, of this hash. The one that was seen isn't looked
-    /// at.
-    pub(crate) fn find(&self, head: Head, arguments: &[Row], hashed: u64, seen: u32) -> Option<Row>
+    /// The row that has this head over these rows, of this hash.
+    pub(crate) fn find(&self, head: Head, arguments: &[Row], hashed: u64) -> Option<Row>
         requires hashed { hashed ≡ hash head arguments.now }
-        requires seen { IsOther self.now head arguments.now seen }
         ensures found { IfSome result (λ row. slot_at self.now row ≡ Some (head, arguments.now)) }
         ensures absent { IfNone result (HasNone self.now (Some (head, arguments.now))) }
     {
-        let mut at = self.index.first(self.index.bucket_of_hash(hashed));
-        for passed in 0..self.table.len() {
+        let tag = self.index.tag(hashed);
+        let mut place = self.index.home(hashed);
+        for passed in 0..self.index.len() {
             let _ = passed;
-            if at == END {
+            let word = self.index.word(place);
+            if word == VACANT {
                 return None;
             }
-            if at != seen && self.table.is(Row(at), head, arguments) {
-                return Some(Row(at));
+            let row = Row(word.wrapping_sub(tag));
+            if self.table.is(row, head, arguments) {
+                return Some(row);
             }
-            at = self.index.next(at);
+            place = self.index.after(place);
         }
         None
     }

@@ -3,14 +3,13 @@ ghost use Rattle.std.specs.Prelude.{◌≡◌, ◌<◌, ◌≤◌, ◌^◌, ◌�
 ghost use Rattle.terms_api.specs.Terms.{HasTree, asked, last, IsSound, MayBuild, NeedsPlace};
 ghost use Rattle.plain_store.specs.Hash.{hash};
 ghost use Rattle.plain_store.specs.Slots.{some_count};
-ghost use Rattle.plain_store.specs.Looks.{HasOther, LooksFor};
+ghost use Rattle.plain_store.specs.Looks.{LooksFor};
 ghost use Rattle.plain_store.specs.Outcome.{HoldsReachable, Outcome};
 ghost use Rattle.plain_store.specs.Contents.{store_of, empty, placed, refused, IsAbsent, IsFreeRow, HasNoFree, Collected};
 
 use crate::collecting::{keep_reachable, raised_once};
 use crate::event::Event;
 use crate::hashing::hash_of;
-use crate::index::END;
 use crate::nodes::{Look, Nodes};
 use faults::Memory;
 use mark_phase::Marks;
@@ -98,20 +97,17 @@ impl PlainStore {
         hash_of(head, self.places.last(n as usize))
     }
 
-    /// The row of the tree of the head over the last `n` places, of this hash, which isn't the one
-    /// that was seen.
-    pub(crate) fn find(&self, head: Head, n: u32, hashed: u64, seen: u32) -> Option<Row>
+    /// The row of the tree of the head over the last `n` places, of this hash.
+    pub(crate) fn find(&self, head: Head, n: u32, hashed: u64) -> Option<Row>
         requires places { n ≤ length self.now.stack }
         requires hashed { hashed ≡ hash head (last n self.now.stack) }
-        requires seen { HasOther self.now head n seen }
         ensures found { IfSome result
             (λ row. HasTree (store_of self.now) row (asked (store_of self.now) head n)) }
         ensures absent { IfNone result (IsAbsent self.now (asked (store_of self.now) head n)) }
         ensures sound { IsSound (store_of self.now) }
         ensures holds { HoldsReachable self.now }
     {
-        self.nodes
-            .find(head, self.places.last(n as usize), hashed, seen)
+        self.nodes.find(head, self.places.last(n as usize), hashed)
     }
 
     /// Puts a row that has the asked tree in the place of the last `n`.
@@ -176,7 +172,7 @@ impl PlainStore {
                 self.place(head, n, row);
                 Ok(())
             }
-            Look::Missed(hashed, seen) => self.build_further(head, n, hashed, seen),
+            Look::Missed(hashed) => self.build_further(head, n, hashed),
             Look::Many => self.build_many(head, n),
         }
     }
@@ -189,25 +185,18 @@ impl PlainStore {
         ensures { Outcome self.old self.new head n result }
     {
         let hashed = self.hash(head, n);
-        self.build_further(head, n, hashed, END)
+        self.build_further(head, n, hashed)
     }
 
-    /// The same where the row that was seen isn't the one, by the hash.
+    /// The same where the row isn't at the place of its hash, by the hash.
     #[inline(never)]
-    fn build_further(
-        &mut self,
-        head: Head,
-        n: u32,
-        hashed: u64,
-        seen: u32,
-    ) -> Result<(), BuildFault>
+    fn build_further(&mut self, head: Head, n: u32, hashed: u64) -> Result<(), BuildFault>
         requires may { MayBuild (store_of self.old) head n }
         requires room { NeedsPlace (store_of self.old) n → ⊥ }
         requires hashed { hashed ≡ hash head (last n self.old.stack) }
-        requires seen { HasOther self.old head n seen }
         ensures { Outcome self.old self.new head n result }
     {
-        if let Some(row) = self.find(head, n, hashed, seen) {
+        if let Some(row) = self.find(head, n, hashed) {
             self.place(head, n, row);
             return Ok(());
         }

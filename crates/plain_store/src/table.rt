@@ -22,9 +22,12 @@ pub(crate) struct Entry {
     used: bool,
 }
 
+// No row in use has these as its pair, where it has no arguments.
+const OTHER: Pair = [Row(0), Row(u32::MAX)];
+
 const FREE: Entry = Entry {
     head: Head::Nil,
-    pair: EMPTY,
+    pair: OTHER,
     count: 0,
     used: false,
 };
@@ -145,11 +148,9 @@ impl Table {
         })
     }
 
-    /// Whether the row, which is in use, has this head over these rows.
+    /// Whether the row has this head over these rows.
     #[inline(always)]
     pub(crate) fn is(&self, row: Row, head: Head, arguments: &[Row]) -> bool
-        requires below { row.0 < length self.now.slots }
-        requires used { slot_at self.now row ≡ None → ⊥ }
         ensures { IsTrue result ↔ (slot_at self.now row ≡ Some (head, arguments.now)) }
     {
         match pair_of(arguments) {
@@ -158,15 +159,17 @@ impl Table {
         }
     }
 
-    /// Whether the row, which is in use, has this head over so many rows, which stand in the pair.
+    /// Whether the row has this head over so many rows, which stand in the pair. The entry of a free
+    /// row has another pair, so it isn't asked whether the row is in use.
     #[inline(always)]
     pub(crate) fn is_pair(&self, row: Row, head: Head, pair: Pair, count: u32) -> bool
-        requires below { row.0 < length self.now.slots }
-        requires used { slot_at self.now row ≡ None → ⊥ }
         requires few { count ≤ 2 }
         requires filled { pair ≡ filled (take count pair) }
         ensures { IsTrue result ↔ (slot_at self.now row ≡ Some (head, take count pair)) }
     {
+        if row.0 as usize >= self.entries.len() {
+            return false;
+        }
         let entry = &self.entries[row.0 as usize];
         if entry.count != count {
             return false;
@@ -177,9 +180,11 @@ impl Table {
     // Whether the row has this head over these rows, however many.
     #[inline(never)]
     fn is_rows(&self, row: Row, head: Head, arguments: &[Row]) -> bool
-        requires { row.0 < length self.now.slots }
         ensures { IsTrue result ↔ (slot_at self.now row ≡ Some (head, arguments.now)) }
     {
+        if row.0 >= self.len() {
+            return false;
+        }
         match self.head(row) {
             Some(own) => same_head(own, head) && same_rows(self.arguments(row), arguments),
             None => false,

@@ -11,7 +11,7 @@ use Rattle.plain_store.proofs.nodes.sweep_rows.Goals.{then-lost, else-lost}
 
 pub loop-i-init : goal.loop-i-init
 loop-i-init c =
-    record { rows = sweeping_none c.args.marks.now c.args.table.now; some = λ h. absurd (cc); none = λ h. refl; indexed = c.requires.none; room = refl }
+    record { rows = sweeping_none c.args.marks.now c.args.table.now; some = λ h. absurd (cc); none = λ h. refl; indexed = c.requires.none; tags = refl }
 
 pub add-requires-clause-before : goal.add-requires-clause-before
 add-requires-clause-before c =
@@ -27,7 +27,7 @@ add-requires-clause-room c =
     let row : Row = record { 0 = c.loop-i.i } in
     let v = kept_if c.has-kept.result (slot_at was row) in
     let long = ap (λ (s : Slots). length s.slots) c.keep_if-freed.ensures.kept ∙ length-set was.slots c.loop-i.i v in
-    omega (arith, long, c.loop-i.invariant.rows.size, c.loop-i.invariant.room, c.requires.room)
+    omega (arith, long, c.loop-i.invariant.rows.size, c.loop-i.invariant.tags, c.requires.room)
 
 pub loop-i-preserved : goal.loop-i-preserved
 loop-i-preserved c =
@@ -50,7 +50,7 @@ loop-i-preserved c =
         | else-lost w ↦ (λ h. c.keep_if-freed.ensures.none (sym w.lost-is ∙ h) ∙ c.loop-i.invariant.none w.if-lost.false)
       ];
       indexed = c.add.ensures.indexed;
-      room = c.add.ensures.room ∙ c.loop-i.invariant.room;
+      tags = c.add.ensures.tags ∙ c.loop-i.invariant.tags;
     }
 
 pub returns-clause-swept : goal.returns-clause-swept
@@ -68,5 +68,5 @@ pub returns-clause-indexed : goal.returns-clause-indexed
 returns-clause-indexed c =
     let all : c.loop-i.i ≡ c.args.fresh = omega (arith, c.loop-i-test.false) in
     front_swept c.args.marks.now c.args.table.now c.loop-i.table c.args.fresh c.loop-i.index
-    (subst (Sweeping c.args.marks.now c.args.table.now c.loop-i.table) all c.loop-i.invariant.rows) c.requires.front (c.loop-i.invariant.room ∙ c.requires.room)
+    (subst (Sweeping c.args.marks.now c.args.table.now c.loop-i.table) all c.loop-i.invariant.rows) c.requires.front (omega (arith, c.loop-i.invariant.tags, c.requires.room))
     (subst (λ i. IsIndexed (take i c.loop-i.table.slots) c.loop-i.index) all c.loop-i.invariant.indexed)

@@ -1,4 +1,4 @@
-use Rattle.std.proofs.Common.{◌≡◌, true, false, length, take}
+use Rattle.std.proofs.Common.{◌≡◌, true, false, take}
 use Rattle.plain_store.specs.Index.{IsIndexed}
 use Rattle.plain_store.proofs.Rows.{Sweeping, Freed}
 use Rattle.plain_store.proofs.nodes.sweep_rows.Given as goal
@@ -11,5 +11,5 @@ invariant-loop-i l =
       some : l.lost ≡ true → Freed l.initial.table l.table l.i;
       none : l.lost ≡ false → l.table ≡ l.initial.table;
       indexed : IsIndexed (take l.i l.table.slots) l.index;
-      room : length l.index.nexts ≡ length l.fn.index.nexts;
+      tags : l.index.tags ≡ l.fn.index.tags;
     }

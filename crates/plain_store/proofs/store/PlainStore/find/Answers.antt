@@ -4,21 +4,11 @@ use Rattle.terms_api.specs.Terms.{HasTree, asked, IsSound}
 use Rattle.plain_store.specs.Slots.{slot_at}
 use Rattle.plain_store.specs.Contents.{Contents, store_of, IsAbsent}
 use Rattle.plain_store.specs.View.{contents_of}
-use Rattle.plain_store.specs.Looks.{HasOther}
 use Rattle.plain_store.proofs.Placing.{node_of, found_tree, absent_tree}
 use Rattle.plain_store.specs.Outcome.{HoldsReachable}
 use Rattle.plain_store.proofs.Reaching.{reach_row}
 use Rattle.plain_store.proofs.Stepping.{if_some, if_none}
 use Rattle.plain_store.proofs.store.PlainStore.find.Goals as goal
-
-pub find-requires-clause-seen : goal.find-requires-clause-seen
-find-requires-clause-seen c =
-    let s = c.self.inside in
-    let h = c.args.head in
-    let n = c.args.n in
-    let seen : Row = record { 0 = c.args.seen } in
-    let other = subst (λ (x : Contents). HasOther x h n c.args.seen) (sym c.self.view_is) c.requires.seen in
-    λ ne e. other ne (found_tree s.nodes (contents_of s) h n seen c.self.invariant.agree (e ∙ ap (λ (xs : List Row). node_of h xs) c.last.ensures))
 
 pub returns-clause-found : goal.returns-clause-found
 returns-clause-found c =

@@ -3,7 +3,6 @@ use Rattle.term_model.specs.declared.Row.{Row}
 use Rattle.plain_store.specs.Slots.{Slots, arguments_of}
 use Rattle.plain_store.specs.Flat.{IsEntry}
 use Rattle.plain_store.proofs.Flattened.{slot_is, rows_of_slot, rows_in_pair, rows_in_places}
-use Rattle.plain_store.proofs.Pairing.{filled_has_two}
 use Rattle.plain_store.proofs.Filling.{free_behind}
 use Rattle.plain_store.proofs.table.Table.arguments.Goals as goal
 
@@ -21,7 +20,7 @@ part-requires c =
     let lt : k < length s.entries.items = omega (arith, c.if-row-len.false, c.len.ensures, s.entries.ok.0) in
     let ok = subst (IsEntry s.widest (length s.places.items) k) (sym c.index-entry.ensures) (c.self.invariant.entries k e lt) in
     let few : e.count ≤ 2 = omega (arith, c.if-count-le2.true) in
-    omega (arith, filled_has_two e.pair e.count (ok.pair few) few, few)
+    omega (arith, ok.two, few)
 
 pub part-requires-2 : goal.part-requires-2
 part-requires-2 c =

@@ -3,6 +3,7 @@ use Rattle.std.proofs.lemmas.List.{length-set}
 use Rattle.plain_store.specs.declared.table.Entry.{Entry}
 use Rattle.plain_store.specs.Slots.{Slots, Slot, with_slot}
 use Rattle.plain_store.specs.Flat.{all_slots, IsEntry, HasEntries, reached}
+use Rattle.plain_store.proofs.Pairing.{filled_has_two}
 use Rattle.plain_store.proofs.Placing.{node_of}
 use Rattle.plain_store.proofs.Filling.{length-all, length-reached, pair_made, entries_reached, entries_set}
 use Rattle.plain_store.proofs.table.Table.set_pair.Goals as goal
@@ -40,7 +41,7 @@ invariant_of-self c =
     let size = length s.places.items in
     let wide = ap (λ (x : Slots). x.widest) c.self.view_is in
     let e : Entry = record { head = c.args.head; pair = c.args.pair; count = c.args.count; used = true } in
-    let own : IsEntry w size k e = record { pair = λ few. c.requires.filled; fits = omega (arith, wide, c.requires.room); places = λ many. absurd (omega (arith, many, c.requires.few)); free = λ u. absurd (cc) } in
+    let own : IsEntry w size k e = record { two = filled_has_two c.args.pair c.args.count c.requires.filled c.requires.few; pair = λ u few. c.requires.filled; fits = omega (arith, wide, c.requires.room); places = λ many. absurd (omega (arith, many, c.requires.few)); free = λ u. absurd (cc); other = λ u. absurd (cc) } in
     let all = entries_set w size k (reached k es) e own (entries_reached w size k es c.self.invariant.entries) in
     record {
       rows = c.self.invariant.rows;

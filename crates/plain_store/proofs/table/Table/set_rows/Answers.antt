@@ -80,7 +80,7 @@ invariant_of-self c =
     let e : Entry = record { head = c.args.head; pair = no_row ∷ no_row ∷ []; count = length vs; used = true } in
     let filled_up = length-replicate (k * w + w - size) no_row in
     let fs = reached k es in
-    let own : IsEntry w after k e = record { pair = λ few. absurd (omega (arith, few, c.requires.many)); fits = omega (arith, wide, c.requires.room); places = λ many. omega (arith, whole, c.write.ensures.size, deref, long, filled_up); free = λ u. absurd (cc) } in
+    let own : IsEntry w after k e = record { two = refl; pair = λ u few. absurd (omega (arith, few, c.requires.many)); fits = omega (arith, wide, c.requires.room); places = λ many. omega (arith, whole, c.write.ensures.size, deref, long, filled_up); free = λ u. absurd (cc); other = λ u. absurd (cc) } in
     let all = entries_set w after k fs e own (entries_more w size after fs (omega (arith, whole, c.write.ensures.size, deref, long)) (entries_reached w size k es c.self.invariant.entries)) in
     record {
       rows = c.self.invariant.rows;
