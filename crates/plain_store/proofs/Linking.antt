@@ -90,6 +90,10 @@ linked_filled x y hashed k l =
 pub linked_free : (x y : Index) (hashed : ℕ) (k : Row) → IsLinked x y hashed k → y.free ≡ x.free
 linked_free x y hashed k l = ap (λ (z : Index). z.free) l.is
 
+pub linked_places : (x y : Index) (hashed : ℕ) (k : Row) → IsLinked x y hashed k → length y.words ≡ length x.words
+linked_places x y hashed k l =
+    ap (λ (z : Index). length z.words) l.is ∙ length-set x.words (place_of x hashed l.steps) (k.0 + tag_of x hashed)
+
 pub linked_tags : (x y : Index) (hashed : ℕ) (k : Row) → IsLinked x y hashed k → y.tags ≡ x.tags
 linked_tags x y hashed k l = ap (λ (z : Index). z.tags) l.is
 

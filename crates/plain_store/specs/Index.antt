@@ -94,4 +94,5 @@ HasRoom x rows = rows + x.tags < 2 ^ 32
 pub record IsIndexedTo (fresh : ℕ) (slots : List Slot) (x : Index) : Type 0 where
   pub front : IsFront fresh slots
   pub room : HasRoom x (length slots)
+  pub places : fresh < length x.words
   pub indexed : IsIndexed (take fresh slots) x

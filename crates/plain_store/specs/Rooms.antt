@@ -9,12 +9,15 @@ use Rattle.plain_store.specs.Flat.{all_slots, HasEntries}
 abbrev pub index_of : IndexInside → Index
 index_of s = record { words = s.words.items; free = s.free.items; homes = s.homes; tags = s.tags }
 
--- There is room on the stack for each row whose word fits, each hash has its place, and there are
--- more places than rows.
+-- There is room on the stack for each row whose word fits, each hash has its place, and there may
+-- be more places than rows.
 pub record IsIndex (s : IndexInside) : Type 0 where
   pub free : 2 ^ 32 ≤ vec_capacity s.free + s.tags + 1
   pub homes : s.homes < length s.words.items
-  pub places : 2 ^ 32 ≤ length s.words.items + s.tags
+  pub fits : length s.words.items ≤ s.most
+  pub more : 2 ^ 32 ≤ s.most + s.tags
+  pub most : s.most ≤ 2 ^ 32
+  pub room : s.most ≤ vec_capacity s.words
 
 abbrev pub slots_in : TableInside → Slots
 slots_in s = record { slots = all_slots s.widest s.rows s.entries.items s.places.items; widest = s.widest }

@@ -1,5 +1,5 @@
 // Where the rows are: those in use by their hashes, and the free ones.
-ghost use Rattle.std.specs.Prelude.{◌≡◌, ◌+◌, ◌/◌, ◌^◌, ◌<◌, ◌≤◌, ◌↔◌, ◌++◌, [], ◌∷◌, IfOk, IfSome, IfNone, false, length};
+ghost use Rattle.std.specs.Prelude.{◌≡◌, ◌+◌, ◌/◌, ◌^◌, ◌<◌, ◌≤◌, ◌↔◌, ◌++◌, [], ◌∷◌, IfOk, IfSome, IfNone, true, false, length, replicate, vec_capacity};
 ghost use Rattle.plain_store.specs.Index.{home_of, tag_of, place_behind, word_at, filled_count, freed, taken, HasRoom, IsIndexed, IsLinked};
 
 use faults::Memory;
@@ -10,7 +10,13 @@ use term_model::Row;
 /// The word of a place where no row stands.
 pub(crate) const VACANT: u32 = u32::MAX;
 
-/// A table of hashed rows, each in the first place from that of its hash on which was empty, and a
+/// How many places there are at first, if there may be as many.
+const FIRST_PLACES: usize = 4096;
+
+/// How many times as many there are when more are needed.
+const GROWTH: usize = 4;
+
+/// A table of hashed rows, each in the first place from that of its hash on which was vacant, and a
 /// stack of free rows. The word of a place tells of most other rows that they aren't the one.
 #[derive(Drop)]
 pub(crate) struct Index {
@@ -18,6 +24,8 @@ pub(crate) struct Index {
     free: Vec<Row>,
     homes: u32,
     tags: u32,
+    // how many places there may be
+    most: usize,
 }
 
 impl Model for Index {
@@ -31,6 +39,16 @@ impl Model for Index {
     ghost invariant = { IsIndex };
 }
 
+// Makes so many places, all vacant.
+fn make_vacant(words: &mut Vec<u32>, places: usize)
+    requires { places ≤ vec_capacity words.old }
+    ensures items { words.new.items ≡ replicate places VACANT }
+    ensures room { vec_capacity words.old ≤ vec_capacity words.new }
+{
+    words.clear();
+    let _ = words.resize(places, VACANT);
+}
+
 // The high bits of a hash, which are mixed best.
 #[inline(always)]
 fn high(hash: u64) -> u32
@@ -40,19 +58,48 @@ fn high(hash: u64) -> u32
 }
 
 impl Index {
-    /// Room for so many rows, and none of them. There are at least twice as many places, up to 2^31
-    /// rows.
+    /// Room for so many rows, and none of them. All the memory is taken here, and little of it
+    /// written.
     pub(crate) fn new(alloc: Global, rows: u32) -> Result<Index, Memory>
         ensures none { IfOk result (λ x. IsIndexed [] x) }
         ensures room { IfOk result (λ x. HasRoom x rows) }
+        ensures places { IfOk result (λ x. 0 < length x.words) }
     {
-        let homes = u32::MAX >> rows.saturating_sub(1).leading_zeros().saturating_sub(1);
+        let widest = u32::MAX >> rows.saturating_sub(1).leading_zeros().saturating_sub(1);
+        let most = widest.max(rows) as usize + 1;
+        let first = most.min(FIRST_PLACES);
+        let mut words = Vec::with_capacity(alloc, most)?;
+        make_vacant(&mut words, first);
         Ok(Index {
-            words: vec![in alloc; VACANT; homes.max(rows) as usize + 1]?,
+            words,
             free: Vec::with_capacity(alloc, rows as usize)?,
-            homes,
+            homes: (first - 1) as u32,
             tags: u32::MAX - rows,
+            most,
         })
+    }
+
+    /// Whether so many rows fill at most half of the places, or there may be no more places.
+    #[inline(always)]
+    pub(crate) fn has_places(&self, rows: u32) -> bool
+        requires { HasRoom self.now rows }
+        ensures { result ≡ true → rows < length self.now.words }
+    {
+        rows as usize * 2 <= self.words.len() || self.words.len() >= self.most
+    }
+
+    /// Takes all rows away, and makes more places, enough for so many rows.
+    pub(crate) fn grow(&mut self, rows: u32)
+        requires room { HasRoom self.old rows }
+        requires places { rows ≤ length self.old.words }
+        ensures none { IsIndexed [] self.new }
+        ensures tags { self.new.tags ≡ self.old.tags }
+        ensures places { rows < length self.new.words }
+    {
+        let places = (self.words.len() * GROWTH).min(self.most);
+        make_vacant(&mut self.words, places);
+        self.free.clear();
+        self.homes = (places - 1) as u32;
     }
 
     /// The place from which rows of this hash are looked for.
@@ -104,7 +151,7 @@ impl Index {
     /// Puts a row of this hash into the first vacant place.
     #[inline(always)]
     pub(crate) fn link(&mut self, hash: u64, row: Row)
-        requires room { HasRoom self.old (filled_count self.old.words + 1) }
+        requires places { filled_count self.old.words < length self.old.words }
         requires row { HasRoom self.old (row.0 + 1) }
         ensures { IsLinked self.old self.new hash row }
     {
@@ -149,6 +196,7 @@ impl Index {
     pub(crate) fn clear(&mut self)
         ensures none { IsIndexed [] self.new }
         ensures tags { self.new.tags ≡ self.old.tags }
+        ensures places { length self.new.words ≡ length self.old.words }
     {
         self.words.fill(VACANT);
         self.free.clear();

@@ -2,7 +2,7 @@ use Rattle.std.proofs.Common.{◌+◌, ℕ, None, get_or, sym, subst, take, arit
 use Rattle.std.proofs.lemmas.List.{length-take}
 use Rattle.plain_store.specs.Index.{Index, IsIndexed, IsLinked}
 use Rattle.plain_store.proofs.Indexing.{node_is, slot_free, added, added_empty}
-use Rattle.plain_store.proofs.Linking.{linked_tags}
+use Rattle.plain_store.proofs.Linking.{linked_places, linked_tags}
 use Rattle.plain_store.proofs.nodes.add.Goals as goal
 
 pub returns-in-Some-clause-indexed : goal.returns-in-Some-clause-indexed
@@ -23,9 +23,9 @@ returns-in-None-clause-indexed c =
     subst (λ (y : Index). IsIndexed (take (k.0 + 1) slots) y) (sym c.free.ensures)
     (added_empty slots x k c.requires.below is c.requires.before)
 
-pub link-requires-clause-room : goal.link-requires-clause-room
-link-requires-clause-room c =
-    omega (arith, c.requires.before.filled, length-take c.args.row.0 c.args.table.now.slots, c.requires.below, c.requires.room)
+pub link-requires-clause-places : goal.link-requires-clause-places
+link-requires-clause-places c =
+    omega (arith, c.requires.before.filled, length-take c.args.row.0 c.args.table.now.slots, c.requires.places)
 
 pub free-requires : goal.free-requires
 free-requires c =
@@ -33,3 +33,6 @@ free-requires c =
 
 pub returns-in-Some-clause-tags : goal.returns-in-Some-clause-tags
 returns-in-Some-clause-tags c = linked_tags c.args.index.now c.link.new.self c.hash_of.result c.args.row c.link.ensures
+
+pub returns-in-Some-clause-places : goal.returns-in-Some-clause-places
+returns-in-Some-clause-places c = linked_places c.args.index.now c.link.new.self c.hash_of.result c.args.row c.link.ensures

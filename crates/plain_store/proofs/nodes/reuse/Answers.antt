@@ -1,7 +1,7 @@
-use Rattle.std.proofs.Common.{◌∙◌, ℕ, ◌+◌, ◌++◌, ◌∷◌, [], ap, sym, subst, arith}
+use Rattle.std.proofs.Common.{◌∙◌, ℕ, ◌<◌, ◌++◌, ◌∷◌, [], length, ap, sym, subst, arith}
 use Rattle.plain_store.specs.Slots.{Slots}
-use Rattle.plain_store.specs.Index.{Index, filled_count, taken, HasRoom, IsIndexedTo, IsLinked}
-use Rattle.plain_store.proofs.Fronts.{last_of_front, front_reused, room_freed}
+use Rattle.plain_store.specs.Index.{Index, filled_count, taken, IsIndexedTo, IsLinked}
+use Rattle.plain_store.proofs.Fronts.{last_of_front, front_reused, place_left}
 use Rattle.plain_store.proofs.nodes.reuse.Goals as goal
 
 pub set-requires-clause-below : goal.set-requires-clause-below
@@ -9,12 +9,10 @@ set-requires-clause-below c =
     let own = last_of_front c.args.fresh c.args.table.now.slots c.args.index.now c.take_free.new.self.free c.in_ok-row.row c.in_ok-row.ensures.last c.requires.indexed in
     omega (arith, own.0, c.requires.indexed.front.fits)
 
-pub link-requires-clause-room : goal.link-requires-clause-room
-link-requires-clause-room c =
-    let x = c.args.index.now in
-    let taken_is = c.in_ok-row.ensures.taken in
-    subst (λ (i : Index). HasRoom i (filled_count i.words + 1)) (sym taken_is)
-    (room_freed c.args.fresh c.args.table.now.slots x c.take_free.new.self.free c.in_ok-row.row c.in_ok-row.ensures.last c.requires.indexed)
+pub link-requires-clause-places : goal.link-requires-clause-places
+link-requires-clause-places c =
+    subst (λ (i : Index). filled_count i.words < length i.words) (sym c.in_ok-row.ensures.taken)
+    (place_left c.args.fresh c.args.table.now.slots c.args.index.now c.requires.indexed)
 
 pub link-requires-clause-row : goal.link-requires-clause-row
 link-requires-clause-row c =

@@ -11,7 +11,7 @@ use Rattle.plain_store.proofs.nodes.sweep_rows.Goals.{then-lost, else-lost}
 
 pub loop-i-init : goal.loop-i-init
 loop-i-init c =
-    record { rows = sweeping_none c.args.marks.now c.args.table.now; some = λ h. absurd (cc); none = λ h. refl; indexed = c.requires.none; tags = refl }
+    record { rows = sweeping_none c.args.marks.now c.args.table.now; some = λ h. absurd (cc); none = λ h. refl; indexed = c.requires.none; tags = refl; places = refl }
 
 pub add-requires-clause-before : goal.add-requires-clause-before
 add-requires-clause-before c =
@@ -51,6 +51,7 @@ loop-i-preserved c =
       ];
       indexed = c.add.ensures.indexed;
       tags = c.add.ensures.tags ∙ c.loop-i.invariant.tags;
+      places = c.add.ensures.places ∙ c.loop-i.invariant.places;
     }
 
 pub returns-clause-swept : goal.returns-clause-swept
@@ -68,5 +69,5 @@ pub returns-clause-indexed : goal.returns-clause-indexed
 returns-clause-indexed c =
     let all : c.loop-i.i ≡ c.args.fresh = omega (arith, c.loop-i-test.false) in
     front_swept c.args.marks.now c.args.table.now c.loop-i.table c.args.fresh c.loop-i.index
-    (subst (Sweeping c.args.marks.now c.args.table.now c.loop-i.table) all c.loop-i.invariant.rows) c.requires.front (omega (arith, c.loop-i.invariant.tags, c.requires.room))
+    (subst (Sweeping c.args.marks.now c.args.table.now c.loop-i.table) all c.loop-i.invariant.rows) c.requires.front (omega (arith, c.loop-i.invariant.tags, c.requires.room)) (omega (arith, c.loop-i.invariant.places, c.requires.places))
     (subst (λ i. IsIndexed (take i c.loop-i.table.slots) c.loop-i.index) all c.loop-i.invariant.indexed)

@@ -1,4 +1,4 @@
-use Rattle.std.proofs.Common.{◌≡◌, true, false, take}
+use Rattle.std.proofs.Common.{◌≡◌, true, false, length, take}
 use Rattle.plain_store.specs.Index.{IsIndexed}
 use Rattle.plain_store.proofs.Rows.{Sweeping, Freed}
 use Rattle.plain_store.proofs.nodes.sweep_rows.Given as goal
@@ -12,4 +12,5 @@ invariant-loop-i l =
       none : l.lost ≡ false → l.table ≡ l.initial.table;
       indexed : IsIndexed (take l.i l.table.slots) l.index;
       tags : l.index.tags ≡ l.fn.index.tags;
+      places : length l.index.words ≡ length l.fn.index.words;
     }

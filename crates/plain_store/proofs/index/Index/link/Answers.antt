@@ -9,4 +9,4 @@ returns c =
     let long = ap (λ (y : Index). length y.words) c.self.view_is in
     let tags = ap (λ (y : Index). y.tags) c.self.view_is in
     let all = none_vacant x (home_of x c.args.hash) (omega (arith, c.home-place.ensures.home, c.home-place.ensures.below)) (λ k lt. c.loop-passed.invariant.filled k (omega (arith, lt, c.loop-passed-test.false, long))) in
-    absurd (omega (arith, all, long, tags, c.requires.room, c.self.invariant.places))
+    absurd (omega (arith, all, long, tags, c.requires.places))

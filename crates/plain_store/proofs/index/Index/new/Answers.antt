@@ -6,4 +6,4 @@ use Rattle.plain_store.proofs.index.Index.new.Goals as goal
 
 pub returns-clause-none : goal.returns-clause-none
 returns-clause-none c =
-    indexed_none _ c.in_ok-with_capacity.ensures.items (ap filled_count (c.in_ok-vec.ensures.items_if_clones_equal (λ y e. e)) ∙ none_filled _)
+    indexed_none _ c.in_ok-with_capacity.ensures.items (ap filled_count c.make_vacant.ensures.items ∙ none_filled _)
