@@ -28,20 +28,14 @@ const FEW_ARGUMENTS: u32 = 4;
 /// How many arguments a symbol may have.
 const MOST_ARGUMENTS: u32 = 16;
 
-/// How many rows are tried first: one less where they would be a power of two, since the store then
-/// has half the buckets.
+/// How many rows are tried first.
 fn rows_for(input: &[u8], rows: u32) -> u32
     ensures { result ≤ rows }
 {
-    let most = if input.len() < FEW_BYTES {
+    if input.len() < FEW_BYTES {
         rows.min(FEW_ROWS)
     } else {
         rows
-    };
-    if most.is_power_of_two() {
-        most.saturating_sub(1)
-    } else {
-        most
     }
 }
 
