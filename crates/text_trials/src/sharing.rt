@@ -1,5 +1,5 @@
 //! Terms that are shared, and written again. Expected bytes and texts are worked out by hand.
-ghost use Rattle.std.specs.Prelude.{◌≤◌};
+ghost use Rattle.std.specs.Prelude.{◌<◌, ◌≤◌, length};
 
 use faults::Memory;
 use std::alloc::{AllocError, Global};
@@ -98,22 +98,35 @@ fn text_of(alloc: Global, shared: &Shared, root: u32, limit: u64) -> Result<Opti
     }
 }
 
+/// Whether a root of so many nodes is written as this text, and not at all where they are too many.
+fn is_written(
+    alloc: Global,
+    shared: &Shared,
+    root: u32,
+    nodes: u64,
+    text: &[u8],
+) -> Result<bool, Fail> {
+    let less = text_of(alloc, shared, root, nodes.saturating_sub(1))?;
+    match text_of(alloc, shared, root, nodes)? {
+        Some(written) => Ok(less.is_none() && written.as_slice() == text),
+        None => Ok(false),
+    }
+}
+
+/// Roots, their nodes and their texts behind what was there. Seven nodes; two cells over 1, "b c"
+/// over f, and the empty list, which are six; one.
+static ROOTS: [(u32, u64, &[u8]); 3] = [
+    (0, 7, b"as beforep(p(z,z),p(z,z))"),
+    (1, 6, b"as before[1,\"b c\"(f)]"),
+    (2, 1, b"as before[]"),
+];
+
 #[test]
 fn a_term_is_written_up_to_its_limit(rt: HostRuntime) -> Result<(), Fail> {
     let alloc = rt.alloc();
     let shared = shared_of(alloc, b"p(p(z,z),p(z,z)) [1,\"b c\"(\"f\")] []", 100)??;
-    // seven nodes; two cells over 1, "b c" over f, and the empty list, which are six; one
-    let rows: [(u32, u64, &[u8]); 3] = [
-        (0, 7, b"as beforep(p(z,z),p(z,z))"),
-        (1, 6, b"as before[1,\"b c\"(f)]"),
-        (2, 1, b"as before[]"),
-    ];
-    for (root, nodes, text) in rows {
-        assert_eq!(rt; text_of(alloc, &shared, root, nodes - 1)?, None);
-        match text_of(alloc, &shared, root, nodes)? {
-            Some(written) => assert_eq!(rt; written.as_slice(), text),
-            None => return Err(Fail::new("not written")),
-        }
+    for (root, nodes, text) in &ROOTS {
+        assert!(rt; is_written(alloc, &shared, *root, *nodes, text)?, "{root}");
     }
     Ok(())
 }
@@ -135,34 +148,56 @@ fn doubled(alloc: Global, times: u32) -> Result<Vec<u8>, AllocError>
     Ok(out)
 }
 
+/// What such a file holds.
+fn shared_doubled(alloc: Global, times: u32) -> Result<Shared, Fail>
+    requires { times ≤ 100 }
+{
+    let file = doubled(alloc, times)?;
+    Ok(decode(alloc, &file)?)
+}
+
+/// Whether what such a file holds has this file.
+fn is_same_again(alloc: Global, times: u32) -> Result<bool, Fail>
+    requires { times ≤ 100 }
+{
+    let shared = shared_doubled(alloc, times)?;
+    let mut again = Vec::new(alloc);
+    encode(&shared, &mut again)?;
+    Ok(again.as_slice() == doubled(alloc, times)?.as_slice())
+}
+
 #[test]
 fn nodes_double_and_records_do_not(rt: HostRuntime) -> Result<(), Fail> {
     let alloc = rt.alloc();
     // 8 + 4 + 6 + 4 + 5 + 20 * 13 + 4 + 4 bytes, and 2^21 - 1 nodes
-    let file = doubled(alloc, 20)?;
-    assert_eq!(rt; file.len(), 295);
-    let shared = decode(alloc, &file)?;
+    assert_eq!(rt; doubled(alloc, 20)?.len(), 295);
+    assert!(rt; is_same_again(alloc, 20)?);
+    let shared = shared_doubled(alloc, 20)?;
     assert_eq!(rt; text_of(alloc, &shared, 0, 2_097_150)?, None);
-    let mut again = Vec::new(alloc);
-    encode(&shared, &mut again)?;
-    assert_eq!(rt; again.as_slice(), file.as_slice());
     Ok(())
+}
+
+/// What comes of writing the first root with a limit, and whether nothing is written.
+fn begun(alloc: Global, shared: &Shared, limit: u64) -> (Result<Printed, Memory>, bool)
+    requires { 0 < length shared.now.trees }
+{
+    let mut out = Vec::new(alloc);
+    let printed = write_shared(shared, 0, limit, &mut out);
+    (printed, out.is_empty())
 }
 
 #[test]
 fn a_text_beyond_all_memory_is_not_begun(rt: HostRuntime) -> Result<(), Fail> {
     let alloc = rt.alloc();
     // 2^65 - 1 nodes
-    let shared = decode(alloc, &doubled(alloc, 64)?)?;
+    let shared = shared_doubled(alloc, 64)?;
     if shared.is_empty() {
         return Err(Fail::new("no root"));
     }
-    let mut out = Vec::new(alloc);
-    assert_eq!(rt; write_shared(&shared, 0, u64::MAX, &mut out), Err(Memory));
+    assert_eq!(rt; begun(alloc, &shared, u64::MAX), (Err(Memory), true));
     assert_eq!(rt;
-        write_shared(&shared, 0, u64::MAX - 1, &mut out),
-        Ok(Printed::TooLarge)
+        begun(alloc, &shared, u64::MAX - 1),
+        (Ok(Printed::TooLarge), true)
     );
-    assert!(rt; out.is_empty());
     Ok(())
 }

@@ -40,20 +40,51 @@ fn push_lowest<T: Terms>(terms: &mut T) -> Result<(), Deep>
     }
 }
 
+// The row of the lowest place, if there is one.
+fn lowest<T: Terms>(terms: &mut T) -> Option<Row>
+    requires { (T.store terms.old).inside ≡ true }
+    ensures { T.store terms.new ≡ T.store terms.old }
+{
+    if terms.depth() == 0 {
+        return None;
+    }
+    Some(terms.at(0))
+}
+
+// What four builds answer of which the third finds two rows in use, and the last finds the stack
+// full by two pushes before it; whether one row stays the stack at the third; and what the pushes
+// answer.
+fn fill<T: Terms>(terms: &mut T) -> ([Option<BuildFault>; 4], bool, [Result<(), Deep>; 2])
+    requires inside { (T.store terms.old).inside ≡ true }
+    requires width { 1 ≤ (T.store terms.old).widest }
+    ensures inside { (T.store terms.new).inside ≡ true }
+{
+    let first = build_symbol(terms, 0, 0);
+    let second = build_symbol(terms, 1, 1);
+    let before = (terms.depth(), lowest(terms));
+    let full = build_symbol(terms, 2, 1);
+    let stays = before.0 == 1 && terms.depth() == 1 && lowest(terms) == before.1;
+    let pushed = [push_lowest(terms), push_lowest(terms)];
+    let deep = build_symbol(terms, 3, 0);
+    ([first, second, full, deep], stays, pushed)
+}
+
 #[test]
 fn full_store_refuses_and_full_stack_is_deep(rt: HostRuntime) -> Result<(), Fail> {
     let mut store = PlainStore::new(rt.alloc(), 2, 2, 1)?;
     store.enter();
-    assert_eq!(rt; build_symbol(&mut store, 0, 0), None);
-    assert_eq!(rt; build_symbol(&mut store, 1, 1), None);
-    assert_eq!(rt; store.depth(), 1);
-    let row = store.at(0);
-    assert_eq!(rt; build_symbol(&mut store, 2, 1), Some(BuildFault::StoreFull));
-    assert_eq!(rt; store.depth(), 1);
-    assert_eq!(rt; store.at(0), row);
-    assert_eq!(rt; push_lowest(&mut store), Ok(()));
-    assert_eq!(rt; push_lowest(&mut store), Err(Deep));
-    assert_eq!(rt; build_symbol(&mut store, 3, 0), Some(BuildFault::Deep));
+    let (built, stays, pushed) = fill(&mut store);
+    assert_eq!(rt;
+        built,
+        [
+            None,
+            None,
+            Some(BuildFault::StoreFull),
+            Some(BuildFault::Deep)
+        ]
+    );
+    assert!(rt; stays);
+    assert_eq!(rt; pushed, [Ok(()), Err(Deep)]);
     Ok(())
 }
 
@@ -115,42 +146,59 @@ fn agrees(known: &mut Known, text: &str, row: Row, alloc: Global) -> Result<bool
     Ok(known.rows.insert(row.0)?)
 }
 
+/// Trees by chance: those on a store's stack by their texts, and all that there were.
+#[derive(Drop)]
+struct Chance {
+    state: u64,
+    texts: Vec<String>,
+    known: Known,
+}
+
+// Builds a tree by chance over up to two of the last ones, and empties a stack of eight. Whether it
+// was built, and has the row that its text had before, or one that no other text had.
+fn build_drawn<T: Terms>(terms: &mut T, chance: &mut Chance, alloc: Global) -> Result<bool, Fail>
+    requires inside { (T.store terms.old).inside ≡ true }
+    requires width { 2 ≤ (T.store terms.old).widest }
+    ensures inside { (T.store terms.new).inside ≡ true }
+    ensures widest { (T.store terms.new).widest ≡ (T.store terms.old).widest }
+{
+    let number = drawn(&mut chance.state);
+    let count = number % 3;
+    let n = if count > terms.depth() { 0 } else { count };
+    let symbol = 3 * n + number / 3 % 3;
+    if build_symbol(terms, symbol, n).is_some() || terms.depth() == 0 {
+        return Ok(false);
+    }
+    let row = terms.at(terms.depth() - 1);
+    let letter = (b'a' + symbol as u8) as char;
+    write_text(alloc, &mut chance.texts, letter, n as usize)?;
+    let Some(text) = chance.texts.last() else {
+        return Ok(false);
+    };
+    let agree = agrees(&mut chance.known, text, row, alloc)?;
+    if chance.texts.len() == 8 {
+        chance.texts.clear();
+        terms.keep(0, 0);
+    }
+    Ok(agree)
+}
+
 #[test]
 fn random_trees_share_rows_as_their_texts_say(rt: HostRuntime) -> Result<(), Fail> {
     let mut store = PlainStore::new(rt.alloc(), 1500, 8, 2)?;
-    let mut texts = Vec::new(rt.alloc());
-    let mut known = Known {
-        by_text: BTreeMap::new(rt.alloc()),
-        rows: BTreeSet::new(rt.alloc()),
+    let mut chance = Chance {
+        state: 1,
+        texts: Vec::new(rt.alloc()),
+        known: Known {
+            by_text: BTreeMap::new(rt.alloc()),
+            rows: BTreeSet::new(rt.alloc()),
+        },
     };
-    let mut state = 1;
     store.enter();
     for _ in 0..3000 {
-        let number = drawn(&mut state);
-        let n = if number % 3 > store.depth() {
-            0
-        } else {
-            number % 3
-        };
-        let symbol = 3 * n + number / 3 % 3;
-        assert_eq!(rt; build_symbol(&mut store, symbol, n), None);
-        write_text(
-            rt.alloc(),
-            &mut texts,
-            (b'a' + symbol as u8) as char,
-            n as usize,
-        )?;
-        if let Some(text) = texts.last() {
-            assert!(rt; store.depth() > 0);
-            let row = store.at(store.depth() - 1);
-            assert!(rt; agrees(&mut known, text, row, rt.alloc())?);
-        }
-        if texts.len() == 8 {
-            texts.clear();
-            store.keep(0, 0);
-        }
+        assert!(rt; build_drawn(&mut store, &mut chance, rt.alloc())?);
     }
-    assert_eq!(rt; known.by_text.len(), 1267);
+    assert_eq!(rt; chance.known.by_text.len(), 1267);
     assert_eq!(rt; store.epoch(), Some(0));
     Ok(())
 }
@@ -178,6 +226,21 @@ fn read_lowest<T: Terms>(terms: &mut T) -> Result<Head, Deep>
     read_back(terms, row)
 }
 
+// Whether four lists have two rows in turn, and the lowest is one.
+fn are_two_in_turn<T: Terms>(terms: &mut T) -> bool
+    requires { (T.store terms.old).inside ≡ true }
+    ensures { T.store terms.new ≡ T.store terms.old }
+{
+    if terms.depth() != 4 {
+        return false;
+    }
+    let rows = [terms.at(0), terms.at(1), terms.at(2), terms.at(3)];
+    rows[0] == rows[2]
+        && rows[1] == rows[3]
+        && rows[0] != rows[1]
+        && read_lowest(terms) == Ok(Head::Cons)
+}
+
 #[test]
 fn five_rows_serve_the_lists_of_two_integers(rt: HostRuntime) -> Result<(), Fail> {
     let mut store = PlainStore::new(rt.alloc(), 5, 6, 2)?;
@@ -185,11 +248,7 @@ fn five_rows_serve_the_lists_of_two_integers(rt: HostRuntime) -> Result<(), Fail
     for number in [0, u64::MAX, 0, u64::MAX] {
         assert_eq!(rt; build_list(&mut store, number), Ok(()));
     }
-    assert_eq!(rt; store.depth(), 4);
-    assert_eq!(rt; store.at(0), store.at(2));
-    assert_eq!(rt; store.at(1), store.at(3));
-    assert!(rt; store.at(0) != store.at(1));
-    assert_eq!(rt; read_lowest(&mut store), Ok(Head::Cons));
+    assert!(rt; are_two_in_turn(&mut store));
     assert_eq!(rt; build_symbol(&mut store, 0, 0), Some(BuildFault::StoreFull));
     assert_eq!(rt; store.epoch(), Some(0));
     Ok(())

@@ -33,8 +33,20 @@ static TEXTS: [(&[u8], &[u8]); 12] = [
     ),
 ];
 
-// Texts, with the kind and the place of the refusal.
-static REFUSALS: [(&[u8], u8, u64); 28] = [
+// A name of so many bytes.
+static LONGEST: [u8; 255] = [b'n'; 255];
+
+static TOO_LONG: [u8; 256] = [b'n'; 256];
+
+// Texts, with the kind and the place of the refusal, or twice 0 where they spell terms.
+static REFUSALS: [(&[u8], u8, u64); 33] = [
+    // The longest name, and one that is longer.
+    (&[b'n'; 255], 0, 0),
+    (&[b'n'; 256], 13, 0),
+    // Sixteen arguments, seventeen of which the last is no number, and a list of more elements.
+    (b"f(0,1,2,3,4,5,6,7,8,9,a,b,c,d,e,f)", 0, 0),
+    (b"f(0,1,2,3,4,5,6,7,8,9,a,b,c,d,e,f,01)", 13, 34),
+    (b"[0,1,2,3,4,5,6,7,8,9,a,b,c,d,e,f,g]", 0, 0),
     (b"f()", 2, 2),
     (b"a\"", 3, 2),
     (b"\"\\x\"", 1, 2),
@@ -86,18 +98,22 @@ fn refusal(alloc: Global, bytes: &[u8], symbols: &mut Symbols) -> Result<(u8, u6
     }
 }
 
+// The canonical texts of a text's terms.
+fn lines_of(alloc: Global, text: &[u8], symbols: &mut Symbols) -> Result<Vec<u8>, ReadFail> {
+    let terms = read_terms(alloc, text, symbols)?;
+    let mut out = Vec::new(alloc);
+    put_lines(&terms, symbols, &mut out)?;
+    Ok(out)
+}
+
 #[test]
 fn texts_are_written_again_as_canonical_texts(rt: HostRuntime) -> Result<(), Fail> {
-    for (bytes, expected) in &TEXTS {
+    for (text, canonical) in &TEXTS {
         let mut symbols = Symbols::new(rt.alloc());
-        let mut out = Vec::new(rt.alloc());
-        let terms = read_terms(rt.alloc(), bytes, &mut symbols)?;
-        put_lines(&terms, &symbols, &mut out)?;
-        assert_eq!(rt; out.as_slice(), *expected);
-        let again = read_terms(rt.alloc(), out.as_slice(), &mut symbols)?;
-        let mut twice = Vec::new(rt.alloc());
-        put_lines(&again, &symbols, &mut twice)?;
-        assert_eq!(rt; twice.as_slice(), *expected);
+        for given in [*text, *canonical] {
+            let lines = lines_of(rt.alloc(), given, &mut symbols)?;
+            assert_eq!(rt; lines.as_slice(), *canonical);
+        }
     }
     Ok(())
 }
@@ -138,21 +154,6 @@ fn symbols_are_numbered_in_the_order_of_the_text(rt: HostRuntime) -> Result<(), 
     ];
     let last = terms.as_slice().last().ok_or("no term")?;
     assert_eq!(rt; last.items(), expected.as_slice());
-    Ok(())
-}
-
-#[test]
-fn limits_are_told_at_their_places(rt: HostRuntime) -> Result<(), Fail> {
-    let mut symbols = Symbols::new(rt.alloc());
-    let long = vec![in rt.alloc(); b'n'; 256]?;
-    assert_eq!(rt; refusal(rt.alloc(), &long, &mut symbols)?, (13, 0));
-    assert_eq!(rt; refusal(rt.alloc(), &long[1..], &mut symbols)?, (0, 0));
-    let sixteen = b"f(0,1,2,3,4,5,6,7,8,9,a,b,c,d,e,f)";
-    assert_eq!(rt; refusal(rt.alloc(), sixteen, &mut symbols)?, (0, 0));
-    let seventeen = b"f(0,1,2,3,4,5,6,7,8,9,a,b,c,d,e,f,01)";
-    assert_eq!(rt; refusal(rt.alloc(), seventeen, &mut symbols)?, (13, 34));
-    let list = b"[0,1,2,3,4,5,6,7,8,9,a,b,c,d,e,f,g]";
-    assert_eq!(rt; refusal(rt.alloc(), list, &mut symbols)?, (0, 0));
     Ok(())
 }
 
