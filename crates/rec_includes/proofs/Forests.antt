@@ -1,13 +1,7 @@
 -- The forest of specifications: what each includes first comes before it.
-use Rattle.std.proofs.Common.{◌≡◌, ℕ, zero, suc, ◌<◌, Bool, true, false, cond, List, [], ◌∷◌, nat_eq, Option, Some, None, IfSome, refl, sym, ap, subst, ◌∙◌, ◌||◌, arith, true≢false, length, get_or, ◌-◌, ◌++◌, append-nil, length-append, set, All, Contains, length-set, get_or-set_other, get_or-set_same}
-use Rattle.std.specs.List.{list_any, AllByRecursion, IsDistinct}
-use Rattle.rec_includes.specs.Forest.{put, preorder, cut, Follows, parent_of, Leads}
-use Rattle.std.proofs.lemmas.Option.{slice_get-get_or}
-use Rattle.rec_reader.specs.declared.token.Name.{Name}
-use Rattle.rec_reader.specs.declared.syntax_tree.Specification.{Specification}
-use Rattle.rec_includes.specs.Numbered.{target, first_target}
+use Rattle.rec_includes.proofs.Common.{◌≡◌, ℕ, zero, suc, ◌<◌, Bool, true, false, cond, List, [], ◌∷◌, nat_eq, Option, Some, None, IfSome, refl, sym, ap, subst, ◌∙◌, ◌||◌, arith, true≢false, length, get_or, ◌-◌, ◌++◌, append-nil, length-append, set, All, Contains, length-set, get_or-set_other, get_or-set_same, list_any, AllByRecursion, put, preorder, cut, Follows, parent_of, Leads, slice_get-get_or, Name, Specification, target, first_target, All-from_recursion}
+use Rattle.std.specs.List.{IsDistinct}
 use Rattle.rec_includes.proofs.Places.{place_in_front, below}
-use Rattle.std.proofs.lemmas.List.Elements.{All-from_recursion}
 use Rattle.indexmap.proofs.CallerLemmas.{Contains-list_any}
 
 -- ---- each number right after its parent: all numbers below a count are there, each once
@@ -60,8 +54,7 @@ put_distinct (Some q) n [] d l = tt
 put_distinct (Some q) n (m ∷ ms) d l = by (nat_eq q m) (put_distinct (Some q) n ms d.1 l.1)
   where
     by : (b : Bool) → IsDistinct nat_eq (put (Some q) n ms) → IsDistinct nat_eq (cond b (m ∷ n ∷ ms) (m ∷ put (Some q) n ms))
-    by true r = ((differs_back m n l.0, d.0), (apart n ms l.1, d.1))
-    by false r = (put_all (λ y. nat_eq m y ≡ false) (Some q) n ms (differs_back m n l.0) d.0, r)
+    by b r = grind (arith, differs_back m n l.0, apart n ms l.1, put_all (λ y. nat_eq m y ≡ false) (Some q) n ms (differs_back m n l.0) d.0)
 
 put_keeps : (t : ℕ → Bool) (o : Option ℕ) (n : ℕ) (ns : List ℕ) → list_any t ns ≡ true → list_any t (put o n ns) ≡ true
 put_keeps t None n ns h = or_true (t n) (list_any t ns) h
@@ -86,12 +79,8 @@ pub preorder_has : (parent : ℕ → Option ℕ) → ((n p : ℕ) → parent n �
 preorder_has parent before zero m l = absurd (omega arith)
 preorder_has parent before (suc n) m l = by (nat_eq m n) refl (λ k. preorder_has parent before n k)
   where
-    earlier : (o : Option ℕ) → parent n ≡ o → ((k : ℕ) → k < n → list_any (nat_eq k) (preorder parent n) ≡ true) → IfSome o (λ q. list_any (nat_eq q) (preorder parent n) ≡ true)
-    earlier None e r = tt
-    earlier (Some q) e r = r q (before n q e)
-
     by : (b : Bool) → nat_eq m n ≡ b → ((k : ℕ) → k < n → list_any (nat_eq k) (preorder parent n) ≡ true) → list_any (nat_eq m) (preorder parent (suc n)) ≡ true
-    by true e r = subst (λ k. list_any (nat_eq k) (preorder parent (suc n)) ≡ true) (sym (same_number m n e)) (put_adds (parent n) n (preorder parent n) (earlier (parent n) refl r))
+    by true e r = grind (arith, same_number m n e, put_adds (parent n) n (preorder parent n), before n, r)
     by false e r = put_keeps (nat_eq m) (parent n) n (preorder parent n) (r m (less m n e l))
 
 -- ---- in this order a number's parent is on the path when its turn comes
@@ -108,25 +97,13 @@ itself (x ∷ xs) = same (itself xs)
 
 cut_one : (p : ℕ) {xs ys : List ℕ} → Within xs ys → Within (cut (Some p) xs) ys
 cut_one p none = none
-cut_one p (same {x = x} {xs = xs} {ys = ys} s) = by (nat_eq p x) (cut_one p s)
-  where
-    by : (b : Bool) → Within (cut (Some p) xs) ys → Within (cond b (x ∷ xs) (cut (Some p) xs)) (x ∷ ys)
-    by true r = same s
-    by false r = more r
+cut_one p (same {x = x} {xs = xs} {ys = ys} s) = grind (arith, same {x = x} s, more {y = x} (cut_one p s))
 cut_one p (more s) = more (cut_one p s)
 
 cut_both : (p : ℕ) {xs ys : List ℕ} → Within xs ys → Within (cut (Some p) xs) (cut (Some p) ys)
 cut_both p none = none
-cut_both p (same {x = x} {xs = xs} {ys = ys} s) = by (nat_eq p x) (cut_both p s)
-  where
-    by : (b : Bool) → Within (cut (Some p) xs) (cut (Some p) ys) → Within (cond b (x ∷ xs) (cut (Some p) xs)) (cond b (x ∷ ys) (cut (Some p) ys))
-    by true r = same s
-    by false r = r
-cut_both p (more {y = y} {xs = xs} {ys = ys} s) = by (nat_eq p y) (cut_both p s)
-  where
-    by : (b : Bool) → Within (cut (Some p) xs) (cut (Some p) ys) → Within (cut (Some p) xs) (cond b (y ∷ ys) (cut (Some p) ys))
-    by true r = more (cut_one p s)
-    by false r = r
+cut_both p (same {x = x} {xs = xs} {ys = ys} s) = grind (arith, same {x = x} s, cut_both p s)
+cut_both p (more {y = y} {xs = xs} {ys = ys} s) = grind (arith, more {y = y} (cut_one p s), cut_both p s)
 
 any_within : (t : ℕ → Bool) {xs ys : List ℕ} → Within xs ys → list_any t xs ≡ true → list_any t ys ≡ true
 any_within t none h = h
@@ -144,10 +121,6 @@ follows_within parent xs ys (n ∷ ns) s h = by (parent n) h (λ vs ws. follows_
     by None g r = g
     by (Some p) g r = (any_within (nat_eq p) s g.0, r (n ∷ cut (Some p) xs) (n ∷ cut (Some p) ys) (same (cut_both p s)) g.1)
 
--- what `Follows` says of a number and those after it, where the number has this parent
-abbrev Turn : (parent : ℕ → Option ℕ) (path : List ℕ) (n : ℕ) (ns : List ℕ) → Option ℕ → Type 0
-Turn parent path n ns o = IfSome o (λ p. list_any (nat_eq p) path ≡ true) × Follows parent (n ∷ cut o path) ns
-
 follows_put : (parent : ℕ → Option ℕ) (n p : ℕ) (path ns : List ℕ) → parent n ≡ Some p → Follows parent path ns → Follows parent path (put (Some p) n ns)
 follows_put parent n p path [] e h = tt
 follows_put parent n p path (m ∷ ms) e h = by (nat_eq p m) refl (follows_put parent n p (m ∷ cut (parent m) path) ms e h.1)
@@ -155,22 +128,12 @@ follows_put parent n p path (m ∷ ms) e h = by (nat_eq p m) refl (follows_put p
     by : (b : Bool) → nat_eq p m ≡ b → Follows parent (m ∷ cut (parent m) path) (put (Some p) n ms) → Follows parent path (cond b (m ∷ n ∷ ms) (m ∷ put (Some p) n ms))
     by true f r =
         let at = m ∷ cut (parent m) path in
-        let rest = cut (Some p) (cut (parent m) path) in
-        let there = follows_within parent at (n ∷ at) ms (more (itself at)) h.1 in
-        let turn : Turn parent at n ms (Some p) = (
-          true_or (nat_eq p m) (list_any (nat_eq p) (cut (parent m) path)) f,
-          subst (λ b. Follows parent (n ∷ cond b at rest) ms) (sym f) there,
-        ) in
-        (h.0, subst (Turn parent at n ms) (sym e) turn)
+        grind (arith, follows_within parent at (n ∷ at) ms (more (itself at)) h.1)
     by false f r = (h.0, r)
 
 pub preorder_follows : (parent : ℕ → Option ℕ) (n : ℕ) → Follows parent [] (preorder parent n)
 preorder_follows parent zero = tt
-preorder_follows parent (suc n) = by (parent n) refl (preorder_follows parent n)
-  where
-    by : (o : Option ℕ) → parent n ≡ o → Follows parent [] (preorder parent n) → Follows parent [] (put o n (preorder parent n))
-    by None e r = subst (Turn parent [] n (preorder parent n)) (sym e) (tt, follows_within parent [] (n ∷ []) (preorder parent n) (more none) r)
-    by (Some p) e r = follows_put parent n p [] (preorder parent n) e r
+preorder_follows parent (suc n) = grind (arith, preorder_follows parent n, follows_within parent [] (n ∷ []) (preorder parent n) (more none), follows_put parent n)
 
 -- what an entry includes comes before
 target_before : (bytes : List ℕ) (headers : List Name) (number p : ℕ) (entry : Name) → target bytes headers number entry ≡ Some p → p < number
@@ -224,17 +187,7 @@ leads_after next n p at (q ∷ qs) l m d below h = by (nat_eq p q) refl (leads_a
         let differ = subst (λ k. AllByRecursion (λ y. nat_eq k y ≡ false) qs) is d.0 in
         let there = subst (λ k. Leads next at (k ∷ qs)) is h in
         subst (λ k. Leads new at (k ∷ n ∷ qs)) (sym is) (leads_here next n p at qs l m differ below.1 there)
-    by false e r =
-        let v = get_or next p None in
-        let one = set next n v in
-        let new = set one p (Some n) in
-        let k : length one ≡ length next = length-set next n v in
-        let j : length new ≡ length one = length-set one p (Some n) in
-        let in_range = h.1 in
-        let long : q < length new = omega (arith, j, k, in_range) in
-        let link : get_or new q None ≡ get_or next q None =
-        get_or-set_other one p q (Some n) None (not_same p q e) ∙ get_or-set_other next n q v None (not_same n q (differs q n below.0)) in
-        (h.0, long, subst (λ o. Leads new o (put (Some p) n qs)) (sym link) r)
+    by false e r = grind (arith, length-set, get_or-set_other, not_same p q e, differs q n below.0)
 
 -- a step over the links
 pub leads_step : (next : List (Option ℕ)) (at : Option ℕ) (n : ℕ) (left : List ℕ) → Leads next at left → at ≡ Some n →

@@ -1,8 +1,6 @@
 -- Numbers that are added to others, each once at its first mention.
-use Rattle.std.proofs.Common.{arith, ◌≡◌, ℕ, Bool, true, false, ◌||◌, cond, List, [], ◌∷◌, ◌++◌, append_assoc, append-nil, nat_eq, refl, sym, ap, ◌∙◌, eq-eqb}
-use Rattle.std.specs.List.{list_any}
+use Rattle.rec_includes.proofs.Common.{arith, ◌≡◌, ℕ, Bool, true, false, ◌||◌, cond, List, [], ◌∷◌, ◌++◌, append_assoc, append-nil, nat_eq, refl, sym, ap, ◌∙◌, eq-eqb, list_any, fresh, with_numbers}
 use Rattle.std.proofs.lemmas.List.Folds.{list_any-append}
-use Rattle.rec_includes.specs.Material.{fresh, with_numbers}
 
 -- a number is among these
 abbrev pub has : List ℕ → ℕ → Bool

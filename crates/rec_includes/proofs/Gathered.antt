@@ -1,12 +1,8 @@
 -- Things that are gathered one after another.
-use Rattle.std.proofs.Common.{◌≡◌, ℕ, zero, suc, ◌+◌, ◌<◌, ◌≤◌, List, [], ◌∷◌, ◌++◌, append_assoc, append-nil, length, drop, slice_get, get_or, Some, None, refl, sym, ap, ◌∙◌, add-one, arith, drop-cons, fold, length-append}
-use Rattle.std.specs.List.{flat_map}
-use Rattle.std.specs.Option.{option_to_list}
-use Rattle.rec_reader.specs.declared.syntax_tree.Specification.{Specification}
-use Rattle.rec_includes.specs.Material.{specifications_at, Header, header_after, headers_of}
+use Rattle.rec_includes.proofs.Common.{◌≡◌, ℕ, zero, suc, ◌+◌, ◌<◌, ◌≤◌, List, [], ◌∷◌, ◌++◌, append_assoc, append-nil, length, drop, slice_get, get_or, Some, None, refl, sym, ap, ◌∙◌, add-one, arith, drop-cons, fold, length-append, slice_get-get_or, flat_map, option_to_list, Specification, specifications_at, Header, header_after, headers_of}
 
 pub drop_at : {X : Type 0} (xs : List X) (i : ℕ) (x : X) → i < length xs → x ≡ get_or xs i x → drop i xs ≡ x ∷ drop (i + 1) xs
-drop_at xs i x l e = drop-cons xs i x l ∙ ap (λ z. z ∷ drop (suc i) xs) (sym e) ∙ ap (λ k. x ∷ drop k xs) (sym (add-one i))
+drop_at xs i x l e = grind (arith, drop-cons, add-one)
 
 pub drop_all : {X : Type 0} (xs : List X) (i : ℕ) → length xs ≤ i → drop i xs ≡ []
 drop_all [] zero l = refl
@@ -21,9 +17,7 @@ module _ {X Y : Type 0} (all : List X → List Y) (one : X → List Y) (splits :
   gathered_turn xs i x was now start l at is before = grind (arith, append_assoc, drop_at)
 
 pub default_in : {X : Type 0} (xs : List X) (i : ℕ) (d e : X) → i < length xs → get_or xs i d ≡ get_or xs i e
-default_in [] i d e l = absurd (omega arith)
-default_in (x ∷ xs) zero d e l = refl
-default_in (x ∷ xs) (suc i) d e l = default_in xs i d e (omega arith)
+default_in xs i d e l = grind (arith, slice_get-get_or)
 
 pub at_one : {A : Type 0} (f : Specification → List A) (earlier : List Specification) (n : ℕ) (s : Specification) → Some s ≡ slice_get earlier n → f s ≡ flat_map f (specifications_at earlier (n ∷ []))
 at_one f earlier n s h = sym (append-nil (f s)) ∙ ap (λ o. flat_map f (option_to_list o ++ [])) h

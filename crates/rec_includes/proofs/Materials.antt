@@ -1,10 +1,5 @@
 -- The numbers of a material: how large they are, and that none stands twice.
-use Rattle.std.proofs.lemmas.Bool.Decides.{nat_tests}
-use Rattle.std.proofs.Common.{◌≡◌, ℕ, zero, suc, ◌<◌, ◌≤◌, true, ◌||◌, List, [], ◌∷◌, ◌++◌, fold, take, slice_get, Option, Some, None, refl, sym, ap, subst, ◌∙◌, arith, eqb-true}
-use Rattle.rec_reader.specs.declared.token.Name.{Name}
-use Rattle.rec_reader.specs.declared.syntax_tree.Specification.{Specification}
-use Rattle.rec_includes.specs.Material.{Header, brought, included, with_numbers, headers_of, material_of}
-use Rattle.rec_includes.specs.Numbered.{header_names, target, IsClosed}
+use Rattle.rec_includes.proofs.Common.{nat_tests, ◌≡◌, ℕ, zero, suc, ◌<◌, ◌≤◌, true, ◌||◌, List, [], ◌∷◌, ◌++◌, fold, take, slice_get, Option, Some, None, refl, sym, ap, subst, ◌∙◌, arith, eqb-true, Name, Specification, Header, brought, included, with_numbers, headers_of, material_of, header_names, target, IsClosed}
 use Rattle.rec_includes.proofs.Fresh.{has, with_number, has_append, has_with, no_numbers, one_number, with_append, with_with, has_one, Within, within_along, within_more, within_added, none_fresh, within_fresh}
 use Rattle.rec_includes.proofs.Brought.{target_before, brings_nothing, brings_material, material_is, no_material}
 
@@ -52,10 +47,8 @@ module _ (bytes : List ℕ) (xs : List Specification) where
   brings_below_from n each e = by (target bytes (header_names xs) n e) refl
     where
       by : (o : Option ℕ) → target bytes (header_names xs) n e ≡ o → Below n (brought bytes (headers_of bytes (take n xs)) e)
-      by None t = subst (λ ns. Below n ns) (sym (brings_nothing bytes xs n e t)) (below_none n)
-      by (Some p) t =
-          let l = target_before bytes xs n e p t in
-          subst (λ ns. Below n ns) (sym (brings_material bytes xs n e p t)) (below_larger (suc p) n (material_of bytes xs p) (omega arith) (each p l.0))
+      by None t = grind (arith, brings_nothing bytes xs n e t, below_none n)
+      by (Some p) t = grind (arith, target_before bytes xs n e p t, brings_material bytes xs n e p t, below_larger (suc p) n (material_of bytes xs p), each p)
 
   material_below_from : (fuel n : ℕ) → n < fuel → Below (suc n) (material_of bytes xs n)
   material_below_from zero n l = absurd (omega arith)
@@ -100,11 +93,7 @@ module _ (bytes : List ℕ) (xs : List Specification) where
 
   -- a material has no number twice
   pub material_once : (n : ℕ) → with_numbers [] (material_of bytes xs n) ≡ material_of bytes xs n
-  material_once n = by (slice_get xs n) refl
-    where
-      by : (o : Option Specification) → slice_get xs n ≡ o → with_numbers [] (material_of bytes xs n) ≡ material_of bytes xs n
-      by None e = ap (with_numbers []) (no_material bytes xs n e) ∙ sym (no_material bytes xs n e)
-      by (Some s) e = with_material [] n s e ∙ sym (material_last n s e)
+  material_once n = grind (arith, nat_tests, no_material bytes xs n, with_material [] n, material_last n)
 
 -- ---- materials that have all of the material of each specification that they have
 

@@ -1,18 +1,7 @@
 -- Places in lists of names, and look-ups by text.
-use Rattle.std.proofs.lemmas.Bool.Decides.{nat_tests}
-use Rattle.std.proofs.Common.{arith, ◌≡◌, ℕ, Bool, true, false, cond, List, [], ◌∷◌, ◌++◌, map, slice_get, length, nat_eq, Option, Some, None, refl, sym, ap, subst, ◌∙◌, true≢false, zero, suc, ◌<◌, ◌≤◌, ◌-◌, min, nat_lt, take, length-take, length-append, ◌⊎◌}
-use Rattle.std.specs.List.{list_any}
-use Rattle.std.specs.Option.{option_map_or, is_some, option_to_list}
-use Rattle.std.specs.Map.{lookup}
-use Rattle.std.specs.Str.{bytes_eq}
-use Rattle.std.specs.Global.{Vec}
-use Rattle.std.specs.Cmp.Lexicographic.{pointwise, bytes_decides}
+use Rattle.rec_includes.proofs.Common.{nat_tests, arith, ◌≡◌, ℕ, Bool, true, false, cond, List, [], ◌∷◌, ◌++◌, map, slice_get, length, nat_eq, Option, Some, None, refl, sym, ap, subst, ◌∙◌, true≢false, zero, suc, ◌<◌, ◌≤◌, ◌-◌, min, nat_lt, take, length-take, length-append, ◌⊎◌, list_any, option_map_or, is_some, option_to_list, lookup, bytes_eq, Vec, pointwise, bytes_decides, Name, text_of, same_text, Header, brought, place_in, PlacesRise, IsIndexed}
 use Rattle.indexmap.specs.IndexMap.{insert_entry}
-use Rattle.rec_reader.specs.declared.token.Name.{Name}
-use Rattle.rec_includes.specs.Names.{text_of, same_text}
-use Rattle.rec_includes.specs.Material.{Header, brought}
-use Rattle.rec_includes.specs.Listing.{place_in}
-use Rattle.rec_includes.specs.Indexed.{PlacesRise}
+use Rattle.rec_includes.specs.declared.directory.Directory.TheInside.{Inside}
 
 -- there is a place where one passes
 pub is_some_place : {A : Type 0} (test : A → Bool) (xs : List A) → is_some (place_in test xs) ≡ list_any test xs
@@ -72,13 +61,7 @@ looks_more bytes names es new n k i text place last looks q = grind (arith, look
 
 -- two texts are the same in either order
 pub same_either_way : (a b : List ℕ) → bytes_eq a b ≡ bytes_eq b a
-same_either_way a b = by (bytes_eq a b) (bytes_eq b a) refl refl
-  where
-    by : (p q : Bool) → bytes_eq a b ≡ p → bytes_eq b a ≡ q → p ≡ q
-    by true true e f = refl
-    by false false e f = refl
-    by true false e f = absurd (true≢false (sym ((bytes_decides b a).1 (sym ((bytes_decides a b).0 e))) ∙ f))
-    by false true e f = absurd (true≢false (sym ((bytes_decides a b).1 (sym ((bytes_decides b a).0 f))) ∙ e))
+same_either_way a b = grind (arith, nat_tests, bytes_decides a b, bytes_decides b a)
 
 -- the material of the header at this place, or nothing
 abbrev pub material_at : List Header → ℕ → List ℕ
@@ -93,8 +76,7 @@ brought_at bytes (h ∷ hs) n = grind (arith, brought_at bytes hs n, same_either
 pub guessed : (bytes : List ℕ) (names : List Name) (es : List (Vec ℕ × ℕ)) (text : List ℕ) (key : Vec ℕ) (place : ℕ) →
     Looks bytes names es → lookup (λ k. pointwise nat_eq key.items k.items) es ≡ Some place → pointwise nat_eq key.items text ≡ true →
     place_in (λ n. bytes_eq text (text_of bytes n)) names ≡ Some place
-guessed bytes names es text key place looks found same =
-    subst (λ q. place_in (λ n. bytes_eq q (text_of bytes n)) names ≡ Some place) ((bytes_decides key.items text).0 same) (sym (looks key.items) ∙ found)
+guessed bytes names es text key place looks found same = grind (arith, nat_tests, bytes_decides key.items text, looks key.items)
 
 -- ---- places in the front of a list of names, and entries whose places rise
 
@@ -102,12 +84,6 @@ guessed bytes names es text key place looks found same =
 abbrev pub below : ℕ → Option ℕ → Option ℕ
 below count None = None
 below count (Some p) = cond (nat_lt p count) (Some p) None
-
-pub is_less : (p c : ℕ) → p < c → nat_lt p c ≡ true
-is_less p c h = grind arith
-
-pub not_less : (p c : ℕ) → c ≤ p → nat_lt p c ≡ false
-not_less p c h = grind arith
 
 below_none : (o : Option ℕ) → None ≡ below zero o
 below_none o = grind arith
@@ -134,7 +110,7 @@ rise_on from to further (e ∷ es) l r = (r.0, rise_on (suc e.1) to further es l
 
 -- one entry more
 rise_more : (from to : ℕ) (es : List (Vec ℕ × ℕ)) (k : Vec ℕ) → PlacesRise from to es → PlacesRise from (suc to) (es ++ (k, to) ∷ [])
-rise_more from to [] k r = (r, omega arith)
+rise_more from to [] k r = grind arith
 rise_more from to (e ∷ es) k r = (r.0, rise_more (suc e.1) to es k r.1)
 
 -- one name more, whose text is there or goes last
@@ -160,14 +136,7 @@ rise_last from to count (suc i) (d ∷ es) e l at h r = (r.0, rise_last (suc d.1
 -- what is looked up is less
 found_within : (test : Vec ℕ → Bool) (from to : ℕ) (es : List (Vec ℕ × ℕ)) → PlacesRise from to es → below to (lookup test es) ≡ lookup test es
 found_within test from to [] r = refl
-found_within test from to (e ∷ es) r = by (test e.0) (found_within test (suc e.1) to es r.1)
-  where
-    less : e.1 < to
-    less = let h = rise_within (suc e.1) to es r.1 in omega (arith, h)
-
-    by : (b : Bool) → below to (lookup test es) ≡ lookup test es → below to (cond b (Some e.1) (lookup test es)) ≡ cond b (Some e.1) (lookup test es)
-    by true h = ap (λ b. cond b (Some e.1) None) (is_less e.1 to less)
-    by false h = h
+found_within test from to (e ∷ es) r = grind (arith, nat_tests, found_within test (suc e.1) to es r.1, rise_within (suc e.1) to es r.1)
 
 get_last : {A : Type 0} (xs : List A) (x : A) → slice_get (xs ++ x ∷ []) (length xs) ≡ Some x
 get_last [] x = refl
@@ -176,12 +145,7 @@ get_last (y ∷ ys) x = get_last ys x
 -- what is taken from the end is what was last there
 popped : {A : Type 0} (xs ys : List A) (o : Option A) (x : A) (n : ℕ) → xs ≡ ys ++ option_to_list o → n ≡ length xs → slice_get xs (n - 1) ≡ Some x → is_some o ≡ true → xs ≡ ys ++ x ∷ []
 popped xs ys None x n is count last some = absurd (true≢false (sym some))
-popped xs ys (Some y) x n is count last some =
-    let k = length-append ys (y ∷ []) in
-    let l = ap length is in
-    let m : n - 1 ≡ length ys = omega (arith, k, l, count) in
-    let same : Some y ≡ Some x = sym (get_last ys y) ∙ sym (λ i. slice_get (is i) (m i)) ∙ last in
-    is ∙ ap (λ z. ys ++ z ∷ []) (let e : y ≡ x = cc in e)
+popped xs ys (Some y) x n is count last some = grind (arith, nat_tests, length-append ys (y ∷ []), get_last ys y)
 
 -- after the last entry, which isn't in the front, was taken
 module _ (es new : List (Vec ℕ × ℕ)) (o : Option (Vec ℕ × ℕ)) (e : Vec ℕ × ℕ) (n : ℕ) (is : es ≡ new ++ option_to_list o) (counted : n ≡ length es) (last : slice_get es (n - 1) ≡ Some e) (some : is_some o ≡ true) where
@@ -203,3 +167,9 @@ module _ (bytes : List ℕ) (names : List Name) (count : ℕ) (es : List (Vec �
   pub front_found : PlacesRise 0 (length (take count names)) es →
       ((q : List ℕ) → below count (lookup (λ k. pointwise nat_eq q k.items) es) ≡ below count (place_in (λ n. bytes_eq q (text_of bytes n)) names)) → Looks bytes (take count names) es
   front_found rises found q = grind (arith, nat_tests, length-take count names, found_within, rise_on 0 (length (take count names)) count, place_in_front)
+
+  -- so the names and their places are a front of those before
+  pub fronted : ((q : List ℕ) → below count (lookup (λ k. pointwise nat_eq q k.items) es) ≡ below count (place_in (λ n. bytes_eq q (text_of bytes n)) names))
+      → (es ≡ []) ⊎ ((i : ℕ) × (e : Vec ℕ × ℕ) × (suc i ≡ length es) × (slice_get es i ≡ Some e) × (e.1 < count))
+      → (d : Inside) → d.text.now ≡ bytes → d.names.items ≡ take count names → d.places.entries ≡ es → IsIndexed d
+  fronted found h d text is same = grind (arith, nat_tests, front_rises h, front_found (front_rises h) found)

@@ -1,20 +1,10 @@
 -- The walk over what a specification includes: what its stack of frames comes to.
-use Rattle.std.proofs.lemmas.Grind.{common_steps}
-use Rattle.std.proofs.Common.{◌≡◌, ℕ, ◌+◌, ◌<◌, List, [], ◌∷◌, ◌++◌, length, take, drop, slice_get, Some, None, refl, sym, ap, subst, ◌∙◌, arith, add-one, take-suc, zero, suc, ◌-◌, ◌*◌, ◌^◌, ◌≤◌, suc-mul}
-use Rattle.std.proofs.lemmas.Option.{slice_get_within, get_or_from_slice_get}
+use Rattle.rec_includes.proofs.Common.{common_steps, ◌≡◌, ℕ, ◌+◌, ◌<◌, List, [], ◌∷◌, ◌++◌, length, take, drop, slice_get, Some, None, refl, sym, ap, subst, ◌∙◌, arith, add-one, take-suc, zero, suc, ◌-◌, ◌*◌, ◌^◌, ◌≤◌, suc-mul, slice_get_within, get_or_from_slice_get, Name, Specification, Frame, brought, with_numbers, headers_of, material_of, includes_at, header_names, target, IsClosed, after, missing, nat_tests, sum_by}
 use Rattle.std.proofs.lemmas.List.Sums.{fold-append, sum_by_push, sum_by-cons}
-use Rattle.rec_reader.specs.declared.token.Name.{Name}
-use Rattle.rec_reader.specs.declared.syntax_tree.Specification.{Specification}
-use Rattle.rec_includes.specs.declared.gathering.Frame.{Frame}
-use Rattle.rec_includes.specs.Material.{brought, with_numbers, headers_of, material_of}
-use Rattle.rec_includes.specs.Numbered.{includes_at, header_names, target, IsClosed}
-use Rattle.rec_includes.specs.Walk.{after, missing}
 use Rattle.rec_includes.proofs.Fresh.{with_number, Within, no_numbers, within_none, within_more, within_added, within_both}
 use Rattle.rec_includes.proofs.Gathered.{drop_at, drop_all}
 use Rattle.rec_includes.proofs.Brought.{no_material, slice_get_none, target_before, brings_nothing, brings_material}
 use Rattle.rec_includes.proofs.Materials.{gathered, with_material, material_last, closed_one}
-use Rattle.std.proofs.lemmas.Bool.Decides.{nat_tests}
-use Rattle.std.specs.List.{sum_by}
 use Rattle.std.proofs.Math.Nat.{pow-suc, one-le-pow, pow-le-pow_right, mul_comm}
 
 -- a frame of the specification with this number, before its entry with this place
@@ -71,10 +61,7 @@ module _ (bytes : List ℕ) (xs : List Specification) where
 
   -- an entry is done before those after it
   pub done_entry : (m : List ℕ) (v : Frame) (e : Name) → slice_get (includes_at xs v.number) v.next ≡ Some e → done v m ≡ done (after v) (with_numbers m (brings v.number e))
-  done_entry m v e h =
-      let es = includes_at xs v.number in
-      ap (λ rest. with_number (gathered_at v.number m rest) v.number)
-      (drop_at es v.next e (slice_get_within es v.next e h) (sym (get_or_from_slice_get es v.next e e h)))
+  done_entry m v e h = grind (arith, drop_at (includes_at xs v.number) v.next e, slice_get_within, get_or_from_slice_get (includes_at xs v.number) v.next e e h)
 
   -- where no entry is left, only the number is added
   pub done_last : (m : List ℕ) (v : Frame) → slice_get (includes_at xs v.number) v.next ≡ None → done v m ≡ with_number m v.number
@@ -82,13 +69,7 @@ module _ (bytes : List ℕ) (xs : List Specification) where
 
   -- what was brought with the next entry
   pub told_entry : (v : Frame) (e : Name) → slice_get (includes_at xs v.number) v.next ≡ Some e → told (after v) ≡ with_numbers (told v) (brings v.number e)
-  told_entry v e h =
-      let es = includes_at xs v.number in
-      let l = slice_get_within es v.next e h in
-      let split : take (v.next + 1) es ≡ take v.next es ++ e ∷ [] =
-      ap (λ k. take k es) (add-one v.next) ∙ take-suc es v.next e l ∙ ap (λ x. take v.next es ++ x ∷ []) (get_or_from_slice_get es v.next e e h) in
-      ap (gathered_at v.number []) split
-      ∙ fold-append (λ k n. with_numbers k (brings v.number n)) [] (take v.next es) (e ∷ [])
+  told_entry v e h = grind (arith, nat_tests, add-one v.next, take-suc (includes_at xs v.number) v.next e, slice_get_within, get_or_from_slice_get (includes_at xs v.number) v.next e e h, fold-append (λ k n. with_numbers k (brings v.number n)) [] (take v.next (includes_at xs v.number)) (e ∷ []))
 
   -- the material of a specification is there with its number, where its entries have brought theirs
   pub all_told : (m : List ℕ) (v : Frame) → slice_get (includes_at xs v.number) v.next ≡ None → Within (told v) m → Within (material_of bytes xs v.number) (with_number m v.number)
@@ -114,14 +95,7 @@ module _ (bytes : List ℕ) (xs : List Specification) where
     more = with_numbers m (brings bytes xs v.number e)
 
     goes_on : AreReady bytes xs m (vs ++ v ∷ []) → AreReady bytes xs more (vs ++ after v ∷ [])
-    goes_on r =
-        let b = brings bytes xs v.number e in
-        let below = ready_less bytes xs m vs v r in
-        let here : Within (with_numbers (told bytes xs v) b) more =
-        within_both (told bytes xs v) b more (within_more (told bytes xs v) m b below.0) (within_added m b) in
-        ready_more bytes xs more vs (after v)
-        (subst (λ t. Within t more) (sym (told_entry bytes xs v e h)) here)
-        (subst (λ k. AreReady bytes xs k vs) (done_entry bytes xs m v e h) below.1)
+    goes_on r = grind (arith, ready_more bytes xs more vs (after v), ready_less bytes xs m vs v r, within_both, within_more, within_added, told_entry bytes xs v e h, done_entry bytes xs m v e h)
 
     comes_on : finish bytes xs more (vs ++ after v ∷ []) ≡ finish bytes xs m (vs ++ v ∷ [])
     comes_on = grind (arith, nat_tests, finish_last bytes, finish bytes, done_entry bytes)
@@ -141,33 +115,12 @@ module _ (bytes : List ℕ) (xs : List Specification) where
     -- a specification that is missing is frameed
     pub goes_into : (total : List ℕ) (p : ℕ) → missing bytes (header_names xs) m v.number e ≡ Some p → IsUnderWay bytes xs total m (vs ++ v ∷ []) →
         IsUnderWay bytes xs total m ((vs ++ after v ∷ []) ++ frame p 0 ∷ [])
-    goes_into total p some w =
-        let t = missing_is p some in
-        let l = target_before bytes xs v.number e p t in
-        let same : done bytes xs (frame p 0) m ≡ more = done_first bytes xs m p l.1 ∙ ap (with_numbers m) (sym (brings_material bytes xs v.number e p t)) in
-        record {
-          closed = w.closed;
-          ready =
-              ready_more bytes xs m (vs ++ after v ∷ []) (frame p 0) (within_none m)
-              (subst (λ k. AreReady bytes xs k (vs ++ after v ∷ [])) (sym same) (goes_on w.ready));
-          comes =
-              finish_last bytes xs m (vs ++ after v ∷ []) (frame p 0)
-              ∙ ap (λ k. finish bytes xs k (vs ++ after v ∷ [])) same
-              ∙ comes_on
-              ∙ w.comes;
-        }
+    goes_into total p some w = grind (arith, missing_is, target_before bytes xs v.number e p, done_first bytes xs m p, brings_material bytes xs v.number e p, ready_more bytes xs m (vs ++ after v ∷ []) (frame p 0) (within_none m), goes_on w.ready, finish_last bytes xs m (vs ++ after v ∷ []) (frame p 0), comes_on)
 
   -- a frame with no entry left adds its number
   pub ends : (m : List ℕ) (vs : List Frame) (v : Frame) (total : List ℕ) → slice_get (includes_at xs v.number) v.next ≡ None → IsUnderWay bytes xs total m (vs ++ v ∷ []) →
       IsUnderWay bytes xs total (with_number m v.number) vs
-  ends m vs v total h w =
-      let below = ready_less bytes xs m vs v w.ready in
-      let last = done_last bytes xs m v h in
-      record {
-        closed = closed_one bytes xs m v.number w.closed (all_told bytes xs m v h below.0);
-        ready = subst (λ k. AreReady bytes xs k vs) last below.1;
-        comes = ap (λ k. finish bytes xs k vs) (sym last) ∙ sym (finish_last bytes xs m vs v) ∙ w.comes;
-      }
+  ends m vs v total h w = grind (arith, ready_less bytes xs m vs v w.ready, done_last bytes xs m v h, closed_one bytes xs m v.number w.closed, all_told bytes xs m v h, finish_last bytes xs m vs v)
 
 -- ---- the walk over what a specification includes ends: its frames get lighter with each step
 
@@ -212,14 +165,7 @@ module _ (xs : List Specification) where
 
   -- a frame is lighter than an entry of a larger number
   light : (p n : ℕ) → p < n → weight xs (frame p 0) + 1 ≤ unit n
-  light p n l =
-      let few : entries_in xs - 0 ≡ entries_in xs = omega arith in
-      let is : weight xs (frame p 0) ≡ suc (entries_in xs) * unit p = ap (λ k. suc k * unit p) few in
-      let small : suc (entries_in xs) * unit p + 1 ≤ unit n = smaller_power (entries_in xs) p n l in
-      along (weight xs (frame p 0)) (suc (entries_in xs) * unit p) (unit n) is small
-    where
-      along : (a b c : ℕ) → a ≡ b → b + 1 ≤ c → a + 1 ≤ c
-      along a b c e h = omega arith
+  light p n l = grind (arith, smaller_power (entries_in xs) p n l)
 
   -- lighter with each entry, also where what it includes is frameed
   pub lighter_into : (vs : List Frame) (v : Frame) (e : Name) (p : ℕ) → slice_get (includes_at xs v.number) v.next ≡ Some e → p < v.number →

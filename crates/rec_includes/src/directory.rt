@@ -87,6 +87,7 @@ impl<'a> Directory<'a> {
     }
 
     /// Whether a name has the same text.
+    #[tactic(auto, using(crate::proofs::Places::is_some_place))]
     pub fn has(&self, name: Name) -> bool
         ensures { result ≡ is_among self.now.bytes self.now.names name }
     {
@@ -94,6 +95,7 @@ impl<'a> Directory<'a> {
     }
 
     /// The place of the first name with the same text, if it is among the first `count`.
+    #[tactic(auto, using(crate::proofs::Places::place_in_front))]
     pub fn place_before(&self, count: usize, name: Name) -> Option<usize>
         ensures { result ≡ place_in (same_text self.now.bytes name) (take count self.now.names) }
     {
@@ -104,6 +106,7 @@ impl<'a> Directory<'a> {
     }
 
     /// Whether one of the first `count` names has the same text.
+    #[tactic(auto, using(crate::proofs::Places::is_some_place))]
     pub fn has_before(&self, count: usize, name: Name) -> bool
         ensures { result ≡ is_among self.now.bytes (take count self.now.names) name }
     {

@@ -139,6 +139,7 @@ fn gather_absent(
 }
 
 /// Adds the material of the specification with this number, and gives what wasn't there.
+#[tactic(auto, using(crate::proofs::Fresh::nothing_new))]
 pub fn gather(
     alloc: Global,
     headers: &Directory,
@@ -165,6 +166,7 @@ pub fn gather(
 /// The material of the specification with this number, counted from 0, where the names of headers
 /// are at hand: the numbers of those that it includes, each once and after what it includes itself,
 /// and then its own. Nothing where there is no such specification.
+#[tactic(auto, using(std::proofs::lemmas::Grind::common_steps, std::proofs::lemmas::Option::slice_get_past, crate::proofs::Brought::no_material, crate::proofs::Materials::material_once))]
 pub fn material_with(
     alloc: Global,
     headers: &Directory,

@@ -1,35 +1,14 @@
 -- The entries of a list of includes, one after another, while what they bring is taken in.
-use Rattle.std.proofs.lemmas.Bool.Decides.{nat_tests}
-use Rattle.std.proofs.Common.{arith, ◌≡◌, ℕ, ◌-◌, ◌||◌, ◌&&◌, not, nat_le, Bool, true, false, List, [], ◌∷◌, ◌++◌, append_assoc, append-nil, map, take, Some, None, refl, sym, ◌∙◌}
-use Rattle.std.proofs.lemmas.Grind.{common_steps}
-use Rattle.std.specs.Prelude.{IsSome}
-use Rattle.std.specs.List.{list_any}
-use Rattle.std.proofs.Math.Seq.{take-length}
-use Rattle.rec_reader.specs.declared.token.Name.{Name}
-use Rattle.rec_reader.specs.declared.syntax_tree.Specification.{Specification}
-use Rattle.rec_includes.specs.Names.{is_among}
-use Rattle.rec_includes.specs.Material.{brought, fresh, with_numbers, headers_of, included, material_of}
-use Rattle.rec_includes.specs.Numbered.{header_names, target, first_target}
-use Rattle.rec_offences.specs.Offences.{most, passes, include, includes_from}
-use Rattle.rec_offences.specs.Inclusion.{IsInclusion, IsPastLevel, IsFront, AreLevels, last_material, last_number}
-use Rattle.rec_offences.specs.Grouped.{verdict_of}
-use Rattle.rec_offences.specs.declared.entries.Verdict.{Verdict}
-use Rattle.rec_offences.specs.declared.inclusion.Inclusion.{Inclusion}
-use Rattle.rec_includes.proofs.Brought.{brings_nothing, brings_material}
-use Rattle.rec_includes.proofs.Fresh.{no_numbers}
+use Rattle.rec_offences.proofs.Common.{nat_tests, arith, ◌≡◌, ℕ, ◌-◌, ◌||◌, Bool, true, false, List, [], ◌∷◌, ◌++◌, append_assoc, append-nil, map, take, Some, None, refl, common_steps, IsSome, list_any, take-length, Name, Specification, is_among, brought, fresh, with_numbers, headers_of, included, material_of, header_names, target, first_target, passes, include, includes_from, IsInclusion, IsPastLevel, IsFront, AreLevels, last_material, last_number, verdict_of, Verdict, Inclusion, brings_nothing, brings_material, no_numbers, gathered, material_once}
 use Rattle.rec_offences.proofs.Levels.{front_cut, last_is, whole_of}
-use Rattle.rec_includes.proofs.Materials.{gathered, material_once}
 
 -- ---- what is wrong at an entry that brings nothing
 pub none_among : (bytes : List ℕ) (ns : List Name) → list_any (is_among bytes []) ns ≡ false
 none_among bytes [] = refl
 none_among bytes (n ∷ ns) = none_among bytes ns
 
-not_both : (b : Bool) → (b && not b) ≡ false
-not_both b = grind (arith, nat_tests)
-
 passes_nothing : (m n k l : ℕ) → m ≡ n → k ≡ l → (passes m n || passes k l) ≡ false
-passes_nothing m n k l e f = (λ i. passes m (sym e i) || passes k (sym f i)) ∙ (λ i. not_both (nat_le m most) i || not_both (nat_le k most) i)
+passes_nothing m n k l e f = grind (arith, nat_tests)
 
 -- a material that is kept for one entry, and what the entry adds where it brings nothing
 pub verdict_on_nothing : (bytes : List ℕ) (specifications : List Specification) (entry : Name) (so_far brings : List ℕ) → brings ≡ [] →

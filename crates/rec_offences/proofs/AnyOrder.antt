@@ -1,27 +1,26 @@
 -- The fault is the least of all offences, in whatever order the specifications come.
-use Rattle.std.proofs.lemmas.Bool.Decides.{nat_tests}
-use Rattle.std.proofs.Common.{rules, ◌≡◌, ◌⊎◌, inl, inr, ℕ, zero, suc, ◌<◌, ◌≤◌, List, [], ◌∷◌, ◌++◌, append_assoc, append-nil, length, length-append, map, take, slice_get, Option, Some, None, All, Contains, refl, sym, ap, subst, ◌∙◌, arith}
-use Rattle.std.specs.List.{filter, flat_map}
-use Rattle.std.specs.Option.{option_and_then, option_to_list}
-use Rattle.std.proofs.lemmas.Bool.{cases_lt}
-use Rattle.std.proofs.lemmas.List.Elements.{filter-append, All-head, All-tail, Contains-append_left, Contains-append_right, Contains-append_cases}
-use Rattle.rec_reader.specs.declared.token.Name.{Name}
-use Rattle.rec_reader.specs.declared.syntax_tree.Specification.{Specification}
-use Rattle.rec_reader.specs.Parsed.{Parsed}
-use Rattle.faults.specs.declared.refusal.Refusal.{Refusal}
-use Rattle.rec_includes.specs.Material.{headers_of, included, rules_of, symbols_by, symbols_of}
-use Rattle.rec_offences.specs.Scope.{heads, own_entries, root}
-use Rattle.rec_offences.specs.Offences.{bare_variables, first_past, free_variables, includes_from, is_long, is_passing, names_in, names_in_declaration, names_in_variables, not_ground, past_limits, sort_clashes, terms_of, unknown_includes, unknown_names, wrong_counts}
-use Rattle.rec_offences.specs.Faults.{included_entries, least_with, of_kind, offences_declared, offences_used, offences_over, offences_after, offences_from, fault_of}
-use Rattle.rec_offences.specs.Grouped.{long_declared, offences_at}
+use Rattle.rec_offences.proofs.Common.{rules, ◌≡◌, inl, inr, ℕ, zero, suc, ◌<◌, List, [], ◌∷◌, ◌++◌, append_assoc, append-nil, length, take, slice_get, Option, Some, None, Contains, refl, sym, ap, subst, ◌∙◌, arith, filter, flat_map, option_map_or, filter-append, Contains-append_left, Contains-append_right, Contains-append_cases, Name, Specification, Parsed, Refusal, heads, is_long, names_in, names_in_declaration, names_in_variables, terms_of, least_with, of_kind, offences_after, offences_from, fault_of, long_declared, offences_at}
+use Rattle.rec_offences.specs.Faults.{offences_over}
 use Rattle.rec_offences.proofs.Leasts.{in_none, of_all, none_of_all, kinds_append, only_same}
 
 -- each of one list is in another
-abbrev IsWithin : List Refusal → List Refusal → Type 0
-IsWithin xs ys = (p : Refusal) → Contains xs p → Contains ys p
+record IsWithin (xs ys : List Refusal) : Type 0 where
+  each : (p : Refusal) → Contains xs p → Contains ys p
+
+within_itself : (xs : List Refusal) → IsWithin xs xs
+within_itself xs = record { each = λ p c. c }
+
+within_left : (xs ys zs : List Refusal) → IsWithin xs ys → IsWithin xs (ys ++ zs)
+within_left xs ys zs h = record { each = λ p c. Contains-append_left ys zs p (h.each p c) }
+
+within_right : (xs ys zs : List Refusal) → IsWithin xs zs → IsWithin xs (ys ++ zs)
+within_right xs ys zs h = record { each = λ p c. Contains-append_right ys zs p (h.each p c) }
+
+within_both : (xs ys zs : List Refusal) → IsWithin xs zs → IsWithin ys zs → IsWithin (xs ++ ys) zs
+within_both xs ys zs h k = record { each = λ p c. elim (Contains-append_cases xs ys p c) [ inl a ↦ h.each p a | inr b ↦ k.each p b ] }
 
 some_within : (xs ys : List Refusal) (x : Refusal) → IsWithin xs ys → least_with None xs ≡ Some x → least_with None ys ≡ None → Some x ≡ None
-some_within xs ys x h e f = absurd (in_none x (subst (λ l. Contains l x) (none_of_all ys f) (h x (of_all xs x e).one)))
+some_within xs ys x h e f = absurd (in_none x (subst (λ l. Contains l x) (none_of_all ys f) (h.each x (of_all xs x e).one)))
 
 -- the least of the same offences is the same
 least_same : (xs ys : List Refusal) → IsWithin xs ys → IsWithin ys xs → least_with None xs ≡ least_with None ys
@@ -34,145 +33,83 @@ least_same xs ys to from = by (least_with None xs) (least_with None ys) refl ref
     by (Some x) (Some y) e f =
         let least = of_all xs x e in
         let other = of_all ys y f in
-        ap Some (only_same x y (other.least x (to x least.one)) (least.least y (from y other.one)))
+        ap Some (only_same x y (other.least x (to.each x least.one)) (least.least y (from.each y other.one)))
 
 -- an offence of one of the numbers
-in_one : (f : ℕ → List Refusal) (ns : List ℕ) (n : ℕ) → Contains ns n → IsWithin (f n) (flat_map f ns)
+in_one : (f : ℕ → List Refusal) (ns : List ℕ) (n : ℕ) → Contains ns n → (p : Refusal) → Contains (f n) p → Contains (flat_map f ns) p
 in_one f [] n c p h = let l = c.1 in absurd (omega (arith, l))
 in_one f (m ∷ ns) n (zero, l, e) p h = Contains-append_left (f m) (flat_map f ns) p (subst (λ k. Contains (f k) p) (sym e) h)
 in_one f (m ∷ ns) n (suc i, l, e) p h = Contains-append_right (f m) (flat_map f ns) p (in_one f ns n (i, omega (arith, l), e) p h)
 
-of_one : (f : ℕ → List Refusal) (P : ℕ → Type 0) (os : List Refusal) (ns : List ℕ) → All P ns → ((n : ℕ) → P n → IsWithin (f n) os) → IsWithin (flat_map f ns) os
-of_one f P os [] all h p c = absurd (in_none p c)
-of_one f P os (n ∷ ns) all h p c = elim (Contains-append_cases (f n) (flat_map f ns) p c) [
-  | inl here ↦ h n (All-head P n ns all) p here
-  | inr there ↦ of_one f P os ns (All-tail P n ns all) h p there
-]
+of_one : (f : ℕ → List Refusal) (os : List Refusal) (ns : List ℕ) → ((n : ℕ) → IsWithin (f n) os) → IsWithin (flat_map f ns) os
+of_one f os [] h = record { each = λ p c. absurd (in_none p c) }
+of_one f os (n ∷ ns) h = within_both (f n) (flat_map f ns) os (h n) (of_one f os ns h)
 
-middle : (xs ys : List Specification) (s : Specification) → slice_get (xs ++ s ∷ ys) (length xs) ≡ Some s
-middle [] ys s = refl
-middle (x ∷ xs) ys s = middle xs ys s
+-- ---- the offences of all specifications are those of each
 
-front : (xs ys : List Specification) → take (length xs) (xs ++ ys) ≡ xs
-front [] ys = refl
-front (x ∷ xs) ys = ap (λ zs. x ∷ zs) (front xs ys)
+module _ (bytes : List ℕ) where
+  -- the offences of the specification with this number, after these earlier ones
+  abbrev at : (earlier ss : List Specification) → ℕ → List Refusal
+  at earlier ss n = option_map_or (λ s. offences_after bytes (earlier ++ take n ss) s) (slice_get ss n) []
 
--- the offences of the one after these
-at_middle : (bytes : List ℕ) (xs ys : List Specification) (s : Specification) → offences_at bytes (xs ++ s ∷ ys) (length xs) ≡ offences_after bytes xs s
-at_middle bytes xs ys s = grind (arith, nat_tests, middle, front)
+  at_first : (earlier ss : List Specification) (s : Specification) → at earlier (s ∷ ss) 0 ≡ offences_after bytes earlier s
+  at_first earlier ss s = ap (λ e. offences_after bytes e s) (append-nil earlier)
 
-regrouped : (xs ys : List Specification) (s : Specification) → (xs ++ s ∷ []) ++ ys ≡ xs ++ s ∷ ys
-regrouped xs ys s = append_assoc xs (s ∷ []) ys
+  at_later : (earlier ss : List Specification) (s : Specification) (n : ℕ) → at (earlier ++ s ∷ []) ss n ≡ at earlier (s ∷ ss) (suc n)
+  at_later earlier ss s n = ap (λ e. option_map_or (λ t. offences_after bytes e t) (slice_get ss n) []) (append_assoc earlier (s ∷ []) (take n ss))
 
--- each offence is one of a specification with a number
-at_some : (bytes : List ℕ) (xs ys : List Specification) (p : Refusal) → Contains (offences_from bytes xs ys) p →
-    (n : ℕ) × (n < length (xs ++ ys)) × Contains (offences_at bytes (xs ++ ys) n) p
-at_some bytes xs [] p c = absurd (in_none p c)
-at_some bytes xs (s ∷ ys) p c = elim (Contains-append_cases (offences_after bytes xs s) (offences_from bytes (xs ++ s ∷ []) ys) p c) [
-  | inl here ↦ (length xs, let l = length-append xs (s ∷ ys) in omega (arith, l), subst (λ os. Contains os p) (sym (at_middle bytes xs ys s)) here)
-  | inr there ↦
-      subst
-      (λ all. (n : ℕ) × (n < length all) × Contains (offences_at bytes all n) p)
-      (regrouped xs ys s)
-      (at_some bytes (xs ++ s ∷ []) ys p there)
-]
+  at_some : (earlier ss : List Specification) (p : Refusal) → Contains (offences_from bytes earlier ss) p → (n : ℕ) × (n < length ss) × Contains (at earlier ss n) p
+  at_some earlier [] p c = absurd (in_none p c)
+  at_some earlier (s ∷ ss) p c = elim (Contains-append_cases (offences_after bytes earlier s) (offences_from bytes (earlier ++ s ∷ []) ss) p c) [
+    | inl here ↦ (0, omega arith, subst (λ os. Contains os p) (sym (at_first earlier ss s)) here)
+    | inr there ↦
+        let h = at_some (earlier ++ s ∷ []) ss p there in
+        let l = h.1 in
+        (suc h.0, omega (arith, l), subst (λ os. Contains os p) (at_later earlier ss s h.0) h.2)
+  ]
 
--- and each of those is one of all
-in_all : (bytes : List ℕ) (xs ys : List Specification) (n : ℕ) → length xs ≤ n → n < length (xs ++ ys) → IsWithin (offences_at bytes (xs ++ ys) n) (offences_from bytes xs ys)
-in_all bytes xs [] n least l p c = let k = ap length (append-nil xs) in absurd (omega (arith, k, l, least))
-in_all bytes xs (s ∷ ys) n least l p c = by (cases_lt (length xs) n) (in_all bytes (xs ++ s ∷ []) ys n)
-  where
-    by : (length xs < n) ⊎ (n ≤ length xs) →
-        (length (xs ++ s ∷ []) ≤ n → n < length ((xs ++ s ∷ []) ++ ys) → IsWithin (offences_at bytes ((xs ++ s ∷ []) ++ ys) n) (offences_from bytes (xs ++ s ∷ []) ys)) →
-        Contains (offences_from bytes xs (s ∷ ys)) p
-    by (inl m) rest =
-        let k = length-append xs (s ∷ []) in
-        let g = regrouped xs ys s in
-        Contains-append_right (offences_after bytes xs s) (offences_from bytes (xs ++ s ∷ []) ys) p
-        (rest (omega (arith, k, m)) (subst (λ all. n < length all) (sym g) l) p (subst (λ all. Contains (offences_at bytes all n) p) (sym g) c))
-    by (inr m) rest =
-        let e : length xs ≡ n = omega arith in
-        Contains-append_left (offences_after bytes xs s) (offences_from bytes (xs ++ s ∷ []) ys) p
-        (subst (λ os. Contains os p) (ap (offences_at bytes (xs ++ s ∷ ys)) (sym e) ∙ at_middle bytes xs ys s) c)
+  in_all : (earlier ss : List Specification) (n : ℕ) → IsWithin (at earlier ss n) (offences_from bytes earlier ss)
+  in_all earlier [] n = within_itself []
+  in_all earlier (s ∷ ss) zero = subst (λ os. IsWithin os (offences_from bytes earlier (s ∷ ss))) (sym (at_first earlier ss s)) (within_left _ _ _ (within_itself (offences_after bytes earlier s)))
+  in_all earlier (s ∷ ss) (suc n) = subst (λ os. IsWithin os (offences_from bytes earlier (s ∷ ss))) (at_later earlier ss s n) (within_right _ _ _ (in_all (earlier ++ s ∷ []) ss n))
 
-of_left : (xs ys : List Name) → IsWithin (of_kind 13 xs) (of_kind 13 (xs ++ ys))
-of_left xs ys p c = subst (λ os. Contains os p) (sym (kinds_append 13 xs ys)) (Contains-append_left (of_kind 13 xs) (of_kind 13 ys) p c)
+  -- ---- the names in declarations that are too long are offences
 
-of_first : (xs a b c d e : List Name) → IsWithin (of_kind 13 xs) (of_kind 13 (xs ++ a ++ b ++ c ++ d ++ e))
-of_first xs a b c d e p h = of_left (xs ++ a ++ b ++ c ++ d) e p (of_left (xs ++ a ++ b ++ c) d p (of_left (xs ++ a ++ b) c p (of_left (xs ++ a) b p (of_left xs a p h))))
-
-fifth : (a b c d xs e f g : List Refusal) → IsWithin xs (a ++ b ++ c ++ d ++ xs ++ e ++ f ++ g)
-fifth a b c d xs e f g p h =
-    let front = a ++ b ++ c ++ d in
-    Contains-append_left (front ++ xs ++ e ++ f) g p (Contains-append_left (front ++ xs ++ e) f p (Contains-append_left (front ++ xs) e p (Contains-append_right front xs p h)))
-
--- the names in a specification's declarations that are too long are offences of it
-module _ (bytes : List ℕ) (earlier : List Specification) (s : Specification) where
   abbrev long : List Name → List Refusal
   long names = of_kind 13 (filter (is_long bytes) names)
 
-  long_append : (xs ys : List Name) → long (xs ++ ys) ≡ long xs ++ long ys
-  long_append xs ys = ap (of_kind 13) (filter-append (is_long bytes) xs ys) ∙ kinds_append 13 (filter (is_long bytes) xs) (filter (is_long bytes) ys)
+  kind_left : (os : List Refusal) (xs ys : List Name) → IsWithin os (of_kind 13 xs) → IsWithin os (of_kind 13 (xs ++ ys))
+  kind_left os xs ys h = subst (IsWithin os) (sym (kinds_append 13 xs ys)) (within_left os (of_kind 13 xs) (of_kind 13 ys) h)
 
-  long_left : (xs ys : List Name) → IsWithin (long xs) (long (xs ++ ys))
-  long_left xs ys p c = subst (λ os. Contains os p) (sym (long_append xs ys)) (Contains-append_left (long xs) (long ys) p c)
+  long_left : (os : List Refusal) (xs ys : List Name) → IsWithin os (long xs) → IsWithin os (long (xs ++ ys))
+  long_left os xs ys h = subst (λ ns. IsWithin os (of_kind 13 ns)) (sym (filter-append (is_long bytes) xs ys)) (kind_left os (filter (is_long bytes) xs) (filter (is_long bytes) ys) h)
 
   long_right : (xs ys : List Name) → IsWithin (long ys) (long (xs ++ ys))
-  long_right xs ys p c = subst (λ os. Contains os p) (sym (long_append xs ys)) (Contains-append_right (long xs) (long ys) p c)
+  long_right xs ys =
+      subst (IsWithin (long ys)) (sym (ap (of_kind 13) (filter-append (is_long bytes) xs ys) ∙ kinds_append 13 (filter (is_long bytes) xs) (filter (is_long bytes) ys)))
+      (within_right (long ys) (long xs) (long ys) (within_itself (long ys)))
 
-  long_within : IsWithin (long (flat_map names_in_declaration s.declarations)) (offences_after bytes earlier s)
+  long_within : (earlier : List Specification) (s : Specification) → IsWithin (long (flat_map names_in_declaration s.declarations)) (offences_after bytes earlier s)
   unfolding offences_over
-  long_within p c =
-      let headers = headers_of bytes earlier in
-      let material = included bytes headers s.includes in
-      let entries = included_entries earlier material ++ own_entries s in
-      let includes = includes_from bytes headers [] s.includes in
+  long_within earlier s =
       let before = s.name ∷ s.includes ++ s.sorts in
       let own = flat_map names_in_declaration s.declarations in
       let variables = flat_map names_in_variables s.variables in
-      let others = flat_map heads (flat_map terms_of s.rules ++ s.terms) in
-      let named = long_left (before ++ own ++ variables) others p (long_left (before ++ own) variables p (long_right before own p c)) in
-      let limits =
-      of_first (filter (is_long bytes) (names_in s))
-      (flat_map (λ d. option_to_list (slice_get d.arguments 16)) s.declarations)
-      (map (λ d. d.name) (option_to_list (first_past (length (symbols_of earlier material)) (symbols_by s))))
-      (option_to_list (option_and_then (λ r. root r.left) (first_past (length (rules_of earlier material)) s.rules)))
-      (option_to_list (option_and_then root (first_past 0 s.terms)))
-      (map (λ i. i.entry) (filter (is_passing earlier) includes))
-      p named in
-      Contains-append_right (offences_declared bytes earlier headers material s) (offences_used bytes earlier headers material entries s) p
-      (fifth
-      (of_kind 9 (bare_variables bytes entries s))
-      (of_kind 10 (free_variables bytes entries s))
-      (of_kind 11 (not_ground bytes entries s))
-      (of_kind 12 (unknown_includes bytes headers s))
-      (of_kind 13 (past_limits bytes earlier material includes s))
-      (of_kind 5 (unknown_names bytes entries s))
-      (of_kind 7 (wrong_counts bytes entries s))
-      (of_kind 8 (sort_clashes bytes entries s))
-      p limits)
+      let named : IsWithin (long own) (long (names_in s)) =
+      long_left _ (before ++ own ++ variables) (flat_map heads (flat_map terms_of s.rules ++ s.terms)) (long_left _ (before ++ own) variables (long_right before own)) in
+      within_right _ _ _ (within_left _ _ _ (within_left _ _ _ (within_left _ _ _ (within_right _ _ _ (kind_left _ _ _ (kind_left _ _ _ (kind_left _ _ _ (kind_left _ _ _ (kind_left _ _ _ named)))))))))
 
-all_long_within : (bytes : List ℕ) (earlier ss : List Specification) → IsWithin (long_declared bytes ss) (offences_from bytes earlier ss)
-all_long_within bytes earlier [] p c = absurd (in_none p c)
-all_long_within bytes earlier (s ∷ ss) p c =
-    let long = of_kind 13 (filter (is_long bytes) (flat_map names_in_declaration s.declarations)) in
-    let first = offences_after bytes earlier s in
-    let rest = offences_from bytes (earlier ++ s ∷ []) ss in
-    elim (Contains-append_cases long (long_declared bytes ss) p c) [
-      | inl here ↦ Contains-append_left first rest p (long_within bytes earlier s p here)
-      | inr there ↦ Contains-append_right first rest p (all_long_within bytes (earlier ++ s ∷ []) ss p there)
-    ]
+  all_long_within : (earlier ss : List Specification) → IsWithin (long_declared bytes ss) (offences_from bytes earlier ss)
+  all_long_within earlier [] = within_itself []
+  all_long_within earlier (s ∷ ss) =
+      within_both _ _ _ (within_left _ _ _ (long_within earlier s)) (within_right _ _ _ (all_long_within (earlier ++ s ∷ []) ss))
 
-pub in_any_order : (syntax : Parsed) (order : List ℕ) → ((n : ℕ) → n < length syntax.specifications → Contains order n) → All (λ n. n < length syntax.specifications) order →
+pub in_any_order : (syntax : Parsed) (order : List ℕ) → ((n : ℕ) → n < length syntax.specifications → Contains order n) →
     least_with None (long_declared syntax.bytes syntax.specifications ++ flat_map (offences_at syntax.bytes syntax.specifications) order) ≡ fault_of syntax
-in_any_order syntax order all no_others =
+in_any_order syntax order all =
     let bytes = syntax.bytes in
     let ss = syntax.specifications in
     let f = offences_at bytes ss in
-    let first = long_declared bytes ss in
-    least_same (first ++ flat_map f order) (offences_from bytes [] ss)
-    (λ p c. elim (Contains-append_cases first (flat_map f order) p c) [
-      | inl here ↦ all_long_within bytes [] ss p here
-      | inr there ↦ of_one f (λ n. n < length ss) (offences_from bytes [] ss) order no_others (λ n l. in_all bytes [] ss n (omega arith) l) p there
-    ])
-    (λ p c. let at = at_some bytes [] ss p c in Contains-append_right first (flat_map f order) p (in_one f order at.0 (all at.0 at.1) p at.2))
+    least_same (long_declared bytes ss ++ flat_map f order) (offences_from bytes [] ss)
+    (within_both (long_declared bytes ss) (flat_map f order) (offences_from bytes [] ss) (all_long_within bytes [] ss) (of_one f (offences_from bytes [] ss) order (in_all bytes [] ss)))
+    (within_right _ _ _ (record { each = λ p c. let at = at_some bytes [] ss p c in in_one f order at.0 (all at.0 at.1) p at.2 }))

@@ -1,22 +1,6 @@
 -- What is noted of a specification is its offences.
-use Rattle.std.proofs.lemmas.Bool.Decides.{nat_tests}
-use Rattle.std.proofs.Common.{◌≡◌, ℕ, ◌-◌, ◌<◌, List, [], ◌∷◌, map, slice_get, Option, refl, ap, ◌∙◌, arith, ◌++◌, length, not, zero, suc, ◌||◌, take, nat_eq}
-use Rattle.std.specs.List.{filter}
-use Rattle.std.specs.Option.{option_map, option_to_list}
-use Rattle.std.proofs.lemmas.Option.{slice_get-map}
-use Rattle.rec_reader.specs.declared.syntax_tree.Specification.{Specification}
-use Rattle.rec_includes.specs.Material.{Declared, Header, symbols_by, symbols_of, sorts_of, rules_of, brought, fresh, with_numbers, headers_of, specifications_at}
-use Rattle.rec_offences.specs.Scope.{symbol_entry, Entry, own_entries}
-use Rattle.rec_offences.specs.Offences.{Include, first_past, is_clashing, is_passing, includes_from, bare_variables, free_variables, not_ground, past_limits, unknown_names, wrong_counts, sort_clashes, include}
-use Rattle.rec_offences.specs.Inclusion.{counted}
-use Rattle.rec_offences.specs.Grouped.{verdict_of, declared_group, limits_group, used_group}
-use Rattle.rec_reader.specs.declared.token.Name.{Name}
-use Rattle.rec_offences.specs.declared.entries.Verdict.{Verdict}
-use Rattle.rec_includes.specs.Names.{is_among}
-use Rattle.rec_offences.specs.Faults.{of_kind, included_entries, offences_declared, offences_used}
-use Rattle.std.proofs.lemmas.Grind.{common_steps}
-use Rattle.rec_includes.proofs.Fresh.{has, has_append, has_first, or_true}
-use Rattle.rec_includes.proofs.Materials.{Below, below_append, below_with, brings_below}
+use Rattle.rec_offences.proofs.Common.{nat_tests, ◌≡◌, ℕ, ◌-◌, ◌<◌, List, [], ◌∷◌, map, slice_get, Option, refl, arith, ◌++◌, length, not, zero, suc, take, filter, option_map, option_to_list, slice_get-map, Specification, Declared, Header, symbols_by, symbols_of, sorts_of, rules_of, brought, fresh, with_numbers, headers_of, specifications_at, symbol_entry, Entry, own_entries, Include, first_past, is_clashing, is_passing, includes_from, bare_variables, free_variables, not_ground, past_limits, unknown_names, wrong_counts, sort_clashes, include, counted, verdict_of, limits_group, Name, Verdict, is_among, of_kind, included_entries, offences_declared, offences_used, common_steps, has, has_append, has_first, or_true, Below, below_append, below_with, brings_below}
+use Rattle.rec_offences.specs.Grouped.{declared_group, used_group}
 
 -- ---- what is wrong at the entries of a list of includes, and past the limits
 
@@ -73,17 +57,15 @@ module _ (bytes : List ℕ) (earlier : List Specification) (headers : List Heade
 -- ---- what smaller numbers stand for depends on the specifications before alone
 
 get_early : {A : Type 0} (xs : List A) (n m : ℕ) → m < n → slice_get (take n xs) m ≡ slice_get xs m
-get_early [] zero m l = refl
+get_early xs zero m l = absurd (omega arith)
 get_early [] (suc n) m l = refl
-get_early (x ∷ xs) zero m l = absurd (omega arith)
-get_early (x ∷ xs) (suc n) zero l = refl
-get_early (x ∷ xs) (suc n) (suc m) l = get_early xs n m (omega arith)
+get_early (x ∷ xs) (suc n) m l = grind (arith, get_early xs n)
 
 below_head : (bound n : ℕ) (ns : List ℕ) → Below bound (n ∷ ns) → n < bound
 below_head bound n ns b = b.each n (has_first n ns)
 
 below_tail : (bound n : ℕ) (ns : List ℕ) → Below bound (n ∷ ns) → Below bound ns
-below_tail bound n ns b = record { each = λ j h. b.each j (ap (λ t. nat_eq j n || t) h ∙ or_true (nat_eq j n)) }
+below_tail bound n ns b = grind (arith, nat_tests)
 
 below_fresh : (bound : ℕ) (ks ns : List ℕ) → Below bound ks → Below bound ns → Below bound (fresh ks ns)
 below_fresh bound ks ns a b = grind (arith, nat_tests, below_with bound ks ns a b, has_append ks (fresh ks ns), has ks, or_true)

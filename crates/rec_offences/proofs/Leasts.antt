@@ -1,19 +1,6 @@
 -- The least of what was found.
-use Rattle.std.proofs.lemmas.Bool.Decides.{nat_tests}
-use Rattle.std.proofs.Common.{◌≡◌, ℕ, suc, ◌+◌, ◌<◌, ◌≤◌, min, length-drop, Bool, true, false, cond, List, [], ◌∷◌, ◌++◌, length, drop, get_or, Option, refl, sym, ap, ◌∙◌, add-one, arith, drop-cons, rules, ◌||◌, ◌&&◌, ◌==◌, nat_lt, Some, None, ◌⊎◌, inl, inr, subst}
-use Rattle.std.specs.List.{filter, flat_map}
-use Rattle.rec_reader.specs.declared.token.Name.{Name}
-use Rattle.rec_reader.specs.declared.syntax_tree.Node.{Node}
-use Rattle.faults.specs.declared.refusal.Refusal.{Refusal}
-use Rattle.rec_offences.specs.declared.offences.heads.Argument.{Argument}
-use Rattle.rec_offences.specs.Scope.{heads}
-use Rattle.rec_offences.specs.Faults.{lesser, least_with, of_kind, offence_at, goes_before, offences_of, fault_of}
-use Rattle.rec_offences.specs.Walked.{clashing_sorts}
-use Rattle.rec_includes.proofs.Gathered.{drop_all}
-use Rattle.std.proofs.lemmas.List.Concat.{flat_map-append}
-use Rattle.std.specs.Prelude.{Contains, if◌then◌else◌}
-use Rattle.rec_reader.specs.Parsed.{Parsed}
-use Rattle.rec_offences.specs.Laws.{IsLeastOf}
+use Rattle.rec_offences.proofs.Common.{nat_tests, ◌≡◌, ℕ, suc, ◌+◌, ◌<◌, ◌≤◌, min, length-drop, Bool, true, false, cond, List, [], ◌∷◌, ◌++◌, length, drop, get_or, Option, refl, sym, ap, ◌∙◌, add-one, arith, drop-cons, rules, ◌||◌, ◌&&◌, ◌==◌, nat_lt, Some, None, ◌⊎◌, inl, inr, subst, filter, flat_map, Name, Node, Refusal, Argument, heads, lesser, least_with, of_kind, offence_at, goes_before, offences_of, fault_of, clashing_sorts, drop_all, nil_from_length, flat_map-append, Parsed, IsLeastOf}
+use Rattle.std.specs.Prelude.{Contains}
 
 -- ---- offences that are noted one after another
 
@@ -53,8 +40,7 @@ clashing_end bytes wanted arguments k h = by (drop k wanted) (drop k arguments) 
   where
     by : (ws : List Name) (others : List Argument) → min (length ws) (length others) ≡ 0 → clashing_sorts bytes ws others ≡ []
     by [] others e = refl
-    by (w ∷ ws) [] e = refl
-    by (w ∷ ws) (a ∷ others) e = absurd (omega arith)
+    by (w ∷ ws) others e = grind (arith, nil_from_length others)
 
 -- one list after another
 pub noted_after : (found one two : Option Refusal) (xs ys : List Refusal) → one ≡ least_with found xs → two ≡ least_with one ys → two ≡ least_with found (xs ++ ys)
@@ -67,33 +53,21 @@ three_after found one two ws xs ys zs a b = grind (arith, nat_tests, least_appen
 
 -- ---- the least of offences doesn't depend on their order
 
-first_before : (a b c d : ℕ) → (nat_lt a b || (a == b && nat_lt c d)) ≡ true → (nat_lt b a || (b == a && nat_lt d c)) ≡ false
-first_before a b c d h = grind (arith, nat_tests)
-
-same_offset : (a b c d : ℕ) → (nat_lt a b || (a == b && nat_lt c d)) ≡ false → (nat_lt b a || (b == a && nat_lt d c)) ≡ false → a ≡ b
-same_offset a b c d h k = grind (arith, nat_tests)
-
-same_kind : (a b c d : ℕ) → (nat_lt a b || (a == b && nat_lt c d)) ≡ false → (nat_lt b a || (b == a && nat_lt d c)) ≡ false → c ≡ d
-same_kind a b c d h k = grind (arith, nat_tests)
-
-not_before : (a b c d e f : ℕ) → (nat_lt a b || (a == b && nat_lt d e)) ≡ false → (nat_lt b c || (b == c && nat_lt e f)) ≡ false → (nat_lt a c || (a == c && nat_lt d f)) ≡ false
-not_before a b c d e f h k = grind (arith, nat_tests)
+same_parts : (a b c d : ℕ) → (nat_lt a b || (a == b && nat_lt c d)) ≡ false → (nat_lt b a || (b == a && nat_lt d c)) ≡ false → (a ≡ b) × (c ≡ d)
+same_parts a b c d h k = grind (arith, nat_tests)
 
 pub one_way : (x y : Refusal) → goes_before x y ≡ true → goes_before y x ≡ false
-one_way x y h = first_before x.place y.place x.kind y.kind h
+one_way x y h = grind (arith, nat_tests)
 
 pub only_same : (x y : Refusal) → goes_before x y ≡ false → goes_before y x ≡ false → x ≡ y
-only_same x y h k = λ i. record { kind = same_kind x.place y.place x.kind y.kind h k i; place = same_offset x.place y.place x.kind y.kind h k i }
+only_same x y h k = let same = same_parts x.place y.place x.kind y.kind h k in λ i. record { kind = same.1 i; place = same.0 i }
 
 pub along : (x y z : Refusal) → goes_before x y ≡ false → goes_before y z ≡ false → goes_before x z ≡ false
-along x y z h k = not_before x.place y.place z.place x.kind y.kind z.kind h k
-
-kept : (g x : Refusal) → goes_before x g ≡ false → lesser (Some g) x ≡ Some g
-kept g x e = ap (λ b. cond b (Some x) (Some g)) e
+along x y z h k = grind (arith, nat_tests)
 
 -- behind the least that was found, none goes before it
 pub behind : (least : Refusal) (kind : ℕ) (n : Name) → nat_lt least.place n.start ≡ true → lesser (Some least) (offence_at kind n) ≡ Some least
-behind least kind n h = kept least (offence_at kind n) (one_way least (offence_at kind n) (ap (λ b. b || (least.place == n.start && nat_lt least.kind kind)) h))
+behind least kind n h = grind (arith, nat_tests)
 
 lesser_swap : (found : Option Refusal) (x y : Refusal) → lesser (lesser found x) y ≡ lesser (lesser found y) x
 lesser_swap found x y = grind (arith, nat_tests)
@@ -125,19 +99,7 @@ pub three_kinds : {V : Type 0} (i j k : ℕ) (a b c : V → List Name) (more : L
     after ≡ least_with found (flat_map (λ v. of_kind i (a v) ++ of_kind j (b v) ++ of_kind k (c v)) vs) → now ≡ least_with after (of_kind k more) →
     now ≡ least_with found (of_kind i (flat_map a vs) ++ of_kind j (flat_map b vs) ++ of_kind k (flat_map c vs ++ more))
 three_kinds i j k a b c more found after now vs visited is =
-    let fa = of_kind i (flat_map a vs) in
-    let fb = of_kind j (flat_map b vs) in
-    let fc = of_kind k (flat_map c vs) in
-    is
-    ∙ ap (λ o. least_with o (of_kind k more))
-    (visited
-    ∙ together (λ v. of_kind i (a v) ++ of_kind j (b v)) (λ v. of_kind k (c v)) found vs
-    ∙ ap (λ o. least_with o (flat_map (λ v. of_kind k (c v)) vs)) (together (λ v. of_kind i (a v)) (λ v. of_kind j (b v)) found vs)
-    ∙ (λ t. least_with (least_with (least_with found (kinds_flat i a vs t)) (kinds_flat j b vs t)) (kinds_flat k c vs t)))
-    ∙ sym (least_append (least_with (least_with found fa) fb) fc (of_kind k more))
-    ∙ ap (least_with (least_with (least_with found fa) fb)) (sym (kinds_append k (flat_map c vs) more))
-    ∙ ap (λ o. least_with o (of_kind k (flat_map c vs ++ more))) (sym (least_append found fa fb))
-    ∙ sym (least_append found (fa ++ fb) (of_kind k (flat_map c vs ++ more)))
+    grind (arith, together (λ v. of_kind i (a v) ++ of_kind j (b v)) (λ v. of_kind k (c v)) found vs, together (λ v. of_kind i (a v)) (λ v. of_kind j (b v)) found vs, kinds_flat i a vs, kinds_flat j b vs, kinds_flat k c vs, least_append, kinds_append k (flat_map c vs) more)
 
 -- what is noted at rules and at terms to be rewritten, of which the latter have one kind more, and more of the third kind
 pub four_kinds : {V T : Type 0} (i j k m : ℕ) (a b c : V → List Name) (n : V → List Name) (visit : T → List V) (rules values : List T) (more : List Name) (found one two now : Option Refusal) →
@@ -154,33 +116,14 @@ four_kinds {V} i j k m a b c n visit rules values more found one two now ruled v
     let vs = flat_map visit values in
     let late = flat_map (λ v. of_kind m (n v)) vs in
     let both = least_with found (flat_map all (flat_map visit (rules ++ values))) in
-    let whole : least_with one (flat_map all vs) ≡ both =
-    ap (λ o. least_with o (flat_map all vs)) ruled
-    ∙ sym (least_append found (flat_map all (flat_map visit rules)) (flat_map all vs))
-    ∙ ap (least_with found) (sym (flat_map-append all (flat_map visit rules) vs))
-    ∙ ap (λ ws. least_with found (flat_map all ws)) (sym (flat_map-append visit rules values)) in
-    is
-    ∙ ap (λ o. least_with o (of_kind k more)) (valued ∙ together (λ v. of_kind m (n v)) all one vs ∙ swap_all one (flat_map all vs) late ∙ ap (λ o. least_with o late) whole)
-    ∙ swap_all both (of_kind k more) late
-    ∙ ap (λ o. least_with o late) (three_kinds i j k a b c more found both (least_with both (of_kind k more)) (flat_map visit (rules ++ values)) refl refl)
-    ∙ sym (least_append found
-    (of_kind i (flat_map a (flat_map visit (rules ++ values))) ++ of_kind j (flat_map b (flat_map visit (rules ++ values))) ++ of_kind k (flat_map c (flat_map visit (rules ++ values)) ++ more))
-    late)
-    ∙ ap
-    (λ os. least_with found
-    (of_kind i (flat_map a (flat_map visit (rules ++ values))) ++ of_kind j (flat_map b (flat_map visit (rules ++ values))) ++ of_kind k (flat_map c (flat_map visit (rules ++ values)) ++ more) ++ os))
-    (kinds_flat m n vs)
+    let whole : least_with one (flat_map all vs) ≡ both = grind (arith, ruled, least_append, flat_map-append) in
+    let three = three_kinds i j k a b c more found both (least_with both (of_kind k more)) (flat_map visit (rules ++ values)) refl refl in
+    grind (arith, is, valued, together (λ v. of_kind m (n v)) all one vs, swap_all one (flat_map all vs) late, whole, swap_all both (of_kind k more) late, three, least_append, kinds_flat m n vs)
 
 -- what is noted last might have been noted first
 pub last_first : (one two three now : Option Refusal) (a b k e : List Refusal) →
     two ≡ least_with one a → three ≡ least_with two b → now ≡ least_with three (k ++ e) → now ≡ least_with (least_with (least_with (least_with one e) a) b) k
 last_first one two three now a b k e second third is = grind (arith, nat_tests, least_append, swap_all)
-
-not_itself : (o k : ℕ) → (nat_lt o o || (o == o && nat_lt k k)) ≡ false
-not_itself o k = grind arith
-
-itself : (a : Refusal) → goes_before a a ≡ false
-itself a = not_itself a.place a.kind
 
 pub in_none : (p : Refusal) → Contains [] p → ⊥
 in_none p c = let l = c.1 in absurd (omega (arith, l))
@@ -194,74 +137,52 @@ later x p os c = let l = c.1 in (suc c.0, omega (arith, l), c.2)
 head_or_behind : (x p : Refusal) (os : List Refusal) → Contains (x ∷ os) p → (x ≡ p) ⊎ Contains os p
 head_or_behind x p os h = grind (arith, nat_tests)
 
--- what comes of something found and more: one of them, which none goes before
-record Least (found : Refusal) (os : List Refusal) : Type 0 where
-  offence : Refusal
-  is : least_with (Some found) os ≡ Some offence
-  one : (offence ≡ found) ⊎ Contains os offence
-  first : goes_before found offence ≡ false
-  rest : (p : Refusal) → Contains os p → goes_before p offence ≡ false
+-- one offence more, which doesn't go before the least
+one_more : (x fault : Refusal) (os more : List Refusal) → ((p : Refusal) → Contains os p → Contains more p) → ((p : Refusal) → Contains more p → (x ≡ p) ⊎ Contains os p) →
+    goes_before x fault ≡ false → IsLeastOf os fault → IsLeastOf more fault
+one_more x fault os more to from before l = record {
+  one = to fault l.one;
+  least = λ p c. elim (from p c) [ inl e ↦ subst (λ q. goes_before q fault ≡ false) e before | inr d ↦ l.least p d ];
+}
 
-least : (found : Refusal) (os : List Refusal) → Least found os
-least found [] = record { offence = found; is = refl; one = inl refl; first = itself found; rest = λ p k. absurd (in_none p k) }
-least found (x ∷ os) = by (goes_before x found) refl (least x os) (least found os)
+-- what comes of something found and more
+least_of : (found fault : Refusal) (os : List Refusal) → least_with (Some found) os ≡ Some fault → IsLeastOf (found ∷ os) fault
+least_of found fault [] h =
+    let e : found ≡ fault = cc in
+    subst (IsLeastOf (found ∷ [])) e (record { one = at_head found []; least = λ p c. grind (arith, nat_tests, head_or_behind found p [] c, in_none p) })
+least_of found fault (x ∷ os) h = by (goes_before x found) refl h (least_of x fault os) (least_of found fault os)
   where
-    over : (b : Bool) (y : Refusal) → (if b then Some x else Some found) ≡ Some y → Least y os → goes_before x found ≡ b → least_with (Some found) (x ∷ os) ≡ least_with (Some y) os
-    over b y e l k = ap (λ c. least_with (if c then Some x else Some found) os) k ∙ ap (λ f. least_with f os) e
+    between : (p : Refusal) → Contains (found ∷ os) p → Contains (found ∷ x ∷ os) p
+    between p c = elim (head_or_behind found p os c) [ inl e ↦ subst (Contains (found ∷ x ∷ os)) e (at_head found (x ∷ os)) | inr d ↦ later found p (x ∷ os) (later x p os d) ]
 
-    by : (b : Bool) → goes_before x found ≡ b → Least x os → Least found os → Least found (x ∷ os)
-    by true k l _ =
-        record {
-          offence = l.offence;
-          is = over true x refl l k ∙ l.is;
-          one = inr (elim l.one [
-            | inl e ↦ subst (Contains (x ∷ os)) (sym e) (at_head x os)
-            | inr c ↦ later x l.offence os c
-          ]);
-          first = along found x l.offence (one_way x found k) l.first;
-          rest = λ p c. elim (head_or_behind x p os c) [
-            | inl e ↦ subst (λ q. goes_before q l.offence ≡ false) e l.first
-            | inr d ↦ l.rest p d
-          ];
-        }
-    by false k _ l =
-        record {
-          offence = l.offence;
-          is = over false found refl l k ∙ l.is;
-          one = elim l.one [
-            | inl e ↦ inl e
-            | inr c ↦ inr (later x l.offence os c)
-          ];
-          first = l.first;
-          rest = λ p c. elim (head_or_behind x p os c) [
-            | inl e ↦ subst (λ q. goes_before q l.offence ≡ false) e (along x found l.offence k l.first)
-            | inr d ↦ l.rest p d
-          ];
-        }
+    apart : (p : Refusal) → Contains (found ∷ x ∷ os) p → (x ≡ p) ⊎ Contains (found ∷ os) p
+    apart p c = elim (head_or_behind found p (x ∷ os) c) [
+      | inl e ↦ inr (subst (Contains (found ∷ os)) e (at_head found os))
+      | inr d ↦ elim (head_or_behind x p os d) [ inl e ↦ inl e | inr f ↦ inr (later found p os f) ]
+    ]
+
+    by : (b : Bool) → goes_before x found ≡ b → least_with (cond b (Some x) (Some found)) os ≡ Some fault → (least_with (Some x) os ≡ Some fault → IsLeastOf (x ∷ os) fault) →
+        (least_with (Some found) os ≡ Some fault → IsLeastOf (found ∷ os) fault) → IsLeastOf (found ∷ x ∷ os) fault
+    by true k e f g =
+        one_more found fault (x ∷ os) (found ∷ x ∷ os) (λ p. later found p (x ∷ os)) (λ p. head_or_behind found p (x ∷ os)) (along found x fault (one_way x found k) ((f e).least x (at_head x os))) (f e)
+    by false k e f g =
+        one_more x fault (found ∷ os) (found ∷ x ∷ os) between apart (along x found fault k ((g e).least found (at_head found os))) (g e)
 
 pub of_all : (os : List Refusal) (fault : Refusal) → least_with None os ≡ Some fault → IsLeastOf os fault
 of_all [] fault h = absurd cc
-of_all (x ∷ os) fault h =
-    let l = least x os in
-    let i : Some l.offence ≡ Some fault = sym l.is ∙ h in
-    let e : l.offence ≡ fault = cc in
-    subst (IsLeastOf (x ∷ os)) e (record {
-      one = elim l.one [
-        | inl i ↦ subst (Contains (x ∷ os)) (sym i) (at_head x os)
-        | inr c ↦ later x l.offence os c
-      ];
-      least = λ p c. elim (head_or_behind x p os c) [
-        | inl i ↦ subst (λ q. goes_before q l.offence ≡ false) i l.first
-        | inr d ↦ l.rest p d
-      ];
-    })
+of_all (x ∷ os) fault h = least_of x fault os h
 
 pub fault_is_least : (syntax : Parsed) (fault : Refusal) → fault_of syntax ≡ Some fault → IsLeastOf (offences_of syntax) fault
 fault_is_least syntax fault h = of_all (offences_of syntax) fault h
 
+-- what was found is never lost
+still : (found : Refusal) (os : List Refusal) → least_with (Some found) os ≡ None → ⊥
+still found [] h = cc
+still found (x ∷ os) h = grind (arith, nat_tests, still x os, still found os)
+
 pub none_of_all : (os : List Refusal) → least_with None os ≡ None → os ≡ []
 none_of_all [] h = refl
-none_of_all (x ∷ os) h = absurd (let bad : Some (least x os).offence ≡ None = sym (least x os).is ∙ h in cc)
+none_of_all (x ∷ os) h = absurd (still x os h)
 
 pub faultless_has_none : (syntax : Parsed) → fault_of syntax ≡ None → offences_of syntax ≡ []
 faultless_has_none syntax h = none_of_all (offences_of syntax) h

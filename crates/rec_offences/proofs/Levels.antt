@@ -1,31 +1,7 @@
 -- Levels: what is at hand is cut back from one to the one before.
-use Rattle.std.proofs.lemmas.Bool.Decides.{nat_tests, leb_tells}
-use Rattle.std.proofs.Common.{◌≡◌, ℕ, ◌+◌, ◌<◌, ◌^◌, ◌-◌, ◌||◌, List, [], ◌∷◌, ◌++◌, length, map, min, nat_le, not, ◌&&◌, refl, sym, ap, ◌∙◌, arith, length-append, lit<, inl, inr, suc, false, cond, reverse, nat_eq, eq-eqb, append-nil, take, drop, slice_get, Option, Some, None, rules, append_assoc}
-use Rattle.std.specs.List.{flat_map, list_any}
-use Rattle.std.proofs.lemmas.List.{length-map, map-append, reverse-append, take-append-drop}
-use Rattle.std.proofs.lemmas.List.Concat.{flat_map-append}
-use Rattle.std.proofs.lemmas.Bool.{le-leb, lt-leb}
-use Rattle.rec_reader.specs.declared.token.Name.{Name}
-use Rattle.rec_reader.specs.declared.syntax_tree.Specification.{Specification}
-use Rattle.rec_includes.specs.Names.{is_among}
-use Rattle.rec_includes.specs.Material.{Declared, specifications_at, symbols_by, symbols_of, sorts_of, rules_of, material_of}
-use Rattle.rec_offences.specs.Scope.{Entry, symbol_entry, names_of}
-use Rattle.rec_offences.specs.Offences.{most, passes, symbol_names}
-use Rattle.rec_offences.specs.Faults.{included_entries}
-use Rattle.rec_includes.specs.Listing.{Listing, listing}
-use Rattle.rec_offences.specs.Known.{Known, known}
-use Rattle.rec_offences.specs.Inclusion.{counted, extent_of, IsFront, IsOn, AreLevels, last_material, last_number, path_of, IsAtLevel, IsDeclared}
-use Rattle.std.specs.Option.{option_map, option_to_list}
-use Rattle.std.proofs.Math.Seq.{take-append_seam, take-length}
+use Rattle.rec_offences.proofs.Common.{nat_tests, ◌≡◌, ℕ, ◌+◌, ◌^◌, ◌-◌, ◌||◌, List, [], ◌∷◌, ◌++◌, length, map, min, nat_le, not, ◌&&◌, refl, sym, ap, ◌∙◌, arith, length-append, suc, false, reverse, nat_eq, eq-eqb, append-nil, take, drop, slice_get, Option, Some, None, rules, append_assoc, flat_map, list_any, length-map, map-append, reverse-append, take-append-drop, nil_from_length, flat_map-append, slice_get_cases, Name, Specification, is_among, Declared, specifications_at, symbols_by, symbols_of, sorts_of, rules_of, material_of, Entry, symbol_entry, names_of, most, passes, symbol_names, included_entries, Listing, listing, Known, known, counted, extent_of, IsFront, IsOn, AreLevels, last_material, last_number, path_of, IsAtLevel, IsDeclared, option_map, option_to_list, take-append_seam, take-length, IsClosed, closed_material, included_below, number_new, cut, common_steps, Inclusion, material_is, at_one}
 use Rattle.rec_offences.specs.declared.inclusion.Level.{Level}
-use Rattle.rec_includes.specs.Numbered.{IsClosed}
-use Rattle.rec_includes.proofs.Materials.{closed_material, included_below, number_new}
-use Rattle.rec_includes.specs.Forest.{cut}
-use Rattle.std.proofs.lemmas.Grind.{common_steps}
 use Rattle.indexmap.specs.IndexSet.{insert_key}
-use Rattle.rec_offences.specs.declared.inclusion.Inclusion.{Inclusion}
-use Rattle.rec_includes.proofs.Brought.{material_is}
-use Rattle.rec_includes.proofs.Gathered.{at_one}
 
 -- ---- what a material has, with what an entry adds to it
 
@@ -33,12 +9,8 @@ pub at_append : {A : Type 0} (f : Specification → List A) (earlier : List Spec
     flat_map f (specifications_at earlier (ms ++ ns)) ≡ flat_map f (specifications_at earlier ms) ++ flat_map f (specifications_at earlier ns)
 at_append f earlier ms ns = grind (arith, nat_tests, flat_map-append)
 
-map_append : {A B : Type 0} (f : A → B) (xs ys : List A) → map f (xs ++ ys) ≡ map f xs ++ map f ys
-map_append f [] ys = refl
-map_append f (x ∷ xs) ys = ap (λ zs. f x ∷ zs) (map_append f xs ys)
-
 pub entries_append : (earlier : List Specification) (ms ns : List ℕ) → included_entries earlier (ms ++ ns) ≡ included_entries earlier ms ++ included_entries earlier ns
-entries_append earlier ms ns = grind (arith, nat_tests, at_append, map_append)
+entries_append earlier ms ns = grind (arith, nat_tests, at_append, map-append)
 
 pub symbols_named : (ds : List Declared) → names_of (map symbol_entry ds) ≡ map (λ d. d.name) ds
 symbols_named [] = refl
@@ -47,11 +19,8 @@ symbols_named (d ∷ ds) = ap (λ ns. d.name ∷ ns) (symbols_named ds)
 min_more : (a b m : ℕ) → min (min a m + b) m ≡ min (a + b) m
 min_more a b m = omega arith
 
-le_min : (a m n : ℕ) → n < m → nat_le (min a m) n ≡ nat_le a n
-le_min a m n h = elim (leb_tells a n) [ inl t ↦ le-leb (min a m) n (omega (arith, t.1)) ∙ sym t.0 | inr f ↦ lt-leb (min a m) n (omega (arith, f.1)) ∙ sym f.0 ]
-
 pub le_counted : (n : ℕ) → nat_le (counted n) most ≡ nat_le n most
-le_counted n = le_min n (2 ^ 64 - 1) most (lit< tt)
+le_counted n = grind (arith, nat_tests)
 
 passes_counted : (a b : ℕ) → passes (counted a) (counted b) ≡ passes a b
 passes_counted a b = λ i. le_counted a i && not (le_counted b i)
@@ -59,7 +28,7 @@ passes_counted a b = λ i. le_counted a i && not (le_counted b i)
 module _ (bytes : List ℕ) (earlier : List Specification) (k f : List ℕ) where
   pub scope_more : (s now : Known) (new : List Entry) → s ≡ known bytes (included_entries earlier k) → now ≡ known s.bytes (s.entries ++ new) →
       new ≡ included_entries earlier f → now ≡ known bytes (included_entries earlier (k ++ f))
-  scope_more s now new was is added = is ∙ (λ i. known (was i).bytes ((was i).entries ++ added i)) ∙ ap (known bytes) (sym (entries_append earlier k f))
+  scope_more s now new was is added = grind (arith, nat_tests, entries_append)
 
   pub sorts_more : (s now : Listing) (new : List Name) → s ≡ listing bytes (sorts_of earlier k) → now ≡ listing s.bytes (s.names ++ new) →
       new ≡ sorts_of earlier f → now ≡ listing bytes (sorts_of earlier (k ++ f))
@@ -115,7 +84,7 @@ one_further x y ys = let e : length (x ∷ y ∷ ys) - 1 ≡ suc (length (y ∷ 
 -- the last level stands apart
 last_apart : (ls : List Level) (l : Level) → Some l ≡ slice_get ls (length ls - 1) → ls ≡ take (length ls - 1) ls ++ l ∷ []
 last_apart [] l e = absurd cc
-last_apart (x ∷ []) l e = let same : x ≡ l = cc in ap (λ y. y ∷ []) same
+last_apart (x ∷ []) l e = grind arith
 last_apart (x ∷ y ∷ ls) l e = grind (arith, nat_tests, last_apart (y ∷ ls) l (e ∙ one_further x y ls))
 
 -- ---- the path that is cut back
@@ -130,8 +99,7 @@ path_apart ls n e = by (slice_get ls (length ls - 1)) refl e
     by : (o : Option Level) → o ≡ slice_get ls (length ls - 1) → option_map (λ l. l.number) o ≡ Some n → path_of ls ≡ n ∷ path_of (take (length ls - 1) ls)
     by None f h = absurd cc
     by (Some l) f h =
-        let same : l.number ≡ n = cc in
-        ap path_of (last_apart ls l f) ∙ path_pushed (take (length ls - 1) ls) l ∙ ap (λ k. k ∷ path_of (take (length ls - 1) ls)) same
+        grind (arith, last_apart ls l f, path_pushed (take (length ls - 1) ls) l)
 
 -- the last level is the one to which is cut back
 pub cut_there : (ls : List Level) (n : ℕ) → last_number ls ≡ Some n → cut (Some n) (path_of ls) ≡ path_of ls
@@ -141,26 +109,22 @@ cut_there ls n e = grind (arith, nat_tests, path_apart, eq-eqb)
 pub cut_further : (number : Option ℕ) (ls : List Level) (n : ℕ) → last_number ls ≡ Some n → ((p : ℕ) → number ≡ Some p → nat_eq p n ≡ false) →
     cut number (path_of (take (length ls - 1) ls)) ≡ cut number (path_of ls)
 cut_further None ls n e other = refl
-cut_further (Some p) ls n e other =
-    let rest = path_of (take (length ls - 1) ls) in
-    sym (ap (λ b. cond b (n ∷ rest) (cut (Some p) rest)) (other p refl)) ∙ ap (cut (Some p)) (sym (path_apart ls n e))
+cut_further (Some p) ls n e other = grind (arith, nat_tests, other p, path_apart ls n e)
 
 pub cut_none : (number : Option ℕ) → cut number [] ≡ []
 cut_none number = grind (arith, nat_tests)
 
 -- no level is last where there is none
 none_last : (ls : List Level) → None ≡ slice_get ls (length ls - 1) → ls ≡ []
-none_last [] e = refl
-none_last (x ∷ []) e = absurd (let bad : None ≡ Some x = e in cc)
-none_last (x ∷ y ∷ ls) e = absurd (let bad : y ∷ ls ≡ [] = none_last (y ∷ ls) (e ∙ one_further x y ls) in cc)
+none_last ls e = grind (arith, nat_tests, slice_get_cases ls (length ls - 1), nil_from_length ls)
 
 -- where the last level has no number, there is none
 pub no_level : (ls : List Level) → ((n : ℕ) → last_number ls ≡ Some n → ⊥) → ls ≡ []
-no_level ls none = none_last ls (sym (by (slice_get ls (length ls - 1)) none))
+no_level ls none = by (slice_get ls (length ls - 1)) refl none
   where
-    by : (o : Option Level) → ((n : ℕ) → option_map (λ l. l.number) o ≡ Some n → ⊥) → o ≡ None
-    by None h = refl
-    by (Some l) h = absurd (h l.number refl)
+    by : (o : Option Level) → o ≡ slice_get ls (length ls - 1) → ((n : ℕ) → option_map (λ l. l.number) o ≡ Some n → ⊥) → ls ≡ []
+    by None e h = none_last ls e
+    by (Some l) e h = absurd (h l.number refl)
 
 module _ (bytes : List ℕ) (specifications : List Specification) where
   pub last_pushed : (before : List ℕ) (ls : List Level) (l : Level) → last_material bytes specifications before (ls ++ l ∷ []) ≡ material_of bytes specifications l.number

@@ -1,3 +1,4 @@
+pub mod Common
 pub mod Groups
 pub mod Leasts
 pub mod Levels

@@ -1,19 +1,9 @@
 -- Visits of whole terms beside one another.
-use Rattle.std.proofs.lemmas.Bool.Decides.{nat_tests}
-use Rattle.std.proofs.Common.{◌≡◌, ◌≤◌, ◌∙◌, ℕ, ◌+◌, ◌-◌, List, [], ◌∷◌, ◌++◌, length, take, map, refl, ap, sym, arith, append_assoc, append-nil, Some}
-use Rattle.std.specs.Prelude.{All}
-use Rattle.std.specs.List.{flat_map}
+use Rattle.rec_offences.proofs.Common.{nat_tests, ◌≡◌, ◌≤◌, ℕ, ◌+◌, ◌-◌, List, [], ◌∷◌, ◌++◌, length, take, map, refl, ap, sym, arith, append_assoc, append-nil, Some, All, flat_map, length-map, length-take-le, All-head, All-tail, none-some, drop-append-add, take-append-add, Name, Node, Visit, visits, nodes_of, VisitsAreOfArguments}
 use Rattle.std.proofs.lemmas.Bool.{ltb-false}
-use Rattle.std.proofs.lemmas.List.{length-append, length-map, length-take-le}
-use Rattle.std.proofs.lemmas.List.Concat.{flat_map-cons}
-use Rattle.std.proofs.lemmas.List.Elements.{All-head, All-tail}
-use Rattle.std.proofs.lemmas.Option.{none-some}
-use Rattle.std.proofs.Math.Seq.{drop-append-add, take-append-add}
-use Rattle.rec_reader.specs.declared.token.Name.{Name}
-use Rattle.rec_reader.specs.declared.syntax_tree.Node.{Node}
+use Rattle.std.proofs.lemmas.List.{length-append}
 use Rattle.rec_reader.specs.Whole.{terms_after, IsWhole}
-use Rattle.rec_offences.specs.Scope.{Visit, visits}
-use Rattle.rec_offences.specs.Laws.{Argument, nodes_of, VisitsAreOfArguments}
+use Rattle.rec_offences.specs.Laws.{Argument}
 
 -- the stack after a node, and after nodes
 abbrev stack_with : List Name → Node → List Name
@@ -52,12 +42,7 @@ one_alone s k h e = grind (arith, nat_tests, length-append)
 one_whole : (base : List Name) (a : Argument) (rest : List Node) → IsWhole (nodes_of a) → visits base (nodes_of a ++ rest) ≡ visits [] (nodes_of a) ++ visits (base ++ a.last.head ∷ []) rest
 one_whole base a rest w =
     let t = stack_after [] a.before in
-    let last = last_after [] a.before a.last in
-    let one : length (stack_with t a.last) ≡ 1 = sym (ap length last) ∙ long_after [] (nodes_of a) 1 w in
-    let left : stack_after [] (nodes_of a) ≡ a.last.head ∷ [] = last ∙ one_alone t (length t - a.last.count) a.last.head one in
-    sym (ap (λ b. visits b (nodes_of a ++ rest)) (append-nil base))
-    ∙ over base [] (nodes_of a) rest 1 w
-    ∙ ap (λ s. visits [] (nodes_of a) ++ visits (base ++ s) rest) left
+    grind (arith, last_after [] a.before a.last, long_after [] (nodes_of a) 1 w, one_alone t (length t - a.last.count) a.last.head, append-nil base, over base [] (nodes_of a) rest 1 w)
 
 abbrev all_visits_of : List Argument → List Visit
 all_visits_of arguments = flat_map (λ a. visits [] (nodes_of a)) arguments
@@ -69,17 +54,7 @@ whole_terms : (base : List Name) (arguments : List Argument) (rest : List Node) 
 whole_terms base [] rest w = sym (ap (λ b. visits b rest) (append-nil base))
 whole_terms base (a ∷ others) rest w =
     let P : Argument → Type 0 = λ a. IsWhole (nodes_of a) in
-    let h : Name = a.last.head in
-    let more = flat_map nodes_of others ++ rest in
-    let own = visits [] (nodes_of a) in
-    let after = visits ((base ++ h ∷ []) ++ heads_of others) rest in
-    ap (λ l. visits base (l ++ rest)) (flat_map-cons nodes_of a others)
-    ∙ ap (visits base) (append_assoc (nodes_of a) (flat_map nodes_of others) rest)
-    ∙ one_whole base a more (All-head P a others w)
-    ∙ ap (λ l. own ++ l) (whole_terms (base ++ h ∷ []) others rest (All-tail P a others w))
-    ∙ sym (append_assoc own (all_visits_of others) after)
-    ∙ ap (λ l. l ++ after) (sym (flat_map-cons (λ a. visits [] (nodes_of a)) a others))
-    ∙ ap (λ b. all_visits_of (a ∷ others) ++ visits b rest) (append_assoc base (h ∷ []) (heads_of others))
+    grind (arith, append_assoc, one_whole base a (flat_map nodes_of others ++ rest) (All-head P a others w), whole_terms (base ++ a.last.head ∷ []) others rest (All-tail P a others w))
 
 pub visits_are_of_arguments : VisitsAreOfArguments
 visits_are_of_arguments node arguments w n = grind (arith, nat_tests, length-map, whole_terms)

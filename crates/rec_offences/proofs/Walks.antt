@@ -1,20 +1,5 @@
 -- A walk that keeps sorts notes what is wrong at the visits of a term.
-use Rattle.std.proofs.lemmas.Bool.Decides.{nat_tests}
-use Rattle.std.proofs.Common.{arith, ◌≡◌, ℕ, ◌+◌, ◌-◌, ◌<◌, List, [], ◌∷◌, ◌++◌, length, take, drop, get_or, Bool, true, false, not, cond, Option, refl, ap, ◌∙◌}
-use Rattle.std.specs.List.{filter, flat_map}
-use Rattle.std.specs.Option.{option_map, option_map_or}
-use Rattle.std.proofs.lemmas.List.{drop_more, length-map, take-map, drop-map, map-append}
-use Rattle.std.proofs.lemmas.List.Concat.{flat_map-append}
-use Rattle.std.proofs.lemmas.List.Elements.{filter-append}
-use Rattle.rec_reader.specs.declared.token.Name.{Name}
-use Rattle.rec_reader.specs.declared.syntax_tree.Node.{Node}
-use Rattle.faults.specs.declared.refusal.Refusal.{Refusal}
-use Rattle.rec_offences.specs.declared.offences.heads.Argument.{Argument}
-use Rattle.rec_includes.specs.Names.{same_text}
-use Rattle.rec_offences.specs.Scope.{Entry, Visit, visits, look_up, is_variable, heads}
-use Rattle.rec_offences.specs.Offences.{clashing}
-use Rattle.rec_offences.specs.Faults.{least_with}
-use Rattle.rec_offences.specs.Walked.{sort_of, argument, arguments_of, heads_on, clashing_sorts, misplaced, at_side, at_node, visit_over, names_with}
+use Rattle.rec_offences.proofs.Common.{nat_tests, arith, ◌≡◌, ℕ, ◌+◌, ◌-◌, ◌<◌, List, [], ◌∷◌, ◌++◌, length, take, drop, get_or, Bool, true, false, not, Option, refl, ap, ◌∙◌, filter, flat_map, option_map, option_map_or, drop_more, length-map, take-map, drop-map, map-append, flat_map-append, filter-append, Name, Node, Refusal, Argument, same_text, Entry, Visit, visits, look_up, is_variable, heads, clashing, least_with, sort_of, argument, arguments_of, heads_on, clashing_sorts, misplaced, at_side, at_node, visit_over, names_with}
 use Rattle.rec_offences.proofs.Leasts.{least_append}
 
 module _ (bytes : List ℕ) (entries : List Entry) where
@@ -25,7 +10,7 @@ module _ (bytes : List ℕ) (entries : List Entry) where
   same_clashes : (ws ns : List Name) → clashing_sorts bytes ws (arguments_of bytes entries ns) ≡ clashing bytes entries ws ns
   same_clashes [] ns = refl
   same_clashes (w ∷ ws) [] = refl
-  same_clashes (w ∷ ws) (n ∷ ns) = λ i. cond (other_sort w (look_up bytes entries n) i) (n ∷ []) [] ++ same_clashes ws ns i
+  same_clashes (w ∷ ws) (n ∷ ns) = grind (arith, nat_tests, same_clashes ws ns, other_sort w (look_up bytes entries n))
 
   -- what is wrong at a node whose arguments come with their sorts
   same_offences : (is_value : Bool) (node : Node) (names : List Name) →

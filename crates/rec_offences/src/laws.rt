@@ -3,12 +3,14 @@
 ghost use Rattle.rec_offences.specs.Laws.{FaultIsLeast, FaultlessHasNoOffence, VisitsAreOfArguments};
 
 /// The fault of an input is the least of its offences, and an input without one has none.
+#[tactic(auto, using(crate::proofs::Leasts::fault_is_least, crate::proofs::Leasts::faultless_has_none))]
 pub fn fault_laws()
     ensures least { FaultIsLeast }
     ensures none { FaultlessHasNoOffence }
 {}
 
 /// A head is visited with the heads of its arguments, after the visits of the arguments.
+#[tactic(auto, using(crate::proofs::Visits::visits_are_of_arguments))]
 pub fn visit_laws()
     ensures { VisitsAreOfArguments }
 {}

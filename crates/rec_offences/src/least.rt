@@ -32,6 +32,7 @@ pub(crate) fn note(found: &mut Option<Refusal>, kind: u8, name: Name)
 }
 
 /// Whether a name stands behind what was found, so that no offence at it goes before that.
+#[tactic(auto, using(crate::proofs::Leasts::behind))]
 pub(crate) fn is_behind(found: Option<Refusal>, name: Name) -> bool
     ensures { (kind : ℕ) → result ≡ true → lesser found (offence_at kind name) ≡ found }
 {

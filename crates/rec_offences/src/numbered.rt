@@ -20,6 +20,7 @@ fn specification_at(specifications: &[Specification], number: usize) -> Option<&
 }
 
 /// Adds the symbols of the specification with this number.
+#[tactic(auto, using(std::proofs::lemmas::Grind::common_steps, rec_includes::proofs::Gathered::at_one, rec_includes::proofs::Gathered::at_none))]
 fn add_symbols_at<'a>(
     specifications: &'a [Specification],
     number: usize,
@@ -35,6 +36,7 @@ fn add_symbols_at<'a>(
 }
 
 /// The symbols of the specifications with these numbers.
+#[tactic(auto, using(std::proofs::lemmas::Grind::common_steps, rec_includes::proofs::Gathered::gathered_turn, rec_includes::proofs::Gathered::default_in, crate::proofs::Levels::entries_append))]
 pub(crate) fn symbols_at<'a>(
     alloc: Global,
     specifications: &'a [Specification],
@@ -51,6 +53,7 @@ pub(crate) fn symbols_at<'a>(
 }
 
 /// The sorts of the specification with this number.
+#[tactic(auto, using(rec_includes::proofs::Gathered::at_one, rec_includes::proofs::Gathered::at_none))]
 fn sorts_at(specifications: &[Specification], number: usize) -> &[Name]
     ensures { result.now ≡ sorts_of specifications.now (number ∷ []) }
 {
@@ -61,6 +64,7 @@ fn sorts_at(specifications: &[Specification], number: usize) -> &[Name]
 }
 
 /// Adds the sorts of the specifications with these numbers.
+#[tactic(auto, using(std::proofs::lemmas::Grind::common_steps, rec_includes::proofs::Gathered::gathered_turn, rec_includes::proofs::Gathered::default_in, crate::proofs::Levels::at_append))]
 pub(crate) fn add_sorts(
     sorts: &mut Directory,
     specifications: &[Specification],
@@ -76,6 +80,7 @@ pub(crate) fn add_sorts(
 }
 
 /// How many rules the specification with this number has.
+#[tactic(auto, using(rec_includes::proofs::Gathered::at_one, rec_includes::proofs::Gathered::at_none))]
 fn rules_at(specifications: &[Specification], number: usize) -> usize
     ensures { result ≡ length (rules_of specifications.now (number ∷ [])) }
 {

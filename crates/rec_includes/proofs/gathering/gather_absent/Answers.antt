@@ -1,13 +1,4 @@
-use Rattle.std.proofs.lemmas.Bool.Decides.{nat_tests}
-use Rattle.std.proofs.lemmas.Grind.{common_steps}
-use Rattle.std.proofs.Common.{◌≡◌, ℕ, ◌<◌, List, [], ◌∷◌, ◌++◌, slice_get, Option, Some, None, refl, sym, ap, subst, ◌∙◌, append_assoc, append-nil, length, arith}
-use Rattle.std.specs.Option.{option_map}
-use Rattle.rec_reader.specs.declared.token.Name.{Name}
-use Rattle.rec_reader.specs.declared.syntax_tree.Specification.{Specification}
-use Rattle.rec_includes.specs.declared.gathering.Frame.{Frame}
-use Rattle.rec_includes.specs.Material.{fresh, with_numbers, material_of}
-use Rattle.rec_includes.specs.Numbered.{header_names, includes_at}
-use Rattle.rec_includes.specs.Walk.{after, entry_in, next_in, missing}
+use Rattle.rec_includes.proofs.Common.{nat_tests, common_steps, ◌≡◌, ℕ, ◌<◌, List, [], ◌∷◌, ◌++◌, slice_get, Option, Some, None, refl, sym, subst, append_assoc, append-nil, length, arith, option_map, Name, Specification, Frame, with_numbers, material_of, header_names, includes_at, after, entry_in, next_in, missing}
 use Rattle.rec_includes.proofs.Fresh.{one_number}
 use Rattle.rec_includes.proofs.Brought.{target_before}
 use Rattle.rec_includes.proofs.Walk.{frame, finish, IsUnderWay, begins, passes_over, goes_into, missing_is, ends, weights, lighter_after, lighter_into, lighter_ended}
@@ -23,29 +14,21 @@ none_next o v h = grind (arith, nat_tests)
 module _ (bytes : List ℕ) (xs : List Specification) (names : List Name) (named : names ≡ header_names xs) (m total : List ℕ) (vs frames : List Frame) (v : Frame) (top : frames ≡ vs ++ v ∷ []) where
   module _ (e : Name) (rest : Frame) (next : ◌≡◌ {A = Option (Name × Frame)} (Some (e, rest)) (next_in xs v)) where
     over : (now : List Frame) → now ≡ vs ++ rest ∷ [] → missing bytes names m v.number e ≡ None → IsUnderWay bytes xs total m frames → IsUnderWay bytes xs total m now
-    over now is none w =
-        let n = next_is (slice_get (includes_at xs v.number) v.next) v e rest next in
-        subst (IsUnderWay bytes xs total m) (sym (is ∙ ap (λ r. vs ++ r ∷ []) n.1))
-        (passes_over bytes xs m vs v e n.0 total (ap (λ ns. missing bytes ns m v.number e) (sym named) ∙ none) (subst (IsUnderWay bytes xs total m) top w))
+    over now is none w = grind (arith, nat_tests, next_is (slice_get (includes_at xs v.number) v.next) v e rest next, passes_over bytes xs m vs v e)
 
     over_lighter : (now : List Frame) → now ≡ vs ++ rest ∷ [] → weights xs now < weights xs frames
     over_lighter now is = grind (arith, nat_tests, next_is, weights, lighter_after)
 
     into : (p : ℕ) (between now : List Frame) → between ≡ vs ++ rest ∷ [] → now ≡ between ++ frame p 0 ∷ [] → missing bytes names m v.number e ≡ Some p →
         IsUnderWay bytes xs total m frames → IsUnderWay bytes xs total m now
-    into p between now was is some w =
-        let n = next_is (slice_get (includes_at xs v.number) v.next) v e rest next in
-        subst (IsUnderWay bytes xs total m) (sym (is ∙ ap (λ b. b ++ frame p 0 ∷ []) (was ∙ ap (λ r. vs ++ r ∷ []) n.1)))
-        (goes_into bytes xs m vs v e n.0 total p (ap (λ ns. missing bytes ns m v.number e) (sym named) ∙ some) (subst (IsUnderWay bytes xs total m) top w))
+    into p between now was is some w = grind (arith, nat_tests, next_is (slice_get (includes_at xs v.number) v.next) v e rest next, goes_into bytes xs m vs v e)
 
     into_lighter : (p : ℕ) (between now : List Frame) → between ≡ vs ++ rest ∷ [] → now ≡ between ++ frame p 0 ∷ [] → missing bytes names m v.number e ≡ Some p → weights xs now < weights xs frames
     into_lighter p between now was is some = grind (arith, nat_tests, next_is, missing_is, target_before, weights, frame, lighter_into)
 
   ended : (now : List ℕ) → None ≡ next_in xs v → now ≡ with_numbers m (v.number ∷ []) →
       IsUnderWay bytes xs total m frames → IsUnderWay bytes xs total now vs
-  ended now none is w =
-      subst (λ k. IsUnderWay bytes xs total k vs) (sym (is ∙ one_number m v.number))
-      (ends bytes xs m vs v total (none_next (slice_get (includes_at xs v.number) v.next) v none) (subst (IsUnderWay bytes xs total m) top w))
+  ended now none is w = grind (arith, nat_tests, none_next (slice_get (includes_at xs v.number) v.next) v none, one_number m v.number, ends bytes xs m vs v total)
 
   ended_lighter : weights xs vs < weights xs frames
   ended_lighter = subst (λ k. weights xs vs < weights xs k) (sym top) (lighter_ended xs vs v)
@@ -55,58 +38,35 @@ loop-frame-init c = grind (arith, common_steps, frame, begins, append-nil)
 
 pub loop-frame-smaller-in-Continue-branch-3 : goal.loop-frame-smaller-in-Continue-branch-3
 loop-frame-smaller-in-Continue-branch-3 c =
-    into_lighter c.args.headers.now.bytes c.args.specifications.now c.args.headers.now.names c.requires.names c.loop-frame.material.keys []
-    c.pop.new.self.items c.loop-frame.frames.items c.in-Some.frame c.in-Some.ensures.items
-    c.in-Some-next_entry.entry c.in-Some-next_entry.rest c.in-Some-next_entry.ensures
-    c.in-Some-missing.place c.push-in-Some-next_entry.new.self.items c.push-in-Some-missing.new.self.items
+    into_lighter _ _ _ c.requires.names _ [] _ _ _ c.in-Some.ensures.items _ _ c.in-Some-next_entry.ensures _ _ _
     c.in_ok-push-in-Some-next_entry.ensures.items c.in_ok-push-in-Some-next_entry-2.ensures.items (sym c.in-Some-missing.ensures)
 
 pub loop-frame-preserved-in-Continue-branch-3 : goal.loop-frame-preserved-in-Continue-branch-3
 loop-frame-preserved-in-Continue-branch-3 c =
-    record {
-      walk =
-          into c.args.headers.now.bytes c.args.specifications.now c.args.headers.now.names c.requires.names c.loop-frame.material.keys
-          (with_numbers c.args.material.now.keys (material_of c.args.headers.now.bytes c.args.specifications.now c.args.number))
-          c.pop.new.self.items c.loop-frame.frames.items c.in-Some.frame c.in-Some.ensures.items
-          c.in-Some-next_entry.entry c.in-Some-next_entry.rest c.in-Some-next_entry.ensures
-          c.in-Some-missing.place c.push-in-Some-next_entry.new.self.items c.push-in-Some-missing.new.self.items
-          c.in_ok-push-in-Some-next_entry.ensures.items c.in_ok-push-in-Some-next_entry-2.ensures.items (sym c.in-Some-missing.ensures) c.loop-frame.invariant.walk;
-      added = c.loop-frame.invariant.added;
-    }
+    let walk = into _ _ _ c.requires.names _ _ _ _ _ c.in-Some.ensures.items _ _ c.in-Some-next_entry.ensures _ _ _ c.in_ok-push-in-Some-next_entry.ensures.items
+    c.in_ok-push-in-Some-next_entry-2.ensures.items (sym c.in-Some-missing.ensures) c.loop-frame.invariant.walk in
+    record { walk = walk; added = c.loop-frame.invariant.added }
 
 pub loop-frame-smaller-in_default-missing : goal.loop-frame-smaller-in_default-missing
 loop-frame-smaller-in_default-missing c = grind (arith, common_steps, over_lighter, frame)
 
 pub loop-frame-preserved-in_default-missing : goal.loop-frame-preserved-in_default-missing
 loop-frame-preserved-in_default-missing c =
-    record {
-      walk =
-          over c.args.headers.now.bytes c.args.specifications.now c.args.headers.now.names c.requires.names c.loop-frame.material.keys
-          (with_numbers c.args.material.now.keys (material_of c.args.headers.now.bytes c.args.specifications.now c.args.number))
-          c.pop.new.self.items c.loop-frame.frames.items c.in-Some.frame c.in-Some.ensures.items
-          c.in-Some-next_entry.entry c.in-Some-next_entry.rest c.in-Some-next_entry.ensures
-          c.push-in-Some-next_entry.new.self.items c.in_ok-push-in-Some-next_entry.ensures.items (sym c.in_default-missing.ensures) c.loop-frame.invariant.walk;
-      added = c.loop-frame.invariant.added;
-    }
+    let walk = over _ _ _ c.requires.names _ _ _ _ _ c.in-Some.ensures.items _ _ c.in-Some-next_entry.ensures _ c.in_ok-push-in-Some-next_entry.ensures.items (sym c.in_default-missing.ensures) c.loop-frame.invariant.walk in
+    record { walk = walk; added = c.loop-frame.invariant.added }
 
 pub loop-frame-smaller : goal.loop-frame-smaller
 loop-frame-smaller c = grind (arith, common_steps, ended_lighter, frame)
 
 pub loop-frame-preserved : goal.loop-frame-preserved
 loop-frame-preserved c =
-    let n = c.in-Some.frame.number in
-    let new = fresh c.loop-frame.material.keys (n ∷ []) in
     record {
       walk =
           ended c.args.headers.now.bytes c.args.specifications.now c.args.headers.now.names c.requires.names c.loop-frame.material.keys
           (with_numbers c.args.material.now.keys (material_of c.args.headers.now.bytes c.args.specifications.now c.args.number))
           c.pop.new.self.items c.loop-frame.frames.items c.in-Some.frame c.in-Some.ensures.items
           c.add.new.material.keys c.in-None.ensures c.in_ok-add-in-None.ensures.material c.loop-frame.invariant.walk;
-      added =
-          c.in_ok-add-in-None.ensures.material
-          ∙ ap (λ k. k ++ new) c.loop-frame.invariant.added
-          ∙ append_assoc c.args.material.now.keys c.loop-frame.added.items new
-          ∙ ap (λ k. c.args.material.now.keys ++ k) (sym c.in_ok-add-in-None.ensures.added);
+      added = grind (arith, common_steps, append_assoc);
     }
 
 none_left : (vs : List Frame) → length vs ≡ 0 → vs ≡ []

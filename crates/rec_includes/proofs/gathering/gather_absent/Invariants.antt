@@ -1,5 +1,4 @@
-use Rattle.std.proofs.Common.{◌≡◌, ◌++◌}
-use Rattle.rec_includes.specs.Material.{with_numbers, material_of}
+use Rattle.rec_includes.proofs.Common.{◌≡◌, ◌++◌, with_numbers, material_of}
 use Rattle.rec_includes.proofs.Walk.{IsUnderWay, weights}
 use Rattle.rec_includes.proofs.gathering.gather_absent.Given as goal
 

@@ -1,5 +1,4 @@
-use Rattle.std.proofs.Common.{◌≡◌, ◌++◌, drop}
-use Rattle.rec_includes.specs.Numbered.{header_names}
+use Rattle.rec_includes.proofs.Common.{◌≡◌, ◌++◌, drop, header_names}
 use Rattle.rec_includes.proofs.gathering.header_names.Given as goal
 
 abbrev pub invariant-loop-specification : goal.invariant-loop-specification

@@ -1,5 +1,4 @@
-use Rattle.std.proofs.Common.{◌≡◌, length}
-use Rattle.rec_includes.specs.Forest.{Leads, parent_of, preorder}
+use Rattle.rec_includes.proofs.Common.{◌≡◌, length, Leads, parent_of, preorder}
 use Rattle.rec_includes.proofs.ordering.chained.Given as goal
 
 abbrev pub invariant-loop-number : goal.invariant-loop-number

@@ -1,5 +1,4 @@
-use Rattle.std.proofs.Common.{◌≡◌, drop}
-use Rattle.rec_includes.specs.Numbered.{first_target}
+use Rattle.rec_includes.proofs.Common.{◌≡◌, drop, first_target}
 use Rattle.rec_includes.proofs.ordering.first_target.Given as goal
 
 -- those before it include none

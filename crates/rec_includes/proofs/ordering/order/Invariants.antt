@@ -1,5 +1,4 @@
-use Rattle.std.proofs.Common.{◌≡◌, ◌-◌, ◌++◌, ℕ, List, length}
-use Rattle.rec_includes.specs.Forest.{Leads, parent_of, preorder}
+use Rattle.rec_includes.proofs.Common.{◌≡◌, ◌-◌, ◌++◌, ℕ, List, length, Leads, parent_of, preorder}
 use Rattle.rec_includes.proofs.ordering.order.Given as goal
 
 -- the links lead over what is left

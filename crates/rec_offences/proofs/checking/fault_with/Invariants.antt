@@ -1,8 +1,5 @@
-use Rattle.std.proofs.Common.{◌≡◌, take}
-use Rattle.std.specs.List.{flat_map}
-use Rattle.rec_offences.specs.Faults.{least_with}
+use Rattle.rec_offences.proofs.Common.{◌≡◌, take, flat_map, least_with, offences_at}
 use Rattle.rec_offences.specs.Checking.{HasSameInput, IsChecking}
-use Rattle.rec_offences.specs.Grouped.{offences_at}
 use Rattle.rec_offences.proofs.checking.fault_with.Given as goal
 
 abbrev pub invariant-loop-number : goal.invariant-loop-number

@@ -1,5 +1,4 @@
-use Rattle.std.proofs.Common.{arith, rules}
-use Rattle.std.proofs.lemmas.Result.{on_ok_weaker}
+use Rattle.rec_offences.proofs.Common.{arith, rules, on_ok_weaker}
 use Rattle.rec_offences.specs.Grouped.{used_group}
 use Rattle.rec_offences.proofs.Leasts.{noted_after, three_after, last_first}
 use Rattle.rec_offences.proofs.checking.note_used.Goals as goal

@@ -1,8 +1,4 @@
-use Rattle.std.proofs.Common.{◌≡◌, drop}
-use Rattle.std.specs.List.{list_any}
-use Rattle.rec_includes.specs.Names.{is_among}
-use Rattle.rec_offences.specs.Scope.{names_of}
-use Rattle.rec_offences.specs.Known.{entries_of}
+use Rattle.rec_offences.proofs.Common.{◌≡◌, drop, list_any, is_among, names_of, entries_of}
 use Rattle.rec_offences.proofs.entries.clashes.Given as goal
 
 abbrev pub invariant-loop-signature : goal.invariant-loop-signature

@@ -1,5 +1,4 @@
-use Rattle.std.proofs.Common.{◌≡◌, ◌++◌, drop}
-use Rattle.rec_includes.specs.Material.{sorts_of}
+use Rattle.rec_offences.proofs.Common.{◌≡◌, ◌++◌, drop, sorts_of}
 use Rattle.rec_offences.proofs.numbered.add_sorts.Given as goal
 
 abbrev pub invariant-loop-number : goal.invariant-loop-number

@@ -1,6 +1,4 @@
-use Rattle.std.proofs.Common.{rules, ◌≡◌, ℕ, ◌+◌, ◌≤◌, ◌-◌, min, arith, length-append}
-use Rattle.std.proofs.lemmas.Grind.{common_steps}
-use Rattle.rec_includes.proofs.Gathered.{drop_at, drop_all, default_in}
+use Rattle.rec_offences.proofs.Common.{rules, ◌≡◌, ℕ, ◌+◌, ◌≤◌, ◌-◌, min, arith, length-append, common_steps, drop_at, drop_all, default_in}
 use Rattle.rec_offences.proofs.Levels.{at_append}
 use Rattle.rec_offences.proofs.numbered.count_rules.Goals as goal
 

@@ -1,6 +1,4 @@
-use Rattle.std.proofs.Common.{◌≡◌, ◌+◌, ◌-◌, ◌^◌, ◌≤◌, drop, length}
-use Rattle.rec_includes.specs.Material.{rules_of}
-use Rattle.rec_offences.specs.Inclusion.{counted}
+use Rattle.rec_offences.proofs.Common.{◌≡◌, ◌+◌, ◌-◌, ◌^◌, ◌≤◌, drop, length, rules_of, counted}
 use Rattle.rec_offences.proofs.numbered.count_rules.Given as goal
 
 abbrev pub invariant-loop-number : goal.invariant-loop-number

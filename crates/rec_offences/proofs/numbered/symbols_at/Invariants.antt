@@ -1,6 +1,4 @@
-use Rattle.std.proofs.Common.{◌≡◌, ◌++◌, drop}
-use Rattle.rec_offences.specs.Faults.{included_entries}
-use Rattle.rec_offences.specs.Known.{entries_of}
+use Rattle.rec_offences.proofs.Common.{◌≡◌, ◌++◌, drop, included_entries, entries_of}
 use Rattle.rec_offences.proofs.numbered.symbols_at.Given as goal
 
 abbrev pub invariant-loop-number : goal.invariant-loop-number

@@ -1,7 +1,4 @@
-use Rattle.std.proofs.Common.{◌≡◌, ◌++◌, drop, map}
-use Rattle.rec_includes.specs.Material.{declared}
-use Rattle.rec_offences.specs.Scope.{symbol_entry}
-use Rattle.rec_offences.specs.Known.{entries_of}
+use Rattle.rec_offences.proofs.Common.{◌≡◌, ◌++◌, drop, map, declared, symbol_entry, entries_of}
 use Rattle.rec_offences.proofs.signatures.add_declaration.Given as goal
 
 abbrev pub invariant-loop-name : goal.invariant-loop-name

@@ -1,7 +1,4 @@
-use Rattle.std.proofs.Common.{◌≡◌, ◌++◌, drop, map}
-use Rattle.rec_includes.specs.Material.{variable}
-use Rattle.rec_offences.specs.Scope.{variable_entry}
-use Rattle.rec_offences.specs.Known.{entries_of}
+use Rattle.rec_offences.proofs.Common.{◌≡◌, ◌++◌, drop, map, variable, variable_entry, entries_of}
 use Rattle.rec_offences.proofs.signatures.add_listed.Given as goal
 
 abbrev pub invariant-loop-name : goal.invariant-loop-name

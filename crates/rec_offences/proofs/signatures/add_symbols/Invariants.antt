@@ -1,8 +1,4 @@
-use Rattle.std.proofs.Common.{◌≡◌, ◌++◌, drop, map}
-use Rattle.std.specs.List.{flat_map}
-use Rattle.rec_includes.specs.Material.{symbols_of_declaration}
-use Rattle.rec_offences.specs.Scope.{symbol_entry}
-use Rattle.rec_offences.specs.Known.{entries_of}
+use Rattle.rec_offences.proofs.Common.{◌≡◌, ◌++◌, drop, map, flat_map, symbols_of_declaration, symbol_entry, entries_of}
 use Rattle.rec_offences.proofs.signatures.add_symbols.Given as goal
 
 abbrev pub invariant-loop-declaration : goal.invariant-loop-declaration

@@ -1,8 +1,4 @@
-use Rattle.std.proofs.Common.{◌≡◌, ◌++◌, drop, map}
-use Rattle.std.specs.List.{flat_map}
-use Rattle.rec_includes.specs.Material.{variables_of}
-use Rattle.rec_offences.specs.Scope.{variable_entry}
-use Rattle.rec_offences.specs.Known.{entries_of}
+use Rattle.rec_offences.proofs.Common.{◌≡◌, ◌++◌, drop, map, flat_map, variables_of, variable_entry, entries_of}
 use Rattle.rec_offences.proofs.signatures.add_variables.Given as goal
 
 abbrev pub invariant-loop-variables : goal.invariant-loop-variables

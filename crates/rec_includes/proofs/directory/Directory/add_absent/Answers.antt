@@ -1,6 +1,4 @@
-use Rattle.std.proofs.Common.{◌≡◌, ◌-◌, length, ◌∙◌, ap, sym, subst, arith}
-use Rattle.rec_includes.specs.Names.{is_among}
-use Rattle.rec_includes.specs.Indexed.{PlacesRise}
+use Rattle.rec_includes.proofs.Common.{◌≡◌, ◌-◌, length, ◌∙◌, ap, sym, subst, arith, is_among, PlacesRise}
 use Rattle.rec_includes.proofs.Places.{Looks, added_last, looks_more, rises_more}
 use Rattle.rec_includes.proofs.directory.Directory.add_absent.Goals as goal
 

@@ -1,4 +1,4 @@
-use Rattle.std.proofs.Common.{◌≡◌, ◌++◌, drop}
+use Rattle.rec_includes.proofs.Common.{◌≡◌, ◌++◌, drop}
 use Rattle.rec_includes.proofs.directory.Directory.add_all.Given as goal
 
 abbrev pub invariant-loop-name : goal.invariant-loop-name

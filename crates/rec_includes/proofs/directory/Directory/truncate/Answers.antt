@@ -1,8 +1,5 @@
-use Rattle.std.proofs.Common.{◌<◌, ℕ, ◌-◌, length, nat_eq, inl, inr, refl, sym, subst, ◌∙◌, arith}
-use Rattle.std.specs.Global.{Vec}
-use Rattle.std.specs.Cmp.Lexicographic.{pointwise}
-use Rattle.rec_includes.specs.Indexed.{PlacesRise}
-use Rattle.rec_includes.proofs.Places.{Looks, popped_found, popped_rises, no_entries, front_rises, front_found}
+use Rattle.rec_includes.proofs.Common.{◌<◌, ℕ, ◌-◌, length, nat_eq, inl, inr, refl, sym, ◌∙◌, arith, Vec, pointwise}
+use Rattle.rec_includes.proofs.Places.{popped_found, popped_rises, no_entries, fronted}
 use Rattle.rec_includes.proofs.directory.Directory.truncate.Goals as goal
 
 pub invariant_of-self : goal.invariant_of-self
@@ -14,11 +11,7 @@ invariant_of-self c =
     let n = length es in
     let e : Vec ℕ × ℕ = (c.in-Some.field-0-0.now, c.in-Some.place.now) in
     let some : 0 < n = c.in-Some.ensures.found.0 refl in
-    let rises = front_rises d.bytes d.names c.args.count es l.rising (inr (n - 1, e, omega (arith, some), (sym c.in-Some.ensures.entry), c.if-place-count.true)) in
-    record {
-      places = subst (λ b. Looks b s.names.items es) (sym l.text) (subst (λ x. Looks d.bytes x es) (sym l.names) (front_found d.bytes d.names c.args.count es l.rising rises l.found));
-      rising = subst (λ x. PlacesRise 0 (length x) es) (sym l.names) rises;
-    }
+    fronted d.bytes d.names c.args.count es l.rising l.found (inr (n - 1, e, omega (arith, some), (sym c.in-Some.ensures.entry), c.if-place-count.true)) s l.text l.names refl
 
 pub loop-place-preserved-else-place-count : goal.loop-place-preserved-else-place-count
 loop-place-preserved-else-place-count c =
@@ -41,9 +34,4 @@ invariant_of-self-in_default c =
     let l = c.loop-place.invariant in
     let d = c.args.self.now in
     let es = s.places.entries in
-    let f = c.in_default.ensures.found in
-    let rises = front_rises d.bytes d.names c.args.count es l.rising (inl (no_entries es f.1)) in
-    record {
-      places = subst (λ b. Looks b s.names.items es) (sym l.text) (subst (λ x. Looks d.bytes x es) (sym l.names) (front_found d.bytes d.names c.args.count es l.rising rises l.found));
-      rising = subst (λ x. PlacesRise 0 (length x) es) (sym l.names) rises;
-    }
+    fronted d.bytes d.names c.args.count es l.rising l.found (inl (no_entries es c.in_default.ensures.found.1)) s l.text l.names refl

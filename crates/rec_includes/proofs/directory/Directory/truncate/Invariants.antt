@@ -1,10 +1,4 @@
-use Rattle.std.proofs.Common.{◌≡◌, ℕ, List, length, take, nat_eq}
-use Rattle.std.specs.Map.{lookup}
-use Rattle.std.specs.Str.{bytes_eq}
-use Rattle.std.specs.Cmp.Lexicographic.{pointwise}
-use Rattle.rec_includes.specs.Names.{text_of}
-use Rattle.rec_includes.specs.Listing.{place_in}
-use Rattle.rec_includes.specs.Indexed.{PlacesRise}
+use Rattle.rec_includes.proofs.Common.{◌≡◌, ℕ, List, length, take, nat_eq, lookup, bytes_eq, pointwise, text_of, place_in, PlacesRise}
 use Rattle.rec_includes.proofs.Places.{below}
 use Rattle.rec_includes.proofs.directory.Directory.truncate.Given as goal
 

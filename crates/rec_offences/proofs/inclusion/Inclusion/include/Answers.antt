@@ -1,10 +1,4 @@
-use Rattle.std.proofs.Common.{arith, rules, ◌≡◌, ℕ, ◌+◌, Bool, List, ◌++◌, length, ap, ◌∙◌}
-use Rattle.std.proofs.lemmas.Grind.{common_steps}
-use Rattle.rec_offences.specs.declared.entries.Verdict.{Verdict}
-use Rattle.rec_includes.specs.Material.{material_of, fresh, rules_of}
-use Rattle.rec_offences.specs.Faults.{included_entries}
-use Rattle.rec_offences.specs.Inclusion.{counted}
-use Rattle.rec_offences.specs.Known.{known, entries_of}
+use Rattle.rec_offences.proofs.Common.{arith, rules, ◌≡◌, ℕ, ◌+◌, List, ◌++◌, length, ap, ◌∙◌, common_steps, material_of, fresh, rules_of, included_entries, counted, known, entries_of}
 use Rattle.rec_offences.proofs.Levels.{scope_more, sorts_more, rules_more, clashing_more, passing_more}
 use Rattle.rec_offences.proofs.inclusion.Inclusion.include.Goals as goal
 
@@ -20,9 +14,7 @@ unfolding added
 symbols_are c = c.in_ok-signatures.ensures ∙ ap (included_entries c.args.specifications.now) (c.deref.ensures.value ∙ c.in_ok-added.ensures.added)
 
 scope_is : (c : goal.After-drop-added-2) → c.add_all.new.self ≡ known c.args.headers.now.bytes (included_entries c.args.specifications.now (c.args.self.now.material.keys ++ added c))
-scope_is c =
-    scope_more c.args.headers.now.bytes c.args.specifications.now c.args.self.now.material.keys (added c) c.args.self.now.scope c.add_all.new.self
-    (entries_of c.deref-3.result.now) c.requires.at_hand.scope c.in_ok-add_all.ensures (ap entries_of c.deref-3.ensures.value ∙ symbols_are c)
+scope_is c = scope_more _ _ _ (added c) _ _ _ c.requires.at_hand.scope c.in_ok-add_all.ensures (ap entries_of c.deref-3.ensures.value ∙ symbols_are c)
 
 rules_are : (c : goal.After-drop-added-2) → c.count_rules-self.result ≡ counted (length (rules_of c.args.specifications.now (c.args.self.now.material.keys ++ added c)))
 unfolding added
@@ -38,12 +30,6 @@ returns-clause-verdict c =
     let bytes = c.args.headers.now.bytes in
     let e = c.args.specifications.now in
     let k = c.args.self.now.material.keys in
-    let clash =
-    c.clashes-is_clashing.ensures
-    ∙ clashing_more bytes e k (added c) c.args.self.now.scope (entries_of c.deref-2.result.now) c.requires.at_hand.scope (ap entries_of c.deref-2.ensures.value ∙ symbols_are c) in
-    let pass =
-    c.one_passes-is_passing.ensures
-    ∙ passing_more bytes e k (added c) c.args.self.now.scope c.add_all.new.self c.len-symbols.result c.len.result c.args.self.now.rules c.count_rules-self.result
-    c.requires.at_hand.scope c.len-symbols.ensures.count (scope_is c) c.len.ensures.count c.requires.at_hand.rules (rules_are c) in
-    let verdict : (clashing passing : Bool) → Verdict = λ clashing passing. record { entry = c.args.entry; is_clashing = clashing; is_passing = passing } in
-    (λ i. verdict (clash i) (pass i))
+    let clash = c.clashes-is_clashing.ensures ∙ clashing_more bytes e k (added c) c.args.self.now.scope _ c.requires.at_hand.scope (ap entries_of c.deref-2.ensures.value ∙ symbols_are c) in
+    let pass = c.one_passes-is_passing.ensures ∙ passing_more bytes e k (added c) _ _ _ _ _ _ c.requires.at_hand.scope c.len-symbols.ensures.count (scope_is c) c.len.ensures.count c.requires.at_hand.rules (rules_are c) in
+    (λ i. record { entry = c.args.entry; is_clashing = clash i; is_passing = pass i })

@@ -1,16 +1,4 @@
-use Rattle.std.proofs.lemmas.Bool.Decides.{nat_tests}
-use Rattle.std.proofs.lemmas.Grind.{common_steps}
-use Rattle.std.proofs.Common.{◌≡◌, ℕ, ◌+◌, Bool, false, List, [], ◌∷◌, ◌++◌, None, Some, Option, drop, take, get_or, ap, sym, subst, ◌∙◌, arith}
-use Rattle.rec_reader.specs.declared.token.Name.{Name}
-use Rattle.rec_reader.specs.declared.syntax_tree.Specification.{Specification}
-use Rattle.rec_offences.specs.declared.entries.Verdict.{Verdict}
-use Rattle.rec_offences.specs.declared.inclusion.Inclusion.{Inclusion}
-use Rattle.rec_includes.specs.Names.{same_text}
-use Rattle.rec_includes.specs.Listing.{place_in}
-use Rattle.rec_includes.specs.Forest.{parent_of}
-use Rattle.rec_includes.specs.Numbered.{header_names, includes_at, target, first_target}
-use Rattle.rec_includes.proofs.Brought.{target_before}
-use Rattle.rec_includes.proofs.Gathered.{drop_at, drop_all, default_in}
+use Rattle.rec_offences.proofs.Common.{nat_tests, common_steps, ◌≡◌, ℕ, ◌+◌, Bool, false, List, [], ◌∷◌, ◌++◌, None, Some, Option, drop, take, get_or, ap, sym, subst, ◌∙◌, arith, Name, Specification, Verdict, Inclusion, same_text, place_in, parent_of, header_names, includes_at, target, first_target, target_before, drop_at, drop_all, default_in}
 use Rattle.rec_offences.proofs.Along.{Along, Ended, ended, past_unknown, past_first, past_other}
 use Rattle.rec_offences.proofs.inclusion.Inclusion.include_all.Goals as goal
 use Rattle.rec_offences.proofs.inclusion.Inclusion.include_all.Goals.{in-None, in-Some, in-Some-2+in_ok-verdict-in-Some-2}

@@ -1,4 +1,4 @@
-use Rattle.std.proofs.Common.{◌≡◌, drop}
+use Rattle.rec_offences.proofs.Common.{◌≡◌, drop}
 use Rattle.rec_offences.proofs.Along.{Along}
 use Rattle.rec_offences.proofs.inclusion.Inclusion.include_all.Given as goal
 

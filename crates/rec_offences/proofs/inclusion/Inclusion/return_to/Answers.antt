@@ -1,9 +1,4 @@
-use Rattle.std.proofs.lemmas.Bool.Decides.{nat_tests}
-use Rattle.std.proofs.Common.{arith, ◌≡◌, ℕ, true, false, nat_eq, Option, Some, ap, sym, ◌∙◌}
-use Rattle.std.proofs.lemmas.Grind.{common_steps}
-use Rattle.std.specs.Option.{option_eq}
-use Rattle.rec_offences.specs.Inclusion.{path_of}
-use Rattle.rec_includes.specs.Forest.{cut}
+use Rattle.rec_offences.proofs.Common.{nat_tests, arith, ◌≡◌, ℕ, true, false, nat_eq, Option, Some, ap, sym, ◌∙◌, common_steps, option_eq, path_of, cut}
 use Rattle.rec_offences.proofs.Levels.{cut_further, cut_none, cut_there, no_level}
 use Rattle.rec_offences.proofs.inclusion.Inclusion.return_to.Goals as goal
 

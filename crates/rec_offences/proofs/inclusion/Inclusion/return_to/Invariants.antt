@@ -1,7 +1,4 @@
-use Rattle.std.proofs.Common.{◌≡◌, ℕ, List, length}
-use Rattle.rec_reader.specs.declared.syntax_tree.Specification.{Specification}
-use Rattle.rec_offences.specs.Inclusion.{IsAtLevel, path_of}
-use Rattle.rec_includes.specs.Forest.{cut}
+use Rattle.rec_offences.proofs.Common.{◌≡◌, ℕ, List, length, Specification, IsAtLevel, path_of, cut}
 use Rattle.rec_offences.proofs.inclusion.Inclusion.return_to.Given as goal
 
 abbrev pub invariant-loop-last : goal.invariant-loop-last

@@ -1,6 +1,4 @@
-use Rattle.std.proofs.Common.{◌≡◌, drop, length}
-use Rattle.rec_offences.specs.Faults.{least_with, of_kind}
-use Rattle.rec_offences.specs.Walked.{clashing_sorts}
+use Rattle.rec_offences.proofs.Common.{◌≡◌, drop, length, least_with, of_kind, clashing_sorts}
 use Rattle.rec_offences.proofs.offences.heads.note_clashing.Given as goal
 
 abbrev pub invariant-loop-sort : goal.invariant-loop-sort

@@ -1,9 +1,4 @@
-use Rattle.std.proofs.Common.{◌≡◌, [], drop, false}
-use Rattle.std.specs.List.{flat_map}
-use Rattle.rec_offences.specs.Scope.{visits}
-use Rattle.rec_offences.specs.Offences.{terms_of}
-use Rattle.rec_offences.specs.Faults.{least_with}
-use Rattle.rec_offences.specs.Walked.{at_side}
+use Rattle.rec_offences.proofs.Common.{◌≡◌, [], drop, false, flat_map, visits, terms_of, least_with, at_side}
 use Rattle.rec_offences.proofs.offences.heads.note_rules.Given as goal
 
 abbrev pub invariant-loop-rule : goal.invariant-loop-rule

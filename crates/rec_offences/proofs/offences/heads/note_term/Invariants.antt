@@ -1,8 +1,4 @@
-use Rattle.std.proofs.Common.{◌≡◌, [], drop}
-use Rattle.std.specs.List.{flat_map}
-use Rattle.rec_offences.specs.Scope.{visits}
-use Rattle.rec_offences.specs.Faults.{least_with}
-use Rattle.rec_offences.specs.Walked.{arguments_of, at_side, heads_on}
+use Rattle.rec_offences.proofs.Common.{◌≡◌, [], drop, flat_map, visits, least_with, arguments_of, at_side, heads_on}
 use Rattle.rec_offences.proofs.offences.heads.note_term.Given as goal
 
 abbrev pub invariant-loop-node : goal.invariant-loop-node

@@ -1,8 +1,4 @@
-use Rattle.std.proofs.Common.{◌≡◌, [], drop, true}
-use Rattle.std.specs.List.{flat_map}
-use Rattle.rec_offences.specs.Scope.{visits}
-use Rattle.rec_offences.specs.Faults.{least_with}
-use Rattle.rec_offences.specs.Walked.{at_side}
+use Rattle.rec_offences.proofs.Common.{◌≡◌, [], drop, true, flat_map, visits, least_with, at_side}
 use Rattle.rec_offences.proofs.offences.heads.note_values.Given as goal
 
 abbrev pub invariant-loop-term : goal.invariant-loop-term

@@ -1,7 +1,4 @@
-use Rattle.std.proofs.Common.{◌≡◌, drop}
-use Rattle.std.specs.List.{filter}
-use Rattle.rec_offences.specs.Offences.{is_long}
-use Rattle.rec_offences.specs.Faults.{least_with, of_kind}
+use Rattle.rec_offences.proofs.Common.{◌≡◌, drop, filter, is_long, least_with, of_kind}
 use Rattle.rec_offences.proofs.offences.limits.note_long.Given as goal
 
 abbrev pub invariant-loop-name : goal.invariant-loop-name

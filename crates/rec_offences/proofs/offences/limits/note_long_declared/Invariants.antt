@@ -1,6 +1,4 @@
-use Rattle.std.proofs.Common.{◌≡◌, drop}
-use Rattle.rec_offences.specs.Faults.{least_with}
-use Rattle.rec_offences.specs.Grouped.{long_declared}
+use Rattle.rec_offences.proofs.Common.{◌≡◌, drop, least_with, long_declared}
 use Rattle.rec_offences.proofs.offences.limits.note_long_declared.Given as goal
 
 abbrev pub invariant-loop-specification : goal.invariant-loop-specification

@@ -1,7 +1,4 @@
-use Rattle.std.proofs.Common.{◌≡◌, drop}
-use Rattle.std.specs.List.{filter, flat_map}
-use Rattle.rec_offences.specs.Offences.{is_long, names_in_declaration}
-use Rattle.rec_offences.specs.Faults.{least_with, of_kind}
+use Rattle.rec_offences.proofs.Common.{◌≡◌, drop, filter, flat_map, is_long, names_in_declaration, least_with, of_kind}
 use Rattle.rec_offences.proofs.offences.limits.note_long_in_declarations.Given as goal
 
 abbrev pub invariant-loop-declaration : goal.invariant-loop-declaration

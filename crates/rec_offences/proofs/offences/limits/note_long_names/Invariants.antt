@@ -1,8 +1,4 @@
-use Rattle.std.proofs.Common.{◌≡◌, drop}
-use Rattle.std.specs.List.{filter, flat_map}
-use Rattle.rec_offences.specs.Scope.{heads}
-use Rattle.rec_offences.specs.Offences.{is_long, names_in_variables, terms_of}
-use Rattle.rec_offences.specs.Faults.{least_with, of_kind}
+use Rattle.rec_offences.proofs.Common.{◌≡◌, drop, filter, flat_map, heads, is_long, names_in_variables, terms_of, least_with, of_kind}
 use Rattle.rec_offences.proofs.offences.limits.note_long_names.Given as goal
 
 abbrev pub invariant-loop-variables : goal.invariant-loop-variables

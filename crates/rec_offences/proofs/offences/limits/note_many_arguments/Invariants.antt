@@ -1,7 +1,4 @@
-use Rattle.std.proofs.Common.{◌≡◌, drop, slice_get}
-use Rattle.std.specs.List.{flat_map}
-use Rattle.std.specs.Option.{option_to_list}
-use Rattle.rec_offences.specs.Faults.{least_with, of_kind}
+use Rattle.rec_offences.proofs.Common.{◌≡◌, drop, slice_get, flat_map, option_to_list, least_with, of_kind}
 use Rattle.rec_offences.proofs.offences.limits.note_many_arguments.Given as goal
 
 abbrev pub invariant-loop-declaration : goal.invariant-loop-declaration

@@ -1,8 +1,4 @@
-use Rattle.std.proofs.Common.{◌≡◌, ◌++◌, drop}
-use Rattle.rec_offences.specs.Scope.{names_of}
-use Rattle.rec_offences.specs.Offences.{repeated}
-use Rattle.rec_offences.specs.Faults.{least_with, of_kind}
-use Rattle.rec_offences.specs.Known.{entries_of}
+use Rattle.rec_offences.proofs.Common.{◌≡◌, ◌++◌, drop, names_of, repeated, least_with, of_kind, entries_of}
 use Rattle.rec_offences.proofs.offences.repeated.declare.Given as goal
 
 abbrev pub invariant-loop-signature : goal.invariant-loop-signature

@@ -1,6 +1,4 @@
-use Rattle.std.proofs.Common.{◌≡◌, drop, map}
-use Rattle.std.specs.List.{filter}
-use Rattle.rec_offences.specs.Faults.{least_with, of_kind}
+use Rattle.rec_offences.proofs.Common.{◌≡◌, drop, map, filter, least_with, of_kind}
 use Rattle.rec_offences.proofs.offences.repeated.note_clashing_entries.Given as goal
 
 abbrev pub invariant-loop-verdict : goal.invariant-loop-verdict

@@ -1,6 +1,4 @@
-use Rattle.std.proofs.Common.{◌≡◌, drop}
-use Rattle.rec_offences.specs.Offences.{repeated}
-use Rattle.rec_offences.specs.Faults.{least_with, of_kind}
+use Rattle.rec_offences.proofs.Common.{◌≡◌, drop, repeated, least_with, of_kind}
 use Rattle.rec_offences.proofs.offences.repeated.note_repeated.Given as goal
 
 abbrev pub invariant-loop-name : goal.invariant-loop-name

@@ -1,7 +1,4 @@
-use Rattle.std.proofs.Common.{◌≡◌, drop}
-use Rattle.std.specs.List.{flat_map}
-use Rattle.rec_offences.specs.Offences.{clashing_side}
-use Rattle.rec_offences.specs.Faults.{least_with, of_kind}
+use Rattle.rec_offences.proofs.Common.{◌≡◌, drop, flat_map, clashing_side, least_with, of_kind}
 use Rattle.rec_offences.proofs.offences.sides.note_clashing_in_rule.Given as goal
 
 abbrev pub invariant-loop-condition : goal.invariant-loop-condition

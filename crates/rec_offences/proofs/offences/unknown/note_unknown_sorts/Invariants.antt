@@ -1,7 +1,4 @@
-use Rattle.std.proofs.Common.{◌≡◌, drop, not}
-use Rattle.std.specs.List.{filter}
-use Rattle.rec_includes.specs.Names.{is_among}
-use Rattle.rec_offences.specs.Faults.{least_with, of_kind}
+use Rattle.rec_offences.proofs.Common.{◌≡◌, drop, not, filter, is_among, least_with, of_kind}
 use Rattle.rec_offences.proofs.offences.unknown.note_unknown_sorts.Given as goal
 
 abbrev pub invariant-loop-sort : goal.invariant-loop-sort

@@ -1,5 +1,4 @@
-use Rattle.std.proofs.Common.{◌≡◌, ◌∷◌, [], ◌++◌, drop, map}
-use Rattle.std.specs.List.{flat_map}
+use Rattle.rec_offences.proofs.Common.{◌≡◌, ◌∷◌, [], ◌++◌, drop, map, flat_map}
 use Rattle.rec_offences.proofs.offences.unknown.used_sorts.Given as goal
 
 abbrev pub invariant-loop-declaration : goal.invariant-loop-declaration

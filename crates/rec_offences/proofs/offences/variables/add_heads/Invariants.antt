@@ -1,5 +1,4 @@
-use Rattle.std.proofs.Common.{◌≡◌, ◌++◌, drop}
-use Rattle.rec_offences.specs.Scope.{heads}
+use Rattle.rec_offences.proofs.Common.{◌≡◌, ◌++◌, drop, heads}
 use Rattle.rec_offences.proofs.offences.variables.add_heads.Given as goal
 
 abbrev pub invariant-loop-node : goal.invariant-loop-node

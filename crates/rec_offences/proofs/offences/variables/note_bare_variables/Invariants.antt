@@ -1,8 +1,4 @@
-use Rattle.std.proofs.Common.{◌≡◌, drop}
-use Rattle.std.specs.List.{filter, flat_map}
-use Rattle.std.specs.Option.{option_to_list}
-use Rattle.rec_offences.specs.Scope.{is_variable, root}
-use Rattle.rec_offences.specs.Faults.{least_with, of_kind}
+use Rattle.rec_offences.proofs.Common.{◌≡◌, drop, filter, flat_map, option_to_list, is_variable, root, least_with, of_kind}
 use Rattle.rec_offences.proofs.offences.variables.note_bare_variables.Given as goal
 
 abbrev pub invariant-loop-rule : goal.invariant-loop-rule

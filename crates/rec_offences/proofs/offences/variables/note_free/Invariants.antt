@@ -1,8 +1,4 @@
-use Rattle.std.proofs.Common.{◌≡◌, drop, not, ◌&&◌}
-use Rattle.std.specs.List.{filter}
-use Rattle.rec_includes.specs.Names.{is_among}
-use Rattle.rec_offences.specs.Scope.{is_variable, heads}
-use Rattle.rec_offences.specs.Faults.{least_with, of_kind}
+use Rattle.rec_offences.proofs.Common.{◌≡◌, drop, not, ◌&&◌, filter, is_among, is_variable, heads, least_with, of_kind}
 use Rattle.rec_offences.proofs.offences.variables.note_free.Given as goal
 
 abbrev pub invariant-loop-node : goal.invariant-loop-node

@@ -1,7 +1,4 @@
-use Rattle.std.proofs.Common.{◌≡◌, drop}
-use Rattle.std.specs.List.{flat_map}
-use Rattle.rec_offences.specs.Faults.{least_with, of_kind}
-use Rattle.rec_offences.specs.Visited.{free_variables_of}
+use Rattle.rec_offences.proofs.Common.{◌≡◌, drop, flat_map, least_with, of_kind, free_variables_of}
 use Rattle.rec_offences.proofs.offences.variables.note_free_variables.Given as goal
 
 abbrev pub invariant-loop-rule : goal.invariant-loop-rule

@@ -1,5 +1,4 @@
-use Rattle.std.proofs.Common.{◌≡◌, ◌++◌, drop}
-use Rattle.rec_offences.specs.Known.{entries_of}
+use Rattle.rec_offences.proofs.Common.{◌≡◌, ◌++◌, drop, entries_of}
 use Rattle.rec_offences.proofs.scope.Scope.add_all.Given as goal
 
 abbrev pub invariant-loop-signature : goal.invariant-loop-signature

@@ -1,6 +1,4 @@
-use Rattle.std.proofs.Common.{arith}
-use Rattle.std.proofs.lemmas.Grind.{common_steps}
-use Rattle.std.proofs.lemmas.List.{take-map}
+use Rattle.rec_offences.proofs.Common.{arith, common_steps, take-map}
 use Rattle.rec_offences.proofs.scope.Scope.truncate.Goals as goal
 
 pub invariant_of-self : goal.invariant_of-self
