@@ -1,27 +1,8 @@
 -- An input without offence is spelled.
-use Rattle.std.proofs.Common.{rules, ◌≡◌, ℕ, ◌-◌, ◌<◌, ◌≤◌, true, ◌&&◌, List, [], ◌∷◌, ◌++◌, length, take, slice_get, Option, Some, None, is_some, All, refl, sym, ap, subst, ◌∙◌, arith, length-append}
-use Rattle.std.specs.Prelude.{nat_lt, nat_le, if◌then◌else◌}
-use Rattle.std.specs.Option.{option_to_list}
-use Rattle.std.specs.List.{list_all, flat_map}
-use Rattle.std.proofs.lemmas.Bool.Decides.{nat_tests}
-use Rattle.std.proofs.lemmas.List.{append_assoc}
-use Rattle.std.proofs.lemmas.List.Elements.{All-nil, All-cons, All-head, All-tail, All-weaker, All-append}
-use Rattle.std.proofs.lemmas.List.Folds.{list_all-append}
-use Rattle.std.proofs.lemmas.Grind.{flat_map-append}
-use Rattle.symbol_pool.specs.Pool.{Named}
+use Rattle.rec_check.proofs.Common.{rules, ◌≡◌, ℕ, ◌-◌, ◌<◌, ◌≤◌, true, List, [], ◌∷◌, ◌++◌, length, take, slice_get, Option, Some, is_some, All, refl, sym, ap, subst, ◌∙◌, arith, length-append, nat_lt, list_all, flat_map, nat_tests, append_assoc, All-nil, All-head, All-tail, All-weaker, All-push, list_all-append, flat_map-append, Named, Specification, Parsed, HasWholeTerms, Header, symbols_by, specifications_at, headers_of, material_of, offences_after, offences_from, headers_more, headers_counted, ◌>>=◌, named_in, with_symbols, Specified, terms_in, with_few_rules, last_of, spelled_in}
 use Rattle.symbol_pool.proofs.Places.{slice_get-append}
-use Rattle.rec_reader.specs.declared.syntax_tree.Specification.{Specification}
-use Rattle.rec_reader.specs.Parsed.{Parsed}
-use Rattle.rec_reader.specs.Whole.{HasWholeTerms}
-use Rattle.rec_includes.specs.Material.{Header, symbols_by, specifications_at, included, headers_of, header_after, material_of}
-use Rattle.rec_offences.specs.Faults.{offences_after, offences_from}
-use Rattle.rec_includes.proofs.Gathered.{headers_more, headers_counted}
 use Rattle.rec_includes.proofs.Brought.{material_is}
-use Rattle.rec_check.specs.Rule.{◌>>=◌}
-use Rattle.rec_check.specs.Symbols.{named_in, with_symbols}
-use Rattle.rec_check.specs.Spelled.{Specified, rules_of, terms_in, with_few_rules, most_rules}
-use Rattle.rec_check.specs.Run.{last_of, spelled_with, spelled_in}
-use Rattle.rec_check.proofs.Chains.{goes}
+use Rattle.rec_check.specs.Spelled.{rules_of}
 use Rattle.rec_check.proofs.Readable.{rules_spelled, length-rules, terms_spelled, TermReads}
 use Rattle.rec_check.proofs.Faultless.{left_empty, right_empty, Faultless, faultless, material}
 use Rattle.rec_check.proofs.Sound.{all_added}
@@ -63,14 +44,10 @@ module _ (bytes : List ℕ) where
     run_material = material bytes earlier s ++ length earlier ∷ []
 
     is_run_material : material_of bytes now (length earlier) ≡ run_material
-    is_run_material =
-        material_is bytes now (length earlier) s (at_end earlier s)
-        ∙ ap (λ ss. included bytes (headers_of bytes ss) s.includes ++ length earlier ∷ []) (all_before earlier s)
+    is_run_material = grind (arith, material_is bytes now (length earlier) s (at_end earlier s), all_before earlier s)
 
     whole_material : specifications_at now run_material ≡ specifications_at earlier (material bytes earlier s) ++ s ∷ []
-    whole_material =
-        flat_map-append (λ n. option_to_list (slice_get now n)) (material bytes earlier s) (length earlier ∷ [])
-        ∙ (λ i. still_at earlier (s ∷ []) (material bytes earlier s) inner.within i ++ (option_to_list (at_end earlier s i) ++ []))
+    whole_material = grind (arith, flat_map-append, still_at earlier (s ∷ []) (material bytes earlier s) inner.within, at_end earlier s)
 
     together : Together bytes (specifications_at earlier (material bytes earlier s) ++ s ∷ [])
     together = together_more bytes earlier s f w (together_of bytes earlier (material bytes earlier s) inner)
@@ -81,19 +58,14 @@ module _ (bytes : List ℕ) where
         let l : length earlier ≤ length now = omega arith in
         let k : length earlier < length now = omega arith in
         let e2 : nat_lt (length earlier) (length now) ≡ true = grind (arith, nat_tests) in
-        sound_of bytes now run_material (specifications_at earlier (material bytes earlier s) ++ s ∷ [])
-        (list_all-append (λ n. nat_lt n (length now)) (material bytes earlier s) (length earlier ∷ [])
-        ∙ (λ i. still_within (length earlier) (length now) (material bytes earlier s) l inner.within i && (e2 i && true)))
-        whole_material together
+        let within : list_all (λ n. nat_lt n (length now)) run_material ≡ true = grind (arith, list_all-append, still_within (length earlier) (length now) (material bytes earlier s) l inner.within, e2) in
+        sound_of bytes now run_material _ within whole_material together
 
     next_stands : All (λ h. IsSound bytes now h.material) (headers_of bytes now)
     next_stands =
-        let own : IsSound bytes now (header_after bytes (headers_of bytes earlier) s).material =
-        subst (λ n. IsSound bytes now (material bytes earlier s ++ n ∷ [])) (sym (headers_counted bytes earlier)) own_sound in
-        subst (All (λ h. IsSound bytes now h.material)) (sym (headers_more bytes earlier s))
-        (All-append (λ h. IsSound bytes now h.material) (headers_of bytes earlier) (header_after bytes (headers_of bytes earlier) s ∷ [])
-        (All-weaker (λ h. IsSound bytes earlier h.material) (λ h. IsSound bytes now h.material) kept (headers_of bytes earlier) all)
-        (All-cons (λ h. IsSound bytes now h.material) (header_after bytes (headers_of bytes earlier) s) [] own (All-nil (λ h. IsSound bytes now h.material))))
+        let P : Header → Type 0 = λ h. IsSound bytes now h.material in
+        let own = subst (λ n. IsSound bytes now (material bytes earlier s ++ n ∷ [])) (sym (headers_counted bytes earlier)) own_sound in
+        subst (All P) (sym (headers_more bytes earlier s)) (All-push P (headers_of bytes earlier) _ (All-weaker (λ h. IsSound bytes earlier h.material) P kept (headers_of bytes earlier) all) own)
 
     -- what the last specification spells
     abbrev parts : List Specification → Option Specified
@@ -108,21 +80,11 @@ module _ (bytes : List ℕ) where
         let symbols = named_in bytes ds in
         let few_symbols = together.few_symbols in
         let few_rules = together.few_rules in
-        let a : with_symbols [] symbols ≡ Some symbols = all_added bytes [] ds together.distinct together.few (omega arith) in
-        let b = rules_spelled bytes symbols us together.reads in
+        let a = all_added bytes [] ds together.distinct together.few (omega arith) in
         let terms : All (TermReads bytes symbols []) s.terms =
         let P : List Named → Type 0 = λ ns. All (TermReads bytes ns []) s.terms in
         subst P (ap (named_in bytes) (sym (more_symbols bytes earlier s f w))) (terms_of_last bytes earlier s f w (together_of bytes earlier (material bytes earlier s) inner)) in
-        let c = terms_spelled bytes symbols s.terms terms in
-        let len : length b.0 ≡ length (flat_map (λ t. t.rules) us) = length-rules bytes symbols us b.0 b.1 in
-        let few : nat_le (length b.0) most_rules ≡ true = grind (arith, nat_tests) in
-        let made : Specified = record { symbols = symbols; rules = b.0; terms = c.0 } in
-        let all_parts : parts us ≡ Some made =
-        goes (with_symbols [] symbols) symbols (λ symbols. rules_of bytes symbols us >>= λ rules. terms_in bytes symbols s.terms >>= λ trees. with_few_rules (record { symbols = symbols; rules = rules; terms = trees })) a
-        ∙ goes (rules_of bytes symbols us) b.0 (λ rules. terms_in bytes symbols s.terms >>= λ trees. with_few_rules (record { symbols = symbols; rules = rules; terms = trees })) b.1
-        ∙ goes (terms_in bytes symbols s.terms) c.0 (λ trees. with_few_rules (record { symbols = symbols; rules = b.0; terms = trees })) c.1
-        ∙ ap (λ t. if t then Some made else None) few in
-        ap is_some all_parts
+        grind (arith, nat_tests, a, rules_spelled bytes symbols us together.reads, terms_spelled bytes symbols s.terms terms, length-rules bytes symbols us)
 
     last_spelled : is_some (spelled_in (record { bytes = bytes; specifications = now })) ≡ true
     last_spelled =
@@ -130,10 +92,7 @@ module _ (bytes : List ℕ) where
         let e = length-append earlier (s ∷ []) in
         let k : length now - 1 ≡ length earlier = omega arith in
         let at : last_of now ≡ Some s = ap (slice_get now) k ∙ at_end earlier s in
-        ap (λ o. is_some (spelled_with S o)) at
-        ∙ ap (λ ms. is_some (parts (specifications_at now ms))) (ap (material_of bytes now) k ∙ is_run_material)
-        ∙ ap (λ us. is_some (parts us)) whole_material
-        ∙ parts_spelled
+        grind (arith, at, k, is_run_material, whole_material, parts_spelled)
 
   accepted_from : (earlier : List Specification) (s : Specification) (ss : List Specification) → All (λ h. IsSound bytes earlier h.material) (headers_of bytes earlier) → offences_from bytes earlier (s ∷ ss) ≡ []
       → All HasWholeTerms (s ∷ ss) → is_some (spelled_in (record { bytes = bytes; specifications = earlier ++ s ∷ ss })) ≡ true

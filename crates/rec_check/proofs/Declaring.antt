@@ -1,29 +1,11 @@
 -- Names and symbols added one after another.
-use Rattle.std.proofs.lemmas.Bool.Decides.{nat_tests}
-use Rattle.std.proofs.Common.{arith, ◌≡◌, ℕ, ◌+◌, ◌<◌, length, get_or, drop, List, [], ◌∷◌, ◌++◌, Option, Some, None, true, false, is_some, refl, sym, ap, ◌∙◌, suc, Bool, cond, ◌||◌, map, position, zero, not, ◌&&◌, filter, slice_get, max, nat_lt, rules, Result, OnOk}
-use Rattle.std.specs.Prelude.{option_and_then, if◌then◌else◌, nat_le}
-use Rattle.std.specs.Option.{option_map, option_to_list}
-use Rattle.std.proofs.lemmas.List.{append_assoc, append-nil, at_drop_more, map-append}
-use Rattle.rec_check.specs.Term.{after, all_of, same_symbol, most_arguments}
-use Rattle.std.specs.List.{list_any, flat_map}
-use Rattle.std.specs.Str.{bytes_eq}
-use Rattle.rec_reader.specs.declared.token.Name.{Name}
+use Rattle.rec_check.proofs.Common.{nat_tests, arith, ◌≡◌, ℕ, ◌+◌, ◌<◌, length, get_or, drop, List, [], ◌∷◌, ◌++◌, Option, Some, None, true, false, is_some, refl, sym, ap, ◌∙◌, suc, Bool, cond, ◌||◌, map, position, zero, not, ◌&&◌, slice_get, max, rules, Result, OnOk, option_and_then, if◌then◌else◌, nat_le, option_map, append_assoc, at_drop_more, map-append, after, all_of, same_symbol, most_arguments, list_any, flat_map, bytes_eq, Name, text_of, is_among, Listing, listing, texts, with_new, place_in, variable, Declared, declared, with_name, with_names, Named, named, most_symbols, Lacks, Node, Specification, named_in, may_be_added, with_symbol, with_symbols, widest_of, Entry, symbol_entry, entry_of, entries_of, drop_at, Rule, rule_in, rules_in}
+use Rattle.std.proofs.Common.{filter, nat_lt}
 use Rattle.rec_reader.specs.declared.syntax_tree.Variables.{Variables}
-use Rattle.rec_includes.specs.Names.{text_of, is_among}
-use Rattle.rec_includes.specs.Listing.{Listing, listing, texts, with_new, place_in}
-use Rattle.rec_includes.specs.Material.{variable, variables_of, Declared, declared, symbols_of_declaration, symbols_by, specifications_at}
-use Rattle.rec_check.specs.Named.{with_name, with_names}
-use Rattle.std.proofs.lemmas.Grind.{common_steps, flat_map-append}
-use Rattle.std.specs.Cmp.{first_so, second_so}
-use Rattle.symbol_pool.specs.Pool.{Named, named, most_symbols, Lacks}
-use Rattle.rec_reader.specs.declared.syntax_tree.Node.{Node}
-use Rattle.rec_reader.specs.declared.syntax_tree.Declaration.{Declaration}
-use Rattle.rec_reader.specs.declared.syntax_tree.Specification.{Specification}
-use Rattle.rec_check.specs.Symbols.{named_in, may_be_added, with_symbol, with_symbols, widest_of}
+use Rattle.rec_includes.specs.Material.{variables_of}
+use Rattle.std.specs.Cmp.{second_so}
+use Rattle.rec_offences.specs.declared.signatures.Signature.{Signature}
 use Rattle.rec_check.proofs.Heads.{same_self}
-use Rattle.rewrite_model.specs.Rule.{Rule}
-use Rattle.rec_check.specs.Rule.{rule_in}
-use Rattle.rec_check.specs.Spelled.{rules_in}
 use Rattle.rec_reader.specs.declared.syntax_tree.Rule as written_rule
 
 -- ---- spelling each of a list, one after another
@@ -77,11 +59,7 @@ module _ (l : Listing) (n : Name) where
   same_bytes = grind (arith, nat_tests)
 
   pub new_text : texts (with_new l n) ≡ with_name (texts l) (text_of l.bytes n)
-  new_text = by (is_among l.bytes l.names n) (any_name l.bytes (bytes_eq (text_of l.bytes n)) l.names)
-    where
-      by : (b : Bool) → b ≡ list_any (bytes_eq (text_of l.bytes n)) (texts l) → texts (if b then l else listing l.bytes (l.names ++ n ∷ [])) ≡ with_name (texts l) (text_of l.bytes n)
-      by true e = ap (λ b. if b then texts l else texts l ++ text_of l.bytes n ∷ []) e
-      by false e = map-append (λ n. text_of l.bytes n) l.names (n ∷ []) ∙ ap (λ b. if b then texts l else texts l ++ text_of l.bytes n ∷ []) e
+  new_text = grind (arith, nat_tests, any_name l.bytes (bytes_eq (text_of l.bytes n)) l.names, map-append (λ n. text_of l.bytes n) l.names (n ∷ []))
 
 -- ---- the variables of a left side
 
@@ -121,19 +99,12 @@ module _ (pool : List Named) (s : Named) (h : is_some (with_symbol pool s) ≡ t
   is_new = second_so (nat_le s.arity most_arguments) (not (list_any (same_symbol s) pool) && nat_lt (length pool) most_symbols) may
 
   pub lacks : Lacks pool s
-  lacks i at = let e = first_so (not (list_any (same_symbol s) pool)) (nat_lt (length pool) most_symbols) is_new in not_among pool i at e
+  lacks i at = not_among pool i at (grind (arith, nat_tests, is_new))
     where
       not_among : (ts : List Named) (i : ℕ) → slice_get ts i ≡ Some s → not (list_any (same_symbol s) ts) ≡ true → ⊥
       not_among [] i at e = cc
-      not_among (t ∷ ts) zero at e =
-          let same : t ≡ s = cc in
-          let bad : false ≡ true = sym (ap (λ b. not (b || list_any (same_symbol s) ts)) (ap (same_symbol s) same ∙ same_self s)) ∙ e in
-          cc
-      not_among (t ∷ ts) (suc i) at e = by (same_symbol s t) e (not_among ts i at)
-        where
-          by : (b : Bool) → not (b || list_any (same_symbol s) ts) ≡ true → (not (list_any (same_symbol s) ts) ≡ true → ⊥) → ⊥
-          by true e on = let bad : false ≡ true = e in cc
-          by false e on = on e
+      not_among (t ∷ ts) zero at e = grind (arith, nat_tests, same_self s)
+      not_among (t ∷ ts) (suc i) at e = grind (arith, nat_tests, not_among ts i at)
 
   pub comes_last : (new : List Named) → new ≡ pool ++ s ∷ [] → with_symbol pool s ≡ Some new
   comes_last new e = ap (λ b. if b then Some (pool ++ s ∷ []) else None) may ∙ ap Some (sym e)
@@ -142,95 +113,27 @@ pub widest_of-push : (ss : List Named) (s : Named) → widest_of (ss ++ s ∷ []
 widest_of-push [] s = omega arith
 widest_of-push (t ∷ ss) s = let r = widest_of-push ss s in omega arith
 
--- ---- symbols in two lists
+-- ---- the symbols of a material, one after another
 
-pub with_symbols-append : (pool xs ys : List Named) → with_symbols pool (xs ++ ys) ≡ option_and_then (λ p. with_symbols p ys) (with_symbols pool xs)
-with_symbols-append pool [] ys = refl
-with_symbols-append pool (x ∷ xs) ys = by (with_symbol pool x) (λ p. with_symbols-append p xs ys)
-  where
-    by : (o : Option (List Named)) → ((p : List Named) → with_symbols p (xs ++ ys) ≡ option_and_then (λ q. with_symbols q ys) (with_symbols p xs))
-        → option_and_then (λ more. with_symbols more (xs ++ ys)) o ≡ option_and_then (λ p. with_symbols p ys) (option_and_then (λ more. with_symbols more xs) o)
-    by None h = refl
-    by (Some p) h = h p
+-- a declared symbol by its name and its number of arguments
+abbrev pub named_by : List ℕ → Entry → Named
+named_by text e = named (text_of text e.declared.name) (length e.declared.arguments)
 
-named-flat : {X : Type 0} (text : List ℕ) (f : X → List Declared) (xs : List X) → named_in text (flat_map f xs) ≡ flat_map (λ x. named_in text (f x)) xs
-named-flat text f [] = refl
-named-flat text f (x ∷ xs) = grind (arith, nat_tests, named-flat text f xs, map-append)
+pub entries_named : (text : List ℕ) (ds : List Declared) → map (named_by text) (map symbol_entry ds) ≡ named_in text ds
+entries_named text [] = refl
+entries_named text (d ∷ ds) = ap (λ more. named (text_of text d.name) (length d.arguments) ∷ more) (entries_named text ds)
 
--- what adding the symbols of each of a list, from a place on, comes to
-module _ {X : Type 0} (f : X → List Named) (xs : List X) (i : ℕ) (d : X) (l : i < length xs) (pool : List Named) where
-  step_on : with_symbols pool (flat_map f (drop i xs)) ≡ option_and_then (λ p. with_symbols p (flat_map f (drop (i + 1) xs))) (with_symbols pool (f (get_or xs i d)))
-  step_on = at_drop_more (λ rest. with_symbols pool (flat_map f rest)) xs i d l ∙ with_symbols-append pool (f (get_or xs i d)) (flat_map f (drop (i + 1) xs))
+-- from a place on
+module _ (text : List ℕ) (items : List Signature) (i : ℕ) (s : Signature) (pool : List Named) (total : Option (List Named)) (l : i < length items) (is : s ≡ get_or items i s)
+    (was : with_symbols pool (map (named_by text) (entries_of (drop i items))) ≡ total) where
+  at_symbol : with_symbols pool (named_by text (entry_of s) ∷ map (named_by text) (entries_of (drop (i + 1) items))) ≡ total
+  at_symbol = grind (arith, drop_at items i s)
 
-  pub adds : (new : List Named) → with_symbols pool (f (get_or xs i d)) ≡ Some new → with_symbols new (flat_map f (drop (i + 1) xs)) ≡ with_symbols pool (flat_map f (drop i xs))
-  adds new e = sym (step_on ∙ ap (λ o. option_and_then (λ p. with_symbols p (flat_map f (drop (i + 1) xs))) o) e)
+  pub symbol_known_next : is_some total ≡ true → is_some (with_symbol pool (named_by text (entry_of s))) ≡ true
+  symbol_known_next h = grind (arith, nat_tests, at_symbol)
 
-  pub adds_not : with_symbols pool (f (get_or xs i d)) ≡ None → with_symbols pool (flat_map f (drop i xs)) ≡ None
-  adds_not e = step_on ∙ ap (λ o. option_and_then (λ p. with_symbols p (flat_map f (drop (i + 1) xs))) o) e
-
-names_by : (text : List ℕ) (arguments : List Name) (sort : Name) (names : List Name) → named_in text (map (λ n. declared n arguments sort) names) ≡ map (λ n. named (text_of text n) (length arguments)) names
-names_by text arguments sort [] = refl
-names_by text arguments sort (n ∷ names) = ap (λ more. named (text_of text n) (length arguments) ∷ more) (names_by text arguments sort names)
-
--- the names of a declaration
-abbrev pub symbols_at : List ℕ → Declaration → List Named
-symbols_at text d = named_in text (symbols_of_declaration d)
-
-pub names_named : (text : List ℕ) (d : Declaration) → symbols_at text d ≡ map (λ n. named (text_of text n) (length d.arguments)) d.names
-names_named text d = names_by text d.arguments d.sort d.names
-
--- adding declarations, from a place on
-module _ (text : List ℕ) (ds : List Declaration) where
-  abbrev from : List Named → ℕ → Option (List Named)
-  from pool i = with_symbols pool (named_in text (flat_map symbols_of_declaration (drop i ds)))
-
-  apart : (pool : List Named) (i : ℕ) → from pool i ≡ with_symbols pool (flat_map (symbols_at text) (drop i ds))
-  apart pool i = ap (with_symbols pool) (named-flat text symbols_of_declaration (drop i ds))
-
-  module _ (i : ℕ) (l : i < length ds) (pool : List Named) (d : Declaration) (is : d ≡ get_or ds i d) (names : List Name) (named_so : names ≡ d.names) (arity : ℕ) (many : arity ≡ length d.arguments) where
-    named_here : with_symbols pool (map (λ n. named (text_of text n) arity) names) ≡ with_symbols pool (symbols_at text (get_or ds i d))
-    named_here = grind (arith, nat_tests, names_named)
-
-    pub declares : (new : List Named) → with_symbols pool (map (λ n. named (text_of text n) arity) names) ≡ Some new → from new (i + 1) ≡ from pool i
-    declares new e = apart new (i + 1) ∙ adds (symbols_at text) ds i d l pool new (sym named_here ∙ e) ∙ sym (apart pool i)
-
-    pub is_declared : is_some (from pool i) ≡ true → is_some (with_symbols pool (map (λ n. named (text_of text n) arity) names)) ≡ true
-    is_declared = is_part (with_symbols pool (map (λ n. named (text_of text n) arity) names)) (from pool i) (λ e. apart pool i ∙ adds_not (symbols_at text) ds i d l pool (sym named_here ∙ e))
-
--- adding the symbols of the specifications of a material, from a place on
-module _ (text : List ℕ) (specifications : List Specification) (material : List ℕ) where
-  abbrev from_material : List Named → ℕ → Option (List Named)
-  from_material pool i = with_symbols pool (named_in text (flat_map symbols_by (specifications_at specifications (drop i material))))
-
-  abbrev symbols_number : ℕ → List Named
-  symbols_number n = named_in text (flat_map symbols_by (option_to_list (slice_get specifications n)))
-
-  flat-flat : (ns : List ℕ) → named_in text (flat_map symbols_by (specifications_at specifications ns)) ≡ flat_map symbols_number ns
-  flat-flat [] = refl
-  flat-flat (n ∷ ns) = grind (arith, nat_tests, flat-flat ns, flat_map-append, map-append)
-
-  split : (pool : List Named) (i : ℕ) → from_material pool i ≡ with_symbols pool (flat_map symbols_number (drop i material))
-  split pool i = ap (with_symbols pool) (flat-flat (drop i material))
-
-  module _ (i : ℕ) (d : ℕ) (l : i < length material) (pool : List Named) where
-    found : (s : Specification) (ds : List Declaration) → Some s ≡ slice_get specifications (get_or material i d) → ds ≡ s.declarations → symbols_number (get_or material i d) ≡ named_in text (flat_map symbols_of_declaration ds)
-    found s ds e same = grind (arith, nat_tests, append-nil)
-
-    pub brings : (s : Specification) (ds : List Declaration) (new : List Named) → Some s ≡ slice_get specifications (get_or material i d) → ds ≡ s.declarations
-        → with_symbols pool (named_in text (flat_map symbols_of_declaration ds)) ≡ Some new → from_material new (i + 1) ≡ from_material pool i
-    brings s ds new e same h =
-        split new (i + 1)
-        ∙ adds symbols_number material i d l pool new (ap (with_symbols pool) (found s ds e same) ∙ h)
-        ∙ sym (split pool i)
-
-    pub is_brought : (s : Specification) (ds : List Declaration) → Some s ≡ slice_get specifications (get_or material i d) → ds ≡ s.declarations
-        → is_some (from_material pool i) ≡ true → is_some (with_symbols pool (named_in text (flat_map symbols_of_declaration ds))) ≡ true
-    is_brought s ds e same =
-        is_part (with_symbols pool (named_in text (flat_map symbols_of_declaration ds))) (from_material pool i)
-        (λ h. split pool i ∙ adds_not symbols_number material i d l pool (ap (with_symbols pool) (found s ds e same) ∙ h))
-
-    pub brings_nothing : None ≡ slice_get specifications (get_or material i d) → from_material pool (i + 1) ≡ from_material pool i
-    brings_nothing e = grind (arith, nat_tests, common_steps, split, adds)
+  pub symbol_next : (new : List Named) → with_symbol pool (named_by text (entry_of s)) ≡ Some new → with_symbols new (map (named_by text) (entries_of (drop (i + 1) items))) ≡ total
+  symbol_next new e = grind (arith, nat_tests, at_symbol)
 
 -- ---- the rules of a specification, with the variables that it declares
 

@@ -1,32 +1,12 @@
 -- A specification without offence, after others whose materials are sound: its own material is sound.
-use Rattle.std.proofs.lemmas.Bool.Decides.{nat_tests}
-use Rattle.std.proofs.Common.{rules, ◌≡◌, ℕ, ◌+◌, ◌-◌, ◌≤◌, Bool, true, false, eqb, not, ◌&&◌, ◌⊎◌, inl, inr, List, [], ◌∷◌, ◌++◌, length, map, slice_get, get_or, Option, Some, None, is_some, All, refl, sym, ap, subst, ◌∙◌, arith, position, length-append}
-use Rattle.std.specs.Prelude.{nat_le, nat_lt, if◌then◌else◌, option_and_then}
-use Rattle.std.specs.Option.{option_map, option_map_or, option_to_list}
-use Rattle.std.specs.List.{list_any, list_all, flat_map, filter}
-use Rattle.std.specs.Str.{bytes_eq}
-use Rattle.std.proofs.lemmas.List.{append_assoc, append-nil, map-append}
-use Rattle.std.proofs.lemmas.List.Elements.{All-nil, All-cons, All-head, All-tail, All-weaker, All-append}
-use Rattle.std.proofs.lemmas.List.Folds.{list_all-append}
-use Rattle.std.proofs.lemmas.Grind.{flat_map-append}
-use Rattle.symbol_pool.specs.Pool.{Named, named}
-use Rattle.rec_reader.specs.declared.token.Name.{Name}
-use Rattle.rec_reader.specs.declared.syntax_tree.Node.{Node}
+use Rattle.rec_check.proofs.Common.{nat_tests, rules, ◌≡◌, ℕ, ◌+◌, ◌-◌, ◌≤◌, Bool, true, false, eqb, not, ◌&&◌, ◌⊎◌, inl, inr, List, [], ◌∷◌, ◌++◌, length, map, slice_get, get_or, Option, Some, None, is_some, All, refl, sym, ap, subst, ◌∙◌, arith, length-append, nat_lt, if◌then◌else◌, option_and_then, option_map, option_map_or, option_to_list, list_any, list_all, flat_map, filter, bytes_eq, append_assoc, append-nil, map-append, All-nil, All-cons, All-head, All-tail, All-weaker, All-append, list_all-append, flat_map-append, Named, named, Name, Node, Specification, IsWhole, IsWholeRule, HasWholeTerms, text_of, is_among, Declared, symbols_by, variables_by, symbols_of, rules_of, specifications_at, headers_of, symbol_entry, variable_entry, own_entries, names_of, look_up, is_variable, heads, visits, includes_from, is_clashing, is_passing, repeated, first_past, most, terms_of, nodes_but_left, all_visits, unknown_name, wrong_count, unknown_names, wrong_counts, not_ground, variables_in, named_in, variables_of}
 use Rattle.rec_reader.specs.declared.syntax_tree.Rule.{Rule}
-use Rattle.rec_reader.specs.declared.syntax_tree.Specification.{Specification}
-use Rattle.rec_reader.specs.Whole.{IsWhole, IsWholeRule, HasWholeTerms}
-use Rattle.rec_includes.specs.Names.{text_of, is_among}
-use Rattle.rec_includes.specs.Material.{Declared, symbols_by, variables_by, symbols_of, rules_of, specifications_at, headers_of}
-use Rattle.rec_offences.specs.Scope.{symbol_entry, variable_entry, own_entries, names_of, look_up, is_variable, heads, root, visits}
-use Rattle.rec_offences.specs.Offences.{includes_from, is_clashing, is_passing, is_long, names_in as all_names_in, repeated, first_past, most, terms_of, nodes_but_left, all_visits, unknown_name, wrong_count, unknown_names, wrong_counts, not_ground}
-use Rattle.rec_check.specs.Rule.{variables_in}
-use Rattle.rec_check.specs.Symbols.{named_in}
-use Rattle.rec_check.specs.Spelled.{variables_of}
+use Rattle.rec_offences.specs.Scope.{root}
 use Rattle.rec_check.proofs.Faultless.{left_empty, right_empty, Faultless, headers, material, known, entries}
 use Rattle.rec_check.proofs.Heads.{place_if_any}
 use Rattle.rec_check.proofs.Sound.{repeated-append, few_arguments, Holds, Sound, sound_none, sound_entries, all_front, all_back, holds_first}
-use Rattle.rec_check.proofs.Readable.{TermReads, RuleReads, Reads, reads_more, All-at, last_node, none_of}
-use Rattle.rec_check.proofs.Judged.{all_empty, all_flat, all_filtered, visited, HeadSymbol, HeadVariable, classify, entries_of, option_empty, within_most, few_declared, all_pair, all_mapped, term_read, ground_read, heads_among, not_there}
+use Rattle.rec_check.proofs.Readable.{TermReads, RuleReads, Reads, reads_more, All-at, last_node}
+use Rattle.rec_check.proofs.Judged.{option_empty, all_empty, all_flat, all_filtered, visited, HeadSymbol, HeadVariable, classify, entries_of, within_most, few_declared, all_pair, all_mapped, term_read, ground_read, heads_among, not_there}
 
 -- what a list of specifications has together
 pub record Together (bytes : List ℕ) (ts : List Specification) : Type 0 where
@@ -87,65 +67,29 @@ module _ (bytes : List ℕ) (earlier : List Specification) (s : Specification) (
 
   -- ---- the limits
 
-  abbrev l_long : List Name
-  l_long = filter (is_long bytes) (all_names_in s)
-
-  abbrev l_arguments : List Name
-  l_arguments = flat_map (λ d. option_to_list (slice_get d.arguments 16)) s.declarations
-
-  abbrev l_symbols : List Name
-  l_symbols = map (λ d. d.name) (option_to_list (first_past (length before) (symbols_by s)))
-
-  abbrev l_rules : List Name
-  l_rules = option_to_list (option_and_then (λ r. root r.left) (first_past (length (rules_of earlier (material bytes earlier s))) s.rules))
-
-  abbrev l_terms : List Name
-  l_terms = option_to_list (option_and_then root (first_past 0 s.terms))
-
-  abbrev l_entries : List Name
-  l_entries = map (λ i. i.entry) (filter (is_passing earlier) (includes_from bytes (headers bytes earlier s) [] s.includes))
-
-  passing_none : l_entries ≡ []
-  passing_none = right_empty (l_long ++ l_arguments ++ l_symbols ++ l_rules ++ l_terms) l_entries f.past_none
-
-  to_rules : l_long ++ l_arguments ++ l_symbols ++ l_rules ≡ []
-  to_rules = left_empty (l_long ++ l_arguments ++ l_symbols ++ l_rules) l_terms (left_empty (l_long ++ l_arguments ++ l_symbols ++ l_rules ++ l_terms) l_entries f.past_none)
-
-  rules_none : l_rules ≡ []
-  rules_none = right_empty (l_long ++ l_arguments ++ l_symbols) l_rules to_rules
-
-  to_symbols : l_long ++ l_arguments ++ l_symbols ≡ []
-  to_symbols = left_empty (l_long ++ l_arguments ++ l_symbols) l_rules to_rules
-
-  symbols_none : l_symbols ≡ []
-  symbols_none = right_empty (l_long ++ l_arguments) l_symbols to_symbols
-
-  arguments_none : l_arguments ≡ []
-  arguments_none = right_empty l_long l_arguments (left_empty (l_long ++ l_arguments) l_symbols to_symbols)
+  passing_none : map (λ i. i.entry) (filter (is_passing earlier) (includes_from bytes (headers bytes earlier s) [] s.includes)) ≡ []
+  passing_none = right_empty _ _ f.past_none
 
   no_symbol_past : first_past (length before) (symbols_by s) ≡ None
-  no_symbol_past = grind (arith, nat_tests, symbols_none)
+  no_symbol_past =
+      let none : map (λ d. d.name) (option_to_list (first_past (length before) (symbols_by s))) ≡ [] = right_empty _ _ (left_empty _ _ (left_empty _ _ (left_empty _ _ f.past_none))) in
+      grind (arith, nat_tests, none)
+
+  arguments_none : flat_map (λ d. option_to_list (slice_get d.arguments 16)) s.declarations ≡ []
+  arguments_none = right_empty _ _ (left_empty _ _ (left_empty _ _ (left_empty _ _ (left_empty _ _ f.past_none))))
 
   -- a rule of a whole left side has a root
   rooted : (r : Rule) → IsWhole r.left → root r.left ≡ None → ⊥
   rooted r h e = grind (arith, nat_tests, last_node)
 
   no_rule_past : first_past (length (rules_of earlier (material bytes earlier s))) s.rules ≡ None
-  no_rule_past = by (nat_le (length (rules_of earlier (material bytes earlier s))) most) refl
+  no_rule_past = by (first_past (length (rules_of earlier (material bytes earlier s))) s.rules) refl (right_empty _ _ (left_empty _ _ (left_empty _ _ f.past_none)))
     where
-      k : ℕ
-      k = most - length (rules_of earlier (material bytes earlier s))
-
-      at : (o : Option Rule) → slice_get s.rules (most - length (rules_of earlier (material bytes earlier s))) ≡ o → option_and_then (λ r. root r.left) o ≡ None → o ≡ None
-      at None e h = refl
-      at (Some r) e h = absurd (rooted r (All-at bytes IsWholeRule s.rules (most - length (rules_of earlier (material bytes earlier s))) r w.rules e).left h)
-
-      by : (b : Bool) → nat_le (length (rules_of earlier (material bytes earlier s))) most ≡ b → first_past (length (rules_of earlier (material bytes earlier s))) s.rules ≡ None
-      by false e = ap (λ b. if b then slice_get s.rules (most - length (rules_of earlier (material bytes earlier s))) else None) e
-      by true e =
-          let here : first_past (length (rules_of earlier (material bytes earlier s))) s.rules ≡ slice_get s.rules (most - length (rules_of earlier (material bytes earlier s))) = ap (λ b. if b then slice_get s.rules (most - length (rules_of earlier (material bytes earlier s))) else None) e in
-          here ∙ at (slice_get s.rules (most - length (rules_of earlier (material bytes earlier s)))) refl
-          (ap (option_and_then (λ r. root r.left)) (sym here) ∙ option_empty (option_and_then (λ r. root r.left) (first_past (length (rules_of earlier (material bytes earlier s))) s.rules)) rules_none)
+      by : (o : Option Rule) → first_past (length (rules_of earlier (material bytes earlier s))) s.rules ≡ o → option_to_list (option_and_then (λ r. root r.left) o) ≡ [] → o ≡ None
+      by None e h = refl
+      by (Some r) e h =
+          let at : slice_get s.rules (most - length (rules_of earlier (material bytes earlier s))) ≡ Some r = grind (arith, nat_tests) in
+          absurd (rooted r (All-at bytes IsWholeRule s.rules _ r w.rules at).left (option_empty (root r.left) h))
 
   -- ---- the heads
 
@@ -155,23 +99,18 @@ module _ (bytes : List ℕ) (earlier : List Specification) (s : Specification) (
   abbrev all_terms : List (List Node)
   all_terms = flat_map terms_of s.rules ++ s.terms
 
-  known_at : All (λ v. unknown_name bytes (entries_of bytes all_symbols s) v ≡ []) (all_visits s)
-  known_at = all_empty (unknown_name bytes (entries_of bytes all_symbols s)) (all_visits s) (ap (λ es. unknown_names bytes es s) (sym regroup) ∙ f.unknown_none)
-
-  counted_at : All (λ v. wrong_count bytes (entries_of bytes all_symbols s) v ≡ []) (all_visits s)
-  counted_at = all_empty (wrong_count bytes (entries_of bytes all_symbols s)) (all_visits s) (ap (λ es. wrong_counts bytes es s) (sym regroup) ∙ f.counts_none)
-
   abbrev IsKnown : Node → Type 0
   IsKnown n = (if is_some (look_up bytes (entries_of bytes all_symbols s) n.head) then (let none : List Name = [] in none) else n.head ∷ []) ≡ []
 
   abbrev IsCounted : Node → Type 0
   IsCounted n = option_map_or (λ e. if eqb n.count (length e.declared.arguments) then (let none : List Name = [] in none) else n.head ∷ []) (look_up bytes (entries_of bytes all_symbols s) n.head) [] ≡ []
 
-  both_at : All (λ v. IsKnown v.node × IsCounted v.node) (all_visits s)
-  both_at = all_pair (λ v. IsKnown v.node) (λ v. IsCounted v.node) (all_visits s) known_at counted_at
-
   heads_at : All (λ t. All IsHead t) all_terms
   heads_at =
+      let es = entries_of bytes all_symbols s in
+      let known_at = all_empty (unknown_name bytes es) (all_visits s) (ap (λ es. unknown_names bytes es s) (sym regroup) ∙ f.unknown_none) in
+      let counted_at = all_empty (wrong_count bytes es) (all_visits s) (ap (λ es. wrong_counts bytes es s) (sym regroup) ∙ f.counts_none) in
+      let both_at = all_pair (λ v. IsKnown v.node) (λ v. IsCounted v.node) (all_visits s) known_at counted_at in
       All-weaker (λ t. All (λ v. IsKnown v.node × IsCounted v.node) (visits [] t)) (λ t. All IsHead t)
       (λ t h. All-weaker (λ n. IsKnown n × IsCounted n) IsHead (λ n p. classify bytes all_symbols s variables_apart n p.0 p.1) t (visited (λ n. IsKnown n × IsCounted n) [] t h))
       all_terms (all_flat (λ v. IsKnown v.node × IsCounted v.node) (visits []) all_terms both_at)
@@ -238,10 +177,9 @@ module _ (bytes : List ℕ) (earlier : List Specification) (s : Specification) (
                 second = term_read bytes all_symbols s few r.left c.second ws.second (All-head H c.second [] (All-tail H c.first (c.second ∷ []) hs)) (all_back (IsBound r) c.first c.second bs);
               };
           head = λ n e.
-              let there : root r.left ≡ Some n.head = ap (option_map (λ n. n.head)) e in
-              let no : is_var n.head ≡ false = All-head (λ m. is_var m ≡ false) n.head [] (subst (λ o. All (λ m. is_var m ≡ false) (option_to_list o)) there bare) in
+              let no : is_var n.head ≡ false = All-head (λ m. is_var m ≡ false) n.head [] (subst (λ o. All (λ m. is_var m ≡ false) (option_to_list o)) (ap (option_map (λ n. n.head)) e) bare) in
               let absent = by_head r n (All-at bytes IsHead r.left (length r.left - 1) n left_heads e) no in
-              none_of (position (bytes_eq (text_of bytes n.head)) (variables_in bytes (variables_of bytes s) r.left)) (place_if_any (bytes_eq (text_of bytes n.head)) (variables_in bytes (variables_of bytes s) r.left) ∙ absent);
+              grind (arith, nat_tests, place_if_any (bytes_eq (text_of bytes n.head)) (variables_in bytes (variables_of bytes s) r.left), absent);
         }
       where
         by_head : (r : Rule) (n : Node) → IsHead n → is_var n.head ≡ false → list_any (bytes_eq (text_of bytes n.head)) (variables_in bytes (variables_of bytes s) r.left) ≡ false
@@ -277,10 +215,7 @@ module _ (bytes : List ℕ) (earlier : List Specification) (s : Specification) (
       subst (Holds (named_in bytes before)) (sym (map-append (λ d. named (text_of bytes d.name) (length d.arguments)) before (symbols_by s))) (holds_first (named_in bytes before) (named_in bytes (symbols_by s))) in
       record {
         distinct =
-            ap (λ ds. repeated bytes [] (map (λ d. d.name) ds)) more_symbols
-            ∙ ap (repeated bytes []) (map-append (λ d. d.name) before (symbols_by s))
-            ∙ repeated-append bytes [] (map (λ d. d.name) before) (map (λ d. d.name) (symbols_by s))
-            ∙ (λ i. t.distinct i ++ symbols_new i);
+            grind (arith, more_symbols, map-append (λ (d : Declared). d.name) before (symbols_by s), repeated-append bytes [] (map (λ d. d.name) before) (map (λ d. d.name) (symbols_by s)), t.distinct, symbols_new);
         few_symbols = omega arith;
         few_rules = omega arith;
         few = ap (list_all few_arguments) more_symbols ∙ own_few t;

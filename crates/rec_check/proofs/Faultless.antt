@@ -1,13 +1,7 @@
 -- What a specification without offence has.
-use Rattle.std.proofs.lemmas.Bool.Decides.{nat_tests}
-use Rattle.std.proofs.Common.{arith, ◌≡◌, ℕ, true, false, List, [], ◌∷◌, ◌++◌, Some, None, is_some, refl, sym, ap, ◌∙◌}
-use Rattle.rec_reader.specs.declared.token.Name.{Name}
-use Rattle.rec_reader.specs.declared.syntax_tree.Specification.{Specification}
+use Rattle.rec_check.proofs.Common.{nat_tests, arith, ◌≡◌, ℕ, true, false, List, [], ◌∷◌, ◌++◌, Some, None, is_some, refl, sym, ap, ◌∙◌, Name, Specification, Header, headers_of, included, Entry, own_entries, names_of, includes_from, unknown_names, repeated_names, wrong_counts, bare_variables, free_variables, not_ground, past_limits, of_kind, included_entries, offences_after}
 use Rattle.faults.specs.declared.refusal.Refusal.{Refusal}
-use Rattle.rec_includes.specs.Material.{Header, headers_of, included}
-use Rattle.rec_offences.specs.Scope.{Entry, own_entries, names_of}
-use Rattle.rec_offences.specs.Offences.{includes_from, unknown_names, repeated_names, wrong_counts, bare_variables, free_variables, not_ground, past_limits}
-use Rattle.rec_offences.specs.Faults.{of_kind, included_entries, offences_over, offences_after, least_with}
+use Rattle.rec_offences.specs.Faults.{offences_over, least_with}
 
 -- both parts of nothing are nothing
 pub left_empty : {A : Type 0} (xs ys : List A) → xs ++ ys ≡ [] → xs ≡ []

@@ -1,25 +1,7 @@
 -- What a head stands for, by cases.
-use Rattle.std.proofs.Common.{◌≡◌, ℕ, suc, ◌+◌, ◌<◌, ◌≤◌, Bool, true, false, cond, List, [], ◌∷◌, ◌++◌, length, Option, Some, None, is_some, refl, sym, ap, ◌∙◌, arith, position, zero, eqb, ◌&&◌, get_or, slice_get, IfNone, ◌⊎◌, All, subst}
-use Rattle.std.specs.Option.{option_map}
-use Rattle.std.specs.List.{list_any, list_all}
-use Rattle.std.proofs.lemmas.Bool.Decides.{nat_tests}
-use Rattle.std.specs.Str.{bytes_eq}
-use Rattle.std.specs.Cmp.{first_so, second_so}
-use Rattle.std.specs.Cmp.Lexicographic.{bytes_decides}
-use Rattle.std.proofs.lemmas.Option.{slice_get_within, slice_get-get_or, get_or_from_slice_get}
+use Rattle.rec_check.proofs.Common.{◌≡◌, ℕ, suc, ◌+◌, ◌<◌, ◌≤◌, Bool, true, false, cond, List, [], ◌∷◌, ◌++◌, length, Option, Some, None, is_some, refl, sym, ap, ◌∙◌, arith, position, get_or, slice_get, IfNone, ◌⊎◌, All, subst, option_map, list_any, list_all, nat_tests, bytes_eq, bytes_decides, slice_get_within, slice_get-get_or, get_or_from_slice_get, false_from_ne_true, nat_le, Item, App, Var, Named, named, Holds, Lacks, IsPool, same_symbol, symbol_item, item_by, most_arguments, Scope, all_of, item_in, position-Some, Node, is_plain, is_item_below, text_of, widest_of}
 use Rattle.std.proofs.lemmas.List.Sums.{position_or_len_is}
-use Rattle.std.proofs.lemmas.Bool.{eqb-true, eq-eqb, false_from_ne_true}
-use Rattle.std.specs.Prelude.{nat_le}
-use Rattle.term_model.specs.declared.Item.{Item}
-use Rattle.term_model.specs.declared.Item.TheVariants.{App, Var}
-use Rattle.symbol_pool.specs.Pool.{Named, named, Holds, Lacks, IsPool}
 use Rattle.term_model.specs.declared.Symbol.{Symbol}
-use Rattle.rec_check.specs.Term.{same_symbol, symbol_item, item_by, most_arguments, Scope, all_of, item_in}
-use Rattle.std.proofs.lemmas.List.Quantifiers.{position-Some}
-use Rattle.rec_reader.specs.declared.syntax_tree.Node.{Node}
-use Rattle.rule_match.specs.Planned.{is_plain, is_item_below}
-use Rattle.rec_includes.specs.Names.{text_of}
-use Rattle.rec_check.specs.Symbols.{widest_of}
 
 -- ---- where a test first passes, by recursion
 
@@ -55,16 +37,10 @@ position_none {X} p xs d fails = grind (arith, nat_tests, slice_get-get_or xs, p
 
 -- two symbols are the same exactly where the test says so
 pub same_from : (s t : Named) → same_symbol s t ≡ true → s ≡ t
-same_from s t h =
-    let name : s.name ≡ t.name = (bytes_decides s.name t.name).0 (first_so (bytes_eq s.name t.name) (eqb s.arity t.arity) h) in
-    let arity : s.arity ≡ t.arity = eqb-true s.arity t.arity (second_so (bytes_eq s.name t.name) (eqb s.arity t.arity) h) in
-    λ i. named (name i) (arity i)
+same_from s t h = grind (arith, nat_tests, bytes_decides s.name t.name)
 
 pub same_self : (s : Named) → same_symbol s s ≡ true
-same_self s =
-    let name : bytes_eq s.name s.name ≡ true = (bytes_decides s.name s.name).1 refl in
-    let arity : eqb s.arity s.arity ≡ true = eq-eqb s.arity s.arity refl in
-    λ i. name i && arity i
+same_self s = grind (arith, nat_tests, bytes_decides s.name s.name)
 
 differs : (s t : Named) → (s ≡ t → ⊥) → same_symbol s t ≡ false
 differs s t h = false_from_ne_true (same_symbol s t) (λ e. h (same_from s t e))
@@ -116,16 +92,13 @@ head_cases symbols name count o i h = grind (arith, nat_tests)
 -- a symbol's number of arguments is at most the greatest
 arity_at : (symbols : List Named) (f : ℕ) (d : Named) → f < length symbols → (get_or symbols f d).arity ≤ widest_of symbols
 arity_at [] f d l = absurd (omega arith)
-arity_at (s ∷ ss) zero d l = omega arith
-arity_at (s ∷ ss) (suc f) d l = let r = arity_at ss f d (omega arith) in omega arith
+arity_at (s ∷ ss) f d l = grind (arith, arity_at ss)
 
 pub count_within : (symbols : List Named) (name : List ℕ) (count f : ℕ) → position (same_symbol (named name count)) symbols ≡ Some f → count ≤ widest_of symbols
 count_within symbols name count f at =
     let s = named name count in
     let p = position-Some (same_symbol s) symbols f s at in
-    let same : count ≡ (get_or symbols f s).arity = ap (λ t. t.arity) (same_from s (get_or symbols f s) p.1) in
-    let within = arity_at symbols f s p.0 in
-    omega arith
+    grind (arith, same_from s (get_or symbols f s) p.1, arity_at symbols f s p.0)
 
 -- what each head stands for is a variable below their count, or a symbol over no more than the greatest
 -- number of arguments

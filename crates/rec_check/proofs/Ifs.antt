@@ -1,15 +1,6 @@
 -- The least of places in lists one after another.
-use Rattle.std.proofs.lemmas.Bool.Decides.{nat_tests}
-use Rattle.std.proofs.Common.{arith, rules, ◌≡◌, ℕ, ◌+◌, ◌-◌, ◌<◌, List, [], ◌∷◌, ◌++◌, length, drop, get_or, slice_get, Option, Some, None, refl, sym, ap, ◌∙◌}
-use Rattle.std.proofs.lemmas.Grind.{common_steps, flat_map-append}
-use Rattle.std.specs.Option.{option_to_list}
-use Rattle.std.specs.List.{flat_map}
-use Rattle.std.proofs.lemmas.List.{at_drop_more}
-use Rattle.rec_reader.specs.Parsed.{Parsed}
+use Rattle.rec_check.proofs.Common.{nat_tests, arith, rules, ◌≡◌, ℕ, ◌+◌, ◌-◌, ◌<◌, List, [], ◌∷◌, ◌++◌, length, drop, get_or, slice_get, Option, Some, None, refl, sym, ap, ◌∙◌, common_steps, flat_map-append, option_to_list, flat_map, at_drop_more, Parsed, Specification, rules_of, specifications_at, material_of, ifs_of, lesser, least_with, first_if}
 use Rattle.rec_reader.specs.declared.syntax_tree.Rule.{Rule}
-use Rattle.rec_reader.specs.declared.syntax_tree.Specification.{Specification}
-use Rattle.rec_includes.specs.Material.{rules_of, specifications_at, material_of}
-use Rattle.rec_check.specs.Conditional.{ifs_of, lesser, least_with, first_if}
 
 least_with-append : (found : Option ℕ) (xs ys : List ℕ) → least_with found (xs ++ ys) ≡ least_with (least_with found xs) ys
 least_with-append found [] ys = refl

@@ -1,34 +1,10 @@
 -- A specification without offence: its rules are read by the symbols of its material, and its terms too.
-use Rattle.std.proofs.lemmas.Bool.Decides.{nat_tests}
-use Rattle.std.proofs.Common.{arith, ◌≡◌, ℕ, ◌-◌, Bool, true, false, cond, eqb, ◌&&◌, ◌||◌, ◌⊎◌, inl, inr, List, [], ◌∷◌, ◌++◌, length, map, take, Option, Some, None, is_some, All, refl, sym, ap, ◌∙◌, ◌+◌, ◌≤◌, slice_get, get_or, position}
-use Rattle.std.specs.Prelude.{if◌then◌else◌, find, nat_le}
-use Rattle.std.specs.Option.{option_map_or, option_or, option_to_list}
-use Rattle.std.specs.List.{list_any, flat_map, filter, list_all}
-use Rattle.std.specs.Str.{bytes_eq}
-use Rattle.std.specs.Cmp.Lexicographic.{bytes_decides}
-use Rattle.std.proofs.lemmas.List.Elements.{All-nil, All-cons, All-head, All-tail}
-use Rattle.symbol_pool.specs.Pool.{named}
-use Rattle.rec_reader.specs.declared.token.Name.{Name}
-use Rattle.rec_reader.specs.declared.syntax_tree.Node.{Node}
-use Rattle.rec_reader.specs.declared.syntax_tree.Specification.{Specification}
-use Rattle.rec_includes.specs.Names.{text_of, same_text, is_among}
-use Rattle.rec_includes.specs.Material.{Declared, Variable, variables_by, declared, symbols_of_declaration}
-use Rattle.rec_offences.specs.Scope.{Entry, symbol_entry, variable_entry, names_of, look_up, is_variable, visits, heads}
-use Rattle.rec_offences.specs.Offences.{repeated, first_past, most}
-use Rattle.rec_check.specs.Term.{same_symbol, most_arguments, item_by, variable_item}
-use Rattle.rec_check.specs.Named.{with_names}
-use Rattle.rec_check.specs.Symbols.{named_in}
-use Rattle.rec_check.specs.Spelled.{variables_of}
+use Rattle.rec_check.proofs.Common.{nat_tests, arith, ◌≡◌, ℕ, ◌-◌, Bool, true, false, eqb, ◌&&◌, ◌||◌, ◌⊎◌, inl, inr, List, [], ◌∷◌, ◌++◌, length, map, take, Option, Some, None, is_some, All, refl, ap, ◌∙◌, ◌+◌, ◌≤◌, slice_get, get_or, position, if◌then◌else◌, find, nat_le, option_map_or, option_or, option_to_list, list_any, flat_map, filter, list_all, bytes_eq, bytes_decides, All-nil, All-cons, All-head, All-tail, named, Name, Node, Specification, text_of, same_text, is_among, Declared, Variable, variables_by, declared, symbols_of_declaration, Entry, symbol_entry, variable_entry, names_of, look_up, is_variable, visits, heads, repeated, first_past, most, same_symbol, most_arguments, with_names, named_in, variables_of, list_all-append, slice_get-get_or, Declaration, IsWhole, variables_in}
 use Rattle.rec_check.proofs.Faultless.{left_empty, right_empty}
 use Rattle.rec_check.proofs.Numbered.{any_append, all_declared}
 use Rattle.rec_check.proofs.Sound.{new_first, among-append, or_left, all_front, all_back, few_arguments, or_right}
-use Rattle.std.proofs.lemmas.List.Folds.{list_all-append}
-use Rattle.std.proofs.lemmas.Option.{slice_get-get_or}
-use Rattle.rec_reader.specs.declared.syntax_tree.Declaration.{Declaration}
-use Rattle.rec_reader.specs.Whole.{IsWhole}
-use Rattle.rec_check.specs.Rule.{variables_in}
 use Rattle.rec_check.proofs.Heads.{place_if_any}
-use Rattle.rec_check.proofs.Readable.{IsRead, TermReads, symbol_known, some_of, none_of}
+use Rattle.rec_check.proofs.Readable.{IsRead, TermReads, symbol_known, none_of}
 
 -- ---- what a specification declares itself: each head of its terms is a symbol or a variable
 
@@ -104,13 +80,7 @@ module _ (bytes : List ℕ) where
   or_assoc a b c = grind (arith, nat_tests)
 
   already_there : (w n : List ℕ) (e : List (List ℕ)) (more : Bool) → list_any (bytes_eq n) e ≡ true → (list_any (bytes_eq w) e || more) ≡ (list_any (bytes_eq w) e || (bytes_eq w n || more))
-  already_there w n e more h = by (bytes_eq w n) refl
-    where
-      by : (b : Bool) → bytes_eq w n ≡ b → (list_any (bytes_eq w) e || more) ≡ (list_any (bytes_eq w) e || (b || more))
-      by false s = refl
-      by true s =
-          let there : list_any (bytes_eq w) e ≡ true = ap (λ x. list_any (bytes_eq x) e) ((bytes_decides w n).0 s) ∙ h in
-          ap (λ b. b || more) there ∙ sym (ap (λ b. b || true) there)
+  already_there w n e more h = grind (arith, nat_tests, bytes_decides w n)
 
   pub any_with_names : (w : List ℕ) (e ns : List (List ℕ)) → list_any (bytes_eq w) (with_names e ns) ≡ (list_any (bytes_eq w) e || list_any (bytes_eq w) ns)
   any_with_names w e [] = or_none (list_any (bytes_eq w) e)
@@ -164,11 +134,7 @@ few_named (n ∷ names) arguments sort h = λ i. h i && few_named names argument
 
 pub few_declared : (ds : List Declaration) → flat_map (λ d. option_to_list (slice_get d.arguments 16)) ds ≡ [] → list_all few_arguments (flat_map symbols_of_declaration ds) ≡ true
 few_declared [] h = refl
-few_declared (d ∷ ds) h =
-    let l : length d.arguments ≤ 16 = none_past d.arguments 16 (option_empty (slice_get d.arguments 16) (left_empty (option_to_list (slice_get d.arguments 16)) (flat_map (λ d. option_to_list (slice_get d.arguments 16)) ds) h)) in
-    let few : nat_le (length d.arguments) most_arguments ≡ true = grind (arith, nat_tests) in
-    list_all-append few_arguments (symbols_of_declaration d) (flat_map symbols_of_declaration ds)
-    ∙ (λ i. few_named d.names d.arguments d.sort few i && few_declared ds (right_empty (option_to_list (slice_get d.arguments 16)) (flat_map (λ d. option_to_list (slice_get d.arguments 16)) ds) h) i)
+few_declared (d ∷ ds) h = grind (arith, nat_tests, none_past d.arguments 16, option_empty, left_empty, right_empty, few_named d.names d.arguments d.sort, few_declared ds, list_all-append)
 
 pub all_pair : {A : Type 0} (P Q : A → Type 0) (xs : List A) → All P xs → All Q xs → All (λ x. P x × Q x) xs
 all_pair P Q xs p q = λ k d l. (p k d l, q k d l)
@@ -196,25 +162,7 @@ module _ (bytes : List ℕ) where
     among_variables : (left : List Node) (n : Name) → is_among bytes (heads left) n ≡ true → is_declared (text_of bytes n) ≡ true
         → list_any (bytes_eq (text_of bytes n)) (filter is_declared (map (λ m. text_of bytes m.head) left)) ≡ true
     among_variables [] n h d = absurd cc
-    among_variables (m ∷ left) n h d = by (same_text bytes n m.head) refl h (is_declared (text_of bytes m.head)) refl (λ k. among_variables left n k d)
-      where
-        rest : List (List ℕ)
-        rest = filter is_declared (map (λ m. text_of bytes m.head) left)
-
-        by : (b : Bool) → same_text bytes n m.head ≡ b → (b || is_among bytes (heads left) n) ≡ true → (c : Bool) → is_declared (text_of bytes m.head) ≡ c
-            → (is_among bytes (heads left) n ≡ true → list_any (bytes_eq (text_of bytes n)) (filter is_declared (map (λ m. text_of bytes m.head) left)) ≡ true)
-            → list_any (bytes_eq (text_of bytes n)) (cond (is_declared (text_of bytes m.head)) (text_of bytes m.head ∷ filter is_declared (map (λ m. text_of bytes m.head) left)) (filter is_declared (map (λ m. text_of bytes m.head) left))) ≡ true
-        by true s h true e on =
-            ap (λ c. list_any (bytes_eq (text_of bytes n)) (cond c (text_of bytes m.head ∷ filter is_declared (map (λ m. text_of bytes m.head) left)) (filter is_declared (map (λ m. text_of bytes m.head) left)))) e
-            ∙ or_left (bytes_eq (text_of bytes n) (text_of bytes m.head)) (list_any (bytes_eq (text_of bytes n)) (filter is_declared (map (λ m. text_of bytes m.head) left))) s
-        by true s h false e on =
-            absurd (let bad : true ≡ false = sym d ∙ ap is_declared ((bytes_decides (text_of bytes n) (text_of bytes m.head)).0 s) ∙ e in cc)
-        by false s h true e on =
-            ap (λ c. list_any (bytes_eq (text_of bytes n)) (cond c (text_of bytes m.head ∷ filter is_declared (map (λ m. text_of bytes m.head) left)) (filter is_declared (map (λ m. text_of bytes m.head) left)))) e
-            ∙ or_right (bytes_eq (text_of bytes n) (text_of bytes m.head)) (list_any (bytes_eq (text_of bytes n)) (filter is_declared (map (λ m. text_of bytes m.head) left))) (on h)
-        by false s h false e on =
-            ap (λ c. list_any (bytes_eq (text_of bytes n)) (cond c (text_of bytes m.head ∷ filter is_declared (map (λ m. text_of bytes m.head) left)) (filter is_declared (map (λ m. text_of bytes m.head) left)))) e
-            ∙ on h
+    among_variables (m ∷ left) n h d = grind (arith, nat_tests, among_variables left n, bytes_decides (text_of bytes n) (text_of bytes m.head))
 
   -- ---- the heads of a term are read
 
@@ -238,11 +186,8 @@ module _ (bytes : List ℕ) where
       head_read : (n : Node) → IsHead n → (is_variable bytes (entries_of bytes symbols s) n.head ≡ true → is_among bytes (heads left) n.head ≡ true) → IsRead bytes (named_in bytes symbols) vars_of n
       head_read n (inl h) among = symbol_read vars_of n (not_there n h.not_declared) h
       head_read n (inr h) among =
-          let there : list_any (bytes_eq (text_of bytes n.head)) vars_of ≡ true =
-          any_with_names bytes (text_of bytes n.head) [] (filter (λ name. list_any (bytes_eq name) declared_by) (map (λ m. text_of bytes m.head) left)) ∙ among_variables declared_by left n.head (among h.a_variable) h.declared in
-          let x = some_of (position (bytes_eq (text_of bytes n.head)) vars_of) (place_if_any (bytes_eq (text_of bytes n.head)) vars_of ∙ there) in
-          ap (λ o. is_some (item_by (named_in bytes symbols) (text_of bytes n.head) n.count o)) x.1
-          ∙ ap (λ c. is_some (variable_item x.0 c)) h.alone
+          let there = any_with_names bytes (text_of bytes n.head) [] (filter (λ name. list_any (bytes_eq name) declared_by) (map (λ m. text_of bytes m.head) left)) ∙ among_variables declared_by left n.head (among h.a_variable) h.declared in
+          grind (arith, nat_tests, place_if_any (bytes_eq (text_of bytes n.head)) vars_of, there, h.alone)
 
       pub term_read : (nodes : List Node) → IsWhole nodes → All IsHead nodes → All (λ n. is_variable bytes (entries_of bytes symbols s) n.head ≡ true → is_among bytes (heads left) n.head ≡ true) nodes
           → TermReads bytes (named_in bytes symbols) vars_of nodes
@@ -250,8 +195,4 @@ module _ (bytes : List ℕ) where
 
     -- a term without variables
     pub ground_read : (nodes : List Node) → IsWhole nodes → All IsHead nodes → All (λ n. is_variable bytes (entries_of bytes symbols s) n.head ≡ false) nodes → TermReads bytes (named_in bytes symbols) [] nodes
-    ground_read nodes w h v = record { heads = λ k d l. by (get_or nodes k d) (h k d l) (v k d l); whole = w }
-      where
-        by : (n : Node) → IsHead n → is_variable bytes (entries_of bytes symbols s) n.head ≡ false → IsRead bytes (named_in bytes symbols) [] n
-        by n (inl h) g = symbol_read [] n refl h
-        by n (inr h) g = absurd (let bad : true ≡ false = sym h.a_variable ∙ g in cc)
+    ground_read nodes w h v = record { heads = λ k d l. elim (h k d l) [ inl a ↦ symbol_read [] (get_or nodes k d) refl a | inr a ↦ grind (arith, a.a_variable, v k d l) ]; whole = w }

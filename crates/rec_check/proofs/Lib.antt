@@ -1,3 +1,4 @@
+pub mod Common
 pub mod Declaring
 pub mod Heads
 pub mod Numbered

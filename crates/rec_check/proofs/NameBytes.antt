@@ -1,22 +1,34 @@
 -- The names of tokens, and of the declarations that they spell, have no space and no line feed.
-use Rattle.std.proofs.lemmas.Bool.Decides.{nat_tests}
-use Rattle.std.proofs.Common.{◌≡◌, ℕ, suc, ◌+◌, ◌-◌, ◌<◌, Bool, true, List, [], ◌∷◌, ◌++◌, length, take, drop, Option, Some, None, Ok, refl, sym, ap, subst, ◌∙◌, arith, append_assoc}
-use Rattle.std.specs.Prelude.{◌&&◌, nat_lt, slice_range}
-use Rattle.std.specs.List.{list_all, AllByRecursion}
-use Rattle.std.specs.Option.{option_to_list}
+use Rattle.rec_check.proofs.Common.{nat_tests, ◌≡◌, ℕ, zero, suc, slice_get, ◌+◌, ◌-◌, ◌<◌, Bool, true, List, [], ◌∷◌, ◌++◌, length, take, drop, Option, Some, None, Ok, refl, sym, ap, subst, ◌∙◌, arith, nat_lt, slice_range, list_all, AllByRecursion, option_to_list, Name, Token, Declaration, Specification, is_name_byte, tokens_of, Any, none, next, Maybe, without, with, Section, absent, present, Listed, last, beside, with_comma, IsName, IsNames, IsDeclaration, declaration, IsVariables, variables, IsTerm, constant, call, IsArguments, only, more, IsTerms, IsCondition, condition, IsConditions, one, and, IsRule, plain, conditional, IsSpecification, specification, IsInput, input, text_of, specifications_at}
+use Rattle.std.proofs.Common.{append_assoc}
+use Rattle.std.specs.Prelude.{◌&&◌}
 use Rattle.std.proofs.lemmas.List.{length-append}
 use Rattle.std.proofs.Math.Seq.{drop-append_seam, take-append_seam}
-use Rattle.rec_reader.specs.declared.token.Name.{Name}
-use Rattle.rec_reader.specs.declared.token.Token.{Token}
 use Rattle.rec_reader.specs.declared.token.Token.TheVariants as token
 use Rattle.rec_reader.specs.declared.token.Sign.{Sign}
-use Rattle.rec_reader.specs.declared.syntax_tree.Declaration.{Declaration}
-use Rattle.rec_reader.specs.declared.syntax_tree.Specification.{Specification}
-use Rattle.rec_reader.specs.Tokens.{is_name_byte, tokens_of}
 use Rattle.rec_reader.specs.Cut.{Part, IsPart, joined, tokens_in, AreParts, IsCut}
-use Rattle.rec_reader.specs.Grammar.{Any, none, next, Maybe, without, with, Section, absent, present, Listed, last, beside, with_comma, IsName, named as name_read, IsNames, IsDeclaration, declaration, IsVariables, variables, IsTerm, constant, call, IsArguments, only, more, IsTerms, IsCondition, condition, IsConditions, one, and, IsRule, plain, conditional, IsSpecification, specification, IsInput, input}
+use Rattle.rec_reader.specs.Grammar.{named as name_read}
 use Rattle.rec_reader.proofs.Cutting.{tokens_are_cut}
-use Rattle.rec_includes.specs.Names.{text_of}
+
+-- ---- what holds of each of a list
+
+pub all_both : {A : Type 0} (P : A → Type 0) (xs ys : List A) → AllByRecursion P xs → AllByRecursion P ys
+    → AllByRecursion P (xs ++ ys)
+all_both P [] ys a b = b
+all_both P (x ∷ xs) ys a b = (a.0, all_both P xs ys a.1 b)
+
+one_at : {A : Type 0} (P : A → Type 0) (xs : List A) (n : ℕ) → AllByRecursion P xs
+    → AllByRecursion P (option_to_list (slice_get xs n))
+one_at P [] n a = tt
+one_at P (x ∷ xs) zero a = (a.0, tt)
+one_at P (x ∷ xs) (suc n) a = one_at P xs n a.1
+
+-- of the specifications of a material
+pub all_at : (P : Specification → Type 0) (ss : List Specification) (ns : List ℕ)
+    → AllByRecursion P ss → AllByRecursion P (specifications_at ss ns)
+all_at P ss [] a = tt
+all_at P ss (n ∷ ns) a =
+    all_both P (option_to_list (slice_get ss n)) (specifications_at ss ns) (one_at P ss n a) (all_at P ss ns a)
 
 -- ---- bytes above the space
 
@@ -186,11 +198,6 @@ module _ (bytes : List ℕ) where
   section_clear sign _ _ _ absent c = tt
   section_clear sign _ _ _ (present h) c = declarations_clear _ _ _ h c.1
 
-  two_clear : (ds es : List Declaration) → ClearDeclarations ds → ClearDeclarations es
-      → ClearDeclarations (ds ++ es)
-  two_clear [] es a b = b
-  two_clear (d ∷ ds) es a b = (a.0, two_clear ds es a.1 b)
-
   includes_keep : (sign : Sign) → Keeps (Section sign (Maybe IsNames))
   includes_keep = section_keeps (Maybe IsNames) names_keep
 
@@ -215,7 +222,7 @@ module _ (bytes : List ℕ) where
       let a1 = includes_keep _ _ _ _ i c.1.1 in
       let a2 = includes_keep _ _ _ _ s a1 in
       let a3 = group_keeps _ _ _ _ d a2 in
-      two_clear cons opns (section_clear _ _ _ _ d a2) (section_clear _ _ _ _ o a3)
+      all_both (λ (d : Declaration). ClearNames d.names) cons opns (section_clear _ _ _ _ d a2) (section_clear _ _ _ _ o a3)
 
   abbrev pub ClearSpecifications : List Specification → Type 0
   ClearSpecifications ss =

@@ -1,24 +1,8 @@
 -- The variables of a left side are numbered in order of first occurrence.
-use Rattle.std.proofs.lemmas.Bool.Decides.{nat_tests}
-use Rattle.std.proofs.Common.{◌≡◌, ◌<◌, ◌≤◌, ℕ, ◌+◌, Bool, true, false, not, cond, List, [], ◌∷◌, ◌++◌, length, map, filter, Some, None, ◌⊎◌, inl, inr, refl, ◌∙◌, subst, arith, ◌||◌, nat_lt, Option, is_some, sym, ap, position, append_assoc, append-nil, length-append}
-use Rattle.std.specs.Prelude.{All, slice_get, option_and_then, if◌then◌else◌, ◌==◌}
-use Rattle.std.specs.List.{list_any}
-use Rattle.std.specs.Str.{bytes_eq}
-use Rattle.std.proofs.lemmas.List.{length-map}
+use Rattle.rec_check.proofs.Common.{nat_tests, ◌≡◌, ◌<◌, ◌≤◌, ℕ, ◌+◌, Bool, true, false, not, cond, List, [], ◌∷◌, ◌++◌, length, map, Some, None, ◌⊎◌, refl, ◌∙◌, arith, ◌||◌, Option, sym, ap, position, length-append, option_and_then, if◌then◌else◌, list_any, bytes_eq, length-map, slice_get_cases, Node, text_of, with_name, with_names, variables_in, option_map, bytes_decides, position-Some, Item, Var, Named, count_in, count_with, Scope, all_of, item_in}
+use Rattle.std.proofs.Common.{filter, append_assoc, append-nil}
+use Rattle.std.specs.Prelude.{All, slice_get}
 use Rattle.std.proofs.lemmas.List.Filters.{length-filter_both}
-use Rattle.std.proofs.lemmas.Option.{slice_get_cases}
-use Rattle.rec_reader.specs.declared.syntax_tree.Node.{Node}
-use Rattle.rec_includes.specs.Names.{text_of}
-use Rattle.rec_check.specs.Named.{with_name, with_names}
-use Rattle.rec_check.specs.Rule.{variables_in}
-use Rattle.std.specs.Option.{option_map}
-use Rattle.std.specs.Cmp.Lexicographic.{bytes_decides}
-use Rattle.std.proofs.lemmas.List.Quantifiers.{position-Some}
-use Rattle.term_model.specs.declared.Item.{Item}
-use Rattle.term_model.specs.declared.Item.TheVariants.{Var}
-use Rattle.symbol_pool.specs.Pool.{Named}
-use Rattle.rule_match.proofs.Numbering.{count_in, count_with}
-use Rattle.rec_check.specs.Term.{Scope, all_of, item_in}
 use Rattle.rec_check.proofs.Heads.{place_if_any, stays_first, new_at_end, IsVariable, IsSymbol, head_cases}
 
 -- ---- a rule has at most as many variables as its left side has nodes
@@ -40,25 +24,18 @@ passed p xs = let both = length-filter_both p (λ x. not (p x)) (λ x. refl) xs 
 pub variables_few : (text : List ℕ) (declared : List (List ℕ)) (nodes : List Node) → length nodes < 4294967296 → length (variables_in text declared nodes) < 4294967296
 variables_few text declared nodes below = grind (arith, nat_tests, each_once, passed, length-map)
 
+-- what is added of these names
+abbrev more_names : List (List ℕ) → List (List ℕ) → List (List ℕ)
+more_names seen [] = []
+more_names seen (n ∷ ns) = if list_any (bytes_eq n) seen then more_names seen ns else n ∷ more_names (seen ++ n ∷ []) ns
+
 -- names that were added come last
-pub grown : (seen ns : List (List ℕ)) → (more : List (List ℕ)) × (with_names seen ns ≡ seen ++ more)
-grown seen [] = ([], sym (append-nil seen))
-grown seen (n ∷ ns) = by (list_any (bytes_eq n) seen) refl (λ before. grown before ns)
-  where
-    by : (b : Bool) → list_any (bytes_eq n) seen ≡ b → ((before : List (List ℕ)) → (more : List (List ℕ)) × (with_names before ns ≡ before ++ more))
-        → (more : List (List ℕ)) × (with_names (with_name seen n) ns ≡ seen ++ more)
-    by true e on =
-        let g = on seen in
-        (g.0, ap (λ (t : Bool). with_names (if t then seen else seen ++ n ∷ []) ns) e ∙ g.1)
-    by false e on =
-        let g = on (seen ++ n ∷ []) in
-        (n ∷ g.0, ap (λ (t : Bool). with_names (if t then seen else seen ++ n ∷ []) ns) e ∙ g.1 ∙ append_assoc seen (n ∷ []) g.0)
+grown : (seen ns : List (List ℕ)) → with_names seen ns ≡ seen ++ more_names seen ns
+grown seen [] = sym (append-nil seen)
+grown seen (n ∷ ns) = grind (arith, nat_tests, grown seen ns, grown (seen ++ n ∷ []) ns, append_assoc)
 
 self_equal : (n : List ℕ) → bytes_eq n n ≡ true
 self_equal n = (bytes_decides n n).1 refl
-
-either : (a b : Bool) → (a || b) ≡ true → (a ≡ true) ⊎ (b ≡ true)
-either a b h = grind (arith, nat_tests)
 
 pub any_append : {X : Type 0} (p : X → Bool) (xs ys : List X) → list_any p (xs ++ ys) ≡ (list_any p xs || list_any p ys)
 any_append p [] ys = refl
@@ -73,32 +50,11 @@ module _ (text : List ℕ) (declared : List (List ℕ)) where
   AreDeclared names = (w : List ℕ) → list_any (bytes_eq w) names ≡ true → is_declared w ≡ true
 
   one_declared : (seen : List (List ℕ)) (n : List ℕ) → AreDeclared seen → is_declared n ≡ true → AreDeclared (seen ++ n ∷ [])
-  one_declared seen n are is w h = by (either (list_any (bytes_eq w) seen) (list_any (bytes_eq w) (n ∷ [])) (sym (any_append (bytes_eq w) seen (n ∷ [])) ∙ h))
-    where
-      by : (list_any (bytes_eq w) seen ≡ true) ⊎ (list_any (bytes_eq w) (n ∷ []) ≡ true) → is_declared w ≡ true
-      by (inl a) = are w a
-      by (inr b) = last (bytes_eq w n) refl b
-        where
-          last : (t : Bool) → bytes_eq w n ≡ t → (t || false) ≡ true → is_declared w ≡ true
-          last true e h = ap is_declared ((bytes_decides w n).0 e) ∙ is
-          last false e h = absurd cc
+  one_declared seen n are is w h = grind (arith, nat_tests, any_append (bytes_eq w) seen (n ∷ []), are w, bytes_decides w n)
 
   pub all_declared : (seen ns : List (List ℕ)) → AreDeclared seen → AreDeclared (with_names seen (filter is_declared ns))
-  all_declared seen [] are = are
-  all_declared seen (n ∷ ns) are = by (is_declared n) refl (list_any (bytes_eq n) seen) refl (λ before h. all_declared before ns h)
-    where
-      by : (b : Bool) → is_declared n ≡ b → (c : Bool) → list_any (bytes_eq n) seen ≡ c
-          → ((before : List (List ℕ)) → AreDeclared before → AreDeclared (with_names before (filter is_declared ns)))
-          → AreDeclared (with_names seen (filter is_declared (n ∷ ns)))
-      by false e c f on = subst AreDeclared (ap (λ (t : Bool). with_names seen (cond t (n ∷ filter is_declared ns) (filter is_declared ns))) (sym e)) (on seen are)
-      by true e true f on =
-          subst AreDeclared
-          (ap (λ (t : Bool). with_names (if t then seen else seen ++ n ∷ []) (filter is_declared ns)) (sym f) ∙ ap (λ (t : Bool). with_names seen (cond t (n ∷ filter is_declared ns) (filter is_declared ns))) (sym e))
-          (on seen are)
-      by true e false f on =
-          subst AreDeclared
-          (ap (λ (t : Bool). with_names (if t then seen else seen ++ n ∷ []) (filter is_declared ns)) (sym f) ∙ ap (λ (t : Bool). with_names seen (cond t (n ∷ filter is_declared ns) (filter is_declared ns))) (sym e))
-          (on (seen ++ n ∷ []) (one_declared seen n are e))
+  all_declared seen [] are w h = are w h
+  all_declared seen (n ∷ ns) are w h = grind (arith, nat_tests, all_declared seen ns are w, all_declared (seen ++ n ∷ []) ns, one_declared seen n are)
 
   abbrev names_at : List Node → List (List ℕ)
   names_at nodes = map (λ n. text_of text n.head) nodes
@@ -114,7 +70,7 @@ module _ (text : List ℕ) (declared : List (List ℕ)) where
     counts_on items i n m e = ap (λ o. option_and_then (λ k. count_in items k) o) e
 
     old_variable : (x n : ℕ) → x < n → count_with (Var x) n ≡ Some n
-    old_variable x n l = ap (λ b. if b then Some n else if x == n then Some (n + 1) else None) (let e : nat_lt x n ≡ true = grind (arith, nat_tests) in e)
+    old_variable x n l = grind (arith, nat_tests)
 
     new_variable : (n : ℕ) → count_with (Var n) n ≡ Some (n + 1)
     new_variable n = grind (arith, nat_tests)
@@ -128,25 +84,18 @@ module _ (text : List ℕ) (declared : List (List ℕ)) where
         name = text_of text n.head
 
         by : (o : Option ℕ) → position (bytes_eq name) seen ≡ o → (x : ℕ) × (x < length seen) × (place n ≡ Some x)
-        by None e = absurd (let bad : false ≡ true = sym (ap is_some e) ∙ place_if_any (bytes_eq name) seen ∙ h in cc)
+        by None e = grind (arith, nat_tests, place_if_any (bytes_eq name) seen)
         by (Some x) e =
-            let g = grown seen ns in
-            (x, (position-Some (bytes_eq name) seen x [] e).0, ap (position (bytes_eq name)) (v ∙ g.1) ∙ stays_first (bytes_eq name) seen g.0 x e)
+            (x, (position-Some (bytes_eq name) seen x [] e).0, ap (position (bytes_eq name)) (v ∙ grown seen ns) ∙ stays_first (bytes_eq name) seen (more_names seen ns) x e)
 
     occurs : (n : Node) (seen : List (List ℕ)) (ns : List (List ℕ)) → vars ≡ with_names (seen ++ text_of text n.head ∷ []) ns
         → list_any (bytes_eq (text_of text n.head)) seen ≡ false → place n ≡ Some (length seen)
     occurs n seen ns v h =
         let name = text_of text n.head in
-        let g = grown (seen ++ name ∷ []) ns in
-        ap (position (bytes_eq name)) (v ∙ g.1 ∙ append_assoc seen (name ∷ []) g.0) ∙ new_at_end (bytes_eq name) seen name g.0 h (self_equal name)
+        grind (arith, grown (seen ++ name ∷ []) ns, append_assoc, new_at_end (bytes_eq name) seen name (more_names (seen ++ name ∷ []) ns) h, self_equal)
 
     no_place : (n : Node) (x : ℕ) → place n ≡ Some x → is_declared (text_of text n.head) ≡ false → ⊥
-    no_place n x e d =
-        let name = text_of text n.head in
-        let there : list_any (bytes_eq name) vars ≡ true = sym (place_if_any (bytes_eq name) vars) ∙ ap is_some e in
-        let yes : is_declared name ≡ true = are name there in
-        let bad : true ≡ false = sym yes ∙ d in
-        cc
+    no_place n x e d = grind (arith, nat_tests, place_if_any (bytes_eq (text_of text n.head)) vars, are (text_of text n.head))
 
     module _ (n : Node) (nodes : List Node) (seen : List (List ℕ)) (v : vars ≡ with_names seen (filter is_declared (names_at (n ∷ nodes)))) where
       this : (b : Bool) → is_declared (text_of text n.head) ≡ b → vars ≡ with_names seen (cond b (text_of text n.head ∷ filter is_declared (names_at nodes)) (filter is_declared (names_at nodes)))

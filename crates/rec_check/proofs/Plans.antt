@@ -1,30 +1,12 @@
 -- What is spelled may be planned.
-use Rattle.std.proofs.Common.{rules, ◌≡◌, ℕ, ◌-◌, ◌≤◌, true, List, [], ◌∷◌, ◌++◌, length, Option, Some, None, All, sym, ap, subst, ◌∙◌, arith}
-use Rattle.std.specs.Prelude.{option_and_then}
-use Rattle.std.specs.List.{list_all}
-use Rattle.std.proofs.lemmas.Bool.Decides.{nat_tests}
-use Rattle.std.proofs.lemmas.List.Elements.{All-append, All-weaker}
-use Rattle.term_model.specs.Tree.{Tree, Node, root, IsGround}
-use Rattle.term_model.specs.Postorder.{postorder, has_head}
+use Rattle.rec_check.proofs.Common.{rules, ◌≡◌, ℕ, ◌-◌, ◌≤◌, true, List, [], ◌∷◌, length, Option, Some, None, All, sym, ap, subst, ◌∙◌, arith, option_and_then, nat_tests, All-append, All-weaker, Tree, root, IsGround, postorder, has_head, Item, only_postorder, all_heads, Rule, Condition, IsNode, IsBelow, IsPlain, HasSymbolsAlone, HasSides, IsFit, is_plain, is_item_below, counted, below, count_in, Named, Specification, Parsed, symbols_of, specifications_at, material_of, named_in, with_symbols, widest_of, MayBeRun, last_of, spelled_with, spelled_in, Scope, all_of, item_in, tree_in, ◌>>=◌, condition_in, rule_in, variables_in, Specified, nothing, variables_of, rules_in, terms_in, with_few_rules, most_rules, spelled_by}
+use Rattle.term_model.specs.Tree.{Node}
 use Rattle.term_model.specs.declared.Head.{Head}
-use Rattle.term_model.specs.declared.Item.{Item}
-use Rattle.term_model.proofs.Order.{only_postorder}
-use Rattle.term_model.proofs.Subtrees.{all_heads}
-use Rattle.rewrite_model.specs.Rule.{Rule, Condition, IsRule, IsNode, IsBelow}
-use Rattle.rule_match.specs.Planned.{IsPlain, HasSymbolsAlone, HasSides, IsFit, is_plain, is_item_below}
-use Rattle.rule_match.proofs.Numbering.{counted, below, count_in}
-use Rattle.symbol_pool.specs.Pool.{Named}
+use Rattle.rewrite_model.specs.Rule.{IsRule}
 use Rattle.rec_reader.specs.declared.syntax_tree.Node as written_node
 use Rattle.rec_reader.specs.declared.syntax_tree.Rule as written
 use Rattle.rec_reader.specs.declared.syntax_tree.Condition as written_condition
-use Rattle.rec_reader.specs.declared.syntax_tree.Specification.{Specification}
-use Rattle.rec_reader.specs.Parsed.{Parsed}
-use Rattle.rec_includes.specs.Material.{symbols_of, specifications_at, material_of}
-use Rattle.rec_check.specs.Symbols.{named_in, with_symbols, widest_of}
-use Rattle.rec_check.specs.Run.{MayBeRun, last_of, spelled_with, spelled_in}
-use Rattle.rec_check.specs.Term.{Scope, all_of, item_in, tree_in}
-use Rattle.rec_check.specs.Rule.{◌>>=◌, condition_in, rule_in, variables_in}
-use Rattle.rec_check.specs.Spelled.{Specified, nothing, variables_of, rules_in, rules_of, terms_in, with_few_rules, most_rules, spelled_by}
+use Rattle.rec_check.specs.Spelled.{rules_of}
 use Rattle.rec_check.proofs.Heads.{one_below, one_plain, all_pass, all_hold}
 use Rattle.rec_check.proofs.Numbered.{left_numbered}
 
@@ -58,14 +40,10 @@ module _ (scope : Scope) (nodes : List written_node.Node) (t : Tree) (h : tree_i
   s = spells scope nodes t h
 
   pub tree_below : IsBelow (length scope.variables) t
-  tree_below =
-      sym (below (length scope.variables) t) ∙ ap (list_all (is_item_below (length scope.variables))) (sym s.spell)
-      ∙ all_pass (λ n. item_in scope n) (is_item_below (length scope.variables)) (one_below scope) nodes s.items s.are
+  tree_below = grind (arith, below (length scope.variables) t, s.spell, all_pass (λ n. item_in scope n) (is_item_below (length scope.variables)) (one_below scope) nodes s.items s.are)
 
   pub tree_plain : IsPlain (widest_of scope.symbols) t
-  tree_plain =
-      ap (list_all (λ (i : Item). is_plain (widest_of scope.symbols) i)) (sym s.spell)
-      ∙ all_pass (λ n. item_in scope n) (λ i. is_plain (widest_of scope.symbols) i) (one_plain scope) nodes s.items s.are
+  tree_plain = grind (arith, s.spell, all_pass (λ n. item_in scope n) (λ i. is_plain (widest_of scope.symbols) i) (one_plain scope) nodes s.items s.are)
 
 has_root : (t : Tree) (h : Head) → root t ≡ Some h → IsNode t
 has_root t h e = grind (arith, nat_tests)
@@ -143,11 +121,10 @@ module _ (text : List ℕ) (symbols : List Named) (declared : List (List ℕ)) (
 pub rules_fit : (text : List ℕ) (symbols : List Named) (ss : List Specification) (rules : List Rule) → rules_of text symbols ss ≡ Some rules → All (IsFit (widest_of symbols)) rules
 rules_fit text symbols [] rules h = let e : [] ≡ rules = cc in subst (All (IsFit (widest_of symbols))) e (λ k d l. absurd (omega arith))
 rules_fit text symbols (s ∷ ss) rules h =
-    let a = came (rules_in text symbols s) (λ first. rules_of text symbols ss >>= λ more. Some (first ++ more)) rules h in
-    let b = came (rules_of text symbols ss) (λ more. Some (a.x ++ more)) rules a.gives in
-    let is : a.x ++ b.x ≡ rules = cc_some (a.x ++ b.x) rules b.gives in
-    let here : All (IsFit (widest_of symbols)) a.x = all_hold (λ r. rule_in text symbols (variables_of text s) r) (IsFit (widest_of symbols)) (λ r made e. rule_fits text symbols (variables_of text s) r made e) s.rules a.x a.is in
-    subst (All (IsFit (widest_of symbols))) is (All-append (IsFit (widest_of symbols)) a.x b.x here (rules_fit text symbols ss b.x b.is))
+    let a = came (rules_in text symbols s) _ rules h in
+    let b = came (rules_of text symbols ss) _ rules a.gives in
+    let here = all_hold _ (IsFit (widest_of symbols)) (rule_fits text symbols (variables_of text s)) s.rules a.x a.is in
+    subst (All (IsFit (widest_of symbols))) (cc_some _ rules b.gives) (All-append (IsFit (widest_of symbols)) a.x b.x here (rules_fit text symbols ss b.x b.is))
 
 -- a head without variables is a symbol
 one_head : (text : List ℕ) (symbols : List Named) (n : written_node.Node) (i : Item) → item_in (record { text = text; symbols = symbols; variables = [] }) n ≡ Some i → has_head i ≡ true

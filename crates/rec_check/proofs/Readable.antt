@@ -1,30 +1,10 @@
 -- What terms and rules are read by: symbols and variables for all their heads.
-use Rattle.std.proofs.lemmas.Bool.Decides.{nat_tests}
-use Rattle.std.proofs.Common.{rules, ◌≡◌, ℕ, ◌+◌, ◌-◌, Bool, true, false, ◌&&◌, List, [], ◌∷◌, ◌++◌, length, slice_get, get_or, Option, Some, None, is_some, All, refl, sym, ap, subst, ◌∙◌, arith, position, length-append}
-use Rattle.std.specs.Prelude.{option_and_then, nat_le}
-use Rattle.std.specs.Option.{option_map}
-use Rattle.std.specs.List.{list_any, flat_map}
-use Rattle.std.specs.Str.{bytes_eq}
-use Rattle.std.proofs.lemmas.List.Elements.{All-weaker, All-head, All-tail}
-use Rattle.std.proofs.lemmas.Option.{slice_get_within, slice_get-get_or, get_or_from_slice_get}
-use Rattle.term_model.specs.Tree.{Tree, root}
-use Rattle.term_model.specs.Postorder.{postorder, tree_of, head_of}
-use Rattle.term_model.specs.declared.Item.{Item}
-use Rattle.term_model.proofs.Order.{only_postorder}
-use Rattle.term_model.proofs.Subtrees.{root_is_last}
-use Rattle.rewrite_model.specs.Rule.{Rule, Condition}
-use Rattle.symbol_pool.specs.Pool.{Named, named}
+use Rattle.rec_check.proofs.Common.{nat_tests, rules, ◌≡◌, ℕ, ◌-◌, Bool, true, false, ◌&&◌, List, [], ◌∷◌, length, slice_get, get_or, Option, Some, None, is_some, All, refl, sym, ap, subst, ◌∙◌, arith, position, length-append, option_and_then, nat_le, option_map, list_any, flat_map, bytes_eq, All-weaker, All-head, All-tail, slice_get_within, slice_get-get_or, get_or_from_slice_get, Tree, root, postorder, tree_of, head_of, Item, only_postorder, root_is_last, Rule, Condition, Named, named, Specification, IsWhole, text_of, Scope, all_of, item_in, item_by, symbol_item, variable_item, tree_in, same_symbol, most_arguments, condition_in, rule_in, variables_in, variables_of, terms_in}
 use Rattle.rec_reader.specs.declared.syntax_tree.Node as node
 use Rattle.rec_reader.specs.declared.syntax_tree.Rule as written
 use Rattle.rec_reader.specs.declared.syntax_tree.Condition as condition
-use Rattle.rec_reader.specs.declared.syntax_tree.Specification.{Specification}
-use Rattle.rec_reader.specs.Whole.{IsWhole}
-use Rattle.rec_includes.specs.Names.{text_of}
-use Rattle.rec_check.specs.Term.{Scope, all_of, item_in, item_by, symbol_item, variable_item, tree_in, same_symbol, most_arguments}
-use Rattle.rec_check.specs.Rule.{◌>>=◌, condition_in, rule_in, variables_in}
-use Rattle.rec_check.specs.Spelled.{variables_of, rules_in, rules_of, terms_in}
+use Rattle.rec_check.specs.Spelled.{rules_of}
 use Rattle.rec_check.proofs.Heads.{place_if_any, symbol_cases}
-use Rattle.rec_check.proofs.Chains.{goes, joined}
 use Rattle.rec_check.proofs.Sound.{Holds}
 use Rattle.rec_check.proofs.Whole.{IsOver, variable_over, symbol_over, whole_spells}
 
@@ -99,14 +79,9 @@ module _ (bytes : List ℕ) where
   over s n i h = grind (arith, nat_tests, variable_at_zero, symbol_cases, symbol_over)
 
   -- each of a list is spelled
-  all_spelled : {X Y : Type 0} (f : X → Option Y) (xs : List X) → All (λ x. is_some (f x) ≡ true) xs → (ys : List Y) × (all_of f xs ≡ Some ys)
-  all_spelled f [] a = ([], refl)
-  all_spelled {X} {Y} f (x ∷ xs) a =
-      let y = some_of (f x) (All-head (λ z. is_some (f z) ≡ true) x xs a) in
-      let ys = all_spelled f xs (All-tail (λ z. is_some (f z) ≡ true) x xs a) in (
-        y.0 ∷ ys.0,
-        ap (λ o. option_and_then (λ z. option_map (λ more. z ∷ more) (all_of f xs)) o) y.1 ∙ ap (option_map (λ more. y.0 ∷ more)) ys.1,
-      )
+  all_spelled : {X Y : Type 0} (f : X → Option Y) (xs : List X) → All (λ x. is_some (f x) ≡ true) xs → is_some (all_of f xs) ≡ true
+  all_spelled f [] a = refl
+  all_spelled {X} {Y} f (x ∷ xs) a = grind (arith, nat_tests, all_spelled f xs (All-tail (λ z. is_some (f z) ≡ true) x xs a), All-head (λ z. is_some (f z) ≡ true) x xs a)
 
   -- what stands at a place is spelled there
   spelled_at : {X Y : Type 0} (f : X → Option Y) (xs : List X) (ys : List Y) (k : ℕ) (x : X) (y : Y) → all_of f xs ≡ Some ys → slice_get xs k ≡ Some x → f x ≡ Some y → slice_get ys k ≡ Some y
@@ -127,17 +102,12 @@ module _ (bytes : List ℕ) where
   pub term_spelled : (symbols : List Named) (vars : List (List ℕ)) (nodes : List node.Node) → TermReads symbols vars nodes → Spelled (scope symbols vars) nodes
   term_spelled symbols vars nodes r =
       let s = scope symbols vars in
-      let a = all_spelled (λ n. item_in s n) nodes r.heads in
+      let a = some_of (all_of (λ n. item_in s n) nodes) (all_spelled (λ n. item_in s n) nodes r.heads) in
       let t = whole_spells (λ n. item_in s n) (over s) nodes a.0 a.1 r.whole in
       record { items = a.0; tree = t.0; are = a.1; is = t.1; spelled = ap (λ o. option_and_then (λ items. tree_of items) o) a.1 ∙ t.1 }
 
   condition_spelled : (symbols : List Named) (vars : List (List ℕ)) (c : condition.Condition) → SidesRead symbols vars c → is_some (condition_in (scope symbols vars) c) ≡ true
-  condition_spelled symbols vars c r =
-      let s = scope symbols vars in
-      let a = term_spelled symbols vars c.first r.first in
-      let b = term_spelled symbols vars c.second r.second in
-      ap is_some (goes (tree_in s c.first) a.tree (λ first. tree_in s c.second >>= λ second. let made : Condition = record { first = first; second = second; equal = c.equal } in Some made) a.spelled
-      ∙ goes (tree_in s c.second) b.tree (λ second. let made : Condition = record { first = a.tree; second = second; equal = c.equal } in Some made) b.spelled)
+  condition_spelled symbols vars c r = grind (arith, nat_tests, term_spelled symbols vars c.first r.first, term_spelled symbols vars c.second r.second)
 
   pub All-at : {A : Type 0} (P : A → Type 0) (xs : List A) (k : ℕ) (x : A) → All P xs → slice_get xs k ≡ Some x → P x
   All-at P xs k x a e = subst P (get_or_from_slice_get xs k x x e) (a k x (slice_get_within xs k x e))
@@ -166,26 +136,21 @@ module _ (bytes : List ℕ) where
   pub rule_spelled : (symbols : List Named) (declared : List (List ℕ)) (r : written.Rule) → RuleReads symbols declared r → is_some (rule_in bytes symbols declared r) ≡ true
   rule_spelled symbols declared r x =
       let vars = variables_in bytes declared r.left in
-      let s = scope symbols vars in
       let a = term_spelled symbols vars r.left x.left in
-      let b = term_spelled symbols vars r.right x.right in
-      let c = all_spelled (λ d. condition_in s d) r.conditions (All-weaker (SidesRead symbols vars) (λ d. is_some (condition_in s d) ≡ true) (λ d y. condition_spelled symbols vars d y) r.conditions x.conditions) in
       let n = last_node r.left x.left.whole in
       let read : IsRead symbols vars n.0 = All-at (IsRead symbols vars) r.left (length r.left - 1) n.0 x.left.heads n.1 in
-      let h = some_of (root a.tree) (has_root symbols vars r.left a n.0 n.1 (x.head n.0 n.1) read) in
-      ap is_some (joined s r a.tree b.tree c.0 h.0 a.spelled b.spelled c.1 h.1)
+      let one = λ (d : condition.Condition). is_some (condition_in (scope symbols vars) d) ≡ true in
+      let conditions = all_spelled (λ d. condition_in (scope symbols vars) d) r.conditions (All-weaker (SidesRead symbols vars) one (condition_spelled symbols vars) r.conditions x.conditions) in
+      grind (arith, nat_tests, a, term_spelled symbols vars r.right x.right, conditions, has_root symbols vars r.left a n.0 n.1 (x.head n.0 n.1) read)
 
   -- all rules of a specification, and of a list of specifications
-  pub rules_spelled : (symbols : List Named) (ts : List Specification) → All (Reads symbols) ts → (rules : List Rule) × (rules_of bytes symbols ts ≡ Some rules)
-  rules_spelled symbols [] a = ([], refl)
+  pub rules_spelled : (symbols : List Named) (ts : List Specification) → All (Reads symbols) ts → is_some (rules_of bytes symbols ts) ≡ true
+  rules_spelled symbols [] a = refl
   rules_spelled symbols (t ∷ ts) a =
       let declared = variables_of bytes t in
-      let one = all_spelled (λ r. rule_in bytes symbols declared r) t.rules (All-weaker (RuleReads symbols declared) (λ r. is_some (rule_in bytes symbols declared r) ≡ true) (λ r x. rule_spelled symbols declared r x) t.rules (All-head (Reads symbols) t ts a)) in
-      let rest = rules_spelled symbols ts (All-tail (Reads symbols) t ts a) in (
-        one.0 ++ rest.0,
-        goes (rules_in bytes symbols t) one.0 (λ rules. rules_of bytes symbols ts >>= λ more. Some (rules ++ more)) one.1
-            ∙ goes (rules_of bytes symbols ts) rest.0 (λ more. Some (one.0 ++ more)) rest.1,
-      )
+      let one = λ (r : written.Rule). is_some (rule_in bytes symbols declared r) ≡ true in
+      let first = all_spelled (λ r. rule_in bytes symbols declared r) t.rules (All-weaker (RuleReads symbols declared) one (rule_spelled symbols declared) t.rules (All-head (Reads symbols) t ts a)) in
+      grind (arith, nat_tests, first, rules_spelled symbols ts (All-tail (Reads symbols) t ts a))
 
   -- how many rules are spelled
   pub length-rules : (symbols : List Named) (ts : List Specification) (rules : List Rule) → rules_of bytes symbols ts ≡ Some rules → length rules ≡ length (flat_map (λ t. t.rules) ts)
@@ -193,7 +158,7 @@ module _ (bytes : List ℕ) where
   length-rules symbols (t ∷ ts) rules h = grind (arith, nat_tests, length-rules symbols ts, same_length, length-append)
 
   -- terms without variables
-  pub terms_spelled : (symbols : List Named) (terms : List (List node.Node)) → All (TermReads symbols []) terms → (trees : List Tree) × (terms_in bytes symbols terms ≡ Some trees)
+  pub terms_spelled : (symbols : List Named) (terms : List (List node.Node)) → All (TermReads symbols []) terms → is_some (terms_in bytes symbols terms) ≡ true
   terms_spelled symbols terms a =
-      all_spelled (λ t. tree_in (scope symbols []) t) terms
-      (All-weaker (TermReads symbols []) (λ t. is_some (tree_in (scope symbols []) t) ≡ true) (λ t r. ap is_some (term_spelled symbols [] t r).spelled) terms a)
+      let one = λ (t : List node.Node). is_some (tree_in (scope symbols []) t) ≡ true in
+      all_spelled (λ t. tree_in (scope symbols []) t) terms (All-weaker (TermReads symbols []) one (λ t r. ap is_some (term_spelled symbols [] t r).spelled) terms a)

@@ -1,23 +1,7 @@
 -- Material without offence: what its symbols are, and that its rules are spelled by them.
-use Rattle.std.proofs.Common.{◌≡◌, ℕ, ◌+◌, ◌<◌, ◌≤◌, Bool, true, false, ◌&&◌, ◌||◌, List, [], ◌∷◌, ◌++◌, length, map, nat_lt, Some, refl, sym, ap, ◌∙◌, arith, length-append, fold, nat_eq, slice_get, All, subst}
-use Rattle.std.specs.Prelude.{nat_le, if◌then◌else◌}
-use Rattle.std.specs.List.{list_any, list_all, flat_map, filter}
-use Rattle.std.proofs.lemmas.Bool.Decides.{nat_tests}
-use Rattle.std.proofs.lemmas.List.{append_assoc, append-nil, map-append, length-map}
-use Rattle.symbol_pool.specs.Pool.{named, most_symbols, Named}
-use Rattle.rec_reader.specs.declared.token.Name.{Name}
-use Rattle.rec_includes.specs.Names.{text_of, same_text, is_among}
-use Rattle.rec_includes.specs.Material.{Declared, Header, brought, fresh, with_numbers, symbols_by, symbols_of, rules_of, specifications_at}
-use Rattle.rec_offences.specs.Offences.{repeated, Include, includes_from, symbol_names, is_clashing, is_passing, passes, most}
-use Rattle.rec_check.specs.Term.{same_symbol, most_arguments}
-use Rattle.rec_check.specs.Symbols.{named_in, with_symbol, with_symbols}
+use Rattle.rec_check.proofs.Common.{◌≡◌, ℕ, ◌+◌, ◌<◌, ◌≤◌, Bool, true, false, ◌&&◌, ◌||◌, List, [], ◌∷◌, ◌++◌, length, map, Some, refl, sym, ap, ◌∙◌, arith, length-append, fold, nat_eq, slice_get, All, subst, nat_le, if◌then◌else◌, list_any, list_all, flat_map, filter, nat_tests, append_assoc, append-nil, map-append, length-map, named, most_symbols, Named, Name, text_of, same_text, is_among, Declared, Header, brought, fresh, with_numbers, symbols_by, symbols_of, rules_of, specifications_at, repeated, Include, includes_from, symbol_names, is_clashing, is_passing, passes, most, same_symbol, most_arguments, named_in, with_symbol, with_symbols, common_steps, flat_map-append, option_to_list, eqb-true, All-append, All-weaker, All-nil, All-cons, All-head, All-tail, list_all-append, Specification}
+use Rattle.std.proofs.Common.{nat_lt}
 use Rattle.rec_check.proofs.Numbered.{any_append}
-use Rattle.std.proofs.lemmas.Grind.{common_steps, flat_map-append}
-use Rattle.std.specs.Option.{option_to_list}
-use Rattle.std.proofs.lemmas.Bool.{eqb-true}
-use Rattle.std.proofs.lemmas.List.Elements.{All-append, All-weaker, All-nil, All-cons, All-head, All-tail}
-use Rattle.std.proofs.lemmas.List.Folds.{list_all-append}
-use Rattle.rec_reader.specs.declared.syntax_tree.Specification.{Specification}
 use Rattle.rec_check.proofs.Faultless.{left_empty, right_empty}
 
 -- ---- names that aren't repeated, and symbols with such names
@@ -59,7 +43,7 @@ module _ (bytes : List ℕ) where
   within_more e f more w = grind (arith, nat_tests, or_false, among-append, false_or)
 
   pub within_after : (e f more : List Name) → Within e f → Within e (f ++ more)
-  within_after e f more w = record { each = λ n h. w.each n (or_false (is_among bytes f n) (is_among bytes more n) (sym (among-append f more n) ∙ h)).0 }
+  within_after e f more w = grind (arith, nat_tests, among-append f more)
 
   pub fewer : (e f xs : List Name) → Within e f → repeated bytes f xs ≡ [] → repeated bytes e xs ≡ []
   fewer e f [] w h = refl
@@ -169,14 +153,10 @@ module _ (bytes : List ℕ) (Reads : List Named → Specification → Type 0) (k
   all_fresh : (P : Specification → Type 0) (specs : List Specification) (a b : List ℕ) → All P (specifications_at specs b) → All P (specifications_at specs (fresh a b))
   all_fresh P specs a [] h = h
   all_fresh P specs a (n ∷ ns) h =
-      by (list_any (nat_eq n) a) (all_front P (option_to_list (slice_get specs n)) (specifications_at specs ns) h)
-      (all_fresh P specs a ns (all_back P (option_to_list (slice_get specs n)) (specifications_at specs ns) h))
-      (all_fresh P specs (a ++ n ∷ []) ns (all_back P (option_to_list (slice_get specs n)) (specifications_at specs ns) h))
-    where
-      by : (b : Bool) → All P (option_to_list (slice_get specs n)) → All P (specifications_at specs (fresh a ns)) → All P (specifications_at specs (fresh (a ++ n ∷ []) ns))
-          → All P (specifications_at specs (if b then fresh a ns else n ∷ fresh (a ++ n ∷ []) ns))
-      by true x y z = y
-      by false x y z = All-append P (option_to_list (slice_get specs n)) (specifications_at specs (fresh (a ++ n ∷ []) ns)) x z
+      let first = all_front P (option_to_list (slice_get specs n)) (specifications_at specs ns) h in
+      let rest = all_back P (option_to_list (slice_get specs n)) (specifications_at specs ns) h in
+      let both = All-append P (option_to_list (slice_get specs n)) (specifications_at specs (fresh (a ++ n ∷ []) ns)) first (all_fresh P specs (a ++ n ∷ []) ns rest) in
+      grind (arith, nat_tests, all_fresh P specs a ns rest, both)
 
   among_numbers : (s : Named) (specs : List Specification) (a : List ℕ) (n : ℕ) → list_any (nat_eq n) a ≡ true → any_at s specs (n ∷ []) ≡ true → any_at s specs a ≡ true
   among_numbers s specs [] n h k = absurd cc
@@ -204,11 +184,10 @@ module _ (bytes : List ℕ) (Reads : List Named → Specification → Type 0) (k
       let new = fresh i.before brings in
       let ms = i.before ++ new in
       let p = or_false (passes (length (symbols_of specs i.before)) (length (symbols_of specs (i.before ++ i.added)))) (passes (length (rules_of specs i.before)) (length (rules_of specs (i.before ++ i.added)))) pass in
-      let clash' : list_any (is_among bytes (symbol_names specs i.before)) (symbol_names specs new) ≡ false = ap (λ x. list_any (is_among bytes (symbol_names specs i.before)) (symbol_names specs x)) (sym e) ∙ clash in
+      let clash' : list_any (is_among bytes (symbol_names specs i.before)) (symbol_names specs new) ≡ false = grind (arith, e) in
       let none : Within bytes [] [] = record { each = λ n h. h } in
       let alone : repeated bytes [] (symbol_names specs new) ≡ [] = distinct_fresh specs i.before brings [] [] none b.distinct in
-      let beside : repeated bytes (symbol_names specs i.before) (symbol_names specs new) ≡ [] =
-      ap (λ f. repeated bytes f (symbol_names specs new)) (sym (append-nil (symbol_names specs i.before))) ∙ beside_others bytes (symbol_names specs i.before) [] (symbol_names specs new) clash' alone in
+      let beside : repeated bytes (symbol_names specs i.before) (symbol_names specs new) ≡ [] = grind (arith, append-nil, beside_others bytes (symbol_names specs i.before) [] (symbol_names specs new) clash' alone) in
       record {
         within = list_all-append (λ n. nat_lt n (length specs)) i.before new ∙ (λ j. a.within j && pass_fresh (λ n. nat_lt n (length specs)) i.before brings b.within j);
         distinct = ap (repeated bytes []) (names-append specs i.before new) ∙ repeated-append bytes [] (symbol_names specs i.before) (symbol_names specs new) ∙ (λ j. a.distinct j ++ beside j);
@@ -216,23 +195,17 @@ module _ (bytes : List ℕ) (Reads : List Named → Specification → Type 0) (k
         few_rules = subst (λ x. length (rules_of specs (i.before ++ x)) ≤ most) e (not_passing (length (rules_of specs i.before)) (length (rules_of specs (i.before ++ i.added))) a.few_rules p.1);
         few = few_append specs i.before new ∙ (λ j. a.few j && few_fresh specs i.before brings b.few j);
         reads =
-            subst (All (Reads (symbols_at specs ms))) (sym (at-append specs i.before new))
-            (All-append (Reads (symbols_at specs ms)) (specifications_at specs i.before) (specifications_at specs new)
-            (All-weaker (Reads (symbols_at specs i.before)) (Reads (symbols_at specs ms)) (λ t r. keeps (symbols_at specs i.before) (symbols_at specs ms) t (holds_before specs i.before new) r) (specifications_at specs i.before) a.reads)
-            (all_fresh (Reads (symbols_at specs ms)) specs i.before brings
-            (All-weaker (Reads (symbols_at specs brings)) (Reads (symbols_at specs ms)) (λ t r. keeps (symbols_at specs brings) (symbols_at specs ms) t (holds_brought specs i.before brings) r) (specifications_at specs brings) b.reads)));
+            let P = Reads (symbols_at specs ms) in
+            let first = All-weaker (Reads (symbols_at specs i.before)) P (λ t r. keeps (symbols_at specs i.before) (symbols_at specs ms) t (holds_before specs i.before new) r) (specifications_at specs i.before) a.reads in
+            let more = All-weaker (Reads (symbols_at specs brings)) P (λ t r. keeps (symbols_at specs brings) (symbols_at specs ms) t (holds_brought specs i.before brings) r) (specifications_at specs brings) b.reads in
+            subst (All P) (sym (at-append specs i.before new)) (All-append P _ _ first (all_fresh P specs i.before brings more));
       }
 
   -- ---- all entries
 
   sound_brought : (specs : List Specification) (hs : List Header) (n : Name) → All (λ h. Sound specs h.material) hs → Sound specs (brought bytes hs n)
   sound_brought specs [] n a = sound_none specs
-  sound_brought specs (h ∷ hs) n a =
-      by (same_text bytes h.name n) (All-head (λ g. Sound specs g.material) h hs a) (sound_brought specs hs n (All-tail (λ g. Sound specs g.material) h hs a))
-    where
-      by : (b : Bool) → Sound specs h.material → Sound specs (brought bytes hs n) → Sound specs (if b then h.material else brought bytes hs n)
-      by true p q = p
-      by false p q = q
+  sound_brought specs (h ∷ hs) n a = grind (arith, All-head (λ g. Sound specs g.material) h hs a, sound_brought specs hs n (All-tail (λ g. Sound specs g.material) h hs a))
 
   pub sound_entries : (specs : List Specification) (hs : List Header) → All (λ h. Sound specs h.material) hs → (entries : List Name) (so_far : List ℕ) → Sound specs so_far
       → map (λ i. i.entry) (filter (is_clashing bytes specs) (includes_from bytes hs so_far entries)) ≡ [] → map (λ i. i.entry) (filter (is_passing specs) (includes_from bytes hs so_far entries)) ≡ []

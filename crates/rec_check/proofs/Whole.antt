@@ -1,16 +1,8 @@
 -- Whole terms spell trees.
-use Rattle.std.proofs.Common.{◌≡◌, ℕ, zero, suc, ◌+◌, ◌-◌, ◌≤◌, Bool, true, false, List, [], ◌∷◌, length, Option, Some, None, refl, sym, ap, ◌∙◌, arith}
-use Rattle.std.specs.Prelude.{option_and_then, nat_lt, if◌then◌else◌}
-use Rattle.std.specs.Option.{option_map}
-use Rattle.std.proofs.lemmas.Bool.Decides.{nat_tests}
-use Rattle.term_model.specs.Tree.{Tree, Leaf, Node, Trees, End, More}
-use Rattle.term_model.specs.Postorder.{tree_of, push_item, push_items, push_over, take_trees, only_one}
+use Rattle.rec_check.proofs.Common.{◌≡◌, ℕ, zero, suc, ◌+◌, ◌-◌, ◌≤◌, Bool, true, false, List, [], ◌∷◌, length, Option, Some, None, refl, sym, ap, ◌∙◌, arith, option_and_then, nat_lt, if◌then◌else◌, option_map, nat_tests, nil_from_length, Tree, Leaf, Trees, End, More, tree_of, push_item, push_items, push_over, take_trees, Item, Var, App, terms_after, IsWhole, all_of}
+use Rattle.term_model.specs.Tree.{Node}
 use Rattle.term_model.specs.declared.Head.TheVariants as head
-use Rattle.term_model.specs.declared.Item.{Item}
-use Rattle.term_model.specs.declared.Item.TheVariants.{Var, App}
 use Rattle.rec_reader.specs.declared.syntax_tree.Node as written
-use Rattle.rec_reader.specs.Whole.{terms_after, IsWhole}
-use Rattle.rec_check.specs.Term.{all_of}
 
 -- what may be taken from a stack
 record Took (n : ℕ) (stack : List Tree) (taken : Trees) : Type 0 where
@@ -56,22 +48,15 @@ module _ (f : written.Node → Option Item) (over : (n : written.Node) (i : Item
       by (Some i) None p q h b t w on = absurd cc
       by (Some i) (Some more) p q h true t w on = absurd cc
       by (Some i) (Some more) p q h false t w on =
-          let is : items ≡ i ∷ more = cc in
           let l : node.count ≤ length stack = grind (arith, nat_tests) in
           let r = (over node i p).push stack l in
           let c = r.2 in
-          let k : n - node.count + 1 ≡ length r.0 = omega arith in
-          let rest = on more r.0 (n - node.count + 1) q k w in
-          record {
-            after = rest.after;
-            is = ap (λ is. push_items is stack) is ∙ ap (λ o. option_and_then (λ s. push_items more s) o) r.1 ∙ rest.is;
-            count = rest.count;
-          }
+          let rest = on more r.0 (n - node.count + 1) q (omega arith) w in
+          record { after = rest.after; is = grind (arith, h, r.1, rest.is); count = rest.count }
 
   one_left : (items : List Item) (after : List Tree) → push_items items [] ≡ Some after → length after ≡ 1 → (t : Tree) × (tree_of items ≡ Some t)
   one_left items [] e l = absurd (omega arith)
-  one_left items (t ∷ []) e l = (t, ap only_one e)
-  one_left items (t ∷ u ∷ us) e l = absurd (omega arith)
+  one_left items (t ∷ us) e l = (t, grind (arith, nil_from_length us))
 
   -- the items of a whole term spell a tree
   pub whole_spells : (nodes : List written.Node) (items : List Item) → all_of f nodes ≡ Some items → IsWhole nodes → (t : Tree) × (tree_of items ≡ Some t)

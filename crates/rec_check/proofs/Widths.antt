@@ -1,13 +1,5 @@
 -- What is spelled has no symbol of more than 16 arguments.
-use Rattle.std.proofs.Common.{◌≡◌, ◌≤◌, List, [], ◌∷◌, ◌++◌, Some, ap, subst, arith}
-use Rattle.std.specs.Prelude.{max}
-use Rattle.std.proofs.lemmas.Bool.Decides.{nat_tests}
-use Rattle.symbol_pool.specs.Pool.{Named}
-use Rattle.rec_reader.specs.Parsed.{Parsed}
-use Rattle.rec_includes.specs.Material.{symbols_of}
-use Rattle.rec_check.specs.Symbols.{named_in, with_symbol, with_symbols, widest_of}
-use Rattle.rec_check.specs.Spelled.{Specified}
-use Rattle.rec_check.specs.Run.{spelled_in}
+use Rattle.rec_check.proofs.Common.{◌≡◌, ◌≤◌, List, [], ◌∷◌, ◌++◌, Some, subst, arith, nat_tests, Named, Parsed, symbols_of, named_in, with_symbol, with_symbols, widest_of, Specified, spelled_in}
 use Rattle.rec_check.proofs.Plans.{cc_some, from_then, last_material, of_spelled}
 use Rattle.rec_check.proofs.Declaring.{widest_of-push}
 
@@ -22,12 +14,7 @@ stays : (symbols ss made : List Named) → widest_of symbols ≤ 16
 stays symbols [] made few h = subst (λ m. widest_of m ≤ 16) (cc_some symbols made h) few
 stays symbols (s ∷ ss) made few h =
     let a = from_then (λ more. with_symbols more ss) (with_symbol symbols s) made h in
-    let one = added symbols a.x s a.is in
-    let w = widest_of-push symbols s in
-    let same = ap widest_of one.1 in
-    let wide : max (widest_of symbols) s.arity ≤ 16 =
-    (let low = one.0 in grind (arith, few, low)) in
-    stays a.x ss made (omega (arith, w, same, wide)) a.gives
+    stays a.x ss made (grind (arith, added symbols a.x s a.is, widest_of-push symbols s)) a.gives
 
 pub few_arguments : (syntax : Parsed) (spec : Specified) → spelled_in syntax ≡ Some spec
     → widest_of spec.symbols ≤ 16

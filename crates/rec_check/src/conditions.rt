@@ -6,9 +6,9 @@ ghost use Rattle.rec_includes.specs.Material.{rules_of};
 ghost use Rattle.rec_check.specs.Conditional.{IsConditional, first_if, ifs_of, least_with};
 
 use crate::last::last_material;
-use crate::spelling::specification_at;
 use faults::kinds;
 use rec_includes::headers_in;
+use rec_offences::specification_at;
 use rec_reader::{ReadFail, Rule, Specification, Syntax};
 use std::alloc::Global;
 

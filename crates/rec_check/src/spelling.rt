@@ -1,8 +1,7 @@
 //! What specifications spell together.
 
-ghost use Rattle.std.specs.Prelude.{◌≡◌, ◌++◌, [], All, Some, slice_get, IfOk, IsSome, OnOk};
+ghost use Rattle.std.specs.Prelude.{◌≡◌, ◌++◌, [], All, Some, IfOk, IsSome, OnOk};
 ghost use Rattle.std.specs.List.{flat_map};
-ghost use Rattle.std.specs.Option.{option_copied};
 ghost use Rattle.rec_reader.specs.Few.{HasFewNodes, HasFewLeftNodes};
 ghost use Rattle.rec_check.specs.Symbols.{named_in, with_symbols};
 ghost use Rattle.rec_check.specs.Rule.{rule_in};
@@ -16,21 +15,13 @@ use crate::scope::Scope;
 use crate::table::Table;
 use crate::terms::trees_of;
 use faults::Memory;
-use rec_includes::Directory;
+use rec_includes::{Directory, text_of};
+use rec_offences::{specification_at, symbols_at};
 use rec_reader::{Node, Rule as WrittenRule, Sequence, Specification};
 use rewrite_model::Rule;
 use std::alloc::Global;
 use symbol_pool::Symbols;
 use term_model::Flat;
-
-pub(crate) fn specification_at(
-    specifications: &[Specification],
-    number: usize,
-) -> Option<&Specification>
-    ensures { option_copied result ≡ slice_get specifications.now number }
-{
-    specifications.get(number)
-}
 
 /// The symbols that these of the specifications declare, in order.
 pub(crate) fn table_of(
@@ -46,10 +37,9 @@ pub(crate) fn table_of(
         ≡ Some t.symbols) }
 {
     let mut table = Table::new(alloc);
-    for number in material {
-        if let Some(specification) = specification_at(specifications, *number) {
-            table.declare(text, specification.declarations.as_slice())?;
-        }
+    let symbols = symbols_at(alloc, specifications, material)?;
+    for symbol in &symbols {
+        table.add(text_of(text, symbol.name), symbol.arguments.len())?;
     }
     Ok(table)
 }

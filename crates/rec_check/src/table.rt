@@ -4,8 +4,6 @@ ghost use Rattle.std.specs.Prelude.{◌≡◌, Some, IsSome, OnOk};
 ghost use Rattle.rec_check.specs.Symbols.{widest_of};
 
 use faults::Memory;
-use rec_includes::text_of;
-use rec_reader::{Declaration, Name};
 use std::alloc::Global;
 use symbol_pool::{PoolFault, Symbols};
 
@@ -18,12 +16,9 @@ pub(crate) struct Table {
 }
 
 impl Table {
-    ghost use Rattle.std.specs.Prelude.{[], map};
-    ghost use Rattle.std.specs.List.{flat_map};
-    ghost use Rattle.rec_includes.specs.Names.{text_of};
-    ghost use Rattle.rec_includes.specs.Material.{symbols_of_declaration};
+    ghost use Rattle.std.specs.Prelude.{[]};
     ghost use Rattle.symbol_pool.specs.Pool.{named};
-    ghost use Rattle.rec_check.specs.Symbols.{with_symbol, with_symbols, named_in};
+    ghost use Rattle.rec_check.specs.Symbols.{with_symbol};
 
     /// No symbols. It takes no memory.
     pub(crate) fn new(alloc: Global) -> Self
@@ -36,7 +31,7 @@ impl Table {
     }
 
     /// Adds a symbol that isn't there.
-    fn add(&mut self, name: &[u8], arity: usize) -> Result<(), Memory>
+    pub(crate) fn add(&mut self, name: &[u8], arity: usize) -> Result<(), Memory>
         requires { IsSome (with_symbol self.old.symbols (named name.now arity)) }
         ensures { OnOk result (with_symbol self.old.symbols (named name.now arity)
             ≡ Some self.new.symbols) }
@@ -50,36 +45,5 @@ impl Table {
             Err(PoolFault::Full) => unreachable!(),
             Err(PoolFault::Memory) => Err(Memory),
         }
-    }
-
-    fn add_names(&mut self, text: &[u8], names: &[Name], arity: usize) -> Result<(), Memory>
-        requires { IsSome (with_symbols self.old.symbols
-            (map (λ n. named (text_of text.now n) arity) names.now)) }
-        ensures { OnOk result (with_symbols self.old.symbols
-            (map (λ n. named (text_of text.now n) arity) names.now) ≡ Some self.new.symbols) }
-    {
-        for name in names {
-            self.add(text_of(text, *name), arity)?;
-        }
-        Ok(())
-    }
-
-    /// Adds the symbols of declarations, in order.
-    pub(crate) fn declare(
-        &mut self,
-        text: &[u8],
-        declarations: &[Declaration],
-    ) -> Result<(), Memory>
-        requires { IsSome (with_symbols self.old.symbols
-            (named_in text.now (flat_map symbols_of_declaration declarations.now))) }
-        ensures { OnOk result (with_symbols self.old.symbols
-            (named_in text.now (flat_map symbols_of_declaration declarations.now))
-            ≡ Some self.new.symbols) }
-    {
-        for declaration in declarations {
-            let arity = declaration.arguments.as_slice().len();
-            self.add_names(text, declaration.names.as_slice(), arity)?;
-        }
-        Ok(())
     }
 }

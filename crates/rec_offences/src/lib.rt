@@ -16,3 +16,5 @@ mod turn;
 pub use checking::{fault, fault_with};
 pub use faults::{Memory, Refusal};
 pub use laws::{fault_laws, visit_laws};
+pub use numbered::{specification_at, symbols_at};
+pub use signatures::Signature;

@@ -13,7 +13,8 @@ use rec_includes::Directory;
 use rec_reader::{Name, Specification};
 use std::alloc::Global;
 
-fn specification_at(specifications: &[Specification], number: usize) -> Option<&Specification>
+/// The specification with this number.
+pub fn specification_at(specifications: &[Specification], number: usize) -> Option<&Specification>
     ensures { option_copied result ≡ slice_get specifications.now number }
 {
     specifications.get(number)
@@ -37,7 +38,7 @@ fn add_symbols_at<'a>(
 
 /// The symbols of the specifications with these numbers.
 #[tactic(auto, using(std::proofs::lemmas::Grind::common_steps, rec_includes::proofs::Gathered::gathered_turn, rec_includes::proofs::Gathered::default_in, crate::proofs::Levels::entries_append))]
-pub(crate) fn symbols_at<'a>(
+pub fn symbols_at<'a>(
     alloc: Global,
     specifications: &'a [Specification],
     numbers: &[usize],

@@ -10,7 +10,7 @@ use std::alloc::Global;
 
 /// A symbol with the sorts of its arguments and its own, or a variable with its sort.
 #[derive(Clone, Copy)]
-pub(crate) struct Signature<'a> {
+pub struct Signature<'a> {
     pub name: Name,
     pub arguments: &'a [Name],
     pub sort: Name,

@@ -1,5 +1,4 @@
-use Rattle.std.proofs.Common.{◌≡◌, drop}
-use Rattle.rec_check.specs.Conditional.{ifs_of, least_with}
+use Rattle.rec_check.proofs.Common.{◌≡◌, drop, ifs_of, least_with}
 use Rattle.rec_check.proofs.conditions.first_in.Given as goal
 
 abbrev pub invariant-loop-rule : goal.invariant-loop-rule

@@ -1,5 +1,4 @@
-use Rattle.std.proofs.Common.{arith}
-use Rattle.std.proofs.lemmas.Grind.{common_steps}
+use Rattle.rec_check.proofs.Common.{arith, common_steps}
 use Rattle.rec_check.proofs.Ifs.{past_specification, past_nothing}
 use Rattle.rec_check.proofs.conditions.first_of.Goals.{in-Some, in_default}
 use Rattle.rec_check.proofs.conditions.first_of.Goals as goal

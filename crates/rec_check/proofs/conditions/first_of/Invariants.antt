@@ -1,6 +1,4 @@
-use Rattle.std.proofs.Common.{◌≡◌, drop, None}
-use Rattle.rec_includes.specs.Material.{rules_of}
-use Rattle.rec_check.specs.Conditional.{ifs_of, least_with}
+use Rattle.rec_check.proofs.Common.{◌≡◌, drop, None, rules_of, ifs_of, least_with}
 use Rattle.rec_check.proofs.conditions.first_of.Given as goal
 
 abbrev pub invariant-loop-number : goal.invariant-loop-number

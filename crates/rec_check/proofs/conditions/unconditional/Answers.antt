@@ -1,5 +1,4 @@
-use Rattle.std.proofs.Common.{arith}
-use Rattle.std.proofs.lemmas.Grind.{common_steps}
+use Rattle.rec_check.proofs.Common.{arith, common_steps}
 use Rattle.rec_check.proofs.Ifs.{is_first}
 use Rattle.rec_check.proofs.conditions.unconditional.Goals as goal
 

@@ -1,7 +1,4 @@
-use Rattle.std.proofs.Common.{◌≡◌, drop}
-use Rattle.rec_check.specs.Scope.{seen}
-use Rattle.rec_check.specs.Term.{after, all_of}
-use Rattle.rec_check.specs.Rule.{condition_in}
+use Rattle.rec_check.proofs.Common.{◌≡◌, drop, seen, after, all_of, condition_in}
 use Rattle.rec_check.proofs.rules.conditions_of.Given as goal
 
 abbrev pub invariant-loop-condition : goal.invariant-loop-condition

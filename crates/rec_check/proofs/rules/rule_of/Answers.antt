@@ -1,11 +1,4 @@
-use Rattle.std.proofs.lemmas.Grind.{common_steps}
-use Rattle.std.proofs.Common.{◌≡◌, ◌∙◌, ◌<◌, List, Option, Some, IfOk, length, ap, sym, subst, arith}
-use Rattle.std.proofs.lemmas.List.{length-map}
-use Rattle.rewrite_model.specs.Rule.{Rule}
-use Rattle.rec_reader.specs.declared.syntax_tree.Node.{Node}
-use Rattle.rec_includes.specs.Names.{text_of}
-use Rattle.rec_includes.specs.Listing.{texts}
-use Rattle.rec_check.specs.Rule.{variables_in}
+use Rattle.rec_check.proofs.Common.{common_steps, ◌≡◌, ◌∙◌, ◌<◌, List, Option, Some, IfOk, length, ap, sym, subst, arith, length-map, Rule, Node, text_of, texts, variables_in}
 use Rattle.rec_check.proofs.Chains.{in_scope}
 use Rattle.rec_check.proofs.Numbered.{variables_few}
 use Rattle.rec_check.proofs.rules.rule_of.Goals as goal
@@ -27,8 +20,5 @@ invariant_of-scope c =
     let v = c.in_ok-variables.variables in
     let nodes : List Node = c.as_slice.result.now in
     let below : length nodes < 4294967296 = subst (λ (ns : List Node). length ns < 4294967296) (sym c.as_slice.ensures) c.requires.few in
-    let few = variables_few d.bytes (texts d) nodes below in
-    let same = length-map v.names (λ n. text_of v.bytes n) in
-    let all : length (texts v) ≡ length (variables_in d.bytes (texts d) nodes) = ap length c.in_ok-variables.ensures.texts in
-    let fits : length v.names < 4294967296 = omega (arith, few, same, all) in
-    record { few = fits }
+    let all = ap length c.in_ok-variables.ensures.texts in
+    record { few = grind (arith, variables_few d.bytes (texts d) nodes below, length-map v.names (λ n. text_of v.bytes n), all) }

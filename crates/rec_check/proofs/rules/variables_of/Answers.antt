@@ -1,4 +1,4 @@
-use Rattle.std.proofs.Common.{◌∙◌}
+use Rattle.rec_check.proofs.Common.{◌∙◌}
 use Rattle.rec_check.proofs.Declaring.{takes, stands_in, passes_over}
 use Rattle.rec_check.proofs.rules.variables_of.Goals.{then-has+in_ok-add_new, else-has}
 use Rattle.rec_check.proofs.rules.variables_of.Goals as goal

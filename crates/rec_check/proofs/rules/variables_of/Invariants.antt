@@ -1,10 +1,5 @@
-use Rattle.std.proofs.Common.{◌≡◌, drop, map, filter}
-use Rattle.std.specs.List.{list_any}
-use Rattle.std.specs.Str.{bytes_eq}
-use Rattle.rec_includes.specs.Names.{text_of}
-use Rattle.rec_includes.specs.Listing.{texts}
-use Rattle.rec_check.specs.Named.{with_names}
-use Rattle.rec_check.specs.Rule.{variables_in}
+use Rattle.rec_check.proofs.Common.{◌≡◌, drop, map, list_any, bytes_eq, text_of, texts, with_names, variables_in}
+use Rattle.std.proofs.Common.{filter}
 use Rattle.rec_check.proofs.rules.variables_of.Given as goal
 
 abbrev pub invariant-loop-node : goal.invariant-loop-node

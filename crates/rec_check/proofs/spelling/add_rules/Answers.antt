@@ -1,6 +1,4 @@
-use Rattle.std.proofs.Common.{rules, ◌∙◌, ◌++◌, ap, is_some}
-use Rattle.std.specs.List.{flat_map}
-use Rattle.rec_includes.specs.Listing.{listing}
+use Rattle.rec_check.proofs.Common.{rules, ◌∙◌, ◌++◌, ap, is_some, flat_map, listing}
 use Rattle.rec_check.proofs.Declaring.{of_rules, on_rules}
 use Rattle.rec_check.proofs.spelling.add_rules.Goals as goal
 

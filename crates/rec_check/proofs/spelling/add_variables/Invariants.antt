@@ -1,5 +1,4 @@
-use Rattle.std.proofs.Common.{◌≡◌, ◌++◌, drop}
-use Rattle.std.specs.List.{flat_map}
+use Rattle.rec_check.proofs.Common.{◌≡◌, ◌++◌, drop, flat_map}
 use Rattle.rec_check.proofs.spelling.add_variables.Given as goal
 
 abbrev pub invariant-loop-declared : goal.invariant-loop-declared

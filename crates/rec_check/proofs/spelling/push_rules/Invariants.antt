@@ -1,7 +1,4 @@
-use Rattle.std.proofs.Common.{◌≡◌, drop}
-use Rattle.rec_includes.specs.Listing.{texts}
-use Rattle.rec_check.specs.Term.{after, all_of}
-use Rattle.rec_check.specs.Rule.{rule_in}
+use Rattle.rec_check.proofs.Common.{◌≡◌, drop, texts, after, all_of, rule_in}
 use Rattle.rec_check.proofs.spelling.push_rules.Given as goal
 
 abbrev pub invariant-loop-rule : goal.invariant-loop-rule

@@ -1,6 +1,4 @@
-use Rattle.std.proofs.Common.{◌≡◌, drop}
-use Rattle.rec_includes.specs.Material.{specifications_at}
-use Rattle.rec_check.specs.Term.{after}
+use Rattle.rec_check.proofs.Common.{◌≡◌, drop, specifications_at, after}
 use Rattle.rec_check.specs.Spelled as spelled
 use Rattle.rec_check.proofs.spelling.rules_of.Given as goal
 

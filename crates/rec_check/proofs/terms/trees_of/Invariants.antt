@@ -1,6 +1,4 @@
-use Rattle.std.proofs.Common.{◌≡◌, drop}
-use Rattle.rec_check.specs.Scope.{seen}
-use Rattle.rec_check.specs.Term.{after, all_of, tree_in}
+use Rattle.rec_check.proofs.Common.{◌≡◌, drop, seen, after, all_of, tree_in}
 use Rattle.rec_check.proofs.terms.trees_of.Given as goal
 
 abbrev pub invariant-loop-nodes : goal.invariant-loop-nodes

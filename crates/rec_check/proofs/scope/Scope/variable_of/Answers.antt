@@ -1,7 +1,4 @@
-use Rattle.std.proofs.lemmas.Grind.{common_steps}
-use Rattle.std.proofs.Common.{◌∙◌, arith}
-use Rattle.std.specs.Str.{bytes_eq}
-use Rattle.rec_includes.specs.Names.{text_of}
+use Rattle.rec_check.proofs.Common.{common_steps, ◌∙◌, arith, bytes_eq, text_of}
 use Rattle.rec_check.proofs.Heads.{no_variable}
 use Rattle.rec_check.proofs.Declaring.{place_of_name}
 use Rattle.rec_check.proofs.scope.Scope.variable_of.Goals as goal

@@ -1,5 +1,4 @@
-use Rattle.std.proofs.Common.{arith}
-use Rattle.std.proofs.lemmas.Grind.{common_steps}
+use Rattle.rec_check.proofs.Common.{arith, common_steps}
 use Rattle.rec_check.proofs.Declaring.{lacks, comes_last, widest_of-push}
 use Rattle.rec_check.proofs.table.Table.add.Goals as goal
 
@@ -7,4 +6,4 @@ pub invariant_of-self : goal.invariant_of-self
 invariant_of-self c = grind (arith, common_steps, lacks, widest_of-push)
 
 pub returns-in-Ok : goal.returns-in-Ok
-returns-in-Ok c = comes_last _ _ c.requires _ (c.in-Ok.ensures.added (lacks _ _ c.requires))
+returns-in-Ok c = grind (arith, common_steps, comes_last, lacks)
