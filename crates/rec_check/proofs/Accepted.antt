@@ -1,5 +1,5 @@
 -- An input without offence is spelled.
-use Rattle.rec_check.proofs.Common.{rules, ◌≡◌, ℕ, ◌-◌, ◌<◌, ◌≤◌, true, List, [], ◌∷◌, ◌++◌, length, take, slice_get, Option, Some, is_some, All, refl, sym, ap, subst, ◌∙◌, arith, length-append, nat_lt, list_all, flat_map, nat_tests, append_assoc, All-nil, All-head, All-tail, All-weaker, All-push, list_all-append, flat_map-append, Named, Specification, Parsed, HasWholeTerms, Header, symbols_by, specifications_at, headers_of, material_of, offences_after, offences_from, headers_more, headers_counted, ◌>>=◌, named_in, with_symbols, Specified, terms_in, with_few_rules, last_of, spelled_in}
+use Rattle.rec_check.proofs.Common.{[], rules, ◌≡◌, ℕ, ◌-◌, ◌<◌, ◌≤◌, true, List, ◌∷◌, ◌++◌, length, take, slice_get, Option, Some, is_some, All, refl, sym, ap, subst, ◌∙◌, arith, length-append, nat_lt, list_all, flat_map, nat_tests, append_assoc, All-nil, All-head, All-tail, All-weaker, All-push, list_all-append, flat_map-append, Named, Specification, Parsed, HasWholeTerms, Header, symbols_by, specifications_at, headers_of, offences_after, offences_from, headers_more, headers_counted, ◌>>=◌, named_in, with_symbols, Specified, terms_in, with_few_rules, last_of, spelled_in}
 use Rattle.symbol_pool.proofs.Places.{slice_get-append}
 use Rattle.rec_includes.proofs.Brought.{material_is}
 use Rattle.rec_check.specs.Spelled.{rules_of}
@@ -42,9 +42,6 @@ module _ (bytes : List ℕ) where
     -- its material: what it includes, and itself
     abbrev run_material : List ℕ
     run_material = material bytes earlier s ++ length earlier ∷ []
-
-    is_run_material : material_of bytes now (length earlier) ≡ run_material
-    is_run_material = grind (arith, material_is bytes now (length earlier) s (at_end earlier s), all_before earlier s)
 
     whole_material : specifications_at now run_material ≡ specifications_at earlier (material bytes earlier s) ++ s ∷ []
     whole_material = grind (arith, flat_map-append, still_at earlier (s ∷ []) (material bytes earlier s) inner.within, at_end earlier s)
@@ -92,7 +89,7 @@ module _ (bytes : List ℕ) where
         let e = length-append earlier (s ∷ []) in
         let k : length now - 1 ≡ length earlier = omega arith in
         let at : last_of now ≡ Some s = ap (slice_get now) k ∙ at_end earlier s in
-        grind (arith, at, k, is_run_material, whole_material, parts_spelled)
+        grind (arith, at, k, material_is, all_before, whole_material, parts_spelled)
 
   accepted_from : (earlier : List Specification) (s : Specification) (ss : List Specification) → All (λ h. IsSound bytes earlier h.material) (headers_of bytes earlier) → offences_from bytes earlier (s ∷ ss) ≡ []
       → All HasWholeTerms (s ∷ ss) → is_some (spelled_in (record { bytes = bytes; specifications = earlier ++ s ∷ ss })) ≡ true

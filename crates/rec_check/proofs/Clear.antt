@@ -1,6 +1,6 @@
 -- The names of what is spelled have no space and no line feed: their bytes are those of names of
 -- the input.
-use Rattle.rec_check.proofs.Common.{nat_tests, arith, ◌≡◌, ℕ, List, [], ◌∷◌, ◌++◌, map, Some, Ok, subst, flat_map, AllByRecursion, Named, Name, Token, Declaration, Specification, Parsed, tokens_of, IsInput, Declared, declared, symbols_of_declaration, symbols_by, symbols_of, specifications_at, named_in, with_symbols, Specified, spelled_in}
+use Rattle.rec_check.proofs.Common.{[], nat_tests, arith, ◌≡◌, ℕ, List, ◌∷◌, ◌++◌, map, Some, Ok, subst, flat_map, AllByRecursion, Named, Name, Token, Declaration, Specification, Parsed, tokens_of, IsInput, Declared, declared, symbols_of_declaration, symbols_by, symbols_of, specifications_at, named_in, with_symbols, Specified, spelled_in}
 use Rattle.rec_check.proofs.Plans.{cc_some, last_material, of_spelled}
 use Rattle.rec_check.proofs.NameBytes.{all_both, all_at, IsClear, ClearName, ClearNames, ClearDeclarations, ClearSpecifications, tokens_clear, input_clear}
 

@@ -1,11 +1,10 @@
 -- Names and symbols added one after another.
-use Rattle.rec_check.proofs.Common.{nat_tests, arith, ◌≡◌, ℕ, ◌+◌, ◌<◌, length, get_or, drop, List, [], ◌∷◌, ◌++◌, Option, Some, None, true, false, is_some, refl, sym, ap, ◌∙◌, suc, Bool, cond, ◌||◌, map, position, zero, not, ◌&&◌, slice_get, max, rules, Result, OnOk, option_and_then, if◌then◌else◌, nat_le, option_map, append_assoc, at_drop_more, map-append, after, all_of, same_symbol, most_arguments, list_any, flat_map, bytes_eq, Name, text_of, is_among, Listing, listing, texts, with_new, place_in, variable, Declared, declared, with_name, with_names, Named, named, most_symbols, Lacks, Node, Specification, named_in, may_be_added, with_symbol, with_symbols, widest_of, Entry, symbol_entry, entry_of, entries_of, drop_at, Rule, rule_in, rules_in}
+use Rattle.rec_check.proofs.Common.{[], nat_tests, arith, ◌≡◌, ℕ, ◌+◌, ◌<◌, length, get_or, drop, List, ◌∷◌, ◌++◌, Option, Some, None, true, false, is_some, refl, sym, ap, ◌∙◌, suc, Bool, cond, ◌||◌, map, position, zero, not, ◌&&◌, slice_get, max, rules, Result, OnOk, option_and_then, if◌then◌else◌, nat_le, option_map, append_assoc, at_drop_more, map-append, after, all_of, same_symbol, most_arguments, list_any, flat_map, bytes_eq, Name, text_of, is_among, Listing, listing, texts, with_new, place_in, variable, Declared, declared, with_name, with_names, Named, named, most_symbols, Lacks, Node, Specification, named_in, may_be_added, with_symbol, with_symbols, widest_of, Entry, symbol_entry, entry_of, entries_of, drop_at, Rule, rule_in, rules_in, bytes_decides}
 use Rattle.std.proofs.Common.{filter, nat_lt}
 use Rattle.rec_reader.specs.declared.syntax_tree.Variables.{Variables}
 use Rattle.rec_includes.specs.Material.{variables_of}
 use Rattle.std.specs.Cmp.{second_so}
 use Rattle.rec_offences.specs.declared.signatures.Signature.{Signature}
-use Rattle.rec_check.proofs.Heads.{same_self}
 use Rattle.rec_reader.specs.declared.syntax_tree.Rule as written_rule
 
 -- ---- spelling each of a list, one after another
@@ -103,15 +102,15 @@ module _ (pool : List Named) (s : Named) (h : is_some (with_symbol pool s) ≡ t
     where
       not_among : (ts : List Named) (i : ℕ) → slice_get ts i ≡ Some s → not (list_any (same_symbol s) ts) ≡ true → ⊥
       not_among [] i at e = cc
-      not_among (t ∷ ts) zero at e = grind (arith, nat_tests, same_self s)
+      not_among (t ∷ ts) zero at e = grind (arith, nat_tests, bytes_decides)
       not_among (t ∷ ts) (suc i) at e = grind (arith, nat_tests, not_among ts i at)
 
   pub comes_last : (new : List Named) → new ≡ pool ++ s ∷ [] → with_symbol pool s ≡ Some new
   comes_last new e = ap (λ b. if b then Some (pool ++ s ∷ []) else None) may ∙ ap Some (sym e)
 
-pub widest_of-push : (ss : List Named) (s : Named) → widest_of (ss ++ s ∷ []) ≡ max (widest_of ss) s.arity
-widest_of-push [] s = omega arith
-widest_of-push (t ∷ ss) s = let r = widest_of-push ss s in omega arith
+pub widest_of_push : (ss : List Named) (s : Named) → widest_of (ss ++ s ∷ []) ≡ max (widest_of ss) s.arity
+widest_of_push [] s = omega arith
+widest_of_push (t ∷ ss) s = let r = widest_of_push ss s in omega arith
 
 -- ---- the symbols of a material, one after another
 
@@ -126,14 +125,11 @@ entries_named text (d ∷ ds) = ap (λ more. named (text_of text d.name) (length
 -- from a place on
 module _ (text : List ℕ) (items : List Signature) (i : ℕ) (s : Signature) (pool : List Named) (total : Option (List Named)) (l : i < length items) (is : s ≡ get_or items i s)
     (was : with_symbols pool (map (named_by text) (entries_of (drop i items))) ≡ total) where
-  at_symbol : with_symbols pool (named_by text (entry_of s) ∷ map (named_by text) (entries_of (drop (i + 1) items))) ≡ total
-  at_symbol = grind (arith, drop_at items i s)
-
   pub symbol_known_next : is_some total ≡ true → is_some (with_symbol pool (named_by text (entry_of s))) ≡ true
-  symbol_known_next h = grind (arith, nat_tests, at_symbol)
+  symbol_known_next h = grind (arith, nat_tests, drop_at)
 
   pub symbol_next : (new : List Named) → with_symbol pool (named_by text (entry_of s)) ≡ Some new → with_symbols new (map (named_by text) (entries_of (drop (i + 1) items))) ≡ total
-  symbol_next new e = grind (arith, nat_tests, at_symbol)
+  symbol_next new e = grind (arith, nat_tests, drop_at)
 
 -- ---- the rules of a specification, with the variables that it declares
 

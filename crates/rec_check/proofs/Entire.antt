@@ -1,5 +1,5 @@
 -- A specification without offence, after others whose materials are sound: its own material is sound.
-use Rattle.rec_check.proofs.Common.{nat_tests, rules, ◌≡◌, ℕ, ◌+◌, ◌-◌, ◌≤◌, Bool, true, false, eqb, not, ◌&&◌, ◌⊎◌, inl, inr, List, [], ◌∷◌, ◌++◌, length, map, slice_get, get_or, Option, Some, None, is_some, All, refl, sym, ap, subst, ◌∙◌, arith, length-append, nat_lt, if◌then◌else◌, option_and_then, option_map, option_map_or, option_to_list, list_any, list_all, flat_map, filter, bytes_eq, append_assoc, append-nil, map-append, All-nil, All-cons, All-head, All-tail, All-weaker, All-append, list_all-append, flat_map-append, Named, named, Name, Node, Specification, IsWhole, IsWholeRule, HasWholeTerms, text_of, is_among, Declared, symbols_by, variables_by, symbols_of, rules_of, specifications_at, headers_of, symbol_entry, variable_entry, own_entries, names_of, look_up, is_variable, heads, visits, includes_from, is_clashing, is_passing, repeated, first_past, most, terms_of, nodes_but_left, all_visits, unknown_name, wrong_count, unknown_names, wrong_counts, not_ground, variables_in, named_in, variables_of}
+use Rattle.rec_check.proofs.Common.{[], nat_tests, rules, ◌≡◌, ℕ, ◌+◌, ◌-◌, ◌≤◌, Bool, true, false, eqb, not, ◌&&◌, ◌⊎◌, inl, inr, List, ◌∷◌, ◌++◌, length, map, slice_get, get_or, Option, Some, None, is_some, All, refl, sym, ap, subst, ◌∙◌, arith, length-append, nat_lt, if◌then◌else◌, option_and_then, option_map, option_map_or, option_to_list, list_any, list_all, flat_map, filter, bytes_eq, append_assoc, append-nil, map-append, All-nil, All-cons, All-head, All-tail, All-weaker, All-append, list_all-append, flat_map-append, Named, named, Name, Node, Specification, IsWhole, IsWholeRule, HasWholeTerms, text_of, is_among, Declared, symbols_by, variables_by, symbols_of, rules_of, specifications_at, headers_of, symbol_entry, variable_entry, names_of, look_up, is_variable, heads, visits, includes_from, is_clashing, is_passing, repeated, first_past, most, terms_of, nodes_but_left, all_visits, unknown_name, wrong_count, unknown_names, wrong_counts, not_ground, variables_in, named_in, variables_of}
 use Rattle.rec_reader.specs.declared.syntax_tree.Rule.{Rule}
 use Rattle.rec_offences.specs.Scope.{root}
 use Rattle.rec_check.proofs.Faultless.{left_empty, right_empty, Faultless, headers, material, known, entries}
@@ -49,21 +49,11 @@ module _ (bytes : List ℕ) (earlier : List Specification) (s : Specification) (
   regroup : entries bytes earlier s ≡ entries_of bytes all_symbols s
   regroup = grind (arith, nat_tests, append_assoc, map-append)
 
-  -- own names are repeated nowhere
-  own_new : repeated bytes (names_of (known bytes earlier s)) (names_of (own_entries s)) ≡ []
-  own_new = grind (arith, nat_tests, headers, known, right_empty, left_empty)
-
   clashing_none : map (λ i. i.entry) (filter (is_clashing bytes earlier) (includes_from bytes (headers bytes earlier s) [] s.includes)) ≡ []
   clashing_none = grind (arith, nat_tests, headers, known, right_empty)
 
-  split_new : repeated bytes (names_of (known bytes earlier s)) (names_of (map symbol_entry (symbols_by s))) ++ repeated bytes (names_of (known bytes earlier s) ++ names_of (map symbol_entry (symbols_by s))) (names_of (map variable_entry (variables_by s))) ≡ []
-  split_new = grind (arith, nat_tests, repeated-append, known, map-append, own_new)
-
-  symbols_new : repeated bytes (map (λ d. d.name) before) (map (λ d. d.name) (symbols_by s)) ≡ []
-  symbols_new = grind (arith, nat_tests, names_symbols, left_empty, known, split_new)
-
   variables_apart : repeated bytes (map (λ d. d.name) all_symbols) (names_of (map variable_entry (variables_by s))) ≡ []
-  variables_apart = grind (arith, nat_tests, map-append, names_symbols, right_empty, known, split_new)
+  variables_apart = grind (arith, nat_tests, map-append, names_symbols, right_empty, known, repeated-append, headers, left_empty)
 
   -- ---- the limits
 
@@ -215,7 +205,7 @@ module _ (bytes : List ℕ) (earlier : List Specification) (s : Specification) (
       subst (Holds (named_in bytes before)) (sym (map-append (λ d. named (text_of bytes d.name) (length d.arguments)) before (symbols_by s))) (holds_first (named_in bytes before) (named_in bytes (symbols_by s))) in
       record {
         distinct =
-            grind (arith, more_symbols, map-append (λ (d : Declared). d.name) before (symbols_by s), repeated-append bytes [] (map (λ d. d.name) before) (map (λ d. d.name) (symbols_by s)), t.distinct, symbols_new);
+            grind (arith, more_symbols, map-append (λ (d : Declared). d.name) before (symbols_by s), repeated-append bytes [] (map (λ d. d.name) before) (map (λ d. d.name) (symbols_by s)), t.distinct, nat_tests, names_symbols, left_empty, known, repeated-append, map-append, headers, right_empty);
         few_symbols = omega arith;
         few_rules = omega arith;
         few = ap (list_all few_arguments) more_symbols ∙ own_few t;

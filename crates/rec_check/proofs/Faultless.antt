@@ -1,5 +1,5 @@
 -- What a specification without offence has.
-use Rattle.rec_check.proofs.Common.{nat_tests, arith, ◌≡◌, ℕ, true, false, List, [], ◌∷◌, ◌++◌, Some, None, is_some, refl, sym, ap, ◌∙◌, Name, Specification, Header, headers_of, included, Entry, own_entries, names_of, includes_from, unknown_names, repeated_names, wrong_counts, bare_variables, free_variables, not_ground, past_limits, of_kind, included_entries, offences_after}
+use Rattle.rec_check.proofs.Common.{[], nat_tests, arith, ◌≡◌, ℕ, true, false, List, ◌∷◌, ◌++◌, Some, None, is_some, refl, sym, ap, ◌∙◌, Name, Specification, Header, headers_of, included, Entry, own_entries, names_of, includes_from, unknown_names, repeated_names, wrong_counts, bare_variables, free_variables, not_ground, past_limits, of_kind, included_entries, offences_after}
 use Rattle.faults.specs.declared.refusal.Refusal.{Refusal}
 use Rattle.rec_offences.specs.Faults.{offences_over, least_with}
 

@@ -1,5 +1,5 @@
 -- What a head stands for, by cases.
-use Rattle.rec_check.proofs.Common.{◌≡◌, ℕ, suc, ◌+◌, ◌<◌, ◌≤◌, Bool, true, false, cond, List, [], ◌∷◌, ◌++◌, length, Option, Some, None, is_some, refl, sym, ap, ◌∙◌, arith, position, get_or, slice_get, IfNone, ◌⊎◌, All, subst, option_map, list_any, list_all, nat_tests, bytes_eq, bytes_decides, slice_get_within, slice_get-get_or, get_or_from_slice_get, false_from_ne_true, nat_le, Item, App, Var, Named, named, Holds, Lacks, IsPool, same_symbol, symbol_item, item_by, most_arguments, Scope, all_of, item_in, position-Some, Node, is_plain, is_item_below, text_of, widest_of}
+use Rattle.rec_check.proofs.Common.{slice_get_within, get_or_from_slice_get, App, Holds, IsPool, [], ◌≡◌, ℕ, suc, ◌+◌, ◌<◌, ◌≤◌, Bool, true, false, cond, List, ◌∷◌, ◌++◌, length, Option, Some, None, is_some, refl, sym, ap, ◌∙◌, arith, position, get_or, slice_get, IfNone, ◌⊎◌, All, subst, option_map, list_any, list_all, nat_tests, bytes_eq, bytes_decides, slice_get-get_or, false_from_ne_true, Item, App, Var, Named, named, Lacks, same_symbol, symbol_item, item_by, Scope, all_of, item_in, position-Some, Node, is_plain, is_item_below, text_of, widest_of}
 use Rattle.std.proofs.lemmas.List.Sums.{position_or_len_is}
 use Rattle.term_model.specs.declared.Symbol.{Symbol}
 
@@ -27,7 +27,7 @@ module _ {X : Type 0} (p : X → Bool) where
 -- ---- finding a symbol in a pool, and a name among names
 
 -- the first place at which a test passes
-pub position_is : {X : Type 0} (p : X → Bool) (xs : List X) (i : ℕ) (x : X) → slice_get xs i ≡ Some x → p x ≡ true
+position_is : {X : Type 0} (p : X → Bool) (xs : List X) (i : ℕ) (x : X) → slice_get xs i ≡ Some x → p x ≡ true
     → ((k : ℕ) (y : X) → k < i → slice_get xs k ≡ Some y → p y ≡ false) → position p xs ≡ Some i
 position_is {X} p xs i x at passes before = grind (arith, nat_tests, slice_get_within xs i x at, slice_get-get_or xs, get_or_from_slice_get xs i x x at, position_or_len_is p xs i x)
 
@@ -39,32 +39,22 @@ position_none {X} p xs d fails = grind (arith, nat_tests, slice_get-get_or xs, p
 pub same_from : (s t : Named) → same_symbol s t ≡ true → s ≡ t
 same_from s t h = grind (arith, nat_tests, bytes_decides s.name t.name)
 
-pub same_self : (s : Named) → same_symbol s s ≡ true
-same_self s = grind (arith, nat_tests, bytes_decides s.name s.name)
-
 differs : (s t : Named) → (s ≡ t → ⊥) → same_symbol s t ≡ false
 differs s t h = false_from_ne_true (same_symbol s t) (λ e. h (same_from s t e))
 
--- the place of a symbol that is held is its number
-pub held_at : (pool : List Named) (f : Symbol) (s : Named) → IsPool pool → Holds pool f s → position (same_symbol s) pool ≡ Some f.0
-held_at pool f s is held = grind (arith, nat_tests, position_is, same_self, differs)
+held_at : (pool : List Named) (f : Symbol) (s : Named) → IsPool pool → Holds pool f s → position (same_symbol s) pool ≡ Some f.0
+held_at pool f s is held = grind (arith, nat_tests, position_is, bytes_decides s.name s.name, differs)
 
 pub lacking : (pool : List Named) (s : Named) → Lacks pool s → position (same_symbol s) pool ≡ None
 lacking pool s lacks = position_none (same_symbol s) pool s (λ k t at. differs s t (λ e. lacks k (at ∙ ap Some (sym e))))
 
-item_lacking : (pool : List Named) (name : List ℕ) (count : ℕ) → Lacks pool (named name count) → symbol_item pool name count ≡ None
-item_lacking pool name count lacks = grind (arith, nat_tests, lacking)
-
 -- where a head stands for a symbol, it has no more arguments than may be, and the symbol is found
 module _ (pool : List Named) (name : List ℕ) (count : ℕ) (h : is_some (symbol_item pool name count) ≡ true) where
-  pub is_small : nat_le count most_arguments ≡ true
-  is_small = grind (arith, nat_tests)
-
   pub is_found : (o : Option Symbol) → IfNone o (Lacks pool (named name count)) → is_some o ≡ true
-  is_found o lacks = grind (arith, nat_tests, item_lacking)
+  is_found o lacks = grind (arith, nat_tests, lacking)
 
   pub item_found : (f : Symbol) → IsPool pool → Holds pool f (named name count) → symbol_item pool name count ≡ Some (App f count)
-  item_found f is held = grind (arith, nat_tests, is_small, held_at)
+  item_found f is held = grind (arith, nat_tests, held_at)
 
 -- a head with arguments that stands for something is no variable
 pub no_variable : (symbols : List Named) (name : List ℕ) (count : ℕ) (o : Option ℕ) → is_some (item_by symbols name count o) ≡ true → 0 < count → None ≡ o

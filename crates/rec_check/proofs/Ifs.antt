@@ -1,5 +1,5 @@
 -- The least of places in lists one after another.
-use Rattle.rec_check.proofs.Common.{nat_tests, arith, rules, ◌≡◌, ℕ, ◌+◌, ◌-◌, ◌<◌, List, [], ◌∷◌, ◌++◌, length, drop, get_or, slice_get, Option, Some, None, refl, sym, ap, ◌∙◌, common_steps, flat_map-append, option_to_list, flat_map, at_drop_more, Parsed, Specification, rules_of, specifications_at, material_of, ifs_of, lesser, least_with, first_if}
+use Rattle.rec_check.proofs.Common.{[], nat_tests, arith, rules, ◌≡◌, ℕ, ◌+◌, ◌-◌, ◌<◌, List, ◌∷◌, ◌++◌, length, drop, get_or, slice_get, Option, Some, None, refl, sym, ap, ◌∙◌, common_steps, flat_map-append, option_to_list, flat_map, at_drop_more, Parsed, Specification, rules_of, specifications_at, material_of, ifs_of, lesser, least_with, first_if}
 use Rattle.rec_reader.specs.declared.syntax_tree.Rule.{Rule}
 
 least_with-append : (found : Option ℕ) (xs ys : List ℕ) → least_with found (xs ++ ys) ≡ least_with (least_with found xs) ys

@@ -1,10 +1,10 @@
 -- A specification without offence: its rules are read by the symbols of its material, and its terms too.
-use Rattle.rec_check.proofs.Common.{nat_tests, arith, ◌≡◌, ℕ, ◌-◌, Bool, true, false, eqb, ◌&&◌, ◌||◌, ◌⊎◌, inl, inr, List, [], ◌∷◌, ◌++◌, length, map, take, Option, Some, None, is_some, All, refl, ap, ◌∙◌, ◌+◌, ◌≤◌, slice_get, get_or, position, if◌then◌else◌, find, nat_le, option_map_or, option_or, option_to_list, list_any, flat_map, filter, list_all, bytes_eq, bytes_decides, All-nil, All-cons, All-head, All-tail, named, Name, Node, Specification, text_of, same_text, is_among, Declared, Variable, variables_by, declared, symbols_of_declaration, Entry, symbol_entry, variable_entry, names_of, look_up, is_variable, visits, heads, repeated, first_past, most, same_symbol, most_arguments, with_names, named_in, variables_of, list_all-append, slice_get-get_or, Declaration, IsWhole, variables_in}
+use Rattle.rec_check.proofs.Common.{[], nat_tests, arith, ◌≡◌, ℕ, ◌-◌, Bool, true, false, eqb, ◌&&◌, ◌||◌, ◌⊎◌, inl, inr, List, ◌∷◌, ◌++◌, length, map, take, Option, Some, None, is_some, All, refl, ap, ◌∙◌, ◌+◌, ◌≤◌, slice_get, get_or, if◌then◌else◌, find, nat_le, option_map_or, option_or, option_to_list, list_any, flat_map, filter, list_all, bytes_eq, bytes_decides, All-nil, All-cons, All-head, All-tail, named, Name, Node, Specification, text_of, same_text, is_among, Declared, Variable, variables_by, declared, symbols_of_declaration, Entry, symbol_entry, variable_entry, names_of, look_up, is_variable, visits, heads, repeated, first_past, most, same_symbol, most_arguments, with_names, named_in, variables_of, list_all-append, slice_get-get_or, Declaration, IsWhole, variables_in}
 use Rattle.rec_check.proofs.Faultless.{left_empty, right_empty}
 use Rattle.rec_check.proofs.Numbered.{any_append, all_declared}
-use Rattle.rec_check.proofs.Sound.{new_first, among-append, or_left, all_front, all_back, few_arguments, or_right}
+use Rattle.rec_check.proofs.Sound.{among-append, or_left, all_front, all_back, few_arguments}
 use Rattle.rec_check.proofs.Heads.{place_if_any}
-use Rattle.rec_check.proofs.Readable.{IsRead, TermReads, symbol_known, none_of}
+use Rattle.rec_check.proofs.Readable.{IsRead, TermReads, symbol_known}
 
 -- ---- what a specification declares itself: each head of its terms is a symbol or a variable
 
@@ -40,7 +40,7 @@ module _ (bytes : List ℕ) where
   -- a name is not in both of two lists
   pub apart : (e xs : List Name) (n : Name) → repeated bytes e xs ≡ [] → is_among bytes e n ≡ true → is_among bytes xs n ≡ false
   apart e [] n h k = refl
-  apart e (x ∷ xs) n h k = grind (arith, nat_tests, apart (e ++ x ∷ []) xs n, new_first, among-append, or_left, among_same, text_same)
+  apart e (x ∷ xs) n h k = grind (arith, nat_tests, apart (e ++ x ∷ []) xs n, among-append, or_left, among_same, text_same)
 
   -- ---- what a name is declared as
 
@@ -76,15 +76,9 @@ module _ (bytes : List ℕ) where
   or_none : (a : Bool) → a ≡ (a || false)
   or_none a = grind (arith, nat_tests)
 
-  or_assoc : (a b c : Bool) → ((a || b) || c) ≡ (a || (b || c))
-  or_assoc a b c = grind (arith, nat_tests)
-
-  already_there : (w n : List ℕ) (e : List (List ℕ)) (more : Bool) → list_any (bytes_eq n) e ≡ true → (list_any (bytes_eq w) e || more) ≡ (list_any (bytes_eq w) e || (bytes_eq w n || more))
-  already_there w n e more h = grind (arith, nat_tests, bytes_decides w n)
-
   pub any_with_names : (w : List ℕ) (e ns : List (List ℕ)) → list_any (bytes_eq w) (with_names e ns) ≡ (list_any (bytes_eq w) e || list_any (bytes_eq w) ns)
   any_with_names w e [] = or_none (list_any (bytes_eq w) e)
-  any_with_names w e (n ∷ ns) = grind (arith, nat_tests, any_with_names w e ns, any_with_names w (e ++ n ∷ []) ns, already_there, any_append, or_assoc)
+  any_with_names w e (n ∷ ns) = grind (arith, nat_tests, any_with_names w e ns, any_with_names w (e ++ n ∷ []) ns, bytes_decides, any_append)
 
   -- whether a name is declared as a variable
   declared_among : (s : Specification) (n : Name) → list_any (bytes_eq (text_of bytes n)) (variables_of bytes s) ≡ is_among bytes (names_of (map variable_entry (variables_by s))) n
@@ -106,14 +100,11 @@ module _ (bytes : List ℕ) where
       pub declared : list_any (bytes_eq (text_of bytes n.head)) (variables_of bytes s) ≡ true
       pub a_variable : is_variable bytes entries_of n.head ≡ true
 
-    right_count : (n : Node) (e : Entry) → (if eqb n.count (length e.declared.arguments) then (let none : List Name = [] in none) else n.head ∷ []) ≡ [] → n.count ≡ length e.declared.arguments
-    right_count n e h = grind (arith, nat_tests)
-
     pub classify : (apart_names : repeated bytes (map (λ d. d.name) symbols) (names_of (map variable_entry (variables_by s))) ≡ []) (n : Node)
         → (if is_some (look_up bytes entries_of n.head) then (let none : List Name = [] in none) else n.head ∷ []) ≡ []
         → option_map_or (λ e. if eqb n.count (length e.declared.arguments) then (let none : List Name = [] in none) else n.head ∷ []) (look_up bytes entries_of n.head) [] ≡ []
         → HeadSymbol n ⊎ HeadVariable n
-    classify apart_names n u w = grind (arith, nat_tests, find-append, right_count, in_symbols, declared_among, apart, in_variables, variable_names)
+    classify apart_names n u w = grind (arith, nat_tests, find-append, in_symbols, declared_among, apart, in_variables, variable_names)
 
 -- ---- limits
 
@@ -152,7 +143,7 @@ module _ (bytes : List ℕ) where
   -- each node's head is among the heads
   pub heads_among : (nodes : List Node) → All (λ n. is_among bytes (heads nodes) n.head ≡ true) nodes
   heads_among [] = All-nil (λ n. is_among bytes [] n.head ≡ true)
-  heads_among (m ∷ nodes) = grind (arith, nat_tests, heads_among nodes, or_left (same_text bytes m.head m.head) (is_among bytes (heads nodes) m.head) ((bytes_decides (text_of bytes m.head) (text_of bytes m.head)).1 refl), or_right)
+  heads_among (m ∷ nodes) = grind (arith, nat_tests, heads_among nodes, or_left (same_text bytes m.head m.head) (is_among bytes (heads nodes) m.head) ((bytes_decides (text_of bytes m.head) (text_of bytes m.head)).1 refl))
 
   -- a variable among the heads of a left side is one of its variables
   module _ (vars : List (List ℕ)) where
@@ -174,7 +165,7 @@ module _ (bytes : List ℕ) where
     IsHead n = HeadSymbol bytes symbols s n ⊎ HeadVariable bytes symbols s n
 
     symbol_read : (names : List (List ℕ)) (n : Node) → list_any (bytes_eq (text_of bytes n.head)) names ≡ false → HeadSymbol bytes symbols s n → IsRead bytes (named_in bytes symbols) names n
-    symbol_read names n absent h = grind (arith, nat_tests, none_of (position (bytes_eq (text_of bytes n.head)) names) (place_if_any (bytes_eq (text_of bytes n.head)) names ∙ absent), place_if_any (bytes_eq (text_of bytes n.head)) names, symbol_known (named_in bytes symbols) (text_of bytes n.head) n.count, few_known (text_of bytes n.head) n.count symbols h.known)
+    symbol_read names n absent h = grind (arith, nat_tests, place_if_any (bytes_eq (text_of bytes n.head)) names, symbol_known (named_in bytes symbols) (text_of bytes n.head) n.count, few_known (text_of bytes n.head) n.count symbols h.known)
 
     module _ (left : List Node) where
       abbrev vars_of : List (List ℕ)

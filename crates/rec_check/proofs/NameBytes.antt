@@ -1,5 +1,6 @@
 -- The names of tokens, and of the declarations that they spell, have no space and no line feed.
-use Rattle.rec_check.proofs.Common.{nat_tests, ◌≡◌, ℕ, zero, suc, slice_get, ◌+◌, ◌-◌, ◌<◌, Bool, true, List, [], ◌∷◌, ◌++◌, length, take, drop, Option, Some, None, Ok, refl, sym, ap, subst, ◌∙◌, arith, nat_lt, slice_range, list_all, AllByRecursion, option_to_list, Name, Token, Declaration, Specification, is_name_byte, tokens_of, Any, none, next, Maybe, without, with, Section, absent, present, Listed, last, beside, with_comma, IsName, IsNames, IsDeclaration, declaration, IsVariables, variables, IsTerm, constant, call, IsArguments, only, more, IsTerms, IsCondition, condition, IsConditions, one, and, IsRule, plain, conditional, IsSpecification, specification, IsInput, input, text_of, specifications_at}
+use Rattle.rec_reader.specs.Grammar.{named as name_read}
+use Rattle.rec_check.proofs.Common.{[], nat_tests, ◌≡◌, ℕ, zero, suc, slice_get, ◌+◌, ◌-◌, ◌<◌, Bool, true, List, ◌∷◌, ◌++◌, length, take, drop, Option, Some, None, Ok, refl, sym, ap, subst, ◌∙◌, arith, nat_lt, slice_range, list_all, AllByRecursion, option_to_list, Name, Token, Declaration, Specification, is_name_byte, tokens_of, Any, none, next, Maybe, without, with, Section, absent, present, Listed, last, beside, with_comma, IsName, IsNames, IsDeclaration, declaration, IsVariables, variables, IsTerm, constant, call, IsArguments, only, more, IsTerms, IsCondition, condition, IsConditions, one, and, IsRule, plain, conditional, IsSpecification, specification, IsInput, input, text_of, specifications_at}
 use Rattle.std.proofs.Common.{append_assoc}
 use Rattle.std.specs.Prelude.{◌&&◌}
 use Rattle.std.proofs.lemmas.List.{length-append}
@@ -7,7 +8,6 @@ use Rattle.std.proofs.Math.Seq.{drop-append_seam, take-append_seam}
 use Rattle.rec_reader.specs.declared.token.Token.TheVariants as token
 use Rattle.rec_reader.specs.declared.token.Sign.{Sign}
 use Rattle.rec_reader.specs.Cut.{Part, IsPart, joined, tokens_in, AreParts, IsCut}
-use Rattle.rec_reader.specs.Grammar.{named as name_read}
 use Rattle.rec_reader.proofs.Cutting.{tokens_are_cut}
 
 -- ---- what holds of each of a list

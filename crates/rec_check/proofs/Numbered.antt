@@ -1,5 +1,5 @@
 -- The variables of a left side are numbered in order of first occurrence.
-use Rattle.rec_check.proofs.Common.{nat_tests, ◌≡◌, ◌<◌, ◌≤◌, ℕ, ◌+◌, Bool, true, false, not, cond, List, [], ◌∷◌, ◌++◌, length, map, Some, None, ◌⊎◌, refl, ◌∙◌, arith, ◌||◌, Option, sym, ap, position, length-append, option_and_then, if◌then◌else◌, list_any, bytes_eq, length-map, slice_get_cases, Node, text_of, with_name, with_names, variables_in, option_map, bytes_decides, position-Some, Item, Var, Named, count_in, count_with, Scope, all_of, item_in}
+use Rattle.rec_check.proofs.Common.{[], nat_tests, ◌≡◌, ◌<◌, ◌≤◌, ℕ, ◌+◌, Bool, true, false, not, cond, List, ◌∷◌, ◌++◌, length, map, Some, None, ◌⊎◌, refl, ◌∙◌, arith, ◌||◌, Option, sym, ap, position, length-append, option_and_then, if◌then◌else◌, list_any, bytes_eq, length-map, slice_get_cases, Node, text_of, with_name, with_names, variables_in, option_map, bytes_decides, position-Some, Item, Var, Named, count_in, count_with, Scope, all_of, item_in}
 use Rattle.std.proofs.Common.{filter, append_assoc, append-nil}
 use Rattle.std.specs.Prelude.{All, slice_get}
 use Rattle.std.proofs.lemmas.List.Filters.{length-filter_both}

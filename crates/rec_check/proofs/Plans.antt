@@ -1,5 +1,5 @@
 -- What is spelled may be planned.
-use Rattle.rec_check.proofs.Common.{rules, ◌≡◌, ℕ, ◌-◌, ◌≤◌, true, List, [], ◌∷◌, length, Option, Some, None, All, sym, ap, subst, ◌∙◌, arith, option_and_then, nat_tests, All-append, All-weaker, Tree, root, IsGround, postorder, has_head, Item, only_postorder, all_heads, Rule, Condition, IsNode, IsBelow, IsPlain, HasSymbolsAlone, HasSides, IsFit, is_plain, is_item_below, counted, below, count_in, Named, Specification, Parsed, symbols_of, specifications_at, material_of, named_in, with_symbols, widest_of, MayBeRun, last_of, spelled_with, spelled_in, Scope, all_of, item_in, tree_in, ◌>>=◌, condition_in, rule_in, variables_in, Specified, nothing, variables_of, rules_in, terms_in, with_few_rules, most_rules, spelled_by}
+use Rattle.rec_check.proofs.Common.{[], rules, ◌≡◌, ℕ, ◌-◌, ◌≤◌, List, ◌∷◌, length, Option, Some, None, All, sym, ap, subst, ◌∙◌, arith, option_and_then, nat_tests, All-append, All-weaker, Tree, root, IsGround, postorder, Item, only_postorder, all_heads, Rule, Condition, IsNode, IsBelow, IsPlain, HasSymbolsAlone, HasSides, IsFit, is_plain, is_item_below, counted, below, count_in, Named, Specification, Parsed, symbols_of, specifications_at, material_of, named_in, with_symbols, widest_of, MayBeRun, last_of, spelled_with, spelled_in, Scope, all_of, item_in, tree_in, ◌>>=◌, condition_in, rule_in, variables_in, Specified, nothing, variables_of, rules_in, terms_in, with_few_rules, most_rules, spelled_by}
 use Rattle.term_model.specs.Tree.{Node}
 use Rattle.term_model.specs.declared.Head.{Head}
 use Rattle.rewrite_model.specs.Rule.{IsRule}
@@ -126,15 +126,11 @@ rules_fit text symbols (s ∷ ss) rules h =
     let here = all_hold _ (IsFit (widest_of symbols)) (rule_fits text symbols (variables_of text s)) s.rules a.x a.is in
     subst (All (IsFit (widest_of symbols))) (cc_some _ rules b.gives) (All-append (IsFit (widest_of symbols)) a.x b.x here (rules_fit text symbols ss b.x b.is))
 
--- a head without variables is a symbol
-one_head : (text : List ℕ) (symbols : List Named) (n : written_node.Node) (i : Item) → item_in (record { text = text; symbols = symbols; variables = [] }) n ≡ Some i → has_head i ≡ true
-one_head text symbols n i h = grind (arith, nat_tests)
-
 abbrev no_variables : List ℕ → List Named → Scope
 no_variables text symbols = record { text = text; symbols = symbols; variables = [] }
 
 term_ground : (text : List ℕ) (symbols : List Named) (t : List written_node.Node) (tree : Tree) → tree_in (no_variables text symbols) t ≡ Some tree → IsGround tree
-term_ground text symbols t tree h = grind (arith, nat_tests, spells (no_variables text symbols) t tree h, all_heads tree, all_pass, one_head text symbols)
+term_ground text symbols t tree h = grind (arith, nat_tests, spells (no_variables text symbols) t tree h, all_heads tree, all_pass)
 
 pub within_limit : (s made : Specified) → with_few_rules s ≡ Some made → (length s.rules ≤ most_rules) × (s ≡ made)
 within_limit s made h = grind (arith, nat_tests)

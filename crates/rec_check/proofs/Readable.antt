@@ -1,5 +1,5 @@
 -- What terms and rules are read by: symbols and variables for all their heads.
-use Rattle.rec_check.proofs.Common.{nat_tests, rules, ◌≡◌, ℕ, ◌-◌, Bool, true, false, ◌&&◌, List, [], ◌∷◌, length, slice_get, get_or, Option, Some, None, is_some, All, refl, sym, ap, subst, ◌∙◌, arith, position, length-append, option_and_then, nat_le, option_map, list_any, flat_map, bytes_eq, All-weaker, All-head, All-tail, slice_get_within, slice_get-get_or, get_or_from_slice_get, Tree, root, postorder, tree_of, head_of, Item, only_postorder, root_is_last, Rule, Condition, Named, named, Specification, IsWhole, text_of, Scope, all_of, item_in, item_by, symbol_item, variable_item, tree_in, same_symbol, most_arguments, condition_in, rule_in, variables_in, variables_of, terms_in}
+use Rattle.rec_check.proofs.Common.{[], nat_tests, rules, ◌≡◌, ℕ, ◌-◌, true, ◌&&◌, List, ◌∷◌, length, slice_get, get_or, Option, Some, None, is_some, All, refl, sym, ap, subst, ◌∙◌, arith, position, length-append, option_and_then, nat_le, option_map, list_any, flat_map, bytes_eq, All-weaker, All-head, All-tail, slice_get_within, slice_get-get_or, get_or_from_slice_get, Tree, root, postorder, tree_of, head_of, Item, only_postorder, root_is_last, Rule, Condition, Named, named, Specification, IsWhole, text_of, Scope, all_of, item_in, item_by, symbol_item, tree_in, same_symbol, most_arguments, condition_in, rule_in, variables_in, variables_of, terms_in}
 use Rattle.rec_reader.specs.declared.syntax_tree.Node as node
 use Rattle.rec_reader.specs.declared.syntax_tree.Rule as written
 use Rattle.rec_reader.specs.declared.syntax_tree.Condition as condition
@@ -11,9 +11,6 @@ use Rattle.rec_check.proofs.Whole.{IsOver, variable_over, symbol_over, whole_spe
 pub some_of : {A : Type 0} (o : Option A) → is_some o ≡ true → (x : A) × (o ≡ Some x)
 some_of o h = grind (arith, nat_tests)
 
-pub none_of : {A : Type 0} (o : Option A) → is_some o ≡ false → o ≡ None
-none_of o h = grind (arith, nat_tests)
-
 is_some-map : {A B : Type 0} (f : A → B) (o : Option A) → is_some (option_map f o) ≡ is_some o
 is_some-map f o = grind (arith, nat_tests)
 
@@ -24,9 +21,6 @@ symbol_known symbols name count = grind (arith, nat_tests, is_some-map, place_if
 not_one : (m : ℕ) → m ≡ 0 → Some m ≡ Some 1 → ⊥
 not_one m z h = let e : m ≡ 1 = cc in omega arith
 
-and_more : (a b c : Bool) → (b ≡ true → c ≡ true) → (a && b) ≡ true → (a && c) ≡ true
-and_more a b c f h = grind (arith, nat_tests)
-
 module _ (bytes : List ℕ) where
   abbrev pub scope : List Named → List (List ℕ) → Scope
   scope symbols vars = record { text = bytes; symbols = symbols; variables = vars }
@@ -35,7 +29,7 @@ module _ (bytes : List ℕ) where
   IsRead symbols vars n = is_some (item_in (scope symbols vars) n) ≡ true
 
   read_more : (a b : List Named) (vars : List (List ℕ)) → Holds a b → (n : node.Node) → IsRead a vars n → IsRead b vars n
-  read_more a b vars h n r = grind (arith, nat_tests, symbol_known, and_more)
+  read_more a b vars h n r = grind (arith, nat_tests, symbol_known)
 
   pub record TermReads (symbols : List Named) (vars : List (List ℕ)) (nodes : List node.Node) : Type 0 where
     pub heads : All (IsRead symbols vars) nodes
@@ -72,11 +66,8 @@ module _ (bytes : List ℕ) where
 
   -- ---- what is read is spelled
 
-  variable_at_zero : (x count : ℕ) (i : Item) → variable_item x count ≡ Some i → IsOver i count
-  variable_at_zero x count i h = grind (arith, nat_tests, variable_over)
-
   over : (s : Scope) (n : node.Node) (i : Item) → item_in s n ≡ Some i → IsOver i n.count
-  over s n i h = grind (arith, nat_tests, variable_at_zero, symbol_cases, symbol_over)
+  over s n i h = grind (arith, nat_tests, variable_over, symbol_cases, symbol_over)
 
   -- each of a list is spelled
   all_spelled : {X Y : Type 0} (f : X → Option Y) (xs : List X) → All (λ x. is_some (f x) ≡ true) xs → is_some (all_of f xs) ≡ true

@@ -1,5 +1,5 @@
 -- Material without offence: what its symbols are, and that its rules are spelled by them.
-use Rattle.rec_check.proofs.Common.{◌≡◌, ℕ, ◌+◌, ◌<◌, ◌≤◌, Bool, true, false, ◌&&◌, ◌||◌, List, [], ◌∷◌, ◌++◌, length, map, Some, refl, sym, ap, ◌∙◌, arith, length-append, fold, nat_eq, slice_get, All, subst, nat_le, if◌then◌else◌, list_any, list_all, flat_map, filter, nat_tests, append_assoc, append-nil, map-append, length-map, named, most_symbols, Named, Name, text_of, same_text, is_among, Declared, Header, brought, fresh, with_numbers, symbols_by, symbols_of, rules_of, specifications_at, repeated, Include, includes_from, symbol_names, is_clashing, is_passing, passes, most, same_symbol, most_arguments, named_in, with_symbol, with_symbols, common_steps, flat_map-append, option_to_list, eqb-true, All-append, All-weaker, All-nil, All-cons, All-head, All-tail, list_all-append, Specification}
+use Rattle.rec_check.proofs.Common.{[], ◌≡◌, ℕ, ◌+◌, ◌<◌, ◌≤◌, Bool, true, false, ◌&&◌, ◌||◌, List, ◌∷◌, ◌++◌, length, map, Some, refl, sym, ap, ◌∙◌, arith, length-append, fold, nat_eq, slice_get, All, subst, nat_le, if◌then◌else◌, list_any, list_all, flat_map, filter, nat_tests, append_assoc, append-nil, map-append, length-map, named, most_symbols, Named, Name, text_of, same_text, is_among, Declared, Header, brought, fresh, with_numbers, symbols_by, symbols_of, rules_of, specifications_at, repeated, Include, includes_from, symbol_names, is_clashing, is_passing, passes, most, same_symbol, most_arguments, named_in, with_symbol, with_symbols, common_steps, flat_map-append, option_to_list, eqb-true, All-append, All-weaker, All-nil, All-cons, All-head, All-tail, list_all-append, Specification}
 use Rattle.std.proofs.Common.{nat_lt}
 use Rattle.rec_check.proofs.Numbered.{any_append}
 use Rattle.rec_check.proofs.Faultless.{left_empty, right_empty}
@@ -18,16 +18,10 @@ names_in ds = map (λ d. d.name) ds
 abbrev pub few_arguments : Declared → Bool
 few_arguments d = nat_le (length d.arguments) most_arguments
 
-pub both_true : (a b : Bool) → (a && b) ≡ true → (a ≡ true) × (b ≡ true)
-both_true a b h = grind (arith, nat_tests)
-
 module _ (bytes : List ℕ) where
   pub repeated-append : (e xs ys : List Name) → repeated bytes e (xs ++ ys) ≡ repeated bytes e xs ++ repeated bytes (e ++ xs) ys
   repeated-append e [] ys = ap (λ f. repeated bytes f ys) (sym (append-nil e))
   repeated-append e (x ∷ xs) ys = grind (arith, nat_tests, repeated-append (e ++ x ∷ []) xs ys, append_assoc)
-
-  pub new_first : (e xs : List Name) (x : Name) → repeated bytes e (x ∷ xs) ≡ [] → (is_among bytes e x ≡ false) × (repeated bytes (e ++ x ∷ []) xs ≡ [])
-  new_first e xs x h = grind (arith, nat_tests)
 
   pub first_new : (e xs : List Name) (x : Name) → is_among bytes e x ≡ false → repeated bytes (e ++ x ∷ []) xs ≡ [] → repeated bytes e (x ∷ xs) ≡ []
   first_new e xs x p q = (λ i. (if p i then x ∷ [] else []) ++ repeated bytes (e ++ x ∷ []) xs) ∙ q
@@ -52,7 +46,7 @@ module _ (bytes : List ℕ) where
   -- names that aren't among others either
   pub beside_others : (a e xs : List Name) → list_any (is_among bytes a) xs ≡ false → repeated bytes e xs ≡ [] → repeated bytes (a ++ e) xs ≡ []
   beside_others a e [] p h = refl
-  beside_others a e (x ∷ xs) p h = grind (arith, nat_tests, beside_others a (e ++ x ∷ []) xs, or_false, new_first, first_new, among-append, false_or, append_assoc)
+  beside_others a e (x ∷ xs) p h = grind (arith, nat_tests, beside_others a (e ++ x ∷ []) xs, or_false, first_new, among-append, false_or, append_assoc)
 
   -- ---- symbols
 
@@ -67,7 +61,7 @@ module _ (bytes : List ℕ) where
   pub all_added : (pool ds : List Declared) → repeated bytes (names_in pool) (names_in ds) ≡ [] → list_all few_arguments ds ≡ true → length pool + length ds ≤ most_symbols
       → with_symbols (named_in bytes pool) (named_in bytes ds) ≡ Some (named_in bytes (pool ++ ds))
   all_added pool [] h few room = ap (λ ps. Some (named_in bytes ps)) (sym (append-nil pool))
-  all_added pool (d ∷ ds) h few room = grind (arith, nat_tests, all_added (pool ++ d ∷ []) ds, new_first, both_true, length-append, map-append, one_more, append_assoc)
+  all_added pool (d ∷ ds) h few room = grind (arith, nat_tests, all_added (pool ++ d ∷ []) ds, length-append, map-append, one_more, append_assoc)
 
 -- each symbol among some is among others
 pub record Holds (symbols more : List Named) : Type 0 where
@@ -75,12 +69,6 @@ pub record Holds (symbols more : List Named) : Type 0 where
 
 pub or_left : (a b : Bool) → a ≡ true → (a || b) ≡ true
 or_left a b h = ap (λ x. x || b) h
-
-pub or_right : (a b : Bool) → b ≡ true → (a || b) ≡ true
-or_right a b h = grind (arith, nat_tests)
-
-pub or_cases : {P : Type 0} (a b : Bool) → (a || b) ≡ true → (a ≡ true → P) → (b ≡ true → P) → P
-or_cases a b h f g = grind (arith, nat_tests)
 
 pub holds_first : (a b : List Named) → Holds a (a ++ b)
 holds_first a b = record { each = λ s h. any_append (same_symbol s) a b ∙ or_left (list_any (same_symbol s) a) (list_any (same_symbol s) b) h }
@@ -144,7 +132,7 @@ module _ (bytes : List ℕ) (Reads : List Named → Specification → Type 0) (k
 
   few_fresh : (specs : List Specification) (a b : List ℕ) → list_all few_arguments (symbols_of specs b) ≡ true → list_all few_arguments (symbols_of specs (fresh a b)) ≡ true
   few_fresh specs a [] h = refl
-  few_fresh specs a (n ∷ ns) h = grind (arith, nat_tests, common_steps, few_fresh specs a ns, few_fresh specs (a ++ n ∷ []) ns, both_true, few_arguments, few_append)
+  few_fresh specs a (n ∷ ns) h = grind (arith, nat_tests, common_steps, few_fresh specs a ns, few_fresh specs (a ++ n ∷ []) ns, few_arguments, few_append)
 
   pass_fresh : (p : ℕ → Bool) (a b : List ℕ) → list_all p b ≡ true → list_all p (fresh a b) ≡ true
   pass_fresh p a [] h = refl
@@ -160,12 +148,12 @@ module _ (bytes : List ℕ) (Reads : List Named → Specification → Type 0) (k
 
   among_numbers : (s : Named) (specs : List Specification) (a : List ℕ) (n : ℕ) → list_any (nat_eq n) a ≡ true → any_at s specs (n ∷ []) ≡ true → any_at s specs a ≡ true
   among_numbers s specs [] n h k = absurd cc
-  among_numbers s specs (m ∷ a) n h k = grind (arith, nat_tests, common_steps, among_numbers s specs a n, any_at-append, or_left, eqb-true, or_right)
+  among_numbers s specs (m ∷ a) n h k = grind (arith, nat_tests, common_steps, among_numbers s specs a n, any_at-append, or_left, eqb-true)
 
   -- every number of a list is among those to which it was added
   brought_there : (s : Named) (specs : List Specification) (a b : List ℕ) → any_at s specs b ≡ true → any_at s specs (a ++ fresh a b) ≡ true
   brought_there s specs a [] h = absurd cc
-  brought_there s specs a (n ∷ ns) h = grind (arith, nat_tests, common_steps, brought_there s specs a ns, brought_there s specs (a ++ n ∷ []) ns, or_cases, any_at-append, or_left, among_numbers, append_assoc, or_right)
+  brought_there s specs a (n ∷ ns) h = grind (arith, nat_tests, common_steps, brought_there s specs a ns, brought_there s specs (a ++ n ∷ []) ns, any_at-append, or_left, among_numbers, append_assoc)
 
   pub holds_brought : (specs : List Specification) (a b : List ℕ) → Holds (symbols_at specs b) (symbols_at specs (with_numbers a b))
   holds_brought specs a b = record { each = λ s h. brought_there s specs a b h }

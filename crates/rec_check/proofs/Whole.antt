@@ -1,5 +1,5 @@
 -- Whole terms spell trees.
-use Rattle.rec_check.proofs.Common.{◌≡◌, ℕ, zero, suc, ◌+◌, ◌-◌, ◌≤◌, Bool, true, false, List, [], ◌∷◌, length, Option, Some, None, refl, sym, ap, ◌∙◌, arith, option_and_then, nat_lt, if◌then◌else◌, option_map, nat_tests, nil_from_length, Tree, Leaf, Trees, End, More, tree_of, push_item, push_items, push_over, take_trees, Item, Var, App, terms_after, IsWhole, all_of}
+use Rattle.rec_check.proofs.Common.{[], ◌≡◌, ℕ, zero, suc, ◌+◌, ◌-◌, ◌≤◌, Bool, true, false, List, ◌∷◌, length, Option, Some, None, refl, sym, ap, ◌∙◌, arith, option_and_then, nat_lt, if◌then◌else◌, option_map, nat_tests, nil_from_length, Tree, Leaf, Trees, End, More, tree_of, push_item, push_items, push_over, take_trees, Item, Var, App, terms_after, IsWhole, all_of}
 use Rattle.term_model.specs.Tree.{Node}
 use Rattle.term_model.specs.declared.Head.TheVariants as head
 use Rattle.rec_reader.specs.declared.syntax_tree.Node as written

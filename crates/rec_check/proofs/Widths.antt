@@ -1,7 +1,7 @@
 -- What is spelled has no symbol of more than 16 arguments.
-use Rattle.rec_check.proofs.Common.{◌≡◌, ◌≤◌, List, [], ◌∷◌, ◌++◌, Some, subst, arith, nat_tests, Named, Parsed, symbols_of, named_in, with_symbol, with_symbols, widest_of, Specified, spelled_in}
+use Rattle.rec_check.proofs.Common.{[], ◌≡◌, ◌≤◌, List, ◌∷◌, ◌++◌, Some, subst, arith, nat_tests, Named, Parsed, symbols_of, named_in, with_symbol, with_symbols, widest_of, Specified, spelled_in}
 use Rattle.rec_check.proofs.Plans.{cc_some, from_then, last_material, of_spelled}
-use Rattle.rec_check.proofs.Declaring.{widest_of-push}
+use Rattle.rec_check.proofs.Declaring.{widest_of_push}
 
 -- a symbol that is added has few arguments
 added : (symbols more : List Named) (s : Named) → with_symbol symbols s ≡ Some more
@@ -14,7 +14,7 @@ stays : (symbols ss made : List Named) → widest_of symbols ≤ 16
 stays symbols [] made few h = subst (λ m. widest_of m ≤ 16) (cc_some symbols made h) few
 stays symbols (s ∷ ss) made few h =
     let a = from_then (λ more. with_symbols more ss) (with_symbol symbols s) made h in
-    stays a.x ss made (grind (arith, added symbols a.x s a.is, widest_of-push symbols s)) a.gives
+    stays a.x ss made (grind (arith, added symbols a.x s a.is, widest_of_push symbols s)) a.gives
 
 pub few_arguments : (syntax : Parsed) (spec : Specified) → spelled_in syntax ≡ Some spec
     → widest_of spec.symbols ≤ 16

@@ -2,6 +2,7 @@
 ghost use Rattle.rec_check.specs.Laws.{WithoutIfUnconditional};
 
 /// Without an `if` among the rules that are run, no rule of what is spelled has a condition.
+#[tactic(auto, using(crate::proofs::WithoutIf::unconditional_rules))]
 pub fn condition_laws()
     ensures { WithoutIfUnconditional }
 {}

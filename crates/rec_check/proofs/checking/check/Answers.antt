@@ -1,4 +1,4 @@
-use Rattle.rec_check.proofs.Common.{sym, ◌∙◌, arith}
+use Rattle.rec_check.proofs.Common.{sym, ◌∙◌}
 use Rattle.rec_check.proofs.Faultless.{no_offences}
 use Rattle.rec_check.proofs.Accepted.{accepted}
 use Rattle.rec_check.proofs.Plans.{last_runs}

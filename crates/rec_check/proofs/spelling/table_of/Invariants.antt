@@ -1,4 +1,4 @@
-use Rattle.rec_check.proofs.Common.{◌≡◌, [], drop, map, symbols_of, entries_of, named_in, with_symbols}
+use Rattle.rec_check.proofs.Common.{[], ◌≡◌, drop, map, symbols_of, entries_of, named_in, with_symbols}
 use Rattle.rec_check.proofs.Declaring.{named_by}
 use Rattle.rec_check.proofs.spelling.table_of.Given as goal
 
