@@ -1,7 +1,7 @@
 -- An input without offence is spelled.
-use Rattle.rec_check.proofs.Common.{[], rules, ◌≡◌, ℕ, ◌-◌, ◌<◌, ◌≤◌, true, List, ◌∷◌, ◌++◌, length, take, slice_get, Option, Some, is_some, All, refl, sym, ap, subst, ◌∙◌, arith, length-append, nat_lt, list_all, flat_map, nat_tests, append_assoc, All-nil, All-head, All-tail, All-weaker, All-push, list_all-append, flat_map-append, Named, Specification, Parsed, HasWholeTerms, Header, symbols_by, specifications_at, headers_of, offences_after, offences_from, headers_more, headers_counted, ◌>>=◌, named_in, with_symbols, Specified, terms_in, with_few_rules, last_of, spelled_in}
+use Rattle.rec_check.proofs.Common.{[], rules, ◌≡◌, ℕ, ◌-◌, ◌<◌, ◌≤◌, true, List, ◌∷◌, ◌++◌, length, slice_get, Option, Some, is_some, All, refl, sym, ap, subst, ◌∙◌, arith, length-append, nat_lt, list_all, flat_map, nat_tests, append_assoc, All-nil, All-head, All-tail, All-weaker, All-push, list_all-append, flat_map-append, Named, Specification, Parsed, HasWholeTerms, Header, symbols_by, specifications_at, headers_of, offences_after, offences_from, headers_more, headers_counted, ◌>>=◌, named_in, with_symbols, Specified, terms_in, with_few_rules, last_of, spelled_in, take-append_seam}
 use Rattle.symbol_pool.proofs.Places.{slice_get-append}
-use Rattle.rec_includes.proofs.Brought.{material_is}
+use Rattle.rec_includes.proofs.Brought.{material_is, slice_get_seam}
 use Rattle.rec_check.specs.Spelled.{rules_of}
 use Rattle.rec_check.proofs.Readable.{rules_spelled, length-rules, terms_spelled, TermReads}
 use Rattle.rec_check.proofs.Faultless.{left_empty, right_empty, Faultless, faultless, material}
@@ -17,14 +17,6 @@ still_within : (k m : ℕ) (ms : List ℕ) → k ≤ m → list_all (λ n. nat_l
 still_within k m [] l h = refl
 still_within k m (n ∷ ms) l h = grind (arith, nat_tests, still_within k m ms l)
 
-at_end : (earlier : List Specification) (s : Specification) → slice_get (earlier ++ s ∷ []) (length earlier) ≡ Some s
-at_end [] s = refl
-at_end (t ∷ earlier) s = at_end earlier s
-
-all_before : (earlier : List Specification) (s : Specification) → take (length earlier) (earlier ++ s ∷ []) ≡ earlier
-all_before [] s = refl
-all_before (t ∷ earlier) s = ap (λ ts. t ∷ ts) (all_before earlier s)
-
 module _ (bytes : List ℕ) where
   module _ (earlier : List Specification) (s : Specification) (f : Faultless bytes earlier s) (w : HasWholeTerms s) (all : All (λ h. IsSound bytes earlier h.material) (headers_of bytes earlier)) where
     abbrev now : List Specification
@@ -35,8 +27,7 @@ module _ (bytes : List ℕ) where
 
     kept : (h : Header) → IsSound bytes earlier h.material → IsSound bytes now h.material
     kept h x =
-        let e = length-append earlier (s ∷ []) in
-        let l : length earlier ≤ length now = omega arith in
+        let l : length earlier ≤ length now = omega (arith, length-append earlier (s ∷ [])) in
         sound_of bytes now h.material (specifications_at earlier h.material) (still_within (length earlier) (length now) h.material l x.within) (still_at earlier (s ∷ []) h.material x.within) (together_of bytes earlier h.material x)
 
     -- its material: what it includes, and itself
@@ -44,18 +35,15 @@ module _ (bytes : List ℕ) where
     run_material = material bytes earlier s ++ length earlier ∷ []
 
     whole_material : specifications_at now run_material ≡ specifications_at earlier (material bytes earlier s) ++ s ∷ []
-    whole_material = grind (arith, flat_map-append, still_at earlier (s ∷ []) (material bytes earlier s) inner.within, at_end earlier s)
+    whole_material = grind (arith, flat_map-append, still_at earlier (s ∷ []) (material bytes earlier s) inner.within, slice_get_seam earlier s (length earlier) refl)
 
     together : Together bytes (specifications_at earlier (material bytes earlier s) ++ s ∷ [])
     together = together_more bytes earlier s f w (together_of bytes earlier (material bytes earlier s) inner)
 
     own_sound : IsSound bytes now run_material
     own_sound =
-        let e = length-append earlier (s ∷ []) in
-        let l : length earlier ≤ length now = omega arith in
-        let k : length earlier < length now = omega arith in
-        let e2 : nat_lt (length earlier) (length now) ≡ true = grind (arith, nat_tests) in
-        let within : list_all (λ n. nat_lt n (length now)) run_material ≡ true = grind (arith, list_all-append, still_within (length earlier) (length now) (material bytes earlier s) l inner.within, e2) in
+        let k : length earlier < length now = omega (arith, length-append earlier (s ∷ [])) in
+        let within : list_all (λ n. nat_lt n (length now)) run_material ≡ true = grind (arith, nat_tests, list_all-append, still_within (length earlier) (length now) (material bytes earlier s), inner.within) in
         sound_of bytes now run_material _ within whole_material together
 
     next_stands : All (λ h. IsSound bytes now h.material) (headers_of bytes now)
@@ -88,8 +76,8 @@ module _ (bytes : List ℕ) where
         let S : Parsed = record { bytes = bytes; specifications = now } in
         let e = length-append earlier (s ∷ []) in
         let k : length now - 1 ≡ length earlier = omega arith in
-        let at : last_of now ≡ Some s = ap (slice_get now) k ∙ at_end earlier s in
-        grind (arith, at, k, material_is, all_before, whole_material, parts_spelled)
+        let at : last_of now ≡ Some s = ap (slice_get now) k ∙ slice_get_seam earlier s (length earlier) refl in
+        grind (arith, at, k, material_is, take-append_seam, whole_material, parts_spelled)
 
   accepted_from : (earlier : List Specification) (s : Specification) (ss : List Specification) → All (λ h. IsSound bytes earlier h.material) (headers_of bytes earlier) → offences_from bytes earlier (s ∷ ss) ≡ []
       → All HasWholeTerms (s ∷ ss) → is_some (spelled_in (record { bytes = bytes; specifications = earlier ++ s ∷ ss })) ≡ true
@@ -97,10 +85,9 @@ module _ (bytes : List ℕ) where
       last_spelled earlier s (faultless bytes earlier s (left_empty (offences_after bytes earlier s) [] h)) (All-head HasWholeTerms s [] w) all
   accepted_from earlier s (t ∷ ss) all h w =
       let f = faultless bytes earlier s (left_empty (offences_after bytes earlier s) (offences_from bytes (earlier ++ s ∷ []) (t ∷ ss)) h) in
-      let regroup : (earlier ++ s ∷ []) ++ t ∷ ss ≡ earlier ++ s ∷ t ∷ ss = append_assoc earlier (s ∷ []) (t ∷ ss) in
-      ap (λ specs. is_some (spelled_in (record { bytes = bytes; specifications = specs }))) (sym regroup)
-      ∙ accepted_from (earlier ++ s ∷ []) t ss (next_stands earlier s f (All-head HasWholeTerms s (t ∷ ss) w) all)
-      (right_empty (offences_after bytes earlier s) (offences_from bytes (earlier ++ s ∷ []) (t ∷ ss)) h) (All-tail HasWholeTerms s (t ∷ ss) w)
+      let stands = next_stands earlier s f (All-head HasWholeTerms s (t ∷ ss) w) all in
+      ap (λ specs. is_some (spelled_in (record { bytes = bytes; specifications = specs }))) (sym (append_assoc earlier (s ∷ []) (t ∷ ss)))
+      ∙ accepted_from (earlier ++ s ∷ []) t ss stands (right_empty (offences_after bytes earlier s) _ h) (All-tail HasWholeTerms s (t ∷ ss) w)
 
   -- an input without offence, whose terms are whole
   pub accepted : (specs : List Specification) → offences_from bytes [] specs ≡ [] → All HasWholeTerms specs → is_some (spelled_in (record { bytes = bytes; specifications = specs })) ≡ true

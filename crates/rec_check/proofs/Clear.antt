@@ -47,8 +47,7 @@ pub names_are_clear : (syntax : Parsed) (tokens : List Token) (spec : Specified)
     → spelled_in syntax ≡ Some spec → ClearSymbols spec.symbols
 names_are_clear syntax tokens spec cut read h =
     let material = last_material syntax in
-    let clear = input_clear syntax.bytes tokens syntax.specifications read
-    (tokens_clear syntax.bytes tokens cut) in
+    let clear = input_clear syntax.bytes tokens syntax.specifications read (tokens_clear syntax.bytes tokens cut) in
     let all = are_named syntax.bytes (symbols_of syntax.specifications material)
     (of_specifications syntax.bytes (specifications_at syntax.specifications material)
     (all_at (λ (s : Specification). ClearDeclarations syntax.bytes s.declarations) syntax.specifications material clear)) in

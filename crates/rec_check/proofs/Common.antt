@@ -1,17 +1,18 @@
 -- The names that most proofs cite, passed on from one place. Declares nothing.
 pub use Rattle.std.proofs.Common.{arith, ◌≡◌, ℕ, ◌-◌, Bool, true, false, eqb, ◌&&◌, ◌||◌, ◌⊎◌, inl, inr, List, [], ◌∷◌, ◌++◌, length, map, take, Option, Some, None, is_some, All, refl, ap, ◌∙◌, ◌+◌, ◌≤◌, slice_get, get_or, position, rules, ◌<◌, drop, sym, subst, length-append, suc, cond, zero, not, max, Result, OnOk, IfNone, Ok, fold, nat_eq, IfOk}
+pub use Rattle.std.proofs.Math.Seq.{drop-append_seam, take-append_seam}
 pub use Rattle.std.proofs.lemmas.Bool.{false_from_ne_true, eqb-true}
 pub use Rattle.std.proofs.lemmas.Bool.Decides.{nat_tests}
 pub use Rattle.std.proofs.lemmas.Grind.{common_steps, flat_map-append}
 pub use Rattle.std.proofs.lemmas.List.{at_drop_more, append_assoc, map-append, nil_from_length, append-nil, length-map}
 pub use Rattle.std.proofs.lemmas.List.Elements.{All-nil, All-cons, All-head, All-tail, All-weaker, All-append, All-push}
-pub use Rattle.std.proofs.lemmas.List.Folds.{list_all-append}
+pub use Rattle.std.proofs.lemmas.List.Folds.{list_all-append, list_any-append}
 pub use Rattle.std.proofs.lemmas.List.Quantifiers.{position-Some}
 pub use Rattle.std.proofs.lemmas.Option.{slice_get-get_or, slice_get_within, get_or_from_slice_get, same_Some, slice_get_cases}
 pub use Rattle.std.specs.Cmp.Lexicographic.{bytes_decides}
 pub use Rattle.std.specs.List.{list_any, flat_map, filter, list_all, AllByRecursion}
 pub use Rattle.std.specs.Option.{option_map_or, option_or, option_to_list, option_map}
-pub use Rattle.std.specs.Prelude.{if◌then◌else◌, find, nat_le, option_and_then, nat_lt, slice_range, min}
+pub use Rattle.std.specs.Prelude.{if◌then◌else◌, find, nat_le, option_and_then, nat_lt, min}
 pub use Rattle.std.specs.Str.{bytes_eq}
 pub use Rattle.rec_includes.proofs.Gathered.{drop_at, headers_more, headers_counted}
 pub use Rattle.rec_includes.specs.Listing.{Listing, listing, texts, with_new, place_in}
@@ -36,7 +37,7 @@ pub use Rattle.rule_match.specs.Planned.{IsPlain, HasSymbolsAlone, HasSides, IsF
 pub use Rattle.symbol_pool.specs.Pool.{named, Named, most_symbols, Lacks, Holds, IsPool}
 pub use Rattle.term_model.proofs.Order.{only_postorder}
 pub use Rattle.term_model.proofs.Subtrees.{root_is_last, all_heads}
-pub use Rattle.term_model.specs.Postorder.{postorder, tree_of, head_of, has_head, push_item, push_items, push_over, take_trees}
+pub use Rattle.term_model.specs.Postorder.{postorder, tree_of, push_item, push_items, push_over, take_trees}
 pub use Rattle.term_model.specs.Tree.{Tree, root, IsGround, Leaf, Trees, End, More}
 pub use Rattle.term_model.specs.declared.Item.{Item}
 pub use Rattle.term_model.specs.declared.Item.TheVariants.{Var, App}
@@ -47,4 +48,4 @@ pub use Rattle.rec_check.specs.Run.{MayBeRun, last_of, spelled_with, spelled_in}
 pub use Rattle.rec_check.specs.Scope.{seen}
 pub use Rattle.rec_check.specs.Spelled.{variables_of, terms_in, rules_in, Specified, nothing, with_few_rules, most_rules, spelled_by}
 pub use Rattle.rec_check.specs.Symbols.{named_in, may_be_added, with_symbol, with_symbols, widest_of}
-pub use Rattle.rec_check.specs.Term.{same_symbol, most_arguments, Scope, all_of, item_in, item_by, symbol_item, variable_item, tree_in, after}
+pub use Rattle.rec_check.specs.Term.{same_symbol, most_arguments, Scope, all_of, item_in, item_by, symbol_item, tree_in, after}

@@ -1,5 +1,6 @@
 -- A specification without offence, after others whose materials are sound: its own material is sound.
-use Rattle.rec_check.proofs.Common.{[], nat_tests, rules, ◌≡◌, ℕ, ◌+◌, ◌-◌, ◌≤◌, Bool, true, false, eqb, not, ◌&&◌, ◌⊎◌, inl, inr, List, ◌∷◌, ◌++◌, length, map, slice_get, get_or, Option, Some, None, is_some, All, refl, sym, ap, subst, ◌∙◌, arith, length-append, nat_lt, if◌then◌else◌, option_and_then, option_map, option_map_or, option_to_list, list_any, list_all, flat_map, filter, bytes_eq, append_assoc, append-nil, map-append, All-nil, All-cons, All-head, All-tail, All-weaker, All-append, list_all-append, flat_map-append, Named, named, Name, Node, Specification, IsWhole, IsWholeRule, HasWholeTerms, text_of, is_among, Declared, symbols_by, variables_by, symbols_of, rules_of, specifications_at, headers_of, symbol_entry, variable_entry, names_of, look_up, is_variable, heads, visits, includes_from, is_clashing, is_passing, repeated, first_past, most, terms_of, nodes_but_left, all_visits, unknown_name, wrong_count, unknown_names, wrong_counts, not_ground, variables_in, named_in, variables_of}
+use Rattle.rec_offences.proofs.Levels.{symbols_named}
+use Rattle.rec_check.proofs.Common.{[], nat_tests, rules, ◌≡◌, ℕ, ◌+◌, ◌-◌, ◌≤◌, Bool, true, false, eqb, not, ◌&&◌, ◌⊎◌, List, ◌∷◌, ◌++◌, length, map, slice_get, get_or, Option, Some, None, is_some, All, refl, sym, ap, subst, ◌∙◌, arith, length-append, nat_lt, if◌then◌else◌, option_and_then, option_map, option_map_or, option_to_list, list_any, list_all, flat_map, filter, bytes_eq, append_assoc, append-nil, map-append, All-nil, All-cons, All-head, All-tail, All-weaker, All-append, list_all-append, flat_map-append, Named, named, Name, Node, Specification, IsWhole, IsWholeRule, HasWholeTerms, text_of, is_among, Declared, symbols_by, variables_by, symbols_of, rules_of, specifications_at, headers_of, variable_entry, names_of, look_up, is_variable, heads, visits, includes_from, is_clashing, is_passing, repeated, first_past, most, terms_of, nodes_but_left, all_visits, unknown_name, wrong_count, unknown_names, wrong_counts, not_ground, variables_in, named_in, variables_of}
 use Rattle.rec_reader.specs.declared.syntax_tree.Rule.{Rule}
 use Rattle.rec_offences.specs.Scope.{root}
 use Rattle.rec_check.proofs.Faultless.{left_empty, right_empty, Faultless, headers, material, known, entries}
@@ -25,10 +26,6 @@ together_of bytes specs ms s = record { distinct = s.distinct; few_symbols = s.f
 pub sound_of : (bytes : List ℕ) (specs : List Specification) (ms : List ℕ) (ts : List Specification) → list_all (λ n. nat_lt n (length specs)) ms ≡ true → specifications_at specs ms ≡ ts → Together bytes ts → IsSound bytes specs ms
 sound_of bytes specs ms ts w e t = grind (arith, nat_tests)
 
-names_symbols : (ds : List Declared) → names_of (map symbol_entry ds) ≡ map (λ d. d.name) ds
-names_symbols [] = refl
-names_symbols (d ∷ ds) = ap (λ ns. d.name ∷ ns) (names_symbols ds)
-
 implied : (a b : Bool) → (a && not b) ≡ false → a ≡ true → b ≡ true
 implied a b h k = grind (arith, nat_tests)
 
@@ -53,7 +50,7 @@ module _ (bytes : List ℕ) (earlier : List Specification) (s : Specification) (
   clashing_none = grind (arith, nat_tests, headers, known, right_empty)
 
   variables_apart : repeated bytes (map (λ d. d.name) all_symbols) (names_of (map variable_entry (variables_by s))) ≡ []
-  variables_apart = grind (arith, nat_tests, map-append, names_symbols, right_empty, known, repeated-append, headers, left_empty)
+  variables_apart = grind (arith, nat_tests, map-append, symbols_named, right_empty, known, repeated-append, headers, left_empty)
 
   -- ---- the limits
 
@@ -173,8 +170,7 @@ module _ (bytes : List ℕ) (earlier : List Specification) (s : Specification) (
         }
       where
         by_head : (r : Rule) (n : Node) → IsHead n → is_var n.head ≡ false → list_any (bytes_eq (text_of bytes n.head)) (variables_in bytes (variables_of bytes s) r.left) ≡ false
-        by_head r n (inl h) e = not_there bytes all_symbols s few r.left n h.not_declared
-        by_head r n (inr h) e = absurd (let bad : true ≡ false = sym h.a_variable ∙ e in cc)
+        by_head r n h e = grind (arith, h, not_there bytes all_symbols s few r.left n)
 
     pub own_reads : Reads bytes own_symbols s
     own_reads = λ k d l. rule_read (get_or s.rules k d) (w.rules k d l) (rule_heads k d l) (rule_free k d l) (rule_bare k d l)
@@ -205,7 +201,7 @@ module _ (bytes : List ℕ) (earlier : List Specification) (s : Specification) (
       subst (Holds (named_in bytes before)) (sym (map-append (λ d. named (text_of bytes d.name) (length d.arguments)) before (symbols_by s))) (holds_first (named_in bytes before) (named_in bytes (symbols_by s))) in
       record {
         distinct =
-            grind (arith, more_symbols, map-append (λ (d : Declared). d.name) before (symbols_by s), repeated-append bytes [] (map (λ d. d.name) before) (map (λ d. d.name) (symbols_by s)), t.distinct, nat_tests, names_symbols, left_empty, known, repeated-append, map-append, headers, right_empty);
+            grind (arith, more_symbols, map-append (λ (d : Declared). d.name) before (symbols_by s), repeated-append bytes [] (map (λ d. d.name) before) (map (λ d. d.name) (symbols_by s)), t.distinct, nat_tests, symbols_named, left_empty, known, repeated-append, map-append, headers, right_empty);
         few_symbols = omega arith;
         few_rules = omega arith;
         few = ap (list_all few_arguments) more_symbols ∙ own_few t;

@@ -1,5 +1,6 @@
 -- What a specification without offence has.
-use Rattle.rec_check.proofs.Common.{[], nat_tests, arith, ◌≡◌, ℕ, true, false, List, ◌∷◌, ◌++◌, Some, None, is_some, refl, sym, ap, ◌∙◌, Name, Specification, Header, headers_of, included, Entry, own_entries, names_of, includes_from, unknown_names, repeated_names, wrong_counts, bare_variables, free_variables, not_ground, past_limits, of_kind, included_entries, offences_after}
+use Rattle.rec_offences.proofs.Leasts.{none_of_all}
+use Rattle.rec_check.proofs.Common.{[], nat_tests, arith, ◌≡◌, ℕ, List, ◌∷◌, ◌++◌, None, refl, Name, Specification, Header, headers_of, included, Entry, own_entries, names_of, includes_from, unknown_names, repeated_names, wrong_counts, bare_variables, free_variables, not_ground, past_limits, of_kind, included_entries, offences_after}
 use Rattle.faults.specs.declared.refusal.Refusal.{Refusal}
 use Rattle.rec_offences.specs.Faults.{offences_over, least_with}
 
@@ -17,13 +18,8 @@ kind_empty kind [] h = refl
 kind_empty kind (n ∷ names) h = absurd cc
 
 -- without a least one there are none
-still : (found : Refusal) (os : List Refusal) → is_some (least_with (Some found) os) ≡ true
-still found [] = refl
-still found (o ∷ os) = grind (arith, nat_tests, still o os, still found os)
-
 pub no_offences : (os : List Refusal) → least_with None os ≡ None → os ≡ []
-no_offences [] h = refl
-no_offences (o ∷ os) h = absurd (let bad : false ≡ true = sym (ap is_some h) ∙ still o os in cc)
+no_offences os h = none_of_all os h
 
 -- a specification after these earlier ones has no offence
 module _ (bytes : List ℕ) (earlier : List Specification) (s : Specification) where

@@ -1,14 +1,11 @@
 -- What a head stands for, by cases.
-use Rattle.rec_check.proofs.Common.{slice_get_within, get_or_from_slice_get, App, Holds, IsPool, [], ◌≡◌, ℕ, suc, ◌+◌, ◌<◌, ◌≤◌, Bool, true, false, cond, List, ◌∷◌, ◌++◌, length, Option, Some, None, is_some, refl, sym, ap, ◌∙◌, arith, position, get_or, slice_get, IfNone, ◌⊎◌, All, subst, option_map, list_any, list_all, nat_tests, bytes_eq, bytes_decides, slice_get-get_or, false_from_ne_true, Item, App, Var, Named, named, Lacks, same_symbol, symbol_item, item_by, Scope, all_of, item_in, position-Some, Node, is_plain, is_item_below, text_of, widest_of}
+use Rattle.rec_check.proofs.Common.{slice_get_within, get_or_from_slice_get, App, Holds, IsPool, [], ◌≡◌, ℕ, ◌+◌, ◌<◌, ◌≤◌, Bool, true, false, List, ◌∷◌, ◌++◌, length, Option, Some, None, is_some, refl, sym, ap, ◌∙◌, arith, position, get_or, slice_get, IfNone, ◌⊎◌, All, subst, list_any, list_all, nat_tests, bytes_eq, bytes_decides, slice_get-get_or, false_from_ne_true, Item, App, Var, Named, named, Lacks, same_symbol, symbol_item, item_by, Scope, all_of, item_in, position-Some, Node, is_plain, is_item_below, text_of, widest_of}
 use Rattle.std.proofs.lemmas.List.Sums.{position_or_len_is}
 use Rattle.term_model.specs.declared.Symbol.{Symbol}
 
 -- ---- where a test first passes, by recursion
 
 module _ {X : Type 0} (p : X → Bool) where
-  pub position_cons : (x : X) (xs : List X) → position p (x ∷ xs) ≡ cond (p x) (Some 0) (option_map suc (position p xs))
-  position_cons x xs = grind (arith, nat_tests)
-
   -- there is a place exactly where something passes
   pub place_if_any : (xs : List X) → is_some (position p xs) ≡ list_any p xs
   place_if_any [] = refl
@@ -21,7 +18,7 @@ module _ {X : Type 0} (p : X → Bool) where
 
   -- what is new is at the end
   pub new_at_end : (xs : List X) (y : X) (ys : List X) → list_any p xs ≡ false → p y ≡ true → position p (xs ++ y ∷ ys) ≡ Some (length xs)
-  new_at_end [] y ys none passes = position_cons y ys ∙ ap (λ b. cond b (Some 0) (option_map suc (position p ys))) passes
+  new_at_end [] y ys none passes = grind (arith, nat_tests)
   new_at_end (x ∷ xs) y ys none passes = grind (arith, nat_tests, new_at_end xs y ys)
 
 -- ---- finding a symbol in a pool, and a name among names

@@ -1,7 +1,7 @@
 -- A specification without offence: its rules are read by the symbols of its material, and its terms too.
-use Rattle.rec_check.proofs.Common.{[], nat_tests, arith, ◌≡◌, ℕ, ◌-◌, Bool, true, false, eqb, ◌&&◌, ◌||◌, ◌⊎◌, inl, inr, List, ◌∷◌, ◌++◌, length, map, take, Option, Some, None, is_some, All, refl, ap, ◌∙◌, ◌+◌, ◌≤◌, slice_get, get_or, if◌then◌else◌, find, nat_le, option_map_or, option_or, option_to_list, list_any, flat_map, filter, list_all, bytes_eq, bytes_decides, All-nil, All-cons, All-head, All-tail, named, Name, Node, Specification, text_of, same_text, is_among, Declared, Variable, variables_by, declared, symbols_of_declaration, Entry, symbol_entry, variable_entry, names_of, look_up, is_variable, visits, heads, repeated, first_past, most, same_symbol, most_arguments, with_names, named_in, variables_of, list_all-append, slice_get-get_or, Declaration, IsWhole, variables_in}
+use Rattle.rec_check.proofs.Common.{list_any-append, [], nat_tests, arith, ◌≡◌, ℕ, ◌-◌, Bool, true, false, eqb, ◌&&◌, ◌||◌, ◌⊎◌, inl, inr, List, ◌∷◌, ◌++◌, length, map, take, Option, Some, None, is_some, All, refl, ap, ◌∙◌, ◌+◌, ◌≤◌, slice_get, get_or, if◌then◌else◌, find, nat_le, option_map_or, option_or, option_to_list, list_any, flat_map, filter, list_all, bytes_eq, bytes_decides, All-nil, All-cons, All-head, All-tail, named, Name, Node, Specification, text_of, same_text, is_among, Declared, Variable, variables_by, declared, symbols_of_declaration, Entry, symbol_entry, variable_entry, names_of, look_up, is_variable, visits, heads, repeated, first_past, most, same_symbol, most_arguments, with_names, named_in, variables_of, list_all-append, slice_get-get_or, Declaration, IsWhole, variables_in}
 use Rattle.rec_check.proofs.Faultless.{left_empty, right_empty}
-use Rattle.rec_check.proofs.Numbered.{any_append, all_declared}
+use Rattle.rec_check.proofs.Numbered.{all_declared}
 use Rattle.rec_check.proofs.Sound.{among-append, or_left, all_front, all_back, few_arguments}
 use Rattle.rec_check.proofs.Heads.{place_if_any}
 use Rattle.rec_check.proofs.Readable.{IsRead, TermReads, symbol_known}
@@ -78,7 +78,7 @@ module _ (bytes : List ℕ) where
 
   pub any_with_names : (w : List ℕ) (e ns : List (List ℕ)) → list_any (bytes_eq w) (with_names e ns) ≡ (list_any (bytes_eq w) e || list_any (bytes_eq w) ns)
   any_with_names w e [] = or_none (list_any (bytes_eq w) e)
-  any_with_names w e (n ∷ ns) = grind (arith, nat_tests, any_with_names w e ns, any_with_names w (e ++ n ∷ []) ns, bytes_decides, any_append)
+  any_with_names w e (n ∷ ns) = grind (arith, nat_tests, any_with_names w e ns, any_with_names w (e ++ n ∷ []) ns, bytes_decides, list_any-append)
 
   -- whether a name is declared as a variable
   declared_among : (s : Specification) (n : Name) → list_any (bytes_eq (text_of bytes n)) (variables_of bytes s) ≡ is_among bytes (names_of (map variable_entry (variables_by s))) n

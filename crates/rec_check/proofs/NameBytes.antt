@@ -1,10 +1,8 @@
 -- The names of tokens, and of the declarations that they spell, have no space and no line feed.
 use Rattle.rec_reader.specs.Grammar.{named as name_read}
-use Rattle.rec_check.proofs.Common.{[], nat_tests, ◌≡◌, ℕ, zero, suc, slice_get, ◌+◌, ◌-◌, ◌<◌, Bool, true, List, ◌∷◌, ◌++◌, length, take, drop, Option, Some, None, Ok, refl, sym, ap, subst, ◌∙◌, arith, nat_lt, slice_range, list_all, AllByRecursion, option_to_list, Name, Token, Declaration, Specification, is_name_byte, tokens_of, Any, none, next, Maybe, without, with, Section, absent, present, Listed, last, beside, with_comma, IsName, IsNames, IsDeclaration, declaration, IsVariables, variables, IsTerm, constant, call, IsArguments, only, more, IsTerms, IsCondition, condition, IsConditions, one, and, IsRule, plain, conditional, IsSpecification, specification, IsInput, input, text_of, specifications_at}
+use Rattle.rec_check.proofs.Common.{[], nat_tests, ◌≡◌, ℕ, zero, suc, slice_get, ◌+◌, ◌-◌, ◌<◌, Bool, true, List, ◌∷◌, ◌++◌, length, drop, Option, Some, None, Ok, refl, sym, subst, arith, nat_lt, list_all, AllByRecursion, option_to_list, Name, Token, Declaration, Specification, is_name_byte, tokens_of, Any, none, next, Maybe, without, with, Section, absent, present, Listed, last, beside, with_comma, IsName, IsNames, IsDeclaration, declaration, IsVariables, variables, IsTerm, constant, call, IsArguments, only, more, IsTerms, IsCondition, condition, IsConditions, one, and, IsRule, plain, conditional, IsSpecification, specification, IsInput, input, text_of, specifications_at, drop-append_seam, take-append_seam}
 use Rattle.std.proofs.Common.{append_assoc}
-use Rattle.std.specs.Prelude.{◌&&◌}
 use Rattle.std.proofs.lemmas.List.{length-append}
-use Rattle.std.proofs.Math.Seq.{drop-append_seam, take-append_seam}
 use Rattle.rec_reader.specs.declared.token.Token.TheVariants as token
 use Rattle.rec_reader.specs.declared.token.Sign.{Sign}
 use Rattle.rec_reader.specs.Cut.{Part, IsPart, joined, tokens_in, AreParts, IsCut}
@@ -39,18 +37,14 @@ is_clear bytes = list_all (λ b. nat_lt 32 b) bytes
 abbrev pub IsClear : List ℕ → Type 0
 IsClear bytes = is_clear bytes ≡ true
 
-both : (a b : Bool) → a ≡ true → b ≡ true → (a && b) ≡ true
-both a b e f = grind (arith, nat_tests)
 
-name_byte_clear : (b : ℕ) (bs : List ℕ) → is_name_byte (b ∷ bs) ≡ true → nat_lt 32 b ≡ true
-name_byte_clear b bs e = grind (arith, nat_tests)
 
 text_clear : (text rest : List ℕ)
     → ((k : ℕ) → k < length text → is_name_byte (drop k (text ++ rest)) ≡ true) → IsClear text
 text_clear [] rest each = refl
 text_clear (b ∷ bs) rest each =
-    both (nat_lt 32 b) (is_clear bs) (name_byte_clear b (bs ++ rest) (each 0 (omega arith)))
-    (text_clear bs rest (λ k lt. each (suc k) (omega (arith, lt))))
+    let more = text_clear bs rest (λ k lt. each (suc k) (omega (arith, lt))) in
+    grind (arith, nat_tests, more, each 0)
 
 -- ---- the names of tokens
 
@@ -69,33 +63,23 @@ module _ (bytes : List ℕ) where
   cut_out : (before text rest : List ℕ) (n : Name) → bytes ≡ before ++ (text ++ rest)
       → n.start ≡ length before → n.end ≡ length before + length text → text_of bytes n ≡ text
   cut_out before text rest n is start end =
-      let count : n.end - n.start ≡ length text = omega (arith, start, end) in
-      ap (λ xs. slice_range xs n.start n.end) is
-      ∙ ap (λ k. take (n.end - n.start) (drop k (before ++ (text ++ rest)))) start
-      ∙ ap (take (n.end - n.start)) (drop-append_seam before (text ++ rest))
-      ∙ ap (λ k. take k (text ++ rest)) count
-      ∙ take-append_seam text rest
+      grind (arith, drop-append_seam before (text ++ rest), take-append_seam text rest)
 
   one_part : (before text rest : List ℕ) (o : Option Token) (ts : List Token)
       → bytes ≡ before ++ (text ++ rest) → IsPart (length before) text rest o → ClearTokens ts
       → ClearTokens (option_to_list o ++ ts)
   one_part before text rest None ts is p c = c
-  one_part before text rest (Some (token.Named n)) ts is p c = (
-    subst IsClear (sym (cut_out before text rest n is p.0 p.1))
-        (text_clear text rest p.2.each),
-    c,
-  )
+  one_part before text rest (Some (token.Named n)) ts is p c =
+      (grind (arith, cut_out before text rest n is p.0 p.1, text_clear text rest p.2.each), c)
   one_part before text rest (Some (token.At sign at)) ts is p c = (tt, c)
 
   parts_clear : (before : List ℕ) (ps : List Part) → AreParts (length before) ps
       → bytes ≡ before ++ joined ps → ClearTokens (tokens_in ps)
   parts_clear before [] a is = tt
   parts_clear before (p ∷ ps) a is =
-      let there : length before + length p.text ≡ length (before ++ p.text) =
-      sym (length-append before p.text) in
+      let rest = parts_clear (before ++ p.text) ps in
       one_part before p.text (joined ps) p.token (tokens_in ps) is a.0
-      (parts_clear (before ++ p.text) ps (subst (λ at. AreParts at ps) there a.1)
-      (is ∙ sym (append_assoc before p.text (joined ps))))
+      (grind (arith, rest, a.1, length-append before p.text, append_assoc before p.text (joined ps)))
 
   pub tokens_clear : (tokens : List Token) → tokens_of bytes ≡ Ok tokens → ClearTokens tokens
   tokens_clear tokens e =

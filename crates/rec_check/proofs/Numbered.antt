@@ -1,15 +1,10 @@
 -- The variables of a left side are numbered in order of first occurrence.
-use Rattle.rec_check.proofs.Common.{[], nat_tests, ◌≡◌, ◌<◌, ◌≤◌, ℕ, ◌+◌, Bool, true, false, not, cond, List, ◌∷◌, ◌++◌, length, map, Some, None, ◌⊎◌, refl, ◌∙◌, arith, ◌||◌, Option, sym, ap, position, length-append, option_and_then, if◌then◌else◌, list_any, bytes_eq, length-map, slice_get_cases, Node, text_of, with_name, with_names, variables_in, option_map, bytes_decides, position-Some, Item, Var, Named, count_in, count_with, Scope, all_of, item_in}
+use Rattle.rec_check.proofs.Common.{list_any-append, [], nat_tests, ◌≡◌, ◌<◌, ◌≤◌, ℕ, ◌+◌, Bool, true, false, not, cond, List, ◌∷◌, ◌++◌, length, map, Some, None, ◌⊎◌, refl, ◌∙◌, arith, Option, sym, ap, position, length-append, option_and_then, if◌then◌else◌, list_any, bytes_eq, length-map, Node, text_of, with_name, with_names, variables_in, option_map, bytes_decides, position-Some, Item, Var, Named, count_in, count_with, Scope, all_of, item_in}
 use Rattle.std.proofs.Common.{filter, append_assoc, append-nil}
-use Rattle.std.specs.Prelude.{All, slice_get}
 use Rattle.std.proofs.lemmas.List.Filters.{length-filter_both}
 use Rattle.rec_check.proofs.Heads.{place_if_any, stays_first, new_at_end, IsVariable, IsSymbol, head_cases}
 
 -- ---- a rule has at most as many variables as its left side has nodes
-
--- what holds of each of a list holds of the one at a place
-pub at_place : {X : Type 0} (P : X → Type 0) (xs : List X) (i : ℕ) (x : X) → Some x ≡ slice_get xs i → All P xs → P x
-at_place {X} P xs i x e all = grind (arith, nat_tests, slice_get_cases)
 
 one_more : (b : Bool) (names : List (List ℕ)) (n : List ℕ) → length (cond b names (names ++ n ∷ [])) ≤ length names + 1
 one_more b names n = grind (arith, nat_tests, length-append)
@@ -37,10 +32,6 @@ grown seen (n ∷ ns) = grind (arith, nat_tests, grown seen ns, grown (seen ++ n
 self_equal : (n : List ℕ) → bytes_eq n n ≡ true
 self_equal n = (bytes_decides n n).1 refl
 
-pub any_append : {X : Type 0} (p : X → Bool) (xs ys : List X) → list_any p (xs ++ ys) ≡ (list_any p xs || list_any p ys)
-any_append p [] ys = refl
-any_append p (x ∷ xs) ys = grind (arith, nat_tests, any_append p xs ys)
-
 module _ (text : List ℕ) (declared : List (List ℕ)) where
   abbrev is_declared : List ℕ → Bool
   is_declared name = list_any (bytes_eq name) declared
@@ -50,7 +41,7 @@ module _ (text : List ℕ) (declared : List (List ℕ)) where
   AreDeclared names = (w : List ℕ) → list_any (bytes_eq w) names ≡ true → is_declared w ≡ true
 
   one_declared : (seen : List (List ℕ)) (n : List ℕ) → AreDeclared seen → is_declared n ≡ true → AreDeclared (seen ++ n ∷ [])
-  one_declared seen n are is w h = grind (arith, nat_tests, any_append (bytes_eq w) seen (n ∷ []), are w, bytes_decides w n)
+  one_declared seen n are is w h = grind (arith, nat_tests, list_any-append (bytes_eq w) seen (n ∷ []), are w, bytes_decides w n)
 
   pub all_declared : (seen ns : List (List ℕ)) → AreDeclared seen → AreDeclared (with_names seen (filter is_declared ns))
   all_declared seen [] are w h = are w h
@@ -78,7 +69,7 @@ module _ (text : List ℕ) (declared : List (List ℕ)) where
     -- the number of a declared name that occurred before
     occurred : (n : Node) (seen : List (List ℕ)) (ns : List (List ℕ)) → vars ≡ with_names seen ns → list_any (bytes_eq (text_of text n.head)) seen ≡ true
         → (x : ℕ) × (x < length seen) × (place n ≡ Some x)
-    occurred n seen ns v h = by (position (bytes_eq name) seen) refl
+    occurred n seen ns v h = by (position (bytes_eq (text_of text n.head)) seen) refl
       where
         name : List ℕ
         name = text_of text n.head

@@ -156,7 +156,7 @@ pub of_spelled : (P : Specified → Type 0) (syntax : Parsed) (made : Specified)
 of_spelled P syntax made none some h = by (last_of syntax.specifications) h
   where
     by : (o : Option Specification) → spelled_with syntax o ≡ Some made → P made
-    by None h = subst P (cc_some nothing made h) none
+    by None h = grind (arith, none)
     by (Some last) h = some last.terms (parts_of syntax.bytes syntax.specifications (last_material syntax) last.terms made h)
 
 parts_run : (text : List ℕ) (specifications : List Specification) (material : List ℕ) (ts : List (List written_node.Node)) (made : Specified)

@@ -1,5 +1,5 @@
 -- What terms and rules are read by: symbols and variables for all their heads.
-use Rattle.rec_check.proofs.Common.{[], nat_tests, rules, ◌≡◌, ℕ, ◌-◌, true, ◌&&◌, List, ◌∷◌, length, slice_get, get_or, Option, Some, None, is_some, All, refl, sym, ap, subst, ◌∙◌, arith, position, length-append, option_and_then, nat_le, option_map, list_any, flat_map, bytes_eq, All-weaker, All-head, All-tail, slice_get_within, slice_get-get_or, get_or_from_slice_get, Tree, root, postorder, tree_of, head_of, Item, only_postorder, root_is_last, Rule, Condition, Named, named, Specification, IsWhole, text_of, Scope, all_of, item_in, item_by, symbol_item, tree_in, same_symbol, most_arguments, condition_in, rule_in, variables_in, variables_of, terms_in}
+use Rattle.rec_check.proofs.Common.{[], nat_tests, rules, ◌≡◌, ℕ, ◌-◌, true, ◌&&◌, List, ◌∷◌, length, slice_get, get_or, Option, Some, None, is_some, All, refl, sym, ap, subst, ◌∙◌, arith, position, length-append, option_and_then, nat_le, option_map, list_any, flat_map, bytes_eq, All-weaker, All-head, All-tail, slice_get_within, slice_get-get_or, get_or_from_slice_get, Tree, root, tree_of, Item, only_postorder, root_is_last, Rule, Condition, Named, named, Specification, IsWhole, text_of, Scope, all_of, item_in, item_by, symbol_item, tree_in, same_symbol, most_arguments, condition_in, rule_in, variables_in, variables_of, terms_in}
 use Rattle.rec_reader.specs.declared.syntax_tree.Node as node
 use Rattle.rec_reader.specs.declared.syntax_tree.Rule as written
 use Rattle.rec_reader.specs.declared.syntax_tree.Condition as condition
@@ -118,11 +118,8 @@ module _ (bytes : List ℕ) where
       let s = scope symbols vars in
       let i = some_of (item_in s n) read in
       let sy = symbol_cases symbols (text_of bytes n.head) n.count i.0 (ap (item_by symbols (text_of bytes n.head) n.count) (sym none) ∙ i.1) in
-      let at : slice_get t.items (length nodes - 1) ≡ Some i.0 = spelled_at (λ m. item_in s m) nodes t.items (length nodes - 1) n i.0 t.are e i.1 in
-      let post : t.items ≡ postorder t.tree = only_postorder t.items t.tree t.is in
-      let len : length nodes ≡ length (postorder t.tree) = sym (same_length (λ m. item_in s m) nodes t.items t.are) ∙ ap length post in
-      let last : slice_get (postorder t.tree) (length (postorder t.tree) - 1) ≡ Some i.0 = (λ j. slice_get (sym post j) (sym len j - 1)) ∙ at in
-      ap is_some (sym (root_is_last t.tree i.0 last)) ∙ ap (λ j. is_some (head_of j)) sy.is
+      let at = spelled_at (λ m. item_in s m) nodes t.items (length nodes - 1) n i.0 t.are e i.1 in
+      grind (arith, nat_tests, at, only_postorder t.items t.tree t.is, same_length (λ m. item_in s m) nodes t.items t.are, root_is_last t.tree i.0, sy.is)
 
   pub rule_spelled : (symbols : List Named) (declared : List (List ℕ)) (r : written.Rule) → RuleReads symbols declared r → is_some (rule_in bytes symbols declared r) ≡ true
   rule_spelled symbols declared r x =

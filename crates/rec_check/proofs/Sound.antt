@@ -1,7 +1,6 @@
 -- Material without offence: what its symbols are, and that its rules are spelled by them.
-use Rattle.rec_check.proofs.Common.{[], ◌≡◌, ℕ, ◌+◌, ◌<◌, ◌≤◌, Bool, true, false, ◌&&◌, ◌||◌, List, ◌∷◌, ◌++◌, length, map, Some, refl, sym, ap, ◌∙◌, arith, length-append, fold, nat_eq, slice_get, All, subst, nat_le, if◌then◌else◌, list_any, list_all, flat_map, filter, nat_tests, append_assoc, append-nil, map-append, length-map, named, most_symbols, Named, Name, text_of, same_text, is_among, Declared, Header, brought, fresh, with_numbers, symbols_by, symbols_of, rules_of, specifications_at, repeated, Include, includes_from, symbol_names, is_clashing, is_passing, passes, most, same_symbol, most_arguments, named_in, with_symbol, with_symbols, common_steps, flat_map-append, option_to_list, eqb-true, All-append, All-weaker, All-nil, All-cons, All-head, All-tail, list_all-append, Specification}
+use Rattle.rec_check.proofs.Common.{list_any-append, [], ◌≡◌, ℕ, ◌+◌, ◌<◌, ◌≤◌, Bool, true, false, ◌&&◌, ◌||◌, List, ◌∷◌, ◌++◌, length, map, Some, refl, sym, ap, ◌∙◌, arith, length-append, fold, nat_eq, slice_get, All, subst, nat_le, if◌then◌else◌, list_any, list_all, flat_map, filter, nat_tests, append_assoc, append-nil, map-append, length-map, named, most_symbols, Named, Name, text_of, same_text, is_among, Declared, Header, brought, fresh, with_numbers, symbols_by, symbols_of, rules_of, specifications_at, repeated, Include, includes_from, symbol_names, is_clashing, is_passing, passes, most, same_symbol, most_arguments, named_in, with_symbol, with_symbols, common_steps, flat_map-append, option_to_list, eqb-true, All-append, All-weaker, All-nil, All-cons, All-head, All-tail, list_all-append, Specification}
 use Rattle.std.proofs.Common.{nat_lt}
-use Rattle.rec_check.proofs.Numbered.{any_append}
 use Rattle.rec_check.proofs.Faultless.{left_empty, right_empty}
 
 -- ---- names that aren't repeated, and symbols with such names
@@ -27,7 +26,7 @@ module _ (bytes : List ℕ) where
   first_new e xs x p q = (λ i. (if p i then x ∷ [] else []) ++ repeated bytes (e ++ x ∷ []) xs) ∙ q
 
   pub among-append : (a e : List Name) (x : Name) → is_among bytes (a ++ e) x ≡ (is_among bytes a x || is_among bytes e x)
-  among-append a e x = any_append (same_text bytes x) a e
+  among-append a e x = list_any-append (same_text bytes x) a e
 
   -- fewer earlier names
   pub record Within (e f : List Name) : Type 0 where
@@ -71,7 +70,7 @@ pub or_left : (a b : Bool) → a ≡ true → (a || b) ≡ true
 or_left a b h = ap (λ x. x || b) h
 
 pub holds_first : (a b : List Named) → Holds a (a ++ b)
-holds_first a b = record { each = λ s h. any_append (same_symbol s) a b ∙ or_left (list_any (same_symbol s) a) (list_any (same_symbol s) b) h }
+holds_first a b = record { each = λ s h. list_any-append (same_symbol s) a b ∙ or_left (list_any (same_symbol s) a) (list_any (same_symbol s) b) h }
 
 pub all_front : {A : Type 0} (P : A → Type 0) (xs ys : List A) → All P (xs ++ ys) → All P xs
 all_front P [] ys h = All-nil P
@@ -121,7 +120,7 @@ module _ (bytes : List ℕ) (Reads : List Named → Specification → Type 0) (k
   any_at s specs ms = list_any (same_symbol s) (symbols_at specs ms)
 
   any_at-append : (s : Named) (specs : List Specification) (a b : List ℕ) → any_at s specs (a ++ b) ≡ (any_at s specs a || any_at s specs b)
-  any_at-append s specs a b = ap (list_any (same_symbol s)) (named-append specs a b) ∙ any_append (same_symbol s) (symbols_at specs a) (symbols_at specs b)
+  any_at-append s specs a b = ap (list_any (same_symbol s)) (named-append specs a b) ∙ list_any-append (same_symbol s) (symbols_at specs a) (symbols_at specs b)
 
   distinct_fresh : (specs : List Specification) (a b : List ℕ) (e f : List Name) → Within bytes e f → repeated bytes f (symbol_names specs b) ≡ [] → repeated bytes e (symbol_names specs (fresh a b)) ≡ []
   distinct_fresh specs a [] e f w h = refl

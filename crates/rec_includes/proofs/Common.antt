@@ -9,7 +9,7 @@ pub use Rattle.std.specs.Cmp.Lexicographic.{pointwise, bytes_decides}
 pub use Rattle.std.specs.Global.{Vec}
 pub use Rattle.std.specs.List.{list_any, sum_by, flat_map, AllByRecursion}
 pub use Rattle.std.specs.Map.{lookup}
-pub use Rattle.std.specs.Option.{option_map_or, is_some, option_to_list, option_map}
+pub use Rattle.std.specs.Option.{option_map_or, is_some, option_to_list}
 pub use Rattle.std.specs.Str.{bytes_eq}
 pub use Rattle.rec_reader.specs.declared.syntax_tree.Specification.{Specification}
 pub use Rattle.rec_reader.specs.declared.token.Name.{Name}
@@ -19,5 +19,5 @@ pub use Rattle.rec_includes.specs.Listing.{place_in}
 pub use Rattle.rec_includes.specs.Material.{Header, brought, included, with_numbers, headers_of, material_of, fresh, header_after, specifications_at}
 pub use Rattle.rec_includes.specs.Names.{text_of, same_text, is_among}
 pub use Rattle.rec_includes.specs.Numbered.{header_names, target, IsClosed, includes_at, first_target}
-pub use Rattle.rec_includes.specs.Walk.{after, missing, entry_in, next_in}
+pub use Rattle.rec_includes.specs.Walk.{after, missing, next_in}
 pub use Rattle.rec_includes.specs.declared.gathering.Frame.{Frame}

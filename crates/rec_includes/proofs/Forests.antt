@@ -1,5 +1,5 @@
 -- The forest of specifications: what each includes first comes before it.
-use Rattle.rec_includes.proofs.Common.{◌≡◌, ℕ, zero, suc, ◌<◌, Bool, true, false, cond, List, [], ◌∷◌, nat_eq, Option, Some, None, IfSome, refl, sym, ap, subst, ◌∙◌, ◌||◌, arith, true≢false, length, get_or, ◌-◌, ◌++◌, append-nil, length-append, set, All, Contains, length-set, get_or-set_other, get_or-set_same, list_any, AllByRecursion, put, preorder, cut, Follows, parent_of, Leads, slice_get-get_or, Name, Specification, target, first_target, All-from_recursion}
+use Rattle.rec_includes.proofs.Common.{◌≡◌, ℕ, zero, suc, ◌<◌, Bool, true, false, cond, List, [], ◌∷◌, nat_eq, Option, Some, None, IfSome, refl, sym, subst, arith, length, get_or, ◌-◌, ◌++◌, append-nil, length-append, set, All, Contains, length-set, get_or-set_other, get_or-set_same, list_any, AllByRecursion, put, preorder, cut, Follows, parent_of, Leads, slice_get-get_or, Name, Specification, target, first_target, All-from_recursion}
 use Rattle.std.specs.List.{IsDistinct}
 use Rattle.rec_includes.proofs.Places.{place_in_front, below}
 use Rattle.indexmap.proofs.CallerLemmas.{Contains-list_any}
@@ -9,30 +9,6 @@ use Rattle.indexmap.proofs.CallerLemmas.{Contains-list_any}
 pub same_number : (m n : ℕ) → nat_eq m n ≡ true → m ≡ n
 same_number m n h = grind arith
 
-is_same : (m n : ℕ) → m ≡ n → nat_eq m n ≡ true
-is_same m n h = grind arith
-
-pub differs : (m n : ℕ) → m < n → nat_eq n m ≡ false
-differs m n h = grind arith
-
-pub differs_back : (m n : ℕ) → m < n → nat_eq m n ≡ false
-differs_back m n h = grind arith
-
-pub not_same : (m n : ℕ) → nat_eq m n ≡ false → n ≡ m → ⊥
-not_same m n h e = true≢false (sym (is_same m n (sym e)) ∙ h)
-
-less : (m n : ℕ) → nat_eq m n ≡ false → m < suc n → m < n
-less m n h l = grind arith
-
-pub either_more : (a x y : Bool) → (x ≡ true → y ≡ true) → (a || x) ≡ true → (a || y) ≡ true
-either_more a x y f h = grind arith
-
-pub or_true : (a x : Bool) → x ≡ true → (a || x) ≡ true
-or_true a x h = grind arith
-
-pub true_or : (a x : Bool) → a ≡ true → (a || x) ≡ true
-true_or a x h = ap (λ b. b || x) h
-
 -- what holds of all numbers holds with one more
 put_all : (P : ℕ → Type 0) (o : Option ℕ) (n : ℕ) (ns : List ℕ) → P n → AllByRecursion P ns → AllByRecursion P (put o n ns)
 put_all P None n ns p h = (p, h)
@@ -41,11 +17,11 @@ put_all P (Some q) n (m ∷ ms) p h = grind (arith, put_all P (Some q) n ms p h.
 
 pub apart : (n : ℕ) (ns : List ℕ) → AllByRecursion (λ m. m < n) ns → AllByRecursion (λ m. nat_eq n m ≡ false) ns
 apart n [] h = tt
-apart n (m ∷ ms) h = (differs m n h.0, apart n ms h.1)
+apart n (m ∷ ms) h = grind (arith, h.0, apart n ms h.1)
 
 one_more : (n : ℕ) (ns : List ℕ) → AllByRecursion (λ m. m < n) ns → AllByRecursion (λ m. m < suc n) ns
 one_more n [] h = tt
-one_more n (m ∷ ms) h = (let l = h.0 in omega (arith, l), one_more n ms h.1)
+one_more n (m ∷ ms) h = grind (arith, h.0, one_more n ms h.1)
 
 put_distinct : (o : Option ℕ) (n : ℕ) (ns : List ℕ) → IsDistinct nat_eq ns → AllByRecursion (λ m. m < n) ns → IsDistinct nat_eq (put o n ns)
 unfolding IsDistinct
@@ -54,15 +30,17 @@ put_distinct (Some q) n [] d l = tt
 put_distinct (Some q) n (m ∷ ms) d l = by (nat_eq q m) (put_distinct (Some q) n ms d.1 l.1)
   where
     by : (b : Bool) → IsDistinct nat_eq (put (Some q) n ms) → IsDistinct nat_eq (cond b (m ∷ n ∷ ms) (m ∷ put (Some q) n ms))
-    by b r = grind (arith, differs_back m n l.0, apart n ms l.1, put_all (λ y. nat_eq m y ≡ false) (Some q) n ms (differs_back m n l.0) d.0)
+    by b r =
+        let other : nat_eq m n ≡ false = grind (arith, l.0) in
+        grind (arith, other, apart n ms l.1, put_all (λ y. nat_eq m y ≡ false) (Some q) n ms other d.0)
 
 put_keeps : (t : ℕ → Bool) (o : Option ℕ) (n : ℕ) (ns : List ℕ) → list_any t ns ≡ true → list_any t (put o n ns) ≡ true
-put_keeps t None n ns h = or_true (t n) (list_any t ns) h
+put_keeps t None n ns h = grind arith
 put_keeps t (Some q) n [] h = h
 put_keeps t (Some q) n (m ∷ ms) h = grind (arith, put_keeps t (Some q) n ms)
 
 put_adds : (o : Option ℕ) (n : ℕ) (ns : List ℕ) → IfSome o (λ q. list_any (nat_eq q) ns ≡ true) → list_any (nat_eq n) (put o n ns) ≡ true
-put_adds None n ns h = true_or (nat_eq n n) (list_any (nat_eq n) ns) (is_same n n refl)
+put_adds None n ns h = grind arith
 put_adds (Some q) n [] h = h
 put_adds (Some q) n (m ∷ ms) h = grind (arith, put_adds (Some q) n ms)
 
@@ -81,7 +59,7 @@ preorder_has parent before (suc n) m l = by (nat_eq m n) refl (λ k. preorder_ha
   where
     by : (b : Bool) → nat_eq m n ≡ b → ((k : ℕ) → k < n → list_any (nat_eq k) (preorder parent n) ≡ true) → list_any (nat_eq m) (preorder parent (suc n)) ≡ true
     by true e r = grind (arith, same_number m n e, put_adds (parent n) n (preorder parent n), before n, r)
-    by false e r = put_keeps (nat_eq m) (parent n) n (preorder parent n) (r m (less m n e l))
+    by false e r = put_keeps (nat_eq m) (parent n) n (preorder parent n) (r m (grind arith))
 
 -- ---- in this order a number's parent is on the path when its turn comes
 
@@ -107,8 +85,8 @@ cut_both p (more {y = y} {xs = xs} {ys = ys} s) = grind (arith, more {y = y} (cu
 
 any_within : (t : ℕ → Bool) {xs ys : List ℕ} → Within xs ys → list_any t xs ≡ true → list_any t ys ≡ true
 any_within t none h = h
-any_within t (same {x = x} {xs = xs} {ys = ys} s) h = either_more (t x) (list_any t xs) (list_any t ys) (any_within t s) h
-any_within t (more {y = y} {xs = xs} {ys = ys} s) h = or_true (t y) (list_any t ys) (any_within t s h)
+any_within t (same s) h = grind (arith, any_within t s)
+any_within t (more s) h = grind (arith, any_within t s h)
 
 -- a path that has more has the parents too
 follows_within : (parent : ℕ → Option ℕ) (xs ys ns : List ℕ) → Within xs ys → Follows parent xs ns → Follows parent ys ns
@@ -187,7 +165,7 @@ leads_after next n p at (q ∷ qs) l m d below h = by (nat_eq p q) refl (leads_a
         let differ = subst (λ k. AllByRecursion (λ y. nat_eq k y ≡ false) qs) is d.0 in
         let there = subst (λ k. Leads next at (k ∷ qs)) is h in
         subst (λ k. Leads new at (k ∷ n ∷ qs)) (sym is) (leads_here next n p at qs l m differ below.1 there)
-    by false e r = grind (arith, length-set, get_or-set_other, not_same p q e, differs q n below.0)
+    by false e r = grind (arith, length-set, get_or-set_other, e, below.0)
 
 -- a step over the links
 pub leads_step : (next : List (Option ℕ)) (at : Option ℕ) (n : ℕ) (left : List ℕ) → Leads next at left → at ≡ Some n →

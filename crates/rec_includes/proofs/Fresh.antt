@@ -62,14 +62,10 @@ has_added ks ns j h = has_with ks ns j ∙ ap (λ b. has ks j || b) h ∙ or_tru
 pub has_first : (n : ℕ) (ns : List ℕ) → has (n ∷ ns) n ≡ true
 has_first n ns = ap (λ b. b || has ns n) (eq-eqb n n refl)
 
--- one number is added to what has been gathered of two lists
-with_one : (m a : List ℕ) (n : ℕ) → with_numbers m (with_number a n) ≡ with_number (with_numbers m a) n
-with_one m a n = grind (arith, has_added, with_append, one_number)
-
 -- what was gathered from two lists is added as the two lists are
 pub with_with : (m a b : List ℕ) → with_numbers m (with_numbers a b) ≡ with_numbers (with_numbers m a) b
 with_with m a [] = ap (with_numbers m) (no_numbers a) ∙ sym (no_numbers (with_numbers m a))
-with_with m a (n ∷ b) = grind (arith, with_with m (with_number a n) b, first_number, with_one)
+with_with m a (n ∷ b) = grind (arith, with_with m (with_number a n) b, first_number, has_added, with_append, one_number)
 
 -- each of these numbers is among those
 pub record Within (ns ms : List ℕ) : Type 0 where

@@ -17,10 +17,6 @@ below_none bound = record { each = λ j h. absurd cc }
 pub below_larger : (a b : ℕ) (ns : List ℕ) → a ≤ b → Below a ns → Below b ns
 below_larger a b ns l w = record { each = λ j h. let k = w.each j h in omega arith }
 
--- one number
-pub below_one : (bound n : ℕ) → n < bound → Below bound (n ∷ [])
-below_one bound n l = grind arith
-
 either_below : (bound : ℕ) (ks ns : List ℕ) → Below bound ks → Below bound ns → (j : ℕ) → (has ks j || has ns j) ≡ true → j < bound
 either_below bound ks ns v w j h = grind arith
 
@@ -52,7 +48,7 @@ module _ (bytes : List ℕ) (xs : List Specification) where
 
   material_below_from : (fuel n : ℕ) → n < fuel → Below (suc n) (material_of bytes xs n)
   material_below_from zero n l = absurd (omega arith)
-  material_below_from (suc fuel) n l = grind (arith, nat_tests, material_below_from fuel, no_material bytes, below_none (suc n), below_none n, material_is bytes, below_append (suc n), below_larger n (suc n), below_gathered n bytes, brings_below_from n, below_one (suc n) n)
+  material_below_from (suc fuel) n l = grind (arith, nat_tests, material_below_from fuel, no_material bytes, below_none (suc n), below_none n, material_is bytes, below_append (suc n), below_larger n (suc n), below_gathered n bytes, brings_below_from n)
 
   -- no number of a specification's material is above its own
   pub material_below : (n : ℕ) → Below (suc n) (material_of bytes xs n)

@@ -59,10 +59,6 @@ pub looks_more : (bytes : List ℕ) (names : List Name) (es new : List (Vec ℕ 
     k.items ≡ text_of bytes n → i ≡ length names → new ≡ es ++ (k, i) ∷ [] → Looks bytes names es → Looks bytes (names ++ n ∷ []) new
 looks_more bytes names es new n k i text place last looks q = grind (arith, lookup_more, place_more)
 
--- two texts are the same in either order
-pub same_either_way : (a b : List ℕ) → bytes_eq a b ≡ bytes_eq b a
-same_either_way a b = grind (arith, nat_tests, bytes_decides a b, bytes_decides b a)
-
 -- the material of the header at this place, or nothing
 abbrev pub material_at : List Header → ℕ → List ℕ
 material_at headers place = option_map_or (λ h. h.material) (slice_get headers place) []
@@ -70,7 +66,7 @@ material_at headers place = option_map_or (λ h. h.material) (slice_get headers 
 -- what an entry brings stands at the place of its name
 pub brought_at : (bytes : List ℕ) (headers : List Header) (n : Name) → brought bytes headers n ≡ option_map_or (material_at headers) (place_in (same_text bytes n) (map (λ h. h.name) headers)) []
 brought_at bytes [] n = refl
-brought_at bytes (h ∷ hs) n = grind (arith, brought_at bytes hs n, same_either_way)
+brought_at bytes (h ∷ hs) n = grind (arith, brought_at bytes hs n, nat_tests, bytes_decides)
 
 -- an entry whose text is this one has its first place
 pub guessed : (bytes : List ℕ) (names : List Name) (es : List (Vec ℕ × ℕ)) (text : List ℕ) (key : Vec ℕ) (place : ℕ) →

@@ -1,5 +1,5 @@
 -- The walk over what a specification includes: what its stack of frames comes to.
-use Rattle.rec_includes.proofs.Common.{common_steps, ◌≡◌, ℕ, ◌+◌, ◌<◌, List, [], ◌∷◌, ◌++◌, length, take, drop, slice_get, Some, None, refl, sym, ap, subst, ◌∙◌, arith, add-one, take-suc, zero, suc, ◌-◌, ◌*◌, ◌^◌, ◌≤◌, suc-mul, slice_get_within, get_or_from_slice_get, Name, Specification, Frame, brought, with_numbers, headers_of, material_of, includes_at, header_names, target, IsClosed, after, missing, nat_tests, sum_by}
+use Rattle.rec_includes.proofs.Common.{common_steps, ◌≡◌, ℕ, ◌+◌, ◌<◌, List, [], ◌∷◌, ◌++◌, length, take, drop, slice_get, Some, None, refl, sym, ap, subst, ◌∙◌, arith, add-one, take-suc, zero, suc, ◌-◌, ◌*◌, ◌^◌, ◌≤◌, suc-mul, slice_get_within, get_or_from_slice_get, Name, Specification, Frame, brought, with_numbers, headers_of, material_of, includes_at, header_names, IsClosed, after, missing, nat_tests, sum_by}
 use Rattle.std.proofs.lemmas.List.Sums.{fold-append, sum_by_push, sum_by-cons}
 use Rattle.rec_includes.proofs.Fresh.{with_number, Within, no_numbers, within_none, within_more, within_added, within_both}
 use Rattle.rec_includes.proofs.Gathered.{drop_at, drop_all}
@@ -104,10 +104,6 @@ module _ (bytes : List ℕ) (xs : List Specification) where
     not_missing : IsClosed bytes xs m → missing bytes (header_names xs) m v.number e ≡ None → more ≡ m
     not_missing c none = grind (arith, brings_material, brings_nothing, no_numbers)
 
-    -- the specification that is missing is the one that the entry includes
-    pub missing_is : (p : ℕ) → missing bytes (header_names xs) m v.number e ≡ Some p → target bytes (header_names xs) v.number e ≡ Some p
-    missing_is p k = grind arith
-
     -- an entry that brings nothing new is passed over
     pub passes_over : (total : List ℕ) → missing bytes (header_names xs) m v.number e ≡ None → IsUnderWay bytes xs total m (vs ++ v ∷ []) → IsUnderWay bytes xs total m (vs ++ after v ∷ [])
     passes_over total none w = grind (arith, not_missing, goes_on, comes_on)
@@ -115,7 +111,7 @@ module _ (bytes : List ℕ) (xs : List Specification) where
     -- a specification that is missing is frameed
     pub goes_into : (total : List ℕ) (p : ℕ) → missing bytes (header_names xs) m v.number e ≡ Some p → IsUnderWay bytes xs total m (vs ++ v ∷ []) →
         IsUnderWay bytes xs total m ((vs ++ after v ∷ []) ++ frame p 0 ∷ [])
-    goes_into total p some w = grind (arith, missing_is, target_before bytes xs v.number e p, done_first bytes xs m p, brings_material bytes xs v.number e p, ready_more bytes xs m (vs ++ after v ∷ []) (frame p 0) (within_none m), goes_on w.ready, finish_last bytes xs m (vs ++ after v ∷ []) (frame p 0), comes_on)
+    goes_into total p some w = grind (arith, target_before bytes xs v.number e p, done_first bytes xs m p, brings_material bytes xs v.number e p, ready_more bytes xs m (vs ++ after v ∷ []) (frame p 0) (within_none m), goes_on w.ready, finish_last bytes xs m (vs ++ after v ∷ []) (frame p 0), comes_on)
 
   -- a frame with no entry left adds its number
   pub ends : (m : List ℕ) (vs : List Frame) (v : Frame) (total : List ℕ) → slice_get (includes_at xs v.number) v.next ≡ None → IsUnderWay bytes xs total m (vs ++ v ∷ []) →

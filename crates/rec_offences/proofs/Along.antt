@@ -16,8 +16,6 @@ pub verdict_on_nothing : (bytes : List ℕ) (specifications : List Specification
 verdict_on_nothing bytes specifications entry so_far brings e = grind (arith, nat_tests, append-nil, passes_nothing)
 
 -- ---- going on from a front
-pub front_more : (front whole more : List ℕ) → IsFront front whole → IsFront front (with_numbers whole more)
-front_more front whole more is = grind (arith, nat_tests, common_steps, whole_of, append_assoc, front_cut)
 
 module _ (bytes : List ℕ) (specifications : List Specification) (number : ℕ) where
   -- what an entry brings
@@ -62,15 +60,11 @@ module _ (bytes : List ℕ) (specifications : List Specification) (number : ℕ)
       target bytes (header_names specifications) number x ≡ None → Along entries rest is_there now i
   past_unknown entries rest x is_there verdicts now i a pushed unknown = grind (arith, nat_tests, brings_nothing bytes specifications number x unknown, no_numbers, further entries rest x is_there is_there verdicts now _ i i a pushed, verdict_on_nothing bytes specifications x)
 
-  -- the first entry that brings something, where this is at hand
-  pub first_is : (rest : List Name) (x : Name) (so_far : List ℕ) (place : ℕ) (i : Inclusion) → Waiting so_far (x ∷ rest) i → target bytes (header_names specifications) number x ≡ Some place → i.material.keys ≡ brings x
-  first_is rest x so_far place i s e = grind (arith, nat_tests, brings_material bytes specifications number x place e, last_is bytes specifications)
-
   pub past_first : (entries rest : List Name) (x : Name) (verdicts now : List Verdict) (v : Verdict) (place : ℕ) (i : Inclusion) →
       (a : Along entries (x ∷ rest) true verdicts i) → now ≡ verdicts ++ v ∷ [] →
       target bytes (header_names specifications) number x ≡ Some place →
       (fresh [] i.material.keys ≡ i.material.keys → v ≡ verdict_of bytes specifications (include x [] i.material.keys)) → Along entries rest false now i
-  past_first entries rest x verdicts now v place i a pushed e judged = grind (arith, nat_tests, first_is rest x a.so_far place i, brings_material bytes specifications number x place e, material_once bytes specifications place, further entries rest x true false verdicts now v i i a pushed, take-length (last_material bytes specifications [] i.levels.items))
+  past_first entries rest x verdicts now v place i a pushed e judged = grind (arith, nat_tests, brings_material, last_is, brings_material bytes specifications number x place e, material_once bytes specifications place, further entries rest x true false verdicts now v i i a pushed, take-length (last_material bytes specifications [] i.levels.items))
 
   -- a later entry
   pub past_other : (entries rest : List Name) (x : Name) (verdicts now : List Verdict) (v : Verdict) (place : ℕ) (i j : Inclusion) →
@@ -78,13 +72,10 @@ module _ (bytes : List ℕ) (specifications : List Specification) (number : ℕ)
       target bytes (header_names specifications) number x ≡ Some place →
       v ≡ verdict_of bytes specifications (include x i.material.keys (material_of bytes specifications place)) →
       IsInclusion bytes specifications j → j.levels ≡ i.levels → j.material.keys ≡ with_numbers i.material.keys (material_of bytes specifications place) → Along entries rest false now j
-  past_other entries rest x verdicts now v place i j a pushed e judged inclusion levels keys = grind (arith, nat_tests, brings_material bytes specifications number x place e, further entries rest x false false verdicts now v i j a pushed, front_more (last_material bytes specifications [] i.levels.items))
+  past_other entries rest x verdicts now v place i j a pushed e judged inclusion levels keys = grind (arith, nat_tests, brings_material bytes specifications number x place e, further entries rest x false false verdicts now v i j a pushed, common_steps, whole_of, append_assoc, front_cut)
 
   -- at the end
   pub record Ended (entries : List Name) (verdicts : List Verdict) (i : Inclusion) : Type 0 where
     pub past : IsPastLevel bytes specifications i
     pub material : i.material.keys ≡ included bytes (headers_of bytes (take number specifications)) entries
     pub judged : verdicts ≡ map (verdict_of bytes specifications) (includes_from bytes (headers_of bytes (take number specifications)) [] entries)
-
-  pub ended : (entries : List Name) (is_there : Bool) (verdicts : List Verdict) (i : Inclusion) → Along entries [] is_there verdicts i → Ended entries verdicts i
-  ended entries is_there verdicts i a = grind (arith, nat_tests, append-nil)

@@ -16,7 +16,7 @@ pub use Rattle.rec_includes.proofs.Brought.{material_is, brings_nothing, brings_
 pub use Rattle.rec_includes.proofs.Fresh.{has, has_append, has_first, or_true, no_numbers}
 pub use Rattle.rec_includes.proofs.Gathered.{drop_all, at_one, drop_at, default_in}
 pub use Rattle.rec_includes.proofs.Materials.{Below, below_append, below_with, brings_below, closed_material, included_below, number_new, gathered, material_once, below_none, closed_none}
-pub use Rattle.rec_includes.specs.Forest.{cut, parent_of}
+pub use Rattle.rec_includes.specs.Forest.{cut}
 pub use Rattle.rec_includes.specs.Listing.{place_in, Listing, listing}
 pub use Rattle.rec_includes.specs.Material.{Declared, Header, symbols_by, symbols_of, sorts_of, rules_of, brought, fresh, with_numbers, headers_of, specifications_at, material_of, included, symbols_of_declaration, variables_of, variable, declared}
 pub use Rattle.rec_includes.specs.Names.{same_text, is_among}
@@ -30,7 +30,7 @@ pub use Rattle.rec_offences.specs.Grouped.{verdict_of, limits_group, long_declar
 pub use Rattle.rec_offences.specs.Inclusion.{counted, extent_of, IsFront, IsOn, AreLevels, last_material, last_number, path_of, IsAtLevel, IsDeclared, IsInclusion, IsPastLevel}
 pub use Rattle.rec_offences.specs.Known.{Known, known, entries_of}
 pub use Rattle.rec_offences.specs.Laws.{IsLeastOf, nodes_of, VisitsAreOfArguments}
-pub use Rattle.rec_offences.specs.Offences.{Include, first_past, is_clashing, is_passing, includes_from, bare_variables, free_variables, not_ground, past_limits, unknown_names, wrong_counts, sort_clashes, include, is_long, names_in, names_in_declaration, names_in_variables, terms_of, most, passes, symbol_names, clashing, repeated, unknown_name, wrong_count, clashing_arguments, clashing_sides, clashing_side}
+pub use Rattle.rec_offences.specs.Offences.{Include, is_clashing, is_passing, includes_from, bare_variables, free_variables, not_ground, past_limits, unknown_names, wrong_counts, sort_clashes, include, is_long, names_in, names_in_declaration, names_in_variables, terms_of, most, passes, symbol_names, clashing, repeated, unknown_name, wrong_count, clashing_arguments, clashing_sides, clashing_side}
 pub use Rattle.rec_offences.specs.Scope.{heads, Entry, names_of, look_up, symbol_entry, own_entries, Visit, visits, is_variable, variable_entry, root}
 pub use Rattle.rec_offences.specs.Visited.{free_variables_of}
 pub use Rattle.rec_offences.specs.Walked.{clashing_sorts, sort_of, argument, arguments_of, heads_on, misplaced, at_side, at_node, visit_over, names_with}

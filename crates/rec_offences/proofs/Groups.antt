@@ -1,5 +1,5 @@
 -- What is noted of a specification is its offences.
-use Rattle.rec_offences.proofs.Common.{nat_tests, ◌≡◌, ℕ, ◌-◌, ◌<◌, List, [], ◌∷◌, map, slice_get, Option, refl, arith, ◌++◌, length, not, zero, suc, take, filter, option_map, option_to_list, slice_get-map, Specification, Declared, Header, symbols_by, symbols_of, sorts_of, rules_of, brought, fresh, with_numbers, headers_of, specifications_at, symbol_entry, Entry, own_entries, Include, first_past, is_clashing, is_passing, includes_from, bare_variables, free_variables, not_ground, past_limits, unknown_names, wrong_counts, sort_clashes, include, counted, verdict_of, limits_group, Name, Verdict, is_among, of_kind, included_entries, offences_declared, offences_used, common_steps, has, has_append, has_first, or_true, Below, below_append, below_with, brings_below}
+use Rattle.rec_offences.proofs.Common.{nat_tests, ◌≡◌, ℕ, ◌-◌, ◌<◌, List, [], ◌∷◌, map, slice_get, Option, refl, arith, ◌++◌, length, not, zero, suc, take, filter, option_map, option_to_list, slice_get-map, Specification, Declared, Header, symbols_by, symbols_of, sorts_of, rules_of, brought, fresh, with_numbers, headers_of, specifications_at, symbol_entry, Entry, own_entries, Include, is_clashing, is_passing, includes_from, bare_variables, free_variables, not_ground, past_limits, unknown_names, wrong_counts, sort_clashes, include, counted, verdict_of, limits_group, Name, Verdict, is_among, of_kind, included_entries, offences_declared, offences_used, common_steps, has, has_append, has_first, or_true, Below, below_append, below_with, brings_below}
 use Rattle.rec_offences.specs.Grouped.{declared_group, used_group}
 
 -- ---- what is wrong at the entries of a list of includes, and past the limits
@@ -17,14 +17,6 @@ passing_entries bytes earlier (i ∷ is) = grind (arith, nat_tests, passing_entr
 named : (o : Option Declared) → option_to_list (option_map (λ e. e.declared.name) (option_map symbol_entry o)) ≡ map (λ d. d.name) (option_to_list o)
 named o = grind (arith, nat_tests)
 
--- the name of the symbol with which there are too many
-pub past_named : (n : ℕ) (ds : List Declared) → option_to_list (option_map (λ e. e.declared.name) (first_past n (map symbol_entry ds))) ≡ map (λ d. d.name) (option_to_list (first_past n ds))
-past_named n ds = grind (arith, nat_tests, slice_get-map, named)
-
--- counting no further than a number goes changes nothing
-pub past_counted : {A : Type 0} (n : ℕ) (xs : List A) → first_past (counted n) xs ≡ first_past n xs
-past_counted n xs = grind (arith, nat_tests)
-
 module _ (bytes : List ℕ) (earlier : List Specification) (headers : List Header) (material : List ℕ) (s : Specification) where
   pub declared_is : (names : List Name) (verdicts : List Verdict) (sorts : List Name) (entries own : List Entry) →
       names ≡ map (λ h. h.name) headers → verdicts ≡ map (verdict_of bytes earlier) (includes_from bytes headers [] s.includes) →
@@ -37,7 +29,7 @@ module _ (bytes : List ℕ) (earlier : List Specification) (headers : List Heade
       n ≡ length (symbols_of earlier material) → m ≡ counted (length (rules_of earlier material)) →
       verdicts ≡ map (verdict_of bytes earlier) (includes_from bytes headers [] s.includes) → symbols ≡ map symbol_entry (symbols_by s) →
       limits_group bytes n m verdicts symbols s ≡ past_limits bytes earlier material (includes_from bytes headers [] s.includes) s
-  limits_are n m verdicts symbols en em v sy = grind (arith, nat_tests, past_named, past_counted, passing_entries)
+  limits_are n m verdicts symbols en em v sy = grind (arith, nat_tests, slice_get-map, named, passing_entries)
 
   pub used_is : (names : List Name) (n m : ℕ) (verdicts : List Verdict) (symbols entries all : List Entry) →
       names ≡ map (λ h. h.name) headers → n ≡ length (symbols_of earlier material) → m ≡ counted (length (rules_of earlier material)) →
@@ -45,14 +37,8 @@ module _ (bytes : List ℕ) (earlier : List Specification) (headers : List Heade
       used_group bytes names n m verdicts symbols entries s ≡ offences_used bytes earlier headers material all s
   unfolding used_group
   used_is names n m verdicts symbols entries all na en em v sy e =
-      (λ i. of_kind 9 (bare_variables bytes (e i) s)
-      ++ of_kind 10 (free_variables bytes (e i) s)
-      ++ of_kind 11 (not_ground bytes (e i) s)
-      ++ of_kind 12 (filter (λ x. not (is_among bytes (na i) x)) s.includes)
-      ++ of_kind 13 (limits_are n m verdicts symbols en em v sy i)
-      ++ of_kind 5 (unknown_names bytes (e i) s)
-      ++ of_kind 7 (wrong_counts bytes (e i) s)
-      ++ of_kind 8 (sort_clashes bytes (e i) s))
+      let limits = limits_are n m verdicts symbols en em v sy in
+      rw e (rw na (rw limits refl))
 
 -- ---- what smaller numbers stand for depends on the specifications before alone
 
@@ -64,9 +50,6 @@ get_early (x ∷ xs) (suc n) m l = grind (arith, get_early xs n)
 below_head : (bound n : ℕ) (ns : List ℕ) → Below bound (n ∷ ns) → n < bound
 below_head bound n ns b = b.each n (has_first n ns)
 
-below_tail : (bound n : ℕ) (ns : List ℕ) → Below bound (n ∷ ns) → Below bound ns
-below_tail bound n ns b = grind (arith, nat_tests)
-
 below_fresh : (bound : ℕ) (ks ns : List ℕ) → Below bound ks → Below bound ns → Below bound (fresh ks ns)
 below_fresh bound ks ns a b = grind (arith, nat_tests, below_with bound ks ns a b, has_append ks (fresh ks ns), has ks, or_true)
 
@@ -74,7 +57,7 @@ module _ (bytes : List ℕ) (xs : List Specification) (n : ℕ) where
   -- the specifications with numbers below a bound stand before it
   pub at_early : (ms : List ℕ) → Below n ms → specifications_at xs ms ≡ specifications_at (take n xs) ms
   at_early [] b = refl
-  at_early (m ∷ ms) b = grind (arith, nat_tests, at_early ms, get_early, below_head, below_tail)
+  at_early (m ∷ ms) b = grind (arith, nat_tests, at_early ms, get_early, below_head)
 
   early_verdict : (i : Include) → Below n i.before → Below n i.added → verdict_of bytes xs i ≡ verdict_of bytes (take n xs) i
   early_verdict i b a = grind (arith, nat_tests, common_steps, at_early, below_append)
@@ -84,5 +67,4 @@ module _ (bytes : List ℕ) (xs : List Specification) (n : ℕ) where
   early_verdicts so_far [] b = refl
   early_verdicts so_far (e ∷ es) b =
       let brings = brought bytes (headers_of bytes (take n xs)) e in
-      let is_below = brings_below bytes xs n e in
-      (λ j. early_verdict (include e so_far brings) b (below_fresh n so_far brings b is_below) j ∷ early_verdicts (with_numbers so_far brings) es (below_with n so_far brings b is_below) j)
+      grind (arith, early_verdict (include e so_far brings) b, below_fresh n so_far brings b, brings_below bytes xs n e, early_verdicts (with_numbers so_far brings) es, below_with n so_far brings b)

@@ -149,17 +149,14 @@ one_more x fault os more to from before l = record {
 least_of : (found fault : Refusal) (os : List Refusal) → least_with (Some found) os ≡ Some fault → IsLeastOf (found ∷ os) fault
 least_of found fault [] h =
     let e : found ≡ fault = cc in
-    subst (IsLeastOf (found ∷ [])) e (record { one = at_head found []; least = λ p c. grind (arith, nat_tests, head_or_behind found p [] c, in_none p) })
+    record { one = (0, omega arith, e); least = λ p c. grind (arith, nat_tests, head_or_behind found p [] c, in_none p) }
 least_of found fault (x ∷ os) h = by (goes_before x found) refl h (least_of x fault os) (least_of found fault os)
   where
     between : (p : Refusal) → Contains (found ∷ os) p → Contains (found ∷ x ∷ os) p
     between p c = elim (head_or_behind found p os c) [ inl e ↦ subst (Contains (found ∷ x ∷ os)) e (at_head found (x ∷ os)) | inr d ↦ later found p (x ∷ os) (later x p os d) ]
 
     apart : (p : Refusal) → Contains (found ∷ x ∷ os) p → (x ≡ p) ⊎ Contains (found ∷ os) p
-    apart p c = elim (head_or_behind found p (x ∷ os) c) [
-      | inl e ↦ inr (subst (Contains (found ∷ os)) e (at_head found os))
-      | inr d ↦ elim (head_or_behind x p os d) [ inl e ↦ inl e | inr f ↦ inr (later found p os f) ]
-    ]
+    apart p c = grind (arith, nat_tests, head_or_behind found p (x ∷ os) c, at_head found os, head_or_behind x p os, later found p os)
 
     by : (b : Bool) → goes_before x found ≡ b → least_with (cond b (Some x) (Some found)) os ≡ Some fault → (least_with (Some x) os ≡ Some fault → IsLeastOf (x ∷ os) fault) →
         (least_with (Some found) os ≡ Some fault → IsLeastOf (found ∷ os) fault) → IsLeastOf (found ∷ x ∷ os) fault

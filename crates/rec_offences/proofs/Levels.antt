@@ -111,9 +111,6 @@ pub cut_further : (number : Option ℕ) (ls : List Level) (n : ℕ) → last_num
 cut_further None ls n e other = refl
 cut_further (Some p) ls n e other = grind (arith, nat_tests, other p, path_apart ls n e)
 
-pub cut_none : (number : Option ℕ) → cut number [] ≡ []
-cut_none number = grind (arith, nat_tests)
-
 -- no level is last where there is none
 none_last : (ls : List Level) → None ≡ slice_get ls (length ls - 1) → ls ≡ []
 none_last ls e = grind (arith, nat_tests, slice_get_cases ls (length ls - 1), nil_from_length ls)
@@ -187,18 +184,12 @@ module _ (bytes : List ℕ) (specifications : List Specification) (number count 
   scope_is : j.scope ≡ known i.scope.bytes (take count i.scope.entries) → j.scope ≡ known bytes (included_entries specifications (material_of bytes specifications number))
   scope_is e = grind (arith, nat_tests, length-map, length-append, append_assoc, front_cut, own_symbols, entries_append, is_material)
 
-  sorts_are : i.sorts ≡ listing bytes (sorts_of specifications (material_of bytes specifications number))
-  sorts_are = grind (arith, nat_tests, at_one, there, at_append, is_material)
-
   rules_are : j.rules ≡ min (i.rules + length s.rules) (2 ^ 64 - 1) → j.rules ≡ counted (length (rules_of specifications (material_of bytes specifications number)))
   rules_are e = grind (arith, nat_tests, rules_more, at_one, there, is_material)
-
-  front_is : IsFront (last_material bytes specifications [] i.levels.items) (material_of bytes specifications number)
-  front_is = grind (arith, nat_tests, common_steps, is_material, whole_of, append_assoc, front_cut)
 
   pub entered : (l : Level) → j.scope ≡ known i.scope.bytes (take count i.scope.entries) → j.sorts ≡ i.sorts →
       j.rules ≡ min (i.rules + length s.rules) (2 ^ 64 - 1) → j.material.keys ≡ insert_key nat_eq i.material.keys number →
       j.levels.items ≡ i.levels.items ++ l ∷ [] → l.number ≡ number →
       l.extent ≡ record { material = length j.material.keys; symbols = length j.scope.entries; sorts = length j.sorts.names; rules = j.rules } →
       IsAtLevel bytes specifications j
-  entered l scope sorts rules keys levels numbered extent = grind (arith, nat_tests, keys_are, scope_is, sorts_are, rules_are, length-map, closed_material, levels_pushed, front_is, last_pushed)
+  entered l scope sorts rules keys levels numbered extent = grind (arith, nat_tests, keys_are, scope_is, at_one, there, at_append, rules_are, length-map, closed_material, levels_pushed, common_steps, is_material, whole_of, append_assoc, front_cut, last_pushed)

@@ -34,15 +34,11 @@ over : (base s : List Name) (ns rest : List Node) (m : ℕ) → terms_after (len
 over base s [] rest m e = refl
 over base s (n ∷ ns) rest m e = grind (arith, nat_tests, over base (stack_with s n) ns rest m, fits, length-append, drop-append-add, take-append-add, append_assoc)
 
--- a list of one is its last
-one_alone : (s : List Name) (k : ℕ) (h : Name) → length (take k s ++ h ∷ []) ≡ 1 → take k s ++ h ∷ [] ≡ h ∷ []
-one_alone s k h e = grind (arith, nat_tests, length-append)
-
 -- a whole term leaves its head on the stack
 one_whole : (base : List Name) (a : Argument) (rest : List Node) → IsWhole (nodes_of a) → visits base (nodes_of a ++ rest) ≡ visits [] (nodes_of a) ++ visits (base ++ a.last.head ∷ []) rest
 one_whole base a rest w =
     let t = stack_after [] a.before in
-    grind (arith, last_after [] a.before a.last, long_after [] (nodes_of a) 1 w, one_alone t (length t - a.last.count) a.last.head, append-nil base, over base [] (nodes_of a) rest 1 w)
+    grind (arith, last_after [] a.before a.last, long_after [] (nodes_of a) 1 w, nat_tests, length-append, append-nil base, over base [] (nodes_of a) rest 1 w)
 
 abbrev all_visits_of : List Argument → List Visit
 all_visits_of arguments = flat_map (λ a. visits [] (nodes_of a)) arguments

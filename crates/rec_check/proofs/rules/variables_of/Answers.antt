@@ -8,13 +8,10 @@ loop-node-preserved c =
     let l = c.loop-node in
     elim c.if-has.branch [
       | then-has+in_ok-add_new w ↦
-          rw w.variables-is (record {
-            bytes = stands_in c.args.declared.now _ _ _ c.loop-node-test.true l.variables _ c.has.ensures _ l.invariant.bytes w.in_ok-add_new.ensures.ok;
-            names = takes c.args.declared.now _ _ _ c.loop-node-test.true l.variables _ c.has.ensures _ l.invariant.bytes w.if-has.true w.in_ok-add_new.ensures.ok ∙ l.invariant.names;
-          })
+          let bytes = stands_in c.args.declared.now _ _ _ c.loop-node-test.true l.variables _ c.has.ensures _ l.invariant.bytes w.in_ok-add_new.ensures.ok in
+          let names = takes c.args.declared.now _ _ _ c.loop-node-test.true l.variables _ c.has.ensures _ l.invariant.bytes w.if-has.true w.in_ok-add_new.ensures.ok in
+          rw w.variables-is (record { bytes = bytes; names = names ∙ l.invariant.names })
       | else-has w ↦
-          rw w.variables-is (record {
-            bytes = l.invariant.bytes;
-            names = passes_over c.args.declared.now _ _ _ c.loop-node-test.true l.variables _ c.has.ensures w.if-has.false ∙ l.invariant.names;
-          })
+          let names = passes_over c.args.declared.now _ _ _ c.loop-node-test.true l.variables _ c.has.ensures w.if-has.false in
+          rw w.variables-is (record { bytes = l.invariant.bytes; names = names ∙ l.invariant.names })
     ]

@@ -1,34 +1,24 @@
-use Rattle.rec_includes.proofs.Common.{nat_tests, common_steps, ◌≡◌, ℕ, ◌<◌, List, [], ◌∷◌, ◌++◌, slice_get, Option, Some, None, refl, sym, subst, append_assoc, append-nil, length, arith, option_map, Name, Specification, Frame, with_numbers, material_of, header_names, includes_at, after, entry_in, next_in, missing}
+use Rattle.rec_includes.proofs.Common.{nat_tests, common_steps, ◌≡◌, ℕ, ◌<◌, List, [], ◌∷◌, ◌++◌, Option, Some, None, refl, sym, subst, append_assoc, append-nil, length, arith, Name, Specification, Frame, with_numbers, material_of, header_names, next_in, missing}
 use Rattle.rec_includes.proofs.Fresh.{one_number}
 use Rattle.rec_includes.proofs.Brought.{target_before}
-use Rattle.rec_includes.proofs.Walk.{frame, finish, IsUnderWay, begins, passes_over, goes_into, missing_is, ends, weights, lighter_after, lighter_into, lighter_ended}
+use Rattle.rec_includes.proofs.Walk.{frame, finish, IsUnderWay, begins, passes_over, goes_into, ends, weights, lighter_after, lighter_into, lighter_ended}
 use Rattle.rec_includes.proofs.gathering.gather_absent.Goals as goal
-
--- the next entry, and the frame after it
-next_is : (o : Option Name) (v : Frame) (e : Name) (rest : Frame) → ◌≡◌ {A = Option (Name × Frame)} (Some (e, rest)) (option_map (entry_in v) o) → (o ≡ Some e) × (rest ≡ after v)
-next_is o v e rest h = grind (arith, nat_tests)
-
-none_next : (o : Option Name) (v : Frame) → None ≡ option_map (entry_in v) o → o ≡ None
-none_next o v h = grind (arith, nat_tests)
 
 module _ (bytes : List ℕ) (xs : List Specification) (names : List Name) (named : names ≡ header_names xs) (m total : List ℕ) (vs frames : List Frame) (v : Frame) (top : frames ≡ vs ++ v ∷ []) where
   module _ (e : Name) (rest : Frame) (next : ◌≡◌ {A = Option (Name × Frame)} (Some (e, rest)) (next_in xs v)) where
     over : (now : List Frame) → now ≡ vs ++ rest ∷ [] → missing bytes names m v.number e ≡ None → IsUnderWay bytes xs total m frames → IsUnderWay bytes xs total m now
-    over now is none w = grind (arith, nat_tests, next_is (slice_get (includes_at xs v.number) v.next) v e rest next, passes_over bytes xs m vs v e)
-
-    over_lighter : (now : List Frame) → now ≡ vs ++ rest ∷ [] → weights xs now < weights xs frames
-    over_lighter now is = grind (arith, nat_tests, next_is, weights, lighter_after)
+    over now is none w = grind (arith, nat_tests, passes_over bytes xs m vs v e)
 
     into : (p : ℕ) (between now : List Frame) → between ≡ vs ++ rest ∷ [] → now ≡ between ++ frame p 0 ∷ [] → missing bytes names m v.number e ≡ Some p →
         IsUnderWay bytes xs total m frames → IsUnderWay bytes xs total m now
-    into p between now was is some w = grind (arith, nat_tests, next_is (slice_get (includes_at xs v.number) v.next) v e rest next, goes_into bytes xs m vs v e)
+    into p between now was is some w = grind (arith, nat_tests, goes_into bytes xs m vs v e)
 
     into_lighter : (p : ℕ) (between now : List Frame) → between ≡ vs ++ rest ∷ [] → now ≡ between ++ frame p 0 ∷ [] → missing bytes names m v.number e ≡ Some p → weights xs now < weights xs frames
-    into_lighter p between now was is some = grind (arith, nat_tests, next_is, missing_is, target_before, weights, frame, lighter_into)
+    into_lighter p between now was is some = grind (arith, nat_tests, target_before, weights, frame, lighter_into)
 
   ended : (now : List ℕ) → None ≡ next_in xs v → now ≡ with_numbers m (v.number ∷ []) →
       IsUnderWay bytes xs total m frames → IsUnderWay bytes xs total now vs
-  ended now none is w = grind (arith, nat_tests, none_next (slice_get (includes_at xs v.number) v.next) v none, one_number m v.number, ends bytes xs m vs v total)
+  ended now none is w = grind (arith, nat_tests, one_number m v.number, ends bytes xs m vs v total)
 
   ended_lighter : weights xs vs < weights xs frames
   ended_lighter = subst (λ k. weights xs vs < weights xs k) (sym top) (lighter_ended xs vs v)
@@ -48,7 +38,7 @@ loop-frame-preserved-in-Continue-branch-3 c =
     record { walk = walk; added = c.loop-frame.invariant.added }
 
 pub loop-frame-smaller-in_default-missing : goal.loop-frame-smaller-in_default-missing
-loop-frame-smaller-in_default-missing c = grind (arith, common_steps, over_lighter, frame)
+loop-frame-smaller-in_default-missing c = grind (arith, common_steps, nat_tests, weights, lighter_after, frame)
 
 pub loop-frame-preserved-in_default-missing : goal.loop-frame-preserved-in_default-missing
 loop-frame-preserved-in_default-missing c =

@@ -1,5 +1,5 @@
-use Rattle.rec_offences.proofs.Common.{nat_tests, common_steps, ◌≡◌, ℕ, ◌+◌, Bool, false, List, [], ◌∷◌, ◌++◌, None, Some, Option, drop, take, get_or, ap, sym, subst, ◌∙◌, arith, Name, Specification, Verdict, Inclusion, same_text, place_in, parent_of, header_names, includes_at, target, first_target, target_before, drop_at, drop_all, default_in}
-use Rattle.rec_offences.proofs.Along.{Along, Ended, ended, past_unknown, past_first, past_other}
+use Rattle.rec_offences.proofs.Common.{nat_tests, common_steps, ◌≡◌, ℕ, ◌+◌, Bool, false, List, [], ◌∷◌, ◌++◌, None, Some, Option, drop, take, get_or, ap, sym, subst, ◌∙◌, arith, Name, Verdict, Inclusion, same_text, place_in, header_names, target, target_before, drop_at, drop_all, default_in, append-nil}
+use Rattle.rec_offences.proofs.Along.{Along, Ended, past_unknown, past_first, past_other}
 use Rattle.rec_offences.proofs.inclusion.Inclusion.include_all.Goals as goal
 use Rattle.rec_offences.proofs.inclusion.Inclusion.include_all.Goals.{in-None, in-Some, in-Some-2+in_ok-verdict-in-Some-2}
 
@@ -7,10 +7,6 @@ use Rattle.rec_offences.proofs.inclusion.Inclusion.include_all.Goals.{in-None, i
 targeted : (bytes : List ℕ) (names headers : List Name) (number : ℕ) (x : Name) (found o : Option ℕ) → names ≡ headers → found ≡ place_in (same_text bytes x) (take number names) → found ≡ o →
     target bytes headers number x ≡ o
 targeted bytes names headers number x found o e is was = ap (λ ns. place_in (same_text bytes x) (take number ns)) (sym e) ∙ sym is ∙ was
-
--- the specification under which one hangs is the first that its entries include
-hangs : (bytes : List ℕ) (headers : List Name) (xs : List Specification) (n : ℕ) → first_target bytes headers n (includes_at xs n) ≡ parent_of bytes headers xs n
-hangs bytes headers xs n = grind (arith, nat_tests)
 
 blank : Name
 blank = record { start = 0; end = 0 }
@@ -43,34 +39,24 @@ loop-entry-preserved c =
     λ b j e f k. subst (λ d. A d c.match-place_before.self) (sym e) (subst (A b) (sym f) k) in
     let L : Inclusion → Type 0 = λ j. j.levels ≡ c.return_to-is_there.new.self.levels in
     record {
-      levels = elim c.match-place_before.branch [
-        | in-None w ↦ subst L (sym w.self-is) l.invariant.levels
-        | in-Some w ↦ subst L (sym w.self-is) l.invariant.levels
-        | in-Some-2+in_ok-verdict-in-Some-2 w ↦ subst L (sym w.self-is) (w.include.ensures.levels ∙ l.invariant.levels)
-      ];
+      levels = grind (arith, c.match-place_before.branch);
       along = elim c.match-place_before.branch [
         | in-None w ↦
-            settled l.is_there l.self w.is_there-is w.self-is
-            (past_unknown bytes specifications number xs rest x l.is_there l.verdicts.items c.push.new.self.items l.self a (more _ w.verdict-is)
-            (targeted bytes h.names (header_names specifications) number x c.place_before.result None names c.place_before.ensures w.in-None.is))
+            settled _ _ w.is_there-is w.self-is (past_unknown bytes specifications number xs rest x _ _ _ _ a (more _ w.verdict-is) (targeted bytes _ _ number x _ None names c.place_before.ensures w.in-None.is))
         | in-Some w ↦
-            settled false l.self w.is_there-is w.self-is
-            (past_first bytes specifications number xs rest x l.verdicts.items c.push.new.self.items w.verdict_on_first-verdict.result w.in-Some.field-0 l.self
-            (subst Q w.if-is_there.true a) (more w.verdict_on_first-verdict.result w.verdict-is)
-            (targeted bytes h.names (header_names specifications) number x c.place_before.result (Some w.in-Some.field-0) names c.place_before.ensures w.in-Some.is)
-            (w.verdict_on_first-verdict.ensures bytes specifications a.inclusion))
+            settled _ _ w.is_there-is w.self-is
+            (past_first bytes specifications number xs rest x _ _ _ w.in-Some.field-0 _ (subst Q w.if-is_there.true a) (more _ w.verdict-is)
+            (targeted bytes _ _ number x _ (Some w.in-Some.field-0) names c.place_before.ensures w.in-Some.is) (w.verdict_on_first-verdict.ensures bytes specifications a.inclusion))
         | in-Some-2+in_ok-verdict-in-Some-2 w ↦
-            let v = w.in_ok-verdict-in-Some-2.verdict in
-            settled false w.include.new.self (w.is_there-is ∙ w.if-is_there.false) w.self-is
-            (past_other bytes specifications number xs rest x l.verdicts.items c.push.new.self.items v w.in-Some.field-0 l.self w.include.new.self
-            (subst Q w.if-is_there.false a) (more v w.verdict-is)
-            (targeted bytes h.names (header_names specifications) number x c.place_before.result (Some w.in-Some.field-0) names c.place_before.ensures w.in-Some.is)
-            w.in_ok-verdict-in-Some-2.ensures.verdict w.in_ok-verdict-in-Some-2.ensures.kept w.include.ensures.levels w.in_ok-verdict-in-Some-2.ensures.material)
+            let v = w.in_ok-verdict-in-Some-2 in
+            settled _ _ (w.is_there-is ∙ w.if-is_there.false) w.self-is
+            (past_other bytes specifications number xs rest x _ _ _ w.in-Some.field-0 _ _ (subst Q w.if-is_there.false a) (more _ w.verdict-is)
+            (targeted bytes _ _ number x _ (Some w.in-Some.field-0) names c.place_before.ensures w.in-Some.is) v.ensures.verdict v.ensures.kept w.include.ensures.levels v.ensures.material)
       ];
     }
 
 at_end : (c : goal.After-loop-entry) → Ended c.args.headers.now.bytes c.args.specifications.now c.args.number c.includes_at-entries.result.now c.loop-entry.verdicts.items c.loop-entry.self
-at_end c = grind (arith, common_steps, ended, drop_all)
+at_end c = grind (arith, common_steps, nat_tests, append-nil, drop_all)
 
 pub returns-clause-past : goal.returns-clause-past
 unfolding at_end
@@ -85,4 +71,4 @@ unfolding at_end
 returns-clause-verdicts c = grind (arith, common_steps)
 
 pub returns-clause-path : goal.returns-clause-path
-returns-clause-path c = grind (arith, common_steps, hangs)
+returns-clause-path c = grind (arith, common_steps, nat_tests)

@@ -1,9 +1,6 @@
-use Rattle.rec_offences.proofs.Common.{nat_tests, arith, ◌≡◌, ℕ, true, false, nat_eq, Option, Some, ap, sym, ◌∙◌, common_steps, option_eq, path_of, cut}
-use Rattle.rec_offences.proofs.Levels.{cut_further, cut_none, cut_there, no_level}
+use Rattle.rec_offences.proofs.Common.{nat_tests, arith, ◌≡◌, ℕ, false, nat_eq, Option, Some, ap, sym, ◌∙◌, common_steps, option_eq, path_of, cut}
+use Rattle.rec_offences.proofs.Levels.{cut_further, cut_there, no_level}
 use Rattle.rec_offences.proofs.inclusion.Inclusion.return_to.Goals as goal
-
-same_some : (o : Option ℕ) (n : ℕ) → option_eq nat_eq o (Some n) ≡ true → o ≡ Some n
-same_some o n e = grind (arith, nat_tests)
 
 other_some : (o : Option ℕ) (n : ℕ) → option_eq nat_eq o (Some n) ≡ false → (p : ℕ) → o ≡ Some p → nat_eq p n ≡ false
 other_some o n e p is = ap (λ q. option_eq nat_eq q (Some n)) (sym is) ∙ e
@@ -12,10 +9,10 @@ pub returns-clause-none : goal.returns-clause-none
 returns-clause-none c = λ _. no_level c.loop-last.self.levels.items (λ n e. c.in_default.not-Some n (c.last_number.ensures ∙ e))
 
 pub returns-then-eq-clause-path : goal.returns-then-eq-clause-path
-returns-then-eq-clause-path c = grind (arith, common_steps, same_some, cut_there)
+returns-then-eq-clause-path c = grind (arith, common_steps, nat_tests, cut_there)
 
 pub returns-clause-path : goal.returns-clause-path
-returns-clause-path c = grind (arith, common_steps, no_level, cut_none)
+returns-clause-path c = grind (arith, common_steps, no_level, nat_tests)
 
 pub loop-last-preserved : goal.loop-last-preserved
 loop-last-preserved c =
