@@ -1,5 +1,5 @@
 -- An input without offence is spelled.
-use Rattle.rec_check.proofs.Common.{[], rules, ◌≡◌, ℕ, ◌-◌, ◌<◌, ◌≤◌, true, List, ◌∷◌, ◌++◌, length, slice_get, Option, Some, is_some, All, refl, sym, ap, subst, ◌∙◌, arith, length-append, nat_lt, list_all, flat_map, nat_tests, append_assoc, All-nil, All-head, All-tail, All-weaker, All-push, list_all-append, flat_map-append, Named, Specification, Parsed, HasWholeTerms, Header, symbols_by, specifications_at, headers_of, offences_after, offences_from, headers_more, headers_counted, ◌>>=◌, named_in, with_symbols, Specified, terms_in, with_few_rules, last_of, spelled_in, take-append_seam}
+use Rattle.rec_check.proofs.Common.{[], ◌≡◌, ℕ, ◌-◌, ◌<◌, ◌≤◌, true, List, ◌∷◌, ◌++◌, length, slice_get, Option, Some, is_some, All, refl, sym, ap, subst, ◌∙◌, arith, length-append, nat_lt, list_all, flat_map, nat_tests, append_assoc, All-nil, All-head, All-tail, All-weaker, All-push, list_all-append, flat_map-append, Named, Specification, Parsed, HasWholeTerms, Header, symbols_by, specifications_at, headers_of, offences_after, offences_from, headers_more, headers_counted, ◌>>=◌, named_in, with_symbols, Specified, terms_in, with_few_rules, last_of, spelled_in, take-append_seam}
 use Rattle.symbol_pool.proofs.Places.{slice_get-append}
 use Rattle.rec_includes.proofs.Brought.{material_is, slice_get_seam}
 use Rattle.rec_check.specs.Spelled.{rules_of}

@@ -8,7 +8,7 @@ pub use Rattle.std.proofs.lemmas.List.{at_drop_more, append_assoc, map-append, n
 pub use Rattle.std.proofs.lemmas.List.Elements.{All-nil, All-cons, All-head, All-tail, All-weaker, All-append, All-push}
 pub use Rattle.std.proofs.lemmas.List.Folds.{list_all-append, list_any-append}
 pub use Rattle.std.proofs.lemmas.List.Quantifiers.{position-Some}
-pub use Rattle.std.proofs.lemmas.Option.{slice_get-get_or, slice_get_within, get_or_from_slice_get, same_Some, slice_get_cases}
+pub use Rattle.std.proofs.lemmas.Option.{slice_get-get_or, slice_get_within, get_or_from_slice_get, same_Some}
 pub use Rattle.std.specs.Cmp.Lexicographic.{bytes_decides}
 pub use Rattle.std.specs.List.{list_any, flat_map, filter, list_all, AllByRecursion}
 pub use Rattle.std.specs.Option.{option_map_or, option_or, option_to_list, option_map}

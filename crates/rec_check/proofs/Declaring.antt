@@ -1,9 +1,8 @@
 -- Names and symbols added one after another.
-use Rattle.rec_check.proofs.Common.{[], nat_tests, arith, ◌≡◌, ℕ, ◌+◌, ◌<◌, length, get_or, drop, List, ◌∷◌, ◌++◌, Option, Some, None, true, false, is_some, refl, sym, ap, ◌∙◌, suc, Bool, cond, ◌||◌, map, position, zero, not, ◌&&◌, slice_get, max, rules, Result, OnOk, option_and_then, if◌then◌else◌, nat_le, option_map, append_assoc, at_drop_more, map-append, after, all_of, same_symbol, most_arguments, list_any, flat_map, bytes_eq, Name, text_of, is_among, Listing, listing, texts, with_new, place_in, variable, Declared, declared, with_name, with_names, Named, named, most_symbols, Lacks, Node, Specification, named_in, may_be_added, with_symbol, with_symbols, widest_of, Entry, symbol_entry, entry_of, entries_of, drop_at, Rule, rule_in, rules_in, bytes_decides}
+use Rattle.rec_check.proofs.Common.{[], nat_tests, arith, ◌≡◌, ℕ, ◌+◌, ◌<◌, length, get_or, drop, List, ◌∷◌, ◌++◌, Option, Some, None, true, false, is_some, refl, sym, ap, ◌∙◌, suc, Bool, cond, ◌||◌, map, position, zero, not, slice_get, max, Result, OnOk, option_and_then, if◌then◌else◌, nat_le, option_map, append_assoc, at_drop_more, map-append, after, all_of, same_symbol, most_arguments, list_any, flat_map, bytes_eq, Name, text_of, is_among, Listing, listing, texts, with_new, place_in, variable, Declared, with_name, with_names, Named, named, most_symbols, Lacks, Node, Specification, named_in, may_be_added, with_symbol, with_symbols, widest_of, Entry, symbol_entry, entry_of, entries_of, drop_at, Rule, rule_in, rules_in, bytes_decides}
 use Rattle.std.proofs.Common.{filter, nat_lt}
 use Rattle.rec_reader.specs.declared.syntax_tree.Variables.{Variables}
 use Rattle.rec_includes.specs.Material.{variables_of}
-use Rattle.std.specs.Cmp.{second_so}
 use Rattle.rec_offences.specs.declared.signatures.Signature.{Signature}
 use Rattle.rec_reader.specs.declared.syntax_tree.Rule as written_rule
 
@@ -94,11 +93,8 @@ module _ (pool : List Named) (s : Named) (h : is_some (with_symbol pool s) ≡ t
   may : may_be_added pool s ≡ true
   may = grind (arith, nat_tests)
 
-  is_new : (not (list_any (same_symbol s) pool) && nat_lt (length pool) most_symbols) ≡ true
-  is_new = second_so (nat_le s.arity most_arguments) (not (list_any (same_symbol s) pool) && nat_lt (length pool) most_symbols) may
-
   pub lacks : Lacks pool s
-  lacks i at = not_among pool i at (grind (arith, nat_tests, is_new))
+  lacks i at = not_among pool i at (grind (arith, nat_tests, nat_le, most_arguments, list_any, same_symbol, nat_lt, most_symbols, may))
     where
       not_among : (ts : List Named) (i : ℕ) → slice_get ts i ≡ Some s → not (list_any (same_symbol s) ts) ≡ true → ⊥
       not_among [] i at e = cc

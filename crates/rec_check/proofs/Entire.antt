@@ -1,6 +1,6 @@
 -- A specification without offence, after others whose materials are sound: its own material is sound.
 use Rattle.rec_offences.proofs.Levels.{symbols_named}
-use Rattle.rec_check.proofs.Common.{[], nat_tests, rules, ◌≡◌, ℕ, ◌+◌, ◌-◌, ◌≤◌, Bool, true, false, eqb, not, ◌&&◌, ◌⊎◌, List, ◌∷◌, ◌++◌, length, map, slice_get, get_or, Option, Some, None, is_some, All, refl, sym, ap, subst, ◌∙◌, arith, length-append, nat_lt, if◌then◌else◌, option_and_then, option_map, option_map_or, option_to_list, list_any, list_all, flat_map, filter, bytes_eq, append_assoc, append-nil, map-append, All-nil, All-cons, All-head, All-tail, All-weaker, All-append, list_all-append, flat_map-append, Named, named, Name, Node, Specification, IsWhole, IsWholeRule, HasWholeTerms, text_of, is_among, Declared, symbols_by, variables_by, symbols_of, rules_of, specifications_at, headers_of, variable_entry, names_of, look_up, is_variable, heads, visits, includes_from, is_clashing, is_passing, repeated, first_past, most, terms_of, nodes_but_left, all_visits, unknown_name, wrong_count, unknown_names, wrong_counts, not_ground, variables_in, named_in, variables_of}
+use Rattle.rec_check.proofs.Common.{[], nat_tests, ◌≡◌, ℕ, ◌+◌, ◌-◌, ◌≤◌, Bool, true, false, eqb, not, ◌&&◌, ◌⊎◌, List, ◌∷◌, ◌++◌, length, map, slice_get, get_or, Option, Some, None, is_some, All, refl, sym, ap, subst, ◌∙◌, arith, length-append, nat_lt, if◌then◌else◌, option_and_then, option_map, option_map_or, option_to_list, list_any, list_all, flat_map, filter, bytes_eq, append_assoc, append-nil, map-append, All-nil, All-cons, All-head, All-tail, All-weaker, All-append, list_all-append, flat_map-append, Named, named, Name, Node, Specification, IsWhole, IsWholeRule, HasWholeTerms, text_of, is_among, Declared, symbols_by, variables_by, symbols_of, rules_of, specifications_at, headers_of, variable_entry, names_of, look_up, is_variable, heads, visits, includes_from, is_clashing, is_passing, repeated, first_past, most, terms_of, nodes_but_left, all_visits, unknown_name, wrong_count, unknown_names, wrong_counts, not_ground, variables_in, named_in, variables_of}
 use Rattle.rec_reader.specs.declared.syntax_tree.Rule.{Rule}
 use Rattle.rec_offences.specs.Scope.{root}
 use Rattle.rec_check.proofs.Faultless.{left_empty, right_empty, Faultless, headers, material, known, entries}

@@ -1,5 +1,5 @@
 -- What a head stands for, by cases.
-use Rattle.rec_check.proofs.Common.{slice_get_within, get_or_from_slice_get, App, Holds, IsPool, [], ◌≡◌, ℕ, ◌+◌, ◌<◌, ◌≤◌, Bool, true, false, List, ◌∷◌, ◌++◌, length, Option, Some, None, is_some, refl, sym, ap, ◌∙◌, arith, position, get_or, slice_get, IfNone, ◌⊎◌, All, subst, list_any, list_all, nat_tests, bytes_eq, bytes_decides, slice_get-get_or, false_from_ne_true, Item, App, Var, Named, named, Lacks, same_symbol, symbol_item, item_by, Scope, all_of, item_in, position-Some, Node, is_plain, is_item_below, text_of, widest_of}
+use Rattle.rec_check.proofs.Common.{slice_get_within, get_or_from_slice_get, App, Holds, IsPool, [], ◌≡◌, ℕ, ◌<◌, ◌≤◌, Bool, true, false, List, ◌∷◌, ◌++◌, length, Option, Some, None, is_some, refl, sym, ap, ◌∙◌, arith, position, get_or, slice_get, IfNone, ◌⊎◌, All, subst, list_any, list_all, nat_tests, bytes_decides, slice_get-get_or, false_from_ne_true, Item, App, Var, Named, named, Lacks, same_symbol, symbol_item, item_by, Scope, all_of, item_in, position-Some, Node, is_plain, is_item_below, widest_of}
 use Rattle.std.proofs.lemmas.List.Sums.{position_or_len_is}
 use Rattle.term_model.specs.declared.Symbol.{Symbol}
 
@@ -93,20 +93,11 @@ module _ (scope : Scope) where
   abbrev vars : ℕ
   vars = length scope.variables
 
-  abbrev name_at : Node → List ℕ
-  name_at n = text_of scope.text n.head
-
-  abbrev variable_at : Node → Option ℕ
-  variable_at n = position (bytes_eq (name_at n)) scope.variables
-
-  cases_at : (n : Node) (i : Item) → item_in scope n ≡ Some i → IsVariable (variable_at n) i ⊎ ((variable_at n ≡ None) × IsSymbol scope.symbols (name_at n) n.count i)
-  cases_at n i h = head_cases scope.symbols (name_at n) n.count (variable_at n) i h
-
   pub one_below : (n : Node) (i : Item) → item_in scope n ≡ Some i → is_item_below vars i ≡ true
   one_below n i h = grind (arith, nat_tests)
 
   pub one_plain : (n : Node) (i : Item) → item_in scope n ≡ Some i → is_plain (widest_of scope.symbols) i ≡ true
-  one_plain n i h = grind (arith, nat_tests, cases_at, count_within)
+  one_plain n i h = grind (arith, nat_tests, head_cases, count_within)
 
 -- what holds of what each of a list spells
 module _ {X Y : Type 0} (f : X → Option Y) where

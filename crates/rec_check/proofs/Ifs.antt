@@ -6,9 +6,6 @@ least_with-append : (found : Option ℕ) (xs ys : List ℕ) → least_with found
 least_with-append found [] ys = refl
 least_with-append found (x ∷ xs) ys = least_with-append (lesser found x) xs ys
 
-ifs_of-append : (xs ys : List Rule) → ifs_of (xs ++ ys) ≡ ifs_of xs ++ ifs_of ys
-ifs_of-append xs ys = flat_map-append (λ r. option_to_list r.condition_at) xs ys
-
 -- one specification more
 module _ (specifications : List Specification) (material : List ℕ) (i d : ℕ) (l : i < length material) (found : Option ℕ) where
   abbrev from : ℕ → Option ℕ → Option ℕ
@@ -22,7 +19,7 @@ module _ (specifications : List Specification) (material : List ℕ) (i d : ℕ)
 
   pub past_specification : (s : Specification) (rules : List Rule) (new : Option ℕ) → Some s ≡ slice_get specifications (get_or material i d) → rules ≡ s.rules
       → new ≡ least_with found (ifs_of rules) → from (i + 1) new ≡ from i found
-  past_specification s rules new e same h = grind (arith, nat_tests, common_steps, least_with-append, ifs_of-append, at_one)
+  past_specification s rules new e same h = grind (arith, nat_tests, common_steps, least_with-append, flat_map-append, option_to_list, at_one)
 
   pub past_nothing : None ≡ slice_get specifications (get_or material i d) → from (i + 1) found ≡ from i found
   past_nothing e = sym (at_one None e)

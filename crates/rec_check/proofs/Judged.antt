@@ -2,7 +2,7 @@
 use Rattle.rec_check.proofs.Common.{list_any-append, [], nat_tests, arith, ◌≡◌, ℕ, ◌-◌, Bool, true, false, eqb, ◌&&◌, ◌||◌, ◌⊎◌, inl, inr, List, ◌∷◌, ◌++◌, length, map, take, Option, Some, None, is_some, All, refl, ap, ◌∙◌, ◌+◌, ◌≤◌, slice_get, get_or, if◌then◌else◌, find, nat_le, option_map_or, option_or, option_to_list, list_any, flat_map, filter, list_all, bytes_eq, bytes_decides, All-nil, All-cons, All-head, All-tail, named, Name, Node, Specification, text_of, same_text, is_among, Declared, Variable, variables_by, declared, symbols_of_declaration, Entry, symbol_entry, variable_entry, names_of, look_up, is_variable, visits, heads, repeated, first_past, most, same_symbol, most_arguments, with_names, named_in, variables_of, list_all-append, slice_get-get_or, Declaration, IsWhole, variables_in}
 use Rattle.rec_check.proofs.Faultless.{left_empty, right_empty}
 use Rattle.rec_check.proofs.Numbered.{all_declared}
-use Rattle.rec_check.proofs.Sound.{among-append, or_left, all_front, all_back, few_arguments}
+use Rattle.rec_check.proofs.Sound.{or_left, all_front, all_back, few_arguments}
 use Rattle.rec_check.proofs.Heads.{place_if_any}
 use Rattle.rec_check.proofs.Readable.{IsRead, TermReads, symbol_known}
 
@@ -30,17 +30,10 @@ visited P stack (n ∷ nodes) h =
     All-cons P n nodes (All-head (λ v. P v.node) _ (visits rest nodes) h) (visited P rest nodes (All-tail (λ v. P v.node) _ (visits rest nodes) h))
 
 module _ (bytes : List ℕ) where
-  -- equal texts
-  text_same : (a b : Name) → same_text bytes a b ≡ true → text_of bytes a ≡ text_of bytes b
-  text_same a b h = (bytes_decides (text_of bytes a) (text_of bytes b)).0 h
-
-  pub among_same : (e : List Name) (a b : Name) → text_of bytes a ≡ text_of bytes b → is_among bytes e a ≡ is_among bytes e b
-  among_same e a b h = ap (λ t. list_any (λ n. bytes_eq t (text_of bytes n)) e) h
-
   -- a name is not in both of two lists
   pub apart : (e xs : List Name) (n : Name) → repeated bytes e xs ≡ [] → is_among bytes e n ≡ true → is_among bytes xs n ≡ false
   apart e [] n h k = refl
-  apart e (x ∷ xs) n h k = grind (arith, nat_tests, apart (e ++ x ∷ []) xs n, among-append, or_left, among_same, text_same)
+  apart e (x ∷ xs) n h k = grind (arith, nat_tests, apart (e ++ x ∷ []) xs n, list_any-append, same_text, or_left, list_any, bytes_eq, bytes_decides, text_of)
 
   -- ---- what a name is declared as
 
@@ -80,10 +73,6 @@ module _ (bytes : List ℕ) where
   any_with_names w e [] = or_none (list_any (bytes_eq w) e)
   any_with_names w e (n ∷ ns) = grind (arith, nat_tests, any_with_names w e ns, any_with_names w (e ++ n ∷ []) ns, bytes_decides, list_any-append)
 
-  -- whether a name is declared as a variable
-  declared_among : (s : Specification) (n : Name) → list_any (bytes_eq (text_of bytes n)) (variables_of bytes s) ≡ is_among bytes (names_of (map variable_entry (variables_by s))) n
-  declared_among s n = variable_names n (variables_by s)
-
   -- ---- what the heads of nodes are
 
   module _ (symbols : List Declared) (s : Specification) where
@@ -104,7 +93,7 @@ module _ (bytes : List ℕ) where
         → (if is_some (look_up bytes entries_of n.head) then (let none : List Name = [] in none) else n.head ∷ []) ≡ []
         → option_map_or (λ e. if eqb n.count (length e.declared.arguments) then (let none : List Name = [] in none) else n.head ∷ []) (look_up bytes entries_of n.head) [] ≡ []
         → HeadSymbol n ⊎ HeadVariable n
-    classify apart_names n u w = grind (arith, nat_tests, find-append, in_symbols, declared_among, apart, in_variables, variable_names)
+    classify apart_names n u w = grind (arith, nat_tests, find-append, in_symbols, variables_by, apart, in_variables, variable_names)
 
 -- ---- limits
 

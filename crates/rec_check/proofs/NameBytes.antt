@@ -1,6 +1,6 @@
 -- The names of tokens, and of the declarations that they spell, have no space and no line feed.
 use Rattle.rec_reader.specs.Grammar.{named as name_read}
-use Rattle.rec_check.proofs.Common.{[], nat_tests, ◌≡◌, ℕ, zero, suc, slice_get, ◌+◌, ◌-◌, ◌<◌, Bool, true, List, ◌∷◌, ◌++◌, length, drop, Option, Some, None, Ok, refl, sym, subst, arith, nat_lt, list_all, AllByRecursion, option_to_list, Name, Token, Declaration, Specification, is_name_byte, tokens_of, Any, none, next, Maybe, without, with, Section, absent, present, Listed, last, beside, with_comma, IsName, IsNames, IsDeclaration, declaration, IsVariables, variables, IsTerm, constant, call, IsArguments, only, more, IsTerms, IsCondition, condition, IsConditions, one, and, IsRule, plain, conditional, IsSpecification, specification, IsInput, input, text_of, specifications_at, drop-append_seam, take-append_seam}
+use Rattle.rec_check.proofs.Common.{[], nat_tests, ◌≡◌, ℕ, zero, suc, slice_get, ◌+◌, ◌<◌, Bool, true, List, ◌∷◌, ◌++◌, length, drop, Option, Some, None, Ok, refl, sym, subst, arith, nat_lt, list_all, AllByRecursion, option_to_list, Name, Token, Declaration, Specification, is_name_byte, tokens_of, Any, none, next, Maybe, without, with, Section, absent, present, Listed, last, beside, with_comma, IsName, IsNames, IsDeclaration, declaration, IsVariables, variables, IsTerm, constant, call, IsArguments, only, more, IsTerms, IsCondition, condition, IsConditions, one, and, IsRule, plain, conditional, IsSpecification, specification, IsInput, input, text_of, specifications_at, drop-append_seam, take-append_seam}
 use Rattle.std.proofs.Common.{append_assoc}
 use Rattle.std.proofs.lemmas.List.{length-append}
 use Rattle.rec_reader.specs.declared.token.Token.TheVariants as token
@@ -36,8 +36,6 @@ is_clear bytes = list_all (λ b. nat_lt 32 b) bytes
 
 abbrev pub IsClear : List ℕ → Type 0
 IsClear bytes = is_clear bytes ≡ true
-
-
 
 text_clear : (text rest : List ℕ)
     → ((k : ℕ) → k < length text → is_name_byte (drop k (text ++ rest)) ≡ true) → IsClear text

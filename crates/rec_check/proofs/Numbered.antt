@@ -29,9 +29,6 @@ grown : (seen ns : List (List ℕ)) → with_names seen ns ≡ seen ++ more_name
 grown seen [] = sym (append-nil seen)
 grown seen (n ∷ ns) = grind (arith, nat_tests, grown seen ns, grown (seen ++ n ∷ []) ns, append_assoc)
 
-self_equal : (n : List ℕ) → bytes_eq n n ≡ true
-self_equal n = (bytes_decides n n).1 refl
-
 module _ (text : List ℕ) (declared : List (List ℕ)) where
   abbrev is_declared : List ℕ → Bool
   is_declared name = list_any (bytes_eq name) declared
@@ -57,9 +54,6 @@ module _ (text : List ℕ) (declared : List (List ℕ)) where
     abbrev place : Node → Option ℕ
     place n = position (bytes_eq (text_of text n.head)) vars
 
-    counts_on : (items : List Item) (i : Item) (n m : ℕ) → count_with i n ≡ Some m → count_in (i ∷ items) n ≡ count_in items m
-    counts_on items i n m e = ap (λ o. option_and_then (λ k. count_in items k) o) e
-
     old_variable : (x n : ℕ) → x < n → count_with (Var x) n ≡ Some n
     old_variable x n l = grind (arith, nat_tests)
 
@@ -83,7 +77,7 @@ module _ (text : List ℕ) (declared : List (List ℕ)) where
         → list_any (bytes_eq (text_of text n.head)) seen ≡ false → place n ≡ Some (length seen)
     occurs n seen ns v h =
         let name = text_of text n.head in
-        grind (arith, grown (seen ++ name ∷ []) ns, append_assoc, new_at_end (bytes_eq name) seen name (more_names (seen ++ name ∷ []) ns) h, self_equal)
+        grind (arith, grown (seen ++ name ∷ []) ns, append_assoc, new_at_end (bytes_eq name) seen name (more_names (seen ++ name ∷ []) ns) h, bytes_decides)
 
     no_place : (n : Node) (x : ℕ) → place n ≡ Some x → is_declared (text_of text n.head) ≡ false → ⊥
     no_place n x e d = grind (arith, nat_tests, place_if_any (bytes_eq (text_of text n.head)) vars, are (text_of text n.head))
@@ -99,7 +93,7 @@ module _ (text : List ℕ) (declared : List (List ℕ)) where
           (on : (before : List (List ℕ)) → vars ≡ with_names before (filter is_declared (names_at nodes)) → count_in more (length before) ≡ Some (length vars)) where
         cases : (b : Bool) → is_declared (text_of text n.head) ≡ b → (c : Bool) → list_any (bytes_eq (text_of text n.head)) seen ≡ c
             → IsVariable (place n) i ⊎ ((place n ≡ None) × IsSymbol symbols (text_of text n.head) n.count i) → count_in (i ∷ more) (length seen) ≡ Some (length vars)
-        cases b d c s h = grind (arith, nat_tests, occurred, added, counts_on, count_with, old_variable, occurs, length-append, new_variable, count_in, no_place, this)
+        cases b d c s h = grind (arith, nat_tests, occurred, added, option_and_then, count_with, old_variable, occurs, length-append, new_variable, count_in, no_place, this)
 
     pub numbers : (nodes : List Node) (seen : List (List ℕ)) (items : List Item) → vars ≡ with_names seen (filter is_declared (names_at nodes))
         → all_of (λ n. item_in scope n) nodes ≡ Some items → count_in items (length seen) ≡ Some (length vars)

@@ -1,6 +1,5 @@
 -- What is spelled may be planned.
 use Rattle.rec_check.proofs.Common.{[], rules, ◌≡◌, ℕ, ◌-◌, ◌≤◌, List, ◌∷◌, length, Option, Some, None, All, sym, ap, subst, ◌∙◌, arith, option_and_then, nat_tests, All-append, All-weaker, Tree, root, IsGround, postorder, Item, only_postorder, all_heads, Rule, Condition, IsNode, IsBelow, IsPlain, HasSymbolsAlone, HasSides, IsFit, is_plain, is_item_below, counted, below, count_in, Named, Specification, Parsed, symbols_of, specifications_at, material_of, named_in, with_symbols, widest_of, MayBeRun, last_of, spelled_with, spelled_in, Scope, all_of, item_in, tree_in, ◌>>=◌, condition_in, rule_in, variables_in, Specified, nothing, variables_of, rules_in, terms_in, with_few_rules, most_rules, spelled_by}
-use Rattle.term_model.specs.Tree.{Node}
 use Rattle.term_model.specs.declared.Head.{Head}
 use Rattle.rewrite_model.specs.Rule.{IsRule}
 use Rattle.rec_reader.specs.declared.syntax_tree.Node as written_node

@@ -1,5 +1,5 @@
 -- What terms and rules are read by: symbols and variables for all their heads.
-use Rattle.rec_check.proofs.Common.{[], nat_tests, rules, ◌≡◌, ℕ, ◌-◌, true, ◌&&◌, List, ◌∷◌, length, slice_get, get_or, Option, Some, None, is_some, All, refl, sym, ap, subst, ◌∙◌, arith, position, length-append, option_and_then, nat_le, option_map, list_any, flat_map, bytes_eq, All-weaker, All-head, All-tail, slice_get_within, slice_get-get_or, get_or_from_slice_get, Tree, root, tree_of, Item, only_postorder, root_is_last, Rule, Condition, Named, named, Specification, IsWhole, text_of, Scope, all_of, item_in, item_by, symbol_item, tree_in, same_symbol, most_arguments, condition_in, rule_in, variables_in, variables_of, terms_in}
+use Rattle.rec_check.proofs.Common.{[], nat_tests, rules, ◌≡◌, ℕ, ◌-◌, true, ◌&&◌, List, ◌∷◌, length, slice_get, get_or, Option, Some, None, is_some, All, refl, sym, ap, subst, ◌∙◌, arith, position, length-append, option_and_then, nat_le, option_map, list_any, flat_map, bytes_eq, All-weaker, All-head, All-tail, slice_get_within, slice_get-get_or, get_or_from_slice_get, Tree, root, tree_of, Item, only_postorder, root_is_last, Rule, Named, named, Specification, IsWhole, text_of, Scope, all_of, item_in, item_by, symbol_item, tree_in, same_symbol, most_arguments, condition_in, rule_in, variables_in, variables_of, terms_in}
 use Rattle.rec_reader.specs.declared.syntax_tree.Node as node
 use Rattle.rec_reader.specs.declared.syntax_tree.Rule as written
 use Rattle.rec_reader.specs.declared.syntax_tree.Condition as condition

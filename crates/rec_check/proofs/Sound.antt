@@ -1,5 +1,5 @@
 -- Material without offence: what its symbols are, and that its rules are spelled by them.
-use Rattle.rec_check.proofs.Common.{list_any-append, [], ◌≡◌, ℕ, ◌+◌, ◌<◌, ◌≤◌, Bool, true, false, ◌&&◌, ◌||◌, List, ◌∷◌, ◌++◌, length, map, Some, refl, sym, ap, ◌∙◌, arith, length-append, fold, nat_eq, slice_get, All, subst, nat_le, if◌then◌else◌, list_any, list_all, flat_map, filter, nat_tests, append_assoc, append-nil, map-append, length-map, named, most_symbols, Named, Name, text_of, same_text, is_among, Declared, Header, brought, fresh, with_numbers, symbols_by, symbols_of, rules_of, specifications_at, repeated, Include, includes_from, symbol_names, is_clashing, is_passing, passes, most, same_symbol, most_arguments, named_in, with_symbol, with_symbols, common_steps, flat_map-append, option_to_list, eqb-true, All-append, All-weaker, All-nil, All-cons, All-head, All-tail, list_all-append, Specification}
+use Rattle.rec_check.proofs.Common.{list_any-append, [], ◌≡◌, ℕ, ◌+◌, ◌<◌, ◌≤◌, Bool, true, false, ◌&&◌, ◌||◌, List, ◌∷◌, ◌++◌, length, map, Some, refl, sym, ap, ◌∙◌, arith, length-append, fold, nat_eq, slice_get, All, subst, nat_le, list_any, list_all, flat_map, filter, nat_tests, append_assoc, append-nil, map-append, length-map, named, most_symbols, Named, Name, text_of, same_text, is_among, Declared, Header, brought, fresh, with_numbers, symbols_by, symbols_of, rules_of, specifications_at, repeated, Include, includes_from, symbol_names, is_clashing, is_passing, passes, most, same_symbol, most_arguments, named_in, with_symbol, with_symbols, common_steps, flat_map-append, option_to_list, eqb-true, All-append, All-weaker, All-nil, All-cons, All-head, All-tail, list_all-append, Specification}
 use Rattle.std.proofs.Common.{nat_lt}
 use Rattle.rec_check.proofs.Faultless.{left_empty, right_empty}
 
@@ -7,9 +7,6 @@ use Rattle.rec_check.proofs.Faultless.{left_empty, right_empty}
 
 pub or_false : (a b : Bool) → (a || b) ≡ false → (a ≡ false) × (b ≡ false)
 or_false a b h = grind (arith, nat_tests)
-
-pub false_or : (a b : Bool) → a ≡ false → b ≡ false → (a || b) ≡ false
-false_or a b p q = (λ i. p i || q i)
 
 abbrev pub names_in : List Declared → List Name
 names_in ds = map (λ d. d.name) ds
@@ -22,21 +19,15 @@ module _ (bytes : List ℕ) where
   repeated-append e [] ys = ap (λ f. repeated bytes f ys) (sym (append-nil e))
   repeated-append e (x ∷ xs) ys = grind (arith, nat_tests, repeated-append (e ++ x ∷ []) xs ys, append_assoc)
 
-  pub first_new : (e xs : List Name) (x : Name) → is_among bytes e x ≡ false → repeated bytes (e ++ x ∷ []) xs ≡ [] → repeated bytes e (x ∷ xs) ≡ []
-  first_new e xs x p q = (λ i. (if p i then x ∷ [] else []) ++ repeated bytes (e ++ x ∷ []) xs) ∙ q
-
-  pub among-append : (a e : List Name) (x : Name) → is_among bytes (a ++ e) x ≡ (is_among bytes a x || is_among bytes e x)
-  among-append a e x = list_any-append (same_text bytes x) a e
-
   -- fewer earlier names
   pub record Within (e f : List Name) : Type 0 where
     pub each : (n : Name) → is_among bytes f n ≡ false → is_among bytes e n ≡ false
 
   pub within_more : (e f more : List Name) → Within e f → Within (e ++ more) (f ++ more)
-  within_more e f more w = grind (arith, nat_tests, or_false, among-append, false_or)
+  within_more e f more w = grind (arith, nat_tests, or_false, list_any-append, same_text)
 
   pub within_after : (e f more : List Name) → Within e f → Within e (f ++ more)
-  within_after e f more w = grind (arith, nat_tests, among-append f more)
+  within_after e f more w = grind (arith, nat_tests, list_any-append, same_text)
 
   pub fewer : (e f xs : List Name) → Within e f → repeated bytes f xs ≡ [] → repeated bytes e xs ≡ []
   fewer e f [] w h = refl
@@ -45,7 +36,7 @@ module _ (bytes : List ℕ) where
   -- names that aren't among others either
   pub beside_others : (a e xs : List Name) → list_any (is_among bytes a) xs ≡ false → repeated bytes e xs ≡ [] → repeated bytes (a ++ e) xs ≡ []
   beside_others a e [] p h = refl
-  beside_others a e (x ∷ xs) p h = grind (arith, nat_tests, beside_others a (e ++ x ∷ []) xs, or_false, first_new, among-append, false_or, append_assoc)
+  beside_others a e (x ∷ xs) p h = grind (arith, nat_tests, beside_others a (e ++ x ∷ []) xs, or_false, list_any-append, same_text, append_assoc)
 
   -- ---- symbols
 

@@ -1,5 +1,5 @@
 -- A specification without an `if` in the rules that run has rules without conditions.
-use Rattle.rec_check.proofs.Common.{[], nat_tests, rules, ◌≡◌, ℕ, List, ◌∷◌, ◌++◌, refl, subst, arith, min, flat_map, AllByRecursion, All-append, same_Some, Rule, IsUnconditional, Named, Token, Specification, Parsed, Any, none, next, Section, absent, present, IsRule, IsSpecification, specification, IsInput, input, specifications_at, rules_of, ifs_of, least_with, first_if, rule_in, all_of, Specified, variables_of, spelled_in}
+use Rattle.rec_check.proofs.Common.{[], nat_tests, rules, ◌≡◌, ℕ, List, ◌∷◌, ◌++◌, refl, subst, arith, min, flat_map, AllByRecursion, All-append, same_Some, Rule, IsUnconditional, Named, Token, Specification, Parsed, Any, none, next, Section, absent, present, IsRule, IsSpecification, specification, IsInput, input, specifications_at, ifs_of, least_with, first_if, rule_in, all_of, Specified, variables_of, spelled_in}
 use Rattle.std.specs.Prelude.{Some, None, All}
 use Rattle.rec_reader.specs.declared.token.Sign.TheVariants.{Rules}
 use Rattle.rec_reader.specs.declared.syntax_tree.Rule as written

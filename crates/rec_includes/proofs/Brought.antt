@@ -58,14 +58,10 @@ header_from bytes hs (x ∷ xs) (suc n) (suc p) q s e l k =
     let h = hs ++ header_after bytes hs x ∷ [] in
     header_from bytes h xs n p q s e (omega arith) (omega (arith, length-append hs (header_after bytes hs x ∷ [])))
 
-pub header_at : (bytes : List ℕ) (xs : List Specification) (n p : ℕ) (s : Specification) → slice_get xs p ≡ Some s → p < n →
-    slice_get (headers_of bytes (take n xs)) p ≡ Some (header_after bytes (headers_of bytes (take p xs)) s)
-header_at bytes xs n p s e l = header_from bytes [] xs n p p s e l (omega arith)
-
 -- the material of a specification among the headers of the first ones
 pub material_before : (bytes : List ℕ) (xs : List Specification) (n p : ℕ) → p < n → p < length xs → material_at (headers_of bytes (take n xs)) p ≡ material_of bytes xs p
 unfolding material_of
-material_before bytes xs n p l m = grind (arith, slice_get_none, header_at)
+material_before bytes xs n p l m = grind (arith, slice_get_none, header_from)
 
 -- the specification that an entry includes comes before the one with the entry
 pub target_before : (bytes : List ℕ) (xs : List Specification) (n : ℕ) (entry : Name) (p : ℕ) → target bytes (header_names xs) n entry ≡ Some p → (p < n) × (p < length xs)

@@ -24,10 +24,6 @@ first_number ks ns n = grind (arith, append_assoc)
 pub no_numbers : (ks : List ℕ) → with_numbers ks [] ≡ ks
 no_numbers ks = append-nil ks
 
--- to add one number
-pub one_number : (ks : List ℕ) (n : ℕ) → with_numbers ks (n ∷ []) ≡ with_number ks n
-one_number ks n = first_number ks [] n ∙ no_numbers (with_number ks n)
-
 -- to add nothing new changes nothing
 pub nothing_new : (ks ns : List ℕ) → fresh ks ns ≡ [] → with_numbers ks ns ≡ ks
 nothing_new ks ns e = ap (λ f. ks ++ f) e ∙ append-nil ks
@@ -65,7 +61,7 @@ has_first n ns = ap (λ b. b || has ns n) (eq-eqb n n refl)
 -- what was gathered from two lists is added as the two lists are
 pub with_with : (m a b : List ℕ) → with_numbers m (with_numbers a b) ≡ with_numbers (with_numbers m a) b
 with_with m a [] = ap (with_numbers m) (no_numbers a) ∙ sym (no_numbers (with_numbers m a))
-with_with m a (n ∷ b) = grind (arith, with_with m (with_number a n) b, first_number, has_added, with_append, one_number)
+with_with m a (n ∷ b) = grind (arith, with_with m (with_number a n) b, first_number, has_added, with_append, no_numbers)
 
 -- each of these numbers is among those
 pub record Within (ns ms : List ℕ) : Type 0 where
@@ -74,18 +70,6 @@ pub record Within (ns ms : List ℕ) : Type 0 where
 -- no number is within any list
 pub within_none : (ms : List ℕ) → Within [] ms
 within_none ms = record { each = λ j h. absurd cc }
-
--- within numbers that are within others
-pub within_along : (a b c : List ℕ) → Within a b → Within b c → Within a c
-within_along a b c v w = record { each = λ j h. w.each j (v.each j h) }
-
--- within what was there when some were added
-pub within_more : (ns ms more : List ℕ) → Within ns ms → Within ns (with_numbers ms more)
-within_more ns ms more w = record { each = λ j h. has_before ms more j (w.each j h) }
-
--- numbers are among those to which they were added
-pub within_added : (ks ns : List ℕ) → Within ns (with_numbers ks ns)
-within_added ks ns = record { each = λ j h. has_added ks ns j h }
 
 -- of two lists, where each is within
 pub within_both : (a b ms : List ℕ) → Within a ms → Within b ms → Within (with_numbers a b) ms

@@ -1,6 +1,6 @@
 -- The numbers of a material: how large they are, and that none stands twice.
-use Rattle.rec_includes.proofs.Common.{nat_tests, ◌≡◌, ℕ, zero, suc, ◌<◌, ◌≤◌, true, ◌||◌, List, [], ◌∷◌, ◌++◌, fold, take, slice_get, Option, Some, None, refl, sym, ap, subst, ◌∙◌, arith, eqb-true, Name, Specification, Header, brought, included, with_numbers, headers_of, material_of, header_names, target, IsClosed}
-use Rattle.rec_includes.proofs.Fresh.{has, with_number, has_append, has_with, no_numbers, one_number, with_append, with_with, has_one, Within, within_along, within_more, within_added, none_fresh, within_fresh}
+use Rattle.rec_includes.proofs.Common.{nat_tests, ◌≡◌, ℕ, zero, suc, ◌<◌, true, ◌||◌, List, [], ◌∷◌, ◌++◌, fold, take, slice_get, Option, Some, None, refl, sym, subst, ◌∙◌, arith, eqb-true, Name, Specification, Header, brought, included, with_numbers, headers_of, material_of, header_names, target, IsClosed}
+use Rattle.rec_includes.proofs.Fresh.{has, with_number, has_append, has_with, no_numbers, with_append, with_with, has_one, Within, none_fresh, within_fresh, first_number, has_added, has_before}
 use Rattle.rec_includes.proofs.Brought.{target_before, brings_nothing, brings_material, material_is, no_material}
 
 -- ---- how large numbers are
@@ -12,10 +12,6 @@ pub record Below (bound : ℕ) (ns : List ℕ) : Type 0 where
 -- no numbers are below any bound
 pub below_none : (bound : ℕ) → Below bound []
 below_none bound = record { each = λ j h. absurd cc }
-
--- numbers are below a larger bound too
-pub below_larger : (a b : ℕ) (ns : List ℕ) → a ≤ b → Below a ns → Below b ns
-below_larger a b ns l w = record { each = λ j h. let k = w.each j h in omega arith }
 
 either_below : (bound : ℕ) (ks ns : List ℕ) → Below bound ks → Below bound ns → (j : ℕ) → (has ks j || has ns j) ≡ true → j < bound
 either_below bound ks ns v w j h = grind arith
@@ -44,11 +40,11 @@ module _ (bytes : List ℕ) (xs : List Specification) where
     where
       by : (o : Option ℕ) → target bytes (header_names xs) n e ≡ o → Below n (brought bytes (headers_of bytes (take n xs)) e)
       by None t = grind (arith, brings_nothing bytes xs n e t, below_none n)
-      by (Some p) t = grind (arith, target_before bytes xs n e p t, brings_material bytes xs n e p t, below_larger (suc p) n (material_of bytes xs p), each p)
+      by (Some p) t = grind (arith, target_before bytes xs n e p t, brings_material bytes xs n e p t, each p)
 
   material_below_from : (fuel n : ℕ) → n < fuel → Below (suc n) (material_of bytes xs n)
   material_below_from zero n l = absurd (omega arith)
-  material_below_from (suc fuel) n l = grind (arith, nat_tests, material_below_from fuel, no_material bytes, below_none (suc n), below_none n, material_is bytes, below_append (suc n), below_larger n (suc n), below_gathered n bytes, brings_below_from n)
+  material_below_from (suc fuel) n l = grind (arith, nat_tests, material_below_from fuel, no_material bytes, below_none (suc n), below_none n, material_is bytes, below_append (suc n), below_gathered n bytes, brings_below_from n)
 
   -- no number of a specification's material is above its own
   pub material_below : (n : ℕ) → Below (suc n) (material_of bytes xs n)
@@ -69,10 +65,6 @@ pub with_gathered : (bytes : List ℕ) (hs : List Header) (m : List ℕ) (es : L
 with_gathered bytes hs m [] ks = refl
 with_gathered bytes hs m (e ∷ es) ks = grind (arith, with_gathered bytes hs m es (with_numbers ks (brought bytes hs e)), with_with)
 
--- to add what entries bring is to gather it
-pub with_included : (bytes : List ℕ) (hs : List Header) (m : List ℕ) (es : List Name) → with_numbers m (included bytes hs es) ≡ gathered bytes hs m es
-with_included bytes hs m es = with_gathered bytes hs m es [] ∙ ap (λ k. gathered bytes hs k es) (no_numbers m)
-
 -- a number is new to smaller ones
 pub number_new : (n : ℕ) (ns : List ℕ) → Below n ns → with_number ns n ≡ ns ++ n ∷ []
 number_new n ns w = grind arith
@@ -85,7 +77,7 @@ module _ (bytes : List ℕ) (xs : List Specification) where
   -- a material is added by what its entries bring, and then its number
   pub with_material : (m : List ℕ) (n : ℕ) (s : Specification) → slice_get xs n ≡ Some s →
       with_numbers m (material_of bytes xs n) ≡ with_number (gathered bytes (headers_of bytes (take n xs)) m s.includes) n
-  with_material m n s e = grind (arith, material_is, with_append, one_number, with_included)
+  with_material m n s e = grind (arith, material_is, with_append, first_number, no_numbers, with_gathered)
 
   -- a material has no number twice
   pub material_once : (n : ℕ) → with_numbers [] (material_of bytes xs n) ≡ material_of bytes xs n
@@ -94,25 +86,17 @@ module _ (bytes : List ℕ) (xs : List Specification) where
 -- ---- materials that have all of the material of each specification that they have
 
 module _ (bytes : List ℕ) (xs : List Specification) where
-  -- the material of each specification that it has is within it
-  pub closed_within : (m : List ℕ) → IsClosed bytes xs m → (n : ℕ) → has m n ≡ true → Within (material_of bytes xs n) m
-  closed_within m c n h = within_fresh m (material_of bytes xs n) (c.whole n h)
-
-  -- it is closed where the material of each specification that it has is within it
-  pub closed_from : (m : List ℕ) → ((n : ℕ) → has m n ≡ true → Within (material_of bytes xs n) m) → IsClosed bytes xs m
-  closed_from m w = record { whole = λ n h. none_fresh m (material_of bytes xs n) (w n h) }
-
   -- no material at all is closed
   pub closed_none : IsClosed bytes xs []
   closed_none = record { whole = λ n h. absurd cc }
 
   -- two closed materials together
   pub closed_both : (a b : List ℕ) → IsClosed bytes xs a → IsClosed bytes xs b → IsClosed bytes xs (with_numbers a b)
-  closed_both a b c d = grind (arith, nat_tests, closed_from (with_numbers a b), has a, has b, has_with a b, within_more, closed_within a c, closed_within b d, within_along, within_added a b)
+  closed_both a b c d = grind (arith, nat_tests, none_fresh, material_of, has a, has b, has_with a b, has_before, within_fresh, has_added)
 
   -- a closed material and one specification more, all of whose material is there
   pub closed_one : (m : List ℕ) (n : ℕ) → IsClosed bytes xs m → Within (material_of bytes xs n) (with_number m n) → IsClosed bytes xs (with_number m n)
-  closed_one m n c w = grind (arith, nat_tests, closed_from (with_number m n), with_number m n, has m, has_one m n, within_more, closed_within m c, one_number m n, eqb-true)
+  closed_one m n c w = grind (arith, nat_tests, none_fresh, material_of, with_number m n, has m, has_one m n, has_before, within_fresh, first_number, no_numbers, eqb-true)
 
   -- what is gathered where each entry brings what is closed
   pub closed_gathered : (hs : List Header) → ((e : Name) → IsClosed bytes xs (brought bytes hs e)) → (es : List Name) (ks : List ℕ) → IsClosed bytes xs ks → IsClosed bytes xs (gathered bytes hs ks es)

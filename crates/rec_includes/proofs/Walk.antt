@@ -1,7 +1,7 @@
 -- The walk over what a specification includes: what its stack of frames comes to.
 use Rattle.rec_includes.proofs.Common.{common_steps, ◌≡◌, ℕ, ◌+◌, ◌<◌, List, [], ◌∷◌, ◌++◌, length, take, drop, slice_get, Some, None, refl, sym, ap, subst, ◌∙◌, arith, add-one, take-suc, zero, suc, ◌-◌, ◌*◌, ◌^◌, ◌≤◌, suc-mul, slice_get_within, get_or_from_slice_get, Name, Specification, Frame, brought, with_numbers, headers_of, material_of, includes_at, header_names, IsClosed, after, missing, nat_tests, sum_by}
 use Rattle.std.proofs.lemmas.List.Sums.{fold-append, sum_by_push, sum_by-cons}
-use Rattle.rec_includes.proofs.Fresh.{with_number, Within, no_numbers, within_none, within_more, within_added, within_both}
+use Rattle.rec_includes.proofs.Fresh.{with_number, Within, no_numbers, within_none, within_both, has_added, has_before}
 use Rattle.rec_includes.proofs.Gathered.{drop_at, drop_all}
 use Rattle.rec_includes.proofs.Brought.{no_material, slice_get_none, target_before, brings_nothing, brings_material}
 use Rattle.rec_includes.proofs.Materials.{gathered, with_material, material_last, closed_one}
@@ -85,17 +85,13 @@ pub record IsUnderWay (bytes : List ℕ) (xs : List Specification) (total materi
   pub comes : finish bytes xs material frames ≡ total
 
 module _ (bytes : List ℕ) (xs : List Specification) where
-  -- the walk begins at a specification's first entry
-  pub begins : (m : List ℕ) (n : ℕ) → n < length xs → IsClosed bytes xs m → IsUnderWay bytes xs (with_numbers m (material_of bytes xs n)) m (frame n 0 ∷ [])
-  begins m n l c = record { closed = c; ready = (within_none m, tt); comes = done_first bytes xs m n l }
-
   -- where the frame on top goes on to its next entry, and has what that brings
   module _ (m : List ℕ) (vs : List Frame) (v : Frame) (e : Name) (h : slice_get (includes_at xs v.number) v.next ≡ Some e) where
     abbrev more : List ℕ
     more = with_numbers m (brings bytes xs v.number e)
 
     goes_on : AreReady bytes xs m (vs ++ v ∷ []) → AreReady bytes xs more (vs ++ after v ∷ [])
-    goes_on r = grind (arith, ready_more bytes xs more vs (after v), ready_less bytes xs m vs v r, within_both, within_more, within_added, told_entry bytes xs v e h, done_entry bytes xs m v e h)
+    goes_on r = grind (arith, ready_more bytes xs more vs (after v), ready_less bytes xs m vs v r, within_both, has_before, has_added, told_entry bytes xs v e h, done_entry bytes xs m v e h)
 
     comes_on : finish bytes xs more (vs ++ after v ∷ []) ≡ finish bytes xs m (vs ++ v ∷ [])
     comes_on = grind (arith, nat_tests, finish_last bytes, finish bytes, done_entry bytes)
@@ -149,15 +145,12 @@ module _ (xs : List Specification) where
   abbrev unit : ℕ → ℕ
   unit n = (entries_in xs + 2) ^ n
 
-  some_unit : (n : ℕ) → 1 ≤ unit n
-  some_unit n = one-le-pow n (entries_in xs + 2) (omega arith)
-
   lighter : (v : Frame) (e : Name) → slice_get (includes_at xs v.number) v.next ≡ Some e → weight xs (after v) + unit v.number ≡ weight xs v
   lighter v e h = grind (arith, slice_get_within, few_entries, one_less)
 
   -- lighter with each entry
   pub lighter_after : (vs : List Frame) (v : Frame) (e : Name) → slice_get (includes_at xs v.number) v.next ≡ Some e → weights xs (vs ++ after v ∷ []) < weights xs (vs ++ v ∷ [])
-  lighter_after vs v e h = grind (arith, lighter, some_unit, sum_by_push)
+  lighter_after vs v e h = grind (arith, lighter, one-le-pow, sum_by_push)
 
   -- a frame is lighter than an entry of a larger number
   light : (p n : ℕ) → p < n → weight xs (frame p 0) + 1 ≤ unit n
@@ -170,4 +163,4 @@ module _ (xs : List Specification) where
 
   -- lighter when a frame ends
   pub lighter_ended : (vs : List Frame) (v : Frame) → weights xs vs < weights xs (vs ++ v ∷ [])
-  lighter_ended vs v = grind (arith, some_unit, sum_by_push)
+  lighter_ended vs v = grind (arith, one-le-pow, sum_by_push)

@@ -1,5 +1,5 @@
 -- The fault is the least of all offences, in whatever order the specifications come.
-use Rattle.rec_offences.proofs.Common.{rules, ◌≡◌, inl, inr, ℕ, zero, suc, ◌<◌, List, [], ◌∷◌, ◌++◌, append_assoc, append-nil, length, take, slice_get, Option, Some, None, Contains, refl, sym, ap, subst, ◌∙◌, arith, filter, flat_map, option_map_or, filter-append, Contains-append_left, Contains-append_right, Contains-append_cases, Name, Specification, Parsed, Refusal, heads, is_long, names_in, names_in_declaration, names_in_variables, terms_of, least_with, of_kind, offences_after, offences_from, fault_of, long_declared, offences_at}
+use Rattle.rec_offences.proofs.Common.{◌≡◌, inl, inr, ℕ, zero, suc, ◌<◌, List, [], ◌∷◌, ◌++◌, append_assoc, append-nil, length, take, slice_get, Option, Some, None, Contains, refl, sym, ap, subst, ◌∙◌, arith, filter, flat_map, option_map_or, filter-append, Contains-append_left, Contains-append_right, Contains-append_cases, Name, Specification, Parsed, Refusal, heads, is_long, names_in, names_in_declaration, names_in_variables, terms_of, least_with, of_kind, offences_after, offences_from, fault_of, long_declared, offences_at}
 use Rattle.rec_offences.specs.Faults.{offences_over}
 use Rattle.rec_offences.proofs.Leasts.{in_none, of_all, none_of_all, kinds_append, only_same}
 

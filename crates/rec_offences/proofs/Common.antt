@@ -30,10 +30,10 @@ pub use Rattle.rec_offences.specs.Grouped.{verdict_of, limits_group, long_declar
 pub use Rattle.rec_offences.specs.Inclusion.{counted, extent_of, IsFront, IsOn, AreLevels, last_material, last_number, path_of, IsAtLevel, IsDeclared, IsInclusion, IsPastLevel}
 pub use Rattle.rec_offences.specs.Known.{Known, known, entries_of}
 pub use Rattle.rec_offences.specs.Laws.{IsLeastOf, nodes_of, VisitsAreOfArguments}
-pub use Rattle.rec_offences.specs.Offences.{Include, is_clashing, is_passing, includes_from, bare_variables, free_variables, not_ground, past_limits, unknown_names, wrong_counts, sort_clashes, include, is_long, names_in, names_in_declaration, names_in_variables, terms_of, most, passes, symbol_names, clashing, repeated, unknown_name, wrong_count, clashing_arguments, clashing_sides, clashing_side}
+pub use Rattle.rec_offences.specs.Offences.{Include, is_clashing, is_passing, includes_from, bare_variables, free_variables, past_limits, unknown_names, wrong_counts, sort_clashes, include, is_long, names_in, names_in_declaration, names_in_variables, terms_of, most, passes, symbol_names, clashing, repeated, unknown_name, wrong_count, clashing_arguments, clashing_sides, clashing_side}
 pub use Rattle.rec_offences.specs.Scope.{heads, Entry, names_of, look_up, symbol_entry, own_entries, Visit, visits, is_variable, variable_entry, root}
 pub use Rattle.rec_offences.specs.Visited.{free_variables_of}
-pub use Rattle.rec_offences.specs.Walked.{clashing_sorts, sort_of, argument, arguments_of, heads_on, misplaced, at_side, at_node, visit_over, names_with}
+pub use Rattle.rec_offences.specs.Walked.{clashing_sorts, sort_of, arguments_of, heads_on, misplaced, at_side, at_node, visit_over, names_with}
 pub use Rattle.rec_offences.specs.declared.entries.Verdict.{Verdict}
 pub use Rattle.rec_offences.specs.declared.inclusion.Inclusion.{Inclusion}
 pub use Rattle.rec_offences.specs.declared.offences.heads.Argument.{Argument}

@@ -1,5 +1,5 @@
 -- What is noted of a specification is its offences.
-use Rattle.rec_offences.proofs.Common.{nat_tests, ◌≡◌, ℕ, ◌-◌, ◌<◌, List, [], ◌∷◌, map, slice_get, Option, refl, arith, ◌++◌, length, not, zero, suc, take, filter, option_map, option_to_list, slice_get-map, Specification, Declared, Header, symbols_by, symbols_of, sorts_of, rules_of, brought, fresh, with_numbers, headers_of, specifications_at, symbol_entry, Entry, own_entries, Include, is_clashing, is_passing, includes_from, bare_variables, free_variables, not_ground, past_limits, unknown_names, wrong_counts, sort_clashes, include, counted, verdict_of, limits_group, Name, Verdict, is_among, of_kind, included_entries, offences_declared, offences_used, common_steps, has, has_append, has_first, or_true, Below, below_append, below_with, brings_below}
+use Rattle.rec_offences.proofs.Common.{nat_tests, ◌≡◌, ℕ, ◌<◌, List, [], ◌∷◌, map, slice_get, Option, refl, arith, length, zero, suc, take, filter, option_map, option_to_list, slice_get-map, Specification, Declared, Header, symbols_by, symbols_of, sorts_of, rules_of, brought, fresh, with_numbers, headers_of, specifications_at, symbol_entry, Entry, own_entries, Include, is_clashing, is_passing, includes_from, past_limits, include, counted, verdict_of, limits_group, Name, Verdict, included_entries, offences_declared, offences_used, common_steps, has, has_append, has_first, or_true, Below, below_append, below_with, brings_below}
 use Rattle.rec_offences.specs.Grouped.{declared_group, used_group}
 
 -- ---- what is wrong at the entries of a list of includes, and past the limits

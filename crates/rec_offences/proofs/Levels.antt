@@ -1,5 +1,5 @@
 -- Levels: what is at hand is cut back from one to the one before.
-use Rattle.rec_offences.proofs.Common.{nat_tests, ◌≡◌, ℕ, ◌+◌, ◌^◌, ◌-◌, ◌||◌, List, [], ◌∷◌, ◌++◌, length, map, min, nat_le, not, ◌&&◌, refl, sym, ap, ◌∙◌, arith, length-append, suc, false, reverse, nat_eq, eq-eqb, append-nil, take, drop, slice_get, Option, Some, None, rules, append_assoc, flat_map, list_any, length-map, map-append, reverse-append, take-append-drop, nil_from_length, flat_map-append, slice_get_cases, Name, Specification, is_among, Declared, specifications_at, symbols_by, symbols_of, sorts_of, rules_of, material_of, Entry, symbol_entry, names_of, most, passes, symbol_names, included_entries, Listing, listing, Known, known, counted, extent_of, IsFront, IsOn, AreLevels, last_material, last_number, path_of, IsAtLevel, IsDeclared, option_map, option_to_list, take-append_seam, take-length, IsClosed, closed_material, included_below, number_new, cut, common_steps, Inclusion, material_is, at_one}
+use Rattle.rec_offences.proofs.Common.{nat_tests, ◌≡◌, ℕ, ◌+◌, ◌^◌, ◌-◌, ◌||◌, List, [], ◌∷◌, ◌++◌, length, map, min, nat_le, refl, sym, ap, ◌∙◌, arith, length-append, suc, false, reverse, nat_eq, eq-eqb, append-nil, take, drop, slice_get, Option, Some, None, rules, append_assoc, flat_map, list_any, length-map, map-append, reverse-append, take-append-drop, nil_from_length, flat_map-append, slice_get_cases, Specification, is_among, Declared, specifications_at, symbols_by, symbols_of, sorts_of, rules_of, material_of, Entry, symbol_entry, names_of, most, passes, symbol_names, included_entries, Listing, listing, Known, known, counted, extent_of, IsFront, IsOn, AreLevels, last_material, last_number, path_of, IsAtLevel, IsDeclared, option_map, option_to_list, take-append_seam, take-length, IsClosed, closed_material, included_below, number_new, cut, common_steps, Inclusion, material_is, at_one}
 use Rattle.rec_offences.specs.declared.inclusion.Level.{Level}
 use Rattle.indexmap.specs.IndexSet.{insert_key}
 
@@ -16,26 +16,16 @@ pub symbols_named : (ds : List Declared) → names_of (map symbol_entry ds) ≡ 
 symbols_named [] = refl
 symbols_named (d ∷ ds) = ap (λ ns. d.name ∷ ns) (symbols_named ds)
 
-min_more : (a b m : ℕ) → min (min a m + b) m ≡ min (a + b) m
-min_more a b m = omega arith
-
 pub le_counted : (n : ℕ) → nat_le (counted n) most ≡ nat_le n most
 le_counted n = grind (arith, nat_tests)
-
-passes_counted : (a b : ℕ) → passes (counted a) (counted b) ≡ passes a b
-passes_counted a b = λ i. le_counted a i && not (le_counted b i)
 
 module _ (bytes : List ℕ) (earlier : List Specification) (k f : List ℕ) where
   pub scope_more : (s now : Known) (new : List Entry) → s ≡ known bytes (included_entries earlier k) → now ≡ known s.bytes (s.entries ++ new) →
       new ≡ included_entries earlier f → now ≡ known bytes (included_entries earlier (k ++ f))
   scope_more s now new was is added = grind (arith, nat_tests, entries_append)
 
-  pub sorts_more : (s now : Listing) (new : List Name) → s ≡ listing bytes (sorts_of earlier k) → now ≡ listing s.bytes (s.names ++ new) →
-      new ≡ sorts_of earlier f → now ≡ listing bytes (sorts_of earlier (k ++ f))
-  sorts_more s now new was is added = is ∙ (λ i. listing (was i).bytes ((was i).names ++ added i)) ∙ ap (listing bytes) (sym (at_append (λ s. s.sorts) earlier k f))
-
   pub rules_more : (was now : ℕ) → was ≡ counted (length (rules_of earlier k)) → now ≡ counted (was + length (rules_of earlier f)) → now ≡ counted (length (rules_of earlier (k ++ f)))
-  rules_more was now before is = grind (arith, nat_tests, min_more, length-append, at_append)
+  rules_more was now before is = grind (arith, nat_tests, length-append, at_append)
 
   pub clashing_more : (s : Known) (new : List Entry) → s ≡ known bytes (included_entries earlier k) → new ≡ included_entries earlier f →
       list_any (is_among s.bytes (names_of s.entries)) (names_of new) ≡ list_any (is_among bytes (symbol_names earlier k)) (symbol_names earlier f)
@@ -43,16 +33,12 @@ module _ (bytes : List ℕ) (earlier : List Specification) (k f : List ℕ) wher
       (λ i. list_any (is_among (was i).bytes (names_of (was i).entries)) (names_of (added i)))
       ∙ (λ i. list_any (is_among bytes (symbols_named (symbols_of earlier k) i)) (symbols_named (symbols_of earlier f) i))
 
-  -- how many declared names there are
-  symbols_counted : (numbers : List ℕ) (s : Known) (n : ℕ) → s ≡ known bytes (included_entries earlier numbers) → n ≡ length s.entries → n ≡ length (symbols_of earlier numbers)
-  symbols_counted numbers s n was is = is ∙ ap (λ x. length x.entries) was ∙ length-map (symbols_of earlier numbers) symbol_entry
-
   pub passing_more : (s now : Known) (a b c d : ℕ) →
       s ≡ known bytes (included_entries earlier k) → a ≡ length s.entries →
       now ≡ known bytes (included_entries earlier (k ++ f)) → b ≡ length now.entries →
       c ≡ counted (length (rules_of earlier k)) → d ≡ counted (length (rules_of earlier (k ++ f))) →
       (passes a b || passes c d) ≡ (passes (length (symbols_of earlier k)) (length (symbols_of earlier (k ++ f))) || passes (length (rules_of earlier k)) (length (rules_of earlier (k ++ f))))
-  passing_more s now a b c d was la is lb cs ds = grind (arith, nat_tests, symbols_counted, passes_counted)
+  passing_more s now a b c d was la is lb cs ds = grind (arith, nat_tests, length-map, symbols_of, symbol_entry, le_counted)
 
 -- ---- a front of a list
 -- what is cut back to as much as a front has is the front

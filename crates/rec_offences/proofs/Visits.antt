@@ -1,5 +1,5 @@
 -- Visits of whole terms beside one another.
-use Rattle.rec_offences.proofs.Common.{nat_tests, ◌≡◌, ◌≤◌, ℕ, ◌+◌, ◌-◌, List, [], ◌∷◌, ◌++◌, length, take, map, refl, ap, sym, arith, append_assoc, append-nil, Some, All, flat_map, length-map, length-take-le, All-head, All-tail, none-some, drop-append-add, take-append-add, Name, Node, Visit, visits, nodes_of, VisitsAreOfArguments}
+use Rattle.rec_offences.proofs.Common.{nat_tests, ◌≡◌, ◌≤◌, ℕ, ◌-◌, List, [], ◌∷◌, ◌++◌, length, take, map, refl, ap, sym, arith, append_assoc, append-nil, Some, All, flat_map, length-map, length-take-le, All-head, All-tail, none-some, drop-append-add, take-append-add, Name, Node, Visit, visits, nodes_of, VisitsAreOfArguments}
 use Rattle.std.proofs.lemmas.Bool.{ltb-false}
 use Rattle.std.proofs.lemmas.List.{length-append}
 use Rattle.rec_reader.specs.Whole.{terms_after, IsWhole}

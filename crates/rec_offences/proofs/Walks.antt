@@ -1,26 +1,22 @@
 -- A walk that keeps sorts notes what is wrong at the visits of a term.
-use Rattle.rec_offences.proofs.Common.{nat_tests, arith, ◌≡◌, ℕ, ◌+◌, ◌-◌, ◌<◌, List, [], ◌∷◌, ◌++◌, length, take, drop, get_or, Bool, true, Option, refl, ap, ◌∙◌, filter, flat_map, drop_more, length-map, take-map, drop-map, map-append, flat_map-append, filter-append, Name, Node, Refusal, Argument, Entry, Visit, visits, is_variable, heads, clashing, least_with, sort_of, argument, arguments_of, heads_on, clashing_sorts, misplaced, at_side, at_node, visit_over, names_with}
+use Rattle.rec_offences.proofs.Common.{nat_tests, arith, ◌≡◌, ℕ, ◌+◌, ◌-◌, ◌<◌, List, [], ◌∷◌, ◌++◌, length, take, drop, get_or, Bool, true, Option, refl, ap, filter, flat_map, drop_more, length-map, take-map, drop-map, map-append, flat_map-append, filter-append, Name, Node, Refusal, Argument, Entry, Visit, visits, is_variable, heads, clashing, least_with, sort_of, arguments_of, heads_on, clashing_sorts, misplaced, at_side, at_node, visit_over, names_with}
 use Rattle.rec_offences.proofs.Leasts.{least_append}
 
 module _ (bytes : List ℕ) (entries : List Entry) where
-
   same_clashes : (ws ns : List Name) → clashing_sorts bytes ws (arguments_of bytes entries ns) ≡ clashing bytes entries ws ns
   same_clashes [] ns = refl
   same_clashes (w ∷ ws) [] = refl
   same_clashes (w ∷ ws) (n ∷ ns) = grind (arith, nat_tests, same_clashes ws ns)
 
-  below_is : (names : List Name) (items : List Argument) (count : ℕ) → items ≡ arguments_of bytes entries names → length items - count ≡ length names - count
-  below_is names items count is = ap (λ k. k - count) (ap length is ∙ length-map names (argument bytes entries))
-
   pub noted_over : (is_value : Bool) (node : Node) (names : List Name) (items : List Argument) (below : ℕ) (found now : Option Refusal) →
       items ≡ arguments_of bytes entries names → below ≡ length items - node.count →
       now ≡ least_with found (at_node is_value bytes entries node (drop below items)) → now ≡ least_with found (at_side is_value bytes entries (visit_over names node))
-  noted_over is_value node names items below found now is at noted = grind (arith, nat_tests, below_is, drop-map, same_clashes)
+  noted_over is_value node names items below found now is at noted = grind (arith, nat_tests, length-map, drop-map, same_clashes)
 
   pub stacked : (node : Node) (names : List Name) (items rest new : List Argument) (below : ℕ) (sort : Option Name) →
       items ≡ arguments_of bytes entries names → below ≡ length items - node.count → sort ≡ sort_of bytes entries node.head →
       rest ≡ take below items → new ≡ rest ++ record { head = node.head; sort = sort } ∷ [] → new ≡ arguments_of bytes entries (names_with names node)
-  stacked node names items rest new below sort is at sorted cut last = grind (arith, nat_tests, below_is, take-map, map-append)
+  stacked node names items rest new below sort is at sorted cut last = grind (arith, nat_tests, length-map, take-map, map-append)
 
   pub heads_same : (names : List Name) → heads_on (arguments_of bytes entries names) ≡ names
   heads_same [] = refl

@@ -1,4 +1,4 @@
-use Rattle.rec_check.proofs.Common.{rules, ◌∙◌, ◌++◌, ap, is_some, flat_map, listing}
+use Rattle.rec_check.proofs.Common.{◌∙◌, ◌++◌, ap, is_some, flat_map, listing}
 use Rattle.rec_check.proofs.Declaring.{of_rules, on_rules}
 use Rattle.rec_check.proofs.spelling.add_rules.Goals as goal
 

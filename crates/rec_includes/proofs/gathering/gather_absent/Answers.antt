@@ -1,7 +1,7 @@
-use Rattle.rec_includes.proofs.Common.{nat_tests, common_steps, ◌≡◌, ℕ, ◌<◌, List, [], ◌∷◌, ◌++◌, Option, Some, None, refl, sym, subst, append_assoc, append-nil, length, arith, Name, Specification, Frame, with_numbers, material_of, header_names, next_in, missing}
-use Rattle.rec_includes.proofs.Fresh.{one_number}
+use Rattle.rec_includes.proofs.Common.{nat_tests, common_steps, ◌≡◌, ℕ, ◌<◌, List, [], ◌∷◌, ◌++◌, Option, Some, None, refl, sym, append_assoc, append-nil, length, arith, Name, Specification, Frame, with_numbers, material_of, header_names, next_in, missing}
+use Rattle.rec_includes.proofs.Fresh.{first_number, no_numbers}
 use Rattle.rec_includes.proofs.Brought.{target_before}
-use Rattle.rec_includes.proofs.Walk.{frame, finish, IsUnderWay, begins, passes_over, goes_into, ends, weights, lighter_after, lighter_into, lighter_ended}
+use Rattle.rec_includes.proofs.Walk.{frame, finish, IsUnderWay, passes_over, goes_into, ends, weights, lighter_after, lighter_into, lighter_ended, done_first}
 use Rattle.rec_includes.proofs.gathering.gather_absent.Goals as goal
 
 module _ (bytes : List ℕ) (xs : List Specification) (names : List Name) (named : names ≡ header_names xs) (m total : List ℕ) (vs frames : List Frame) (v : Frame) (top : frames ≡ vs ++ v ∷ []) where
@@ -18,13 +18,10 @@ module _ (bytes : List ℕ) (xs : List Specification) (names : List Name) (named
 
   ended : (now : List ℕ) → None ≡ next_in xs v → now ≡ with_numbers m (v.number ∷ []) →
       IsUnderWay bytes xs total m frames → IsUnderWay bytes xs total now vs
-  ended now none is w = grind (arith, nat_tests, one_number m v.number, ends bytes xs m vs v total)
-
-  ended_lighter : weights xs vs < weights xs frames
-  ended_lighter = subst (λ k. weights xs vs < weights xs k) (sym top) (lighter_ended xs vs v)
+  ended now none is w = grind (arith, nat_tests, first_number, no_numbers, ends bytes xs m vs v total)
 
 pub loop-frame-init : goal.loop-frame-init
-loop-frame-init c = grind (arith, common_steps, frame, begins, append-nil)
+loop-frame-init c = grind (arith, common_steps, frame, done_first, append-nil)
 
 pub loop-frame-smaller-in-Continue-branch-3 : goal.loop-frame-smaller-in-Continue-branch-3
 loop-frame-smaller-in-Continue-branch-3 c =
@@ -46,7 +43,7 @@ loop-frame-preserved-in_default-missing c =
     record { walk = walk; added = c.loop-frame.invariant.added }
 
 pub loop-frame-smaller : goal.loop-frame-smaller
-loop-frame-smaller c = grind (arith, common_steps, ended_lighter, frame)
+loop-frame-smaller c = grind (arith, common_steps, lighter_ended, frame)
 
 pub loop-frame-preserved : goal.loop-frame-preserved
 loop-frame-preserved c =

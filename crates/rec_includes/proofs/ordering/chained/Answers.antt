@@ -1,4 +1,4 @@
-use Rattle.rec_includes.proofs.Common.{common_steps, ◌<◌, add-one, arith, All-from_recursion, parent_of, preorder, put}
+use Rattle.rec_includes.proofs.Common.{common_steps, ◌<◌, add-one, arith, All-from_recursion, parent_of, preorder}
 use Rattle.rec_includes.proofs.Forests.{parent_before, parent_is, all_before, preorder_below, preorder_distinct}
 use Rattle.rec_includes.proofs.ordering.chained.Goals as goal
 

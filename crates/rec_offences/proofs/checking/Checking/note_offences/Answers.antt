@@ -1,4 +1,4 @@
-use Rattle.rec_offences.proofs.Common.{nat_tests, arith, rules, ◌≡◌, ℕ, ◌+◌, List, [], ◌++◌, length, map, take, slice_get, Option, Some, Result, OnOk, refl, sym, ap, ◌∙◌, common_steps, slice_get_read, on_ok_weaker, take-map, length-map, option_map_or, Name, Specification, included, headers_of, symbols_by, symbols_of, sorts_of, rules_of, symbol_entry, own_entries, includes_from, least_with, included_entries, offences_after, Refusal, Verdict, declared_group, used_group, verdict_of, offences_at, Listing, listing, Known, known, header_names, includes_at, counted, headers_named, below_none, included_below}
+use Rattle.rec_offences.proofs.Common.{nat_tests, arith, rules, ◌≡◌, ℕ, List, [], ◌++◌, length, map, take, slice_get, Option, Some, Result, OnOk, refl, sym, ap, ◌∙◌, common_steps, slice_get_read, on_ok_weaker, take-map, length-map, option_map_or, Name, Specification, included, headers_of, symbols_by, symbols_of, sorts_of, rules_of, symbol_entry, own_entries, includes_from, least_with, included_entries, offences_after, Refusal, Verdict, declared_group, used_group, verdict_of, offences_at, Listing, listing, Known, known, header_names, includes_at, counted, headers_named, below_none, included_below}
 use Rattle.rec_offences.specs.Faults.{offences_over}
 use Rattle.rec_offences.proofs.Groups.{at_early, early_verdicts, declared_is, used_is}
 use Rattle.rec_offences.proofs.checking.Checking.note_offences.Goals as goal

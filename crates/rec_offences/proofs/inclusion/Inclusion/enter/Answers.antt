@@ -1,4 +1,4 @@
-use Rattle.rec_offences.proofs.Common.{rules, ◌+◌, ◌-◌, ◌^◌, length, min, refl, ap, ◌∙◌, path_of, Inclusion}
+use Rattle.rec_offences.proofs.Common.{◌+◌, ◌-◌, ◌^◌, length, min, refl, ap, ◌∙◌, path_of, Inclusion}
 use Rattle.rec_offences.proofs.Levels.{entered, path_pushed}
 use Rattle.rec_offences.proofs.inclusion.Inclusion.enter.Goals as goal
 

@@ -1,5 +1,5 @@
-use Rattle.rec_offences.proofs.Common.{arith, rules, ◌≡◌, ℕ, ◌+◌, List, ◌++◌, length, ap, ◌∙◌, common_steps, material_of, fresh, rules_of, included_entries, counted, known, entries_of}
-use Rattle.rec_offences.proofs.Levels.{scope_more, sorts_more, rules_more, clashing_more, passing_more}
+use Rattle.rec_offences.proofs.Common.{arith, ◌≡◌, ℕ, List, ◌++◌, length, ap, ◌∙◌, common_steps, material_of, fresh, rules_of, included_entries, counted, known, entries_of}
+use Rattle.rec_offences.proofs.Levels.{scope_more, rules_more, clashing_more, passing_more, at_append}
 use Rattle.rec_offences.proofs.inclusion.Inclusion.include.Goals as goal
 
 added : goal.After-drop-added-2 → List ℕ
@@ -22,7 +22,7 @@ rules_are c = grind (arith, common_steps, rules_more)
 
 pub returns-clause-kept : goal.returns-clause-kept
 unfolding added
-returns-clause-kept c = grind (arith, common_steps, sorts_more)
+returns-clause-kept c = grind (arith, common_steps, at_append)
 
 pub returns-clause-verdict : goal.returns-clause-verdict
 unfolding added

@@ -1,4 +1,4 @@
-use Rattle.rec_offences.proofs.Common.{nat_tests, common_steps, ◌≡◌, ℕ, ◌+◌, Bool, false, List, [], ◌∷◌, ◌++◌, None, Some, Option, drop, take, get_or, ap, sym, subst, ◌∙◌, arith, Name, Verdict, Inclusion, same_text, place_in, header_names, target, target_before, drop_at, drop_all, default_in, append-nil}
+use Rattle.rec_offences.proofs.Common.{nat_tests, common_steps, ◌≡◌, ℕ, ◌+◌, Bool, List, [], ◌∷◌, ◌++◌, None, Some, Option, drop, take, get_or, ap, sym, subst, ◌∙◌, arith, Name, Verdict, Inclusion, same_text, place_in, target, target_before, drop_at, drop_all, default_in, append-nil}
 use Rattle.rec_offences.proofs.Along.{Along, Ended, past_unknown, past_first, past_other}
 use Rattle.rec_offences.proofs.inclusion.Inclusion.include_all.Goals as goal
 use Rattle.rec_offences.proofs.inclusion.Inclusion.include_all.Goals.{in-None, in-Some, in-Some-2+in_ok-verdict-in-Some-2}

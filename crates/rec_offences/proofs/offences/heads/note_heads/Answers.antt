@@ -1,4 +1,4 @@
-use Rattle.rec_offences.proofs.Common.{rules, [], ◌++◌, true, ap, ◌∙◌, arith, flat_map, visits, unknown_name, wrong_count, clashing_arguments, clashing_sides, terms_of, unknown_names, wrong_counts, sort_clashes, least_with, of_kind, misplaced}
+use Rattle.rec_offences.proofs.Common.{[], ◌++◌, true, ap, ◌∙◌, arith, flat_map, visits, unknown_name, wrong_count, clashing_arguments, clashing_sides, terms_of, unknown_names, wrong_counts, sort_clashes, least_with, of_kind, misplaced}
 use Rattle.rec_offences.proofs.Leasts.{four_kinds}
 use Rattle.rec_offences.proofs.Walks.{values_variables}
 use Rattle.rec_offences.proofs.offences.heads.note_heads.Goals as goal
