@@ -1,5 +1,5 @@
 -- Names and symbols added one after another.
-use Rattle.rec_check.proofs.Common.{[], nat_tests, arith, ◌≡◌, ℕ, ◌+◌, ◌<◌, length, get_or, drop, List, ◌∷◌, ◌++◌, Option, Some, None, true, false, is_some, refl, sym, ap, ◌∙◌, suc, Bool, cond, ◌||◌, map, position, zero, not, slice_get, max, Result, OnOk, option_and_then, if◌then◌else◌, nat_le, option_map, append_assoc, at_drop_more, map-append, after, all_of, same_symbol, most_arguments, list_any, flat_map, bytes_eq, Name, text_of, is_among, Listing, listing, texts, with_new, place_in, variable, Declared, with_name, with_names, Named, named, most_symbols, Lacks, Node, Specification, named_in, may_be_added, with_symbol, with_symbols, widest_of, Entry, symbol_entry, entry_of, entries_of, drop_at, Rule, rule_in, rules_in, bytes_decides}
+use Rattle.rec_check.proofs.Common.{[], nat_tests, arith, ◌≡◌, ℕ, ◌+◌, ◌<◌, length, get_or, drop, List, ◌∷◌, ◌++◌, Option, Some, None, true, false, is_some, refl, sym, ap, ◌∙◌, suc, Bool, cond, ◌||◌, map, position, zero, not, slice_get, max, Result, OnOk, option_and_then, if◌then◌else◌, nat_le, option_map, append_assoc, at_drop_more, map-append, after, all_of, same_symbol, most_arguments, list_any, flat_map, bytes_eq, Name, text_of, is_among, Listing, listing, texts, with_new, place_in, variable, Declared, with_name, with_names, Named, named, most_symbols, Lacks, Node, Specification, named_in, may_be_added, with_symbol, with_symbols, widest_of, Entry, symbol_entry, entry_of, entries_of, drop_at, Rule, rule_in, rules_in, bytes_decides, common_steps}
 use Rattle.std.proofs.Common.{filter, nat_lt}
 use Rattle.rec_reader.specs.declared.syntax_tree.Variables.{Variables}
 use Rattle.rec_includes.specs.Material.{variables_of}
@@ -138,3 +138,8 @@ module _ (old : List Rule) (text : List ℕ) (symbols : List Named) (s : Specifi
 
   pub on_rules : {U E : Type 0} (result : Result U E) (made : List Rule) → OnOk result (after old (all_of (λ r. rule_in declared.bytes symbols (texts declared) r) list) ≡ Some made) → OnOk result (after old (rules_in text symbols s) ≡ Some made)
   on_rules result made h = grind (arith, nat_tests, of_rules)
+
+-- adding a symbol, and all symbols of a material
+pub ruleset adding = (common_steps, lacks, comes_last, widest_of_push)
+
+pub ruleset declaring = (common_steps, entries_named, symbol_known_next, symbol_next)

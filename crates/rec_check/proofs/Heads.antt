@@ -1,5 +1,5 @@
 -- What a head stands for, by cases.
-use Rattle.rec_check.proofs.Common.{slice_get_within, get_or_from_slice_get, App, Holds, IsPool, [], ◌≡◌, ℕ, ◌<◌, ◌≤◌, Bool, true, false, List, ◌∷◌, ◌++◌, length, Option, Some, None, is_some, refl, sym, ap, ◌∙◌, arith, position, get_or, slice_get, IfNone, ◌⊎◌, All, subst, list_any, list_all, nat_tests, bytes_decides, slice_get-get_or, false_from_ne_true, Item, App, Var, Named, named, Lacks, same_symbol, symbol_item, item_by, Scope, all_of, item_in, position-Some, Node, is_plain, is_item_below, widest_of}
+use Rattle.rec_check.proofs.Common.{slice_get_within, get_or_from_slice_get, App, Holds, IsPool, [], ◌≡◌, ℕ, ◌<◌, ◌≤◌, Bool, true, false, List, ◌∷◌, ◌++◌, length, Option, Some, None, is_some, refl, sym, ap, ◌∙◌, arith, position, get_or, slice_get, IfNone, ◌⊎◌, All, subst, list_any, list_all, nat_tests, bytes_decides, slice_get-get_or, false_from_ne_true, Item, App, Var, Named, named, Lacks, same_symbol, symbol_item, item_by, Scope, all_of, item_in, position-Some, Node, is_plain, is_item_below, widest_of, common_steps}
 use Rattle.std.proofs.lemmas.List.Sums.{position_or_len_is}
 use Rattle.term_model.specs.declared.Symbol.{Symbol}
 
@@ -108,3 +108,6 @@ module _ {X Y : Type 0} (f : X → Option Y) where
   pub all_hold : (P : Y → Type 0) → ((x : X) (y : Y) → f x ≡ Some y → P y) → (xs : List X) (ys : List Y) → all_of f xs ≡ Some ys → All P ys
   all_hold P each [] ys h = let e : [] ≡ ys = cc in subst (All P) e (λ k d l. absurd (omega arith))
   all_hold P each (x ∷ xs) ys h = grind (arith, nat_tests, all_hold P each xs)
+
+-- finding the symbol of a head
+pub ruleset symbols_found = (common_steps, is_found, item_found)

@@ -29,3 +29,6 @@ pub is_first : (syntax : Parsed) (specifications : List Specification) (material
     → material ≡ material_of syntax.bytes syntax.specifications (length syntax.specifications - 1)
     → least_with None (ifs_of (rules_of specifications material)) ≡ first_if syntax
 is_first syntax specifications material s m = λ i. least_with None (ifs_of (rules_of (s i) (m i)))
+
+-- the first of the rules of a material
+pub ruleset first_ifs = (common_steps, past_specification, past_nothing, is_first)

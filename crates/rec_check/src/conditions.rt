@@ -35,7 +35,7 @@ fn first_in(found: Option<usize>, rules: &[Rule]) -> Option<usize>
 }
 
 /// The first `if` of the rules of a material.
-#[tactic(auto, using(std::proofs::lemmas::Grind::common_steps, crate::proofs::Ifs::past_specification, crate::proofs::Ifs::past_nothing))]
+#[tactic(auto, using(crate::proofs::Ifs::first_ifs))]
 fn first_of(specifications: &[Specification], material: &[usize]) -> Option<usize>
     ensures { result ≡ least_with None (ifs_of (rules_of specifications.now material.now)) }
 {
@@ -52,7 +52,7 @@ fn first_of(specifications: &[Specification], material: &[usize]) -> Option<usiz
 ///
 /// Refuses with kind 19 the first `if` in the input among the rules of the last specification and
 /// of those that it includes.
-#[tactic(auto, using(std::proofs::lemmas::Grind::common_steps, crate::proofs::Ifs::is_first))]
+#[tactic(auto, using(crate::proofs::Ifs::first_ifs))]
 pub fn unconditional(alloc: Global, syntax: &Syntax) -> Result<(), ReadFail>
     ensures accepted_only_without_conditions { OnOk result (first_if syntax.now ≡ None) }
     ensures refused_only_at_the_first { IfErr result (IsConditional (first_if syntax.now)) }

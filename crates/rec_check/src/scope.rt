@@ -56,7 +56,7 @@ impl Scope<'_> {
     }
 }
 
-#[tactic(auto, using(std::proofs::lemmas::Grind::common_steps, crate::proofs::Heads::is_found, crate::proofs::Heads::item_found))]
+#[tactic(auto, using(crate::proofs::Heads::symbols_found))]
 fn symbol_item(symbols: &Symbols, name: &[u8], count: usize) -> Item
     requires { IsSome (symbol_item symbols.now name.now count) }
     ensures { symbol_item symbols.now name.now count ≡ Some result }

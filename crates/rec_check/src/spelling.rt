@@ -24,7 +24,7 @@ use symbol_pool::Symbols;
 use term_model::Flat;
 
 /// The symbols that these of the specifications declare, in order.
-#[tactic(auto, using(std::proofs::lemmas::Grind::common_steps, crate::proofs::Declaring::entries_named, crate::proofs::Declaring::symbol_known_next, crate::proofs::Declaring::symbol_next))]
+#[tactic(auto, using(crate::proofs::Declaring::declaring))]
 pub(crate) fn table_of(
     alloc: Global,
     text: &[u8],

@@ -31,7 +31,7 @@ impl Table {
     }
 
     /// Adds a symbol that isn't there.
-    #[tactic(auto, using(std::proofs::lemmas::Grind::common_steps, crate::proofs::Declaring::lacks, crate::proofs::Declaring::comes_last, crate::proofs::Declaring::widest_of_push))]
+    #[tactic(auto, using(crate::proofs::Declaring::adding))]
     pub(crate) fn add(&mut self, name: &[u8], arity: usize) -> Result<(), Memory>
         requires { IsSome (with_symbol self.old.symbols (named name.now arity)) }
         ensures { OnOk result (with_symbol self.old.symbols (named name.now arity)

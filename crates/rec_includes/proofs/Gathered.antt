@@ -1,5 +1,5 @@
 -- Things that are gathered one after another.
-use Rattle.rec_includes.proofs.Common.{◌≡◌, ℕ, zero, suc, ◌+◌, ◌<◌, ◌≤◌, List, [], ◌∷◌, ◌++◌, append_assoc, append-nil, length, drop, slice_get, get_or, Some, None, refl, sym, ap, ◌∙◌, add-one, arith, drop-cons, fold, length-append, slice_get-get_or, flat_map, option_to_list, Specification, specifications_at, Header, header_after, headers_of}
+use Rattle.rec_includes.proofs.Common.{◌≡◌, ℕ, zero, suc, ◌+◌, ◌<◌, ◌≤◌, List, [], ◌∷◌, ◌++◌, append_assoc, append-nil, length, drop, slice_get, get_or, Some, None, refl, sym, ap, ◌∙◌, add-one, arith, drop-cons, fold, length-append, slice_get-get_or, flat_map, option_to_list, Specification, specifications_at, Header, header_after, headers_of, common_steps}
 
 pub drop_at : {X : Type 0} (xs : List X) (i : ℕ) (x : X) → i < length xs → x ≡ get_or xs i x → drop i xs ≡ x ∷ drop (i + 1) xs
 drop_at xs i x l e = grind (arith, drop-cons, add-one)
@@ -43,3 +43,8 @@ count_from bytes headers (s ∷ ss) = grind (arith, count_from bytes (headers ++
 -- there is a header for each specification
 pub headers_counted : (bytes : List ℕ) (xs : List Specification) → length (headers_of bytes xs) ≡ length xs
 headers_counted bytes xs = let h = count_from bytes [] xs in omega (arith, h)
+
+-- what the specification with a number has, and what is gathered in turn
+pub ruleset at_number = (common_steps, at_one, at_none)
+
+pub ruleset gathering = (common_steps, gathered_turn, default_in)

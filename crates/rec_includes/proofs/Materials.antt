@@ -1,5 +1,6 @@
 -- The numbers of a material: how large they are, and that none stands twice.
-use Rattle.rec_includes.proofs.Common.{nat_tests, ◌≡◌, ℕ, zero, suc, ◌<◌, true, ◌||◌, List, [], ◌∷◌, ◌++◌, fold, take, slice_get, Option, Some, None, refl, sym, subst, ◌∙◌, arith, eqb-true, Name, Specification, Header, brought, included, with_numbers, headers_of, material_of, header_names, target, IsClosed}
+use Rattle.std.proofs.lemmas.Option.{slice_get_past}
+use Rattle.rec_includes.proofs.Common.{nat_tests, ◌≡◌, ℕ, zero, suc, ◌<◌, true, ◌||◌, List, [], ◌∷◌, ◌++◌, fold, take, slice_get, Option, Some, None, refl, sym, subst, ◌∙◌, arith, eqb-true, Name, Specification, Header, brought, included, with_numbers, headers_of, material_of, header_names, target, IsClosed, common_steps}
 use Rattle.rec_includes.proofs.Fresh.{has, with_number, has_append, has_with, no_numbers, with_append, with_with, has_one, Within, none_fresh, within_fresh, first_number, has_added, has_before}
 use Rattle.rec_includes.proofs.Brought.{target_before, brings_nothing, brings_material, material_is, no_material}
 
@@ -119,3 +120,6 @@ module _ (bytes : List ℕ) (xs : List Specification) where
   -- the material of each specification is closed
   pub closed_material : (n : ℕ) → IsClosed bytes xs (material_of bytes xs n)
   closed_material n = closed_material_from (suc n) n (omega arith)
+
+-- what gives a material
+pub ruleset materials = (common_steps, slice_get_past, no_material, material_once)

@@ -166,7 +166,7 @@ pub fn gather(
 /// The material of the specification with this number, counted from 0, where the names of headers
 /// are at hand: the numbers of those that it includes, each once and after what it includes itself,
 /// and then its own. Nothing where there is no such specification.
-#[tactic(auto, using(std::proofs::lemmas::Grind::common_steps, std::proofs::lemmas::Option::slice_get_past, crate::proofs::Brought::no_material, crate::proofs::Materials::material_once))]
+#[tactic(auto, using(crate::proofs::Materials::materials))]
 pub fn material_with(
     alloc: Global,
     headers: &Directory,

@@ -1,6 +1,6 @@
 -- The entries of a list of includes, one after another, while what they bring is taken in.
 use Rattle.rec_offences.proofs.Common.{nat_tests, arith, ◌≡◌, ℕ, ◌||◌, Bool, true, false, List, [], ◌∷◌, ◌++◌, append_assoc, append-nil, map, take, Some, None, refl, common_steps, IsSome, list_any, take-length, Name, Specification, is_among, brought, fresh, with_numbers, headers_of, included, material_of, header_names, target, first_target, passes, include, includes_from, IsInclusion, IsPastLevel, IsFront, AreLevels, last_material, last_number, verdict_of, Verdict, Inclusion, brings_nothing, brings_material, no_numbers, gathered, material_once}
-use Rattle.rec_offences.proofs.Levels.{front_cut, last_is, whole_of}
+use Rattle.rec_offences.proofs.Levels.{passing_more, front_cut, last_is, whole_of}
 
 -- ---- what is wrong at an entry that brings nothing
 pub none_among : (bytes : List ℕ) (ns : List Name) → list_any (is_among bytes []) ns ≡ false
@@ -79,3 +79,6 @@ module _ (bytes : List ℕ) (specifications : List Specification) (number : ℕ)
     pub past : IsPastLevel bytes specifications i
     pub material : i.material.keys ≡ included bytes (headers_of bytes (take number specifications)) entries
     pub judged : verdicts ≡ map (verdict_of bytes specifications) (includes_from bytes (headers_of bytes (take number specifications)) [] entries)
+
+-- what is wrong at the first entry
+pub ruleset first_verdict = (common_steps, none_among, passing_more)

@@ -1,5 +1,6 @@
 -- The least of what was found.
-use Rattle.rec_offences.proofs.Common.{nat_tests, ◌≡◌, ℕ, suc, ◌+◌, ◌<◌, ◌≤◌, min, length-drop, Bool, true, false, cond, List, [], ◌∷◌, ◌++◌, length, drop, get_or, Option, refl, sym, ap, ◌∙◌, add-one, arith, drop-cons, rules, ◌||◌, ◌&&◌, ◌==◌, nat_lt, Some, None, ◌⊎◌, inl, inr, subst, filter, flat_map, Name, Node, Refusal, Argument, heads, lesser, least_with, of_kind, offence_at, goes_before, offences_of, fault_of, clashing_sorts, drop_all, nil_from_length, flat_map-append, Parsed, IsLeastOf}
+use Rattle.std.proofs.lemmas.Result.{on_ok_weaker}
+use Rattle.rec_offences.proofs.Common.{nat_tests, ◌≡◌, ℕ, suc, ◌+◌, ◌<◌, ◌≤◌, min, length-drop, Bool, true, false, cond, List, [], ◌∷◌, ◌++◌, length, drop, get_or, Option, refl, sym, ap, ◌∙◌, add-one, arith, drop-cons, rules, ◌||◌, ◌&&◌, ◌==◌, nat_lt, Some, None, ◌⊎◌, inl, inr, subst, filter, flat_map, Name, Node, Refusal, Argument, heads, lesser, least_with, of_kind, offence_at, goes_before, offences_of, fault_of, clashing_sorts, drop_all, nil_from_length, flat_map-append, Parsed, IsLeastOf, common_steps}
 use Rattle.std.specs.Prelude.{Contains}
 
 -- ---- offences that are noted one after another
@@ -183,3 +184,10 @@ none_of_all (x ∷ os) h = absurd (still x os h)
 
 pub faultless_has_none : (syntax : Parsed) → fault_of syntax ≡ None → offences_of syntax ≡ []
 faultless_has_none syntax h = none_of_all (offences_of syntax) h
+
+-- what is noted one after another, and of the parts of a list
+pub ruleset noting = (common_steps, on_ok_weaker, noted_after, noted_behind)
+
+pub ruleset noting_parts = (common_steps, noted_turn, noted_end, least_append, marks_append)
+
+pub ruleset fault_of_all = (fault_is_least, faultless_has_none)

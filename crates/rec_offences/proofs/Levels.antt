@@ -1,4 +1,5 @@
 -- Levels: what is at hand is cut back from one to the one before.
+use Rattle.rec_includes.proofs.Gathered.{gathering}
 use Rattle.rec_offences.proofs.Common.{nat_tests, ◌≡◌, ℕ, ◌+◌, ◌^◌, ◌-◌, ◌||◌, List, [], ◌∷◌, ◌++◌, length, map, min, nat_le, refl, sym, ap, ◌∙◌, arith, length-append, suc, false, reverse, nat_eq, eq-eqb, append-nil, take, drop, slice_get, Option, Some, None, rules, append_assoc, flat_map, list_any, length-map, map-append, reverse-append, take-append-drop, nil_from_length, flat_map-append, slice_get_cases, Specification, is_among, Declared, specifications_at, symbols_by, symbols_of, sorts_of, rules_of, material_of, Entry, symbol_entry, names_of, most, passes, symbol_names, included_entries, Listing, listing, Known, known, counted, extent_of, IsFront, IsOn, AreLevels, last_material, last_number, path_of, IsAtLevel, IsDeclared, option_map, option_to_list, take-append_seam, take-length, IsClosed, closed_material, included_below, number_new, cut, common_steps, Inclusion, material_is, at_one}
 use Rattle.rec_offences.specs.declared.inclusion.Level.{Level}
 use Rattle.indexmap.specs.IndexSet.{insert_key}
@@ -179,3 +180,8 @@ module _ (bytes : List ℕ) (specifications : List Specification) (number count 
       l.extent ≡ record { material = length j.material.keys; symbols = length j.scope.entries; sorts = length j.sorts.names; rules = j.rules } →
       IsAtLevel bytes specifications j
   entered l scope sorts rules keys levels numbered extent = grind (arith, nat_tests, keys_are, scope_is, at_one, there, at_append, rules_are, length-map, closed_material, levels_pushed, common_steps, is_material, whole_of, append_assoc, front_cut, last_pushed)
+
+-- the extent of a level, and what numbers have in turn
+pub ruleset extents = (common_steps, last_extent)
+
+pub ruleset in_turn = (gathering, entries_append, at_append)

@@ -1,5 +1,6 @@
 -- A walk that keeps sorts notes what is wrong at the visits of a term.
-use Rattle.rec_offences.proofs.Common.{nat_tests, arith, ◌≡◌, ℕ, ◌+◌, ◌-◌, ◌<◌, List, [], ◌∷◌, ◌++◌, length, take, drop, get_or, Bool, true, Option, refl, ap, filter, flat_map, drop_more, length-map, take-map, drop-map, map-append, flat_map-append, filter-append, Name, Node, Refusal, Argument, Entry, Visit, visits, is_variable, heads, clashing, least_with, sort_of, arguments_of, heads_on, clashing_sorts, misplaced, at_side, at_node, visit_over, names_with}
+use Rattle.std.proofs.lemmas.List.{take_rest}
+use Rattle.rec_offences.proofs.Common.{nat_tests, arith, ◌≡◌, ℕ, ◌+◌, ◌-◌, ◌<◌, List, [], ◌∷◌, ◌++◌, length, take, drop, get_or, Bool, true, Option, refl, ap, filter, flat_map, drop_more, length-map, take-map, drop-map, map-append, flat_map-append, filter-append, Name, Node, Refusal, Argument, Entry, Visit, visits, is_variable, heads, clashing, least_with, sort_of, arguments_of, heads_on, clashing_sorts, misplaced, at_side, at_node, visit_over, names_with, common_steps}
 use Rattle.rec_offences.proofs.Leasts.{least_append}
 
 module _ (bytes : List ℕ) (entries : List Entry) where
@@ -38,3 +39,6 @@ pub node_turn : (f : Visit → List Refusal) (names new : List Name) (nodes : Li
     i < length nodes → new ≡ names_with names (get_or nodes i other) → now ≡ least_with found (f (visit_over names (get_or nodes i other))) →
     least_with found (flat_map f (visits names (drop i nodes))) ≡ start → least_with now (flat_map f (visits new (drop (i + 1) nodes))) ≡ start
 node_turn f names new nodes i other found now start l is seen was = grind (arith, nat_tests, least_append, drop_more)
+
+-- a step of a walk
+pub ruleset walking = (common_steps, take_rest, stacked, noted_over, heads_same, node_turn)

@@ -23,7 +23,7 @@ use rec_reader::{Specification, Syntax};
 use std::alloc::Global;
 
 /// Declares a specification's own names, and notes what is wrong with its declarations.
-#[tactic(auto, using(std::proofs::lemmas::Grind::common_steps, std::proofs::lemmas::Result::on_ok_weaker, crate::proofs::Leasts::noted_after), unfolding(crate::specs::Grouped::declared_group))]
+#[tactic(auto, using(crate::proofs::Leasts::noting), unfolding(crate::specs::Grouped::declared_group))]
 fn note_declared<'a>(
     alloc: Global,
     found: &mut Option<Refusal>,
@@ -68,7 +68,7 @@ fn note_used(
 
 /// Notes the offences of a specification, where what it includes is at hand, and gives how many
 /// symbols there are with its own.
-#[tactic(auto, using(std::proofs::lemmas::Grind::common_steps, crate::proofs::Leasts::noted_after))]
+#[tactic(auto, using(crate::proofs::Leasts::noting))]
 fn note_included<'a>(
     alloc: Global,
     found: &mut Option<Refusal>,

@@ -59,7 +59,7 @@ fn one_passes(symbols: (usize, usize), rules: (usize, usize)) -> bool
 
 impl<'a> Inclusion<'a> {
     /// What is wrong at the first entry that brings something, where its material alone is at hand.
-    #[tactic(auto, using(std::proofs::lemmas::Grind::common_steps, crate::proofs::Along::none_among, crate::proofs::Levels::passing_more))]
+    #[tactic(auto, using(crate::proofs::Along::first_verdict))]
     fn verdict_on_first(&self, entry: Name) -> Verdict
         ensures { (bytes : List ℕ) (specifications : List Specification)
             → IsInclusion bytes specifications self.now

@@ -62,7 +62,7 @@ impl<'a> Inclusion<'a> {
     }
 
     /// How much the last level has, nothing where there is none.
-    #[tactic(auto, using(std::proofs::lemmas::Grind::common_steps, crate::proofs::Levels::last_extent))]
+    #[tactic(auto, using(crate::proofs::Levels::extents))]
     fn extent(&self) -> Extent
         ensures { (bytes : List ℕ) (specifications : List Specification)
             → AreLevels bytes specifications [] self.now.levels.items

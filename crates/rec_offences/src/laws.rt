@@ -3,7 +3,7 @@
 ghost use Rattle.rec_offences.specs.Laws.{FaultIsLeast, FaultlessHasNoOffence, VisitsAreOfArguments};
 
 /// The fault of an input is the least of its offences, and an input without one has none.
-#[tactic(auto, using(crate::proofs::Leasts::fault_is_least, crate::proofs::Leasts::faultless_has_none))]
+#[tactic(auto, using(crate::proofs::Leasts::fault_of_all))]
 pub fn fault_laws()
     ensures least { FaultIsLeast }
     ensures none { FaultlessHasNoOffence }

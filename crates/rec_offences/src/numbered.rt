@@ -21,7 +21,7 @@ pub fn specification_at(specifications: &[Specification], number: usize) -> Opti
 }
 
 /// Adds the symbols of the specification with this number.
-#[tactic(auto, using(std::proofs::lemmas::Grind::common_steps, rec_includes::proofs::Gathered::at_one, rec_includes::proofs::Gathered::at_none))]
+#[tactic(auto, using(rec_includes::proofs::Gathered::at_number))]
 fn add_symbols_at<'a>(
     specifications: &'a [Specification],
     number: usize,
@@ -37,7 +37,7 @@ fn add_symbols_at<'a>(
 }
 
 /// The symbols of the specifications with these numbers.
-#[tactic(auto, using(std::proofs::lemmas::Grind::common_steps, rec_includes::proofs::Gathered::gathered_turn, rec_includes::proofs::Gathered::default_in, crate::proofs::Levels::entries_append))]
+#[tactic(auto, using(crate::proofs::Levels::in_turn))]
 pub fn symbols_at<'a>(
     alloc: Global,
     specifications: &'a [Specification],
@@ -54,7 +54,7 @@ pub fn symbols_at<'a>(
 }
 
 /// The sorts of the specification with this number.
-#[tactic(auto, using(rec_includes::proofs::Gathered::at_one, rec_includes::proofs::Gathered::at_none))]
+#[tactic(auto, using(rec_includes::proofs::Gathered::at_number))]
 fn sorts_at(specifications: &[Specification], number: usize) -> &[Name]
     ensures { result.now ≡ sorts_of specifications.now (number ∷ []) }
 {
@@ -65,7 +65,7 @@ fn sorts_at(specifications: &[Specification], number: usize) -> &[Name]
 }
 
 /// Adds the sorts of the specifications with these numbers.
-#[tactic(auto, using(std::proofs::lemmas::Grind::common_steps, rec_includes::proofs::Gathered::gathered_turn, rec_includes::proofs::Gathered::default_in, crate::proofs::Levels::at_append))]
+#[tactic(auto, using(crate::proofs::Levels::in_turn))]
 pub(crate) fn add_sorts(
     sorts: &mut Directory,
     specifications: &[Specification],
@@ -81,7 +81,7 @@ pub(crate) fn add_sorts(
 }
 
 /// How many rules the specification with this number has.
-#[tactic(auto, using(rec_includes::proofs::Gathered::at_one, rec_includes::proofs::Gathered::at_none))]
+#[tactic(auto, using(rec_includes::proofs::Gathered::at_number))]
 fn rules_at(specifications: &[Specification], number: usize) -> usize
     ensures { result ≡ length (rules_of specifications.now (number ∷ [])) }
 {

@@ -66,7 +66,7 @@ impl<'a> Scope<'a> {
 
     /// What a name is first declared as.
     #[inline(always)]
-    #[tactic(auto, using(std::proofs::lemmas::Grind::common_steps, crate::proofs::LookUps::found_at))]
+    #[tactic(auto, using(crate::proofs::LookUps::looking_up))]
     pub(crate) fn find(&self, name: Name) -> Option<Signature<'a>>
         ensures { option_map entry_of result ≡ look_up self.now.bytes self.now.entries name }
     {

@@ -75,7 +75,7 @@ fn note_node(
 
 /// Notes what is wrong at a node whose arguments are the newest on the stack, and puts its head in
 /// their place.
-#[tactic(auto, using(std::proofs::lemmas::Grind::common_steps, std::proofs::lemmas::List::take_rest, crate::proofs::Walks::stacked, crate::proofs::Walks::noted_over))]
+#[tactic(auto, using(crate::proofs::Walks::walking))]
 fn note_visit(
     found: &mut Option<Refusal>,
     scope: &Scope,
@@ -103,7 +103,7 @@ fn note_visit(
 }
 
 /// Notes what is wrong at the nodes of a term, of one that is to be rewritten or of another.
-#[tactic(auto, using(std::proofs::lemmas::Grind::common_steps, crate::proofs::Walks::heads_same, crate::proofs::Walks::node_turn))]
+#[tactic(auto, using(crate::proofs::Walks::walking))]
 fn note_term(
     alloc: Global,
     found: &mut Option<Refusal>,

@@ -31,7 +31,7 @@ fn is_other(scope: &Scope, wanted: Name, sort: Option<Name>) -> bool
 
 /// Notes a head whose sort is another than the one that is wanted. Behind what was found nothing is
 /// compared. So a name past the limit, which is found where it is declared, isn't read at each use.
-#[tactic(auto, using(std::proofs::lemmas::Grind::common_steps, crate::proofs::Leasts::noted_behind))]
+#[tactic(auto, using(crate::proofs::Leasts::noting))]
 pub(crate) fn note_other_sort(
     found: &mut Option<Refusal>,
     scope: &Scope,

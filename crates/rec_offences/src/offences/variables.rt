@@ -47,7 +47,7 @@ fn note_free(found: &mut Option<Refusal>, scope: &Scope, left: &Directory, nodes
     }
 }
 
-#[tactic(auto, using(std::proofs::lemmas::Grind::common_steps, crate::proofs::Leasts::least_append, crate::proofs::Leasts::marks_append))]
+#[tactic(auto, using(crate::proofs::Leasts::noting_parts))]
 fn note_free_in_condition(
     found: &mut Option<Refusal>,
     scope: &Scope,
@@ -63,7 +63,7 @@ fn note_free_in_condition(
 }
 
 /// Notes the variables after the left side that aren't among these.
-#[tactic(auto, using(std::proofs::lemmas::Grind::common_steps, crate::proofs::Leasts::noted_turn, crate::proofs::Leasts::noted_end, crate::proofs::Leasts::least_append, crate::proofs::Leasts::marks_append))]
+#[tactic(auto, using(crate::proofs::Leasts::noting_parts))]
 fn note_free_but(found: &mut Option<Refusal>, scope: &Scope, left: &Directory, rule: &Rule)
     ensures { found.new ≡ least_with found.old (of_kind 10
         (filter (is_free scope.now left.now) (heads (nodes_but_left rule.now)))) }
