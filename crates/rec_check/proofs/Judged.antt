@@ -6,8 +6,6 @@ use Rattle.rec_check.proofs.Sound.{or_left, all_front, all_back, few_arguments}
 use Rattle.rec_check.proofs.Heads.{place_if_any}
 use Rattle.rec_check.proofs.Readable.{IsRead, TermReads, symbol_known}
 
--- ---- what a specification declares itself: each head of its terms is a symbol or a variable
-
 -- ---- lists that come to nothing
 
 pub all_empty : {A B : Type 0} (f : A → List B) (xs : List A) → flat_map f xs ≡ [] → All (λ x. f x ≡ []) xs
