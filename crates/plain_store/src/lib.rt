@@ -1,6 +1,7 @@
 //! A store of maximally shared terms for one thread.
 #![tactic(auto)]
 
+mod adding;
 mod collecting;
 mod event;
 mod hashing;

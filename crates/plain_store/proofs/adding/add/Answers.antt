@@ -3,7 +3,7 @@ use Rattle.std.proofs.lemmas.List.{length-take}
 use Rattle.plain_store.specs.Index.{Index, IsIndexed, IsLinked}
 use Rattle.plain_store.proofs.Indexing.{node_is, slot_free, added, added_empty}
 use Rattle.plain_store.proofs.Linking.{linked_places, linked_tags}
-use Rattle.plain_store.proofs.nodes.add.Goals as goal
+use Rattle.plain_store.proofs.adding.add.Goals as goal
 
 pub returns-in-Some-clause-indexed : goal.returns-in-Some-clause-indexed
 returns-in-Some-clause-indexed c =

@@ -1,6 +1,6 @@
 use Rattle.std.proofs.Common.{◌≡◌, length, take}
 use Rattle.plain_store.specs.Index.{IsIndexed}
-use Rattle.plain_store.proofs.nodes.add_all.Given as goal
+use Rattle.plain_store.proofs.adding.add_all.Given as goal
 
 -- the rows before are where they are looked for
 abbrev pub invariant-loop-i : goal.invariant-loop-i

@@ -1,6 +1,6 @@
 use Rattle.std.proofs.Common.{◌≡◌, ℕ, take, subst, arith}
 use Rattle.plain_store.specs.Index.{IsIndexed}
-use Rattle.plain_store.proofs.nodes.add_all.Goals as goal
+use Rattle.plain_store.proofs.adding.add_all.Goals as goal
 
 pub returns-clause-indexed : goal.returns-clause-indexed
 returns-clause-indexed c =
