@@ -51,9 +51,9 @@ fn lowest<T: Terms>(terms: &mut T) -> Option<Row>
     Some(terms.at(0))
 }
 
-// What four builds answer of which the third finds two rows in use, and the last finds the stack
-// full by two pushes before it; whether one row stays the stack at the third; and what the pushes
-// answer.
+// What four builds answer: two that fill both rows, one that finds the store full, and, after two
+// pushes, one that finds the stack full; whether the third leaves the stack as it was; and what the
+// pushes answer.
 fn fill<T: Terms>(terms: &mut T) -> ([Option<BuildFault>; 4], bool, [Result<(), Deep>; 2])
     requires inside { (T.store terms.old).inside ≡ true }
     requires width { 1 ≤ (T.store terms.old).widest }

@@ -33,13 +33,8 @@ static TEXTS: [(&[u8], &[u8]); 12] = [
     ),
 ];
 
-// A name of so many bytes.
-static LONGEST: [u8; 255] = [b'n'; 255];
-
-static TOO_LONG: [u8; 256] = [b'n'; 256];
-
 // Texts, with the kind and the place of the refusal, or twice 0 where they spell terms.
-static REFUSALS: [(&[u8], u8, u64); 33] = [
+static VERDICTS: [(&[u8], u8, u64); 33] = [
     // The longest name, and one that is longer.
     (&[b'n'; 255], 0, 0),
     (&[b'n'; 256], 13, 0),
@@ -120,7 +115,7 @@ fn texts_are_written_again_as_canonical_texts(rt: HostRuntime) -> Result<(), Fai
 
 #[test]
 fn texts_are_refused_at_their_places(rt: HostRuntime) -> Result<(), Fail> {
-    for (bytes, kind, offset) in &REFUSALS {
+    for (bytes, kind, offset) in &VERDICTS {
         let mut symbols = Symbols::new(rt.alloc());
         assert_eq!(rt;
             refusal(rt.alloc(), bytes, &mut symbols)?,
