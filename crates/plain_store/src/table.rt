@@ -22,7 +22,7 @@ pub(crate) struct Entry {
     used: bool,
 }
 
-// No row in use has these as its pair, where it has no arguments.
+// The pair of a free row. No row without arguments has it.
 const OTHER: Pair = [Row(0), Row(u32::MAX)];
 
 const FREE: Entry = Entry {
@@ -159,8 +159,8 @@ impl Table {
         }
     }
 
-    /// Whether the row has this head over so many rows, which stand in the pair. The entry of a free
-    /// row has another pair, so it isn't asked whether the row is in use.
+    /// Whether the row has this head over so many rows, which stand in the pair. The entry of a
+    /// free row has another pair, so it isn't asked whether the row is in use.
     #[inline(always)]
     pub(crate) fn is_pair(&self, row: Row, head: Head, pair: Pair, count: u32) -> bool
         requires few { count ≤ 2 }
