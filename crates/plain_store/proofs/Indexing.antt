@@ -11,7 +11,7 @@ use Rattle.term_model.specs.declared.Row.{Row}
 use Rattle.term_model.specs.declared.Head.{Head}
 use Rattle.plain_store.specs.Slots.{Slot, arguments_of}
 use Rattle.plain_store.specs.Hash.{hash}
-use Rattle.plain_store.specs.Index.{Index, vacant, filled_count, word_at, tag_of, place_of, freed, IsFilled, IsReached, IsLinked, IsIndexed, IsFront, IsIndexedTo}
+use Rattle.plain_store.specs.Index.{Index, vacant, filled_count, word_at, tag_of, place_of, freed, HasNoneVacant, IsReached, IsLinked, IsIndexed, IsFront, IsIndexedTo}
 use Rattle.plain_store.proofs.Rows.{row_same, node_same}
 use Rattle.plain_store.proofs.Linking.{linked_filled, linked_free, reached_new, reached_stays}
 
@@ -161,7 +161,7 @@ made_used slots x y front k n last l h =
 
 -- None of so many places that are looked at first is vacant, or has a row that is wanted.
 pub record Passed (slots : List Slot) (x : Index) (hashed : ℕ) (wanted : Slot) (n : ℕ) : Type 0 where
-  pub filled : IsFilled x hashed n
+  pub filled : HasNoneVacant x hashed n
   pub others : (k : ℕ) (r : Row) → k < n → get_or slots r.0 None ≡ wanted → word_at x (place_of x hashed k) ≡ r.0 + tag_of x hashed → ⊥
 
 pub passed_none : (slots : List Slot) (x : Index) (hashed : ℕ) (wanted : Slot) → Passed slots x hashed wanted 0

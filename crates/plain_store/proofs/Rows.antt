@@ -30,13 +30,6 @@ rows_told (x ∷ xs) (y ∷ ys) h =
     let b = both_hold (eqb x.0 y.0) (pointwise (λ (a b : Row). eqb a.0 b.0) xs ys) h in
     ap (λ z. z ∷ xs) (row_same x y (eqb-true x.0 y.0 b.0)) ∙ ap (λ zs. y ∷ zs) (rows_told xs ys b.1)
 
-rows_itself : (xs : List Row) → pointwise (λ (a b : Row). eqb a.0 b.0) xs xs ≡ true
-rows_itself [] = refl
-rows_itself (x ∷ xs) = both (eqb x.0 x.0) (pointwise (λ (a b : Row). eqb a.0 b.0) xs xs) (eq-eqb x.0 x.0 refl) (rows_itself xs)
-
-pub rows_same : (xs ys : List Row) → xs ≡ ys → pointwise (λ (a b : Row). eqb a.0 b.0) xs ys ≡ true
-rows_same xs ys e = subst (λ zs. pointwise (λ (a b : Row). eqb a.0 b.0) xs zs ≡ true) e (rows_itself xs)
-
 abbrev pub Node : Type 0
 Node = Head × List Row
 

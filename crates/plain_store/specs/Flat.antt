@@ -29,7 +29,7 @@ abbrev pub all_slots : ℕ → ℕ → List Entry → List Row → List Slot
 all_slots widest rows entries places = slots_of widest entries places ++ replicate (rows - length entries) None
 
 -- the entry of the row at k: of so many places its arguments have theirs, a pair's others are
--- filled up, and a free row has no arguments, but a pair that isn't so
+-- filled up, and a free row has no arguments, and its pair isn't that of no arguments
 pub record IsEntry (widest size k : ℕ) (e : Entry) : Type 0 where
   pub two : length e.pair ≡ 2
   pub pair : e.used ≡ true → e.count ≤ 2 → e.pair ≡ filled (take e.count e.pair)

@@ -44,8 +44,8 @@ abbrev pub place_of : Index → ℕ → ℕ → ℕ
 place_of x hashed n = place_behind x (home_of x hashed) n
 
 -- none of so many places that are looked at first is vacant
-abbrev pub IsFilled : Index → ℕ → ℕ → Type 0
-IsFilled x hashed n = (k : ℕ) → k < n → word_at x (place_of x hashed k) ≡ vacant → ⊥
+abbrev pub HasNoneVacant : Index → ℕ → ℕ → Type 0
+HasNoneVacant x hashed n = (k : ℕ) → k < n → word_at x (place_of x hashed k) ≡ vacant → ⊥
 
 -- The row of this hash stands where it is looked for.
 pub record IsReached (x : Index) (hashed : ℕ) (r : Row) : Type 0 where
@@ -53,7 +53,7 @@ pub record IsReached (x : Index) (hashed : ℕ) (r : Row) : Type 0 where
   pub within : steps < length x.words
   pub there : word_at x (place_of x hashed steps) ≡ r.0 + tag_of x hashed
   pub fits : r.0 + tag_of x hashed < vacant
-  pub filled : IsFilled x hashed steps
+  pub filled : HasNoneVacant x hashed steps
 
 -- The row of this hash is put into the first vacant place.
 pub record IsLinked (old new : Index) (hashed : ℕ) (r : Row) : Type 0 where
@@ -62,7 +62,7 @@ pub record IsLinked (old new : Index) (hashed : ℕ) (r : Row) : Type 0 where
   pub below : place_of old hashed steps < length old.words
   pub none : word_at old (place_of old hashed steps) ≡ vacant
   pub fits : r.0 + tag_of old hashed < vacant
-  pub filled : IsFilled old hashed steps
+  pub filled : HasNoneVacant old hashed steps
   pub is : new ≡ record old { words = slice_set old.words (place_of old hashed steps) (r.0 + tag_of old hashed) }
 
 abbrev pub freed : Index → Row → Index
@@ -72,7 +72,8 @@ freed x r = record x { free = x.free ++ r ∷ [] }
 abbrev pub taken : Index → Index
 taken x = record x { free = take (length x.free - 1) x.free }
 
--- Each row in use stands where it is looked for, and each free row is once on the stack.
+-- Each row in use stands where it is looked for, no more places are filled than rows are in use,
+-- and each free row is once on the stack.
 pub record IsIndexed (slots : List Slot) (x : Index) : Type 0 where
   pub fits : length x.free ≤ length slots
   pub filled : filled_count x.words + length x.free ≤ length slots
@@ -86,11 +87,12 @@ pub record IsFront (fresh : ℕ) (slots : List Slot) : Type 0 where
   pub fits : fresh ≤ length slots
   pub behind : (k : ℕ) → fresh ≤ k → slice_index_or slots k None ≡ None
 
--- there is room for so many rows
+-- so many rows have words: with any bits of a hash, each is less than a vacant place's
 abbrev pub HasRoom : Index → ℕ → Type 0
 HasRoom x rows = rows + x.tags < 2 ^ 32
 
--- The rows before this one are where they are looked for, and the others were never in use.
+-- The rows before this one are where they are looked for, and the others were never in use. All
+-- rows have words, and there are more places than rows that were ever in use.
 pub record IsIndexedTo (fresh : ℕ) (slots : List Slot) (x : Index) : Type 0 where
   pub front : IsFront fresh slots
   pub room : HasRoom x (length slots)

@@ -67,9 +67,9 @@ impl Index {
         ensures room { IfOk result (λ x. HasRoom x rows) }
         ensures places { IfOk result (λ x. 0 < length x.words) }
     {
-        let widest = u32::MAX >> rows.saturating_sub(1).leading_zeros().saturating_sub(1);
-        // `widest` is never less than the rows, which `max` spares a proof of.
-        let most = widest.max(rows) as usize + 1;
+        let last = u32::MAX >> rows.saturating_sub(1).leading_zeros().saturating_sub(1);
+        // `last` is never less than the rows, which `max` spares a proof of.
+        let most = last.max(rows) as usize + 1;
         let first = most.min(FIRST_PLACES);
         let mut words = Vec::with_capacity(alloc, most)?;
         make_vacant(&mut words, first);

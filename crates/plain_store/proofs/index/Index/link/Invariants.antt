@@ -1,5 +1,5 @@
 use Rattle.std.proofs.Common.{◌≡◌, ◌<◌, length}
-use Rattle.plain_store.specs.Index.{place_of, IsFilled}
+use Rattle.plain_store.specs.Index.{place_of, HasNoneVacant}
 use Rattle.plain_store.proofs.index.Index.link.Given as goal
 
 -- no place before is vacant
@@ -9,5 +9,5 @@ invariant-loop-passed l =
       same : l.self ≡ l.fn.self;
       place : l.place ≡ place_of l.fn.self l.hash l.passed;
       below : l.place < length l.fn.self.words;
-      filled : IsFilled l.fn.self l.hash l.passed;
+      filled : HasNoneVacant l.fn.self l.hash l.passed;
     }
