@@ -23,11 +23,7 @@ use rec_reader::{Specification, Syntax};
 use std::alloc::Global;
 
 /// Declares a specification's own names, and notes what is wrong with its declarations.
-#[tactic(
-    auto,
-    using(crate::proofs::Leasts::noting),
-    unfolding(crate::specs::Grouped::declared_group)
-)]
+#[tactic(auto, using(crate::proofs::Leasts::noting), unfolding(crate::specs::Grouped::declared_group))]
 fn note_declared<'a>(
     alloc: Global,
     found: &mut Option<Refusal>,
