@@ -1,5 +1,5 @@
 -- What each strategy builds, in one word.
-use Rattle.std.proofs.Common.{◌≡◌, ℕ, List, [], ◌++◌, Bool, true, false, refl, sym, ap, subst, ◌∙◌, Result, Ok, Err}
+use Rattle.std.proofs.Common.{ℕ, List, [], Bool, true, false, refl, sym, ap, subst, ◌∙◌, Result, Ok, Err}
 use Rattle.std.proofs.lemmas.List.{append-nil, map-append}
 use Rattle.term_model.specs.Tree.{Tree}
 use Rattle.terms_api.specs.Terms.{Store}
@@ -15,7 +15,7 @@ use Rattle.innermost.specs.declared.normal.Normal.{Normal}
 use Rattle.innermost.specs.declared.normal.RunFault.{RunFault}
 use Rattle.term_lines.specs.declared.strategy.Strategy.{Strategy}
 use Rattle.term_lines.specs.declared.strategy.Strategy.TheVariants.{Innermost, Outermost}
-use Rattle.term_lines.specs.Strategies.{points_of, IsBuiltBy, Adds, BuildsBy}
+use Rattle.term_lines.specs.Strategies.{points_of, IsBuiltBy, BuildsBy}
 use Rattle.term_lines.specs.Written.{BuildsWhole, BuildsFront}
 
 pub innermost_builds : (rules : List Rule) (term : Tree) (fuel room : ℕ) (old new : Store) (r : Result Normal RunFault) → Builds (points_of rules term fuel room) old new r → BuildsBy Innermost false rules term fuel room old new r

@@ -9,7 +9,7 @@ use Rattle.symbol_pool.specs.Pool.{Named}
 use Rattle.rewrite_model.specs.Rule.{Rule}
 use Rattle.rewrite_model.specs.Matching.{bind, match_from, match_all, match_of, if_matched, tree_at}
 use Rattle.rewrite_model.specs.Run.{Run, Ended, Done, OutOfFuel, TooDeep, done, ends, after, ◌>>=◌, in_room}
-use Rattle.rewrite_model.specs.Evaluation.{Point, Evaluated, Reducer, evaluate, evaluate_all, hold, replace, apply, reduce_by, reduce_within, reduction, evaluation}
+use Rattle.rewrite_model.specs.Evaluation.{Evaluated, Reducer, evaluate, evaluate_all, hold, replace, apply, reduce_by, reduce_within, reduction, evaluation}
 use Rattle.rewrite_model.proofs.Matches.{chosen, mapped, if_some}
 use Rattle.rewrite_model.proofs.Closed.{OfValue}
 use Rattle.term_text.specs.Text.{is_named, has_names, all_have_names, HasNames}

@@ -1,19 +1,23 @@
 -- What making the line of a term leaves.
 use Rattle.std.specs.Prelude.{◌≡◌, ℕ, ◌+◌, ◌<◌, ◌≤◌, List, ◌++◌, Bool, true, false, length, slice_index_or, Result, Ok, Err}
-use Rattle.term_model.specs.Tree.{Tree, Leaf}
+use Rattle.term_model.specs.Tree.{Tree, Leaf, IsGround}
 use Rattle.terms_api.specs.Terms.{Store, trees}
 use Rattle.symbol_pool.specs.Pool.{Named}
 use Rattle.term_text.specs.Text.{HasNames}
 use Rattle.rewrite_model.specs.Rule.{Rule}
 use Rattle.rewrite_model.specs.Run.{Ended}
-use Rattle.innermost.specs.Normalized.{Answers, StackIsBack}
+use Rattle.rewrite_model.specs.Built.{need}
+use Rattle.rule_match.specs.Planned.{Planned, IsPlain}
+use Rattle.innermost.specs.Machines.{Made, IsFor}
+use Rattle.innermost.specs.Normalized.{Answers, StackIsBack, LoadsNeedAtMost, KeepsNumbers}
 use Rattle.innermost.specs.Remembered.{Map, AreRight}
 use Rattle.innermost.specs.declared.normal.Normal.{Normal}
 use Rattle.innermost.specs.declared.normal.RunFault.TheVariants as fault
 use Rattle.term_lines.specs.declared.strategy.Strategy.{Strategy}
+use Rattle.term_lines.specs.declared.strategy.Strategy.TheVariants.{Innermost}
 use Rattle.term_lines.specs.declared.stop.LineStop.{LineStop}
 use Rattle.term_lines.specs.declared.stop.LineStop.TheVariants.{StoreFull, Worn, Memory}
-use Rattle.term_lines.specs.Strategies.{IsBuiltBy, Adds, RefusedBy}
+use Rattle.term_lines.specs.Strategies.{ended, IsBuiltBy, Adds, RefusedBy}
 
 -- the tree of the first place of the stack
 abbrev pub top_tree : Store → Tree
@@ -71,3 +75,21 @@ SweepsForLine old new (Ok _) = SweepsMore old new 0
 SweepsForLine old new (Err StoreFull) = SweepsMore old new 1
 SweepsForLine old new (Err Worn) = SweepsMore old new 1
 SweepsForLine old new (Err Memory) = SweepsMore old new 0
+
+-- A machine may rewrite the term on the store, whose rows and places are enough.
+pub record MayRewrite (plan : Planned) (made : Made) (term : Tree) (s : Store) : Type 0 where
+  pub inside : s.inside ≡ true
+  pub machine : IsFor plan made
+  pub no_variables : IsGround term
+  pub plain : IsPlain plan.widest term
+  pub width : plan.widest ≤ s.widest
+  pub free : length s.stack + made.depth ≤ s.room
+
+-- A term is rewritten for its line: how that ends, and what it builds and costs.
+pub record IsRewritten (strategy : Strategy) (told remembered : Bool) (rules : List Rule) (term : Tree) (fuel room : ℕ) (old new : Store) (result : Result Normal LineStop) : Type 0 where
+  pub answer : Finishes (ended strategy rules term fuel room) old new result
+  pub built : BuildsForLine strategy told remembered rules term fuel room old new result
+  pub refusals : CountsRefusals old new result
+  pub sweeps : SweepsForLine old new result
+  pub load : strategy ≡ Innermost → LoadsNeedAtMost (need rules term fuel room) old new
+  pub numbers : KeepsNumbers old new

@@ -9,7 +9,7 @@ ghost use Rattle.innermost.specs.Remembered.{AreRight};
 ghost use Rattle.terms_api.specs.Terms.{IsSound};
 ghost use Rattle.term_lines.specs.Strategies.{ended, BuildsBy};
 ghost use Rattle.term_lines.specs.Tracing.{tells, remembers, MayTell, Told};
-ghost use Rattle.term_lines.specs.Written.{Finishes, BuildsForLine, CountsRefusals, SweepsForLine, MayRecall};
+ghost use Rattle.term_lines.specs.Written.{MayRewrite, IsRewritten, MayRecall};
 ghost use Rattle.term_lines.specs.declared.strategy.Strategy.TheVariants.{Innermost};
 
 use crate::{LineStop, Rewriter, Strategy};
@@ -26,13 +26,7 @@ impl Rewriter {
         term: &Flat,
         terms: &mut T,
     ) -> Result<Normal, RunFault>
-        requires inside { (T.store terms.old).inside ≡ true }
-        requires machine { IsFor plan.now self.old.machine }
-        requires no_variables { IsGround term.now }
-        requires plain { IsPlain plan.now.widest term.now }
-        requires width { plan.now.widest ≤ (T.store terms.old).widest }
-        requires free { length (T.store terms.old).stack + self.old.machine.depth
-            ≤ (T.store terms.old).room }
+        requires ready { MayRewrite plan.now self.old.machine term.now (T.store terms.old) }
         ensures answer { Answers
             (ended self.old.strategy plan.now.rules term.now self.old.fuel self.old.machine.depth)
             (T.store terms.old) (T.store terms.new) result }
@@ -62,25 +56,10 @@ impl Rewriter {
         term: &Flat,
         terms: &mut T,
     ) -> Result<Normal, LineStop>
-        requires inside { (T.store terms.old).inside ≡ true }
-        requires machine { IsFor plan.now self.old.machine }
-        requires no_variables { IsGround term.now }
-        requires plain { IsPlain plan.now.widest term.now }
-        requires width { plan.now.widest ≤ (T.store terms.old).widest }
-        requires free { length (T.store terms.old).stack + self.old.machine.depth
-            ≤ (T.store terms.old).room }
-        ensures answer { Finishes
-            (ended self.old.strategy plan.now.rules term.now self.old.fuel self.old.machine.depth)
-            (T.store terms.old) (T.store terms.new) result }
-        ensures built { BuildsForLine self.old.strategy false false
+        requires ready { MayRewrite plan.now self.old.machine term.now (T.store terms.old) }
+        ensures rewritten { IsRewritten self.old.strategy false false
             plan.now.rules term.now self.old.fuel self.old.machine.depth
             (T.store terms.old) (T.store terms.new) result }
-        ensures refusals { CountsRefusals (T.store terms.old) (T.store terms.new) result }
-        ensures sweeps { SweepsForLine (T.store terms.old) (T.store terms.new) result }
-        ensures load { self.old.strategy ≡ Innermost → LoadsNeedAtMost
-            (need plan.now.rules term.now self.old.fuel self.old.machine.depth)
-            (T.store terms.old) (T.store terms.new) }
-        ensures numbers { KeepsNumbers (T.store terms.old) (T.store terms.new) }
         ensures sound { IsSound (T.store terms.new) }
         ensures rewriter { self.new ≡ self.old }
         ensures same { T.same terms.old terms.new }
@@ -100,26 +79,11 @@ impl Rewriter {
         terms: &mut T,
         events: &mut Vec<Event>,
     ) -> Result<Normal, LineStop>
-        requires inside { (T.store terms.old).inside ≡ true }
-        requires machine { IsFor plan.now self.old.machine }
-        requires no_variables { IsGround term.now }
-        requires plain { IsPlain plan.now.widest term.now }
-        requires width { plan.now.widest ≤ (T.store terms.old).widest }
-        requires free { length (T.store terms.old).stack + self.old.machine.depth
-            ≤ (T.store terms.old).room }
+        requires ready { MayRewrite plan.now self.old.machine term.now (T.store terms.old) }
         requires none { events.old.items ≡ [] }
-        ensures answer { Finishes
-            (ended Innermost plan.now.rules term.now self.old.fuel self.old.machine.depth)
-            (T.store terms.old) (T.store terms.new) result }
-        ensures built { BuildsForLine Innermost true false
+        ensures rewritten { IsRewritten Innermost true false
             plan.now.rules term.now self.old.fuel self.old.machine.depth
             (T.store terms.old) (T.store terms.new) result }
-        ensures refusals { CountsRefusals (T.store terms.old) (T.store terms.new) result }
-        ensures sweeps { SweepsForLine (T.store terms.old) (T.store terms.new) result }
-        ensures load { LoadsNeedAtMost
-            (need plan.now.rules term.now self.old.fuel self.old.machine.depth)
-            (T.store terms.old) (T.store terms.new) }
-        ensures numbers { KeepsNumbers (T.store terms.old) (T.store terms.new) }
         ensures sound { IsSound (T.store terms.new) }
         ensures rewriter { self.new ≡ self.old }
         ensures same { T.same terms.old terms.new }
@@ -145,27 +109,12 @@ impl Rewriter {
         terms: &mut T,
         memo: &mut M,
     ) -> Result<Normal, LineStop>
-        requires inside { (T.store terms.old).inside ≡ true }
-        requires machine { IsFor plan.now self.old.machine }
-        requires no_variables { IsGround term.now }
-        requires plain { IsPlain plan.now.widest term.now }
-        requires width { plan.now.widest ≤ (T.store terms.old).widest }
-        requires free { length (T.store terms.old).stack + self.old.machine.depth
-            ≤ (T.store terms.old).room }
+        requires ready { MayRewrite plan.now self.old.machine term.now (T.store terms.old) }
         requires memory { AreRight plan.now.rules (T.store terms.old).built
             (T.store terms.old) (M.map memo.old) }
-        ensures answer { Finishes
-            (ended Innermost plan.now.rules term.now self.old.fuel self.old.machine.depth)
-            (T.store terms.old) (T.store terms.new) result }
-        ensures built { BuildsForLine Innermost false true
+        ensures rewritten { IsRewritten Innermost false true
             plan.now.rules term.now self.old.fuel self.old.machine.depth
             (T.store terms.old) (T.store terms.new) result }
-        ensures refusals { CountsRefusals (T.store terms.old) (T.store terms.new) result }
-        ensures sweeps { SweepsForLine (T.store terms.old) (T.store terms.new) result }
-        ensures load { LoadsNeedAtMost
-            (need plan.now.rules term.now self.old.fuel self.old.machine.depth)
-            (T.store terms.old) (T.store terms.new) }
-        ensures numbers { KeepsNumbers (T.store terms.old) (T.store terms.new) }
         ensures sound { IsSound (T.store terms.new) }
         ensures rewriter { self.new ≡ self.old }
         ensures same { T.same terms.old terms.new }
@@ -192,28 +141,13 @@ impl Rewriter {
         memo: &mut M,
         events: &mut Vec<Event>,
     ) -> Result<Normal, LineStop>
-        requires inside { (T.store terms.old).inside ≡ true }
-        requires machine { IsFor plan.now self.old.machine }
-        requires no_variables { IsGround term.now }
-        requires plain { IsPlain plan.now.widest term.now }
-        requires width { plan.now.widest ≤ (T.store terms.old).widest }
-        requires free { length (T.store terms.old).stack + self.old.machine.depth
-            ≤ (T.store terms.old).room }
+        requires ready { MayRewrite plan.now self.old.machine term.now (T.store terms.old) }
         requires memory { MayRecall (remembers self.old.strategy self.old.traced self.old.remembers)
             plan.now.rules (T.store terms.old) (M.map memo.old) }
-        ensures answer { Finishes
-            (ended self.old.strategy plan.now.rules term.now self.old.fuel self.old.machine.depth)
-            (T.store terms.old) (T.store terms.new) result }
-        ensures built { BuildsForLine self.old.strategy (tells self.old.strategy self.old.traced)
+        ensures rewritten { IsRewritten self.old.strategy (tells self.old.strategy self.old.traced)
             (remembers self.old.strategy self.old.traced self.old.remembers)
             plan.now.rules term.now self.old.fuel self.old.machine.depth
             (T.store terms.old) (T.store terms.new) result }
-        ensures refusals { CountsRefusals (T.store terms.old) (T.store terms.new) result }
-        ensures sweeps { SweepsForLine (T.store terms.old) (T.store terms.new) result }
-        ensures load { self.old.strategy ≡ Innermost → LoadsNeedAtMost
-            (need plan.now.rules term.now self.old.fuel self.old.machine.depth)
-            (T.store terms.old) (T.store terms.new) }
-        ensures numbers { KeepsNumbers (T.store terms.old) (T.store terms.new) }
         ensures sound { IsSound (T.store terms.new) }
         ensures rewriter { self.new ≡ self.old }
         ensures same { T.same terms.old terms.new }
