@@ -2,7 +2,6 @@
 
 from __future__ import annotations
 
-import contextlib
 import os
 import shutil
 import signal
@@ -38,16 +37,6 @@ command|unroll|bytes|reads a file of terms|./rec unroll FILE
 PROGRAM_OF_LATER = """echo "$*"; wc -c
 case $1 in judge) echo fault 15 at 2 >&2 ;; *) echo fault 18 at 48 >&2 ;; esac
 exit 3"""
-
-
-def processes() -> list[str]:
-    """Returns the folders in which the processes of this user work."""
-    found = []
-    for name in os.listdir("/proc"):
-        if name.isdigit():
-            with contextlib.suppress(OSError):
-                found.append(os.readlink(f"/proc/{name}/cwd"))
-    return found
 
 
 class PassesOn(unittest.TestCase):
@@ -189,52 +178,61 @@ class Help(unittest.TestCase):
             self.assertEqual(run([f"{support.TOOLS}/{name}", "--wrong-word"])[2], 2, name)
 
 
-# Stands for the toolchain's command: it notes what it is asked for and where. A library takes long, and what it
-# has begun in a process group of its own goes on writing for a while after it was ended.
-TOOLCHAIN = """echo "$1 ${PWD##*/} $PWD" >>"$NOTES"
-case $1 in
-lib)
-    set -m
-    (for it in $(seq 8); do mkdir "at_$it"; sleep 0.1; done) >/dev/null 2>&1 &
-    exec sleep 60
-    ;;
-run)
-    for _ in $(seq 200); do [ "$(grep -c ^lib "$NOTES")" = "$REC_AHEAD" ] && break; sleep 0.05; done
-    [ -n "$FAILS" ] || { printf '#!/bin/sh\\nexit 5\\n' >out/rec_main && chmod +x out/rec_main; } ;;
-esac"""
+# Stands for the toolchain's command: it notes where it is called and what is there. What it has begun in a process
+# group of its own goes on writing for a while after it has ended. The program that it builds isn't executable.
+TOOLCHAIN = """echo "$*" "$PWD" >>"$NOTES"
+find . -type f >>"$NOTES"
+set -m
+(for it in $(seq 8); do mkdir "at_$it"; sleep 0.1; done) >/dev/null 2>&1 &
+echo 'rt: faults proved'
+echo 'rt: ends is kept: an earlier run on this machine proved the same files over the same libraries'
+[ -z "$FAILS" ] || { echo 'rt: rec_main NOT PROVED'; exit 1; }
+mkdir crates/rec_main/out && printf '#!/bin/sh\\nexit 5\\n' >crates/rec_main/out/rec_main"""
 
 
 class Builds(unittest.TestCase):
-    """The first build, by a toolchain that notes what it is asked for."""
+    """The first build, by a toolchain that notes what it is given."""
 
-    def build(self, folder: str, ahead: int, fails: str) -> tuple[int, list[list[str]]]:
-        """Returns the status, and what the toolchain was asked for; no copy of the sources is left, and no build."""
-        for name in ("rec_main", "shared_desk", "rewrite_workers"):
-            os.makedirs(f"{folder}/top/crates/{name}/out")
+    def build(self, folder: str, fails: str) -> tuple[int, str, list[str]]:
+        """Returns the status, what was said, and the toolchain's notes; no copy of the sources is left."""
         for name in ("rec", "crates.txt", "HANDLES", "tools/commands.txt"):
             os.makedirs(os.path.dirname(f"{folder}/top/{name}"), exist_ok=True)
             shutil.copy(f"{TOP}/{name}", f"{folder}/top/{name}")
+        for name in os.listdir(f"{TOP}/crates"):
+            for file in ("src/lib.rt", "specs/Lib.antt", "must-fail/wrong.edit", "out/old"):
+                os.makedirs(os.path.dirname(f"{folder}/top/crates/{name}/{file}"))
+                with open(f"{folder}/top/crates/{name}/{file}", "w") as made:
+                    made.write(name)
         os.makedirs(f"{folder}/copies")
         os.makedirs(f"{folder}/bin")
         os.rename(support.script(folder, TOOLCHAIN), f"{folder}/bin/rt")
         words = {"PATH": f"{folder}/bin:{os.environ['PATH']}", "TMPDIR": f"{folder}/copies", "NOTES": f"{folder}/notes"}
-        words |= {"REC_PROGRAM": "", "REC_EXPLAIN": "0", "REC_AHEAD": str(ahead), "FAILS": fails}
-        status = run([f"{folder}/top/rec", "rewrite"], **words)[2]
+        words |= {"REC_PROGRAM": "", "REC_EXPLAIN": "0", "FAILS": fails}
+        _, said, status = run([f"{folder}/top/rec", "rewrite"], **words)
         self.assertEqual(os.listdir(f"{folder}/copies"), [])
-        self.assertFalse([it for it in processes() if f"{folder}/copies" in it])
         with open(f"{folder}/notes") as notes:
-            return status, [line.split() for line in notes]
+            return status, said.decode(), notes.read().splitlines()
 
-    def test_libraries_are_built_ahead_in_copies(self) -> None:
-        for ahead in (0, 1, 2):
-            for fails, wanted in (("", 5), ("1", 126)):
-                with support.folder() as folder:
-                    status, asked = self.build(folder, ahead, fails)
-                    self.assertEqual(status, wanted, (ahead, fails))
-                    libraries = [it[1] for it in asked if it[0] == "lib"]
-                    self.assertEqual(sorted(libraries), sorted(["shared_desk", "rewrite_workers"][:ahead]))
-                    self.assertTrue(all(it[2].startswith(f"{folder}/copies/") for it in asked if it[0] == "lib"))
-                    self.assertEqual([it[1:] for it in asked if it[0] == "run"], [["rec_main", f"{folder}/top/crates/rec_main"]])
+    def test_the_program_is_built_in_a_copy_of_its_crates(self) -> None:
+        with support.folder() as folder:
+            status, said, notes = self.build(folder, "")
+            self.assertEqual(status, 5)
+            self.assertTrue(notes[0].startswith(f"ci {folder}/copies/"), notes[0])
+            self.assertIn("rec: proved 2 of ", said)
+            files = set(notes[1:])
+            for name in ("faults", "shared_desk", "rule_automaton", "rec_main"):
+                self.assertLessEqual({f"./crates/{name}/src/lib.rt", f"./crates/{name}/specs/Lib.antt"}, files)
+            self.assertLessEqual({"./crates.txt", "./HANDLES"}, files)
+            self.assertFalse([it for it in files if "/out/" in it or "/must-fail/" in it or "_trials/" in it or "_speed/" in it])
+            with open(f"{folder}/top/crates/rec_main/out/build.log") as log:
+                self.assertIn("rt: faults proved\n", log.read())
+
+    def test_a_build_that_fails(self) -> None:
+        with support.folder() as folder:
+            status, said, _ = self.build(folder, "1")
+            self.assertEqual(status, 126)
+            self.assertIn("rt: rec_main NOT PROVED\n", said)
+            self.assertNotIn("rt: faults proved", said)
 
 
 class Later(unittest.TestCase):

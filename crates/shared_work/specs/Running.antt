@@ -1,24 +1,41 @@
 -- What workers leave of the desks at the passes of one store.
-use Rattle.std.specs.Prelude.{◌≡◌, ℕ, true, List, Result, Err, IfOk, IfErr, map}
+use Rattle.std.specs.Prelude.{◌≡◌, ◌<◌, ℕ, true, List, Result, Err, All, IfOk, IfErr, map}
 use Rattle.term_model.specs.Tree.{Tree}
 use Rattle.history_core.specs.declared.entry.Entry.{Entry}
 use Rattle.rewrite_model.specs.Rule.{Rule}
 use Rattle.settings.specs.declared.parts.Settings.{Settings}
+use Rattle.settings.specs.Words.{AreInRange}
 use Rattle.busy_forbidden.specs.Dealt.{EachPlace}
 use Rattle.rewrite_workers.specs.declared.fault.AllFault.{AllFault}
 use Rattle.rewrite_workers.specs.declared.fault.AllFault.TheVariants.{Memory}
 use Rattle.rewrite_workers.specs.declared.lines.Lines.{Lines}
 use Rattle.rewrite_workers.specs.Desks.{EachDesk, KeepsDesk}
 use Rattle.rewrite_workers.specs.Ends.{BuiltAll, Stopped}
-use Rattle.rewrite_workers.specs.Lined.{worker_of, drawn_by}
-use Rattle.rewrite_workers.specs.Works.{need_of}
+use Rattle.rewrite_workers.specs.declared.work.Work.{Work}
+use Rattle.rewrite_workers.specs.Lined.{said, line_of, trace_of, worker_of, drawn_by}
+use Rattle.rewrite_workers.specs.Works.{MayWork, need_of}
 use Rattle.node_rows.specs.declared.store.Store.{Store}
 use Rattle.node_rows.specs.declared.store.Pass.{Pass}
 use Rattle.node_rows.specs.Told.{view_of}
 use Rattle.log_text.specs.Lines.{log_of}
 use Rattle.shared_desk.specs.Code.{Contents}
 use Rattle.shared_desk.specs.Desk.{store_of, IsSame}
-use Rattle.shared_work.specs.NewDesks.{IsNewDesk, AreBack}
+use Rattle.shared_desk.specs.Telling.{MayHaveDesk}
+use Rattle.shared_work.specs.NewDesks.{sizes_for, IsNewPass, IsNewDesk, AreBack}
+
+-- Workers may begin on the terms at these passes of a new store.
+pub record MayBegin (work : Work) (store : Store) (given : List Pass) : Type 0 where
+  pub in_range : AreInRange work.settings
+  pub may : MayWork work.plan.now work.symbols.now work.terms.now
+  pub sizes : store.sizes ≡ sizes_for work.settings work.plan.now
+  pub passes : All (MayHaveDesk store) given
+  pub new : EachPlace (IsNewPass store) store.sizes.seats given
+
+-- The lines are those of the terms, in their order, whoever drew them; the events beside them lead to their values.
+pub record AreLines (work : Work) (l : Lines) : Type 0 where
+  pub lines : map said l.list.items ≡ map (line_of work.settings work.symbols.now work.plan.now.rules) work.terms.now
+  pub traces : map (λ t. t.items) l.traces.items ≡ map (trace_of work.settings work.plan.now.rules) work.terms.now
+  pub workers : All (λ w. w < work.settings.workers) (map worker_of l.list.items)
 
 -- there was no memory
 abbrev pub WantsMemory : Result Lines AllFault → Type 0

@@ -14,7 +14,7 @@ ghost use Rattle.shared_work.specs.Filling.{TellsFull};
 ghost use Rattle.shared_work.specs.Wearing.{TellsWorn};
 ghost use Rattle.shared_work.specs.Fronts.{NamesFronts, NamesOnlyBuilt, TellsEach};
 ghost use Rattle.shared_work.specs.Numbers.{TellsFew, TellsNeed};
-ghost use Rattle.shared_work.specs.Running.{HasRun, WantsMemory, IsAskedLog, entries_of};
+ghost use Rattle.shared_work.specs.Running.{MayBegin, AreLines, HasRun, WantsMemory, IsAskedLog, entries_of};
 ghost use Rattle.shared_work.specs.Sharing.{NamesWhatItBuilt, CollectsFew, KeepsOrders, EachRises};
 
 use crate::desks::{desks_at, log_desks_at, passes_of, store_for};
@@ -75,18 +75,8 @@ fn rewrite_on<R: Threads + Wait + Sync, G: Gate>(
     passes: Vec<Pass>,
     gate: &G,
 ) -> Result<Left, Memory>
-    requires in_range { AreInRange work.now.settings }
-    requires may { MayWork work.now.plan.now work.now.symbols.now work.now.terms.now }
-    requires sizes { store.now.sizes ≡ sizes_for work.now.settings work.now.plan.now }
-    requires passes { All (MayHaveDesk store.now) passes.items }
-    requires new { EachPlace (IsNewPass store.now) store.now.sizes.seats passes.items }
-    ensures lines { IfOk result (λ left. IfOk left.lines (λ l. map said l.list.items
-        ≡ map (line_of work.now.settings work.now.symbols.now work.now.plan.now.rules)
-        work.now.terms.now)) }
-    ensures traces { IfOk result (λ left. IfOk left.lines (λ l. map (λ t. t.items) l.traces.items
-        ≡ map (trace_of work.now.settings work.now.plan.now.rules) work.now.terms.now)) }
-    ensures workers { IfOk result (λ left. IfOk left.lines (λ l. All
-        (λ w. w < work.now.settings.workers) (map worker_of l.list.items))) }
+    requires begin { MayBegin work.now store.now passes.items }
+    ensures lines { IfOk result (λ left. IfOk left.lines (AreLines work.now)) }
     ensures run { IfOk result (λ left. HasRun work.now.settings work.now.plan.now.rules
         work.now.terms.now store.now left.lines left.passes.items) }
     ensures log { IfOk result (λ left. IfSome left.log
@@ -113,19 +103,9 @@ fn rewrite_logged<R: Threads + Wait + Sync, G: Gate>(
     passes: Vec<Pass>,
     gate: &G,
 ) -> Result<Left, Memory>
-    requires in_range { AreInRange work.now.settings }
-    requires may { MayWork work.now.plan.now work.now.symbols.now work.now.terms.now }
-    requires sizes { store.now.sizes ≡ sizes_for work.now.settings work.now.plan.now }
-    requires passes { All (MayHaveDesk store.now) passes.items }
-    requires new { EachPlace (IsNewPass store.now) store.now.sizes.seats passes.items }
+    requires begin { MayBegin work.now store.now passes.items }
     requires asked { work.now.settings.log ≡ true }
-    ensures lines { IfOk result (λ left. IfOk left.lines (λ l. map said l.list.items
-        ≡ map (line_of work.now.settings work.now.symbols.now work.now.plan.now.rules)
-        work.now.terms.now)) }
-    ensures traces { IfOk result (λ left. IfOk left.lines (λ l. map (λ t. t.items) l.traces.items
-        ≡ map (trace_of work.now.settings work.now.plan.now.rules) work.now.terms.now)) }
-    ensures workers { IfOk result (λ left. IfOk left.lines (λ l. All
-        (λ w. w < work.now.settings.workers) (map worker_of l.list.items))) }
+    ensures lines { IfOk result (λ left. IfOk left.lines (AreLines work.now)) }
     ensures run { IfOk result (λ left. HasRun work.now.settings work.now.plan.now.rules
         work.now.terms.now store.now left.lines left.passes.items) }
     ensures log { IfOk result (λ left. IfSome left.log
@@ -149,18 +129,8 @@ fn rewrite_left<R: Threads + Wait + Sync, G: Gate>(
     passes: Vec<Pass>,
     gate: &G,
 ) -> Result<Left, Memory>
-    requires in_range { AreInRange work.now.settings }
-    requires may { MayWork work.now.plan.now work.now.symbols.now work.now.terms.now }
-    requires sizes { store.now.sizes ≡ sizes_for work.now.settings work.now.plan.now }
-    requires passes { All (MayHaveDesk store.now) passes.items }
-    requires new { EachPlace (IsNewPass store.now) store.now.sizes.seats passes.items }
-    ensures lines { IfOk result (λ left. IfOk left.lines (λ l. map said l.list.items
-        ≡ map (line_of work.now.settings work.now.symbols.now work.now.plan.now.rules)
-        work.now.terms.now)) }
-    ensures traces { IfOk result (λ left. IfOk left.lines (λ l. map (λ t. t.items) l.traces.items
-        ≡ map (trace_of work.now.settings work.now.plan.now.rules) work.now.terms.now)) }
-    ensures workers { IfOk result (λ left. IfOk left.lines (λ l. All
-        (λ w. w < work.now.settings.workers) (map worker_of l.list.items))) }
+    requires begin { MayBegin work.now store.now passes.items }
+    ensures lines { IfOk result (λ left. IfOk left.lines (AreLines work.now)) }
     ensures run { IfOk result (λ left. HasRun work.now.settings work.now.plan.now.rules
         work.now.terms.now store.now left.lines left.passes.items) }
     ensures log { IfOk result (λ left. IfSome left.log
@@ -182,19 +152,9 @@ fn rewrite_at<R: Threads + Wait + Sync, G: Gate>(
     passes: Vec<Pass>,
     gate: &G,
 ) -> Rewritten
-    requires in_range { AreInRange work.now.settings }
-    requires may { MayWork work.now.plan.now work.now.symbols.now work.now.terms.now }
     requires store { IsOpen store }
-    requires sizes { store.sizes ≡ sizes_for work.now.settings work.now.plan.now }
-    requires passes { All (MayHaveDesk store) passes.items }
-    requires new { EachPlace (IsNewPass store) store.sizes.seats passes.items }
-    ensures lines { IfOk result.lines (λ l. map said l.list.items
-        ≡ map (line_of work.now.settings work.now.symbols.now work.now.plan.now.rules)
-        work.now.terms.now) }
-    ensures traces { IfOk result.lines (λ l. map (λ t. t.items) l.traces.items
-        ≡ map (trace_of work.now.settings work.now.plan.now.rules) work.now.terms.now) }
-    ensures workers { IfOk result.lines (λ l. All (λ w. w < work.now.settings.workers)
-        (map worker_of l.list.items)) }
+    requires begin { MayBegin work.now store passes.items }
+    ensures lines { IfOk result.lines (AreLines work.now) }
     ensures legal { IsLegal work.now.settings.rows (chronicle result.chronicle) }
     ensures order { KeepsOrders work.now.settings result.chronicle }
     ensures rises { EachRises result.chronicle }

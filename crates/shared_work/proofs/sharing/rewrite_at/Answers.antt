@@ -27,17 +27,17 @@ close-chronicle-requires-clause-all g c =
 
 pub returns-in-Ok-clause-legal : goal.returns-in-Ok-clause-legal
 returns-in-Ok-clause-legal g c =
-    subst (λ n. IsLegal n (chronicle c.close-chronicle.result)) (ap (λ (z : Sizes). z.rows) c.requires.sizes) c.close-chronicle.ensures.legal
+    subst (λ n. IsLegal n (chronicle c.close-chronicle.result)) (ap (λ (z : Sizes). z.rows) c.requires.begin.sizes) c.close-chronicle.ensures.legal
 
 pub returns-in-Ok-clause-built : goal.returns-in-Ok-clause-built
 returns-in-Ok-clause-built g c =
     names_what_it_built c.args.work.now.settings c.args.work.now.plan.now.rules c.args.work.now.terms.now c.args.store c.in-Ok.left.lines c.in-Ok.left.passes.items c.in-Ok.ensures.run
-    c.close-chronicle.result (ap (λ (z : Sizes). z.seats) c.requires.sizes) c.close-chronicle.ensures.told
+    c.close-chronicle.result (ap (λ (z : Sizes). z.seats) c.requires.begin.sizes) c.close-chronicle.ensures.told
 
 pub returns-in-Ok-clause-collects : goal.returns-in-Ok-clause-collects
 returns-in-Ok-clause-collects g c =
     collects_few c.args.work.now.settings c.args.work.now.plan.now.rules c.args.work.now.terms.now c.args.store c.in-Ok.left.lines c.in-Ok.left.passes.items c.in-Ok.ensures.run
-    c.close-chronicle.result (ap (λ (z : Sizes). z.seats) c.requires.sizes) c.close-chronicle.ensures.told c.close-chronicle.ensures.own
+    c.close-chronicle.result (ap (λ (z : Sizes). z.seats) c.requires.begin.sizes) c.close-chronicle.ensures.told c.close-chronicle.ensures.own
 
 pub returns-in-Err-clause-legal : goal.returns-in-Err-clause-legal
 returns-in-Err-clause-legal g c = none_legal c.args.work.now.settings.rows c.nothing.result.chronicle c.nothing.ensures.chronicle
@@ -48,7 +48,7 @@ returns-in-Err-clause-collects g c = none_collect c.args.work.now.settings c.not
 pub returns-in-Ok-clause-full : goal.returns-in-Ok-clause-full
 returns-in-Ok-clause-full g c =
     tells_full c.args.work.now.settings c.args.work.now.plan.now.rules c.args.work.now.terms.now c.args.store c.in-Ok.left.lines c.in-Ok.left.passes.items c.in-Ok.ensures.run
-    c.close-chronicle.result c.args.store.sizes.rows (has_rows c.args.work.now.settings c.requires.in_range) (ap (λ (z : Sizes). z.seats) c.requires.sizes) (ap (λ (z : Sizes). z.rows) c.requires.sizes) c.close-chronicle.ensures.count c.close-chronicle.ensures.legal
+    c.close-chronicle.result c.args.store.sizes.rows (has_rows c.args.work.now.settings c.requires.begin.in_range) (ap (λ (z : Sizes). z.seats) c.requires.begin.sizes) (ap (λ (z : Sizes). z.rows) c.requires.begin.sizes) c.close-chronicle.ensures.count c.close-chronicle.ensures.legal
     c.close-chronicle.ensures.told c.close-chronicle.ensures.crowds
 
 pub returns-in-Err-clause-full : goal.returns-in-Err-clause-full
@@ -57,7 +57,7 @@ returns-in-Err-clause-full g c = none_full c.args.work.now.settings c.args.work.
 pub returns-in-Ok-clause-need : goal.returns-in-Ok-clause-need
 returns-in-Ok-clause-need g c =
     tells_need c.args.work.now.settings c.args.work.now.plan.now.rules c.args.work.now.terms.now c.args.store c.in-Ok.left.lines c.in-Ok.left.passes.items c.in-Ok.ensures.run
-    c.close-chronicle.result (ap (λ (z : Sizes). z.seats) c.requires.sizes) (ap (λ (z : Sizes). z.rows) c.requires.sizes) c.close-chronicle.ensures.count
+    c.close-chronicle.result (ap (λ (z : Sizes). z.seats) c.requires.begin.sizes) (ap (λ (z : Sizes). z.rows) c.requires.begin.sizes) c.close-chronicle.ensures.count
     c.args.store.sizes.rows c.close-chronicle.ensures.legal c.close-chronicle.ensures.order c.close-chronicle.ensures.told c.close-chronicle.ensures.crowds
 
 pub returns-in-Err-clause-need : goal.returns-in-Err-clause-need
@@ -66,7 +66,7 @@ returns-in-Err-clause-need g c = none_needed c.args.work.now.settings c.args.wor
 pub returns-in-Ok-clause-worn : goal.returns-in-Ok-clause-worn
 returns-in-Ok-clause-worn g c =
     tells_worn c.args.work.now.settings c.args.work.now.plan.now.rules c.args.work.now.terms.now c.args.store c.in-Ok.left.lines c.in-Ok.left.passes.items c.in-Ok.ensures.run
-    c.close-chronicle.result (ap (λ (z : Sizes). z.seats) c.requires.sizes) (ap (λ (z : Sizes). z.rows) c.requires.sizes) (ap (λ (z : Sizes). z.first) c.requires.sizes) c.close-chronicle.ensures.count
+    c.close-chronicle.result (ap (λ (z : Sizes). z.seats) c.requires.begin.sizes) (ap (λ (z : Sizes). z.rows) c.requires.begin.sizes) (ap (λ (z : Sizes). z.first) c.requires.begin.sizes) c.close-chronicle.ensures.count
     c.close-chronicle.ensures.told c.close-chronicle.ensures.own c.close-chronicle.ensures.numbers c.close-chronicle.ensures.bases
 
 pub returns-in-Err-clause-worn : goal.returns-in-Err-clause-worn
@@ -74,7 +74,7 @@ returns-in-Err-clause-worn g c = none_worn c.args.work.now.settings c.args.work.
 
 pub returns-in-Ok-clause-each : goal.returns-in-Ok-clause-each
 returns-in-Ok-clause-each g c =
-    tells_each c.args.work.now.settings c.in-Ok.left.lines c.close-chronicle.result (c.close-chronicle.ensures.count ∙ ap (λ (z : Sizes). z.seats) c.requires.sizes)
+    tells_each c.args.work.now.settings c.in-Ok.left.lines c.close-chronicle.result (c.close-chronicle.ensures.count ∙ ap (λ (z : Sizes). z.seats) c.requires.begin.sizes)
 
 pub returns-in-Err-clause-each : goal.returns-in-Err-clause-each
 returns-in-Err-clause-each g c = nothing_told c.args.work.now.settings c.nothing.result.lines c.nothing.result.chronicle c.nothing.ensures.lines c.nothing.ensures.chronicle
@@ -82,7 +82,7 @@ returns-in-Err-clause-each g c = nothing_told c.args.work.now.settings c.nothing
 pub returns-in-Ok-clause-front : goal.returns-in-Ok-clause-front
 returns-in-Ok-clause-front g c =
     tells_fronts c.args.work.now.settings c.args.work.now.plan.now.rules c.args.work.now.terms.now c.args.store c.in-Ok.left.lines c.in-Ok.left.passes.items c.in-Ok.ensures.run
-    c.close-chronicle.result (ap (λ (z : Sizes). z.seats) c.requires.sizes) c.close-chronicle.ensures.told
+    c.close-chronicle.result (ap (λ (z : Sizes). z.seats) c.requires.begin.sizes) c.close-chronicle.ensures.told
 
 pub returns-in-Err-clause-front : goal.returns-in-Err-clause-front
 returns-in-Err-clause-front g c =
@@ -95,7 +95,7 @@ returns-in-Err-clause-order g c = none_order c.args.work.now.settings c.nothing.
 pub returns-in-Ok-clause-order : goal.returns-in-Ok-clause-order
 returns-in-Ok-clause-order g c =
     keeps_orders c.args.work.now.settings c.args.work.now.plan.now.rules c.args.work.now.terms.now c.args.store c.in-Ok.left.lines c.in-Ok.left.passes.items c.in-Ok.ensures.run
-    c.close-chronicle.result (ap (λ (z : Sizes). z.seats) c.requires.sizes) c.close-chronicle.ensures.own c.close-chronicle.ensures.order
+    c.close-chronicle.result (ap (λ (z : Sizes). z.seats) c.requires.begin.sizes) c.close-chronicle.ensures.own c.close-chronicle.ensures.order
 
 pub returns-in-Err-clause-rises : goal.returns-in-Err-clause-rises
 returns-in-Err-clause-rises g c = none_rises c.nothing.result.chronicle c.nothing.ensures.chronicle

@@ -7,7 +7,7 @@ use Rattle.shared_work.proofs.sharing.rewrite_logged.Goals as goal
 
 pub rewrite_all-lines-requires-clause-ready : goal.rewrite_all-lines-requires-clause-ready
 rewrite_all-lines-requires-clause-ready g c κs within =
-    all_ready c.args.work.now.settings c.args.work.now.plan.now c.args.store.now c.args.store.now.sizes.seats c.in_ok-desks.desks.items c.deref_mut.result.now c.deref_mut.ensures.value c.requires.sizes c.in_ok-desks.ensures.desks
+    all_ready c.args.work.now.settings c.args.work.now.plan.now c.args.store.now c.args.store.now.sizes.seats c.in_ok-desks.desks.items c.deref_mut.result.now c.deref_mut.ensures.value c.requires.begin.sizes c.in_ok-desks.ensures.desks
 
 pub returns-clause-run : goal.returns-clause-run
 returns-clause-run g c =
