@@ -1,7 +1,7 @@
 // The log of desks that wrote their entries.
-ghost use Rattle.std.specs.Prelude.{◌≡◌, ◌<◌, ◌≤◌, ◌^◌, ◌++◌, [], false, All, List, OnOk, IfSome, vec_len, vec_capacity, map};
+ghost use Rattle.std.specs.Prelude.{◌≡◌, ◌<◌, ◌≤◌, ◌^◌, ◌++◌, [], false, All, List, IfSome, vec_len, vec_capacity, map};
 ghost use Rattle.history_core.specs.declared.entry.Entry.{Entry};
-ghost use Rattle.log_text.specs.Lines.{caller_text, callers_from, end_text, lines_of};
+ghost use Rattle.log_text.specs.Lines.{callers_from, end_text, lines_of};
 ghost use Rattle.shared_desk.specs.Desk.{store_of};
 ghost use Rattle.shared_work.specs.NewDesks.{AreBack};
 ghost use Rattle.shared_work.specs.Texts.{AddsText, AddsCaller};

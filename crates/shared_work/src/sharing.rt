@@ -2,14 +2,11 @@
 ghost use Rattle.std.specs.Prelude.{◌≡◌, ◌<◌, ◌≤◌, [], None, true, IfOk, IfErr, IfSome, All, map};
 ghost use Rattle.std.specs.List.{AllByRecursion};
 ghost use Rattle.settings.specs.Words.{AreInRange};
-ghost use Rattle.busy_forbidden.specs.Dealt.{EachPlace};
 ghost use Rattle.history_core.specs.Chronicle.{chronicle, IsLegal};
 ghost use Rattle.node_rows.specs.Belonging.{IsOpen};
 ghost use Rattle.rewrite_workers.specs.Lined.{said, worker_of, line_of, trace_of};
 ghost use Rattle.rewrite_workers.specs.Works.{MayWork};
 ghost use Rattle.log_text.specs.Keys.{HaveKeys};
-ghost use Rattle.shared_desk.specs.Telling.{MayHaveDesk};
-ghost use Rattle.shared_work.specs.NewDesks.{sizes_for, IsNewPass};
 ghost use Rattle.shared_work.specs.Filling.{TellsFull};
 ghost use Rattle.shared_work.specs.Wearing.{TellsWorn};
 ghost use Rattle.shared_work.specs.Fronts.{NamesFronts, NamesOnlyBuilt, TellsEach};

@@ -1,9 +1,6 @@
 // From a term to its normal form, by the strategy that is asked, with its events or with a memory.
-ghost use Rattle.std.specs.Prelude.{◌≡◌, ◌+◌, ◌≤◌, [], length, IfOk, true, false};
-ghost use Rattle.term_model.specs.Tree.{IsGround};
+ghost use Rattle.std.specs.Prelude.{◌≡◌, [], IfOk, true, false};
 ghost use Rattle.rewrite_model.specs.Built.{need};
-ghost use Rattle.rule_match.specs.Planned.{IsPlain};
-ghost use Rattle.innermost.specs.Machines.{IsFor};
 ghost use Rattle.innermost.specs.Normalized.{Answers, FaultOnlyWhereRefused, SweepsAtMost, LoadsNeedAtMost, KeepsNumbers};
 ghost use Rattle.innermost.specs.Remembered.{AreRight};
 ghost use Rattle.terms_api.specs.Terms.{IsSound};
