@@ -1,11 +1,9 @@
 -- The words of the machine that runs, read and written at a place.
 use Rattle.std.proofs.Common.{◌≡◌, ℕ, zero, suc, ◌+◌, ◌<◌, Bool, cond, List, length, get_or, refl, sym, ap, ◌∙◌, subst, arith, eqb}
 use Rattle.std.specs.Prelude.{slice_set, replicate}
-use mathlib.Core.Path.{fun_ext}
-use Rattle.store_model.specs.Words.{same_place}
 use Rattle.store_model.specs.declared.view.Place.TheVariants.{Base, FreeCount, Claim, InUse, FreePlace, Bucket, RowWord, Birth, Next, RootCount, Root}
 use Rattle.store_core.specs.Running.{IsBegun}
-use Rattle.store_model.proofs.Basics.{choose, same_is, eqb_is, eqb_not}
+use Rattle.store_model.proofs.Basics.{choose, eqb_is, eqb_not}
 use Rattle.std.proofs.lemmas.List.{get_or_read}
 use Rattle.store_model.specs.Words.{write}
 use Rattle.store_model.specs.declared.view.Place.{Place}
@@ -28,10 +26,6 @@ module _ (z : Sizes) (words : List ℕ) (p : Place) (k : ℕ) (h : IsPlaceOf z p
 
   pub written : (n : ℕ) → shown z (slice_set words k n) ≡ write (shown z words) p n
   written n = ap (λ (j : ℕ). shown z (slice_set words j n)) h.word ∙ shown_written z words p n h.there (subst (λ (j : ℕ). j < length words) h.word inside)
-
--- what a place has, stored there, changes nothing
-pub write_same : (w : Place → ℕ) (p : Place) (n : ℕ) → n ≡ w p → w ≡ write w p n
-write_same w p n e = fun_ext (λ q. choose (λ (k : ℕ). w q ≡ k) (same_place q p) n (w q) (λ s. ap w (same_is q p s) ∙ sym e) (λ s. refl))
 
 -- words that are all 0
 pub shows_none : (z : Sizes) (n : ℕ) (p : Place) → ◌≡◌ {A = ℕ} (shown z (replicate n 0) p) 0

@@ -1,12 +1,8 @@
--- The machine that runs: its words at the start, and what one action of a creation changes.
-use Rattle.std.specs.Prelude.{◌≡◌, ℕ, ◌<◌, List}
-use Rattle.store_model.specs.Words.{write}
+-- The machine that runs: its words at the start.
+use Rattle.std.specs.Prelude.{◌≡◌, ℕ, ◌<◌}
 use Rattle.store_model.specs.declared.view.Place.{Place}
 use Rattle.store_model.specs.declared.view.Place.TheVariants.{Base, FreeCount, Claim, InUse, FreePlace, Bucket, RowWord, Birth, Next, RootCount, Root}
-use Rattle.store_model.specs.declared.view.View.{View}
-use Rattle.store_model.specs.Machine.{action}
 use Rattle.store_model.specs.declared.view.Sizes.{Sizes}
-use Rattle.store_model.specs.Shown.{shown}
 
 -- the words of a new store, but that only the first n free places are stored
 pub record IsBegun (z : Sizes) (n : ℕ) (w : Place → ℕ) : Type 0 where
@@ -21,8 +17,3 @@ pub record IsBegun (z : Sizes) (n : ℕ) (w : Place → ℕ) : Type 0 where
   pub word : (r k : ℕ) → w (RowWord r k) ≡ 0
   pub birth : (r : ℕ) → w (Birth r) ≡ 0
   pub next : (r : ℕ) → w (Next r) ≡ 0
-
--- the next action of a seat's creation: on the words of the table, and on its view
-pub record Acts (z : Sizes) (had has : List ℕ) (v w : View) : Type 0 where
-  pub view : w ≡ (action v v.call).moved (shown z had (action v v.call).place)
-  pub words : shown z has ≡ write (shown z had) (action v v.call).place ((action v v.call).written (shown z had (action v v.call).place))

@@ -2,7 +2,7 @@
 ghost use Rattle.std.specs.Prelude.{◌≡◌, IfOk, OnErr, MatchBool, slice_get};
 ghost use Rattle.std.specs.Option.{option_copied};
 ghost use Rattle.store_model.specs.NewStore.{MaySize};
-ghost use Rattle.store_core.specs.StoreValue.{IsNew, Stepped, Stayed, Replays};
+ghost use Rattle.store_core.specs.StoreValue.{state_of, IsNew, Stepped, Stayed, Replays};
 
 use crate::machine::copies::copy_step;
 use crate::machine::fresh::new_views;
@@ -12,13 +12,13 @@ use faults::Memory;
 use lock_core::LockState;
 use std::alloc::Global;
 use std::marker::Model;
-use store_model::{Sizes, StoreStep, View};
+use store_model::{Place, Sizes, StoreStep, View};
 
 /// A store as plain data: its lock, its words, and what each seat knows. What holds of a store
 /// after every list of steps holds of each value of this type.
 #[derive(Drop)]
 pub struct StoreState {
-    pub(crate) table: Table,
+    table: Table,
     lock: LockState,
     views: Vec<View>,
 }
@@ -62,6 +62,13 @@ impl StoreState {
         ensures { result.now ≡ self.now.lock }
     {
         &self.lock
+    }
+
+    /// The word at a place; 0 where the store hasn't got it.
+    pub fn word(&self, place: Place) -> u64
+        ensures { result ≡ (state_of self.now).words place }
+    {
+        self.table.load(&place)
     }
 
     /// Makes one step of a seat. False exactly where the step is out of place, as that of a seat

@@ -1,19 +1,14 @@
 //! The next atomic action of a creation.
-ghost use Rattle.std.specs.Prelude.{◌≡◌, suc, ◌+◌, ◌==◌, if◌then◌else◌, IfOk, OnOk, OnErr};
+ghost use Rattle.std.specs.Prelude.{◌≡◌, suc, ◌==◌, if◌then◌else◌, IfOk};
 ghost use Rattle.store_model.specs.Machine as machine;
-ghost use Rattle.store_core.specs.Running.{Acts};
-ghost use Rattle.store_model.specs.Shown.{shown};
-ghost use Rattle.store_model.specs.Words.{write};
 
 use crate::machine::contents::{bucket_of, word_at, words_of};
-use crate::machine::copies::copy;
 use crate::machine::gaining::{after_counted, after_drawn, after_found, after_published};
 use crate::machine::moves::{narrow, sum, with_call};
-use crate::machine::stages::{after_compared, after_filled, after_passed, begun};
-use crate::machine::table::Table;
+use crate::machine::stages::{after_compared, after_filled, after_passed};
 use faults::Memory;
 use std::mem;
-use store_model::{Call, Content, Place, View};
+use store_model::{Call, Place, View};
 
 /// The word that the action is on.
 pub(crate) fn place_of(view: &View) -> Result<Place, Memory>
@@ -91,50 +86,4 @@ pub(crate) fn view_after(mut view: View, word: u64) -> Result<View, Memory>
         )),
         Call::Publishing(c, from, index, row) => after_published(view, c, from, index, row, word),
     }
-}
-
-/// One atomic action of a creation. Where there is no memory, nothing has changed.
-pub(crate) fn go(table: &mut Table, view: &View) -> Result<View, Memory>
-    ensures sizes { table.new.sizes ≡ table.old.sizes }
-    ensures action { IfOk result
-        (λ v. Acts table.old.sizes table.old.words.items table.new.words.items view.now v) }
-    ensures memory { OnErr result (table.new ≡ table.old) }
-{
-    let place = place_of(view)?;
-    let found = table.load(&place);
-    let word = written(view, found)?;
-    let after = view_after(copy(view)?, found)?;
-    put(table, &place, found, word)?;
-    Ok(after)
-}
-
-// Stores a word at a place that has another.
-
-fn put(table: &mut Table, place: &Place, found: u64, word: u64) -> Result<(), Memory>
-    requires { found ≡ shown table.old.sizes table.old.words.items place.now }
-    ensures sizes { table.new.sizes ≡ table.old.sizes }
-    ensures written { OnOk result
-        (shown table.new.sizes table.new.words.items
-        ≡ write (shown table.old.sizes table.old.words.items) place.now word) }
-    ensures memory { OnErr result (table.new ≡ table.old) }
-{
-    if word == found {
-        return Ok(());
-    }
-    if !table.has(place) {
-        return Err(Memory);
-    }
-    table.store(place, word);
-    Ok(())
-}
-
-/// The first action of a creation.
-pub(crate) fn begin(table: &Table, view: &View, content: Content) -> Result<View, Memory>
-    ensures { IfOk result
-        (λ v. v ≡ (machine.begins view.now content).moved
-        (shown table.now.sizes table.now.words.items (machine.begins view.now content).place)) }
-{
-    let bucket = bucket_of(&content, view.in_use)?;
-    let head = table.load(&Place::Bucket(bucket));
-    begun(copy(view)?, content, head)
 }

@@ -1,4 +1,0 @@
-use Rattle.store_core.proofs.machine.schedule_tests.+explored.Given as goal
-
-abbrev pub decreases-explored : goal.decreases-explored
-decreases-explored l = l.more

@@ -1,4 +1,0 @@
-use Rattle.store_core.proofs.machine.tests.+explored.Given as goal
-
-abbrev pub decreases-explored : goal.decreases-explored
-decreases-explored l = l.actions
