@@ -84,7 +84,7 @@ fn store_of(place: Place, value: u64) -> StoreStep {
 }
 
 impl Driven {
-    pub(crate) fn new(alloc: Global, sizes: Sizes) -> Result<Driven, Memory>
+    fn new(alloc: Global, sizes: Sizes) -> Result<Driven, Memory>
         requires { MaySize sizes }
     {
         Ok(Driven {
@@ -159,8 +159,8 @@ impl Driven {
         self.step(seat, StoreStep::LoadInUse)
     }
 
-    /// A creation's first step, in bucket 0.
-    pub(crate) fn begin(&mut self, seat: u32, content: Content) -> Result<(), Memory> {
+    // A creation's first step, in bucket 0.
+    fn begin(&mut self, seat: u32, content: Content) -> Result<(), Memory> {
         self.step(seat, StoreStep::LoadBucket { bucket: 0, content })
     }
 
@@ -181,6 +181,7 @@ impl Driven {
         }
     }
 
+    // A creation in bucket 0, to its end.
     fn create(&mut self, seat: u32, content: Content) -> Result<(), Memory> {
         self.begin(seat, content)?;
         self.go(seat, 30)

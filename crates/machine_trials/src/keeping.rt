@@ -148,13 +148,8 @@ fn it_creates_over_such_a_row_without_reading_it_again(rt: HostRuntime) -> Resul
 fn named(alloc: Global) -> Result<(u32, u32), Memory> {
     let mut driven = Driven::after(alloc, SIZES, &KEPT)?;
     let before = driven.refused;
-    name_gone(&mut driven)?;
+    driven.acts(&[(0, Act::MakeOver(5, 2))])?;
     Ok((before, driven.refused))
-}
-
-fn name_gone(driven: &mut Driven) -> Result<(), Memory> {
-    let content = over(driven.alloc, 5, 2)?;
-    driven.begin(0, content)
 }
 
 #[test]

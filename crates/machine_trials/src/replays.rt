@@ -62,8 +62,8 @@ fn race(alloc: Global, other: u32) -> Result<Driven, Memory> {
     Driven::after(alloc, SMALL, &acts)
 }
 
-// How many steps were out of place; whether seat 0 has made constant 0 under 1, and seat 1 has noted
-// this; and whether the steps are in place in a list.
+// How many steps were out of place; whether seat 0 has made constant 0 under 1, and seat 1 has
+// noted this; and whether the steps are in place in a list.
 fn outcome(driven: &Driven, second: Noted) -> Result<(u32, bool, bool, bool), Memory> {
     let alloc = driven.alloc;
     let winner = has_left(&driven.store, alloc, 0, Noted::Makes(1, 0, 0))?;
@@ -128,8 +128,8 @@ static LOCKINGS: [Locking; 3] = [
     ),
 ];
 
-// Whether the steps of a store are in place one by one, and the phase of seat 0 then; and that phase
-// where they are in place in a list.
+// Whether the steps of a store are in place one by one, and the phase of seat 0 then; and that
+// phase where they are in place in a list.
 fn phases(driven: &Driven) -> Result<(bool, Phase, Option<Phase>), Memory> {
     let phase = match replay(driven.alloc, SMALL, driven.steps.as_slice())? {
         Some(store) => Some(phase_of(&store, 0)),
