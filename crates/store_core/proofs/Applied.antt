@@ -34,14 +34,14 @@ use Rattle.store_core.proofs.Planning.{views_first}
 use Rattle.store_model.proofs.Shown.{total_is}
 
 -- the facts hold of the fields after a change was made
-pub held_after : (z y : Sizes) (l m : Lock) (had has : List ℕ) (vs us : List View) (i : ℕ) (x : StoreStep) (c : Change) → y ≡ z → StoreHolds z (state_by z l had vs) → IsInPlace z (state_by z l had vs) i x → steps.after z (state_by z l had vs) i x ≡ changed (state_by z l had vs) i c → state_by z m has us ≡ changed (state_by z l had vs) i c → StoreHolds y (state_by y m has us)
-held_after z y l m had has vs us i x c same k ok after made =
+pub held_after : (z y : Sizes) (l m : Lock) (had has : List ℕ) (vs us : List View) (i : ℕ) (x : StoreStep) (c : Change) (v : View) → y ≡ z → StoreHolds z (state_by z l had vs) → IsInPlace z (state_by z l had vs) i x → steps.after z (state_by z l had vs) i x ≡ changed (state_by z l had vs) i c v → state_by z m has us ≡ changed (state_by z l had vs) i c v → StoreHolds y (state_by y m has us)
+held_after z y l m had has vs us i x c v same k ok after made =
     let at_z : StoreHolds z (state_by z m has us) = subst (StoreHolds z) (after ∙ sym made) (holds_after z (state_by z l had vs) i x k ok) in
     subst (λ (t : Sizes). StoreHolds t (state_by t m has us)) (sym same) at_z
 
 -- the state after it is that of the step
-pub stepped_to : (z y : Sizes) (l m : Lock) (had has : List ℕ) (vs us : List View) (i : ℕ) (x : StoreStep) (c : Change) → y ≡ z → steps.after z (state_by z l had vs) i x ≡ changed (state_by z l had vs) i c → state_by z m has us ≡ changed (state_by z l had vs) i c → state_by y m has us ≡ steps.after z (state_by z l had vs) i x
-stepped_to z y l m had has vs us i x c same after made = ap (λ (t : Sizes). state_by t m has us) same ∙ (made ∙ sym after)
+pub stepped_to : (z y : Sizes) (l m : Lock) (had has : List ℕ) (vs us : List View) (i : ℕ) (x : StoreStep) (c : Change) (v : View) → y ≡ z → steps.after z (state_by z l had vs) i x ≡ changed (state_by z l had vs) i c v → state_by z m has us ≡ changed (state_by z l had vs) i c v → state_by y m has us ≡ steps.after z (state_by z l had vs) i x
+stepped_to z y l m had has vs us i x c v same after made = ap (λ (t : Sizes). state_by t m has us) same ∙ (made ∙ sym after)
 
 -- the words of a new store
 module _ (z : Sizes) (words : List ℕ) (h : IsBegun z z.rows (shown z words)) where
@@ -104,21 +104,21 @@ pub stayed_absent : (n : Inside) (i : ℕ) (x : StoreStep) → n.table.sizes.sea
 stayed_absent n i x l = record { place = λ k. let a = k.step.present in absurd (omega arith); same = refl }
 
 -- nor is one made that has no plan
-pub stayed_none : (n : Inside) (i : ℕ) (x : StoreStep) → IsPlanOf n.table.sizes (state_of (value_of n)) i x None → Stayed i x (value_of n) (value_of n)
-stayed_none n i x none = record { place = none; same = refl }
+pub stayed_none : (n : Inside) (i : ℕ) (x : StoreStep) (v : View) → IsPlanOf n.table.sizes (state_of (value_of n)) i x v None → Stayed i x (value_of n) (value_of n)
+stayed_none n i x _ none = record { place = none; same = refl }
 
 -- a plan that was made
-pub stepped_some : (n m : Inside) (i : ℕ) (x : StoreStep) (c : Change) → m.table.sizes ≡ n.table.sizes → IsPlanOf n.table.sizes (state_of (value_of n)) i x (Some c) → state_by n.table.sizes m.lock m.table.words.items m.views.items ≡ changed (state_of (value_of n)) i c → Stepped i x (value_of n) (value_of m)
-stepped_some n m i x c same plan made = record {
+pub stepped_some : (n m : Inside) (i : ℕ) (x : StoreStep) (c : Change) (v : View) → m.table.sizes ≡ n.table.sizes → IsPlanOf n.table.sizes (state_of (value_of n)) i x v (Some c) → state_by n.table.sizes m.lock m.table.words.items m.views.items ≡ changed (state_of (value_of n)) i c v → Stepped i x (value_of n) (value_of m)
+stepped_some n m i x c v same plan made = record {
   place = plan.0;
   sizes = same;
-  state = stepped_to n.table.sizes m.table.sizes n.lock m.lock n.table.words.items m.table.words.items n.views.items m.views.items i x c same plan.1 made;
+  state = stepped_to n.table.sizes m.table.sizes n.lock m.lock n.table.words.items m.table.words.items n.views.items m.views.items i x c v same plan.1 made;
 }
 
-pub held_some : (n m : Inside) (i : ℕ) (x : StoreStep) (c : Change) → IsHeld n → m.table.sizes ≡ n.table.sizes → length m.views.items ≡ length n.views.items → IsPlanOf n.table.sizes (state_of (value_of n)) i x (Some c) → state_by n.table.sizes m.lock m.table.words.items m.views.items ≡ changed (state_of (value_of n)) i c → IsHeld m
-held_some n m i x c held same long plan made = record {
+pub held_some : (n m : Inside) (i : ℕ) (x : StoreStep) (c : Change) (v : View) → IsHeld n → m.table.sizes ≡ n.table.sizes → length m.views.items ≡ length n.views.items → IsPlanOf n.table.sizes (state_of (value_of n)) i x v (Some c) → state_by n.table.sizes m.lock m.table.words.items m.views.items ≡ changed (state_of (value_of n)) i c v → IsHeld m
+held_some n m i x c v held same long plan made = record {
   views = long ∙ (held.views ∙ ap (λ (z : Sizes). z.seats) (sym same));
-  holds = held_after n.table.sizes m.table.sizes n.lock m.lock n.table.words.items m.table.words.items n.views.items m.views.items i x c same held.holds plan.0 plan.1 made;
+  holds = held_after n.table.sizes m.table.sizes n.lock m.lock n.table.words.items m.table.words.items n.views.items m.views.items i x c v same held.holds plan.0 plan.1 made;
 }
 
 -- a new store is held

@@ -11,3 +11,4 @@ pub mod Reached
 pub mod HasContents
 pub mod Chained
 pub mod Outcomes
+pub mod RowLists

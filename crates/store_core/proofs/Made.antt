@@ -15,31 +15,31 @@ pub two : (f : View → ℕ → View) (v u : View) (m n : ℕ) → v ≡ u → m
 two f v u m n e k = ap (λ (x : View). f x m) e ∙ ap (f u) k
 
 -- nothing but the own view
-pub made_view : (g : Sight) (x : Step) (c : Change) (v : View) → c ≡ record { lock = None; stored = None; view = v } → (after (sizes_seen g) (state_seen g) g.seat x).lock ≡ g.lock.now → (after (sizes_seen g) (state_seen g) g.seat x).words ≡ (state_seen g).words → v ≡ view_after (sizes_seen g) (state_seen g).words g.seat g.view.now x → Makes g x c
+pub made_view : (g : Sight) (x : Step) (c : Change) (v : View) → c ≡ record { lock = None; stored = None } → (after (sizes_seen g) (state_seen g) g.seat x).lock ≡ g.lock.now → (after (sizes_seen g) (state_seen g) g.seat x).words ≡ (state_seen g).words → v ≡ view_after (sizes_seen g) (state_seen g).words g.seat g.view.now x → Makes g x c v
 made_view g x c v e a b d = record {
   lock = ap (λ (k : Change). lock_with g.lock.now k.lock) e ∙ sym a;
   words = ap (λ (k : Change). words_with (state_seen g).words k.stored) e ∙ sym b;
-  view = ap (λ (k : Change). k.view) e ∙ d;
+  view = d;
 }
 
 -- a word too
-pub made_word : (g : Sight) (x : Step) (c : Change) (p : Place) (n : ℕ) (v : View) → c ≡ record { lock = None; stored = Some (p, n); view = v } → (after (sizes_seen g) (state_seen g) g.seat x).lock ≡ g.lock.now → (after (sizes_seen g) (state_seen g) g.seat x).words ≡ write (state_seen g).words p n → v ≡ view_after (sizes_seen g) (state_seen g).words g.seat g.view.now x → Makes g x c
+pub made_word : (g : Sight) (x : Step) (c : Change) (p : Place) (n : ℕ) (v : View) → c ≡ record { lock = None; stored = Some (p, n) } → (after (sizes_seen g) (state_seen g) g.seat x).lock ≡ g.lock.now → (after (sizes_seen g) (state_seen g) g.seat x).words ≡ write (state_seen g).words p n → v ≡ view_after (sizes_seen g) (state_seen g).words g.seat g.view.now x → Makes g x c v
 made_word g x c p n v e a b d = record {
   lock = ap (λ (k : Change). lock_with g.lock.now k.lock) e ∙ sym a;
   words = ap (λ (k : Change). words_with (state_seen g).words k.stored) e ∙ sym b;
-  view = ap (λ (k : Change). k.view) e ∙ d;
+  view = d;
 }
 
 -- the lock
-pub made_lock : (g : Sight) (x : Step) (c : Change) (m : Lock) (v : View) → c ≡ record { lock = Some m; stored = None; view = v } → m ≡ (after (sizes_seen g) (state_seen g) g.seat x).lock → (after (sizes_seen g) (state_seen g) g.seat x).words ≡ (state_seen g).words → v ≡ view_after (sizes_seen g) (state_seen g).words g.seat g.view.now x → Makes g x c
+pub made_lock : (g : Sight) (x : Step) (c : Change) (m : Lock) (v : View) → c ≡ record { lock = Some m; stored = None } → m ≡ (after (sizes_seen g) (state_seen g) g.seat x).lock → (after (sizes_seen g) (state_seen g) g.seat x).words ≡ (state_seen g).words → v ≡ view_after (sizes_seen g) (state_seen g).words g.seat g.view.now x → Makes g x c v
 made_lock g x c m v e a b d = record {
   lock = ap (λ (k : Change). lock_with g.lock.now k.lock) e ∙ a;
   words = ap (λ (k : Change). words_with (state_seen g).words k.stored) e ∙ sym b;
-  view = ap (λ (k : Change). k.view) e ∙ d;
+  view = d;
 }
 
 -- the next action of a creation: where its word stays as it was, and where it doesn't
-pub went_view : (g : Sight) (c : Change) (p : Place) (found word : ℕ) (v : View) → p ≡ (action g.view.now g.view.now.call).place → found ≡ (state_seen g).words p → word ≡ (action g.view.now g.view.now.call).written found → v ≡ (action g.view.now g.view.now.call).moved found → word ≡ found → c ≡ record { lock = None; stored = None; view = v } → Makes g Go c
+pub went_view : (g : Sight) (c : Change) (p : Place) (found word : ℕ) (v : View) → p ≡ (action g.view.now g.view.now.call).place → found ≡ (state_seen g).words p → word ≡ (action g.view.now g.view.now.call).written found → v ≡ (action g.view.now g.view.now.call).moved found → word ≡ found → c ≡ record { lock = None; stored = None } → Makes g Go c v
 went_view g c p found word v place at written moved same e =
     let here : found ≡ (state_seen g).words (action g.view.now g.view.now.call).place = at ∙ ap (state_seen g).words place in
     let old : (action g.view.now g.view.now.call).written ((state_seen g).words (action g.view.now g.view.now.call).place) ≡ (state_seen g).words (action g.view.now g.view.now.call).place =
@@ -48,7 +48,7 @@ went_view g c p found word v place at written moved same e =
     (ap (write (state_seen g).words (action g.view.now g.view.now.call).place) old ∙ write_same (state_seen g).words (action g.view.now g.view.now.call).place)
     (moved ∙ ap (action g.view.now g.view.now.call).moved here)
 
-pub went_word : (g : Sight) (c : Change) (p : Place) (found word : ℕ) (v : View) → p ≡ (action g.view.now g.view.now.call).place → found ≡ (state_seen g).words p → word ≡ (action g.view.now g.view.now.call).written found → v ≡ (action g.view.now g.view.now.call).moved found → c ≡ record { lock = None; stored = Some (p, word); view = v } → Makes g Go c
+pub went_word : (g : Sight) (c : Change) (p : Place) (found word : ℕ) (v : View) → p ≡ (action g.view.now g.view.now.call).place → found ≡ (state_seen g).words p → word ≡ (action g.view.now g.view.now.call).written found → v ≡ (action g.view.now g.view.now.call).moved found → c ≡ record { lock = None; stored = Some (p, word) } → Makes g Go c v
 went_word g c p found word v place at written moved e =
     let here : found ≡ (state_seen g).words (action g.view.now g.view.now.call).place = at ∙ ap (state_seen g).words place in
     let new : word ≡ (action g.view.now g.view.now.call).written ((state_seen g).words (action g.view.now g.view.now.call).place) = written ∙ ap (action g.view.now g.view.now.call).written here in

@@ -12,11 +12,11 @@ use Rattle.store_core.specs.declared.machine.change.Sight.{Sight}
 use Rattle.store_core.specs.Planning.{PlansEnd, PlansClaim, sizes_seen, state_seen}
 
 -- the end of a collection by what it has loaded is one of the whole state
-pub claims : (g : Sight) (ls ss : List (Place × ℕ)) (n : ℕ) (o : Option Change) → g.view.now.call ≡ Storing ls ss → PlansEnd g ls n (Ok o) → PlansClaim g n (Ok o)
-claims g ls ss n None e h = λ s k seen. let is : (s.view g.seat).call ≡ Storing ls ss = ap (λ (v : View). v.call) seen.view ∙ e in
+pub claims : (g : Sight) (ls ss : List (Place × ℕ)) (n : ℕ) (v : View) (o : Option Change) → g.view.now.call ≡ Storing ls ss → PlansEnd g ls n v (Ok o) → PlansClaim g n v (Ok o)
+claims g ls ss n v None e h = λ s k seen. let is : (s.view g.seat).call ≡ Storing ls ss = ap (λ (u : View). u.call) seen.view ∙ e in
     let ending : IsEnding (sizes_seen g) (state_seen g).words ls s g.seat = record { holds = k; words = seen.words; storing = ap is_storing is; loaded = ap loads is } in
     λ p. h s ending (p.0.1, p.1)
-claims g ls ss n (Some c) e h = λ s k seen. let is : (s.view g.seat).call ≡ Storing ls ss = ap (λ (v : View). v.call) seen.view ∙ e in
+claims g ls ss n v (Some c) e h = λ s k seen. let is : (s.view g.seat).call ≡ Storing ls ss = ap (λ (u : View). u.call) seen.view ∙ e in
     let ending : IsEnding (sizes_seen g) (state_seen g).words ls s g.seat = record { holds = k; words = seen.words; storing = ap is_storing is; loaded = ap loads is } in
     let q = h s ending in ((ap is_storing is, q.0), q.1, q.2)
 
@@ -26,6 +26,6 @@ ok_map (Ok a) P Q h f = f a h
 ok_map (Err e) P Q h f = tt
 
 -- the plan of the end is one of the claim's store
-pub claims_all : (g : Sight) (ls ss : List (Place × ℕ)) (n : ℕ) (r : Result (Option Change) Memory) → g.view.now.call ≡ Storing ls ss → PlansEnd g ls n r → PlansClaim g n r
-claims_all g ls ss n (Ok o) e h = claims g ls ss n o e h
-claims_all g ls ss n (Err x) e h = tt
+pub claims_all : (g : Sight) (ls ss : List (Place × ℕ)) (n : ℕ) (v : View) (r : Result (Option Change) Memory) → g.view.now.call ≡ Storing ls ss → PlansEnd g ls n v r → PlansClaim g n v r
+claims_all g ls ss n v (Ok o) e h = claims g ls ss n v o e h
+claims_all g ls ss n v (Err x) e h = tt

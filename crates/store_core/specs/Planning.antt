@@ -57,29 +57,29 @@ abbrev pub words_with : (Place → ℕ) → Option (Place × ℕ) → Place → 
 words_with w None = w
 words_with w (Some q) = write w q.0 q.1
 
--- the state with a change by seat i
-abbrev pub changed : State → ℕ → Change → State
-changed s i c = record { lock = lock_with s.lock c.lock; words = words_with s.words c.stored; view = put s.view i c.view }
+-- the state with a change by seat i, which then knows this
+abbrev pub changed : State → ℕ → Change → View → State
+changed s i c v = record { lock = lock_with s.lock c.lock; words = words_with s.words c.stored; view = put s.view i v }
 
 -- what the step does to the lock, the words and the own view
-pub record Makes (s : Sight) (x : Step) (c : Change) : Type 0 where
+pub record Makes (s : Sight) (x : Step) (c : Change) (v : View) : Type 0 where
   pub lock : lock_with s.lock.now c.lock ≡ (after (sizes_seen s) (state_seen s) s.seat x).lock
   pub words : words_with (state_seen s).words c.stored ≡ (after (sizes_seen s) (state_seen s) s.seat x).words
-  pub view : c.view ≡ view_after (sizes_seen s) (state_seen s).words s.seat s.view.now x
+  pub view : v ≡ view_after (sizes_seen s) (state_seen s).words s.seat s.view.now x
 
 -- the step is permitted by what the seat sees
 abbrev pub Allows : Sight → Step → Type 0
 Allows s x = Permits (sizes_seen s) (state_seen s) s.seat x
 
--- a plan of a step: none exactly where it isn't permitted or F doesn't hold, and else what it does
-abbrev pub PlansIf : Sight → Step → Type 0 → Result (Option Change) Memory → Type 0
-PlansIf s x F r = IfOk r (λ o. MatchOption o (Allows s x × F → ⊥) (λ c. Allows s x × F × Makes s x c))
+-- a plan of a step: none exactly where it isn't permitted or F doesn't hold, and else what it does, with the own view then
+abbrev pub PlansIf : Sight → Step → Type 0 → View → Result (Option Change) Memory → Type 0
+PlansIf s x F v r = IfOk r (λ o. MatchOption o (Allows s x × F → ⊥) (λ c. Allows s x × F × Makes s x c v))
 
-abbrev pub Plans : Sight → Step → Result (Option Change) Memory → Type 0
-Plans s x r = PlansIf s x (Unit {0}) r
+abbrev pub Plans : Sight → Step → View → Result (Option Change) Memory → Type 0
+Plans s x v r = PlansIf s x (Unit {0}) v r
 
-abbrev pub PlansStep : Sight → StoreStep → Result (Option Change) Memory → Type 0
-PlansStep s x r = PlansIf s (meant (state_seen s) s.seat x) (Fits (sizes_seen s) s.view.now x) r
+abbrev pub PlansStep : Sight → StoreStep → View → Result (Option Change) Memory → Type 0
+PlansStep s x v r = PlansIf s (meant (state_seen s) s.seat x) (Fits (sizes_seen s) s.view.now x) v r
 
 -- the state with this lock, the words of this table and these views
 abbrev pub state_by : Sizes → Lock → List ℕ → List View → State
@@ -93,11 +93,11 @@ abbrev pub HasPlace : Sizes → Option Change → Type 0
 HasPlace z o = Where o (λ c. IsInside z c.stored)
 
 -- what a whole plan answers
-abbrev pub IsPlanOf : Sizes → State → ℕ → StoreStep → Option Change → Type 0
-IsPlanOf z s i x o = MatchOption o (steps.IsInPlace z s i x → ⊥) (λ c. steps.IsInPlace z s i x × (steps.after z s i x ≡ changed s i c))
+abbrev pub IsPlanOf : Sizes → State → ℕ → StoreStep → View → Option Change → Type 0
+IsPlanOf z s i x v o = MatchOption o (steps.IsInPlace z s i x → ⊥) (λ c. steps.IsInPlace z s i x × (steps.after z s i x ≡ changed s i c v))
 
-abbrev pub Planned : Sizes → State → ℕ → StoreStep → Result (Option Change) Memory → Type 0
-Planned z s i x r = IfOk r (λ o. IsPlanOf z s i x o × HasPlace z o)
+abbrev pub Planned : Sizes → State → ℕ → StoreStep → View → Result (Option Change) Memory → Type 0
+Planned z s i x v r = IfOk r (λ o. IsPlanOf z s i x v o × HasPlace z o)
 
 -- s is what the seat sees of the state
 pub record IsSeen (g : Sight) (s : State) : Type 0 where
@@ -106,15 +106,15 @@ pub record IsSeen (g : Sight) (s : State) : Type 0 where
   pub view : s.view g.seat ≡ g.view.now
 
 -- The end of a collection that has loaded ls, of a state of which the facts hold
-abbrev pub PlansEnd : Sight → List (Place × ℕ) → ℕ → Result (Option Change) Memory → Type 0
-PlansEnd g ls n r = IfOk r (λ o. (s : State) → IsEnding (sizes_seen g) (state_seen g).words ls s g.seat →
-    MatchOption o (MayEnd (sizes_seen g) s g.seat × (n ≡ 0) → ⊥) (λ c. MayEnd (sizes_seen g) s g.seat × (n ≡ 0) × Makes g StoreClaim c))
+abbrev pub PlansEnd : Sight → List (Place × ℕ) → ℕ → View → Result (Option Change) Memory → Type 0
+PlansEnd g ls n v r = IfOk r (λ o. (s : State) → IsEnding (sizes_seen g) (state_seen g).words ls s g.seat →
+    MatchOption o (MayEnd (sizes_seen g) s g.seat × (n ≡ 0) → ⊥) (λ c. MayEnd (sizes_seen g) s g.seat × (n ≡ 0) × Makes g StoreClaim c v))
 
-abbrev pub PlansClaim : Sight → ℕ → Result (Option Change) Memory → Type 0
-PlansClaim g n r = IfOk r (λ o. (s : State) → StoreHolds (sizes_seen g) s → IsSeen g s →
-    MatchOption o (Permits (sizes_seen g) s g.seat StoreClaim × (n ≡ 0) → ⊥) (λ c. Permits (sizes_seen g) s g.seat StoreClaim × (n ≡ 0) × Makes g StoreClaim c))
+abbrev pub PlansClaim : Sight → ℕ → View → Result (Option Change) Memory → Type 0
+PlansClaim g n v r = IfOk r (λ o. (s : State) → StoreHolds (sizes_seen g) s → IsSeen g s →
+    MatchOption o (Permits (sizes_seen g) s g.seat StoreClaim × (n ≡ 0) → ⊥) (λ c. Permits (sizes_seen g) s g.seat StoreClaim × (n ≡ 0) × Makes g StoreClaim c v))
 
 -- a plan of any step
-abbrev pub Serves : Sight → StoreStep → Result (Option Change) Memory → Type 0
-Serves g (step.StoreClaim n) r = PlansClaim g n r
-Serves g x r = PlansStep g x r
+abbrev pub Serves : Sight → StoreStep → View → Result (Option Change) Memory → Type 0
+Serves g (step.StoreClaim n) v r = PlansClaim g n v r
+Serves g x v r = PlansStep g x v r

@@ -4,7 +4,7 @@ ghost use Rattle.std.specs.Option.{option_copied};
 ghost use Rattle.store_model.specs.NewStore.{MaySize};
 ghost use Rattle.store_core.specs.StoreValue.{state_of, IsNew, Stepped, Stayed, Replays};
 
-use crate::machine::copies::copy_step;
+use crate::machine::copies::{copy, copy_step};
 use crate::machine::fresh::new_views;
 use crate::machine::planning::{commit, planned};
 use crate::machine::table::Table;
@@ -82,7 +82,8 @@ impl StoreState {
         if seat >= self.table.sizes.seats {
             return Ok(false);
         }
-        match planned(&self.table, &self.lock, &self.views, seat, step)? {
+        let mut view = copy(&self.views[seat as usize])?;
+        match planned(&self.table, &self.lock, &self.views, &mut view, seat, step)? {
             None => Ok(false),
             Some(change) => {
                 commit(
@@ -91,6 +92,7 @@ impl StoreState {
                     &mut self.views,
                     seat,
                     change,
+                    view,
                 );
                 Ok(true)
             }

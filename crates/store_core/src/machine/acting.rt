@@ -8,8 +8,7 @@ ghost use Rattle.store_core.specs.Planning.{PlansIf, sizes_seen};
 
 use crate::machine::change::{Change, Sight};
 use crate::machine::contents::{bucket_of, word_at, words_of};
-use crate::machine::copies::copy;
-use crate::machine::creation::{place_of, view_after, written};
+use crate::machine::creation::{move_on, place_of, written};
 use crate::machine::moves::sum;
 use faults::Memory;
 use store_model::{Call, Place, Sizes, View};
@@ -109,9 +108,14 @@ pub(crate) fn row_place(sizes: &Sizes, row: u32, word: u32) -> Place
 }
 
 /// The next action of a creation, where it is this act.
-pub(crate) fn plan_act(sight: &Sight, wanted: &NextAct) -> Result<Option<Change>, Memory>
+pub(crate) fn plan_act(
+    sight: &Sight,
+    view: &mut View,
+    wanted: &NextAct,
+) -> Result<Option<Change>, Memory>
+    requires { view.old ≡ sight.now.view.now }
     ensures { PlansIf sight.now machine.Go
-        (act sight.now.view.now sight.now.view.now.call ≡ act_of wanted.now) result }
+        (act sight.now.view.now sight.now.view.now.call ≡ act_of wanted.now) view.new result }
 {
     let next = next_act(sight.view)?;
     if !is_creation(sight.view) || !same_act(&next, wanted) {
@@ -120,11 +124,11 @@ pub(crate) fn plan_act(sight: &Sight, wanted: &NextAct) -> Result<Option<Change>
     let place = place_of(sight.view)?;
     let found = sight.table.load(&place);
     let word = written(sight.view, found)?;
-    let view = view_after(copy(sight.view)?, found)?;
+    move_on(view, found)?;
     if word == found {
-        Ok(Some(Change::of_view(view)))
+        Ok(Some(Change::of_nothing()))
     } else {
-        Ok(Some(Change::of_word(place, word, view)))
+        Ok(Some(Change::of_word(place, word)))
     }
 }
 

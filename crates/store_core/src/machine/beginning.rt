@@ -2,42 +2,53 @@
 ghost use Rattle.std.specs.Prelude.{◌≡◌, ◌⊎◌, ◌↔◌, ℕ, ◌<◌, ◌≤◌, false, length, get_or, IfOk, IsTrue};
 ghost use Rattle.std.specs.List.{list_all};
 ghost use Rattle.term_model.specs.declared.Head.TheVariants.{Cons};
-ghost use Rattle.store_model.specs.Calls.{IsOver};
-ghost use Rattle.store_model.specs.Machine.{IsListRow, SecondIsList, MayBegin, widest};
-ghost use Rattle.store_model.specs.Steps.{MayCreate};
+ghost use Rattle.store_model.specs.Calls.{IsOver, bucket};
+ghost use Rattle.store_model.specs.Machine.{Begin, IsListRow, SecondIsList, MayBegin, widest};
+ghost use Rattle.store_model.specs.Steps.{MayCreate, Permits};
 ghost use Rattle.store_model.specs.Shown.{shown};
-ghost use Rattle.store_core.specs.Planning.{PlansStep, state_seen};
+ghost use Rattle.store_core.specs.Planning.{PlansStep, sizes_seen, state_seen};
 ghost use Rattle.store_model.specs.declared.step.StoreStep.TheVariants.{LoadBucket};
 
 use crate::machine::change::{Change, Sight};
 use crate::machine::contents::bucket_of;
-use crate::machine::copies::copy;
 use crate::machine::locking::{is_at_rest, phase_of};
 use crate::machine::naming::{is_named, named_rows};
 use crate::machine::rows::rows_of;
-use crate::machine::stages::begun;
+use crate::machine::stages::begin_walk;
 use crate::machine::table::Table;
 use faults::Memory;
 use lock_core::Phase;
-use store_model::{Content, Place, Sizes};
+use store_model::{Content, Place, Sizes, View};
 use term_model::Head;
 
 /// The load that begins a creation.
 pub(crate) fn plan_begin(
     sight: &Sight,
+    view: &mut View,
     bucket: u32,
     content: Content,
 ) -> Result<Option<Change>, Memory>
-    ensures { PlansStep sight.now (LoadBucket bucket content) result }
+    requires { view.old ≡ sight.now.view.now }
+    ensures { PlansStep sight.now (LoadBucket bucket content) view.new result }
 {
-    if !is_at_rest(sight.view) || !may_create(sight) || !may_begin(sight, &content)? {
+    if !may_load_bucket(sight, bucket, &content)? {
         return Ok(None);
     }
-    if bucket != bucket_of(&content, sight.view.in_use)? {
-        return Ok(None);
+    begin_walk(view, content, sight.table.load(&Place::Bucket(bucket)))?;
+    Ok(Some(Change::of_nothing()))
+}
+
+// Whether a creation of this content may begin, at the bucket of this number.
+fn may_load_bucket(sight: &Sight, number: u32, content: &Content) -> Result<bool, Memory>
+    ensures { IfOk result
+        (λ b. IsTrue b
+        ↔ Permits (sizes_seen sight.now) (state_seen sight.now) sight.now.seat (Begin content.now)
+        × (number ≡ bucket content.now sight.now.view.now.in_use)) }
+{
+    if !is_at_rest(sight.view) || !may_create(sight) || !may_begin(sight, content)? {
+        return Ok(false);
     }
-    let head = sight.table.load(&Place::Bucket(bucket));
-    Ok(Some(Change::of_view(begun(copy(sight.view)?, content, head)?)))
+    Ok(number == bucket_of(content, sight.view.in_use)?)
 }
 
 // In shared access, or in an exclusive one after a collection of it.

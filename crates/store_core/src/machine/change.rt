@@ -14,45 +14,41 @@ pub(crate) struct Sight<'a> {
     pub(crate) seat: u32,
 }
 
-/// What a step changes: the lock, one word, and the own view.
+/// What a step changes beside the own view: the lock, and one word.
 #[derive(Drop)]
 pub(crate) struct Change {
     pub(crate) lock: Option<LockState>,
     pub(crate) stored: Option<(Place, u64)>,
-    pub(crate) view: View,
 }
 
 impl Change {
-    /// Nothing but the own view.
-    pub(crate) fn of_view(view: View) -> Change
-        ensures { result ≡ record { lock = None; stored = None; view = view } }
+    /// Neither.
+    pub(crate) fn of_nothing() -> Change
+        ensures { result ≡ record { lock = None; stored = None } }
     {
         Change {
             lock: None,
             stored: None,
-            view,
         }
     }
 
-    /// A word and the own view.
-    pub(crate) fn of_word(place: Place, word: u64, view: View) -> Change
-        ensures { result ≡ record { lock = None; stored = Some (place, word); view = view } }
+    /// A word.
+    pub(crate) fn of_word(place: Place, word: u64) -> Change
+        ensures { result ≡ record { lock = None; stored = Some (place, word) } }
     {
         Change {
             lock: None,
             stored: Some((place, word)),
-            view,
         }
     }
 
-    /// The lock and the own view.
-    pub(crate) fn of_lock(lock: LockState, view: View) -> Change
-        ensures { result ≡ record { lock = Some lock; stored = None; view = view } }
+    /// The lock.
+    pub(crate) fn of_lock(lock: LockState) -> Change
+        ensures { result ≡ record { lock = Some lock; stored = None } }
     {
         Change {
             lock: Some(lock),
             stored: None,
-            view,
         }
     }
 }

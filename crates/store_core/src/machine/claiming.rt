@@ -1,5 +1,5 @@
 //! The last store of a collection.
-ghost use Rattle.std.specs.Prelude.{◌≡◌, ◌++◌, ◌∷◌, [], if◌then◌else◌, IfOk, pred};
+ghost use Rattle.std.specs.Prelude.{◌≡◌, ◌++◌, ◌∷◌, [], if◌then◌else◌, IfOk, OnOk, pred};
 ghost use Rattle.store_model.specs.Steps.{is_free, names_left};
 ghost use Rattle.store_model.specs.Collection.{collected};
 ghost use Rattle.store_model.specs.Shown.{shown};
@@ -7,10 +7,9 @@ ghost use Rattle.store_model.specs.declared.view.Place.TheVariants.{Base, InUse,
 ghost use Rattle.store_core.specs.Planning.{PlansClaim, PlansEnd};
 
 use crate::machine::change::{Change, Sight};
-use crate::machine::copies::copy;
 use crate::machine::ending::may_end;
-use crate::machine::moves::narrow;
-use crate::machine::staying::with_kept;
+use crate::machine::moves::{narrow, set_call};
+use crate::machine::staying::keep;
 use crate::machine::table::Table;
 use faults::Memory;
 use history_core::Entry;
@@ -19,28 +18,35 @@ use std::collections::LinkedList;
 use store_model::{Call, Place, Stay, View};
 
 /// The store of the claim, which ends a collection.
-pub(crate) fn plan_claim(sight: &Sight, value: u64) -> Result<Option<Change>, Memory>
-    ensures { PlansClaim sight.now value result }
+pub(crate) fn plan_claim(
+    sight: &Sight,
+    view: &mut View,
+    value: u64,
+) -> Result<Option<Change>, Memory>
+    requires { view.old ≡ sight.now.view.now }
+    ensures { PlansClaim sight.now value view.new result }
 {
     match &sight.view.call {
-        Call::Storing(loads, _) => plan_end(sight, loads, value),
+        Call::Storing(loads, _) => plan_end(sight, view, loads, value),
         _ => Ok(None),
     }
 }
 
 fn plan_end(
     sight: &Sight,
+    view: &mut View,
     loads: &LinkedList<(Place, u64)>,
     value: u64,
 ) -> Result<Option<Change>, Memory>
-    ensures { PlansEnd sight.now loads.now value result }
+    requires { view.old ≡ sight.now.view.now }
+    ensures { PlansEnd sight.now loads.now value view.new result }
 {
     if value != 0 || !may_end(sight.table, loads)? {
         return Ok(None);
     }
     let kept = names_left(*sight.view.got.allocator(), sight.table)?;
-    let view = collected(copy(sight.view)?, sight.table, kept)?;
-    Ok(Some(Change::of_word(Place::Claim, 0, view)))
+    collect(view, sight.table, kept)?;
+    Ok(Some(Change::of_word(Place::Claim, 0)))
 }
 
 #[tactic(auto, using(crate::proofs::Deciding::free_here, crate::proofs::Deciding::free_past))]
@@ -82,21 +88,27 @@ fn with_row(mut list: LinkedList<u32>, row: u32, free: bool) -> Result<LinkedLis
 }
 
 // What a seat knows after its collection.
-fn collected(view: View, table: &Table, kept: LinkedList<u32>) -> Result<View, Memory>
-    ensures { IfOk result
-        (λ v. let w = shown table.now.sizes table.now.words.items in
-        v ≡ collected view (w Base) (pred (w Base)) (w InUse) kept) }
+fn collect(view: &mut View, table: &Table, kept: LinkedList<u32>) -> Result<(), Memory>
+    ensures { OnOk result (let w = shown table.now.sizes table.now.words.items in
+        view.new ≡ collected view.old (w Base) (pred (w Base)) (w InUse) kept) }
 {
     let base = table.load(&Place::Base);
     let in_use = narrow(table.load(&Place::InUse))?;
+    begin_epoch(view, base, in_use, kept)
+}
+
+// What it knows in the epoch of this base, with so many buckets in use and these names.
+fn begin_epoch(view: &mut View, base: u64, in_use: u32, kept: LinkedList<u32>) -> Result<(), Memory>
+    ensures { OnOk result (view.new ≡ collected view.old base (pred base) in_use kept) }
+{
     let number = base.saturating_sub(1);
-    let mut view = with_kept(view)?;
-    view.call = Call::Idle;
+    view.entries.push_back(Entry::Collect { number, kept })?;
+    keep(view)?;
+    set_call(view, Call::Idle);
     view.stay = Stay::Ready;
     view.base = base;
     view.in_use = in_use;
     view.seen = number;
-    view.entries.push_back(Entry::Collect { number, kept })?;
     view.fresh = true;
-    Ok(view)
+    Ok(())
 }

@@ -1,5 +1,5 @@
 //! The steps of a collection.
-ghost use Rattle.std.specs.Prelude.{◌≡◌, ◌↔◌, ◌+◌, ◌^◌, ◌++◌, ◌∷◌, [], true, nat_lt, IfOk, IsTrue, length};
+ghost use Rattle.std.specs.Prelude.{◌≡◌, ◌↔◌, ◌+◌, ◌^◌, ◌++◌, ◌∷◌, [], true, nat_lt, IfOk, IsTrue, OnOk, length};
 ghost use Rattle.history_core.specs.Chronicle.{last_roots, roots_after};
 ghost use Rattle.lock_core.specs.Exclusion.{IsExclusive};
 ghost use Rattle.store_model.specs.Machine as machine;
@@ -13,9 +13,9 @@ ghost use Rattle.store_model.specs.declared.step.StoreStep.TheVariants.{LoadAny}
 
 use crate::machine::acting::same_place;
 use crate::machine::change::{Change, Sight};
-use crate::machine::copies::{copy, copy_loads};
+use crate::machine::copies::copy_loads;
 use crate::machine::locking::is_exclusive;
-use crate::machine::moves::with_call;
+use crate::machine::moves::set_call;
 use crate::machine::rooting::protected_rows;
 use crate::machine::rows::{rows_of, words_in};
 use crate::machine::whole::{first_loaded, is_whole};
@@ -25,15 +25,20 @@ use std::collections::LinkedList;
 use store_model::{Call, Place, Sizes, Stay, View};
 
 /// A load.
-pub(crate) fn plan_load_any(sight: &Sight, place: Place) -> Result<Option<Change>, Memory>
-    ensures { PlansStep sight.now (LoadAny place) result }
+pub(crate) fn plan_load_any(
+    sight: &Sight,
+    view: &mut View,
+    place: Place,
+) -> Result<Option<Change>, Memory>
+    requires { view.old ≡ sight.now.view.now }
+    ensures { PlansStep sight.now (LoadAny place) view.new result }
 {
     if !may_load(sight, &place) || !are_last_roots(sight.view)? {
         return Ok(None);
     }
     let value = sight.table.load(&place);
-    let view = loaded(sight.view, &sight.table.sizes, place, value)?;
-    Ok(Some(Change::of_view(view)))
+    add_load(view, &sight.table.sizes, place, value)?;
+    Ok(Some(Change::of_nothing()))
 }
 
 // Whether a collection in exclusive access may load next from here.
@@ -137,15 +142,15 @@ fn leaves_no_room(sizes: &Sizes, base: u64, claim: u64) -> bool
 }
 
 // What a seat knows after a load of its collection.
-fn loaded(view: &View, sizes: &Sizes, place: Place, value: u64) -> Result<View, Memory>
-    ensures { IfOk result
-        (λ v. v ≡ machine.with_call view.now
-        (loading sizes.now (loads view.now.call ++ (place, value) ∷ []))) }
+fn add_load(view: &mut View, sizes: &Sizes, place: Place, value: u64) -> Result<(), Memory>
+    ensures { OnOk result
+        (view.new ≡ machine.with_call view.old
+        (loading sizes.now (loads view.old.call ++ (place, value) ∷ []))) }
 {
     let mut list = loads_in(view)?;
     list.push_back((place, value))?;
-    let call = next_call(sizes, list)?;
-    Ok(with_call(copy(view)?, call))
+    set_call(view, next_call(sizes, list)?);
+    Ok(())
 }
 
 // A collection that has loaded so much: Worn ends it.
@@ -183,16 +188,18 @@ fn stores_in(view: &View) -> Result<LinkedList<(Place, u64)>, Memory>
 /// A store before the last.
 pub(crate) fn plan_store_any(
     sight: &Sight,
+    view: &mut View,
     place: Place,
     value: u64,
 ) -> Result<Option<Change>, Memory>
-    ensures { Plans sight.now (machine.StoreAny place value) result }
+    requires { view.old ≡ sight.now.view.now }
+    ensures { Plans sight.now (machine.StoreAny place value) view.new result }
 {
     if !sight.table.has(&place) || !is_stored(&place) || !may_store(sight)? {
         return Ok(None);
     }
-    let view = stored(sight.view, place, value)?;
-    Ok(Some(Change::of_word(place, value, view)))
+    add_store(view, place, value)?;
+    Ok(Some(Change::of_word(place, value)))
 }
 
 // The words that a collection stores before the claim.
@@ -228,13 +235,14 @@ fn may_store(sight: &Sight) -> Result<bool, Memory>
 }
 
 // What a seat knows after a store of its collection.
-fn stored(view: &View, place: Place, value: u64) -> Result<View, Memory>
-    ensures { IfOk result
-        (λ v. v ≡ machine.with_call view.now
-        (Storing (loads view.now.call) ((place, value) ∷ stores view.now.call))) }
+fn add_store(view: &mut View, place: Place, value: u64) -> Result<(), Memory>
+    ensures { OnOk result
+        (view.new ≡ machine.with_call view.old
+        (Storing (loads view.old.call) ((place, value) ∷ stores view.old.call))) }
 {
     let loads = loads_in(view)?;
     let mut stores = stores_in(view)?;
     stores.push_front((place, value))?;
-    Ok(with_call(copy(view)?, Call::Storing(loads, stores)))
+    set_call(view, Call::Storing(loads, stores));
+    Ok(())
 }

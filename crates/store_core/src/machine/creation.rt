@@ -1,11 +1,11 @@
 //! The next atomic action of a creation.
-ghost use Rattle.std.specs.Prelude.{◌≡◌, suc, ◌==◌, if◌then◌else◌, IfOk};
+ghost use Rattle.std.specs.Prelude.{◌≡◌, suc, ◌==◌, if◌then◌else◌, IfOk, OnOk};
 ghost use Rattle.store_model.specs.Machine as machine;
 
 use crate::machine::contents::{bucket_of, word_at, words_of};
 use crate::machine::gaining::{after_counted, after_drawn, after_found, after_published};
-use crate::machine::moves::{narrow, sum, with_call};
-use crate::machine::stages::{after_compared, after_filled, after_passed};
+use crate::machine::moves::{set_call, sum};
+use crate::machine::stages::{after_compared, after_filled, after_passed, after_placed};
 use faults::Memory;
 use std::mem;
 use store_model::{Call, Place, View};
@@ -55,35 +55,38 @@ fn exchanged(word: u64, from: u32, row: u32) -> Result<u64, Memory>
 }
 
 /// What the seat knows after the action, which found this word.
-pub(crate) fn view_after(mut view: View, word: u64) -> Result<View, Memory>
-    ensures { IfOk result (λ v. v ≡ (machine.action view view.call).moved word) }
+pub(crate) fn move_on(view: &mut View, word: u64) -> Result<(), Memory>
+    ensures { OnOk result (view.new ≡ (machine.action view.old view.old.call).moved word) }
 {
     let call = mem::replace(&mut view.call, Call::Idle);
     match call {
-        Call::Idle | Call::Loading(_) | Call::Storing(_, _) => Ok(with_call(view, call)),
+        Call::Idle | Call::Loading(_) | Call::Storing(_, _) => {
+            set_call(view, call);
+            Ok(())
+        }
         Call::Comparing(c, drawn, from, old, at, k) => after_compared(
             view, c, drawn, from, old, at, k, word,
         ),
         Call::Passing(c, drawn, from, old, at, differs) => after_passed(
             view, c, drawn, from, old, at, differs, word,
         ),
-        Call::Finding(c, drawn, row) => after_found(view, c, drawn, row, word),
-        Call::Ended(c, from) => Ok(with_call(view, Call::Counting(c, from, word))),
+        Call::Finding(c, _, row) => after_found(view, c, row, word),
+        Call::Ended(c, from) => {
+            set_call(view, Call::Counting(c, from, word));
+            Ok(())
+        }
         Call::Counting(c, from, claim) => after_counted(view, c, from, claim, word),
         Call::Drawing(c, from, count) => after_drawn(view, c, from, count, word),
-        Call::Placing(c, from, index) => Ok(with_call(
-            view,
-            Call::Filling(c, from, index, narrow(word)?, 0),
-        )),
-        Call::Filling(c, from, index, row, k) => after_filled(view, c, from, index, row, k, word),
-        Call::Numbering(c, from, index, row) => Ok(with_call(
-            view,
-            Call::Linking(c, from, index, row),
-        )),
-        Call::Linking(c, from, index, row) => Ok(with_call(
-            view,
-            Call::Publishing(c, from, index, row),
-        )),
+        Call::Placing(c, from, index) => after_placed(view, c, from, index, word),
+        Call::Filling(c, from, index, row, k) => after_filled(view, c, from, index, row, k),
+        Call::Numbering(c, from, index, row) => {
+            set_call(view, Call::Linking(c, from, index, row));
+            Ok(())
+        }
+        Call::Linking(c, from, index, row) => {
+            set_call(view, Call::Publishing(c, from, index, row));
+            Ok(())
+        }
         Call::Publishing(c, from, index, row) => after_published(view, c, from, index, row, word),
     }
 }

@@ -1,14 +1,14 @@
 //! How a creation ends: with a row, or with Full.
-ghost use Rattle.std.specs.Prelude.{◌≡◌, ◌+◌, ◌++◌, ◌∷◌, [], IfOk, OnOk};
+ghost use Rattle.std.specs.Prelude.{◌≡◌, ◌+◌, ◌++◌, ◌∷◌, [], max, OnOk};
 ghost use Rattle.store_model.specs.Calls.{words_of};
-ghost use Rattle.history_core.specs.declared.entry.Entry.TheVariants.{Make};
+ghost use Rattle.history_core.specs.declared.entry.Entry.TheVariants.{Make, Find};
 ghost use Rattle.store_model.specs.Machine as machine;
 ghost use Rattle.store_model.specs.declared.view.Content.{Content};
-ghost use Rattle.store_model.specs.declared.view.Call.TheVariants.{Finding, Counting, Drawing, Publishing};
+ghost use Rattle.store_model.specs.declared.view.Call.TheVariants.{Counting, Drawing, Publishing};
 
 use crate::machine::contents::words_of;
 use crate::machine::copies::copy_path;
-use crate::machine::moves::{narrow, sum, with_call};
+use crate::machine::moves::{narrow, set_call, sum};
 use crate::machine::stages::arrived;
 use faults::Memory;
 use history_core::Entry;
@@ -33,72 +33,65 @@ fn put_words(known: &mut LinkedList<KnownWord>, row: u32, words: &[u64]) -> Resu
 }
 
 // A creation ends with a row.
-fn gained(
-    mut view: View,
-    words: &[u64],
-    row: u32,
-    number: u64,
-    entry: Entry,
-) -> Result<View, Memory>
+fn gain(view: &mut View, words: &[u64], row: u32, number: u64, entry: Entry) -> Result<(), Memory>
     ensures { (c : Content) → words_of c ≡ words.now
-        → IfOk result (λ v. v ≡ machine.gained view c row number entry) }
+        → OnOk result (view.new ≡ machine.gained view.old c row number entry) }
 {
-    view.call = Call::Idle;
+    view.entries.push_back(entry)?;
     view.got.push_front(row)?;
     put_words(&mut view.knows, row, words)?;
+    set_call(view, Call::Idle);
     view.seen = view.seen.max(number);
-    view.entries.push_back(entry)?;
-    Ok(view)
-}
-
-// A creation that ended with Full is noted.
-fn with_refusal(mut view: View, refusal: Refusal) -> Result<View, Memory>
-    ensures { IfOk result (λ v. v ≡ record view { refused = view.refused ++ refusal ∷ [] }) }
-{
-    view.refused.push_back(refusal)?;
-    Ok(view)
+    Ok(())
 }
 
 // A creation ends with Full.
-fn refusing(view: View, content: Content, head: u32, claim: u64, count: u64) -> Result<View, Memory>
-    ensures { IfOk result (λ v. v ≡ machine.refusing view content head claim count) }
+fn refuse(
+    view: &mut View,
+    content: Content,
+    head: u32,
+    claim: u64,
+    count: u64,
+) -> Result<(), Memory>
+    ensures { OnOk result (view.new ≡ machine.refusing view.old content head claim count) }
 {
     let path = copy_path(&view.path)?;
-    let refusal = Refusal {
+    view.refused.push_back(Refusal {
         content,
         head,
         path,
         claim,
         count,
-    };
-    with_refusal(with_call(view, Call::Idle), refusal)
+    })?;
+    set_call(view, Call::Idle);
+    Ok(())
 }
 
 // A creation ends with Full by a draw past the free count.
-fn overdrawn(
-    view: View,
+fn overdraw(
+    view: &mut View,
     content: Content,
     head: u32,
     claim: u64,
     count: u64,
-) -> Result<View, Memory>
-    ensures { IfOk result (λ v. v ≡ machine.overdrawn view content head claim count) }
+) -> Result<(), Memory>
+    ensures { OnOk result (view.new ≡ machine.overdrawn view.old content head claim count) }
 {
-    let base = view.base;
-    let mut view = refusing(view, content, head, claim, count)?;
-    view.overdraw = Some(base);
-    Ok(view)
+    refuse(view, content, head, claim, count)?;
+    view.overdraw = Some(view.base);
+    Ok(())
 }
 
 /// The birth number of an equal row was loaded.
 pub(crate) fn after_found(
-    view: View,
+    view: &mut View,
     content: Content,
-    drawn: Option<(u32, u32)>,
     row: u32,
     word: u64,
-) -> Result<View, Memory>
-    ensures { IfOk result (λ v. v ≡ (machine.action view (Finding content drawn row)).moved word) }
+) -> Result<(), Memory>
+    ensures { OnOk result
+        (view.new ≡ machine.gained view.old content row word
+        (Find (max view.old.seen word) content.head content.arguments row)) }
 {
     let words = words_of(&content)?;
     let entry = Entry::Find {
@@ -107,48 +100,49 @@ pub(crate) fn after_found(
         args: content.arguments,
         row,
     };
-    gained(view, words.as_slice(), row, word, entry)
+    gain(view, words.as_slice(), row, word, entry)
 }
 
 /// The free count was loaded.
 pub(crate) fn after_counted(
-    view: View,
+    view: &mut View,
     content: Content,
     from: u32,
     claim: u64,
     word: u64,
-) -> Result<View, Memory>
-    ensures { IfOk result
-        (λ v. v ≡ (machine.action view (Counting content from claim)).moved word) }
+) -> Result<(), Memory>
+    ensures { OnOk result
+        (view.new ≡ (machine.action view.old (Counting content from claim)).moved word) }
 {
     if claim < word {
-        Ok(with_call(view, Call::Drawing(content, from, word)))
-    } else {
-        refusing(view, content, from, claim, word)
+        set_call(view, Call::Drawing(content, from, word));
+        return Ok(());
     }
+    refuse(view, content, from, claim, word)
 }
 
 /// The claim was drawn.
 pub(crate) fn after_drawn(
-    view: View,
+    view: &mut View,
     content: Content,
     from: u32,
     count: u64,
     word: u64,
-) -> Result<View, Memory>
-    ensures { IfOk result (λ v. v ≡ (machine.action view (Drawing content from count)).moved word) }
+) -> Result<(), Memory>
+    ensures { OnOk result
+        (view.new ≡ (machine.action view.old (Drawing content from count)).moved word) }
 {
-    if word < count {
-        Ok(with_call(view, Call::Placing(content, from, narrow(word)?)))
-    } else {
-        overdrawn(view, content, from, word, count)
+    if word >= count {
+        return overdraw(view, content, from, word, count);
     }
+    set_call(view, Call::Placing(content, from, narrow(word)?));
+    Ok(())
 }
 
 // The bucket's head was exchanged for the own row.
-fn after_exchange(view: View, content: Content, index: u32, row: u32) -> Result<View, Memory>
-    ensures { IfOk result (λ v. v ≡ machine.gained view content row (view.base + index)
-        (Make (view.base + index) content.head content.arguments row)) }
+fn after_exchange(view: &mut View, content: Content, index: u32, row: u32) -> Result<(), Memory>
+    ensures { OnOk result (view.new ≡ machine.gained view.old content row (view.old.base + index)
+        (Make (view.old.base + index) content.head content.arguments row)) }
 {
     let number = sum(view.base, index)?;
     let words = words_of(&content)?;
@@ -158,28 +152,28 @@ fn after_exchange(view: View, content: Content, index: u32, row: u32) -> Result<
         args: content.arguments,
         row,
     };
-    gained(view, words.as_slice(), row, number, entry)
+    gain(view, words.as_slice(), row, number, entry)
 }
 
 /// The bucket's head was exchanged for the own row, or another head was found there.
 pub(crate) fn after_published(
-    view: View,
+    view: &mut View,
     content: Content,
     from: u32,
     index: u32,
     row: u32,
     word: u64,
-) -> Result<View, Memory>
-    ensures { IfOk result
-        (λ v. v ≡ (machine.action view (Publishing content from index row)).moved word) }
+) -> Result<(), Memory>
+    ensures { OnOk result
+        (view.new ≡ (machine.action view.old (Publishing content from index row)).moved word) }
 {
     if word == u64::from(from) {
-        after_exchange(view, content, index, row)
-    } else {
-        let found = narrow(word)?;
-        Ok(with_call(
-            view,
-            arrived(content, Some((index, row)), found, from, found),
-        ))
+        return after_exchange(view, content, index, row);
     }
+    let found = narrow(word)?;
+    set_call(
+        view,
+        arrived(content, Some((index, row)), found, from, found),
+    );
+    Ok(())
 }

@@ -1,5 +1,5 @@
 //! The steps of the lock, and those that begin a granted access.
-ghost use Rattle.std.specs.Prelude.{◌≡◌, ◌≢◌, ◌⊎◌, ◌↔◌, ℕ, ◌<◌, IfOk, IsTrue, MatchBool, length};
+ghost use Rattle.std.specs.Prelude.{◌≡◌, ◌≢◌, ◌⊎◌, ◌↔◌, ℕ, ◌<◌, IsTrue, OnOk, MatchBool, length};
 ghost use Rattle.lock_core.specs.Lock.{seat_of};
 ghost use Rattle.lock_core.specs.Exclusion.{IsExclusive};
 ghost use Rattle.lock_core.specs.declared.parts.Standing.TheVariants.{Held};
@@ -11,8 +11,7 @@ ghost use Rattle.store_core.specs.Planning.{Plans, PlansStep};
 ghost use Rattle.store_model.specs.declared.step.StoreStep.TheVariants.{Lock, LoadBase, LoadInUse};
 
 use crate::machine::change::{Change, Sight};
-use crate::machine::copies::copy;
-use crate::machine::moves::{based, leaving, left, narrow, ready};
+use crate::machine::moves::{base_on, begin_leaving, leave_with, make_ready, narrow};
 use crate::machine::rooting::protected_rows;
 use crate::machine::rows::list_of;
 use faults::Memory;
@@ -80,16 +79,21 @@ fn may_leave(view: &View) -> bool
 }
 
 /// A step of the lock.
-pub(crate) fn plan_lock(sight: &Sight, step: LockStep) -> Result<Option<Change>, Memory>
-    ensures { PlansStep sight.now (Lock step) result }
+pub(crate) fn plan_lock(
+    sight: &Sight,
+    view: &mut View,
+    step: LockStep,
+) -> Result<Option<Change>, Memory>
+    requires { view.old ≡ sight.now.view.now }
+    ensures { PlansStep sight.now (Lock step) view.new result }
 {
     if sight.view.stay == Stay::Away {
         return plan_alone(sight, step);
     }
     match step {
-        LockStep::Lower => plan_lower(sight),
-        LockStep::Unask(other) => plan_unask(sight, other),
-        LockStep::Give => plan_give(sight),
+        LockStep::Lower => plan_lower(sight, view),
+        LockStep::Unask(other) => plan_unask(sight, view, other),
+        LockStep::Give => plan_give(sight, view),
         _ => Ok(None),
     }
 }
@@ -97,68 +101,75 @@ pub(crate) fn plan_lock(sight: &Sight, step: LockStep) -> Result<Option<Change>,
 // A step of a seat that is in no granted access: it lowers its flag only where it is blocked.
 fn plan_alone(sight: &Sight, step: LockStep) -> Result<Option<Change>, Memory>
     requires { sight.now.view.now.stay ≡ Away }
-    ensures { Plans sight.now (LockAlone step) result }
+    ensures { Plans sight.now (LockAlone step) sight.now.view.now result }
 {
     if step == LockStep::Lower && phase_of(sight.lock, sight.seat) != Phase::Blocked {
         return Ok(None);
     }
     match lock_core::step(sight.lock, sight.seat, step) {
-        Some(lock) => Ok(Some(Change::of_lock(lock, copy(sight.view)?))),
+        Some(lock) => Ok(Some(Change::of_lock(lock))),
         None => Ok(None),
     }
 }
 
 // The end of a shared access.
-fn plan_lower(sight: &Sight) -> Result<Option<Change>, Memory>
-    ensures { Plans sight.now LowerShared result }
+fn plan_lower(sight: &Sight, view: &mut View) -> Result<Option<Change>, Memory>
+    requires { view.old ≡ sight.now.view.now }
+    ensures { Plans sight.now LowerShared view.new result }
 {
     if phase_of(sight.lock, sight.seat) != Phase::Shared || !is_at_rest(sight.view) {
         return Ok(None);
     }
+    leave(view)?;
     match lock_core::step(sight.lock, sight.seat, LockStep::Lower) {
-        Some(lock) => Ok(Some(Change::of_lock(lock, left_view(sight.view)?))),
+        Some(lock) => Ok(Some(Change::of_lock(lock))),
         None => Ok(None),
     }
 }
 
 // A part of the end of an exclusive access.
-fn plan_unask(sight: &Sight, other: u32) -> Result<Option<Change>, Memory>
-    ensures { Plans sight.now (UnaskSeat other) result }
+fn plan_unask(sight: &Sight, view: &mut View, other: u32) -> Result<Option<Change>, Memory>
+    requires { view.old ≡ sight.now.view.now }
+    ensures { Plans sight.now (UnaskSeat other) view.new result }
 {
     if !may_leave(sight.view) {
         return Ok(None);
     }
+    begin_leaving(view);
     match lock_core::step(sight.lock, sight.seat, LockStep::Unask(other)) {
-        Some(lock) => Ok(Some(Change::of_lock(lock, leaving(copy(sight.view)?)))),
+        Some(lock) => Ok(Some(Change::of_lock(lock))),
         None => Ok(None),
     }
 }
 
 // The end of an exclusive access.
-fn plan_give(sight: &Sight) -> Result<Option<Change>, Memory>
-    ensures { Plans sight.now GiveGranted result }
+fn plan_give(sight: &Sight, view: &mut View) -> Result<Option<Change>, Memory>
+    requires { view.old ≡ sight.now.view.now }
+    ensures { Plans sight.now GiveGranted view.new result }
 {
     if !may_leave(sight.view) {
         return Ok(None);
     }
+    leave(view)?;
     match lock_core::step(sight.lock, sight.seat, LockStep::Give) {
-        Some(lock) => Ok(Some(Change::of_lock(lock, left_view(sight.view)?))),
+        Some(lock) => Ok(Some(Change::of_lock(lock))),
         None => Ok(None),
     }
 }
 
 // What a seat knows at the end of its access.
-fn left_view(view: &View) -> Result<View, Memory>
-    ensures { IfOk result (λ v. v ≡ left view.now (protected_in view.now)) }
+fn leave(view: &mut View) -> Result<(), Memory>
+    ensures { OnOk result (view.new ≡ left view.old (protected_in view.old)) }
 {
     let rows = protected_rows(view)?;
     let list = list_of(*view.got.allocator(), rows.as_slice())?;
-    left(copy(view)?, list)
+    leave_with(view, list)
 }
 
 /// The load of the base, first of a granted access.
-pub(crate) fn plan_load_base(sight: &Sight) -> Result<Option<Change>, Memory>
-    ensures { PlansStep sight.now LoadBase result }
+pub(crate) fn plan_load_base(sight: &Sight, view: &mut View) -> Result<Option<Change>, Memory>
+    requires { view.old ≡ sight.now.view.now }
+    ensures { PlansStep sight.now LoadBase view.new result }
 {
     if !is_in_access(sight.lock, sight.seat)
         || !is_idle(sight.view)
@@ -167,16 +178,19 @@ pub(crate) fn plan_load_base(sight: &Sight) -> Result<Option<Change>, Memory>
         return Ok(None);
     }
     let base = sight.table.load(&Place::Base);
-    Ok(Some(Change::of_view(based(copy(sight.view)?, base)?)))
+    base_on(view, base)?;
+    Ok(Some(Change::of_nothing()))
 }
 
 /// The load of the number of buckets in use, after it.
-pub(crate) fn plan_load_in_use(sight: &Sight) -> Result<Option<Change>, Memory>
-    ensures { PlansStep sight.now LoadInUse result }
+pub(crate) fn plan_load_in_use(sight: &Sight, view: &mut View) -> Result<Option<Change>, Memory>
+    requires { view.old ≡ sight.now.view.now }
+    ensures { PlansStep sight.now LoadInUse view.new result }
 {
     if !is_idle(sight.view) || sight.view.stay != Stay::Based {
         return Ok(None);
     }
     let in_use = narrow(sight.table.load(&Place::InUse))?;
-    Ok(Some(Change::of_view(ready(copy(sight.view)?, in_use))))
+    make_ready(view, in_use);
+    Ok(Some(Change::of_nothing()))
 }

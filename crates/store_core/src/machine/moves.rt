@@ -1,9 +1,9 @@
 //! What a seat knows after it has entered, read a row, or left.
-ghost use Rattle.std.specs.Prelude.{◌≡◌, ◌+◌, ◌==◌, if◌then◌else◌, IfOk};
+ghost use Rattle.std.specs.Prelude.{◌≡◌, ◌+◌, ◌==◌, if◌then◌else◌, IfOk, OnOk};
 ghost use Rattle.store_model.specs.Machine as machine;
 ghost use Rattle.store_model.specs.Machine.{rows_kept, words_kept};
 
-use crate::machine::staying::with_kept;
+use crate::machine::staying::keep;
 use faults::Memory;
 use history_core::Entry;
 use std::collections::LinkedList;
@@ -30,84 +30,81 @@ pub(crate) fn sum(m: u64, n: u32) -> Result<u64, Memory>
     }
 }
 
-pub(crate) fn with_call(mut view: View, call: Call) -> View
-    ensures { result ≡ machine.with_call view call }
+/// Another call is under way.
+pub(crate) fn set_call(view: &mut View, call: Call)
+    ensures { view.new ≡ machine.with_call view.old call }
 {
     view.call = call;
-    view
 }
 
-// The view with what it keeps, where this base is another than its own.
-fn kept_for(view: View, base: u64) -> Result<View, Memory>
-    ensures { IfOk result
-        (λ v. v ≡ record view {
-          got = if base == view.base then view.got else rows_kept view;
-          knows = if base == view.base
-              then view.knows else words_kept view;
+// What the view keeps is left of it, where this base is another than its own.
+fn keep_for(view: &mut View, base: u64) -> Result<(), Memory>
+    ensures { OnOk result
+        (view.new ≡ record view.old {
+          got = if base == view.old.base then view.old.got else rows_kept view.old;
+          knows = if base == view.old.base
+              then view.old.knows else words_kept view.old;
         }) }
 {
     if base == view.base {
-        Ok(view)
-    } else {
-        with_kept(view)
+        return Ok(());
     }
+    keep(view)
 }
 
 /// The base was loaded: another value than before begins an epoch.
-pub(crate) fn based(view: View, base: u64) -> Result<View, Memory>
-    ensures { IfOk result (λ v. v ≡ machine.based view base) }
+pub(crate) fn base_on(view: &mut View, base: u64) -> Result<(), Memory>
+    ensures { OnOk result (view.new ≡ machine.based view.old base) }
 {
-    let mut view = kept_for(view, base)?;
+    keep_for(view, base)?;
     view.stay = Stay::Based;
     view.base = base;
     view.seen = view.seen.max(base.saturating_sub(1));
     view.fresh = false;
-    Ok(view)
+    Ok(())
 }
 
 /// A row was got.
-pub(crate) fn with_got(mut view: View, row: u32) -> Result<View, Memory>
-    ensures { IfOk result (λ v. v ≡ machine.with_got view row) }
+pub(crate) fn get_row(view: &mut View, row: u32) -> Result<(), Memory>
+    ensures { OnOk result (view.new ≡ machine.with_got view.old row) }
 {
     view.got.push_front(row)?;
-    Ok(view)
+    Ok(())
 }
 
 /// A word of a row was read.
-pub(crate) fn knowing(mut view: View, row: u32, word: u32, value: u64) -> Result<View, Memory>
-    ensures { IfOk result (λ v. v ≡ machine.knowing view row word value) }
+pub(crate) fn know(view: &mut View, row: u32, word: u32, value: u64) -> Result<(), Memory>
+    ensures { OnOk result (view.new ≡ machine.knowing view.old row word value) }
 {
     view.knows.push_front(KnownWord { row, word, value })?;
-    Ok(view)
+    Ok(())
 }
 
 /// The number of buckets in use was loaded.
-pub(crate) fn ready(mut view: View, in_use: u32) -> View
-    ensures { result ≡ machine.ready view in_use }
+pub(crate) fn make_ready(view: &mut View, in_use: u32)
+    ensures { view.new ≡ machine.ready view.old in_use }
 {
     view.stay = Stay::Ready;
     view.in_use = in_use;
-    view
 }
 
 /// The end of an exclusive access has begun.
-pub(crate) fn leaving(mut view: View) -> View
-    ensures { result ≡ machine.leaving view }
+pub(crate) fn begin_leaving(view: &mut View)
+    ensures { view.new ≡ machine.leaving view.old }
 {
     view.stay = Stay::Leaving;
     view.fresh = false;
-    view
 }
 
 /// An access has ended, with these rows protected.
-pub(crate) fn left(mut view: View, rows: LinkedList<u32>) -> Result<View, Memory>
-    ensures { IfOk result (λ v. v ≡ machine.left view rows) }
+pub(crate) fn leave_with(view: &mut View, rows: LinkedList<u32>) -> Result<(), Memory>
+    ensures { OnOk result (view.new ≡ machine.left view.old rows) }
 {
-    view.stay = Stay::Away;
     view.entries.push_back(Entry::Roots {
         after: view.seen,
         rows,
     })?;
+    view.stay = Stay::Away;
     view.fresh = false;
-    Ok(view)
+    Ok(())
 }

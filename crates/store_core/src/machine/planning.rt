@@ -1,5 +1,5 @@
 //! The plan of any step of a seat, and its making.
-ghost use Rattle.std.specs.Prelude.{◌≡◌, ◌<◌, length, IfOk, IsTrue};
+ghost use Rattle.std.specs.Prelude.{◌≡◌, ◌<◌, length, get_or, IfOk, IsTrue};
 ghost use Rattle.store_model.specs.Shown.{shown};
 ghost use Rattle.store_model.specs.StoreHolds.{StoreHolds};
 ghost use Rattle.store_core.specs.Planning.{Serves, PlansStep, Planned, HasPlace, IsInside, state_by, changed, words_with, lock_with};
@@ -20,71 +20,90 @@ use lock_core::LockState;
 use store_model::{Place, StoreStep, View};
 
 // The plan of a step, by what the seat sees.
-fn plan(sight: &Sight, step: StoreStep) -> Result<Option<Change>, Memory>
-    ensures { Serves sight.now step result }
+fn plan(sight: &Sight, view: &mut View, step: StoreStep) -> Result<Option<Change>, Memory>
+    requires { view.old ≡ sight.now.view.now }
+    ensures { Serves sight.now step view.new result }
 {
     match step {
-        StoreStep::Lock(step) => plan_lock(sight, step),
-        StoreStep::LoadBase => plan_load_base(sight),
-        StoreStep::LoadFreeCount => plan_act(sight, &NextAct::Loads(Place::FreeCount)),
-        StoreStep::LoadClaim => plan_act(sight, &NextAct::Loads(Place::Claim)),
-        StoreStep::LoadInUse => plan_load_in_use(sight),
-        StoreStep::Draw => plan_act(sight, &NextAct::Draws),
-        StoreStep::LoadFreePlace(i) => plan_act(sight, &NextAct::Loads(Place::FreePlace(i))),
-        StoreStep::StoreDrawn { row, word, value } => plan_drawn(sight, row, word, value),
-        StoreStep::LoadBucket { bucket, content } => plan_begin(sight, bucket, content),
-        StoreStep::LoadRow { row, word } => plan_load_row(sight, row, word),
-        StoreStep::Publish { bucket, old, new } => plan_publish(sight, bucket, old, new),
-        StoreStep::StoreRoot { place, row } => plan_store_root(sight, place, row),
-        StoreStep::StoreRootCount(count) => plan_store_count(sight, count),
-        StoreStep::LoadRoot(place) => plan_load_root(sight, place),
-        StoreStep::LoadAny(place) => plan_load_any(sight, place),
-        StoreStep::StoreNext { row, value } => plan_store_any(sight, Place::Next(row), value),
+        StoreStep::Lock(step) => plan_lock(sight, view, step),
+        StoreStep::LoadBase => plan_load_base(sight, view),
+        StoreStep::LoadFreeCount => plan_act(sight, view, &NextAct::Loads(Place::FreeCount)),
+        StoreStep::LoadClaim => plan_act(sight, view, &NextAct::Loads(Place::Claim)),
+        StoreStep::LoadInUse => plan_load_in_use(sight, view),
+        StoreStep::Draw => plan_act(sight, view, &NextAct::Draws),
+        StoreStep::LoadFreePlace(i) => plan_act(sight, view, &NextAct::Loads(Place::FreePlace(i))),
+        StoreStep::StoreDrawn { row, word, value } => plan_drawn(sight, view, row, word, value),
+        StoreStep::LoadBucket { bucket, content } => plan_begin(sight, view, bucket, content),
+        StoreStep::LoadRow { row, word } => plan_load_row(sight, view, row, word),
+        StoreStep::Publish { bucket, old, new } => plan_publish(sight, view, bucket, old, new),
+        StoreStep::StoreRoot { place, row } => plan_store_root(sight, view, place, row),
+        StoreStep::StoreRootCount(count) => plan_store_count(sight, view, count),
+        StoreStep::LoadRoot(place) => plan_load_root(sight, view, place),
+        StoreStep::LoadAny(place) => plan_load_any(sight, view, place),
+        StoreStep::StoreNext { row, value } => plan_store_any(sight, view, Place::Next(row), value),
         StoreStep::StoreBucket { bucket, value } => {
-            plan_store_any(sight, Place::Bucket(bucket), value)
+            plan_store_any(sight, view, Place::Bucket(bucket), value)
         }
         StoreStep::StoreFreePlace { index, value } => {
-            plan_store_any(sight, Place::FreePlace(index), value)
+            plan_store_any(sight, view, Place::FreePlace(index), value)
         }
-        StoreStep::StoreFreeCount(value) => plan_store_any(sight, Place::FreeCount, value),
-        StoreStep::StoreBase(value) => plan_store_any(sight, Place::Base, value),
-        StoreStep::StoreInUse(value) => plan_store_any(sight, Place::InUse, value),
-        StoreStep::StoreClaim(value) => plan_claim(sight, value),
+        StoreStep::StoreFreeCount(value) => plan_store_any(sight, view, Place::FreeCount, value),
+        StoreStep::StoreBase(value) => plan_store_any(sight, view, Place::Base, value),
+        StoreStep::StoreInUse(value) => plan_store_any(sight, view, Place::InUse, value),
+        StoreStep::StoreClaim(value) => plan_claim(sight, view, value),
     }
 }
 
 // The store of a word of the drawn row.
-fn plan_drawn(sight: &Sight, row: u32, word: u32, value: u64) -> Result<Option<Change>, Memory>
-    ensures { PlansStep sight.now (StoreDrawn row word value) result }
+fn plan_drawn(
+    sight: &Sight,
+    view: &mut View,
+    row: u32,
+    word: u32,
+    value: u64,
+) -> Result<Option<Change>, Memory>
+    requires { view.old ≡ sight.now.view.now }
+    ensures { PlansStep sight.now (StoreDrawn row word value) view.new result }
 {
     let place = row_place(&sight.table.sizes, row, word);
-    plan_act(sight, &NextAct::Stores(place, value))
+    plan_act(sight, view, &NextAct::Stores(place, value))
 }
 
 // The exchange on a bucket.
-fn plan_publish(sight: &Sight, bucket: u32, old: u32, new: u32) -> Result<Option<Change>, Memory>
-    ensures { PlansStep sight.now (Publish bucket old new) result }
+fn plan_publish(
+    sight: &Sight,
+    view: &mut View,
+    bucket: u32,
+    old: u32,
+    new: u32,
+) -> Result<Option<Change>, Memory>
+    requires { view.old ≡ sight.now.view.now }
+    ensures { PlansStep sight.now (Publish bucket old new) view.new result }
 {
     plan_act(
         sight,
+        view,
         &NextAct::Exchanges(Place::Bucket(bucket), u64::from(old), u64::from(new)),
     )
 }
 
-/// The plan of a step of a seat.
+/// The plan of a step of a seat. Its view, of which this is a copy, becomes what it knows after it.
 pub(crate) fn planned(
     table: &Table,
     lock: &LockState,
     views: &Vec<View>,
+    view: &mut View,
     seat: u32,
     step: StoreStep,
 ) -> Result<Option<Change>, Memory>
     requires seat { seat < table.now.sizes.seats }
     requires views { length views.now.items ≡ table.now.sizes.seats }
+    requires own { view.old ≡ get_or views.now.items seat view.old }
     requires holds { StoreHolds table.now.sizes
         (state_by table.now.sizes lock.now table.now.words.items views.now.items) }
     ensures { Planned table.now.sizes
-        (state_by table.now.sizes lock.now table.now.words.items views.now.items) seat step result }
+        (state_by table.now.sizes lock.now table.now.words.items views.now.items) seat step view.new
+        result }
 {
     let sight = Sight {
         table,
@@ -92,7 +111,7 @@ pub(crate) fn planned(
         view: &views[seat as usize],
         seat,
     };
-    let change = plan(&sight, step)?;
+    let change = plan(&sight, view, step)?;
     with_place(table, change)
 }
 
@@ -132,6 +151,7 @@ pub(crate) fn commit(
     views: &mut Vec<View>,
     seat: u32,
     change: Change,
+    view: View,
 )
     requires seat { seat < length views.old.items }
     requires place { IsInside table.old.sizes change.stored }
@@ -139,13 +159,10 @@ pub(crate) fn commit(
     ensures views { length views.new.items ≡ length views.old.items }
     ensures state { state_by table.old.sizes lock.new table.new.words.items views.new.items
         ≡ changed
-        (state_by table.old.sizes lock.old table.old.words.items views.old.items) seat change }
+        (state_by table.old.sizes lock.old table.old.words.items views.old.items) seat change
+        view }
 {
-    let Change {
-        lock: next,
-        stored,
-        view,
-    } = change;
+    let Change { lock: next, stored } = change;
     store(table, stored);
     set_lock(lock, next);
     views[seat as usize] = view;

@@ -11,35 +11,46 @@ ghost use Rattle.store_model.specs.declared.step.StoreStep.TheVariants.{StoreRoo
 
 use crate::machine::acting::{NextAct, plan_act, row_place};
 use crate::machine::change::{Change, Sight};
-use crate::machine::copies::copy;
 use crate::machine::locking::{is_at_rest, is_idle};
-use crate::machine::moves::{knowing, narrow, with_got};
+use crate::machine::moves::{get_row, know, narrow};
 use crate::machine::naming::{is_named, named_rows};
-use crate::machine::rooting::{root_counted, rooted};
+use crate::machine::rooting::{count_roots, root};
 use crate::machine::table::Table;
 use faults::Memory;
-use store_model::Place;
+use store_model::{Place, View};
 
 /// The load of an own protected row.
-pub(crate) fn plan_load_root(sight: &Sight, k: u32) -> Result<Option<Change>, Memory>
-    ensures { PlansStep sight.now (LoadRoot k) result }
+pub(crate) fn plan_load_root(
+    sight: &Sight,
+    view: &mut View,
+    k: u32,
+) -> Result<Option<Change>, Memory>
+    requires { view.old ≡ sight.now.view.now }
+    ensures { PlansStep sight.now (LoadRoot k) view.new result }
 {
     if !is_at_rest(sight.view) || k >= sight.view.root_count {
         return Ok(None);
     }
     let row = narrow(sight.table.load(&Place::Root(sight.seat, k)))?;
-    Ok(Some(Change::of_view(with_got(copy(sight.view)?, row)?)))
+    get_row(view, row)?;
+    Ok(Some(Change::of_nothing()))
 }
 
 /// The store of an own protected row.
-pub(crate) fn plan_store_root(sight: &Sight, k: u32, row: u32) -> Result<Option<Change>, Memory>
-    ensures { PlansStep sight.now (StoreRoot k row) result }
+pub(crate) fn plan_store_root(
+    sight: &Sight,
+    view: &mut View,
+    k: u32,
+    row: u32,
+) -> Result<Option<Change>, Memory>
+    requires { view.old ≡ sight.now.view.now }
+    ensures { PlansStep sight.now (StoreRoot k row) view.new result }
 {
     if !is_at_rest(sight.view) || k >= sight.table.sizes.depth || !may_name(sight, row)? {
         return Ok(None);
     }
-    let view = rooted(copy(sight.view)?, k, row)?;
-    Ok(Some(Change::of_word(Place::Root(sight.seat, k), u64::from(row), view)))
+    root(view, k, row)?;
+    Ok(Some(Change::of_word(Place::Root(sight.seat, k), u64::from(row))))
 }
 
 // Whether a seat may name a row.
@@ -53,14 +64,19 @@ fn may_name(sight: &Sight, row: u32) -> Result<bool, Memory>
 }
 
 /// The store of the count of own protected rows.
-pub(crate) fn plan_store_count(sight: &Sight, count: u32) -> Result<Option<Change>, Memory>
-    ensures { PlansStep sight.now (StoreRootCount count) result }
+pub(crate) fn plan_store_count(
+    sight: &Sight,
+    view: &mut View,
+    count: u32,
+) -> Result<Option<Change>, Memory>
+    requires { view.old ≡ sight.now.view.now }
+    ensures { PlansStep sight.now (StoreRootCount count) view.new result }
 {
     if !is_at_rest(sight.view) || count > sight.table.sizes.depth || !may_count(sight, count)? {
         return Ok(None);
     }
-    let view = root_counted(copy(sight.view)?, count)?;
-    Ok(Some(Change::of_word(Place::RootCount(sight.seat), u64::from(count), view)))
+    count_roots(view, count)?;
+    Ok(Some(Change::of_word(Place::RootCount(sight.seat), u64::from(count))))
 }
 
 // Whether each of the first own rows was protected, or may be named.
@@ -99,27 +115,34 @@ fn all_countable(sight: &Sight, marks: &[bool], count: u32) -> bool
 
 /// The load of a word of a row: a read, where no call is under way, and else the next action of a
 /// creation.
-pub(crate) fn plan_load_row(sight: &Sight, row: u32, word: u32) -> Result<Option<Change>, Memory>
-    ensures { PlansStep sight.now (LoadRow row word) result }
+pub(crate) fn plan_load_row(
+    sight: &Sight,
+    view: &mut View,
+    row: u32,
+    word: u32,
+) -> Result<Option<Change>, Memory>
+    requires { view.old ≡ sight.now.view.now }
+    ensures { PlansStep sight.now (LoadRow row word) view.new result }
 {
     if is_idle(sight.view) {
-        plan_read(sight, row, word)
+        plan_read(sight, view, row, word)
     } else {
         let place = row_place(&sight.table.sizes, row, word);
-        plan_act(sight, &NextAct::Loads(place))
+        plan_act(sight, view, &NextAct::Loads(place))
     }
 }
 
 // A read of a row.
-fn plan_read(sight: &Sight, row: u32, word: u32) -> Result<Option<Change>, Memory>
+fn plan_read(sight: &Sight, view: &mut View, row: u32, word: u32) -> Result<Option<Change>, Memory>
+    requires { view.old ≡ sight.now.view.now }
     ensures { Plans sight.now
         (read_meant (shown sight.now.table.now.sizes sight.now.table.now.words.items) row word)
-        result }
+        view.new result }
 {
     if word >= 2 && u64::from(word - 2) < sight.table.load(&Place::RowWord(row, 1)) {
-        plan_read_argument(sight, row, word)
+        plan_read_argument(sight, view, row, word)
     } else {
-        plan_read_word(sight, row, word)
+        plan_read_word(sight, view, row, word)
     }
 }
 
@@ -130,28 +153,42 @@ fn may_read(table: &Table, row: u32, word: u32) -> bool
     word < 2 || (word == 2 && table.load(&Place::RowWord(row, 0)) == 4294967296)
 }
 
-fn plan_read_word(sight: &Sight, row: u32, word: u32) -> Result<Option<Change>, Memory>
-    ensures { Plans sight.now (ReadWord row word) result }
+fn plan_read_word(
+    sight: &Sight,
+    view: &mut View,
+    row: u32,
+    word: u32,
+) -> Result<Option<Change>, Memory>
+    requires { view.old ≡ sight.now.view.now }
+    ensures { Plans sight.now (ReadWord row word) view.new result }
 {
     if !is_at_rest(sight.view) || !may_read(sight.table, row, word) || !may_name(sight, row)? {
         return Ok(None);
     }
     let value = sight.table.load(&Place::RowWord(row, word));
-    Ok(Some(Change::of_view(knowing(copy(sight.view)?, row, word, value)?)))
+    know(view, row, word, value)?;
+    Ok(Some(Change::of_nothing()))
 }
 
 // The argument is the word less 2.
-fn plan_read_argument(sight: &Sight, row: u32, word: u32) -> Result<Option<Change>, Memory>
+fn plan_read_argument(
+    sight: &Sight,
+    view: &mut View,
+    row: u32,
+    word: u32,
+) -> Result<Option<Change>, Memory>
+    requires own { view.old ≡ sight.now.view.now }
     requires word { 2 ≤ word }
     requires there { word - 2 < shown sight.now.table.now.sizes sight.now.table.now.words.items
         (RowWord row 1) }
-    ensures { Plans sight.now (ReadArgument row (word - 2)) result }
+    ensures { Plans sight.now (ReadArgument row (word - 2)) view.new result }
 {
     if !is_at_rest(sight.view) || !may_name(sight, row)? {
         return Ok(None);
     }
     let value = sight.table.load(&Place::RowWord(row, word));
     let argument = narrow(value)?;
-    let view = knowing(copy(sight.view)?, row, word, value)?;
-    Ok(Some(Change::of_view(with_got(view, argument)?)))
+    know(view, row, word, value)?;
+    get_row(view, argument)?;
+    Ok(Some(Change::of_nothing()))
 }

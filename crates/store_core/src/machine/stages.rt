@@ -1,10 +1,11 @@
 //! What a seat knows after a stage of a creation, by what it knew and the word that it found.
-ghost use Rattle.std.specs.Prelude.{◌≡◌, ◌++◌, ◌∷◌, [], suc, IfOk};
+ghost use Rattle.std.specs.Prelude.{◌≡◌, ◌++◌, ◌∷◌, [], ◌==◌, get_or, suc, IfOk, OnOk};
 ghost use Rattle.store_model.specs.Machine as machine;
-ghost use Rattle.store_model.specs.declared.view.Call.TheVariants.{Comparing, Passing, Filling};
+ghost use Rattle.store_model.specs.Calls.{words_of};
+ghost use Rattle.store_model.specs.declared.view.Call.TheVariants.{Comparing, Passing, Placing};
 
 use crate::machine::contents::{word_at, words_of};
-use crate::machine::moves::{narrow, with_call};
+use crate::machine::moves::{narrow, set_call};
 use faults::Memory;
 use std::collections::LinkedList;
 use store_model::{Call, Content, Passed, View};
@@ -77,28 +78,28 @@ fn filled(content: Content, from: u32, index: u32, row: u32, k: u32) -> Result<C
     }
 }
 
-// The view with the rows that the walks of its call have passed.
-pub(crate) fn with_path(mut view: View, passed: u32, path: LinkedList<Passed>) -> View
-    ensures { result ≡ machine.with_path view passed path }
+// The rows that the walks of the call have passed.
+pub(crate) fn set_path(view: &mut View, passed: u32, path: LinkedList<Passed>)
+    ensures { view.new ≡ machine.with_path view.old passed path }
 {
     view.passed = passed;
     view.path = path;
-    view
 }
 
 /// A creation begins: the head of its bucket was loaded.
-pub(crate) fn begun(view: View, content: Content, word: u64) -> Result<View, Memory>
-    ensures { IfOk result (λ v. v ≡ (machine.begins view content).moved word) }
+pub(crate) fn begin_walk(view: &mut View, content: Content, word: u64) -> Result<(), Memory>
+    ensures { OnOk result (view.new ≡ (machine.begins view.old content).moved word) }
 {
     let from = narrow(word)?;
     let path = LinkedList::new(*view.path.allocator());
-    let view = with_path(view, 0, path);
-    Ok(with_call(view, arrived(content, None, from, 0, from)))
+    set_path(view, 0, path);
+    set_call(view, arrived(content, None, from, 0, from));
+    Ok(())
 }
 
 /// A word of the row that the walk is at was loaded.
 pub(crate) fn after_compared(
-    view: View,
+    view: &mut View,
     content: Content,
     drawn: Option<(u32, u32)>,
     from: u32,
@@ -106,35 +107,45 @@ pub(crate) fn after_compared(
     at: u32,
     k: u32,
     word: u64,
-) -> Result<View, Memory>
-    ensures { IfOk result
-        (λ v. v ≡ (machine.action view (Comparing content drawn from old at k)).moved word) }
+) -> Result<(), Memory>
+    ensures { OnOk result
+        (view.new
+        ≡ (machine.action view.old (Comparing content drawn from old at k)).moved word) }
 {
-    let same = word == word_at(words_of(&content)?.as_slice(), k);
-    if same {
-        Ok(with_call(view, compared(content, drawn, from, old, at, k)?))
+    if is_word(&content, k, word)? {
+        set_call(view, compared(content, drawn, from, old, at, k)?);
     } else {
-        Ok(with_call(
+        set_call(
             view,
             Call::Passing(content, drawn, from, old, at, (k, word)),
-        ))
+        );
     }
+    Ok(())
 }
 
-// The view whose walk has passed one more row.
-fn with_passed(mut view: View, one: Passed) -> Result<View, Memory>
-    ensures { IfOk result
-        (λ v. v ≡ machine.with_path view (suc view.passed) (view.path ++ one ∷ [])) }
+// Whether this is word k of a content.
+fn is_word(content: &Content, k: u32, word: u64) -> Result<bool, Memory>
+    ensures { IfOk result (λ b. b ≡ (word == get_or (words_of content.now) k 0)) }
+{
+    let words = words_of(content)?;
+    Ok(word == word_at(words.as_slice(), k))
+}
+
+// The walk has passed one more row.
+fn pass(view: &mut View, passed_row: Passed) -> Result<(), Memory>
+    ensures { OnOk result
+        (view.new
+        ≡ machine.with_path view.old (suc view.old.passed) (view.old.path ++ passed_row ∷ [])) }
 {
     let passed = next(view.passed)?;
-    view.path.push_back(one)?;
+    view.path.push_back(passed_row)?;
     view.passed = passed;
-    Ok(view)
+    Ok(())
 }
 
 /// The next word of the chain was loaded.
 pub(crate) fn after_passed(
-    view: View,
+    view: &mut View,
     content: Content,
     drawn: Option<(u32, u32)>,
     from: u32,
@@ -142,34 +153,51 @@ pub(crate) fn after_passed(
     at: u32,
     differs: (u32, u64),
     word: u64,
-) -> Result<View, Memory>
-    ensures { IfOk result
-        (λ v. v ≡ (machine.action view (Passing content drawn from old at differs)).moved word) }
+) -> Result<(), Memory>
+    ensures { OnOk result
+        (view.new
+        ≡ (machine.action view.old (Passing content drawn from old at differs)).moved word) }
 {
     let next_at = narrow(word)?;
-    let one = Passed {
+    let passed_row = Passed {
         row: at.saturating_sub(1),
         word: differs.0,
         found: differs.1,
         next: next_at,
     };
-    let view = with_passed(view, one)?;
-    Ok(with_call(view, arrived(content, drawn, from, old, next_at)))
+    pass(view, passed_row)?;
+    set_call(view, arrived(content, drawn, from, old, next_at));
+    Ok(())
+}
+
+/// The own row was loaded from its free place.
+pub(crate) fn after_placed(
+    view: &mut View,
+    content: Content,
+    from: u32,
+    index: u32,
+    word: u64,
+) -> Result<(), Memory>
+    ensures { OnOk result
+        (view.new ≡ (machine.action view.old (Placing content from index)).moved word) }
+{
+    let row = narrow(word)?;
+    set_call(view, Call::Filling(content, from, index, row, 0));
+    Ok(())
 }
 
 /// A word of the own row was stored.
 pub(crate) fn after_filled(
-    view: View,
+    view: &mut View,
     content: Content,
     from: u32,
     index: u32,
     row: u32,
     k: u32,
-    word: u64,
-) -> Result<View, Memory>
-    ensures { IfOk result
-        (λ v. v ≡ (machine.action view (Filling content from index row k)).moved word) }
+) -> Result<(), Memory>
+    ensures { OnOk result
+        (view.new ≡ machine.with_call view.old (machine.filled content from index row k)) }
 {
-    let _stored = word;
-    Ok(with_call(view, filled(content, from, index, row, k)?))
+    set_call(view, filled(content, from, index, row, k)?);
+    Ok(())
 }

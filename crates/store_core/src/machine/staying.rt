@@ -1,6 +1,6 @@
 //! What a seat still knows when its epoch ends: what its protected rows lead to by the words that
 //! it knows.
-ghost use Rattle.std.specs.Prelude.{◌≡◌, ◌∷◌, ◌++◌, [], if◌then◌else◌, IfOk, nat_lt, ◌+◌};
+ghost use Rattle.std.specs.Prelude.{◌≡◌, ◌∷◌, ◌++◌, [], if◌then◌else◌, IfOk, OnOk, nat_lt, ◌+◌};
 ghost use Rattle.std.specs.List.{list_any};
 ghost use Rattle.store_model.specs.Machine.{rows_kept, words_kept};
 ghost use Rattle.store_model.specs.Staying.{is_among, is_argument, is_next, is_within, joined, led_to, words_of_rows};
@@ -13,15 +13,26 @@ use std::alloc::Global;
 use std::collections::LinkedList;
 use store_model::{KnownWord, View};
 
-/// The view with what it keeps alone: the rows, and their words.
-pub(crate) fn with_kept(mut view: View) -> Result<View, Memory>
-    ensures { IfOk result (λ v. v ≡ record view { got = rows_kept view; knows = words_kept view }) }
+/// What the view keeps alone is left of it: the rows, and their words.
+pub(crate) fn keep(view: &mut View) -> Result<(), Memory>
+    ensures { OnOk result
+        (view.new ≡ record view.old { got = rows_kept view.old; knows = words_kept view.old }) }
 {
     let words = words_known(&view.knows)?;
-    let rows = rows_led_to(words.as_slice(), protected_rows(&view)?)?;
-    view.knows = words_of_rows(*view.got.allocator(), rows.as_slice(), words.as_slice())?;
-    view.got = list_of(*view.got.allocator(), rows.as_slice())?;
-    Ok(view)
+    let rows = rows_led_to(words.as_slice(), protected_rows(view)?)?;
+    know_alone(view, rows.as_slice(), words.as_slice())
+}
+
+// The view has these rows, and knows those of the words that are theirs.
+fn know_alone(view: &mut View, rows: &[u32], words: &[KnownWord]) -> Result<(), Memory>
+    ensures { OnOk result
+        (view.new
+        ≡ record view.old { got = rows.now; knows = words_of_rows rows.now words.now }) }
+{
+    let knows = words_of_rows(*view.got.allocator(), rows, words)?;
+    view.got = list_of(*view.got.allocator(), rows)?;
+    view.knows = knows;
+    Ok(())
 }
 
 // The words of a list.

@@ -9,6 +9,6 @@ pub returns-then-word-found : goal.returns-then-word-found
 returns-then-word-found c = (
   first_of (search rules, grind (arith, common_steps)),
   first_of (search rules, grind (arith, common_steps)),
-  went_view c.args.sight.now c.of_view.result c.in_ok-place.place c.load-found.result c.in_ok-word.word c.in_ok-view.view c.in_ok-place.ensures c.load-found.ensures c.in_ok-word.ensures
-      (c.in_ok-view.ensures ∙ ap (λ (v : View). (action v v.call).moved c.load-found.result) c.in_ok-copy.ensures) c.if-word-found.true c.of_view.ensures,
+  went_view c.args.sight.now c.of_nothing.result c.in_ok-place.place c.load-found.result c.in_ok-word.word c.move_on.new.view c.in_ok-place.ensures c.load-found.ensures c.in_ok-word.ensures
+      (c.in_ok-move_on.ensures ∙ ap (λ (v : View). (action v v.call).moved c.load-found.result) c.requires) c.if-word-found.true c.of_nothing.ensures,
 )

@@ -16,7 +16,7 @@ returns c = λ s ending.
     let yes : IsTrue c.in_ok-may_end.field-0 = first_of (search rules, grind (arith, common_steps)) in (
       (c.in_ok-may_end.ensures s c.args.sight.now.seat ending).0 yes,
       first_of (search rules, grind (arith, common_steps)),
-      made_word c.args.sight.now machine.StoreClaim c.of_word.result Claim 0 c.in_ok-view.view c.of_word.ensures refl refl
-          (c.in_ok-view.ensures ∙ (ap (λ (v : View). collected v ((state_seen c.args.sight.now).words Base) (pred ((state_seen c.args.sight.now).words Base)) ((state_seen c.args.sight.now).words InUse) c.in_ok-kept.kept) c.in_ok-copy.ensures
+      made_word c.args.sight.now machine.StoreClaim c.of_word.result Claim 0 c.collect.new.view c.of_word.ensures refl refl
+          (c.in_ok-collect.ensures ∙ (ap (λ (v : View). collected v ((state_seen c.args.sight.now).words Base) (pred ((state_seen c.args.sight.now).words Base)) ((state_seen c.args.sight.now).words InUse) c.in_ok-kept.kept) c.requires
           ∙ ap (collected c.args.sight.now.view.now (w Base) (pred (w Base)) (w InUse)) c.in_ok-kept.ensures)),
     )

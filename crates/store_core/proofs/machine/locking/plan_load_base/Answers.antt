@@ -12,6 +12,6 @@ pub returns : goal.returns
 returns c = (
   first_of (search rules, grind (arith, common_steps)),
   tt,
-  made_view c.args.sight.now machine.LoadBase c.of_view.result c.in_ok-based.field-0 c.of_view.ensures refl (write_same (state_seen c.args.sight.now).words Base)
-      (c.in_ok-based.ensures ∙ two based c.in_ok-copy.field-0 c.args.sight.now.view.now c.load-base.result ((state_seen c.args.sight.now).words Base) c.in_ok-copy.ensures c.load-base.ensures),
+  made_view c.args.sight.now machine.LoadBase c.of_nothing.result c.base_on.new.view c.of_nothing.ensures refl (write_same (state_seen c.args.sight.now).words Base)
+      (c.in_ok-base_on.ensures ∙ two based c.args.view.now c.args.sight.now.view.now c.load-base.result ((state_seen c.args.sight.now).words Base) c.requires c.load-base.ensures),
 )

@@ -12,6 +12,6 @@ pub returns : goal.returns
 returns c = (
   first_of (search rules, grind (arith, common_steps)),
   tt,
-  made_view c.args.sight.now machine.LoadInUse c.of_view.result c.ready.result c.of_view.ensures refl (write_same (state_seen c.args.sight.now).words InUse)
-      (c.ready.ensures ∙ two ready c.in_ok-copy.field-0 c.args.sight.now.view.now c.in_ok-in_use.in_use ((state_seen c.args.sight.now).words InUse) c.in_ok-copy.ensures (c.in_ok-in_use.ensures ∙ c.load.ensures)),
+  made_view c.args.sight.now machine.LoadInUse c.of_nothing.result c.make_ready.new.view c.of_nothing.ensures refl (write_same (state_seen c.args.sight.now).words InUse)
+      (c.make_ready.ensures ∙ two ready c.args.view.now c.args.sight.now.view.now c.in_ok-in_use.in_use ((state_seen c.args.sight.now).words InUse) c.requires (c.in_ok-in_use.ensures ∙ c.load.ensures)),
 )

@@ -20,5 +20,5 @@ returns c =
     let g : Sight = record { table = c.args.table; lock = c.args.lock; view = c.index.result; seat = c.args.seat } in
     let there : c.args.seat < length c.args.views.now.items = (let l = c.requires.views in let k = c.requires.seat in omega arith) in
     let own : get_or c.args.views.now.items c.args.seat (newcomer c.args.table.now.sizes) ≡ c.index.result.now = sym (get_or_read c.args.views.now.items c.args.seat c.index.result.now there c.index.ensures (newcomer c.args.table.now.sizes)) in
-    ok_map c.with_place.result (λ o. (o ≡ c.in_ok-change.change) × HasPlace c.args.table.now.sizes o) (λ o. IsPlanOf z s c.args.seat c.args.step o × HasPlace c.args.table.now.sizes o) c.with_place.ensures
-    (λ o k. (subst (λ (q : Option Change). IsPlanOf z s c.args.seat c.args.step q) (sym k.0) (served g f own c.requires.seat c.requires.holds c.args.step c.in_ok-change.change c.in_ok-change.ensures), k.1))
+    ok_map c.with_place.result (λ o. (o ≡ c.in_ok-change.change) × HasPlace c.args.table.now.sizes o) (λ o. IsPlanOf z s c.args.seat c.args.step c.plan.new.view o × HasPlace c.args.table.now.sizes o) c.with_place.ensures
+    (λ o k. (subst (λ (q : Option Change). IsPlanOf z s c.args.seat c.args.step c.plan.new.view q) (sym k.0) (served g f own c.requires.seat c.requires.holds c.args.step c.plan.new.view c.in_ok-change.change c.in_ok-change.ensures), k.1))

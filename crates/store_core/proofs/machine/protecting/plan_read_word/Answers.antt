@@ -12,6 +12,6 @@ pub returns : goal.returns
 returns c = (
   first_of (search rules, grind (arith, common_steps)),
   tt,
-  made_view c.args.sight.now (machine.ReadWord c.args.row c.args.word) c.of_view.result c.in_ok-knowing.field-0 c.of_view.ensures refl (write_same (state_seen c.args.sight.now).words (RowWord c.args.row c.args.word))
-      (c.in_ok-knowing.ensures ∙ two (λ v n. knowing v c.args.row c.args.word n) c.in_ok-copy.field-0 c.args.sight.now.view.now c.load-value.result ((state_seen c.args.sight.now).words (RowWord c.args.row c.args.word)) c.in_ok-copy.ensures c.load-value.ensures),
+  made_view c.args.sight.now (machine.ReadWord c.args.row c.args.word) c.of_nothing.result c.know.new.view c.of_nothing.ensures refl (write_same (state_seen c.args.sight.now).words (RowWord c.args.row c.args.word))
+      (c.in_ok-know.ensures ∙ two (λ v n. knowing v c.args.row c.args.word n) c.args.view.now c.args.sight.now.view.now c.load-value.result ((state_seen c.args.sight.now).words (RowWord c.args.row c.args.word)) c.requires c.load-value.ensures),
 )
