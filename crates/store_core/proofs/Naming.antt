@@ -1,6 +1,7 @@
 -- Marking the rows that a seat may name.
 use Rattle.std.proofs.Common.{◌≡◌, ◌⊎◌, ℕ, zero, suc, ◌+◌, ◌<◌, Bool, true, false, List, [], ◌∷◌, ◌++◌, length, get_or, set, refl, sym, ap, ◌∙◌, subst, ⊎_elim, inl, inr, arith, true≢false}
 use Rattle.std.specs.Prelude.{◌↔◌}
+use Rattle.std.proofs.lemmas.Bool.{cases_lt}
 use Rattle.store_model.specs.declared.view.Place.{Place}
 use Rattle.store_model.specs.declared.view.Place.TheVariants.{RowWord, RootCount, Root}
 use Rattle.store_model.specs.declared.view.View.{View}
@@ -51,7 +52,7 @@ in_at [] k l = absurd (omega arith)
 in_at (x ∷ xs) zero l = inl refl
 in_at (x ∷ xs) (suc k) l = inr (in_at xs k (omega arith))
 
-get_or_any : (xs : List ℕ) (k d : ℕ) → k < length xs → get_or xs k d ≡ get_or xs k 0
+pub get_or_any : (xs : List ℕ) (k d : ℕ) → k < length xs → get_or xs k d ≡ get_or xs k 0
 get_or_any [] k d l = absurd (omega arith)
 get_or_any (x ∷ xs) zero d l = refl
 get_or_any (x ∷ xs) (suc k) d l = get_or_any xs k d (omega arith)
@@ -68,6 +69,14 @@ length_last (x ∷ ws) r = ap suc (length_last ws r)
 -- one row is marked, which waits then
 pub visits_one : (m : List Bool) (r : ℕ) (ws : List ℕ) → r < length m → get_or m r false ≡ false → Visits m (set m r true) ws (ws ++ r ∷ [])
 visits_one m r ws l e = record { kept = λ q h. marked_kept m r q h; less = let a = unmarked_set m r l e in let b = length_last ws r in omega arith }
+
+-- after more rows, still more
+pub visits_on : (a b c : List Bool) (ws us xs : List ℕ) → Visits a b ws us → Visits b c us xs → Visits a c ws xs
+visits_on a b c ws us xs h k = record { kept = λ r m. k.kept r (h.kept r m); less = let p = h.less in let q = k.less in omega arith }
+
+-- the first of some rows were marked, and the next one is
+pub marked_more : (a b : List Bool) (f : ℕ → ℕ) (k r : ℕ) → ((q : ℕ) → IsMarked a q → IsMarked b q) → ((j : ℕ) → j < k → IsMarked a (f j)) → IsMarked b r → r ≡ f k → (j : ℕ) → j < k + 1 → IsMarked b (f j)
+marked_more a b f k r kept h now e j l = ⊎_elim (λ below. kept (f j) (h j below)) (λ past. let same : k ≡ j = omega arith in subst (λ (x : ℕ). IsMarked b x) (e ∙ ap f same) now) (cases_lt j k)
 
 -- a list without items
 pub no_items : (xs : List ℕ) → length xs ≡ 0 → xs ≡ []

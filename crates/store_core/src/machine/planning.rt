@@ -87,7 +87,8 @@ fn plan_publish(
     )
 }
 
-/// The plan of a step of a seat. Its view, of which this is a copy, becomes what it knows after it.
+/// The plan of a step of a seat. `view` is a copy of the seat's, and becomes what the seat knows after
+/// the step, if that is in place.
 pub(crate) fn planned(
     table: &Table,
     lock: &LockState,
