@@ -1,5 +1,5 @@
 //! How a creation ends: with a row, or with Full.
-ghost use Rattle.std.specs.Prelude.{◌≡◌, ◌+◌, ◌++◌, ◌∷◌, [], max, OnOk};
+ghost use Rattle.std.specs.Prelude.{◌≡◌, ◌+◌, ◌++◌, max, OnOk};
 ghost use Rattle.store_model.specs.Calls.{words_of};
 ghost use Rattle.history_core.specs.declared.entry.Entry.TheVariants.{Make, Find};
 ghost use Rattle.store_model.specs.Machine as machine;
