@@ -2,12 +2,15 @@
 
 from __future__ import annotations
 
+import contextlib
 import os
 import shutil
 import signal
 import subprocess
 import sys
+import time
 import unittest
+from collections.abc import Iterator
 
 import support
 from cases import ANSWERS, FAULTS, NAT, ONE_AND_ONE, REFUSED, START, USAGE, Case, read
@@ -37,6 +40,16 @@ command|unroll|bytes|reads a file of terms|./rec unroll FILE
 PROGRAM_OF_LATER = """echo "$*"; wc -c
 case $1 in judge) echo fault 15 at 2 >&2 ;; *) echo fault 18 at 48 >&2 ;; esac
 exit 3"""
+
+
+def processes() -> list[str]:
+    """Returns the folders in which the processes of this user work."""
+    found = []
+    for name in os.listdir("/proc"):
+        if name.isdigit():
+            with contextlib.suppress(OSError):
+                found.append(os.readlink(f"/proc/{name}/cwd"))
+    return found
 
 
 class PassesOn(unittest.TestCase):
@@ -179,60 +192,93 @@ class Help(unittest.TestCase):
 
 
 # Stands for the toolchain's command: it notes where it is called and what is there. What it has begun in a process
-# group of its own goes on writing for a while after it has ended. The program that it builds isn't executable.
+# group of its own goes on writing for a moment after it has ended. The program that it builds isn't executable.
 TOOLCHAIN = """echo "$*" "$PWD" >>"$NOTES"
 find . -type f >>"$NOTES"
+[ -z "$WAITS" ] || { : >"$WAITS"; exec sleep 60; }
 set -m
-(for it in $(seq 8); do mkdir "at_$it"; sleep 0.1; done) >/dev/null 2>&1 &
+(for it in $(seq 3); do mkdir "at_$it"; sleep 0.1; done) >/dev/null 2>&1 &
 echo 'rt: faults proved'
 echo 'rt: ends is kept: an earlier run on this machine proved the same files over the same libraries'
+echo 'statements thiserror: modules loaded=1 checked=0'
 [ -z "$FAILS" ] || { echo 'rt: rec_main NOT PROVED'; exit 1; }
 mkdir crates/rec_main/out && printf '#!/bin/sh\\nexit 5\\n' >crates/rec_main/out/rec_main"""
+# Crates that the program stands on, and some that it doesn't.
+WITHIN, BEYOND = ("faults", "rule_automaton", "shared_desk", "rec_main"), ("store_core", "run_trials", "log_speed")
 
 
 class Builds(unittest.TestCase):
     """The first build, by a toolchain that notes what it is given."""
 
-    def build(self, folder: str, fails: str) -> tuple[int, str, list[str]]:
-        """Returns the status, what was said, and the toolchain's notes; no copy of the sources is left."""
-        for name in ("rec", "crates.txt", "HANDLES", "tools/commands.txt"):
-            os.makedirs(os.path.dirname(f"{folder}/top/{name}"), exist_ok=True)
-            shutil.copy(f"{TOP}/{name}", f"{folder}/top/{name}")
-        for name in os.listdir(f"{TOP}/crates"):
-            for file in ("src/lib.rt", "specs/Lib.antt", "must-fail/wrong.edit", "out/old"):
-                os.makedirs(os.path.dirname(f"{folder}/top/crates/{name}/{file}"))
-                with open(f"{folder}/top/crates/{name}/{file}", "w") as made:
-                    made.write(name)
-        os.makedirs(f"{folder}/copies")
-        os.makedirs(f"{folder}/bin")
-        os.rename(support.script(folder, TOOLCHAIN), f"{folder}/bin/rt")
-        words = {"PATH": f"{folder}/bin:{os.environ['PATH']}", "TMPDIR": f"{folder}/copies", "NOTES": f"{folder}/notes"}
-        words |= {"REC_PROGRAM": "", "REC_EXPLAIN": "0", "FAILS": fails}
-        _, said, status = run([f"{folder}/top/rec", "rewrite"], **words)
-        self.assertEqual(os.listdir(f"{folder}/copies"), [])
-        with open(f"{folder}/notes") as notes:
-            return status, said.decode(), notes.read().splitlines()
+    @contextlib.contextmanager
+    def clone(self) -> Iterator[tuple[str, dict[str, str]]]:
+        """Gives a folder with a clone in top, whose files have little in them, and words for its launcher's environment."""
+        with support.folder() as folder:
+            for name in ("rec", "crates.txt", "HANDLES", "tools/commands.txt"):
+                os.makedirs(os.path.dirname(f"{folder}/top/{name}"), exist_ok=True)
+                shutil.copy(f"{TOP}/{name}", f"{folder}/top/{name}")
+            for name in os.listdir(f"{TOP}/crates"):
+                for file in ("src/lib.rt", "specs/Lib.antt", "must-fail/wrong.edit", "out/old"):
+                    os.makedirs(os.path.dirname(f"{folder}/top/crates/{name}/{file}"))
+                    with open(f"{folder}/top/crates/{name}/{file}", "w") as made:
+                        made.write(name)
+            os.makedirs(f"{folder}/copies of it")
+            os.makedirs(f"{folder}/bin")
+            os.rename(support.script(folder, TOOLCHAIN), f"{folder}/bin/rt")
+            words = {"PATH": f"{folder}/bin:{os.environ['PATH']}", "TMPDIR": f"{folder}/copies of it"}
+            words |= {"NOTES": f"{folder}/notes", "REC_PROGRAM": "", "REC_EXPLAIN": "0", "FAILS": "", "WAITS": ""}
+            yield folder, words
+            self.assertEqual(os.listdir(f"{folder}/copies of it"), [])
+            self.assertFalse([it for it in processes() if it.startswith(f"{folder}/") and not it.endswith(" (deleted)")])
 
     def test_the_program_is_built_in_a_copy_of_its_crates(self) -> None:
-        with support.folder() as folder:
-            status, said, notes = self.build(folder, "")
+        with self.clone() as (folder, words):
+            _, said, status = run([f"{folder}/top/rec", "rewrite"], **words)
             self.assertEqual(status, 5)
-            self.assertTrue(notes[0].startswith(f"ci {folder}/copies/"), notes[0])
-            self.assertIn("rec: proved 2 of ", said)
-            files = set(notes[1:])
-            for name in ("faults", "shared_desk", "rule_automaton", "rec_main"):
-                self.assertLessEqual({f"./crates/{name}/src/lib.rt", f"./crates/{name}/specs/Lib.antt"}, files)
-            self.assertLessEqual({"./crates.txt", "./HANDLES"}, files)
-            self.assertFalse([it for it in files if "/out/" in it or "/must-fail/" in it or "_trials/" in it or "_speed/" in it])
+            with open(f"{folder}/notes") as notes:
+                called, *files = notes.read().splitlines()
+            self.assertTrue(called.startswith(f"ci {folder}/copies of it/"), called)
+            copied = {it.split("/")[2] for it in files if it.startswith("./crates/")}
+            for name in copied:
+                self.assertLessEqual({f"./crates/{name}/src/lib.rt", f"./crates/{name}/specs/Lib.antt"}, set(files))
+            self.assertLessEqual({*WITHIN}, copied)
+            self.assertFalse(copied & {*BEYOND})
+            self.assertLessEqual({"./crates.txt", "./HANDLES"}, set(files))
+            self.assertFalse([it for it in files if "/out/" in it or "/must-fail/" in it])
+            self.assertIn(f"rec: proved 2 of {len(copied)} crates", said.decode())
             with open(f"{folder}/top/crates/rec_main/out/build.log") as log:
                 self.assertIn("rt: faults proved\n", log.read())
+            # What is built isn't built again, unless a source of its own changes.
+            for name, is_built_again in (("run_trials", False), ("faults", True)):
+                os.remove(f"{folder}/notes")
+                with open(f"{folder}/top/crates/{name}/src/lib.rt", "a") as source:
+                    source.write("changed")
+                self.assertEqual(run([f"{folder}/top/rec", "rewrite"], **words)[2], 5)
+                self.assertEqual(os.path.exists(f"{folder}/notes"), is_built_again, name)
+                open(f"{folder}/notes", "a").close()
 
     def test_a_build_that_fails(self) -> None:
-        with support.folder() as folder:
-            status, said, _ = self.build(folder, "1")
+        with self.clone() as (folder, words):
+            _, said, status = run([f"{folder}/top/rec", "rewrite"], **(words | {"FAILS": "1"}))
             self.assertEqual(status, 126)
-            self.assertIn("rt: rec_main NOT PROVED\n", said)
-            self.assertNotIn("rt: faults proved", said)
+            told = said.decode().splitlines()
+            self.assertEqual([it for it in told if it.startswith("rt: ")], ["rt: rec_main NOT PROVED"])
+            self.assertFalse([it for it in told if "thiserror" in it])
+            self.assertTrue(told[-1].startswith("rec: the build failed; "), told)
+            self.assertEqual({*os.listdir(f"{folder}/top/crates/rec_main/out")} & {"rec_main", "built-from"}, set())
+
+    def test_a_build_that_is_ended(self) -> None:
+        for number in (signal.SIGTERM, signal.SIGINT):
+            with self.clone() as (folder, words):
+                words["WAITS"] = f"{folder}/waits"
+                with subprocess.Popen([f"{folder}/top/rec", "rewrite"], env=os.environ | words, stderr=subprocess.DEVNULL) as ran:
+                    for _ in range(200):
+                        if os.path.exists(words["WAITS"]):
+                            break
+                        time.sleep(0.05)
+                    ran.send_signal(number)
+                self.assertEqual(ran.returncode, 128 + number)
+                self.assertFalse(os.path.exists(f"{folder}/top/crates/rec_main/out/rec_main"))
 
 
 class Later(unittest.TestCase):
