@@ -28,8 +28,8 @@ slots_of widest (e ∷ entries) places = slot_of e places ∷ slots_of widest en
 abbrev pub all_slots : ℕ → ℕ → List Entry → List Row → List Slot
 all_slots widest rows entries places = slots_of widest entries places ++ replicate (rows - length entries) None
 
--- the entry of the row at k: of so many places its arguments have theirs, a pair's others are
--- filled up, and a free row has no arguments, and its pair isn't that of no arguments
+-- The entry of the row at k: if it has more than two arguments, there are places for them; the rest
+-- of a pair is filled up; and a free row has no arguments, and its pair isn't that of no arguments.
 pub record IsEntry (widest size k : ℕ) (e : Entry) : Type 0 where
   pub two : length e.pair ≡ 2
   pub pair : e.used ≡ true → e.count ≤ 2 → e.pair ≡ filled (take e.count e.pair)

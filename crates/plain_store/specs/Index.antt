@@ -11,7 +11,7 @@ use Rattle.plain_store.specs.Hash.{hash}
 pub record Index : Type 0 where
   pub words : List ℕ
   pub free : List Row
-  -- the bits of a hash that are its place, and those that a word may have
+  -- of a hash's high half, the bits that are the place looked at first, and those that a word may have beside the row
   pub homes : ℕ
   pub tags : ℕ
 
@@ -73,7 +73,7 @@ abbrev pub taken : Index → Index
 taken x = record x { free = take (length x.free - 1) x.free }
 
 -- Each row in use stands where it is looked for, no more places are filled than rows are in use,
--- and each free row is once on the stack.
+-- and the free rows are on the stack, each once, in rising order.
 pub record IsIndexed (slots : List Slot) (x : Index) : Type 0 where
   pub fits : length x.free ≤ length slots
   pub filled : filled_count x.words + length x.free ≤ length slots
@@ -87,12 +87,13 @@ pub record IsFront (fresh : ℕ) (slots : List Slot) : Type 0 where
   pub fits : fresh ≤ length slots
   pub behind : (k : ℕ) → fresh ≤ k → slice_index_or slots k None ≡ None
 
--- so many rows have words: with any bits of a hash, each is less than a vacant place's
+-- so many rows have words: whatever bits of `tags` stand beside a row, its word is less than a
+-- vacant place's
 abbrev pub HasRoom : Index → ℕ → Type 0
 HasRoom x rows = rows + x.tags < 2 ^ 32
 
--- The rows before this one are where they are looked for, and the others were never in use. All
--- rows have words, and there are more places than rows that were ever in use.
+-- The rows before this one are indexed, and the others were never in use. All rows have words, and
+-- there are more places than rows that were ever in use.
 pub record IsIndexedTo (fresh : ℕ) (slots : List Slot) (x : Index) : Type 0 where
   pub front : IsFront fresh slots
   pub room : HasRoom x (length slots)

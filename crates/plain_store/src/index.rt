@@ -22,9 +22,9 @@ const GROWTH: usize = 4;
 pub(crate) struct Index {
     words: Vec<u32>,
     free: Vec<Row>,
-    // the bits of a hash that are its place
+    // of a hash's high half, the bits that are the place looked at first
     homes: u32,
-    // the bits of a hash that a word may have beside the row
+    // of a hash's high half, the bits that a word may have beside the row
     tags: u32,
     // how many places there may be
     most: usize,
@@ -68,7 +68,7 @@ impl Index {
         ensures places { IfOk result (λ x. 0 < length x.words) }
     {
         let last = u32::MAX >> rows.saturating_sub(1).leading_zeros().saturating_sub(1);
-        // `last` is never less than the rows, which `max` spares a proof of.
+        // `last` is at least `rows`; `max` spares the proof of it.
         let most = last.max(rows) as usize + 1;
         let first = most.min(FIRST_PLACES);
         let mut words = Vec::with_capacity(alloc, most)?;

@@ -22,7 +22,7 @@ pub(crate) struct Entry {
     used: bool,
 }
 
-// The pair of a free row. No row without arguments has it.
+// The pair of a free row. No row in use without arguments has it.
 const OTHER: Pair = [Row(0), Row(u32::MAX)];
 
 const FREE: Entry = Entry {

@@ -1,4 +1,4 @@
--- What workers leave of the desks at the passes of one store.
+-- What workers begin with at the passes of one store, and what they leave.
 use Rattle.std.specs.Prelude.{◌≡◌, ◌<◌, ℕ, true, List, Result, Err, All, IfOk, IfErr, map}
 use Rattle.term_model.specs.Tree.{Tree}
 use Rattle.history_core.specs.declared.entry.Entry.{Entry}
@@ -31,7 +31,8 @@ pub record MayBegin (work : Work) (store : Store) (given : List Pass) : Type 0 w
   pub passes : All (MayHaveDesk store) given
   pub new : EachPlace (IsNewPass store) store.sizes.seats given
 
--- The lines are those of the terms, in their order, whoever drew them; the events beside them lead to their values.
+-- The lines are those of the terms, in their order, each by one of the workers; beside them are the events that lead to their
+-- values, where these are told.
 pub record AreLines (work : Work) (l : Lines) : Type 0 where
   pub lines : map said l.list.items ≡ map (line_of work.settings work.symbols.now work.plan.now.rules) work.terms.now
   pub traces : map (λ t. t.items) l.traces.items ≡ map (trace_of work.settings work.plan.now.rules) work.terms.now

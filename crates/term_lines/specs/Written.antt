@@ -76,7 +76,8 @@ SweepsForLine old new (Err StoreFull) = SweepsMore old new 1
 SweepsForLine old new (Err Worn) = SweepsMore old new 1
 SweepsForLine old new (Err Memory) = SweepsMore old new 0
 
--- A machine may rewrite the term on the store, whose rows and places are enough.
+-- A machine that was made for the plan may rewrite the term on the store: its caller is inside, the term is ground and plain,
+-- rows are wide enough, and the stack has places for the machine.
 pub record MayRewrite (plan : Planned) (made : Made) (term : Tree) (s : Store) : Type 0 where
   pub inside : s.inside ≡ true
   pub machine : IsFor plan made
