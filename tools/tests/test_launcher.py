@@ -271,7 +271,9 @@ class Builds(unittest.TestCase):
         for number in (signal.SIGTERM, signal.SIGINT):
             with self.clone() as (folder, words):
                 words["WAITS"] = f"{folder}/waits"
-                with subprocess.Popen([f"{folder}/top/rec", "rewrite"], env=os.environ | words, stderr=subprocess.DEVNULL) as ran:
+                # (tests that run in the background ignore an interrupt, and a shell would too)
+                how = {"stderr": subprocess.DEVNULL, "preexec_fn": lambda: signal.signal(signal.SIGINT, signal.SIG_DFL)}
+                with subprocess.Popen([f"{folder}/top/rec", "rewrite"], env=os.environ | words, **how) as ran:
                     for _ in range(200):
                         if os.path.exists(words["WAITS"]):
                             break
