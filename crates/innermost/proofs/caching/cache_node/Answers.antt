@@ -1,4 +1,4 @@
-use Rattle.std.proofs.Common.{◌≡◌, ℕ, Option, Some, ◌∙◌, ap, subst}
+use Rattle.std.proofs.Common.{◌≡◌, ℕ, Option, Some, ◌∙◌, ap, subst, rules}
 use Rattle.std.proofs.lemmas.Result.{err_from_is_err_and, IfOk-weaker, IfErr-weaker}
 use Rattle.innermost.specs.declared.frames.Task.{Task}
 use Rattle.innermost.specs.declared.frames.Task.TheVariants.{Reduce}
@@ -91,3 +91,23 @@ returns-clause-fault g c =
     let k' = k in
     h start c.args.term.now fuel c.args.at (node_opened c.args.plan.now c.args.code.now start c.args.term.now fuel (g.M.Memo.map c.args.memo.now) c.args.epoch.now c.args.at c.args.parts.now.left now k' (g.T.Terms.store c.begin_node.new.terms) (Some c.in-Reduce-Some-default.rule) c.in-Reduce-Some-default.room (begins_afresh c.args.plan.now c.args.code.now start c.args.term.now fuel (g.M.Memo.map c.args.memo.now) c.args.epoch.now c.args.at c.args.parts.now.left now k').points (subst (λ (t : Task). Opens c.args.plan.now c.args.code.now (afresh c.args.plan.now c.args.code.now start c.args.term.now fuel (g.M.Memo.map c.args.memo.now) c.args.epoch.now c.args.at c.args.parts.now.left now k') c.args.term.now c.args.at c.args.parts.now.left (begins_afresh c.args.plan.now c.args.code.now start c.args.term.now fuel (g.M.Memo.map c.args.memo.now) c.args.epoch.now c.args.at c.args.parts.now.left now k').points (g.T.Terms.store c.begin_node.new.terms) t) task_is (c.in_ok-task.ensures.opened (afresh c.args.plan.now c.args.code.now start c.args.term.now fuel (g.M.Memo.map c.args.memo.now) c.args.epoch.now c.args.at c.args.parts.now.left now k') c.args.parts.now.left (begins_afresh c.args.plan.now c.args.code.now start c.args.term.now fuel (g.M.Memo.map c.args.memo.now) c.args.epoch.now c.args.at c.args.parts.now.left now k')))))
     c.reduce_known.ensures.fault
+
+pub returns-in_err-task-clause-state : goal.returns-in_err-task-clause-state
+returns-in_err-task-clause-state g c =
+    let p = err_from_is_err_and c.from_residual.result c.from_residual.ensures.1 in
+    rw p.1 tt
+
+pub returns-in_err-task-clause-frames_room : goal.returns-in_err-task-clause-frames_room
+returns-in_err-task-clause-frames_room g c = search rules
+
+pub returns-in_err-task-clause-matcher : goal.returns-in_err-task-clause-matcher
+returns-in_err-task-clause-matcher g c = search rules
+
+pub returns-in_err-task-clause-same : goal.returns-in_err-task-clause-same
+returns-in_err-task-clause-same g c = c.begin_node.ensures.same
+
+pub returns-in_default-clause-same : goal.returns-in_default-clause-same
+returns-in_default-clause-same g c = g.met.T.Terms.same_in_turn _ _ _ c.begin_node.ensures.same c.reduce.ensures.same
+
+pub returns-clause-same : goal.returns-clause-same
+returns-clause-same g c = g.met.T.Terms.same_in_turn _ _ _ c.begin_node.ensures.same c.reduce_known.ensures.same

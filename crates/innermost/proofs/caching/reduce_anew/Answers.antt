@@ -1,4 +1,4 @@
-use Rattle.std.proofs.Common.{◌≡◌, ℕ, ◌+◌, ◌-◌, Some, sym, subst}
+use Rattle.std.proofs.Common.{◌≡◌, ℕ, ◌+◌, ◌-◌, Some, sym, subst, rules}
 use Rattle.std.proofs.lemmas.Result.{err_from_is_err_and}
 use Rattle.terms_api.specs.Terms.{Store}
 use Rattle.innermost.specs.declared.normal.Normal.{Normal}
@@ -79,3 +79,20 @@ returns-in_default g c =
       matcher = e.matcher;
       same = e.same;
     }
+
+pub returns-in_err-end-clause-state : goal.returns-in_err-end-clause-state
+returns-in_err-end-clause-state g c =
+    let p = err_from_is_err_and c.from_residual.result c.from_residual.ensures.1 in
+    rw p.1 tt
+
+pub returns-in_err-end-clause-frames_room : goal.returns-in_err-end-clause-frames_room
+returns-in_err-end-clause-frames_room g c = search rules
+
+pub returns-in_err-end-clause-matcher : goal.returns-in_err-end-clause-matcher
+returns-in_err-end-clause-matcher g c = search rules
+
+pub returns-in_err-end-clause-same : goal.returns-in_err-end-clause-same
+returns-in_err-end-clause-same g c = c.reduce.ensures.same
+
+pub returns-in-Value-clause-same : goal.returns-in-Value-clause-same
+returns-in-Value-clause-same g c = g.met.T.Terms.same_in_turn _ _ _ c.reduce.ensures.same c.remember.ensures.same

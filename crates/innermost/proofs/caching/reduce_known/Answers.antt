@@ -1,10 +1,11 @@
-use Rattle.std.proofs.Common.{◌≡◌, Some, sym, ◌∙◌, subst}
+use Rattle.std.proofs.Common.{◌≡◌, ◌-◌, ◌<◌, length, Some, sym, ◌∙◌, subst, ap}
 use Rattle.std.proofs.lemmas.Result.{IfOk-weaker, IfErr-weaker}
 use Rattle.terms_api.specs.Terms.{Store}
 use Rattle.innermost.specs.Remembered.{AreRight}
 use Rattle.innermost.specs.Caching.{WasRight, IsTaken}
 use Rattle.innermost.proofs.Memories.{same_right}
 use Rattle.innermost.proofs.Knowing.{node_places, node_built, node_memory, node_looked, value_taken}
+use Rattle.std.specs.Prelude.{slice_get}
 use Rattle.innermost.proofs.caching.reduce_known.Goals as goal
 
 pub top_row-row-requires-clause-some : goal.top_row-row-requires-clause-some
@@ -70,3 +71,33 @@ returns-clause-fault g c =
     (subst (λ (q : Store). c.refresh.new.epoch ≡ q.epoch) c.top_row-row.ensures.unchanged c.refresh.ensures.epoch)
     (c.take_known.ensures.left c.if-take_known.false) (c.take_known.ensures.store c.if-take_known.false ∙ c.top_row-row.ensures.unchanged)))
     c.reduce_anew.ensures.fault
+
+pub take_known-requires-clause-some : goal.take_known-requires-clause-some
+take_known-requires-clause-some g c =
+    let s = c.requires.state in
+    subst (λ (q : Store). 0 < length q.stack) (sym c.top_row-row.ensures.unchanged)
+    (node_places c.args.plan.now c.args.code.now s.0 s.1 s.2 (g.M.Memo.map c.args.memo.now) c.args.epoch.now s.3 c.args.parts.now.left (g.T.Terms.store c.args.terms.now) (Some c.args.rule) c.args.room s.4)
+
+pub reduce_anew-requires-clause-row : goal.reduce_anew-requires-clause-row
+reduce_anew-requires-clause-row g c =
+    let t = c.top_row-row.ensures in
+    subst (λ (q : Store). slice_get q.stack (length q.stack - 1) ≡ Some c.top_row-row.result) (sym (c.take_known.ensures.store c.if-take_known.false ∙ t.unchanged)) t.row
+
+pub reduce_anew-requires-clause-epoch : goal.reduce_anew-requires-clause-epoch
+reduce_anew-requires-clause-epoch g c =
+    subst (λ (q : Store). c.refresh.new.epoch ≡ q.epoch) (sym (c.take_known.ensures.store c.if-take_known.false)) c.refresh.ensures.epoch
+
+pub returns-then-take_known-clause-same : goal.returns-then-take_known-clause-same
+returns-then-take_known-clause-same g c = g.met.T.Terms.same_in_turn _ _ _ c.top_row-row.ensures.same c.take_known.ensures.same
+
+pub returns-clause-same : goal.returns-clause-same
+returns-clause-same g c = g.met.T.Terms.same_in_turn _ _ _ (g.met.T.Terms.same_in_turn _ _ _ c.top_row-row.ensures.same c.take_known.ensures.same) c.reduce_anew.ensures.same
+
+pub take_known-requires-clause-inside : goal.take_known-requires-clause-inside
+take_known-requires-clause-inside g c = ap (λ (q : Store). q.inside) c.top_row-row.ensures.unchanged ∙ c.requires.inside
+
+pub refresh-requires : goal.refresh-requires
+refresh-requires g c = record { inside = ap (λ (q : Store). q.inside) c.top_row-row.ensures.unchanged ∙ c.requires.inside }
+
+pub reduce_anew-requires-clause-inside : goal.reduce_anew-requires-clause-inside
+reduce_anew-requires-clause-inside g c = ap (λ (q : Store). q.inside) (c.take_known.ensures.store c.if-take_known.false ∙ c.top_row-row.ensures.unchanged) ∙ c.requires.inside

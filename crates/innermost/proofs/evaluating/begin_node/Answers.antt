@@ -54,3 +54,37 @@ returns-clause-opened g c = λ job left e.
     (node_point c.args.plan.now c.args.code.now job' c.args.term.now c.args.at left (g.T.Terms.store c.args.terms.now) e' c.item_at-item.result c.in-Some.head c.requires.plain c.requires.node (c.item_at-item.ensures ∙ ap (λ (is : List Item). get_or is c.args.at c.item_at-item.result) c.items.ensures.items) (sym c.head.ensures ∙ c.in-Some.is))
     (stands_at c.args.plan.now c.args.code.now job' c.args.term.now c.args.at left (g.T.Terms.store c.args.terms.now) e' c.item_at-item.result c.in-Some.head c.requires.plain c.requires.node (c.item_at-item.ensures ∙ ap (λ (is : List Item). get_or is c.args.at c.item_at-item.result) c.items.ensures.items) (sym c.head.ensures ∙ c.in-Some.is) c.arity.result c.arity.ensures)
     (over_at c.args.plan.now c.args.code.now job' c.args.term.now c.args.at left (g.T.Terms.store c.args.terms.now) e' c.item_at-item.result c.in-Some.head c.requires.plain c.requires.node (c.item_at-item.ensures ∙ ap (λ (is : List Item). get_or is c.args.at c.item_at-item.result) c.items.ensures.items) (sym c.head.ensures ∙ c.in-Some.is) c.arity.result c.arity.ensures)) c.first.ensures.first c.first.ensures.none
+
+pub returns-in_err-build_at-clause-state : goal.returns-in_err-build_at-clause-state
+returns-in_err-build_at-clause-state g c =
+    let p = err_from_is_err_and c.from_residual.result c.from_residual.ensures.1 in
+    rw p.1 tt
+
+pub returns-in_err-build_at-clause-opened : goal.returns-in_err-build_at-clause-opened
+returns-in_err-build_at-clause-opened g c =
+    let p = err_from_is_err_and c.from_residual.result c.from_residual.ensures.1 in
+    rw p.1 tt
+
+pub returns-in_err-build_at-clause-unended : goal.returns-in_err-build_at-clause-unended
+returns-in_err-build_at-clause-unended g c =
+    let p = err_from_is_err_and c.from_residual.result c.from_residual.ensures.1 in
+    rw p.1 tt
+
+pub returns-in_err-build_at-clause-same : goal.returns-in_err-build_at-clause-same
+returns-in_err-build_at-clause-same g c = c.build_at.ensures.same
+
+pub returns-in_err-build_at-clause-none : goal.returns-in_err-build_at-clause-none
+returns-in_err-build_at-clause-none g c =
+    let p = err_from_is_err_and c.from_residual.result c.from_residual.ensures.1 in
+    rw p.1 c.in_err-build_at.ensures.none
+
+pub returns-in_err-build_at-clause-reduction : goal.returns-in_err-build_at-clause-reduction
+returns-in_err-build_at-clause-reduction g c =
+    let p = err_from_is_err_and c.from_residual.result c.from_residual.ensures.1 in
+    rw p.1 (λ l. tt)
+
+pub returns-then-down-code-clause-same : goal.returns-then-down-code-clause-same
+returns-then-down-code-clause-same g c = g.met.T.Terms.same_as_itself _
+
+pub returns-clause-same : goal.returns-clause-same
+returns-clause-same g c = c.build_at.ensures.same

@@ -1,3 +1,4 @@
+use Rattle.std.proofs.Common.{rules}
 use Rattle.std.proofs.lemmas.Result.{err_from_is_err_and, IfOk-weaker, IfErr-weaker}
 use Rattle.innermost.proofs.Evaluations.{begun_inside, begun_gives_up}
 use Rattle.innermost.proofs.evaluating.evaluate_node.Goals as goal
@@ -34,3 +35,20 @@ returns-clause-fault g c =
     let b = c.in_ok-task.ensures.state job c.args.parts.now.left e in
     begun_gives_up c.args.plan.now c.args.code.now job c.args.term.now c.args.at c.args.parts.now.left (g.T.Terms.store c.begin_node.new.terms) c.in_ok-task.task b (g.T.Terms.store c.reduce.new.terms) fault (h b.inner b.task))
     c.reduce.ensures.fault
+
+pub returns-in_err-task-clause-state : goal.returns-in_err-task-clause-state
+returns-in_err-task-clause-state g c =
+    let p = err_from_is_err_and c.from_residual.result c.from_residual.ensures.1 in
+    rw p.1 tt
+
+pub returns-in_err-task-clause-frames_room : goal.returns-in_err-task-clause-frames_room
+returns-in_err-task-clause-frames_room g c = search rules
+
+pub returns-in_err-task-clause-matcher : goal.returns-in_err-task-clause-matcher
+returns-in_err-task-clause-matcher g c = search rules
+
+pub returns-in_err-task-clause-same : goal.returns-in_err-task-clause-same
+returns-in_err-task-clause-same g c = c.begin_node.ensures.same
+
+pub returns-clause-same : goal.returns-clause-same
+returns-clause-same g c = g.met.T.Terms.same_in_turn _ _ _ c.begin_node.ensures.same c.reduce.ensures.same

@@ -60,3 +60,9 @@ returns g c =
       keeps = c.build_at.ensures.keeps;
       same = c.build_at.ensures.same;
     }
+
+pub returns-then-room-down-clause-same : goal.returns-then-room-down-clause-same
+returns-then-room-down-clause-same g c = g.met.T.Terms.same_as_itself _
+
+pub returns-in-Var-clause-same : goal.returns-in-Var-clause-same
+returns-in-Var-clause-same g c = c.put.ensures.same

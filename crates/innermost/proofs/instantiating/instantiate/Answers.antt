@@ -1,6 +1,7 @@
 use Rattle.std.proofs.Common.{subst, arith}
 use Rattle.innermost.specs.Instances.{HasBuilt}
 use Rattle.innermost.proofs.Sites.{site_begins, site_ends, site_contains}
+use Rattle.std.proofs.lemmas.Result.{err_from_is_err_and}
 use Rattle.innermost.proofs.instantiating.instantiate.Goals as goal
 
 pub nodes-init : goal.nodes-init
@@ -53,3 +54,52 @@ nodes-preserved g c =
 pub returns-clause-state : goal.returns-clause-state
 returns-clause-state g c = λ site b.
     site_ends site (g.T.Terms.store c.nodes.terms) c.args.rows.now c.args.pattern.now c.args.room c.nodes.at (omega (arith, c.node_count-count.ensures.nodes, c.nodes-test.false)) c.nodes.invariant.within (c.nodes.invariant.state site b)
+
+pub returns-in_err-build_node-clause-state : goal.returns-in_err-build_node-clause-state
+returns-in_err-build_node-clause-state g c =
+    let p = err_from_is_err_and c.from_residual.result c.from_residual.ensures.1 in
+    rw p.1 tt
+
+pub returns-in_err-build_node-clause-fault : goal.returns-in_err-build_node-clause-fault
+returns-in_err-build_node-clause-fault g c =
+    let p = err_from_is_err_and c.from_residual.result c.from_residual.ensures.1 in
+    rw (p.1, p.2) (λ site b. c.in_err-build_node.ensures.fault site (c.nodes.invariant.state site b))
+
+pub returns-in_err-build_node-clause-path_room : goal.returns-in_err-build_node-clause-path_room
+returns-in_err-build_node-clause-path_room g c = c.depth_at-down.ensures.room
+
+pub returns-in_err-build_node-clause-window : goal.returns-in_err-build_node-clause-window
+returns-in_err-build_node-clause-window g c = c.depth_at-down.ensures.some
+
+pub returns-in_err-build_node-clause-same : goal.returns-in_err-build_node-clause-same
+returns-in_err-build_node-clause-same g c = g.met.T.Terms.same_in_turn _ _ _ c.nodes.invariant.same c.build_node.ensures.same
+
+pub returns-then-not-branch-clause-same : goal.returns-then-not-branch-clause-same
+returns-then-not-branch-clause-same g c = g.met.T.Terms.same_in_turn _ _ _ c.nodes.invariant.same c.build_node.ensures.same
+
+pub returns-clause-same : goal.returns-clause-same
+returns-clause-same g c = c.nodes.invariant.same
+
+pub depth_at-down-requires-clause-plain : goal.depth_at-down-requires-clause-plain
+depth_at-down-requires-clause-plain g c = c.requires.plain
+
+pub depth_at-down-requires-clause-node : goal.depth_at-down-requires-clause-node
+depth_at-down-requires-clause-node g c = omega (arith, c.node_count-count.ensures.nodes, c.nodes-test.true)
+
+pub depth_at-down-requires-clause-some : goal.depth_at-down-requires-clause-some
+depth_at-down-requires-clause-some g c = c.nodes.invariant.window
+
+pub depth_at-down-requires-clause-room : goal.depth_at-down-requires-clause-room
+depth_at-down-requires-clause-room g c = c.nodes.invariant.path_room
+
+pub depth_at-down-requires-clause-shows : goal.depth_at-down-requires-clause-shows
+depth_at-down-requires-clause-shows g c = c.nodes.invariant.shows
+
+pub build_node-requires-clause-inside : goal.build_node-requires-clause-inside
+build_node-requires-clause-inside g c = c.nodes.invariant.inside
+
+pub build_node-requires-clause-node : goal.build_node-requires-clause-node
+build_node-requires-clause-node g c = omega (arith, c.node_count-count.ensures.nodes, c.nodes-test.true)
+
+pub build_node-requires-clause-down : goal.build_node-requires-clause-down
+build_node-requires-clause-down g c = c.depth_at-down.ensures.depth

@@ -1,4 +1,4 @@
-use Rattle.std.proofs.Common.{◌≡◌, ◌-◌, [], ◌∷◌, get_or, sym, ap, subst, arith}
+use Rattle.std.proofs.Common.{◌≡◌, ◌-◌, [], ◌∷◌, get_or, sym, ap, subst, arith, rules}
 use Rattle.std.proofs.lemmas.Result.{err_from_is_err_and}
 use Rattle.std.proofs.lemmas.List.{get_or_default}
 use Rattle.term_model.specs.Tree.{Tree, Leaf}
@@ -176,3 +176,59 @@ returns-clause-state g c = λ run e.
     let changed = right_changes run c.args.plan.now c.args.depth c.args.left.now (g.T.Terms.store c.args.terms.now) c.args.spots.now.items c.args.rows.now c.args.rule c.args.room e (c.args.left.now - 1) (omega (arith, c.if-left-eq0.false)) r q mid (c.in_ok-instantiate.ensures.keeps (e).on.tree (root_stands run c.args.plan.now c.args.depth c.args.left.now (g.T.Terms.store c.args.terms.now) (e).on)) made in
     let all = subst (λ b. IsRebuiltAll change (g.T.Terms.store c.rebuild.new.terms) b) c.if-not-branch-2.false (c.in_ok-rebuild.ensures.state change e.found.crumbs made.tree changed) in
     rewritten run c.args.plan.now c.args.depth c.args.left.now (g.T.Terms.store c.args.terms.now) c.args.spots.now.items c.args.rows.now c.args.rule c.args.room e (c.args.left.now - 1) (omega (arith, c.if-left-eq0.false)) r q (g.T.Terms.store c.rebuild.new.terms) (g.T.Terms.store c.keep.new.self) (c.depth-place.result - 1) all (ap (λ k. k - 1) c.depth-place.ensures.depth) c.keep.ensures.kept c.keep.ensures.sound
+
+pub returns-in_err-instantiate-clause-state : goal.returns-in_err-instantiate-clause-state
+returns-in_err-instantiate-clause-state g c =
+    let p = err_from_is_err_and c.from_residual.result c.from_residual.ensures.1 in
+    rw p.1 tt
+
+pub returns-in_err-instantiate-clause-smaller : goal.returns-in_err-instantiate-clause-smaller
+returns-in_err-instantiate-clause-smaller g c =
+    let p = err_from_is_err_and c.from_residual.result c.from_residual.ensures.1 in
+    rw p.1 tt
+
+pub returns-in_err-rebuild-clause-state : goal.returns-in_err-rebuild-clause-state
+returns-in_err-rebuild-clause-state g c =
+    let p = err_from_is_err_and c.from_residual-in_err-rebuild.result c.from_residual-in_err-rebuild.ensures.1 in
+    rw p.1 tt
+
+pub returns-in_err-rebuild-clause-smaller : goal.returns-in_err-rebuild-clause-smaller
+returns-in_err-rebuild-clause-smaller g c =
+    let p = err_from_is_err_and c.from_residual-in_err-rebuild.result c.from_residual-in_err-rebuild.ensures.1 in
+    rw p.1 tt
+
+pub returns-in_err-instantiate-clause-spots_room : goal.returns-in_err-instantiate-clause-spots_room
+returns-in_err-instantiate-clause-spots_room g c = search rules
+
+pub returns-in_err-instantiate-clause-path_room : goal.returns-in_err-instantiate-clause-path_room
+returns-in_err-instantiate-clause-path_room g c = search rules
+
+pub returns-in_err-instantiate-clause-window : goal.returns-in_err-instantiate-clause-window
+returns-in_err-instantiate-clause-window g c = search rules
+
+pub returns-in_err-rebuild-clause-spots_room : goal.returns-in_err-rebuild-clause-spots_room
+returns-in_err-rebuild-clause-spots_room g c = search rules
+
+pub returns-in_err-rebuild-clause-path_room : goal.returns-in_err-rebuild-clause-path_room
+returns-in_err-rebuild-clause-path_room g c = search rules
+
+pub returns-in_err-rebuild-clause-window : goal.returns-in_err-rebuild-clause-window
+returns-in_err-rebuild-clause-window g c = search rules
+
+pub returns-then-left-eq0-clause-same : goal.returns-then-left-eq0-clause-same
+returns-then-left-eq0-clause-same g c = g.met.T.Terms.same_as_itself _
+
+pub returns-in_err-instantiate-clause-same : goal.returns-in_err-instantiate-clause-same
+returns-in_err-instantiate-clause-same g c = c.instantiate.ensures.same
+
+pub returns-then-not-branch-clause-same : goal.returns-then-not-branch-clause-same
+returns-then-not-branch-clause-same g c = c.instantiate.ensures.same
+
+pub returns-in_err-rebuild-clause-same : goal.returns-in_err-rebuild-clause-same
+returns-in_err-rebuild-clause-same g c = g.met.T.Terms.same_in_turn _ _ _ c.instantiate.ensures.same c.rebuild.ensures.same
+
+pub returns-then-not-branch-2-clause-same : goal.returns-then-not-branch-2-clause-same
+returns-then-not-branch-2-clause-same g c = g.met.T.Terms.same_in_turn _ _ _ c.instantiate.ensures.same c.rebuild.ensures.same
+
+pub returns-clause-same : goal.returns-clause-same
+returns-clause-same g c = g.met.T.Terms.same_in_turn _ _ _ (g.met.T.Terms.same_in_turn _ _ _ c.instantiate.ensures.same c.rebuild.ensures.same) c.keep.ensures.same

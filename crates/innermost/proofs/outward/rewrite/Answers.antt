@@ -1,4 +1,4 @@
-use Rattle.std.proofs.Common.{◌∙◌, subst, arith, refl, Option}
+use Rattle.std.proofs.Common.{◌∙◌, subst, arith, refl, Option, rules}
 use Rattle.std.proofs.lemmas.Result.{err_from_is_err_and}
 use Rattle.innermost.specs.declared.normal.Normal.{Normal}
 use Rattle.innermost.specs.Instances.{IsInstance}
@@ -55,3 +55,49 @@ steps-preserved g c =
       state = on;
       same = g.met.T.Terms.same_in_turn _ _ _ i.same e.same;
     }
+
+pub returns-in_err-instantiate-clause-state : goal.returns-in_err-instantiate-clause-state
+returns-in_err-instantiate-clause-state g c =
+    let p = err_from_is_err_and c.from_residual.result c.from_residual.ensures.1 in
+    rw p.1 tt
+
+pub returns-in_err-end-clause-state : goal.returns-in_err-end-clause-state
+returns-in_err-end-clause-state g c =
+    let p = err_from_is_err_and c.from_residual-in_err-end.result c.from_residual-in_err-end.ensures.1 in
+    rw p.1 tt
+
+pub returns-in_err-instantiate-clause-spots_room : goal.returns-in_err-instantiate-clause-spots_room
+returns-in_err-instantiate-clause-spots_room g c = search rules
+
+pub returns-in_err-instantiate-clause-matcher : goal.returns-in_err-instantiate-clause-matcher
+returns-in_err-instantiate-clause-matcher g c = search rules
+
+pub returns-in_err-instantiate-clause-path_room : goal.returns-in_err-instantiate-clause-path_room
+returns-in_err-instantiate-clause-path_room g c = search rules
+
+pub returns-in_err-instantiate-clause-window : goal.returns-in_err-instantiate-clause-window
+returns-in_err-instantiate-clause-window g c = search rules
+
+pub returns-in_err-end-clause-spots_room : goal.returns-in_err-end-clause-spots_room
+returns-in_err-end-clause-spots_room g c = search rules
+
+pub returns-in_err-end-clause-matcher : goal.returns-in_err-end-clause-matcher
+returns-in_err-end-clause-matcher g c = search rules
+
+pub returns-in_err-end-clause-path_room : goal.returns-in_err-end-clause-path_room
+returns-in_err-end-clause-path_room g c = search rules
+
+pub returns-in_err-end-clause-window : goal.returns-in_err-end-clause-window
+returns-in_err-end-clause-window g c = search rules
+
+pub returns-in_err-instantiate-clause-same : goal.returns-in_err-instantiate-clause-same
+returns-in_err-instantiate-clause-same g c = c.instantiate.ensures.same
+
+pub returns-then-not-branch-clause-same : goal.returns-then-not-branch-clause-same
+returns-then-not-branch-clause-same g c = c.instantiate.ensures.same
+
+pub returns-in_err-end-clause-same : goal.returns-in_err-end-clause-same
+returns-in_err-end-clause-same g c = g.met.T.Terms.same_in_turn _ _ _ c.steps.invariant.same c.step.ensures.same
+
+pub returns-in-Some-clause-same : goal.returns-in-Some-clause-same
+returns-in-Some-clause-same g c = g.met.T.Terms.same_in_turn _ _ _ c.steps.invariant.same c.step.ensures.same

@@ -1,4 +1,4 @@
-use Rattle.std.proofs.Common.{◌≡◌, ◌-◌, List, length, sym, ◌∙◌, ap, subst, Some}
+use Rattle.std.proofs.Common.{◌≡◌, ◌-◌, List, length, sym, ◌∙◌, ap, subst, Some, arith}
 use Rattle.std.specs.Prelude.{slice_get}
 use Rattle.std.proofs.lemmas.Result.{IfOk-weaker, IfErr-weaker}
 use Rattle.term_model.specs.Tree.{Tree}
@@ -9,7 +9,8 @@ use Rattle.rewrite_model.specs.Outermost.{Same, step}
 use Rattle.innermost.specs.Outward.{Stops, Finishes}
 use Rattle.innermost.specs.Walking.{IsFound}
 use Rattle.innermost.specs.Rewriting.{IsReplacing}
-use Rattle.innermost.proofs.Rewrites.{on_tree, on_stops, on_finishes}
+use Rattle.innermost.proofs.Rewrites.{on_tree, on_stops, on_finishes, on_height}
+use Rattle.terms_api.proofs.Callers.{held-stack}
 use Rattle.innermost.proofs.outward.step.Goals as goal
 
 pub replace-requires-clause-state : goal.replace-requires-clause-state
@@ -69,3 +70,27 @@ returns-in-Same-clause-state g c = λ run e.
 
 pub unreachable-requires : goal.unreachable-requires
 unreachable-requires g c = c.walk.ensures.on c.in-On.is
+
+pub overflow_sub-place : goal.overflow_sub-place
+overflow_sub-place g c =
+    let s = c.requires.state in
+    omega (arith, c.depth-place.ensures.depth, on_height s.0 c.args.plan.now c.args.depth c.args.left.now (g.T.Terms.store c.args.terms.now) s.1)
+
+pub at-row-requires-clause-place : goal.at-row-requires-clause-place
+at-row-requires-clause-place g c =
+    let s = c.requires.state in
+    omega (arith, c.depth-place.ensures.depth, on_height s.0 c.args.plan.now c.args.depth c.args.left.now (g.T.Terms.store c.args.terms.now) s.1)
+
+pub walk-requires-clause-held : goal.walk-requires-clause-held
+walk-requires-clause-held g c =
+    let at = c.at-row.ensures in
+    held-stack (g.T.Terms.store c.at-row.new.self) _ c.at-row.result at.sound (ap (λ (q : Store). slice_get q.stack (c.depth-place.result - 1)) at.unchanged ∙ at.row)
+
+pub returns-in-Found-clause-same : goal.returns-in-Found-clause-same
+returns-in-Found-clause-same g c = g.met.T.Terms.same_in_turn _ _ _ (g.met.T.Terms.same_in_turn _ _ _ c.at-row.ensures.same c.walk.ensures.same) c.replace.ensures.same
+
+pub returns-in-TooDeep-clause-same : goal.returns-in-TooDeep-clause-same
+returns-in-TooDeep-clause-same g c = g.met.T.Terms.same_in_turn _ _ _ c.at-row.ensures.same c.walk.ensures.same
+
+pub returns-in-Same-clause-same : goal.returns-in-Same-clause-same
+returns-in-Same-clause-same g c = g.met.T.Terms.same_in_turn _ _ _ c.at-row.ensures.same c.walk.ensures.same

@@ -223,3 +223,11 @@ returns-clause-state g c = λ change cr way tree spots e.
 
 pub returns-clause-same : goal.returns-clause-same
 returns-clause-same g c = (g.met.T.Terms.same_in_turn _ _ _ (g.met.T.Terms.same_in_turn _ _ _ (g.met.T.Terms.same_in_turn _ _ _ (g.met.T.Terms.same_in_turn _ _ _ (g.met.T.Terms.same_in_turn _ _ _ (g.met.T.Terms.same_in_turn _ _ _ (g.met.T.Terms.same_in_turn _ _ _ c.count-count.ensures.same c.head-head.ensures.same) c.at-changed.ensures.same) c.keep.ensures.same) c.push_arguments.ensures.same) c.put.ensures.same) c.push_arguments-2.ensures.same) c.build_at.ensures.same)
+
+pub returns-in_err-build_at-clause-state : goal.returns-in_err-build_at-clause-state
+returns-in_err-build_at-clause-state g c =
+    let p = err_from_is_err_and c.from_residual.result c.from_residual.ensures.1 in
+    rw p.1 tt
+
+pub returns-then-spot-count-clause-same : goal.returns-then-spot-count-clause-same
+returns-then-spot-count-clause-same g c = c.count-count.ensures.same

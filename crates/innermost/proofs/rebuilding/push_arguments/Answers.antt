@@ -26,3 +26,6 @@ arguments-preserved g c =
       sound = c.put.ensures.sound;
       same = g.met.T.Terms.same_in_turn _ _ _ (g.met.T.Terms.same_in_turn _ _ _ i.same child.same) c.put.ensures.same;
     }
+
+pub returns-clause-same : goal.returns-clause-same
+returns-clause-same g c = c.arguments.invariant.same

@@ -1,4 +1,4 @@
-use Rattle.std.proofs.Common.{List, ◌∙◌, subst}
+use Rattle.std.proofs.Common.{List, ◌∙◌, subst, rules}
 use Rattle.std.proofs.lemmas.Result.{err_from_is_err_and}
 use Rattle.innermost.specs.Rebuilding.{Change, IsRebuilt}
 use Rattle.innermost.specs.Walking.{Crumb}
@@ -45,3 +45,20 @@ spots-preserved g c =
       state = go;
       same = g.met.T.Terms.same_in_turn _ _ _ i.same c.in_ok-build_again.ensures.same;
     }
+
+pub returns-in_err-build_again-clause-state : goal.returns-in_err-build_again-clause-state
+returns-in_err-build_again-clause-state g c =
+    let p = err_from_is_err_and c.from_residual.result c.from_residual.ensures.1 in
+    rw p.1 tt
+
+pub returns-in_err-build_again-clause-spots_room : goal.returns-in_err-build_again-clause-spots_room
+returns-in_err-build_again-clause-spots_room g c = search rules
+
+pub returns-in_err-build_again-clause-same : goal.returns-in_err-build_again-clause-same
+returns-in_err-build_again-clause-same g c = g.met.T.Terms.same_in_turn _ _ _ c.spots.invariant.same c.build_again.ensures.same
+
+pub returns-then-not-branch-clause-same : goal.returns-then-not-branch-clause-same
+returns-then-not-branch-clause-same g c = g.met.T.Terms.same_in_turn _ _ _ c.spots.invariant.same c.build_again.ensures.same
+
+pub returns-clause-same : goal.returns-clause-same
+returns-clause-same g c = c.spots.invariant.same

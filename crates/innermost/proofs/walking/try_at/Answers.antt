@@ -52,3 +52,12 @@ returns-in-None-clause-smaller g c =
     let p = left_push now c.args.spots.now.items f in
     let n = nodes_arguments (tree_at now c.args.row) in
     omega (arith, u, p, n)
+
+pub returns-then-room-eq0-clause-same : goal.returns-then-room-eq0-clause-same
+returns-then-room-eq0-clause-same g c = g.met.T.Terms.same_as_itself _
+
+pub returns-in-Some-clause-same : goal.returns-in-Some-clause-same
+returns-in-Some-clause-same g c = g.met.T.Terms.same_in_turn _ _ _ c.head-head.ensures.same c.find_rule.ensures.same
+
+pub returns-in-None-clause-same : goal.returns-in-None-clause-same
+returns-in-None-clause-same g c = g.met.T.Terms.same_in_turn _ _ _ c.head-head.ensures.same c.find_rule.ensures.same

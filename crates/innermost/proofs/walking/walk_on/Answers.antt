@@ -68,3 +68,12 @@ returns-clause-smaller g c =
     let n = nodes_drop (arguments (tree_at now f.row)) f.argument (tree_at now c.child-argument.result) at in
     let t = ap (λ (s : Store). nodes (tree_at s c.child-argument.result)) u in
     omega (arith, c.try_at.ensures.smaller, a, b, p, q, i, n, t)
+
+pub returns-in_default-clause-same : goal.returns-in_default-clause-same
+returns-in_default-clause-same g c = g.met.T.Terms.same_as_itself _
+
+pub returns-then-spot-count-clause-same : goal.returns-then-spot-count-clause-same
+returns-then-spot-count-clause-same g c = c.count.ensures.same
+
+pub returns-clause-same : goal.returns-clause-same
+returns-clause-same g c = g.met.T.Terms.same_in_turn _ _ _ (g.met.T.Terms.same_in_turn _ _ _ c.count.ensures.same c.child-argument.ensures.same) c.try_at.ensures.same

@@ -72,3 +72,12 @@ returns-clause-placed g c =
       shape = l;
       within = variables_within rules a r size au l (omega (arith, c.self.invariant.0, c.find_rule.ensures.places));
     }
+
+pub returns-in_default-clause-same : goal.returns-in_default-clause-same
+returns-in_default-clause-same g c = g.met.T.Terms.same_as_itself _
+
+pub returns-in_default-find_rule-clause-same : goal.returns-in_default-find_rule-clause-same
+returns-in_default-find_rule-clause-same g c = c.find_rule.ensures.same
+
+pub returns-clause-same : goal.returns-clause-same
+returns-clause-same g c = c.find_rule.ensures.same

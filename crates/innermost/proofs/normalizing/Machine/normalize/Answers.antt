@@ -1,8 +1,9 @@
-use Rattle.std.proofs.Common.{◌≡◌, ℕ, Result, sym, ap, subst, arith}
+use Rattle.std.proofs.Common.{◌≡◌, ℕ, Result, sym, ap, subst, arith, ◌≤◌, ◌∙◌}
 use Rattle.rewrite_model.specs.Evaluation.{evaluation}
 use Rattle.rewrite_model.specs.Built.{need}
 use Rattle.innermost.specs.Normalized.{Answers, Builds, FaultOnlyWhereRefused, SweepsAtMost, LoadsNeedAtMost}
 use Rattle.innermost.specs.Tasks.{HasCode}
+use Rattle.rule_automaton.specs.Automata.{Made as Automaton, IsAutomaton}
 use Rattle.innermost.specs.Machines.{Made}
 use Rattle.innermost.specs.declared.normal.Normal.{Normal}
 use Rattle.innermost.specs.declared.normal.RunFault.{RunFault}
@@ -75,3 +76,33 @@ returns-clause-numbers g c =
     let left = all_left c.args.plan.now c.self.inside.code c.args.term.now c.args.fuel (g.T.Terms.store c.args.terms.now) (g.T.Terms.store c.evaluate-end.new.terms) (g.T.Terms.store c.settle.new.terms) c.depth-base.result c.evaluate-end.result
     (end_from c.args.plan.now c.self.inside.code c.args.term.now c.args.fuel (g.T.Terms.store c.args.terms.now) (g.T.Terms.store c.evaluate-end.new.terms) c.evaluate-end.result c.evaluate-end.ensures.state c.evaluate-end.ensures.fault) c.depth-base.ensures.depth c.settle.ensures.settled c.settle.ensures.sound in
     left.numbers
+
+pub evaluate-end-requires-clause-matcher : goal.evaluate-end-requires-clause-matcher
+evaluate-end-requires-clause-matcher g c = subst (λ (m : Made). IsAutomaton c.args.plan.now.rules m.automaton) (sym c.self.view_is) c.requires.machine.automaton
+
+pub returns-clause-same : goal.returns-clause-same
+returns-clause-same g c = g.met.T.Terms.same_in_turn _ _ _ c.evaluate-end.ensures.same c.settle.ensures.same
+
+pub evaluate-end-requires-clause-frames_room : goal.evaluate-end-requires-clause-frames_room
+evaluate-end-requires-clause-frames_room g c = c.self.invariant.0
+
+pub evaluate-end-requires-clause-path_room : goal.evaluate-end-requires-clause-path_room
+evaluate-end-requires-clause-path_room g c = c.self.invariant.1
+
+pub evaluate-end-requires-clause-window : goal.evaluate-end-requires-clause-window
+evaluate-end-requires-clause-window g c = c.self.invariant.2
+
+pub invariant_of-self : goal.invariant_of-self
+invariant_of-self g c =
+    let i = c.self.invariant in
+    let e = c.evaluate-end.ensures in
+    (subst (λ (n : ℕ). c.self.inside.code.depth ≤ n) (sym e.frames_room) i.0, e.path_room, e.window, i.3, i.4)
+
+pub returns-clause-machine : goal.returns-clause-machine
+returns-clause-machine g c =
+    let code = c.self.inside.code in
+    let made : Automaton → Made = λ a. record { steps = code.steps.items; starts = code.starts.items; depth = code.depth; automaton = a } in
+    ap made c.evaluate-end.ensures.matcher ∙ c.self.view_is
+
+pub returns-clause-sound : goal.returns-clause-sound
+returns-clause-sound g c = c.settle.ensures.sound

@@ -1,4 +1,4 @@
-use Rattle.std.proofs.Common.{◌≡◌, ℕ, Result, length, drop, sym, ap, subst, arith}
+use Rattle.std.proofs.Common.{◌≡◌, ℕ, Result, length, drop, sym, ap, subst, arith, ◌≤◌, ◌∙◌}
 use Rattle.std.specs.Prelude.{Vec}
 use Rattle.std.specs.Global.{Global}
 use Rattle.rewrite_model.specs.declared.event.Event.{Event}
@@ -8,6 +8,7 @@ use Rattle.rewrite_model.specs.Uses.{replaced_in_room}
 use Rattle.innermost.specs.Normalized.{LoadsNeedAtMost}
 use Rattle.innermost.specs.Traced.{TracedAnswers, TracedBuilds, RefusedOnlyWhereTold, TracedSweeps, Tells}
 use Rattle.innermost.specs.Tasks.{HasCode}
+use Rattle.rule_automaton.specs.Automata.{Made as Automaton, IsAutomaton}
 use Rattle.innermost.specs.Machines.{Made}
 use Rattle.innermost.specs.declared.normal.Normal.{Normal}
 use Rattle.innermost.specs.declared.normal.TraceFault.{TraceFault}
@@ -95,3 +96,33 @@ returns-clause-events g c = λ u.
     subst (λ d. Tells rules c.args.term.now c.args.fuel (replaced d) (trees_between start (g.T.Terms.store c.settle.new.terms)) c.args.trace.now.items c.swap-2.new.y.items c.settle.result) (ap (λ (m : Made). m.depth) c.self.view_is)
     (subst (λ ts. Tells rules c.args.term.now c.args.fuel (replaced c.self.inside.code.depth) ts c.args.trace.now.items c.swap-2.new.y.items c.settle.result) (sym trees)
     (subst (λ r. Tells rules c.args.term.now c.args.fuel (replaced c.self.inside.code.depth) (trees_between start (g.T.Terms.store c.trace-end.new.terms)) c.args.trace.now.items c.swap-2.new.y.items r) (sym c.settle.ensures.end) traced))
+
+pub trace-end-requires-clause-matcher : goal.trace-end-requires-clause-matcher
+trace-end-requires-clause-matcher g c = subst (λ (m : Made). IsAutomaton c.args.plan.now.rules m.automaton) (sym c.self.view_is) c.requires.machine.automaton
+
+pub returns-clause-same : goal.returns-clause-same
+returns-clause-same g c = g.met.T.Terms.same_in_turn _ _ _ c.trace-end.ensures.same c.settle.ensures.same
+
+pub trace-end-requires-clause-frames_room : goal.trace-end-requires-clause-frames_room
+trace-end-requires-clause-frames_room g c = c.self.invariant.0
+
+pub trace-end-requires-clause-path_room : goal.trace-end-requires-clause-path_room
+trace-end-requires-clause-path_room g c = c.self.invariant.1
+
+pub trace-end-requires-clause-window : goal.trace-end-requires-clause-window
+trace-end-requires-clause-window g c = c.self.invariant.2
+
+pub invariant_of-self : goal.invariant_of-self
+invariant_of-self g c =
+    let i = c.self.invariant in
+    let e = c.trace-end.ensures in
+    (subst (λ (n : ℕ). c.self.inside.code.depth ≤ n) (sym e.frames_room) i.0, e.path_room, e.window, i.3, i.4)
+
+pub returns-clause-machine : goal.returns-clause-machine
+returns-clause-machine g c =
+    let code = c.self.inside.code in
+    let made : Automaton → Made = λ a. record { steps = code.steps.items; starts = code.starts.items; depth = code.depth; automaton = a } in
+    ap made c.trace-end.ensures.matcher ∙ c.self.view_is
+
+pub returns-clause-sound : goal.returns-clause-sound
+returns-clause-sound g c = c.settle.ensures.sound

@@ -1,9 +1,10 @@
-use Rattle.std.proofs.Common.{◌≡◌, ℕ, Result, sym, ap, subst, arith}
+use Rattle.std.proofs.Common.{◌≡◌, ℕ, Result, sym, ap, subst, arith, ◌≤◌, ◌∙◌}
 use Rattle.rewrite_model.specs.Evaluation.{evaluation}
 use Rattle.rewrite_model.specs.Built.{need}
 use Rattle.innermost.specs.Normalized.{Answers, FaultOnlyWhereRefused, SweepsAtMost, LoadsNeedAtMost}
 use Rattle.innermost.specs.Remembered.{BuildsCached}
 use Rattle.innermost.specs.Tasks.{HasCode}
+use Rattle.rule_automaton.specs.Automata.{Made as Automaton, IsAutomaton}
 use Rattle.innermost.specs.Machines.{Made}
 use Rattle.innermost.specs.declared.normal.Normal.{Normal}
 use Rattle.innermost.specs.declared.normal.RunFault.{RunFault}
@@ -86,3 +87,33 @@ pub returns-clause-numbers : goal.returns-clause-numbers
 returns-clause-numbers g c =
     let left = all_left c.args.plan.now c.self.inside.code c.args.term.now c.args.fuel (g.T.Terms.store c.args.terms.now) c.requires.plain (g.M.Memo.map c.evaluate_with-end.new.memo) c.evaluate_with-end.new.epoch (g.T.Terms.store c.evaluate_with-end.new.terms) (g.T.Terms.store c.settle.new.terms) c.depth-base.result c.evaluate_with-end.result (end_from c.args.plan.now c.self.inside.code c.args.term.now c.args.fuel (g.T.Terms.store c.args.terms.now) c.requires.plain (g.M.Memo.map c.evaluate_with-end.new.memo) c.evaluate_with-end.new.epoch (g.T.Terms.store c.evaluate_with-end.new.terms) c.evaluate_with-end.result c.evaluate_with-end.ensures.state c.evaluate_with-end.ensures.fault) c.depth-base.ensures.depth c.settle.ensures.settled in
     left.numbers
+
+pub returns-clause-same : goal.returns-clause-same
+returns-clause-same g c = g.met.T.Terms.same_in_turn _ _ _ c.evaluate_with-end.ensures.same c.settle.ensures.same
+
+pub evaluate_with-end-requires-clause-frames_room : goal.evaluate_with-end-requires-clause-frames_room
+evaluate_with-end-requires-clause-frames_room g c = c.self.invariant.0
+
+pub evaluate_with-end-requires-clause-path_room : goal.evaluate_with-end-requires-clause-path_room
+evaluate_with-end-requires-clause-path_room g c = c.self.invariant.1
+
+pub evaluate_with-end-requires-clause-window : goal.evaluate_with-end-requires-clause-window
+evaluate_with-end-requires-clause-window g c = c.self.invariant.2
+
+pub invariant_of-self : goal.invariant_of-self
+invariant_of-self g c =
+    let i = c.self.invariant in
+    let e = c.evaluate_with-end.ensures in
+    (subst (λ (n : ℕ). c.self.inside.code.depth ≤ n) (sym e.frames_room) i.0, e.path_room, e.window, i.3, i.4)
+
+pub returns-clause-machine : goal.returns-clause-machine
+returns-clause-machine g c =
+    let code = c.self.inside.code in
+    let made : Automaton → Made = λ a. record { steps = code.steps.items; starts = code.starts.items; depth = code.depth; automaton = a } in
+    ap made c.evaluate_with-end.ensures.matcher ∙ c.self.view_is
+
+pub returns-clause-sound : goal.returns-clause-sound
+returns-clause-sound g c = c.settle.ensures.sound
+
+pub evaluate_with-end-requires-clause-matcher : goal.evaluate_with-end-requires-clause-matcher
+evaluate_with-end-requires-clause-matcher g c = subst (λ (m : Made). IsAutomaton c.args.plan.now.rules m.automaton) (sym c.self.view_is) c.requires.machine.automaton

@@ -6,6 +6,7 @@ use Rattle.innermost.specs.Machines.{Made}
 use Rattle.innermost.specs.declared.normal.Normal.{Normal}
 use Rattle.innermost.specs.declared.normal.RunFault.{RunFault}
 use Rattle.innermost.proofs.OutwardEnds.{all_settled, ends_from, ends_inside, ends_sound, ends_high}
+use Rattle.rule_automaton.specs.Automata.{IsAutomaton}
 use Rattle.innermost.proofs.normalizing.Machine.outermost.Goals as goal
 
 pub rewrite-end-requires-clause-free : goal.rewrite-end-requires-clause-free
@@ -59,3 +60,9 @@ returns-clause-numbers g c =
     let left = all_settled (g.T.Terms.store c.args.terms.now) (outermost c.args.plan.now.rules c.args.term.now c.args.fuel c.self.inside.code.depth) (g.T.Terms.store c.rewrite-end.new.terms) (g.T.Terms.store c.settle.new.terms) c.depth-base.result c.rewrite-end.result
     (ends_from (g.T.Terms.store c.args.terms.now) (outermost c.args.plan.now.rules c.args.term.now c.args.fuel c.self.inside.code.depth) (g.T.Terms.store c.rewrite-end.new.terms) c.rewrite-end.result c.rewrite-end.ensures.state c.rewrite-end.ensures.fault) c.depth-base.ensures.depth c.settle.ensures.settled c.settle.ensures.sound in
     left.numbers
+
+pub rewrite-end-requires-clause-matcher : goal.rewrite-end-requires-clause-matcher
+rewrite-end-requires-clause-matcher g c = subst (λ (m : Made). IsAutomaton c.args.plan.now.rules m.automaton) (sym c.self.view_is) c.requires.machine.automaton
+
+pub returns-clause-same : goal.returns-clause-same
+returns-clause-same g c = g.met.T.Terms.same_in_turn _ _ _ c.rewrite-end.ensures.same c.settle.ensures.same
