@@ -2,9 +2,8 @@
 //! says how to run.
 #![tactic(auto)]
 
-ghost use Rattle.std.specs.Prelude.{◌≡◌, IfOk, All};
+ghost use Rattle.std.specs.Prelude.{◌≡◌};
 ghost use Rattle.lock_core.specs.declared.parts.Phase.TheVariants.{Shared};
-ghost use Rattle.store_model.specs.Machine.{In};
 ghost use Rattle.node_rows.specs.Belonging.{IsSeated, IsOpen};
 ghost use Rattle.node_rows.specs.Inside.{IsInside};
 ghost use Rattle.node_rows.specs.Told.{Tells, view_of};

@@ -1,5 +1,5 @@
 // A sink in memory, which fails at chosen calls.
-ghost use Rattle.std.specs.Prelude.{◌≡◌, ◌≤◌, ◌<◌, ◌↔◌, ◌⊎◌, Option, Some, Result, IfOk, IsErr, Contains, length};
+ghost use Rattle.std.specs.Prelude.{◌≡◌, ◌≤◌, ◌<◌, ◌↔◌, ◌⊎◌, Some, Result, IfOk, IsErr, Contains, length};
 ghost use Rattle.std.specs.Io.KnownBytes.{WriteAppends};
 ghost use Rattle.faults.specs.Count.{HasCause, next_count};
 ghost use Rattle.ends.specs.InMemory.{write_count, sink_of, sink_after};

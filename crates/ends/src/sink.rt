@@ -1,7 +1,7 @@
 // Where bytes go to.
-ghost use Rattle.std.specs.Prelude.{◌≡◌, ◌≤◌, ◌<◌, ℕ, List, Option, Result, IfOk, OnOk, OnErr, length};
+ghost use Rattle.std.specs.Prelude.{◌≤◌, ◌<◌, ℕ, List, Option, Result, IfOk, OnOk, OnErr, length};
 ghost use Rattle.std.specs.Io.KnownBytes.{WriteAppends, Appends};
-ghost use Rattle.faults.specs.Count.{Rose, HasCause};
+ghost use Rattle.faults.specs.Count.{HasCause};
 ghost use Rattle.ends.specs.Bytes.{TookFront};
 
 use crate::Failed;

@@ -1,6 +1,6 @@
 //! Whether a history is legal.
 
-ghost use Rattle.std.specs.Prelude.{◌≡◌, ◌<◌, ◌↔◌, ℕ, All, IfOk, length};
+ghost use Rattle.std.specs.Prelude.{◌≡◌, ◌<◌, ◌↔◌, All, IfOk, length};
 ghost use Rattle.history_core.specs.Chronicle.{IsLegal};
 ghost use Rattle.history_core.specs.Table.{IsLegalUpTo};
 

@@ -1,6 +1,6 @@
 //! Terms under names, each found by its root and the names of its arguments.
 
-ghost use Rattle.std.specs.Prelude.{◌≡◌, ◌<◌, ◌↔◌, ◌≢◌, ℕ, List, Option, Some, None, IfOk, IfSome, OnOk, OnErr, IsTrue, length, replicate, slice_set, slice_get, ◌^◌};
+ghost use Rattle.std.specs.Prelude.{◌≡◌, ◌<◌, ◌↔◌, ◌≢◌, ℕ, Option, Some, None, IfOk, IfSome, OnOk, OnErr, IsTrue, length, replicate, slice_set, slice_get, ◌^◌};
 ghost use Rattle.std.specs.Option.{option_copied};
 ghost use Rattle.history_core.specs.Slots.{slot_at, root_of, term_of, is_list, is_none, second_is_list, stands_over, are_taken, kept_if, is_marked};
 

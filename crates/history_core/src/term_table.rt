@@ -1,7 +1,7 @@
 //! The term set of one thread as a program keeps it, which tells of each entry whether it is a
 //! step.
 
-ghost use Rattle.std.specs.Prelude.{◌≡◌, ◌<◌, ◌↔◌, ℕ, [], List, Some, None, IfOk, OnErr, IsTrue, length, replicate};
+ghost use Rattle.std.specs.Prelude.{◌≡◌, ◌<◌, ◌↔◌, ℕ, [], Some, None, IfOk, OnErr, IsTrue, length, replicate};
 ghost use Rattle.history_core.specs.Entry.{Entry};
 ghost use Rattle.history_core.specs.declared.entry.Entry.TheVariants.{Make, Find, Roots, Collect};
 ghost use Rattle.history_core.specs.Slots.{slot_at, term_of};

@@ -2,7 +2,7 @@
 
 ghost use Rattle.std.specs.Prelude.{◌≡◌, ◌+◌, ◌≤◌, length, IfOk, true};
 ghost use Rattle.term_model.specs.Tree.{IsGround};
-ghost use Rattle.terms_api.specs.Terms.{Store, IsSound};
+ghost use Rattle.terms_api.specs.Terms.{IsSound};
 ghost use Rattle.rewrite_model.specs.Evaluation.{evaluation};
 ghost use Rattle.rewrite_model.specs.Built.{need};
 ghost use Rattle.rewrite_model.specs.Outermost.{outermost as outermost_of, outermost_built};

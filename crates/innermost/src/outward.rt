@@ -1,8 +1,8 @@
 //! Leftmost outermost rewriting of a term.
 
-ghost use Rattle.std.specs.Prelude.{◌≡◌, ℕ, ◌+◌, ◌-◌, ◌<◌, ◌≤◌, List, [], ◌∷◌, ◌++◌, length, ◌⊎◌, IfOk, IfErr, IsSome, true, vec_capacity, slice_index_or};
+ghost use Rattle.std.specs.Prelude.{◌≡◌, ◌+◌, ◌-◌, ◌<◌, ◌≤◌, [], length, ◌⊎◌, IfOk, IfErr, IsSome, true, vec_capacity, slice_index_or};
 ghost use Rattle.term_model.specs.Tree.{IsGround};
-ghost use Rattle.terms_api.specs.Terms.{Store, IsSound};
+ghost use Rattle.terms_api.specs.Terms.{IsSound};
 ghost use Rattle.rewrite_model.specs.Rule.{Rule};
 ghost use Rattle.rewrite_model.specs.Outermost.{outermost};
 ghost use Rattle.rule_match.specs.Planned.{IsPlain};

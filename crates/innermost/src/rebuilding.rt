@@ -1,8 +1,8 @@
 //! Building the trees over a changed argument again, from the inside outwards.
 
-ghost use Rattle.std.specs.Prelude.{◌≡◌, ℕ, ◌+◌, ◌-◌, ◌<◌, ◌≤◌, List, [], ◌∷◌, ◌++◌, length, take, drop, IfOk, IfErr, Contains, true, vec_capacity};
+ghost use Rattle.std.specs.Prelude.{◌≡◌, ◌+◌, ◌-◌, ◌<◌, ◌≤◌, List, [], ◌∷◌, ◌++◌, length, take, drop, IfOk, IfErr, true, vec_capacity};
 ghost use Rattle.term_model.specs.Tree.{Tree, arguments};
-ghost use Rattle.terms_api.specs.Terms.{Store, IsHeld, IsSound, tree_at, trees};
+ghost use Rattle.terms_api.specs.Terms.{IsHeld, IsSound, tree_at, trees};
 ghost use Rattle.innermost.specs.Outward.{WasGivenUp};
 ghost use Rattle.innermost.specs.declared.spots.Spot.{Spot as Spots};
 ghost use Rattle.innermost.specs.Walking.{Crumb};

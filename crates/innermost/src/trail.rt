@@ -1,6 +1,6 @@
 //! The way to the tree that is reduced, and the moves of the cursor along it.
 
-ghost use Rattle.std.specs.Prelude.{◌≡◌, ℕ, ◌+◌, ◌-◌, ◌<◌, ◌≤◌, List, [], ◌∷◌, ◌++◌, length, take, drop, min, slice_index_or, OnOk, OnErr};
+ghost use Rattle.std.specs.Prelude.{◌≡◌, ℕ, ◌+◌, ◌-◌, ◌<◌, ◌≤◌, List, [], ◌∷◌, ◌++◌, length, drop, min, slice_index_or, OnOk, OnErr};
 ghost use Rattle.rewrite_model.specs.Trace.{moves as moves_of, ups, downs};
 ghost use Rattle.rewrite_model.specs.declared.event.Event.TheVariants as event;
 ghost use Rattle.innermost.specs.declared.frames.Frame.{Frame as Frames};

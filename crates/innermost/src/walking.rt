@@ -1,6 +1,6 @@
 //! A walk through a term for the first position, from the root, that a rule matches.
 
-ghost use Rattle.std.specs.Prelude.{◌≡◌, ℕ, ◌+◌, ◌*◌, ◌<◌, ◌≤◌, [], length, true, vec_capacity};
+ghost use Rattle.std.specs.Prelude.{◌≡◌, ℕ, ◌+◌, ◌*◌, ◌<◌, ◌≤◌, true, vec_capacity};
 ghost use Rattle.term_model.specs.Tree.{Tree, nodes};
 ghost use Rattle.terms_api.specs.Terms.{IsHeld, tree_at};
 ghost use Rattle.rule_automaton.specs.Automata.{IsAutomaton};

@@ -1,5 +1,5 @@
 // The machine that runs: what each step does, by the table of the lock.
-ghost use Rattle.std.specs.Prelude.{◌≡◌, ◌≢◌, ℕ, ◌<◌, ◌≤◌, length, ◌↔◌, IsTrue, MatchBool};
+ghost use Rattle.std.specs.Prelude.{◌≡◌, ◌≢◌, ℕ, ◌<◌, length, ◌↔◌, IsTrue, MatchBool};
 ghost use Rattle.lock_core.specs.declared.parts.Phase.TheVariants.{Holder};
 ghost use Rattle.lock_core.specs.declared.parts.Standing.TheVariants.{Free};
 ghost use Rattle.lock_core.specs.declared.parts.LockStep.TheVariants.{Raise, Look, Lower, Take, Ask, Peek, Unask, Give};

@@ -1,7 +1,7 @@
 //! A log as it is read, line by line.
 
-ghost use Rattle.std.specs.Prelude.{◌≡◌, ◌∷◌, ℕ, Ok, IfOk, IfErr, IsTrue, Some};
-ghost use Rattle.log_check.specs.Log.{at_start, is_before, is_inside, is_after, placed, taken, log_in, IsTaken};
+ghost use Rattle.std.specs.Prelude.{◌≡◌, ℕ, Ok, IfOk, IfErr, Some};
+ghost use Rattle.log_check.specs.Log.{at_start, is_inside, placed, taken, log_in, IsTaken};
 ghost use Rattle.log_check.specs.Form.{is_marked};
 ghost use Rattle.log_check.specs.declared.form.LogLine.TheVariants.{Header, Caller, Step, End};
 ghost use Rattle.log_check.specs.Verdict.{IsRefused};

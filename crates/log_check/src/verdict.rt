@@ -1,6 +1,6 @@
 //! What is found of a log.
 
-ghost use Rattle.std.specs.Prelude.{◌≡◌, IfOk, IfErr};
+ghost use Rattle.std.specs.Prelude.{IfOk, IfErr};
 ghost use Rattle.log_check.specs.Log.{log_in};
 ghost use Rattle.log_check.specs.Verdict.{Rises, IsVerdict, IsFound, IsRefused};
 

@@ -1,8 +1,8 @@
 // A log in memory.
-ghost use Rattle.std.specs.Prelude.{◌≡◌, ◌++◌, [], true, Some, is_none, IfSome, IfOk, OnOk, codes};
+ghost use Rattle.std.specs.Prelude.{◌≡◌, ◌++◌, [], true, Some, is_none, IfSome, IfOk, OnOk};
 ghost use Rattle.std.specs.Option.{option_map};
 ghost use Rattle.history_core.specs.declared.entry.Entry.TheVariants.{Make, Find, Roots, Collect};
-ghost use Rattle.log_text.specs.Lines.{names, creation_text, listing_text, line_of, Adds};
+ghost use Rattle.log_text.specs.Lines.{names, creation_text, listing_text, Adds};
 ghost use Rattle.log_text.specs.Word.{word_of};
 
 use crate::line::{Line, creation_word};

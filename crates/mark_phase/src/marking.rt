@@ -1,7 +1,7 @@
 // Marking with a stack of rows that wait.
-ghost use Rattle.std.specs.Prelude.{◌≡◌, ◌+◌, ◌-◌, ◌*◌, ◌<◌, ◌≤◌, ◌++◌, [], ◌∷◌, List, Bool, true, false, length, take, slice_set, slice_index_or, Contains};
+ghost use Rattle.std.specs.Prelude.{◌≡◌, ◌+◌, ◌-◌, ◌*◌, ◌<◌, ◌≤◌, [], List, Bool, true, false, length, take, slice_set, slice_index_or, Contains};
 ghost use Rattle.term_model.specs.declared.Row.{Row};
-ghost use Rattle.mark_phase.specs.Reachable.{Reaches, IsMarked, IsClosed, AddsReached};
+ghost use Rattle.mark_phase.specs.Reachable.{Reaches, IsClosed, AddsReached};
 ghost use Rattle.mark_phase.specs.Steps.{Halfway, marked_count, with_waiting};
 
 use crate::{Graph, Marks};

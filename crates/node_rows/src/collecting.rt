@@ -1,6 +1,6 @@
 //! The steps of a collection, each one atomic action on one word of the table.
 ghost use Rattle.std.specs.Prelude.{◌≡◌};
-ghost use Rattle.store_model.specs.declared.view.Place.TheVariants.{Base, Claim};
+ghost use Rattle.store_model.specs.declared.view.Place.TheVariants.{Claim};
 ghost use Rattle.store_model.specs.Machine.{Step, LoadAny, StoreAny, StoreClaim};
 ghost use Rattle.store_model.specs.Shown.{index_of};
 ghost use Rattle.busy_forbidden.specs.Calls.{IsSame};

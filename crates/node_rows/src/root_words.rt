@@ -1,5 +1,5 @@
 //! Where the words of a pass's protected rows stand.
-ghost use Rattle.std.specs.Prelude.{◌≡◌, ◌<◌, ◌≤◌, ◌^◌, ◌+◌, ◌*◌, true};
+ghost use Rattle.std.specs.Prelude.{◌≡◌, ◌<◌, ◌^◌, ◌+◌, ◌*◌, true};
 ghost use Rattle.store_model.specs.declared.view.Place.TheVariants.{RootCount, Root};
 ghost use Rattle.store_model.specs.Machine.{widest};
 ghost use Rattle.store_model.specs.Shown.{index_of, in_table, total};

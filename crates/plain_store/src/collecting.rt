@@ -1,5 +1,5 @@
 // Mark and sweep.
-ghost use Rattle.std.specs.Prelude.{◌≡◌, ◌<◌, ℕ, Contains, true, false, length};
+ghost use Rattle.std.specs.Prelude.{◌≡◌, true, false, length};
 ghost use Rattle.plain_store.specs.Slots.{children, AreSwept, FreesRow};
 ghost use Rattle.plain_store.specs.Marked.{MarksFrom, ReachesWithin};
 ghost use Rattle.plain_store.specs.Contents.{once_more};

@@ -1,5 +1,5 @@
 // The store as its callers see it.
-ghost use Rattle.std.specs.Prelude.{◌≡◌, ◌+◌, ◌-◌, ◌^◌, ◌<◌, ◌≤◌, ◌↔◌, Option, Some, None, Result, OnOk, OnErr, IsErr, IsErrOf, IsNone, IfSome, true, false, [], ◌∷◌, ◌++◌, length, slice_get};
+ghost use Rattle.std.specs.Prelude.{◌≡◌, ◌+◌, ◌-◌, ◌^◌, ◌<◌, ◌↔◌, Option, Some, None, Result, OnOk, OnErr, IsErrOf, IsNone, IfSome, true, false, [], ◌∷◌, ◌++◌};
 ghost use Rattle.terms_api.specs.Terms.{IsSound, MayBuild, Entered, Breathed, Built as BuiltOf, NotBuilt, NeedsPlace, IsCrowded, CountsRefusal, trees, but_last, asked};
 ghost use Rattle.plain_store.specs.Contents.{store_of, IsFilled, IsSame, LosesRow, CountsLosses, IsUsedUp};
 

@@ -1,5 +1,5 @@
 // The rows of a store, each tree of which is found by its hash.
-ghost use Rattle.std.specs.Prelude.{◌≡◌, ◌+◌, ◌<◌, ◌≤◌, ◌^◌, ℕ, Option, Some, None, IfOk, IfSome, IfNone, IsSome, true, false, length, replicate, [], slice_get, slice_index_or};
+ghost use Rattle.std.specs.Prelude.{◌≡◌, ◌+◌, ◌<◌, ◌≤◌, ◌^◌, Option, Some, None, IfOk, IfSome, IfNone, true, false, length, []};
 ghost use Rattle.std.specs.Option.{option_map};
 ghost use Rattle.plain_store.specs.Slots.{free_slots, slot_at, children, with_slot, some_count, HasNone, IsFull, AreSwept, FreesRow};
 ghost use Rattle.plain_store.specs.Index.{HasRoom, IsFront, IsIndexed, IsIndexedTo};

@@ -1,5 +1,5 @@
 // The store.
-ghost use Rattle.std.specs.Prelude.{◌≡◌, ◌<◌, ◌≤◌, ◌^◌, ◌↔◌, IsTrue, IfOk, IfSome, IfNone, length, max};
+ghost use Rattle.std.specs.Prelude.{◌≡◌, ◌<◌, ◌≤◌, ◌↔◌, IsTrue, IfOk, IfSome, IfNone, length, max};
 ghost use Rattle.terms_api.specs.Terms.{HasTree, asked, last, IsSound, MayBuild, NeedsPlace};
 ghost use Rattle.plain_store.specs.Hash.{hash};
 ghost use Rattle.plain_store.specs.Slots.{some_count};

@@ -1,5 +1,5 @@
 // What the rows have, in flat arrays.
-ghost use Rattle.std.specs.Prelude.{◌≡◌, ◌+◌, ◌-◌, ◌++◌, ◌<◌, ◌≤◌, ◌*◌, ◌^◌, ◌↔◌, ℕ, Option, Some, None, IfOk, IsSome, IsTrue, true, false, length, take, drop, replicate, slice_get, slice_index_or, slice_set, vec_capacity};
+ghost use Rattle.std.specs.Prelude.{◌≡◌, ◌+◌, ◌-◌, ◌++◌, ◌<◌, ◌≤◌, ◌*◌, ◌^◌, ◌↔◌, Option, Some, None, IfOk, IsSome, IsTrue, true, false, length, take, drop, replicate, slice_set, vec_capacity};
 ghost use Rattle.std.specs.Option.{option_map};
 ghost use Rattle.plain_store.specs.Pairs.{filled, no_row};
 ghost use Rattle.plain_store.specs.Flat.{written, reached};

@@ -1,6 +1,6 @@
 // The commands `check log` and `check trace`: whether what the callers of a store noted is one
 // legal history, and whether traces lead from terms to their lines.
-ghost use Rattle.std.specs.Prelude.{◌≡◌, ◌++◌, IfOk, IfErr, OnOk, decimal};
+ghost use Rattle.std.specs.Prelude.{◌≡◌, ◌++◌, IfOk, IfErr, decimal};
 ghost use Rattle.rec_top.specs.Lines.{line};
 ghost use Rattle.rec_top.specs.Written.{Output};
 ghost use Rattle.rec_top.specs.Checked.{IsLogChecked, IsLogFault, is_illegal, verdict_text};

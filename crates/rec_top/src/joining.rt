@@ -1,5 +1,5 @@
 // From the lines of the terms to what is written of them.
-ghost use Rattle.std.specs.Prelude.{◌≡◌, ◌++◌, ◌≤◌, ◌*◌, ◌<◌, ◌^◌, ℕ, List, All, OnOk, IfOk, map, count_by, sum_by, length};
+ghost use Rattle.std.specs.Prelude.{◌≡◌, ◌++◌, ◌<◌, All, OnOk, IfOk, map, count_by, sum_by, length};
 ghost use Rattle.std.specs.List.{flat_map, list_all};
 ghost use Rattle.term_lines.specs.Line.{is_value_kind};
 ghost use Rattle.rec_top.specs.Lines.{line};

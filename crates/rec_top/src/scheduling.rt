@@ -1,5 +1,5 @@
 // The command `schedule`: from the lines of a schedule to the lock that it comes to.
-ghost use Rattle.std.specs.Prelude.{◌≡◌, ◌≤◌, [], List, IfOk, IfErr, length};
+ghost use Rattle.std.specs.Prelude.{IfOk, IfErr};
 ghost use Rattle.settings.specs.Words.{AreInRange};
 ghost use Rattle.rec_top.specs.Written.{Output};
 ghost use Rattle.rec_top.specs.Output.{IsScheduled, IsScheduleFault};

@@ -1,9 +1,8 @@
 // The top call.
-ghost use Rattle.std.specs.Prelude.{◌≡◌, ◌≢◌, ◌⊎◌, ◌≤◌, [], ◌++◌, None, OnOk, OnErr};
-ghost use Rattle.faults.specs.Count.{Rose, HasCause};
+ghost use Rattle.std.specs.Prelude.{◌≡◌, ◌≢◌, ◌⊎◌, ◌≤◌, [], None};
+ghost use Rattle.faults.specs.Count.{Rose};
 ghost use Rattle.ends.specs.Bytes.{TookFront};
-ghost use Rattle.std.specs.Io.KnownBytes.{Appends};
-ghost use Rattle.rec_top.specs.Logged.{log_bytes, with_log};
+ghost use Rattle.rec_top.specs.Logged.{with_log};
 ghost use Rattle.settings.specs.Words.{settings_of, texts};
 ghost use Rattle.rec_top.specs.Written.{Output, status_for};
 ghost use Rattle.rec_top.specs.Lines.{fault_line, status_line, TookLine};

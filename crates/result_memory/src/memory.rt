@@ -1,6 +1,6 @@
 // A memory of as many results as it has entries.
-ghost use Rattle.std.specs.Prelude.{◌≡◌, ◌<◌, ◌⊎◌, [], None, IfOk, IsSome, nat_eq};
-ghost use Rattle.lru.specs.LruCache.{lru_cache, put_entries};
+ghost use Rattle.std.specs.Prelude.{◌≡◌, ◌<◌, ◌⊎◌, [], None, IfOk, IsSome};
+ghost use Rattle.lru.specs.LruCache.{lru_cache};
 
 use faults::Memory;
 use innermost::{Known, Memo};

@@ -1,8 +1,7 @@
 //! Terms as trees of boxes, for the plain program.
 
-ghost use Rattle.std.specs.Prelude.{◌≡◌, IfOk, IfSome, Some, None, ◌^◌, ◌<◌, List, ℕ};
-ghost use Rattle.term_model.specs.Tree.{Tree, Trees, Node, tree_eq, trees_eq, head_eq, list_of};
-ghost use Rattle.term_model.specs.Postorder.{take_trees, push_item};
+ghost use Rattle.std.specs.Prelude.{◌≡◌, IfOk, ◌<◌};
+ghost use Rattle.term_model.specs.Tree.{tree_eq, trees_eq, head_eq};
 ghost use Rattle.rewrite_model.specs.Boxed.{tree_of, trees_in};
 
 use faults::Memory;

@@ -1,6 +1,6 @@
 //! Sizes of boxed terms, and how many of them differ.
 
-ghost use Rattle.std.specs.Prelude.{◌≡◌, ◌++◌, ◌-◌, ◌^◌, min, drop, IfOk, OnOk};
+ghost use Rattle.std.specs.Prelude.{◌≡◌, ◌++◌, ◌-◌, ◌^◌, min, drop, OnOk};
 ghost use Rattle.term_model.specs.Tree.{count_of, nodes as nodes_of, nodes_all, subtrees as subtrees_of, subtrees_all, among as among_of, distinct as distinct_of};
 ghost use Rattle.rewrite_model.specs.Boxed.{tree_of, trees_in, trees};
 

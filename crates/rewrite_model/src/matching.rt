@@ -1,7 +1,6 @@
 //! Matching and instances, by the plain program.
 
-ghost use Rattle.std.specs.Prelude.{◌≡◌, IfOk, List, map};
-ghost use Rattle.std.specs.Option.{option_map};
+ghost use Rattle.std.specs.Prelude.{◌≡◌, IfOk};
 ghost use Rattle.rewrite_model.specs.Matching.{bind as bind_of, match_from, match_all as match_all_of, match_of, instance, instances, tree_at as tree_bound};
 ghost use Rattle.rewrite_model.specs.Boxed.{tree_of, trees_in, trees, IsMatched, found};
 

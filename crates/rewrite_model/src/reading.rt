@@ -1,6 +1,6 @@
 //! Boxed terms from terms in postorder.
 
-ghost use Rattle.std.specs.Prelude.{◌≡◌, List, IfOk};
+ghost use Rattle.std.specs.Prelude.{◌≡◌, IfOk};
 ghost use Rattle.term_model.specs.Tree.{More};
 ghost use Rattle.rewrite_model.specs.Boxed.{tree_of, trees_in, IsTaken, IsOver, IsPushed};
 

@@ -1,6 +1,6 @@
 //! Rules whose sides are terms in postorder.
 
-ghost use Rattle.std.specs.Prelude.{◌≡◌, List};
+ghost use Rattle.std.specs.Prelude.{◌≡◌};
 
 use std::marker::Model;
 use term_model::Flat;

@@ -1,5 +1,5 @@
 // All terms, by all workers.
-ghost use Rattle.std.specs.Prelude.{◌≡◌, ℕ, ◌<◌, ◌≤◌, ◌^◌, All, IfOk, IfErr, OnOk, length, map};
+ghost use Rattle.std.specs.Prelude.{◌≡◌, ◌<◌, ◌^◌, All, IfOk, IfErr, OnOk, length, map};
 ghost use Rattle.rewrite_workers.specs.Lined.{said, worker_of, line_of, trace_of, drawn_by, told, told_of, maker_of};
 ghost use Rattle.rewrite_workers.specs.declared.fault.AllFault.TheVariants as all;
 ghost use Rattle.rewrite_workers.specs.Desks.{IsReady, EachDesk, KeepsDesk};

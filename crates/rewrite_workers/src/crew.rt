@@ -1,6 +1,5 @@
 // What the workers need before they begin.
-ghost use Rattle.std.specs.Prelude.{◌≡◌, ℕ, ◌+◌, ◌-◌, ◌<◌, ◌≤◌, ◌^◌, [], All, IfOk, OnOk, length};
-ghost use Rattle.rewrite_workers.specs.Dealt.{IsIn, undrawn};
+ghost use Rattle.std.specs.Prelude.{◌≡◌, ℕ, ◌+◌, ◌-◌, ◌<◌, ◌≤◌, IfOk, OnOk, length};
 ghost use Rattle.rewrite_workers.specs.Crews.{IsAt, IsUncut, IsCrew};
 
 use crate::draws::{Draws, Extent, Seat, cut, draws_of};

@@ -1,5 +1,5 @@
 // The numbers that workers draw from one word.
-ghost use Rattle.std.specs.Prelude.{◌≡◌, ℕ, ◌+◌, ◌<◌, ◌≤◌, ◌^◌, [], All, IfOk};
+ghost use Rattle.std.specs.Prelude.{◌≡◌, ℕ, ◌+◌, ◌<◌, ◌^◌, [], All, IfOk};
 ghost use Rattle.rewrite_workers.specs.Dealt.{IsIn, undrawn, drew, one_less, one_share, joined, times, once_below};
 
 use atomic_table::{Join, Play, Split, TableRule};

@@ -1,6 +1,6 @@
 //! Calls on the protected rows of a pass. Each is made in shared or exclusive access, and none
 //! takes memory or waits.
-ghost use Rattle.std.specs.Prelude.{◌≡◌, ◌<◌, ◌≤◌, ◌+◌, ◌-◌, ◌↔◌, ℕ, [], ◌∷◌, ◌++◌, IfOk, IfErr, IsErr, length, get_or, set};
+ghost use Rattle.std.specs.Prelude.{◌≡◌, ◌<◌, ◌≤◌, ◌+◌, ◌-◌, ◌↔◌, [], ◌∷◌, ◌++◌, IfOk, IfErr, IsErr, length, get_or, set};
 ghost use Rattle.store_model.specs.Machine.{In, with_got, protected_in};
 ghost use Rattle.node_rows.specs.Belonging.{IsSamePass};
 ghost use Rattle.node_rows.specs.Told.{view_of};

@@ -1,7 +1,6 @@
 //! Where searches go on from the root.
 
 ghost use Rattle.std.specs.Prelude.{◌≡◌, ◌<◌, length, true, Contains, IfOk, IfSome};
-ghost use Rattle.terms_api.specs.Terms.{IsSound};
 ghost use Rattle.rule_automaton.specs.Automata.{HasStarts, IsRoot, AreRoots};
 ghost use Rattle.rule_automaton.specs.Running.{made, Asked, IsRun, IsRooted};
 

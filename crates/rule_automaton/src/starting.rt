@@ -1,6 +1,6 @@
 //! The states at which a search begins, one for each rule.
 
-ghost use Rattle.std.specs.Prelude.{◌≡◌, ◌+◌, ◌-◌, ◌^◌, ◌<◌, length, map, unwrap_or, IfOk, OnOk, IfSome};
+ghost use Rattle.std.specs.Prelude.{◌≡◌, ◌-◌, ◌<◌, length, map, unwrap_or, IfOk, OnOk, IfSome};
 ghost use Rattle.rule_match.specs.Groups.{head_at};
 ghost use Rattle.rule_automaton.specs.Shapes.{numbers};
 ghost use Rattle.rule_automaton.specs.Starting.{HavePassed, AreStarts, AddsGroup, in_turn_from};

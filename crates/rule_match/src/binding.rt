@@ -1,6 +1,6 @@
 //! The rows of a rule's variables.
 
-ghost use Rattle.std.specs.Prelude.{◌≡◌, ℕ, ◌<◌, ◌≤◌, List, [], length, IfOk};
+ghost use Rattle.std.specs.Prelude.{◌≡◌, ◌<◌, ◌≤◌, [], IfOk};
 ghost use Rattle.rule_match.specs.Planned.{HasRoom};
 
 use crate::Plan;

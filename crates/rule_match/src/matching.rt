@@ -1,8 +1,8 @@
 //! Matching the left side of a rule against a stored term.
 
-ghost use Rattle.std.specs.Prelude.{◌≡◌, ℕ, ◌+◌, ◌<◌, ◌≤◌, List, [], ◌∷◌, ◌++◌, length, map, reverse, Some, None, true, All, vec_len, vec_capacity};
+ghost use Rattle.std.specs.Prelude.{◌≡◌, ◌+◌, ◌<◌, ◌≤◌, [], ◌++◌, length, map, reverse, Some, None, true, All, vec_len, vec_capacity};
 ghost use Rattle.std.specs.Bool.{OnTrue, OnFalse};
-ghost use Rattle.term_model.specs.Tree.{Tree, nodes, arguments};
+ghost use Rattle.term_model.specs.Tree.{nodes, arguments};
 ghost use Rattle.term_model.specs.declared.Head.TheVariants.{App};
 ghost use Rattle.terms_api.specs.Terms.{IsHeld, IsSound, tree_at};
 ghost use Rattle.rewrite_model.specs.Matching.{match_of, bind as bind_of};

@@ -1,8 +1,7 @@
 //! Rules, grouped by the head of their left side.
 
-ghost use Rattle.std.specs.Prelude.{◌≡◌, ℕ, ◌+◌, ◌-◌, ◌^◌, ◌<◌, ◌≤◌, List, length, take, drop, Some, IfOk};
-ghost use Rattle.term_model.specs.Tree.{Tree};
-ghost use Rattle.rule_match.specs.Planned.{planned, IsPlan, HasRoom};
+ghost use Rattle.std.specs.Prelude.{◌≡◌, ◌+◌, ◌-◌, ◌<◌, ◌≤◌, length, take, drop, Some, IfOk};
+ghost use Rattle.rule_match.specs.Planned.{planned, IsPlan};
 ghost use Rattle.rule_match.specs.Groups.{head_at, IsNext, MatchNone};
 ghost use Rattle.rule_match.specs.Preorder.{left_at, preorder};
 

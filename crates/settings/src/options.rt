@@ -1,6 +1,6 @@
 // Commands and options by their names, and the numbers that options take.
 ghost use Rattle.std.specs.Prelude.{◌≡◌};
-ghost use Rattle.settings.specs.Words.{command_text, commands, command_named, check_named, options_of, stands_alone, takes_value, name_of, least_of, most_of};
+ghost use Rattle.settings.specs.Words.{command_text, command_named, check_named, options_of, stands_alone, takes_value, name_of, least_of, most_of};
 
 use crate::parts::Command;
 

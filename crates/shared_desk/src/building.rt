@@ -1,5 +1,5 @@
 // How a desk builds.
-ghost use Rattle.std.specs.Prelude.{◌≡◌, ◌+◌, ◌≤◌, ◌++◌, OnOk, OnErr, All, true, false, length};
+ghost use Rattle.std.specs.Prelude.{◌≡◌, ◌+◌, ◌≤◌, ◌++◌, OnOk, OnErr, All, true, length};
 ghost use Rattle.terms_api.specs.Terms.{IsHeld, MayBuild, NeedsPlace, last};
 ghost use Rattle.shared_desk.specs.Pass.{store, IsFilled};
 ghost use Rattle.shared_desk.specs.Desk.{IsIn, IsAlone, IsReady, Passed, Creates, Outcome};

@@ -1,5 +1,5 @@
 // A desk.
-ghost use Rattle.std.specs.Prelude.{◌≡◌, ◌≤◌, IfOk, [], false};
+ghost use Rattle.std.specs.Prelude.{◌≡◌, IfOk, [], false};
 ghost use Rattle.terms_api.specs.Terms.{IsSound};
 ghost use Rattle.shared_desk.specs.Pass.{own};
 

@@ -5,7 +5,7 @@ ghost use Rattle.terms_api.specs.Terms.{IsHeld, IsSound, tree_at};
 ghost use Rattle.std.specs.Prelude.{◌↔◌, ℕ, List, Option, IsTrue, Contains};
 ghost use Rattle.node_rows.specs.Told.{last_in};
 ghost use Rattle.node_rows.specs.Crowding.{kept_in};
-ghost use Rattle.shared_desk.specs.Pass.{PassView, own, IsSame, IsWorn, Arrived, left, MayCreate, Got, Swept, IsFilled};
+ghost use Rattle.shared_desk.specs.Pass.{PassView, own, IsWorn, Arrived, left, MayCreate, Got, Swept, IsFilled};
 
 use node_rows::Last;
 use sweep_phase::{Kept, Worn};

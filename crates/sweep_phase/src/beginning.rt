@@ -3,11 +3,10 @@ ghost use Rattle.std.specs.Prelude.{◌≡◌, ◌<◌, ◌≤◌, ◌+◌, ◌^
 ghost use Rattle.store_model.specs.declared.view.Call.TheVariants.{Idle, Loading};
 ghost use Rattle.store_model.specs.declared.view.Place.TheVariants.{Base, Claim, FreeCount};
 ghost use Rattle.store_model.specs.Invariant.{span};
-ghost use Rattle.store_model.specs.Machine.{with_call};
 ghost use Rattle.store_model.specs.Steps.{loading};
 ghost use Rattle.node_rows.specs.Belonging.{IsOpen};
 ghost use Rattle.node_rows.specs.Collecting.{HasStore};
-ghost use Rattle.node_rows.specs.Steps.{with_store, Known};
+ghost use Rattle.node_rows.specs.Steps.{Known};
 ghost use Rattle.sweep_phase.specs.Loaded.{begun};
 ghost use Rattle.sweep_phase.specs.Gathered.{IsAlone, Gathers, StaysSeat, LoadsClaim, IsWorn};
 

@@ -1,9 +1,8 @@
 //! The new chains of the marked rows, worked out in plain memory: each row before those of its
 //! bucket that are less.
-ghost use Rattle.std.specs.Prelude.{◌≡◌, ◌≢◌, ◌<◌, ◌≤◌, ◌+◌, ◌^◌, ℕ, length, get_or, set, replicate};
+ghost use Rattle.std.specs.Prelude.{◌≡◌, ◌<◌, ◌≤◌, ◌+◌, ◌^◌, length, get_or, set, replicate};
 ghost use Rattle.hash_buckets.specs.Hash.{mixed, mixed_all};
 ghost use Rattle.store_model.specs.declared.view.Place.TheVariants.{RowWord};
-ghost use Rattle.store_model.specs.Machine.{widest};
 ghost use Rattle.store_model.specs.MarkedChains.{StandsIn};
 ghost use Rattle.store_model.specs.Marks.{MarksReached, IsMarked};
 ghost use Rattle.store_model.specs.Steps.{ReachesByWords};

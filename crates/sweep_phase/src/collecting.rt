@@ -1,17 +1,15 @@
 //! A whole collection.
-ghost use Rattle.std.specs.Prelude.{◌≡◌, ◌<◌, ◌≤◌, ◌+◌, ◌↔◌, ℕ, List, Contains, true, false, IfOk, IfErr, length, vec_capacity};
-ghost use Rattle.term_model.specs.declared.Row.{Row};
+ghost use Rattle.std.specs.Prelude.{◌≡◌, ◌<◌, ◌≤◌, ◌+◌, true, false, IfOk, IfErr, length, vec_capacity};
 ghost use Rattle.store_model.specs.declared.view.Place.{Place};
 ghost use Rattle.store_model.specs.declared.view.Place.TheVariants.{Base, FreeCount, InUse};
-ghost use Rattle.store_model.specs.Marks.{MarksReached, IsMarked};
-ghost use Rattle.store_model.specs.Steps.{AreLastRoots, grown_use, is_storing};
+ghost use Rattle.store_model.specs.Marks.{MarksReached};
+ghost use Rattle.store_model.specs.Steps.{AreLastRoots, is_storing};
 ghost use Rattle.node_rows.specs.Belonging.{IsExclusive, IsSamePass};
 ghost use Rattle.node_rows.specs.Collecting.{HasSeen};
 ghost use Rattle.node_rows.specs.Inside.{IsInside};
 ghost use Rattle.node_rows.specs.Told.{Tells, view_of};
 ghost use Rattle.node_rows.specs.Crowding.{swept};
-ghost use Rattle.node_rows.specs.Steps.{Known};
-ghost use Rattle.sweep_phase.specs.Gathered.{sizes_of, words_of, Gathers, HasGathered, StaysSeat, IsWorn, IsAlone};
+ghost use Rattle.sweep_phase.specs.Gathered.{sizes_of, words_of, Gathers, HasGathered, StaysSeat, IsWorn};
 ghost use Rattle.sweep_phase.specs.Stored.{Stores, StoresMore, seen_of, is_number};
 ghost use Rattle.sweep_phase.specs.Collected.{Collects, HasKept, IsWorkedOut, HasStored, HasSwept, Ends, EndsSo};
 ghost use Rattle.sweep_phase.specs.Compared.{IsCompared};

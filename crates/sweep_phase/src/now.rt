@@ -1,13 +1,12 @@
 //! A collection in an access of its own.
 ghost use Rattle.std.specs.Prelude.{◌≡◌, IfOk, IfErr, Err};
 ghost use Rattle.store_model.specs.Steps.{AreLastRoots};
-ghost use Rattle.busy_forbidden.specs.Exclusive.{ShowsExclusive};
 ghost use Rattle.node_rows.specs.Belonging.{IsPassOf, IsExclusive, IsSamePass, IsSeated};
 ghost use Rattle.node_rows.specs.Inside.{IsInside};
-ghost use Rattle.node_rows.specs.Passes.{IsOut, Stayed};
+ghost use Rattle.node_rows.specs.Passes.{IsOut};
 ghost use Rattle.node_rows.specs.Told.{Tells, view_of};
 ghost use Rattle.sweep_phase.specs.Collected.{HasKept};
-ghost use Rattle.sweep_phase.specs.Now.{CollectsNow, Answers, Leaves};
+ghost use Rattle.sweep_phase.specs.Now.{Answers, Leaves};
 
 use crate::collecting::collect;
 use crate::sweep::{Kept, TryCollect, Worn};

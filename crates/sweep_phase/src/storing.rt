@@ -1,5 +1,5 @@
 //! A collection's stores: of chains, buckets, free places and numbers, where they change.
-ghost use Rattle.std.specs.Prelude.{◌≡◌, ◌<◌, ◌≤◌, ◌+◌, ℕ, Bool, true, false, length, get_or, if◌then◌else◌};
+ghost use Rattle.std.specs.Prelude.{◌≡◌, ◌<◌, ◌≤◌, ◌+◌, ℕ, true, false, length, get_or, if◌then◌else◌};
 ghost use Rattle.store_model.specs.declared.view.Place.{Place};
 ghost use Rattle.store_model.specs.declared.view.Place.TheVariants.{FreePlace, Bucket, Next};
 ghost use Rattle.store_model.specs.Marks.{IsMarked};

@@ -1,5 +1,5 @@
 //! The order in which a collection comes to the rows that it compares and frees.
-ghost use Rattle.std.specs.Prelude.{◌≡◌, ◌≢◌, ◌<◌};
+ghost use Rattle.std.specs.Prelude.{◌≡◌, ◌<◌};
 ghost use Rattle.sweep_phase.specs.Gathered.{sizes_of};
 ghost use Rattle.sweep_phase.specs.Turns.{in_blocks, order_for, row_in_turn};
 

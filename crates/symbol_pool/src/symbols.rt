@@ -1,7 +1,7 @@
 //! Symbols numbered in the order in which they were first interned.
 
 ghost use Rattle.std.specs.Prelude.{◌≡◌, ◌<◌, ◌↔◌, ◌++◌, ◌∷◌, [], Some, IfSome, IfNone, IfOk, IfErr, OnOk, OnErr, Err, length};
-ghost use Rattle.symbol_pool.specs.Pool.{named, most_symbols, Holds, Lacks, Has, IsFullFor, IsPool, name_at, arity_at};
+ghost use Rattle.symbol_pool.specs.Pool.{named, Holds, Lacks, Has, IsFullFor, IsPool, name_at, arity_at};
 ghost use Rattle.symbol_pool.specs.Names.{GrowsNames, IsNameAt, same_name};
 ghost use Rattle.symbol_pool.specs.declared.fault.PoolFault.TheVariants.{Full, Memory};
 ghost use Rattle.std.specs.List.{IsDistinct};

@@ -1,5 +1,5 @@
 //! Builds the terms of a text.
-ghost use Rattle.std.specs.Prelude.{◌≡◌, ◌≤◌, [], true, Some, List, IfOk, OnOk, length};
+ghost use Rattle.std.specs.Prelude.{◌≡◌, ◌≤◌, [], true, List, IfOk, OnOk, length};
 ghost use Rattle.symbol_pool.specs.Pool.{Named};
 ghost use Rattle.terms_api.specs.Terms.{trees};
 ghost use Rattle.term_building.specs.declared.builder.Stage.TheVariants as stage;

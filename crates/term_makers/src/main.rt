@@ -2,7 +2,7 @@
 //! docs/LIBRARY.md explains.
 #![tactic(auto)]
 
-ghost use Rattle.std.specs.Prelude.{◌≤◌, IfOk, IfSome, All};
+ghost use Rattle.std.specs.Prelude.{◌≤◌, IfSome, All};
 ghost use Rattle.store_model.specs.NewStore.{MaySize};
 ghost use Rattle.node_rows.specs.Belonging.{IsSeated, IsOpen};
 ghost use Rattle.node_rows.specs.Passes.{IsOut};

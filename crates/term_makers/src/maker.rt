@@ -1,6 +1,6 @@
 //! What each thread does: it makes numbers, protects the last one, lets others collect, goes on,
 //! and reads them all.
-ghost use Rattle.std.specs.Prelude.{◌≡◌, ◌≤◌, ◌<◌, IfOk, length};
+ghost use Rattle.std.specs.Prelude.{◌≡◌};
 ghost use Rattle.lock_core.specs.declared.parts.Phase.TheVariants.{Shared};
 ghost use Rattle.store_model.specs.Machine.{In, protected_in};
 ghost use Rattle.node_rows.specs.Inside.{IsInside};

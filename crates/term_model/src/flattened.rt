@@ -1,6 +1,6 @@
 //! Terms and patterns in one list of items.
 
-ghost use Rattle.std.specs.Prelude.{◌≡◌, ◌+◌, ◌<◌, ◌≤◌, ◌^◌, ◌↔◌, IsTrue, IsSome, IfSome, IfNone, Some, None, List, length, Bool};
+ghost use Rattle.std.specs.Prelude.{◌≡◌, ◌+◌, ◌<◌, ◌≤◌, ◌↔◌, IsTrue, IsSome, IfSome, IfNone, Some, None, List};
 ghost use Rattle.std.specs.List.{list_all};
 ghost use Rattle.term_model.specs.Tree.{Tree, IsWellFormed, IsGround, nodes, root};
 ghost use Rattle.term_model.specs.Postorder.{postorder, tree_of, push_item, has_head};

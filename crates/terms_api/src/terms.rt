@@ -1,5 +1,5 @@
 // What every store of terms offers.
-ghost use Rattle.std.specs.Prelude.{◌≡◌, ◌+◌, ◌<◌, ◌≤◌, ◌↔◌, Option, Some, All, Result, OnOk, OnErr, IsErr, IsErrOf, IsTrue, true, false, [], ◌∷◌, ◌++◌, length, slice_get};
+ghost use Rattle.std.specs.Prelude.{◌≡◌, ◌+◌, ◌<◌, ◌≤◌, ◌↔◌, Option, Some, All, Result, OnOk, OnErr, IsErr, IsErrOf, true, false, [], ◌∷◌, ◌++◌, length, slice_get};
 ghost use Rattle.term_model.specs.Tree.{arguments, root};
 ghost use Rattle.terms_api.specs.Terms.{Store, IsHeld, IsSound, tree_at, Entered, Left, Breathed, pushed, pushed_all, kept, MayBuild, Built, NotBuilt, NeedsPlace, IsCrowded, CountsRefusal, trees, but_last, asked};
 

@@ -1,5 +1,5 @@
 // Small calls on any store, which show what a store's contract gives.
-ghost use Rattle.std.specs.Prelude.{◌≡◌, ◌+◌, ◌<◌, ◌≤◌, [], ◌∷◌, ◌++◌, Ok, Some, OnOk, OnErr, IfOk, IsTrue, true, length};
+ghost use Rattle.std.specs.Prelude.{◌≡◌, ◌+◌, ◌<◌, ◌≤◌, Ok, Some, OnOk, IfOk, IsTrue, true};
 ghost use Rattle.term_model.specs.Tree.{root};
 ghost use Rattle.terms_api.specs.Terms.{IsHeld, IsSound, tree_at, trees};
 ghost use Rattle.terms_api.specs.Trials.{pair, Grown};

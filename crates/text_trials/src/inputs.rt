@@ -1,6 +1,6 @@
 //! Inputs of term text: how their terms are written, and how large they are in a small store.
 
-ghost use Rattle.std.specs.Prelude.{◌≡◌, ◌≤◌, All};
+ghost use Rattle.std.specs.Prelude.{◌≤◌, All};
 ghost use Rattle.term_model.specs.Tree.{IsGround};
 ghost use Rattle.tree_text.specs.Text.{HasNames};
 ghost use Rattle.tree_text.specs.Writing.{IsItemHeld};

@@ -1,6 +1,6 @@
 //! Texts and sizes of terms in a small store.
 
-ghost use Rattle.std.specs.Prelude.{◌≡◌, ◌+◌, ◌<◌, ◌≤◌, true, false, length};
+ghost use Rattle.std.specs.Prelude.{◌≡◌, ◌<◌, ◌≤◌, true, false, length};
 ghost use Rattle.term_model.specs.declared.Head.TheVariants.{App, Int, Nil, Cons};
 ghost use Rattle.terms_api.specs.Terms.{trees};
 ghost use Rattle.term_text.specs.Trials.{IsTried, is_list};

@@ -3,7 +3,7 @@ ghost use Rattle.std.specs.Prelude.{◌≡◌, ◌++◌, ◌∷◌, ◌<◌, [],
 ghost use Rattle.std.specs.List.{list_all};
 ghost use Rattle.tree_text.specs.NameBytes as name_bytes;
 ghost use Rattle.tree_text.specs.Canonical as canonical;
-ghost use Rattle.tree_text.specs.Canonical.{spelling, spelled_name};
+ghost use Rattle.tree_text.specs.Canonical.{spelling};
 ghost use Rattle.tree_text.specs.Writing as steps;
 ghost use Rattle.tree_text.specs.Writing.{IsHeld, AreHeld, IsItemHeld};
 
