@@ -2,7 +2,7 @@
 
 ghost use Rattle.std.specs.Prelude.{◌≡◌, IfOk};
 
-use crate::writing::{PLUS, S, X, Y, Z, planned, rule};
+use crate::writing::{PLUS, S, Written, X, Y, Z, plan_of};
 use rule_match::Plan;
 use std::alloc::Global;
 use std::test::Fail;
@@ -23,20 +23,14 @@ pub(crate) const BUILDS: [&[Item]; 7] = [
     &[Z, S, S],
 ];
 
+/// The rules of sums.
+pub(crate) const SUMS: [Written; 2] = [
+    (&[X, Z, PLUS], &[X], 1, &[]),
+    (&[X, Y, S, PLUS], &[X, Y, PLUS, S], 2, &[]),
+];
+
 pub(crate) fn sums(alloc: Global) -> Result<Plan, Fail>
     ensures { IfOk result (λ plan. plan.widest ≡ 2) }
 {
-    let mut rules = Vec::new(alloc);
-    rules.push(rule(alloc, &[X, Z, PLUS], &[X], 1)?)?;
-    rules.push(rule(alloc, &[X, Y, S, PLUS], &[X, Y, PLUS, S], 2)?)?;
-    planned(alloc, rules)
-}
-
-/// A plan of one rule over one variable.
-pub(crate) fn one_rule(alloc: Global, left: &[Item], right: &[Item]) -> Result<Plan, Fail>
-    ensures { IfOk result (λ plan. plan.widest ≡ 2) }
-{
-    let mut rules = Vec::new(alloc);
-    rules.push(rule(alloc, left, right, 1)?)?;
-    planned(alloc, rules)
+    plan_of(alloc, &SUMS)
 }

@@ -3,10 +3,9 @@
 
 ghost use Rattle.std.specs.Prelude.{◌≡◌, ◌≤◌};
 
-use crate::chance::{Dice, rules, rules_of_one, term};
-use crate::sight::{Limits, Sight, look, stopped, value};
-use crate::writing::planned;
-use innermost::{Normal, RunFault};
+use crate::chance::{Dice, plan, term};
+use crate::sight::{Limits, OUT_OF_FUEL, Order, STORE_FULL, Sight, TOO_DEEP, look, sight_of};
+use innermost::Normal;
 use rewrite_model::{End, Evaluated, Rule, Term, distinct, evaluation, need};
 use rule_match::Plan;
 use std::alloc::Global;
@@ -34,9 +33,9 @@ fn said(alloc: Global, plan: &Plan, term: &Flat, limits: Limits) -> Result<Expec
     let Evaluated { built, end } = run;
     let count = built.len();
     let (value, sight) = match end {
-        End::Value(term, left) => (Some(term), value(left, count)),
-        End::OutOfFuel => (None, stopped(Ok(Normal::OutOfFuel), count)),
-        End::TooDeep => (None, stopped(Ok(Normal::TooDeep), count)),
+        End::Value(term, left) => (Some(term), sight_of(Ok(Normal::Value { left }), count)),
+        End::OutOfFuel => (None, sight_of(OUT_OF_FUEL, count)),
+        End::TooDeep => (None, sight_of(TOO_DEEP, count)),
     };
     Ok(Expected {
         built,
@@ -45,8 +44,19 @@ fn said(alloc: Global, plan: &Plan, term: &Flat, limits: Limits) -> Result<Expec
     })
 }
 
+/// What the plain program says is to be seen.
+fn sight_said(alloc: Global, plan: &Plan, term: &Flat, limits: Limits) -> Result<Sight, Fail> {
+    Ok(said(alloc, plan, term, limits)?.sight)
+}
+
+/// Whether what is seen is what was said, or with too few rows that a full store stopped it, after
+/// a part of what is to be built.
+fn is_so(got: Sight, said: Sight, is_short: bool) -> bool {
+    got == said || got == sight_of(STORE_FULL, got.built) && is_short && got.built < said.built
+}
+
 /// What is seen of a term, if the plain program says so. With fewer rows than are needed a full
-/// store may stop it, after a part of what is to be built.
+/// store may stop it.
 fn agreed(
     alloc: Global,
     plan: &Plan,
@@ -56,15 +66,19 @@ fn agreed(
 ) -> Result<Option<Sight>, Fail>
     requires { plan.now.widest ≤ 2 }
 {
-    let said = said(alloc, plan, term, limits)?;
-    let got = look(alloc, plan, term, limits, said.built, said.value.as_ref())?;
-    let full = stopped(Err(RunFault::StoreFull), got.built);
-    let is_short = (limits.rows as usize) < needed && got.built < said.sight.built;
-    if got == said.sight || got == full && is_short {
-        Ok(Some(got))
+    let Expected {
+        built,
+        value,
+        sight,
+    } = said(alloc, plan, term, limits)?;
+    let order = Order::Innermost;
+    let got = look(alloc, plan, term, order, limits, built, value.as_ref())?;
+    let is_short = (limits.rows as usize) < needed;
+    Ok(if is_so(got, sight, is_short) {
+        Some(got)
     } else {
-        Ok(None)
-    }
+        None
+    })
 }
 
 /// How often each answer came.
@@ -128,8 +142,8 @@ impl Tally {
 /// The least room in which a term doesn't end for want of room.
 fn least_depth(alloc: Global, plan: &Plan, term: &Flat) -> Result<u32, Fail> {
     for depth in 0..AMPLE.depth {
-        let said = said(alloc, plan, term, Limits { depth, ..AMPLE })?;
-        if said.sight.answer != Ok(Normal::TooDeep) {
+        let said = sight_said(alloc, plan, term, Limits { depth, ..AMPLE })?;
+        if said.answer != TOO_DEEP {
             return Ok(depth);
         }
     }
@@ -146,8 +160,8 @@ fn try_fuels(
 ) -> Result<(), Fail>
     requires { plan.now.widest ≤ 2 }
 {
-    let said = said(alloc, plan, term, AMPLE)?;
-    let spent = match said.sight.answer {
+    let said = sight_said(alloc, plan, term, AMPLE)?;
+    let spent = match said.answer {
         Ok(Normal::Value { left }) => AMPLE.fuel.saturating_sub(left),
         _ => AMPLE.fuel,
     };
@@ -182,13 +196,17 @@ fn try_depths(
     Ok(())
 }
 
+/// How many different trees a term builds.
+fn different(alloc: Global, plan: &Plan, term: &Flat) -> Result<usize, Fail> {
+    Ok(distinct(&said(alloc, plan, term, AMPLE)?.built))
+}
+
 /// Tries a term with every number of rows up to that of the different trees that are built, of
 /// which no more are needed at once.
 fn try_rows(alloc: Global, plan: &Plan, term: &Flat, tally: &mut Tally) -> Result<(), Fail>
     requires { plan.now.widest ≤ 2 }
 {
-    let said = said(alloc, plan, term, AMPLE)?;
-    let different = distinct(&said.built);
+    let different = different(alloc, plan, term)?;
     let needed = need(alloc, plan.rules(), term, AMPLE.fuel, AMPLE.depth)?;
     if different > AMPLE.rows as usize || needed > different {
         return Err(Fail::from("too many different trees"));
@@ -203,24 +221,31 @@ fn try_rows(alloc: Global, plan: &Plan, term: &Flat, tally: &mut Tally) -> Resul
     Ok(())
 }
 
+/// Tries a term near the ends.
+fn try_term(alloc: Global, plan: &Plan, term: &Flat, tally: &mut Tally) -> Result<(), Fail>
+    requires { plan.now.widest ≤ 2 }
+{
+    let least = least_depth(alloc, plan, term)?;
+    try_fuels(alloc, plan, term, least, tally)?;
+    try_depths(alloc, plan, term, least, tally)?;
+    try_rows(alloc, plan, term, tally)
+}
+
+/// Tries the next rules and the next term that are made by chance.
+fn try_next(alloc: Global, dice: &mut Dice, of_one: bool, tally: &mut Tally) -> Result<(), Fail> {
+    let plan = plan(alloc, dice, of_one)?;
+    let term = term(alloc, dice)?;
+    tally.count_rules(plan.rules());
+    try_term(alloc, &plan, &term, tally)
+}
+
 /// What comes of so many sets of rules and a term of each, made by chance: rules of several
 /// symbols, or of one.
 fn tried(alloc: Global, seed: u64, sets: u16, of_one: bool) -> Result<Tally, Fail> {
     let mut dice = Dice::of(seed);
     let mut tally = Tally::new();
     for _ in 0..sets {
-        let rules = if of_one {
-            rules_of_one(alloc, &mut dice)?
-        } else {
-            rules(alloc, &mut dice)?
-        };
-        let plan = planned(alloc, rules)?;
-        let term = term(alloc, &mut dice)?;
-        tally.count_rules(plan.rules());
-        let least = least_depth(alloc, &plan, &term)?;
-        try_fuels(alloc, &plan, &term, least, &mut tally)?;
-        try_depths(alloc, &plan, &term, least, &mut tally)?;
-        try_rows(alloc, &plan, &term, &mut tally)?;
+        try_next(alloc, &mut dice, of_one, &mut tally)?;
     }
     Ok(tally)
 }

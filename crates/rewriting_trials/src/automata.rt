@@ -3,13 +3,14 @@
 ghost use Rattle.std.specs.Prelude.{◌≡◌, ◌<◌, ◌≤◌, IfOk, IfSome, Some, length, true};
 ghost use Rattle.term_model.specs.declared.Head.{Head};
 ghost use Rattle.rule_match.specs.Groups.{head_at};
+ghost use Rattle.rule_match.specs.Planned.{HasRoom};
 ghost use Rattle.rule_automaton.specs.Automata.{IsAutomaton};
 ghost use Rattle.rule_automaton.specs.Running.{made};
 
 use crate::building::build_terms;
-use crate::chance::{Dice, rules, rules_of_one, term};
+use crate::chance::{Dice, plan, term};
 use crate::matching::matches_top;
-use crate::writing::{A, B, C, F, PLUS, S, WIDEST, X, Y, Z, planned, rule};
+use crate::writing::{A, B, C, PLUS, S, WIDEST, Written, X, Y, Z, plan_of, planned, rule};
 use plain_store::PlainStore;
 use rewrite_model::Rule;
 use rule_automaton::{Automaton, Places};
@@ -57,6 +58,43 @@ fn found_on_top<T: Terms>(
     }
 }
 
+/// The same for the last of some terms, if they are built.
+fn found_over<T: Terms>(
+    plan: &Plan,
+    automaton: &Automaton,
+    items: &[Item],
+    after: bool,
+    places: &mut Places,
+    terms: &mut T,
+) -> Option<Option<u32>>
+    requires inside { (T.store terms.old).inside ≡ true }
+    requires wide { 2 ≤ (T.store terms.old).widest }
+    requires automaton { IsAutomaton plan.now.rules (made automaton.now) }
+    requires places { (made automaton.now).places ≤ length places.old.rows.items }
+{
+    if build_terms(items, terms) {
+        Some(found_on_top(plan, automaton, after, places, terms))
+    } else {
+        None
+    }
+}
+
+/// The rule that a plan's automaton finds for the last of some terms, in a new store.
+fn found_anew(
+    alloc: Global,
+    plan: &Plan,
+    automaton: &Automaton,
+    items: &[Item],
+    after: bool,
+) -> Result<Option<Option<u32>>, Fail>
+    requires { IsAutomaton plan.now.rules (made automaton.now) }
+{
+    let mut places = Places::of(alloc, automaton)?;
+    let mut store = PlainStore::new(alloc, 99, 99, WIDEST)?;
+    store.enter();
+    Ok(found_over(plan, automaton, items, after, &mut places, &mut store))
+}
+
 /// The rule that a plan's automaton finds for the last of some terms.
 fn found(
     alloc: Global,
@@ -67,24 +105,50 @@ fn found(
 ) -> Result<Option<u32>, Fail>
     requires { IsAutomaton plan.now.rules (made automaton.now) }
 {
-    let mut places = Places::of(alloc, automaton)?;
+    match found_anew(alloc, plan, automaton, items, after)? {
+        Some(found) => Ok(found),
+        None => Err(Fail::from("not built")),
+    }
+}
+
+/// Whether a rule by itself matches the last of some terms, if they are built.
+fn matches_over<T: Terms>(
+    plan: &Plan,
+    rule: u32,
+    items: &[Item],
+    binds: &mut Binds,
+    terms: &mut T,
+) -> Option<bool>
+    requires inside { (T.store terms.old).inside ≡ true }
+    requires wide { 2 ≤ (T.store terms.old).widest }
+    requires room { HasRoom binds.old.room plan.now.rules }
+{
+    if build_terms(items, terms) {
+        Some(matches_top(plan, rule, binds, terms))
+    } else {
+        None
+    }
+}
+
+/// The same in a new store.
+fn matches_anew(
+    alloc: Global,
+    plan: &Plan,
+    rule: u32,
+    items: &[Item],
+) -> Result<Option<bool>, Fail> {
+    let mut binds = Binds::of(alloc, plan)?;
     let mut store = PlainStore::new(alloc, 99, 99, WIDEST)?;
     store.enter();
-    if !build_terms(items, &mut store) {
-        return Err(Fail::from("not built"));
-    }
-    Ok(found_on_top(plan, automaton, after, &mut places, &mut store))
+    Ok(matches_over(plan, rule, items, &mut binds, &mut store))
 }
 
 /// Whether a rule by itself matches the last of some terms.
 fn matches_last(alloc: Global, plan: &Plan, rule: u32, items: &[Item]) -> Result<bool, Fail> {
-    let mut store = PlainStore::new(alloc, 99, 99, WIDEST)?;
-    let mut binds = Binds::of(alloc, plan)?;
-    store.enter();
-    if !build_terms(items, &mut store) {
-        return Err(Fail::from("not built"));
+    match matches_anew(alloc, plan, rule, items)? {
+        Some(is_matched) => Ok(is_matched),
+        None => Err(Fail::from("not built")),
     }
-    Ok(matches_top(plan, rule, &mut binds, &mut store))
 }
 
 /// Whether a rule has the symbol of the last of some terms.
@@ -109,104 +173,163 @@ fn first_of(alloc: Global, plan: &Plan, items: &[Item], after: bool) -> Result<O
 }
 
 /// Rules whose left sides overlap: variables beside symbols, and a repeated variable.
-fn overlapping(alloc: Global) -> Result<Vec<Rule>, Fail> {
-    let mut rules = Vec::new(alloc);
-    rules.push(rule(alloc, &[A, X, PLUS, Y, PLUS], &[A], 2)?)?;
-    rules.push(rule(alloc, &[X, A, PLUS], &[A], 1)?)?;
-    rules.push(rule(alloc, &[X, X, PLUS, B, PLUS], &[A], 1)?)?;
-    rules.push(rule(alloc, &[X, B, PLUS], &[A], 1)?)?;
-    rules.push(rule(alloc, &[X, X, PLUS], &[A], 1)?)?;
-    rules.push(rule(alloc, &[X, S, Z, PLUS], &[A], 1)?)?;
-    Ok(rules)
+static OVERLAPPING: [Written; 6] = [
+    (&[A, X, PLUS, Y, PLUS], &[A], 2, &[]),
+    (&[X, A, PLUS], &[A], 1, &[]),
+    (&[X, X, PLUS, B, PLUS], &[A], 1, &[]),
+    (&[X, B, PLUS], &[A], 1, &[]),
+    (&[X, X, PLUS], &[A], 1, &[]),
+    (&[X, S, Z, PLUS], &[A], 1, &[]),
+];
+
+/// Terms, and the rule that is found for the last of them after the first rule with its symbol.
+static AFTER: [(&[Item], Option<u32>); 6] = [
+    (&[A, B, PLUS, A, PLUS], Some(1)),
+    (&[A, A, PLUS, B, PLUS], Some(2)),
+    (&[A, B, PLUS, B, PLUS], Some(3)),
+    (&[B, A, PLUS, A, PLUS], Some(1)),
+    (&[C, C, PLUS], Some(4)),
+    (&[A, B, PLUS, C, PLUS], None),
+];
+
+/// Terms, and the first rule that is found for the last of them.
+static FIRST: [(&[Item], Option<u32>); 11] = [
+    (&[A, B, PLUS, A, PLUS], Some(0)),
+    (&[B, A, PLUS, A, PLUS], Some(1)),
+    (&[A, A, PLUS, B, PLUS], Some(0)),
+    (&[B, B, PLUS, B, PLUS], Some(2)),
+    (&[B, A, PLUS, B, PLUS], Some(3)),
+    (&[B, A, PLUS], Some(1)),
+    (&[B, B, PLUS], Some(3)),
+    (&[C, C, PLUS], Some(4)),
+    (&[C, S, C, S, PLUS], Some(4)),
+    (&[C, S, Z, PLUS], Some(5)),
+    (&[C, S, C, PLUS], None),
+];
+
+/// The first of the rows, by its number, for which another rule is found.
+fn first_row(
+    alloc: Global,
+    plan: &Plan,
+    automaton: &Automaton,
+    rows: &[(&[Item], Option<u32>)],
+    after: bool,
+) -> Result<Option<usize>, Fail>
+    requires { IsAutomaton plan.now.rules (made automaton.now) }
+{
+    for (number, (items, want)) in rows.iter().enumerate() {
+        if found(alloc, plan, automaton, items, after)? != *want {
+            return Ok(Some(number));
+        }
+    }
+    Ok(None)
+}
+
+/// The first of the rows, by its number, for which another of the overlapping rules is found.
+fn first_other(
+    alloc: Global,
+    rows: &[(&[Item], Option<u32>)],
+    after: bool,
+) -> Result<Option<usize>, Fail> {
+    let plan = plan_of(alloc, &OVERLAPPING)?;
+    let automaton = Automaton::of(alloc, &plan)?;
+    first_row(alloc, &plan, &automaton, rows, after)
 }
 
 #[test]
 fn search_goes_on_after_the_first_rule(rt: HostRuntime) -> Result<(), Fail> {
-    let alloc = rt.alloc();
-    let plan = planned(alloc, overlapping(alloc)?)?;
-    let automaton = Automaton::of(alloc, &plan)?;
-    let rows: [(&[Item], Option<u32>); 6] = [
-        (&[A, B, PLUS, A, PLUS], Some(1)),
-        (&[A, A, PLUS, B, PLUS], Some(2)),
-        (&[A, B, PLUS, B, PLUS], Some(3)),
-        (&[B, A, PLUS, A, PLUS], Some(1)),
-        (&[C, C, PLUS], Some(4)),
-        (&[A, B, PLUS, C, PLUS], None),
-    ];
-    for (items, want) in rows {
-        assert_eq!(rt;
-            found(alloc, &plan, &automaton, items, true)?,
-            want,
-            "{items:?}"
-        );
-    }
+    assert_eq!(rt; first_other(rt.alloc(), &AFTER, true)?, None);
     Ok(())
 }
 
 #[test]
 fn first_rule_in_written_order_is_found(rt: HostRuntime) -> Result<(), Fail> {
-    let alloc = rt.alloc();
-    let plan = planned(alloc, overlapping(alloc)?)?;
-    let automaton = Automaton::of(alloc, &plan)?;
-    let rows: [(&[Item], Option<u32>); 11] = [
-        (&[A, B, PLUS, A, PLUS], Some(0)),
-        (&[B, A, PLUS, A, PLUS], Some(1)),
-        (&[A, A, PLUS, B, PLUS], Some(0)),
-        (&[B, B, PLUS, B, PLUS], Some(2)),
-        (&[B, A, PLUS, B, PLUS], Some(3)),
-        (&[B, A, PLUS], Some(1)),
-        (&[B, B, PLUS], Some(3)),
-        (&[C, C, PLUS], Some(4)),
-        (&[C, S, C, S, PLUS], Some(4)),
-        (&[C, S, Z, PLUS], Some(5)),
-        (&[C, S, C, PLUS], None),
-    ];
-    for (items, want) in rows {
-        assert_eq!(rt;
-            found(alloc, &plan, &automaton, items, false)?,
-            want,
-            "{items:?}"
-        );
-    }
+    assert_eq!(rt; first_other(rt.alloc(), &FIRST, false)?, None);
     Ok(())
 }
 
-/// How many of some chance terms have a rule; none where the automaton and the rules don't agree.
-fn agreed(alloc: Global, dice: &mut Dice, rules: Vec<Rule>) -> Result<Option<u32>, Fail> {
-    let plan = planned(alloc, rules)?;
-    let automaton = Automaton::of(alloc, &plan)?;
-    let mut count = 0u32;
+/// Whether a term has a rule; none where the automaton and the rules don't agree.
+fn agreed(
+    alloc: Global,
+    plan: &Plan,
+    automaton: &Automaton,
+    items: &[Item],
+    after: bool,
+) -> Result<Option<bool>, Fail>
+    requires { IsAutomaton plan.now.rules (made automaton.now) }
+{
+    let found = found(alloc, plan, automaton, items, after)?;
+    let same = found == first_of(alloc, plan, items, after)?;
+    Ok(if same { Some(found.is_some()) } else { None })
+}
+
+/// Counts a term once for all rules, and once for those after the first, where it has one; false
+/// where the automaton and the rules don't agree.
+fn agrees(
+    alloc: Global,
+    plan: &Plan,
+    automaton: &Automaton,
+    items: &[Item],
+    count: &mut u32,
+) -> Result<bool, Fail>
+    requires { IsAutomaton plan.now.rules (made automaton.now) }
+{
+    for after in [false, true] {
+        let Some(some) = agreed(alloc, plan, automaton, items, after)? else {
+            return Ok(false);
+        };
+        *count = count.saturating_add(u32::from(some));
+    }
+    Ok(true)
+}
+
+/// Whether the automaton and the rules agree on four chance terms; counts those with a rule.
+fn four_agree(
+    alloc: Global,
+    plan: &Plan,
+    automaton: &Automaton,
+    dice: &mut Dice,
+    count: &mut u32,
+) -> Result<bool, Fail>
+    requires { IsAutomaton plan.now.rules (made automaton.now) }
+{
     for _ in 0..4u8 {
         let term = term(alloc, dice)?;
-        for after in [false, true] {
-            let found = found(alloc, &plan, &automaton, term.items(), after)?;
-            if found != first_of(alloc, &plan, term.items(), after)? {
-                return Ok(None);
-            }
-            if found.is_some() {
-                count = count.saturating_add(1);
-            }
+        if !agrees(alloc, plan, automaton, term.items(), count)? {
+            return Ok(false);
         }
     }
-    Ok(Some(count))
+    Ok(true)
+}
+
+/// The same for the next chance rules.
+fn rules_agree(
+    alloc: Global,
+    dice: &mut Dice,
+    of_one: bool,
+    count: &mut u32,
+) -> Result<bool, Fail> {
+    let plan = plan(alloc, dice, of_one)?;
+    let automaton = Automaton::of(alloc, &plan)?;
+    four_agree(alloc, &plan, &automaton, dice, count)
+}
+
+/// The first set of chance rules, by its number, on which the automaton and the rules don't agree;
+/// counts the terms with a rule.
+fn first_apart(alloc: Global, count: &mut u32) -> Result<Option<u8>, Fail> {
+    let mut dice = Dice::of(11);
+    for turn in 0..60u8 {
+        if !rules_agree(alloc, &mut dice, turn % 2 == 1, count)? {
+            return Ok(Some(turn));
+        }
+    }
+    Ok(None)
 }
 
 #[test]
 fn chance_rules_are_found_as_they_match(rt: HostRuntime) -> Result<(), Fail> {
-    let alloc = rt.alloc();
-    let mut dice = Dice::of(11);
-    let mut count = 0u32;
-    for turn in 0..60u8 {
-        let rules = if turn % 2 == 0 {
-            rules(alloc, &mut dice)?
-        } else {
-            rules_of_one(alloc, &mut dice)?
-        };
-        let Some(some) = agreed(alloc, &mut dice, rules)? else {
-            return Err(Fail::from("another rule is found"));
-        };
-        count = count.saturating_add(some);
-    }
+    let mut count = 0;
+    assert_eq!(rt; first_apart(rt.alloc(), &mut count)?, None);
     assert!(rt; count > 40, "{count}");
     Ok(())
 }
@@ -224,15 +347,30 @@ fn many(alloc: Global, constants: u32) -> Result<Vec<Rule>, Fail>
     Ok(rules)
 }
 
-#[test]
-fn many_rules_of_one_symbol_are_told_apart(rt: HostRuntime) -> Result<(), Fail> {
-    let alloc = rt.alloc();
+/// Constants, by their symbols, and the rules that are found for them.
+static CONSTANTS: [(u32, u32); 4] = [(20, 0), (520, 500), (1018, 998), (1019, 999)];
+
+/// The first constant for which another rule is found.
+fn first_constant(alloc: Global, plan: &Plan, automaton: &Automaton) -> Result<Option<u32>, Fail>
+    requires { IsAutomaton plan.now.rules (made automaton.now) }
+{
+    for (symbol, want) in CONSTANTS {
+        let items = [Item::App(Symbol(symbol), 0), A, PLUS];
+        if found(alloc, plan, automaton, &items, false)? != Some(want) {
+            return Ok(Some(symbol));
+        }
+    }
+    Ok(None)
+}
+
+fn first_of_many(alloc: Global) -> Result<Option<u32>, Fail> {
     let plan = planned(alloc, many(alloc, 999)?)?;
     let automaton = Automaton::of(alloc, &plan)?;
-    let rows: [(u32, u32); 4] = [(20, 0), (520, 500), (1018, 998), (1019, 999)];
-    for (symbol, want) in rows {
-        let items = [Item::App(Symbol(symbol), 0), A, PLUS];
-        assert_eq!(rt; found(alloc, &plan, &automaton, &items, false)?, Some(want));
-    }
+    first_constant(alloc, &plan, &automaton)
+}
+
+#[test]
+fn many_rules_of_one_symbol_are_told_apart(rt: HostRuntime) -> Result<(), Fail> {
+    assert_eq!(rt; first_of_many(rt.alloc())?, None);
     Ok(())
 }

@@ -1,9 +1,10 @@
 //! Rules and terms made by chance, the same ones in each run.
 
-ghost use Rattle.std.specs.Prelude.{◌<◌};
+ghost use Rattle.std.specs.Prelude.{◌≡◌, ◌<◌, IfOk};
 
-use crate::writing::{A, B, EQ, F, G, PLUS};
+use crate::writing::{A, B, EQ, F, G, PLUS, planned};
 use rewrite_model::{Condition, Rule};
+use rule_match::Plan;
 use std::alloc::Global;
 use std::test::Fail;
 use term_model::{Flat, Item};
@@ -134,7 +135,7 @@ fn rule(alloc: Global, dice: &mut Dice, root: Item) -> Result<Rule, Fail> {
 }
 
 /// One to five rules.
-pub(crate) fn rules(alloc: Global, dice: &mut Dice) -> Result<Vec<Rule>, Fail> {
+fn rules(alloc: Global, dice: &mut Dice) -> Result<Vec<Rule>, Fail> {
     let mut rules = Vec::new(alloc);
     for _ in 0..=dice.roll(5) {
         let root = symbol(dice);
@@ -144,13 +145,24 @@ pub(crate) fn rules(alloc: Global, dice: &mut Dice) -> Result<Vec<Rule>, Fail> {
 }
 
 /// One to eight rules for one symbol.
-pub(crate) fn rules_of_one(alloc: Global, dice: &mut Dice) -> Result<Vec<Rule>, Fail> {
+fn rules_of_one(alloc: Global, dice: &mut Dice) -> Result<Vec<Rule>, Fail> {
     let mut rules = Vec::new(alloc);
     let root = symbol(dice);
     for _ in 0..=dice.roll(8) {
         rules.push(rule(alloc, dice, root)?)?;
     }
     Ok(rules)
+}
+
+/// The plan of rules for several symbols, or for one.
+pub(crate) fn plan(alloc: Global, dice: &mut Dice, of_one: bool) -> Result<Plan, Fail>
+    ensures { IfOk result (λ plan. plan.widest ≡ 2) }
+{
+    if of_one {
+        planned(alloc, rules_of_one(alloc, dice)?)
+    } else {
+        planned(alloc, rules(alloc, dice)?)
+    }
 }
 
 /// A term of at most three levels above its constants.

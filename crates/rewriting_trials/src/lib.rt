@@ -19,6 +19,8 @@ mod counting;
 #[cfg(test)]
 mod matching;
 #[cfg(test)]
+mod model_counts;
+#[cfg(test)]
 mod models;
 #[cfg(test)]
 mod outward;

@@ -1,13 +1,14 @@
 //! Normalizing with a memory of results.
 
 ghost use Rattle.std.specs.Prelude.{◌≡◌, ◌≤◌, None, Some, if◌then◌else◌, nat_eq, option_and_then, true};
+ghost use Rattle.plain_store.specs.Contents.{store_of};
 ghost use Rattle.innermost.specs.Machines.{IsFor};
 ghost use Rattle.innermost.specs.Remembered.{AreRight};
 
 use crate::adding::{ONE_AND_ONE, TWO, sums};
 use crate::counting::Counting;
 use crate::sight::is_on_top;
-use crate::writing::{WIDEST, flat};
+use crate::writing::{WIDEST, flat, tree};
 use innermost::{Known, Machine, Memo, NoMemo, Normal, may_be_normalized};
 use rewrite_model::Term;
 use rule_match::Plan;
@@ -73,6 +74,48 @@ fn comes_with<T: Terms, M: Memo>(
     is_right && answer == Ok(Normal::Value { left: 0 })
 }
 
+/// Whether a term comes to the wanted value four times so.
+fn comes_four_times<T: Terms, M: Memo>(
+    machine: &mut Machine,
+    plan: &Plan,
+    term: &Flat,
+    value: &Term,
+    store: &mut T,
+    memo: &mut M,
+) -> bool
+    requires inside { (T.store store.old).inside ≡ true }
+    requires machine { IsFor plan.now machine.old }
+    requires depth { machine.old.depth ≡ 6 }
+    requires wide { plan.now.widest ≤ (T.store store.old).widest }
+    requires memory { AreRight plan.now.rules (T.store store.old).built (T.store store.old)
+        (M.map memo.old) }
+    ensures inside { (T.store store.new).inside ≡ true }
+{
+    let first = comes_with(machine, plan, term, value, store, memo);
+    let second = comes_with(machine, plan, term, value, store, memo);
+    let third = comes_with(machine, plan, term, value, store, memo);
+    let fourth = comes_with(machine, plan, term, value, store, memo);
+    first && second && third && fourth
+}
+
+fn four_sums_by<M: Memo>(
+    alloc: Global,
+    plan: &Plan,
+    term: &Flat,
+    value: &Term,
+    rows: u32,
+    memo: &mut M,
+) -> Result<(bool, u32, Option<u64>), Fail>
+    requires { plan.now.widest ≤ 2 }
+{
+    let mut machine = Machine::new(alloc, plan, 6)?;
+    let mut store = Counting::new(alloc, rows, 6, WIDEST)?;
+    store.enter();
+    memo.forget();
+    let all = comes_four_times(&mut machine, plan, term, value, &mut store, memo);
+    Ok((all, store.counts().builds, store.epoch()))
+}
+
 /// Four sums of one and one by one memory, in a store of so many rows: whether each comes to two,
 /// how many trees were built, and the store's epoch then.
 fn four_sums<M: Memo>(
@@ -80,19 +123,10 @@ fn four_sums<M: Memo>(
     rows: u32,
     memo: &mut M,
 ) -> Result<(bool, u32, Option<u64>), Fail> {
-    let plan = sums(alloc)?;
+    let value = tree(alloc, &TWO)?;
     let term = flat(alloc, &ONE_AND_ONE)?;
-    let value = Term::of(alloc, &flat(alloc, &TWO)?)?;
-    let mut machine = Machine::new(alloc, &plan, 6)?;
-    let mut store = Counting::new(alloc, rows, 6, WIDEST)?;
-    store.enter();
-    memo.forget();
-    let first = comes_with(&mut machine, &plan, &term, &value, &mut store, memo);
-    let second = comes_with(&mut machine, &plan, &term, &value, &mut store, memo);
-    let third = comes_with(&mut machine, &plan, &term, &value, &mut store, memo);
-    let fourth = comes_with(&mut machine, &plan, &term, &value, &mut store, memo);
-    let all = first && second && third && fourth;
-    Ok((all, store.counts().builds, store.epoch()))
+    let plan = sums(alloc)?;
+    four_sums_by(alloc, &plan, &term, &value, rows, memo)
 }
 
 /// The answer for a term, by a machine of so much room with fuel for two uses of rules and a
@@ -124,37 +158,69 @@ fn answer_in<T: Terms, M: Memo>(
     Ok(answer.ok())
 }
 
-/// The sum of one and one in rooms of 99, 6 and 5, by one memory: the answers, how many trees were
-/// built up to each of them, and the fuel and the room that are remembered then.
-fn sums_in_less(
+/// A term in rooms of 99, 6 and 5, by one memory: the answers, and how many trees were built up to
+/// each of them.
+fn answers_in_less<M: Memo>(
     alloc: Global,
-) -> Result<([Option<Normal>; 3], [u32; 3], Option<(u64, u32)>), Fail> {
-    let plan = sums(alloc)?;
-    let term = flat(alloc, &ONE_AND_ONE)?;
+    plan: &Plan,
+    term: &Flat,
+    store: &mut Counting,
+    memo: &mut M,
+) -> Result<([Option<Normal>; 3], [u32; 3]), Fail>
+    requires inside { (store_of store.old.store).inside ≡ true }
+    requires wide { plan.now.widest ≤ (store_of store.old.store).widest }
+    requires memory { AreRight plan.now.rules (store_of store.old.store).built
+        (store_of store.old.store) (M.map memo.old) }
+{
+    let wide = answer_in(alloc, 99, plan, term, store, memo)?;
+    let first = store.counts().builds;
+    let just = answer_in(alloc, 6, plan, term, store, memo)?;
+    let second = store.counts().builds;
+    let narrow = answer_in(alloc, 5, plan, term, store, memo)?;
+    let third = store.counts().builds;
+    Ok(([wide, just, narrow], [first, second, third]))
+}
+
+fn sums_in_less_by(
+    alloc: Global,
+    plan: &Plan,
+    term: &Flat,
+    memo: &mut LastResult,
+) -> Result<([Option<Normal>; 3], [u32; 3]), Fail>
+    requires { plan.now.widest ≤ 2 }
+{
     let mut store = Counting::new(alloc, 9, 99, WIDEST)?;
-    let mut memo = LastResult { kept: None };
     store.enter();
     memo.forget();
-    let wide = answer_in(alloc, 99, &plan, &term, &mut store, &mut memo)?;
-    let first = store.counts().builds;
-    let just = answer_in(alloc, 6, &plan, &term, &mut store, &mut memo)?;
-    let second = store.counts().builds;
-    let narrow = answer_in(alloc, 5, &plan, &term, &mut store, &mut memo)?;
-    let third = store.counts().builds;
-    let known = match memo.kept {
+    answers_in_less(alloc, plan, term, &mut store, memo)
+}
+
+/// The same of the sum of one and one, by a memory that is empty at first.
+fn sums_in_less(
+    alloc: Global,
+    memo: &mut LastResult,
+) -> Result<([Option<Normal>; 3], [u32; 3]), Fail> {
+    let term = flat(alloc, &ONE_AND_ONE)?;
+    let plan = sums(alloc)?;
+    sums_in_less_by(alloc, &plan, &term, memo)
+}
+
+/// The fuel and the room that are remembered.
+fn known(memo: &LastResult) -> Option<(u64, u32)> {
+    match memo.kept {
         Some((_, known)) => Some((known.fuel, known.depth)),
         None => None,
-    };
-    Ok(([wide, just, narrow], [first, second, third], known))
+    }
 }
 
 #[test]
 fn a_result_is_known_in_the_least_room(rt: HostRuntime) -> Result<(), Fail> {
-    let (answers, builds, known) = sums_in_less(rt.alloc())?;
+    let mut memo = LastResult { kept: None };
+    let (answers, builds) = sums_in_less(rt.alloc(), &mut memo)?;
     let value = Some(Normal::Value { left: 0 });
     assert_eq!(rt; answers, [value, value, Some(Normal::TooDeep)]);
     assert_eq!(rt; builds, [7, 12, 17]);
-    assert_eq!(rt; known, Some((2, 6)));
+    assert_eq!(rt; known(&memo), Some((2, 6)));
     Ok(())
 }
 

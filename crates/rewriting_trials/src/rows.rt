@@ -1,183 +1,223 @@
 //! Worked rows: values, fuel, room, rows and conditions. What is to be built was worked out by
 //! hand.
 
-ghost use Rattle.std.specs.Prelude.{◌≡◌, IfOk};
-
-use crate::adding::{BUILDS, ONE_AND_ONE, TWO, one_rule, sums};
-use crate::sight::{Limits, look_at, stopped, value};
-use crate::writing::{A, B, C, E, EQ, F, G, PLUS, S, X, Z, condition, flat, planned, rule};
-use innermost::{Normal, RunFault};
-use rewrite_model::{Rule, need};
-use rule_match::Plan;
+use crate::adding::{BUILDS, ONE_AND_ONE, SUMS, TWO};
+use crate::sight::{OUT_OF_FUEL, Order, STORE_FULL, TOO_DEEP, Work, first_other};
+use crate::writing::{A, B, C, E, EQ, F, G, PLUS, S, Written, X, Z, flat, rules_of};
+use innermost::Normal;
+use rewrite_model::need;
 use std::alloc::Global;
 use std::test::Fail;
 use term_model::Item;
 
-const AMPLE: Limits = Limits {
-    fuel: 1000,
-    depth: 99,
-    rows: 99,
+/// The sum of one and one.
+static ONE_AND_ONES: Work = Work {
+    rules: &SUMS,
+    term: &ONE_AND_ONE,
+    order: Order::Innermost,
+    builds: &BUILDS,
+    value: &TWO,
+    runs: &[
+        (1000, 99, 99, Ok(Normal::Value { left: 998 }), 7),
+        (2, 99, 99, Ok(Normal::Value { left: 0 }), 7),
+        (1, 99, 99, OUT_OF_FUEL, 6),
+        (0, 99, 99, OUT_OF_FUEL, 5),
+        (1000, 6, 99, Ok(Normal::Value { left: 998 }), 7),
+        (1000, 5, 99, TOO_DEEP, 5),
+        (1000, 0, 99, TOO_DEEP, 0),
+        (1000, 99, 3, Ok(Normal::Value { left: 998 }), 7),
+        (1000, 99, 2, STORE_FULL, 4),
+        (1000, 99, 1, STORE_FULL, 1),
+        (1000, 99, 0, STORE_FULL, 0),
+    ],
 };
 
 #[test]
 fn one_and_one_is_two(rt: HostRuntime) -> Result<(), Fail> {
-    let alloc = rt.alloc();
-    let plan = sums(alloc)?;
-    let rows = [
-        (1000, 99, 99, value(998, 7)),
-        (2, 99, 99, value(0, 7)),
-        (1, 99, 99, stopped(Ok(Normal::OutOfFuel), 6)),
-        (0, 99, 99, stopped(Ok(Normal::OutOfFuel), 5)),
-        (1000, 6, 99, value(998, 7)),
-        (1000, 5, 99, stopped(Ok(Normal::TooDeep), 5)),
-        (1000, 0, 99, stopped(Ok(Normal::TooDeep), 0)),
-        (1000, 99, 3, value(998, 7)),
-        (1000, 99, 2, stopped(Err(RunFault::StoreFull), 4)),
-        (1000, 99, 1, stopped(Err(RunFault::StoreFull), 1)),
-        (1000, 99, 0, stopped(Err(RunFault::StoreFull), 0)),
-    ];
-    for (fuel, depth, rows, want) in rows {
-        let limits = Limits { fuel, depth, rows };
-        let got = look_at(alloc, &plan, &ONE_AND_ONE, limits, &BUILDS, &TWO)?;
-        assert_eq!(rt; got, want, "{limits:?}");
-    }
+    assert_eq!(rt; first_other(rt.alloc(), &ONE_AND_ONES)?, None);
     Ok(())
 }
+
+/// A term of two nodes.
+static WITHOUT_RULES: Work = Work {
+    rules: &[],
+    term: &[A, F],
+    order: Order::Innermost,
+    builds: &[&[A], &[A, F]],
+    value: &[A, F],
+    runs: &[
+        (0, 2, 2, Ok(Normal::Value { left: 0 }), 2),
+        (0, 1, 2, TOO_DEEP, 0),
+        (0, 0, 2, TOO_DEEP, 0),
+    ],
+};
 
 #[test]
 fn a_term_without_rules_needs_room_for_its_nodes(rt: HostRuntime) -> Result<(), Fail> {
-    let alloc = rt.alloc();
-    let plan = planned(alloc, Vec::new(alloc))?;
-    let rows = [
-        (2, value(0, 2)),
-        (1, stopped(Ok(Normal::TooDeep), 0)),
-        (0, stopped(Ok(Normal::TooDeep), 0)),
-    ];
-    for (depth, want) in rows {
-        let limits = Limits {
-            fuel: 0,
-            depth,
-            rows: 2,
-        };
-        let got = look_at(alloc, &plan, &[A, F], limits, &[&[A], &[A, F]], &[A, F])?;
-        assert_eq!(rt; got, want, "{depth}");
-    }
+    assert_eq!(rt; first_other(rt.alloc(), &WITHOUT_RULES)?, None);
     Ok(())
 }
 
+const EQUAL: [Written; 1] = [(&[X, X, EQ], &[A], 1, &[])];
+
+/// Two equal arguments.
+static SAME: Work = Work {
+    rules: &EQUAL,
+    term: &[Z, S, Z, S, EQ],
+    order: Order::Innermost,
+    builds: &[&[Z], &[Z, S], &[Z], &[Z, S], &[Z, S, Z, S, EQ], &[A]],
+    value: &[A],
+    runs: &[(1000, 99, 99, Ok(Normal::Value { left: 999 }), 6)],
+};
+
+/// Two different arguments.
+static OTHER: Work = Work {
+    rules: &EQUAL,
+    term: &[Z, S, Z, EQ],
+    order: Order::Innermost,
+    builds: &[&[Z], &[Z, S], &[Z], &[Z, S, Z, EQ]],
+    value: &[Z, S, Z, EQ],
+    runs: &[(1000, 99, 99, Ok(Normal::Value { left: 1000 }), 4)],
+};
+
 #[test]
 fn a_repeated_variable_needs_equal_trees(rt: HostRuntime) -> Result<(), Fail> {
-    let alloc = rt.alloc();
-    let plan = one_rule(alloc, &[X, X, EQ], &[A])?;
-    let same: [&[Item]; 6] = [&[Z], &[Z, S], &[Z], &[Z, S], &[Z, S, Z, S, EQ], &[A]];
-    let other: [&[Item]; 4] = [&[Z], &[Z, S], &[Z], &[Z, S, Z, EQ]];
-    let got = look_at(alloc, &plan, &[Z, S, Z, S, EQ], AMPLE, &same, &[A])?;
-    assert_eq!(rt; got, value(999, 6));
-    let got = look_at(alloc, &plan, &[Z, S, Z, EQ], AMPLE, &other, &[Z, S, Z, EQ])?;
-    assert_eq!(rt; got, value(1000, 4));
+    assert_eq!(rt; first_other(rt.alloc(), &SAME)?, None);
+    assert_eq!(rt; first_other(rt.alloc(), &OTHER)?, None);
     Ok(())
 }
 
 /// A rule with two conditions, between one that its first condition uses and one that is used where
 /// a condition fails.
-fn guarded(alloc: Global) -> Result<Plan, Fail>
-    ensures { IfOk result (λ plan. plan.widest ≡ 2) }
-{
-    let mut conditions = Vec::new(alloc);
-    conditions.push(condition(alloc, &[X, G], &[B], true)?)?;
-    conditions.push(condition(alloc, &[X], &[C], false)?)?;
-    let mut rules = Vec::new(alloc);
-    rules.push(rule(alloc, &[X, G], &[B], 1)?)?;
-    rules.push(Rule::new(flat(alloc, &[X, F])?, flat(alloc, &[A])?, conditions, 1))?;
-    rules.push(rule(alloc, &[X, F], &[E], 1)?)?;
-    planned(alloc, rules)
-}
+const GUARDED: [Written; 3] = [
+    (&[X, G], &[B], 1, &[]),
+    (
+        &[X, F],
+        &[A],
+        1,
+        &[(&[X, G], &[B], true), (&[X], &[C], false)],
+    ),
+    (&[X, F], &[E], 1, &[]),
+];
+
+/// A condition that fails.
+static FAILING: Work = Work {
+    rules: &GUARDED,
+    term: &[C, F],
+    order: Order::Innermost,
+    builds: &[&[C], &[C, F], &[C, G], &[B], &[B], &[C], &[E]],
+    value: &[E],
+    runs: &[
+        (3, 99, 99, Ok(Normal::Value { left: 0 }), 7),
+        (2, 99, 99, OUT_OF_FUEL, 6),
+        (1, 99, 99, OUT_OF_FUEL, 3),
+    ],
+};
+
+/// Conditions that hold.
+static HOLDING: Work = Work {
+    rules: &GUARDED,
+    term: &[A, F],
+    order: Order::Innermost,
+    builds: &[&[A], &[A, F], &[A, G], &[B], &[B], &[C], &[A]],
+    value: &[A],
+    runs: &[
+        (3, 99, 99, Ok(Normal::Value { left: 1 }), 7),
+        (2, 99, 99, Ok(Normal::Value { left: 0 }), 7),
+    ],
+};
 
 #[test]
 fn conditions_are_tried_in_order(rt: HostRuntime) -> Result<(), Fail> {
-    let alloc = rt.alloc();
-    let plan = guarded(alloc)?;
-    let failing: [&[Item]; 7] = [&[C], &[C, F], &[C, G], &[B], &[B], &[C], &[E]];
-    let holding: [&[Item]; 7] = [&[A], &[A, F], &[A, G], &[B], &[B], &[C], &[A]];
-    let rows = [
-        (C, 3, &failing, E, value(0, 7)),
-        (C, 2, &failing, E, stopped(Ok(Normal::OutOfFuel), 6)),
-        (C, 1, &failing, E, stopped(Ok(Normal::OutOfFuel), 3)),
-        (A, 3, &holding, A, value(1, 7)),
-        (A, 2, &holding, A, value(0, 7)),
-    ];
-    for (argument, fuel, wanted, result, want) in rows {
-        let limits = Limits { fuel, ..AMPLE };
-        let got = look_at(alloc, &plan, &[argument, F], limits, wanted, &[result])?;
-        assert_eq!(rt; got, want, "{argument:?} {fuel}");
-    }
+    assert_eq!(rt; first_other(rt.alloc(), &FAILING)?, None);
+    assert_eq!(rt; first_other(rt.alloc(), &HOLDING)?, None);
     Ok(())
 }
+
+/// A condition that asks for the value of its own left side.
+static OWN_RULE: Work = Work {
+    rules: &[(&[X, F], &[A], 1, &[(&[X, F], &[B], true)])],
+    term: &[C, F],
+    order: Order::Innermost,
+    builds: &[&[C], &[C, F], &[C, F], &[C, F], &[C, F]],
+    value: &[A],
+    runs: &[(3, 99, 99, OUT_OF_FUEL, 5)],
+};
 
 #[test]
 fn a_condition_may_ask_for_its_own_rule(rt: HostRuntime) -> Result<(), Fail> {
-    let alloc = rt.alloc();
-    let mut conditions = Vec::new(alloc);
-    conditions.push(condition(alloc, &[X, F], &[B], true)?)?;
-    let mut rules = Vec::new(alloc);
-    rules.push(Rule::new(flat(alloc, &[X, F])?, flat(alloc, &[A])?, conditions, 1))?;
-    let plan = planned(alloc, rules)?;
-    let wanted: [&[Item]; 5] = [&[C], &[C, F], &[C, F], &[C, F], &[C, F]];
-    let limits = Limits { fuel: 3, ..AMPLE };
-    let got = look_at(alloc, &plan, &[C, F], limits, &wanted, &[A])?;
-    assert_eq!(rt; got, stopped(Ok(Normal::OutOfFuel), 5));
+    assert_eq!(rt; first_other(rt.alloc(), &OWN_RULE)?, None);
     Ok(())
 }
+
+/// Two rules that fit.
+static TWO_FIT: Work = Work {
+    rules: &[(&[X, F], &[A], 1, &[]), (&[B, F], &[C], 0, &[])],
+    term: &[B, F],
+    order: Order::Innermost,
+    builds: &[&[B], &[B, F], &[A]],
+    value: &[A],
+    runs: &[(1000, 99, 99, Ok(Normal::Value { left: 999 }), 3)],
+};
 
 #[test]
 fn the_first_rule_that_fits_is_used(rt: HostRuntime) -> Result<(), Fail> {
-    let alloc = rt.alloc();
-    let mut rules = Vec::new(alloc);
-    rules.push(rule(alloc, &[X, F], &[A], 1)?)?;
-    rules.push(rule(alloc, &[B, F], &[C], 0)?)?;
-    let plan = planned(alloc, rules)?;
-    let got = look_at(alloc, &plan, &[B, F], AMPLE, &[&[B], &[B, F], &[A]], &[A])?;
-    assert_eq!(rt; got, value(999, 3));
+    assert_eq!(rt; first_other(rt.alloc(), &TWO_FIT)?, None);
     Ok(())
 }
 
+/// An argument without a value, under a rule that leaves it out.
+static ENDLESS: Work = Work {
+    rules: &[(&[X, F], &[A], 1, &[]), (&[B], &[B], 0, &[])],
+    term: &[B, F],
+    order: Order::Innermost,
+    builds: &[&[B], &[B], &[B], &[B], &[B], &[B]],
+    value: &[A],
+    runs: &[(5, 99, 99, OUT_OF_FUEL, 6)],
+};
+
 #[test]
 fn arguments_come_before_the_head(rt: HostRuntime) -> Result<(), Fail> {
-    let alloc = rt.alloc();
-    let mut rules = Vec::new(alloc);
-    rules.push(rule(alloc, &[X, F], &[A], 1)?)?;
-    rules.push(rule(alloc, &[B], &[B], 0)?)?;
-    let plan = planned(alloc, rules)?;
-    let wanted: [&[Item]; 6] = [&[B], &[B], &[B], &[B], &[B], &[B]];
-    let limits = Limits { fuel: 5, ..AMPLE };
-    let got = look_at(alloc, &plan, &[B, F], limits, &wanted, &[A])?;
-    assert_eq!(rt; got, stopped(Ok(Normal::OutOfFuel), 6));
+    assert_eq!(rt; first_other(rt.alloc(), &ENDLESS)?, None);
     Ok(())
+}
+
+/// Rules, a term, its fuel and its room, and how many trees are needed at once.
+type Needed = (&'static [Written], &'static [Item], u64, u32, usize);
+
+static NEEDS: [Needed; 5] = [
+    (&SUMS, &ONE_AND_ONE, 2, 6, 3),
+    (&SUMS, &ONE_AND_ONE, 0, 6, 3),
+    (&SUMS, &ONE_AND_ONE, 2, 3, 2),
+    (&SUMS, &ONE_AND_ONE, 2, 0, 0),
+    (
+        &[(&[X, F], &[X, X, PLUS], 1, &[])],
+        &[Z, F, F, F],
+        1000,
+        99,
+        4,
+    ),
+];
+
+fn is_needed(alloc: Global, row: &Needed) -> Result<bool, Fail> {
+    let (rules, term, fuel, depth, want) = row;
+    let rules = rules_of(alloc, rules)?;
+    let term = flat(alloc, term)?;
+    Ok(need(alloc, &rules, &term, *fuel, *depth)? == *want)
+}
+
+/// The first of the rows, by its number, that needs another count.
+fn first_need(alloc: Global) -> Result<Option<usize>, Fail> {
+    for (number, row) in NEEDS.iter().enumerate() {
+        if !is_needed(alloc, row)? {
+            return Ok(Some(number));
+        }
+    }
+    Ok(None)
 }
 
 #[test]
 fn needs_are_those_worked_out_by_hand(rt: HostRuntime) -> Result<(), Fail> {
-    let alloc = rt.alloc();
-    let plan = sums(alloc)?;
-    let rows = [(2, 6, 3), (0, 6, 3), (2, 3, 2), (2, 0, 0)];
-    for (fuel, depth, want) in rows {
-        let limits = Limits {
-            fuel,
-            depth,
-            rows: 0,
-        };
-        let term = flat(alloc, &ONE_AND_ONE)?;
-        assert_eq!(rt;
-            need(alloc, plan.rules(), &term, limits.fuel, limits.depth)?,
-            want,
-            "{limits:?}"
-        );
-    }
-    let plan = one_rule(alloc, &[X, F], &[X, X, PLUS])?;
-    let term = flat(alloc, &[Z, F, F, F])?;
-    assert_eq!(rt;
-        need(alloc, plan.rules(), &term, AMPLE.fuel, AMPLE.depth)?,
-        4
-    );
+    assert_eq!(rt; first_need(rt.alloc())?, None);
     Ok(())
 }

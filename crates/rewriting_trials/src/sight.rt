@@ -1,11 +1,12 @@
 //! What can be seen of a normalization.
 
 ghost use Rattle.std.specs.Prelude.{◌≡◌, ◌≤◌, true};
+ghost use Rattle.plain_store.specs.Contents.{store_of};
 ghost use Rattle.innermost.specs.Machines.{IsFor};
 
 use crate::reading::is_term;
 use crate::watched::Watched;
-use crate::writing::{WIDEST, boxed, flat};
+use crate::writing::{WIDEST, Written, boxed, flat, plan_of, tree};
 use innermost::{Machine, Normal, RunFault, may_be_normalized};
 use rewrite_model::Term;
 use rule_match::Plan;
@@ -16,7 +17,7 @@ use terms_api::Terms;
 
 /// The answer, how many trees were built, whether they and a value are the wanted ones, and how
 /// many places of the stack are in use then.
-#[derive(Clone, Copy, Debug, PartialEq, Eq)]
+#[derive(Clone, Copy, PartialEq, Eq)]
 pub(crate) struct Sight {
     pub(crate) answer: Result<Normal, RunFault>,
     pub(crate) built: usize,
@@ -25,30 +26,38 @@ pub(crate) struct Sight {
 }
 
 /// How much fuel and room there is, and how many rows.
-#[derive(Clone, Copy, Debug, PartialEq, Eq)]
+#[derive(Clone, Copy)]
 pub(crate) struct Limits {
     pub(crate) fuel: u64,
     pub(crate) depth: u32,
     pub(crate) rows: u32,
 }
 
-/// The wanted value came on an empty stack, with so much fuel left and after so many builds.
-pub(crate) fn value(left: u64, built: usize) -> Sight {
-    Sight {
-        answer: Ok(Normal::Value { left }),
-        built,
-        as_wanted: true,
-        places: 1,
-    }
+/// Which position is rewritten first.
+#[derive(Clone, Copy)]
+pub(crate) enum Order {
+    Innermost,
+    Outermost,
 }
 
-/// Another answer came on an empty stack, after so many builds of wanted trees.
-pub(crate) fn stopped(answer: Result<Normal, RunFault>, built: usize) -> Sight {
+pub(crate) const OUT_OF_FUEL: Result<Normal, RunFault> = Ok(Normal::OutOfFuel);
+
+pub(crate) const TOO_DEEP: Result<Normal, RunFault> = Ok(Normal::TooDeep);
+
+pub(crate) const STORE_FULL: Result<Normal, RunFault> = Err(RunFault::StoreFull);
+
+/// What is to be seen on an empty stack where the answer is this, after so many builds: its value
+/// is in a place, and all is as wanted.
+pub(crate) fn sight_of(answer: Result<Normal, RunFault>, built: usize) -> Sight {
+    let places = match answer {
+        Ok(Normal::Value { left: _ }) => 1,
+        _ => 0,
+    };
     Sight {
         answer,
         built,
         as_wanted: true,
-        places: 0,
+        places,
     }
 }
 
@@ -81,6 +90,7 @@ pub(crate) fn answer_of<T: Terms>(
     machine: &mut Machine,
     plan: &Plan,
     depth: u32,
+    order: Order,
     term: &Flat,
     fuel: u64,
     terms: &mut T,
@@ -97,30 +107,33 @@ pub(crate) fn answer_of<T: Terms>(
     if free < depth || !may_be_normalized(term, plan.widest()) {
         return None;
     }
-    Some(machine.normalize(plan, term, fuel, terms))
+    Some(match order {
+        Order::Innermost => machine.normalize(plan, term, fuel, terms),
+        Order::Outermost => machine.outermost(plan, term, fuel, terms),
+    })
 }
 
-/// What is seen of a term in a new store with as many places as the term's room: whether the trees
-/// that are built, and the value, are the wanted ones.
-pub(crate) fn look(
-    alloc: Global,
+/// What is seen of a term in a store that is watched.
+fn watch(
+    machine: &mut Machine,
     plan: &Plan,
     term: &Flat,
+    order: Order,
     limits: Limits,
-    wanted: Vec<Term>,
     value: Option<&Term>,
+    store: &mut Watched,
 ) -> Result<Sight, Fail>
-    requires { plan.now.widest ≤ 2 }
+    requires inside { (store_of store.old.store).inside ≡ true }
+    requires machine { IsFor plan.now machine.old }
+    requires depth { machine.old.depth ≡ limits.depth }
+    requires wide { plan.now.widest ≤ (store_of store.old.store).widest }
 {
-    let mut machine = Machine::new(alloc, plan, limits.depth)?;
-    let mut store = Watched::new(alloc, limits.rows, limits.depth, WIDEST, wanted)?;
-    store.enter();
-    let depth = limits.depth;
-    let answer = answer_of(&mut machine, plan, depth, term, limits.fuel, &mut store).ok_or(
-        "not a term of the plan",
-    )?;
+    let Some(answer) = answer_of(machine, plan, limits.depth, order, term, limits.fuel, store)
+    else {
+        return Err(Fail::from("not a term of the plan"));
+    };
     let is_right = match answer {
-        Ok(Normal::Value { left: _ }) => is_value(value, &mut store),
+        Ok(Normal::Value { left: _ }) => is_value(value, store),
         _ => true,
     };
     Ok(Sight {
@@ -131,25 +144,79 @@ pub(crate) fn look(
     })
 }
 
-/// What is seen of a term that is to build these terms, up to where it ends, and have this value.
-pub(crate) fn look_at(
+/// What is seen of a term in a new store with as many places as the term's room: whether the trees
+/// that are built, and the value, are the wanted ones.
+pub(crate) fn look(
     alloc: Global,
     plan: &Plan,
-    term: &[Item],
+    term: &Flat,
+    order: Order,
     limits: Limits,
-    wanted: &[&[Item]],
-    value: &[Item],
+    wanted: Vec<Term>,
+    value: Option<&Term>,
 ) -> Result<Sight, Fail>
     requires { plan.now.widest ≤ 2 }
 {
-    let wanted = boxed(alloc, wanted)?;
-    let value = Term::of(alloc, &flat(alloc, value)?)?;
-    look(
-        alloc,
-        plan,
-        &flat(alloc, term)?,
-        limits,
-        wanted,
-        Some(&value),
-    )
+    let mut store = Watched::new(alloc, limits.rows, limits.depth, WIDEST, wanted)?;
+    let mut machine = Machine::new(alloc, plan, limits.depth)?;
+    store.enter();
+    watch(&mut machine, plan, term, order, limits, value, &mut store)
+}
+
+/// Rules, a term and its order, the trees that are to be built, up to where it ends, and its value;
+/// and runs of it.
+pub(crate) struct Work {
+    pub(crate) rules: &'static [Written],
+    pub(crate) term: &'static [Item],
+    pub(crate) order: Order,
+    pub(crate) builds: &'static [&'static [Item]],
+    pub(crate) value: &'static [Item],
+    pub(crate) runs: &'static [Run],
+}
+
+/// Fuel, room and rows; and then the answer, and how many trees are built.
+pub(crate) type Run = (u64, u32, u32, Result<Normal, RunFault>, usize);
+
+/// Whether a run has its answer after so many of the builds.
+fn is_seen(
+    alloc: Global,
+    plan: &Plan,
+    term: &Flat,
+    work: &Work,
+    run: &Run,
+    value: &Term,
+) -> Result<bool, Fail>
+    requires { plan.now.widest ≤ 2 }
+{
+    let (fuel, depth, rows, answer, built) = *run;
+    let limits = Limits { fuel, depth, rows };
+    let wanted = boxed(alloc, work.builds)?;
+    let got = look(alloc, plan, term, work.order, limits, wanted, Some(value))?;
+    Ok(got == sight_of(answer, built))
+}
+
+/// The first run, by its number, in which something else is seen.
+fn first_of(
+    alloc: Global,
+    plan: &Plan,
+    term: &Flat,
+    work: &Work,
+    value: &Term,
+) -> Result<Option<usize>, Fail>
+    requires { plan.now.widest ≤ 2 }
+{
+    for (number, run) in work.runs.iter().enumerate() {
+        if !is_seen(alloc, plan, term, work, run, value)? {
+            return Ok(Some(number));
+        }
+    }
+    Ok(None)
+}
+
+/// The first run of a work, by its number, in which something else is seen.
+pub(crate) fn first_other(alloc: Global, work: &Work) -> Result<Option<usize>, Fail> {
+    let value = tree(alloc, work.value)?;
+    let term = flat(alloc, work.term)?;
+    let plan = plan_of(alloc, work.rules)?;
+    first_of(alloc, &plan, &term, work, &value)
 }

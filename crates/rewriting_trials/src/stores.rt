@@ -4,11 +4,11 @@ ghost use Rattle.std.specs.Prelude.{◌≡◌, ◌≤◌, true};
 ghost use Rattle.plain_store.specs.Contents.{store_of};
 ghost use Rattle.innermost.specs.Machines.{IsFor};
 
-use crate::adding::{BUILDS, ONE_AND_ONE, TWO, one_rule, sums};
+use crate::adding::{BUILDS, ONE_AND_ONE, TWO, sums};
 use crate::building::build_terms;
-use crate::sight::{Limits, answer_of, is_on_top};
+use crate::sight::{Limits, OUT_OF_FUEL, Order, STORE_FULL, TOO_DEEP, answer_of, is_on_top};
 use crate::watched::Watched;
-use crate::writing::{C, F, PLUS, WIDEST, X, Z, boxed, flat};
+use crate::writing::{C, F, PLUS, WIDEST, X, Z, boxed, flat, plan_of, tree};
 use innermost::{Machine, Normal, RunFault};
 use plain_store::PlainStore;
 use rewrite_model::Term;
@@ -40,76 +40,81 @@ fn is_doubled<T: Terms>(levels: u32, terms: &mut T) -> bool
     Some(terms.head(row)) == Z.head()
 }
 
-/// A term that is doubled so many times: its answer, and whether its value is the doubled tree, of
-/// one more than so many different nodes.
-fn doubled(
-    alloc: Global,
-    levels: u32,
-    depth: u32,
-    rows: u32,
-) -> Result<(Result<Normal, RunFault>, bool), Fail> {
-    let plan = one_rule(alloc, &[X, F], &[X, X, PLUS])?;
+/// A constant under so many levels of a symbol.
+fn tower(alloc: Global, levels: u32) -> Result<Flat, Fail> {
     let mut items = vec![in alloc; F; levels as usize + 1]?;
     items[0] = Z;
-    let term = flat(alloc, &items)?;
-    let mut machine = Machine::new(alloc, &plan, depth)?;
+    flat(alloc, &items)
+}
+
+/// The answer for a term by a machine of so much room, and whether its value is a constant that is
+/// doubled so many times.
+fn doubled(
+    machine: &mut Machine,
+    plan: &Plan,
+    depth: u32,
+    levels: u32,
+    term: &Flat,
+    store: &mut PlainStore,
+) -> Result<(Result<Normal, RunFault>, bool), Fail>
+    requires inside { (store_of store.old).inside ≡ true }
+    requires machine { IsFor plan.now machine.old }
+    requires depth { machine.old.depth ≡ depth }
+    requires wide { plan.now.widest ≤ (store_of store.old).widest }
+{
+    match answer_of(machine, plan, depth, Order::Innermost, term, 99, store) {
+        Some(answer) => Ok((answer, is_doubled(levels, store))),
+        None => Err(Fail::from("not a term of the plan")),
+    }
+}
+
+/// How often a constant is doubled, in how much room and how many rows; and then the answer. A
+/// value has one more different nodes than it has levels.
+type Doubled = (u32, u32, u32, Result<Normal, RunFault>);
+
+static DOUBLES: [Doubled; 6] = [
+    (19, 22, 20, Ok(Normal::Value { left: 80 })),
+    (19, 21, 20, TOO_DEEP),
+    (19, 22, 19, STORE_FULL),
+    (64, 67, 65, Ok(Normal::Value { left: 35 })),
+    (64, 66, 65, TOO_DEEP),
+    (64, 67, 64, STORE_FULL),
+];
+
+/// Whether the answer comes, and the doubled tree just where it is a value.
+fn is_answered(alloc: Global, plan: &Plan, row: &Doubled) -> Result<bool, Fail>
+    requires { plan.now.widest ≤ 2 }
+{
+    let (levels, depth, rows, want) = *row;
+    let term = tower(alloc, levels)?;
+    let mut machine = Machine::new(alloc, plan, depth)?;
     let mut store = PlainStore::new(alloc, rows, depth, WIDEST)?;
     store.enter();
-    let answer = answer_of(&mut machine, &plan, depth, &term, 99, &mut store).ok_or(
-        "not a term of the plan",
-    )?;
-    Ok((answer, is_doubled(levels, &mut store)))
+    let got = doubled(&mut machine, plan, depth, levels, &term, &mut store)?;
+    Ok(got == (want, matches!(want, Ok(Normal::Value { .. }))))
+}
+
+/// The first of the rows, by its number, that has another answer.
+fn first_double(alloc: Global, plan: &Plan) -> Result<Option<usize>, Fail>
+    requires { plan.now.widest ≤ 2 }
+{
+    for (number, row) in DOUBLES.iter().enumerate() {
+        if !is_answered(alloc, plan, row)? {
+            return Ok(Some(number));
+        }
+    }
+    Ok(None)
+}
+
+fn first_other_double(alloc: Global) -> Result<Option<usize>, Fail> {
+    let plan = plan_of(alloc, &[(&[X, F], &[X, X, PLUS], 1, &[])])?;
+    first_double(alloc, &plan)
 }
 
 #[test]
 fn doubled_terms_take_a_row_a_level(rt: HostRuntime) -> Result<(), Fail> {
-    let alloc = rt.alloc();
-    let rows = [
-        (19, 22, 20, Ok(Normal::Value { left: 80 })),
-        (19, 21, 20, Ok(Normal::TooDeep)),
-        (19, 22, 19, Err(RunFault::StoreFull)),
-        (64, 67, 65, Ok(Normal::Value { left: 35 })),
-        (64, 66, 65, Ok(Normal::TooDeep)),
-        (64, 67, 64, Err(RunFault::StoreFull)),
-    ];
-    for (levels, depth, rows, want) in rows {
-        let (answer, is_doubled) = doubled(alloc, levels, depth, rows)?;
-        assert_eq!(rt; answer, want, "{levels} {depth} {rows}");
-        assert_eq!(rt; is_doubled, matches!(want, Ok(Normal::Value { .. })));
-    }
+    assert_eq!(rt; first_other_double(rt.alloc())?, None);
     Ok(())
-}
-
-/// Normalizes a term on a stack that isn't empty: the answer, and whether the lowest place has the
-/// row that it had and so many places are in use.
-fn answers_above(
-    alloc: Global,
-    term: &[Item],
-    limits: Limits,
-    places: u32,
-) -> Result<(Result<Normal, RunFault>, bool), Fail> {
-    let plan = sums(alloc)?;
-    let mut machine = Machine::new(alloc, &plan, limits.depth)?;
-    let mut store = PlainStore::new(alloc, limits.rows, limits.depth.saturating_add(1), WIDEST)?;
-    store.enter();
-    if !build_terms(&[C, F], &mut store) {
-        return Err(Fail::from("not built"));
-    }
-    let before = lowest(&mut store);
-    let term = flat(alloc, term)?;
-    let answer = answer_of(
-        &mut machine,
-        &plan,
-        limits.depth,
-        &term,
-        limits.fuel,
-        &mut store,
-    )
-    .ok_or("not a term of the plan")?;
-    Ok((
-        answer,
-        lowest(&mut store) == before && before.is_some() && store.depth() == places,
-    ))
 }
 
 fn lowest<T: Terms>(terms: &mut T) -> Option<Row>
@@ -122,22 +127,78 @@ fn lowest<T: Terms>(terms: &mut T) -> Option<Row>
     Some(terms.at(0))
 }
 
+/// Normalizes a term on a stack that isn't empty: the answer, and how many places are in use then,
+/// if the lowest of them has the row that it had.
+fn answer_above(
+    machine: &mut Machine,
+    plan: &Plan,
+    term: &Flat,
+    limits: Limits,
+    store: &mut PlainStore,
+) -> Option<(Result<Normal, RunFault>, u32)>
+    requires inside { (store_of store.old).inside ≡ true }
+    requires machine { IsFor plan.now machine.old }
+    requires depth { machine.old.depth ≡ limits.depth }
+    requires two { plan.now.widest ≤ 2 }
+    requires wide { 2 ≤ (store_of store.old).widest }
+{
+    if !build_terms(&[C, F], store) {
+        return None;
+    }
+    let before = lowest(store)?;
+    let order = Order::Innermost;
+    let answer = answer_of(machine, plan, limits.depth, order, term, limits.fuel, store)?;
+    if lowest(store) == Some(before) {
+        Some((answer, store.depth()))
+    } else {
+        None
+    }
+}
+
+/// Fuel, room and rows; and then the answer, and how many places are in use.
+type Above = (u64, u32, u32, Result<Normal, RunFault>, u32);
+
+static ABOVE: [Above; 5] = [
+    (2, 6, 99, Ok(Normal::Value { left: 0 }), 2),
+    (1, 6, 99, OUT_OF_FUEL, 1),
+    (2, 5, 99, TOO_DEEP, 1),
+    (2, 6, 5, Ok(Normal::Value { left: 0 }), 2),
+    (2, 6, 4, STORE_FULL, 1),
+];
+
+fn is_answered_above(alloc: Global, plan: &Plan, term: &Flat, row: &Above) -> Result<bool, Fail>
+    requires { plan.now.widest ≤ 2 }
+{
+    let (fuel, depth, rows, answer, places) = *row;
+    let limits = Limits { fuel, depth, rows };
+    let mut machine = Machine::new(alloc, plan, depth)?;
+    let mut store = PlainStore::new(alloc, rows, depth.saturating_add(1), WIDEST)?;
+    store.enter();
+    let got = answer_above(&mut machine, plan, term, limits, &mut store);
+    Ok(got == Some((answer, places)))
+}
+
+/// The first of the rows, by its number, that has another answer, or other places in use.
+fn first_above(alloc: Global, plan: &Plan, term: &Flat) -> Result<Option<usize>, Fail>
+    requires { plan.now.widest ≤ 2 }
+{
+    for (number, row) in ABOVE.iter().enumerate() {
+        if !is_answered_above(alloc, plan, term, row)? {
+            return Ok(Some(number));
+        }
+    }
+    Ok(None)
+}
+
+fn first_other_above(alloc: Global) -> Result<Option<usize>, Fail> {
+    let term = flat(alloc, &ONE_AND_ONE)?;
+    let plan = sums(alloc)?;
+    first_above(alloc, &plan, &term)
+}
+
 #[test]
 fn what_lies_on_the_stack_stays_there(rt: HostRuntime) -> Result<(), Fail> {
-    let alloc = rt.alloc();
-    let rows = [
-        (2, 6, 99, 2, Ok(Normal::Value { left: 0 })),
-        (1, 6, 99, 1, Ok(Normal::OutOfFuel)),
-        (2, 5, 99, 1, Ok(Normal::TooDeep)),
-        (2, 6, 5, 2, Ok(Normal::Value { left: 0 })),
-        (2, 6, 4, 1, Err(RunFault::StoreFull)),
-    ];
-    for (fuel, depth, rows, places, want) in rows {
-        let limits = Limits { fuel, depth, rows };
-        let (answer, as_before) = answers_above(alloc, &ONE_AND_ONE, limits, places)?;
-        assert_eq!(rt; answer, want, "{limits:?}");
-        assert!(rt; as_before, "{limits:?}");
-    }
+    assert_eq!(rt; first_other_above(rt.alloc())?, None);
     Ok(())
 }
 
@@ -159,34 +220,65 @@ fn comes_again(
     ensures wide { plan.now.widest ≤ (store_of store.new.store).widest }
     ensures machine { machine.new ≡ machine.old }
 {
-    let answer = answer_of(machine, plan, depth, term, 2, store);
+    let answer = answer_of(machine, plan, depth, Order::Innermost, term, 2, store);
     let is_right = is_on_top(value, store) && store.depth() == 1;
     store.keep(0, 0);
     is_right && answer == Some(Ok(Normal::Value { left: 0 }))
 }
 
-/// Four sums of one and one in a store of so many rows: whether each comes to two and builds what
-/// it is to build, and the store's epoch then.
-fn four_sums(alloc: Global, rows: u32) -> Result<(bool, Option<u64>), Fail> {
-    let plan = sums(alloc)?;
-    let term = flat(alloc, &ONE_AND_ONE)?;
-    let value = Term::of(alloc, &flat(alloc, &TWO)?)?;
-    let mut wanted = boxed(alloc, &BUILDS)?;
-    for _ in 0..3 {
+/// What four sums are to build.
+fn four_wanted(alloc: Global) -> Result<Vec<Term>, Fail> {
+    let mut wanted = Vec::new(alloc);
+    for _ in 0..4 {
         wanted.append(&mut boxed(alloc, &BUILDS)?)?;
     }
-    let mut machine = Machine::new(alloc, &plan, 6)?;
-    let mut store = Watched::new(alloc, rows, 6, WIDEST, wanted)?;
+    Ok(wanted)
+}
+
+/// Whether a term comes to the wanted value four times, and what was built is what is wanted.
+fn comes_four_times(
+    machine: &mut Machine,
+    plan: &Plan,
+    term: &Flat,
+    value: &Term,
+    store: &mut Watched,
+) -> bool
+    requires inside { (store_of store.old.store).inside ≡ true }
+    requires machine { IsFor plan.now machine.old }
+    requires depth { machine.old.depth ≡ 6 }
+    requires wide { plan.now.widest ≤ (store_of store.old.store).widest }
+    ensures inside { (store_of store.new.store).inside ≡ true }
+{
+    let first = comes_again(machine, plan, 6, term, value, store);
+    let second = comes_again(machine, plan, 6, term, value, store);
+    let third = comes_again(machine, plan, 6, term, value, store);
+    let fourth = comes_again(machine, plan, 6, term, value, store);
+    first && second && third && fourth && store.in_order() && store.built() == 28
+}
+
+/// Four sums of one and one in a store of so many rows: whether each comes to two and builds what
+/// it is to build, and the store's epoch then.
+fn four_sums_by(
+    alloc: Global,
+    plan: &Plan,
+    term: &Flat,
+    value: &Term,
+    rows: u32,
+) -> Result<(bool, Option<u64>), Fail>
+    requires { plan.now.widest ≤ 2 }
+{
+    let mut store = Watched::new(alloc, rows, 6, WIDEST, four_wanted(alloc)?)?;
+    let mut machine = Machine::new(alloc, plan, 6)?;
     store.enter();
-    let first = comes_again(&mut machine, &plan, 6, &term, &value, &mut store);
-    let second = comes_again(&mut machine, &plan, 6, &term, &value, &mut store);
-    let third = comes_again(&mut machine, &plan, 6, &term, &value, &mut store);
-    let fourth = comes_again(&mut machine, &plan, 6, &term, &value, &mut store);
-    let as_wanted = store.in_order() && store.built() == 28;
-    Ok((
-        first && second && third && fourth && as_wanted,
-        store.epoch(),
-    ))
+    let as_wanted = comes_four_times(&mut machine, plan, term, value, &mut store);
+    Ok((as_wanted, store.epoch()))
+}
+
+fn four_sums(alloc: Global, rows: u32) -> Result<(bool, Option<u64>), Fail> {
+    let value = tree(alloc, &TWO)?;
+    let term = flat(alloc, &ONE_AND_ONE)?;
+    let plan = sums(alloc)?;
+    four_sums_by(alloc, &plan, &term, &value, rows)
 }
 
 #[test]

@@ -1,13 +1,12 @@
 //! Events of normalizations, worked out by hand.
 
-ghost use Rattle.std.specs.Prelude.{◌≡◌, ◌≤◌, true, IfOk};
+ghost use Rattle.std.specs.Prelude.{◌≡◌, ◌≤◌, true};
 ghost use Rattle.innermost.specs.Machines.{IsFor};
 
-use crate::adding::{ONE_AND_ONE, one_rule, sums};
-use crate::watched::Watched;
-use crate::writing::{A, B, C, E, F, G, PLUS, S, WIDEST, X, Y, Z, condition, flat, planned, rule};
+use crate::adding::{ONE_AND_ONE, SUMS};
+use crate::writing::{A, B, C, E, F, G, PLUS, S, WIDEST, Written, X, Y, Z, flat, plan_of};
 use innermost::{Event, Machine, Normal, TraceFault, may_be_normalized};
-use rewrite_model::Rule;
+use plain_store::PlainStore;
 use rule_match::Plan;
 use std::alloc::Global;
 use std::test::Fail;
@@ -47,191 +46,282 @@ fn trace(
     requires { plan.now.widest ≤ 2 }
 {
     let (fuel, depth, rows) = limits;
-    let mut machine = Machine::new(alloc, plan, depth)?;
-    let mut store = Watched::new(alloc, rows, depth, WIDEST, Vec::new(alloc))?;
-    store.enter();
     let term = flat(alloc, term)?;
-    let answer = answer_of(&mut machine, plan, depth, &term, fuel, &mut store, events).ok_or(
-        "not a term of the plan",
-    )?;
-    Ok(answer)
+    let mut machine = Machine::new(alloc, plan, depth)?;
+    let mut store = PlainStore::new(alloc, rows, depth, WIDEST)?;
+    store.enter();
+    match answer_of(&mut machine, plan, depth, &term, fuel, &mut store, events) {
+        Some(answer) => Ok(answer),
+        None => Err(Fail::from("not a term of the plan")),
+    }
 }
+
+/// Rules, a term, its fuel, its room and how many rows there are; and then the answer, and the
+/// events.
+type Traced = (
+    &'static [Written],
+    &'static [Item],
+    (u64, u32, u32),
+    Result<Normal, TraceFault>,
+    &'static [Event],
+);
 
 const AMPLE: (u64, u32, u32) = (1000, 99, 99);
 
+fn are_same(events: &[Event], told: &[Event]) -> bool {
+    events == told
+}
+
+/// Whether a row has its answer, and there are its events then.
+fn is_traced(alloc: Global, row: &Traced, events: &mut Vec<Event>) -> Result<bool, Fail> {
+    let (rules, term, limits, want, told) = row;
+    let plan = plan_of(alloc, rules)?;
+    let got = trace(alloc, &plan, term, *limits, events)?;
+    Ok(got == *want && are_same(events, told))
+}
+
+/// The first of the rows, by its number, that has another answer or other events, where there are
+/// some before.
+fn first_after(alloc: Global, rows: &[Traced], before: &[Event]) -> Result<Option<usize>, Fail> {
+    for (number, row) in rows.iter().enumerate() {
+        let mut events = before.to_vec(alloc)?;
+        if !is_traced(alloc, row, &mut events)? {
+            return Ok(Some(number));
+        }
+    }
+    Ok(None)
+}
+
+/// The sum of one and one, at each limit.
+static ONE_AND_ONES: [Traced; 5] = [
+    (
+        &SUMS,
+        &ONE_AND_ONE,
+        (1000, 99, 99),
+        Ok(Normal::Value { left: 998 }),
+        &[Event::Rule(1), Event::Down(1), Event::Rule(0)],
+    ),
+    (
+        &SUMS,
+        &ONE_AND_ONE,
+        (1, 99, 99),
+        Ok(Normal::OutOfFuel),
+        &[Event::Rule(1)],
+    ),
+    (&SUMS, &ONE_AND_ONE, (0, 99, 99), Ok(Normal::OutOfFuel), &[]),
+    (
+        &SUMS,
+        &ONE_AND_ONE,
+        (1000, 5, 99),
+        Ok(Normal::TooDeep),
+        &[Event::Rule(1)],
+    ),
+    (
+        &SUMS,
+        &ONE_AND_ONE,
+        (1000, 99, 2),
+        Err(TraceFault::StoreFull),
+        &[],
+    ),
+];
+
 #[test]
 fn one_and_one_is_traced(rt: HostRuntime) -> Result<(), Fail> {
-    let alloc = rt.alloc();
-    let plan = sums(alloc)?;
-    let all = [Event::Rule(1), Event::Down(1), Event::Rule(0)];
-    let rows = [
-        ((1000, 99, 99), Ok(Normal::Value { left: 998 }), 3usize),
-        ((1, 99, 99), Ok(Normal::OutOfFuel), 1),
-        ((0, 99, 99), Ok(Normal::OutOfFuel), 0),
-        ((1000, 5, 99), Ok(Normal::TooDeep), 1),
-        ((1000, 99, 2), Err(TraceFault::StoreFull), 0),
-    ];
-    for (limits, want, count) in rows {
-        let mut events = Vec::new(alloc);
-        let got = trace(alloc, &plan, &ONE_AND_ONE, limits, &mut events)?;
-        assert_eq!(rt; got, want, "{limits:?}");
-        assert_eq!(rt; events.as_slice(), &all[..count], "{limits:?}");
-    }
+    assert_eq!(rt; first_after(rt.alloc(), &ONE_AND_ONES, &[])?, None);
     Ok(())
 }
+
+/// Two uses of one rule.
+static APPENDED: [Traced; 1] = [(
+    &[(&[X, F], &[X], 1, &[])],
+    &[A, F, F],
+    AMPLE,
+    Ok(Normal::Value { left: 998 }),
+    &[
+        Event::Up,
+        Event::Down(1),
+        Event::Rule(0),
+        Event::Up,
+        Event::Rule(0),
+    ],
+)];
 
 #[test]
 fn events_are_appended(rt: HostRuntime) -> Result<(), Fail> {
-    let alloc = rt.alloc();
-    let plan = one_rule(alloc, &[X, F], &[X])?;
-    let mut events = Vec::new(alloc);
-    events.push(Event::Up)?;
-    let got = trace(alloc, &plan, &[A, F, F], AMPLE, &mut events)?;
-    assert_eq!(rt; got, Ok(Normal::Value { left: 998 }));
-    let want = [
-        Event::Up,
+    assert_eq!(rt; first_after(rt.alloc(), &APPENDED, &[Event::Up])?, None);
+    Ok(())
+}
+
+/// Moves up, no further than is shared.
+static SHARED: [Traced; 1] = [(
+    &[(&[X, F], &[C], 1, &[])],
+    &[A, F, B, F, PLUS, A, F, PLUS],
+    AMPLE,
+    Ok(Normal::Value { left: 997 }),
+    &[
+        Event::Down(1),
         Event::Down(1),
         Event::Rule(0),
         Event::Up,
+        Event::Down(2),
         Event::Rule(0),
-    ];
-    assert_eq!(rt; events.as_slice(), &want[..]);
-    Ok(())
-}
+        Event::Up,
+        Event::Up,
+        Event::Down(2),
+        Event::Rule(0),
+    ],
+)];
 
 #[test]
 fn moves_go_up_no_further_than_is_shared(rt: HostRuntime) -> Result<(), Fail> {
-    let alloc = rt.alloc();
-    let plan = one_rule(alloc, &[X, F], &[C])?;
-    let mut events = Vec::new(alloc);
-    let term = [A, F, B, F, PLUS, A, F, PLUS];
-    let got = trace(alloc, &plan, &term, AMPLE, &mut events)?;
-    assert_eq!(rt; got, Ok(Normal::Value { left: 997 }));
-    let want = [
-        Event::Down(1),
-        Event::Down(1),
-        Event::Rule(0),
-        Event::Up,
-        Event::Down(2),
-        Event::Rule(0),
-        Event::Up,
-        Event::Up,
-        Event::Down(2),
-        Event::Rule(0),
-    ];
-    assert_eq!(rt; events.as_slice(), &want[..]);
+    assert_eq!(rt; first_after(rt.alloc(), &SHARED, &[])?, None);
     Ok(())
 }
+
+/// A right side in which rules are used.
+static INTO_RIGHT_SIDES: [Traced; 1] = [(
+    &[
+        (&[X, G], &[X, F, X, F, S, PLUS], 1, &[]),
+        (&[X, F], &[X], 1, &[]),
+    ],
+    &[Z, A, G, PLUS],
+    AMPLE,
+    Ok(Normal::Value { left: 997 }),
+    &[
+        Event::Down(2),
+        Event::Rule(0),
+        Event::Down(1),
+        Event::Rule(1),
+        Event::Up,
+        Event::Down(2),
+        Event::Down(1),
+        Event::Rule(1),
+    ],
+)];
 
 #[test]
 fn moves_go_into_right_sides(rt: HostRuntime) -> Result<(), Fail> {
-    let alloc = rt.alloc();
-    let mut rules = Vec::new(alloc);
-    rules.push(rule(alloc, &[X, G], &[X, F, X, F, S, PLUS], 1)?)?;
-    rules.push(rule(alloc, &[X, F], &[X], 1)?)?;
-    let plan = planned(alloc, rules)?;
-    let mut events = Vec::new(alloc);
-    let got = trace(alloc, &plan, &[Z, A, G, PLUS], AMPLE, &mut events)?;
-    assert_eq!(rt; got, Ok(Normal::Value { left: 997 }));
-    let want = [
-        Event::Down(2),
-        Event::Rule(0),
-        Event::Down(1),
-        Event::Rule(1),
-        Event::Up,
-        Event::Down(2),
-        Event::Down(1),
-        Event::Rule(1),
-    ];
-    assert_eq!(rt; events.as_slice(), &want[..]);
+    assert_eq!(rt; first_after(rt.alloc(), &INTO_RIGHT_SIDES, &[])?, None);
     Ok(())
 }
 
-#[test]
-fn a_rule_may_follow_a_rule_in_its_place(rt: HostRuntime) -> Result<(), Fail> {
-    let alloc = rt.alloc();
-    let mut rules = Vec::new(alloc);
-    rules.push(rule(alloc, &[X, F], &[X, S, G], 1)?)?;
-    rules.push(rule(alloc, &[X, G], &[X], 1)?)?;
-    rules.push(rule(alloc, &[X, S], &[B], 1)?)?;
-    let plan = planned(alloc, rules)?;
-    let mut events = Vec::new(alloc);
-    let got = trace(alloc, &plan, &[A, F], AMPLE, &mut events)?;
-    assert_eq!(rt; got, Ok(Normal::Value { left: 997 }));
-    let want = [
+/// A rule after a rule, in its place.
+static IN_ITS_PLACE: [Traced; 1] = [(
+    &[
+        (&[X, F], &[X, S, G], 1, &[]),
+        (&[X, G], &[X], 1, &[]),
+        (&[X, S], &[B], 1, &[]),
+    ],
+    &[A, F],
+    AMPLE,
+    Ok(Normal::Value { left: 997 }),
+    &[
         Event::Rule(0),
         Event::Down(1),
         Event::Rule(2),
         Event::Up,
         Event::Rule(1),
-    ];
-    assert_eq!(rt; events.as_slice(), &want[..]);
+    ],
+)];
+
+#[test]
+fn a_rule_may_follow_a_rule_in_its_place(rt: HostRuntime) -> Result<(), Fail> {
+    assert_eq!(rt; first_after(rt.alloc(), &IN_ITS_PLACE, &[])?, None);
     Ok(())
 }
+
+const LEAVING: [Written; 2] = [
+    (&[X, G], &[X, F, S], 1, &[]),
+    (&[X, Y, PLUS, F], &[X], 2, &[]),
+];
+
+/// A rule that has room, and one that has none.
+static WITHOUT_ROOM: [Traced; 2] = [
+    (
+        &LEAVING,
+        &[A, B, PLUS, G],
+        (1000, 5, 99),
+        Ok(Normal::Value { left: 998 }),
+        &[Event::Rule(0), Event::Down(1), Event::Rule(1)],
+    ),
+    (
+        &LEAVING,
+        &[A, B, PLUS, G],
+        (1000, 4, 99),
+        Ok(Normal::TooDeep),
+        &[Event::Rule(0)],
+    ),
+];
 
 #[test]
 fn a_rule_without_room_is_not_told(rt: HostRuntime) -> Result<(), Fail> {
-    let alloc = rt.alloc();
-    let mut rules = Vec::new(alloc);
-    rules.push(rule(alloc, &[X, G], &[X, F, S], 1)?)?;
-    rules.push(rule(alloc, &[X, Y, PLUS, F], &[X], 2)?)?;
-    let plan = planned(alloc, rules)?;
-    let mut events = Vec::new(alloc);
-    let got = trace(alloc, &plan, &[A, B, PLUS, G], (1000, 5, 99), &mut events)?;
-    assert_eq!(rt; got, Ok(Normal::Value { left: 998 }));
-    assert_eq!(rt;
-        events.as_slice(),
-        &[Event::Rule(0), Event::Down(1), Event::Rule(1)][..]
-    );
-    let mut events = Vec::new(alloc);
-    let got = trace(alloc, &plan, &[A, B, PLUS, G], (1000, 4, 99), &mut events)?;
-    assert_eq!(rt; got, Ok(Normal::TooDeep));
-    assert_eq!(rt; events.as_slice(), &[Event::Rule(0)][..]);
+    assert_eq!(rt; first_after(rt.alloc(), &WITHOUT_ROOM, &[])?, None);
     Ok(())
 }
 
-// By f(X) -> g(X), f(b): in room 3 the argument of g(X) has room 1. In room 2 it has none, behind
-// the rule. In room 1 b has none, before it.
+const INTO: [Written; 1] = [(&[X, F], &[X, G], 1, &[])];
+
+/// By f(X) -> g(X), f(b): in room 3 the argument of g(X) has room 1. In room 2 it has none, behind
+/// the rule. In room 1 b has none, before it.
+static RIGHT_SIDES_WITHOUT_ROOM: [Traced; 3] = [
+    (
+        &INTO,
+        &[B, F],
+        (1000, 3, 99),
+        Ok(Normal::Value { left: 999 }),
+        &[Event::Rule(0)],
+    ),
+    (
+        &INTO,
+        &[B, F],
+        (1000, 2, 99),
+        Ok(Normal::TooDeep),
+        &[Event::Rule(0)],
+    ),
+    (&INTO, &[B, F], (1000, 1, 99), Ok(Normal::TooDeep), &[]),
+];
+
 #[test]
 fn a_rule_is_told_whose_right_side_has_no_room(rt: HostRuntime) -> Result<(), Fail> {
-    let alloc = rt.alloc();
-    let plan = one_rule(alloc, &[X, F], &[X, G])?;
-    let rows = [
-        (3, Ok(Normal::Value { left: 999 }), 1usize),
-        (2, Ok(Normal::TooDeep), 1),
-        (1, Ok(Normal::TooDeep), 0),
-    ];
-    for (depth, want, count) in rows {
-        let mut events = Vec::new(alloc);
-        let got = trace(alloc, &plan, &[B, F], (1000, depth, 99), &mut events)?;
-        assert_eq!(rt; got, want, "{depth}");
-        assert_eq!(rt; events.as_slice(), &[Event::Rule(0)][..count], "{depth}");
-    }
+    assert_eq!(rt;
+        first_after(rt.alloc(), &RIGHT_SIDES_WITHOUT_ROOM, &[])?,
+        None
+    );
     Ok(())
 }
+
+/// A build that is refused.
+static REFUSED: [Traced; 1] = [(
+    &[(&[X, F], &[X, S, X, G, PLUS], 1, &[])],
+    &[A, F],
+    (1000, 99, 2),
+    Err(TraceFault::StoreFull),
+    &[Event::Rule(0)],
+)];
 
 #[test]
 fn what_was_replaced_is_told_where_a_build_is_refused(rt: HostRuntime) -> Result<(), Fail> {
-    let alloc = rt.alloc();
-    let plan = one_rule(alloc, &[X, F], &[X, S, X, G, PLUS])?;
-    let mut events = Vec::new(alloc);
-    let got = trace(alloc, &plan, &[A, F], (1000, 99, 2), &mut events)?;
-    assert_eq!(rt; got, Err(TraceFault::StoreFull));
-    assert_eq!(rt; events.as_slice(), &[Event::Rule(0)][..]);
+    assert_eq!(rt; first_after(rt.alloc(), &REFUSED, &[])?, None);
     Ok(())
+}
+
+/// A rule whose condition uses another.
+const GUARDED: [Written; 2] = [
+    (&[X, G], &[B], 1, &[]),
+    (&[X, F], &[E], 1, &[(&[X, G], &[B], true)]),
+];
+
+fn guarded_answer(alloc: Global) -> Result<Result<Normal, TraceFault>, Fail> {
+    let mut events = Vec::new(alloc);
+    let plan = plan_of(alloc, &GUARDED)?;
+    trace(alloc, &plan, &[A, F], AMPLE, &mut events)
 }
 
 #[test]
 fn conditions_leave_the_answer(rt: HostRuntime) -> Result<(), Fail> {
-    let alloc = rt.alloc();
-    let mut conditions = Vec::new(alloc);
-    conditions.push(condition(alloc, &[X, G], &[B], true)?)?;
-    let mut rules = Vec::new(alloc);
-    rules.push(rule(alloc, &[X, G], &[B], 1)?)?;
-    rules.push(Rule::new(flat(alloc, &[X, F])?, flat(alloc, &[E])?, conditions, 1))?;
-    let plan = planned(alloc, rules)?;
-    let mut events = Vec::new(alloc);
-    let got = trace(alloc, &plan, &[A, F], AMPLE, &mut events)?;
-    assert_eq!(rt; got, Ok(Normal::Value { left: 998 }));
+    assert_eq!(rt;
+        guarded_answer(rt.alloc())?,
+        Ok(Normal::Value { left: 998 })
+    );
     Ok(())
 }

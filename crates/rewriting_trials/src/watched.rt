@@ -1,7 +1,7 @@
 //! A store of one thread whose builds are compared with a list of terms.
 
-ghost use Rattle.std.specs.Prelude.{◌≡◌, max, IfOk};
-ghost use Rattle.plain_store.specs.Contents.{empty};
+ghost use Rattle.std.specs.Prelude.{◌≡◌, ◌≤◌, length, max, true, IfOk};
+ghost use Rattle.plain_store.specs.Contents.{empty, store_of, IsSame};
 
 use crate::reading::is_asked;
 use faults::Memory;
@@ -48,6 +48,28 @@ impl Watched {
     /// Whether the trees that were asked for are the wanted ones, in order.
     pub(crate) fn in_order(&self) -> bool {
         self.in_order
+    }
+
+    /// Compares a tree that is asked for with the next that is wanted.
+    fn compare(&mut self, head: Head, n: u32)
+        requires inside { (store_of self.old.store).inside ≡ true }
+        requires places { n ≤ length (store_of self.old.store).stack }
+        ensures unchanged { store_of self.new.store ≡ store_of self.old.store }
+        ensures same { IsSame self.old.store self.new.store }
+    {
+        let is_next = match self.wanted.get(self.built) {
+            Some(term) => is_asked(term, head, n, &mut self.store),
+            None => false,
+        };
+        self.in_order = self.in_order && is_next;
+    }
+
+    fn count(&mut self, is_built: bool)
+        ensures { self.new.store ≡ self.old.store }
+    {
+        if is_built {
+            self.built = self.built.saturating_add(1);
+        }
     }
 }
 
@@ -105,15 +127,9 @@ impl Terms for Watched {
     /// Compares the tree with the next that is wanted, and builds it.
     fn build(&mut self, head: Head, n: u32) -> Result<(), BuildFault> {
         let _ = self.store.depth();
-        if self.built >= self.wanted.len()
-            || !is_asked(&self.wanted[self.built], head, n, &mut self.store)
-        {
-            self.in_order = false;
-        }
+        self.compare(head, n);
         let answer = self.store.build(head, n);
-        if answer.is_ok() {
-            self.built = self.built.saturating_add(1);
-        }
+        self.count(answer.is_ok());
         answer
     }
 

@@ -40,12 +40,17 @@ pub(crate) fn flat(alloc: Global, items: &[Item]) -> Result<Flat, Fail> {
     Ok(flat)
 }
 
+/// The term with these items, in boxes.
+pub(crate) fn tree(alloc: Global, items: &[Item]) -> Result<Term, Fail> {
+    let flat = flat(alloc, items)?;
+    Ok(Term::of(alloc, &flat)?)
+}
+
 /// The terms with these items, in boxes.
 pub(crate) fn boxed(alloc: Global, lists: &[&[Item]]) -> Result<Vec<Term>, Fail> {
     let mut terms = Vec::new(alloc);
     for items in lists {
-        let term = flat(alloc, items)?;
-        terms.push(Term::of(alloc, &term)?)?;
+        terms.push(tree(alloc, items)?)?;
     }
     Ok(terms)
 }
@@ -60,8 +65,41 @@ pub(crate) fn rule(alloc: Global, left: &[Item], right: &[Item], vars: u32) -> R
     ))
 }
 
+/// Two patterns, and whether their values are to be equal, or else to differ.
+pub(crate) type Asked = (&'static [Item], &'static [Item], bool);
+
+/// The sides of a rule, how many variables it has, and its conditions.
+pub(crate) type Written = (&'static [Item], &'static [Item], u32, &'static [Asked]);
+
+fn conditions_of(alloc: Global, written: &[Asked]) -> Result<Vec<Condition>, Fail> {
+    let mut conditions = Vec::new(alloc);
+    for (first, second, equal) in written {
+        conditions.push(condition(alloc, first, second, *equal)?)?;
+    }
+    Ok(conditions)
+}
+
+fn rule_of(alloc: Global, written: &Written) -> Result<Rule, Fail> {
+    let (left, right, vars, asked) = written;
+    Ok(Rule::new(
+        flat(alloc, left)?,
+        flat(alloc, right)?,
+        conditions_of(alloc, asked)?,
+        *vars,
+    ))
+}
+
+/// Rules in their order.
+pub(crate) fn rules_of(alloc: Global, written: &[Written]) -> Result<Vec<Rule>, Fail> {
+    let mut rules = Vec::new(alloc);
+    for row in written {
+        rules.push(rule_of(alloc, row)?)?;
+    }
+    Ok(rules)
+}
+
 /// A condition that the values of two patterns are equal, or else that they differ.
-pub(crate) fn condition(
+fn condition(
     alloc: Global,
     first: &[Item],
     second: &[Item],
@@ -79,4 +117,11 @@ pub(crate) fn planned(alloc: Global, rules: Vec<Rule>) -> Result<Plan, Fail>
     }
     let plan = Plan::of(alloc, rules, WIDEST)?;
     Ok(plan)
+}
+
+/// The plan of such rules.
+pub(crate) fn plan_of(alloc: Global, written: &[Written]) -> Result<Plan, Fail>
+    ensures { IfOk result (λ plan. plan.widest ≡ 2) }
+{
+    planned(alloc, rules_of(alloc, written)?)
 }

@@ -2,7 +2,7 @@ use Rattle.std.proofs.Common.{◌≡◌, ◌≤◌}
 use Rattle.std.specs.Prelude.{true}
 use Rattle.plain_store.specs.Contents.{store_of}
 use Rattle.innermost.specs.Machines.{IsFor}
-use Rattle.rewriting_trials.proofs.counted.counted.Given as goal
+use Rattle.rewriting_trials.proofs.counted.last_answer.Given as goal
 
 abbrev pub invariant-loop-term : goal.invariant-loop-term
 invariant-loop-term l =
@@ -10,5 +10,5 @@ invariant-loop-term l =
       inside : (store_of l.store.store).inside ≡ true;
       wide : l.plan.widest ≤ (store_of l.store.store).widest;
       machine : IsFor l.plan l.machine;
-      depth : l.machine.depth ≡ l.limits.depth;
+      depth : l.machine.depth ≡ l.depth;
     }

@@ -1,7 +1,0 @@
-use Rattle.innermost.proofs.Memories.{none_right}
-use Rattle.plain_store.specs.Contents.{store_of}
-use Rattle.rewriting_trials.proofs.remembered.four_sums.Goals as goal
-
-pub comes_with-first-requires-clause-memory : goal.comes_with-first-requires-clause-memory
-comes_with-first-requires-clause-memory g c =
-    none_right c.in_ok-plan.plan.rules (store_of c.enter.new.self.store).built (store_of c.enter.new.self.store) (g.M.Memo.map c.forget.new.self) c.forget.ensures.empty
