@@ -45,7 +45,42 @@ fn last_answer(
     Some(last)
 }
 
-/// The same in a new store, and what it tells then.
+/// The same by a new machine.
+fn last_anew(
+    alloc: Global,
+    plan: &Plan,
+    terms: &[Flat],
+    limits: Limits,
+    store: &mut Counting,
+) -> Result<Option<Result<Normal, RunFault>>, Fail>
+    requires inside { (store_of store.old.store).inside ≡ true }
+    requires wide { plan.now.widest ≤ (store_of store.old.store).widest }
+    ensures inside { (store_of store.new.store).inside ≡ true }
+{
+    let mut machine = Machine::new(alloc, plan, limits.depth)?;
+    Ok(last_answer(&mut machine, plan, terms, limits, store))
+}
+
+/// The same, and what the store tells then.
+fn counted_in(
+    alloc: Global,
+    plan: &Plan,
+    terms: &[Flat],
+    limits: Limits,
+    store: &mut Counting,
+) -> Result<(Result<Normal, RunFault>, Counts), Fail>
+    requires inside { (store_of store.old.store).inside ≡ true }
+    requires wide { plan.now.widest ≤ (store_of store.old.store).widest }
+{
+    let last = last_anew(alloc, plan, terms, limits, store)?;
+    store.look();
+    match last {
+        Some(answer) => Ok((answer, store.counts())),
+        None => Err(Fail::from("not a term of the plan")),
+    }
+}
+
+/// The same in a new store.
 fn counted(
     alloc: Global,
     plan: &Plan,
@@ -54,15 +89,9 @@ fn counted(
 ) -> Result<(Result<Normal, RunFault>, Counts), Fail>
     requires { plan.now.widest ≤ 2 }
 {
-    let mut machine = Machine::new(alloc, plan, limits.depth)?;
     let mut store = Counting::new(alloc, limits.rows, limits.depth, WIDEST)?;
     store.enter();
-    let last = last_answer(&mut machine, plan, terms, limits, &mut store);
-    store.look();
-    match last {
-        Some(answer) => Ok((answer, store.counts())),
-        None => Err(Fail::from("not a term of the plan")),
-    }
+    counted_in(alloc, plan, terms, limits, &mut store)
 }
 
 /// How many rows there are; and then the builds, the refusals, the sweeps, the load and the answer.

@@ -3,6 +3,7 @@
 use crate::writing::{Written, flat, rules_of, tree};
 use rewrite_model::{End, Rule, Term, evaluation, outermost, steps};
 use std::alloc::Global;
+use std::process::Abort;
 use std::test::Fail;
 use term_model::{Flat, Item, Symbol};
 
@@ -146,6 +147,12 @@ fn first_other(alloc: Global, work: &Work) -> Result<Option<usize>, Fail> {
     first_run(alloc, &rules, &term, &value, work.runs)
 }
 
+/// Expects each run of a work to be as it says.
+fn expect<R: Abort + Alloc<A = Global>>(rt: &R, work: &Work) -> Result<(), Fail> {
+    assert_eq!(rt; first_other(rt.alloc(), work)?, None);
+    Ok(())
+}
+
 static ONE_AND_ONES: Work = Work {
     rules: &SUMS,
     term: &ONE_AND_ONE,
@@ -161,8 +168,7 @@ static ONE_AND_ONES: Work = Work {
 
 #[test]
 fn one_and_one_is_two(rt: HostRuntime) -> Result<(), Fail> {
-    assert_eq!(rt; first_other(rt.alloc(), &ONE_AND_ONES)?, None);
-    Ok(())
+    expect(&rt, &ONE_AND_ONES)
 }
 
 static SAME: Work = Work {
@@ -181,9 +187,8 @@ static OTHER: Work = Work {
 
 #[test]
 fn a_repeated_variable_needs_equal_trees(rt: HostRuntime) -> Result<(), Fail> {
-    assert_eq!(rt; first_other(rt.alloc(), &SAME)?, None);
-    assert_eq!(rt; first_other(rt.alloc(), &OTHER)?, None);
-    Ok(())
+    expect(&rt, &SAME)?;
+    expect(&rt, &OTHER)
 }
 
 /// The second condition fails.
@@ -207,9 +212,8 @@ static HOLDING: Work = Work {
 
 #[test]
 fn conditions_are_tried_in_order(rt: HostRuntime) -> Result<(), Fail> {
-    assert_eq!(rt; first_other(rt.alloc(), &FAILING)?, None);
-    assert_eq!(rt; first_other(rt.alloc(), &HOLDING)?, None);
-    Ok(())
+    expect(&rt, &FAILING)?;
+    expect(&rt, &HOLDING)
 }
 
 static ROOT: Work = Work {
@@ -225,8 +229,7 @@ static ROOT: Work = Work {
 
 #[test]
 fn the_outermost_position_goes_first(rt: HostRuntime) -> Result<(), Fail> {
-    assert_eq!(rt; first_other(rt.alloc(), &ROOT)?, None);
-    Ok(())
+    expect(&rt, &ROOT)
 }
 
 /// Whether a tree is the one of these items.

@@ -1,7 +1,7 @@
 //! Worked rows of outermost rewriting. What is to be built was worked out by hand.
 
 use crate::adding::{ONE_AND_ONE, SUMS, TWO};
-use crate::sight::{OUT_OF_FUEL, Order, STORE_FULL, TOO_DEEP, Work, first_other};
+use crate::sight::{OUT_OF_FUEL, Order, STORE_FULL, TOO_DEEP, Work, expect};
 use crate::writing::{A, B, C, F, G, PLUS, S, Written, X, Z};
 use innermost::Normal;
 use std::test::Fail;
@@ -35,9 +35,8 @@ static OUTSIDE: Work = Work {
 
 #[test]
 fn outermost_ends_where_innermost_has_no_fuel(rt: HostRuntime) -> Result<(), Fail> {
-    assert_eq!(rt; first_other(rt.alloc(), &INSIDE)?, None);
-    assert_eq!(rt; first_other(rt.alloc(), &OUTSIDE)?, None);
-    Ok(())
+    expect(&rt, &INSIDE)?;
+    expect(&rt, &OUTSIDE)
 }
 
 /// The sum of one and one, and what it builds, in order.
@@ -74,8 +73,7 @@ static ONE_AND_ONES: Work = Work {
 
 #[test]
 fn one_and_one_is_two_outermost(rt: HostRuntime) -> Result<(), Fail> {
-    assert_eq!(rt; first_other(rt.alloc(), &ONE_AND_ONES)?, None);
-    Ok(())
+    expect(&rt, &ONE_AND_ONES)
 }
 
 /// A rule for the root, and one for its argument.
@@ -90,8 +88,7 @@ static ROOT: Work = Work {
 
 #[test]
 fn the_root_is_rewritten_before_its_arguments(rt: HostRuntime) -> Result<(), Fail> {
-    assert_eq!(rt; first_other(rt.alloc(), &ROOT)?, None);
-    Ok(())
+    expect(&rt, &ROOT)
 }
 
 /// Two arguments that are rewritten.
@@ -120,8 +117,7 @@ static ARGUMENTS: Work = Work {
 
 #[test]
 fn the_first_argument_is_rewritten_first(rt: HostRuntime) -> Result<(), Fail> {
-    assert_eq!(rt; first_other(rt.alloc(), &ARGUMENTS)?, None);
-    Ok(())
+    expect(&rt, &ARGUMENTS)
 }
 
 /// A tree that a rule puts at two places.
@@ -147,6 +143,5 @@ static TWICE: Work = Work {
 
 #[test]
 fn a_tree_that_stands_twice_is_rewritten_at_each_place(rt: HostRuntime) -> Result<(), Fail> {
-    assert_eq!(rt; first_other(rt.alloc(), &TWICE)?, None);
-    Ok(())
+    expect(&rt, &TWICE)
 }

@@ -98,6 +98,25 @@ fn comes_four_times<T: Terms, M: Memo>(
     first && second && third && fourth
 }
 
+/// The same by a new machine, how many trees were built, and the store's epoch then.
+fn comes_anew<M: Memo>(
+    alloc: Global,
+    plan: &Plan,
+    term: &Flat,
+    value: &Term,
+    store: &mut Counting,
+    memo: &mut M,
+) -> Result<(bool, u32, Option<u64>), Fail>
+    requires inside { (store_of store.old.store).inside ≡ true }
+    requires wide { plan.now.widest ≤ (store_of store.old.store).widest }
+    requires memory { AreRight plan.now.rules (store_of store.old.store).built
+        (store_of store.old.store) (M.map memo.old) }
+{
+    let mut machine = Machine::new(alloc, plan, 6)?;
+    let all = comes_four_times(&mut machine, plan, term, value, store, memo);
+    Ok((all, store.counts().builds, store.epoch()))
+}
+
 fn four_sums_by<M: Memo>(
     alloc: Global,
     plan: &Plan,
@@ -108,12 +127,10 @@ fn four_sums_by<M: Memo>(
 ) -> Result<(bool, u32, Option<u64>), Fail>
     requires { plan.now.widest ≤ 2 }
 {
-    let mut machine = Machine::new(alloc, plan, 6)?;
     let mut store = Counting::new(alloc, rows, 6, WIDEST)?;
     store.enter();
     memo.forget();
-    let all = comes_four_times(&mut machine, plan, term, value, &mut store, memo);
-    Ok((all, store.counts().builds, store.epoch()))
+    comes_anew(alloc, plan, term, value, &mut store, memo)
 }
 
 /// Four sums of one and one by one memory, in a store of so many rows: whether each comes to two,
@@ -129,8 +146,37 @@ fn four_sums<M: Memo>(
     four_sums_by(alloc, &plan, &term, &value, rows, memo)
 }
 
-/// The answer for a term, by a machine of so much room with fuel for two uses of rules and a
-/// memory, on an empty stack, which is empty again then.
+/// The answer for a term, with fuel for two uses of rules and a memory, on an empty stack, which is
+/// empty again then.
+fn answer_with<T: Terms, M: Memo>(
+    machine: &mut Machine,
+    depth: u32,
+    plan: &Plan,
+    term: &Flat,
+    store: &mut T,
+    memo: &mut M,
+) -> Option<Normal>
+    requires inside { (T.store store.old).inside ≡ true }
+    requires machine { IsFor plan.now machine.old }
+    requires depth { machine.old.depth ≡ depth }
+    requires wide { plan.now.widest ≤ (T.store store.old).widest }
+    requires memory { AreRight plan.now.rules (T.store store.old).built (T.store store.old)
+        (M.map memo.old) }
+    ensures inside { (T.store store.new).inside ≡ true }
+    ensures wide { plan.now.widest ≤ (T.store store.new).widest }
+    ensures memory { AreRight plan.now.rules (T.store store.new).built (T.store store.new)
+        (M.map memo.new) }
+{
+    let free = store.room() - store.depth();
+    if free < depth || !may_be_normalized(term, plan.widest()) {
+        return None;
+    }
+    let answer = machine.normalize_with(plan, term, 2, store, memo);
+    store.keep(0, 0);
+    answer.ok()
+}
+
+/// The same by a new machine of so much room.
 fn answer_in<T: Terms, M: Memo>(
     alloc: Global,
     depth: u32,
@@ -149,13 +195,7 @@ fn answer_in<T: Terms, M: Memo>(
         (M.map memo.new) }
 {
     let mut machine = Machine::new(alloc, plan, depth)?;
-    let free = store.room() - store.depth();
-    if free < depth || !may_be_normalized(term, plan.widest()) {
-        return Ok(None);
-    }
-    let answer = machine.normalize_with(plan, term, 2, store, memo);
-    store.keep(0, 0);
-    Ok(answer.ok())
+    Ok(answer_with(&mut machine, depth, plan, term, store, memo))
 }
 
 /// A term in rooms of 99, 6 and 5, by one memory: the answers, and how many trees were built up to

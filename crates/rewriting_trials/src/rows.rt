@@ -2,7 +2,7 @@
 //! hand.
 
 use crate::adding::{BUILDS, ONE_AND_ONE, SUMS, TWO};
-use crate::sight::{OUT_OF_FUEL, Order, STORE_FULL, TOO_DEEP, Work, first_other};
+use crate::sight::{OUT_OF_FUEL, Order, STORE_FULL, TOO_DEEP, Work, expect};
 use crate::writing::{A, B, C, E, EQ, F, G, PLUS, S, Written, X, Z, flat, rules_of};
 use innermost::Normal;
 use rewrite_model::need;
@@ -34,8 +34,7 @@ static ONE_AND_ONES: Work = Work {
 
 #[test]
 fn one_and_one_is_two(rt: HostRuntime) -> Result<(), Fail> {
-    assert_eq!(rt; first_other(rt.alloc(), &ONE_AND_ONES)?, None);
-    Ok(())
+    expect(&rt, &ONE_AND_ONES)
 }
 
 /// A term of two nodes.
@@ -54,8 +53,7 @@ static WITHOUT_RULES: Work = Work {
 
 #[test]
 fn a_term_without_rules_needs_room_for_its_nodes(rt: HostRuntime) -> Result<(), Fail> {
-    assert_eq!(rt; first_other(rt.alloc(), &WITHOUT_RULES)?, None);
-    Ok(())
+    expect(&rt, &WITHOUT_RULES)
 }
 
 const EQUAL: [Written; 1] = [(&[X, X, EQ], &[A], 1, &[])];
@@ -82,9 +80,8 @@ static OTHER: Work = Work {
 
 #[test]
 fn a_repeated_variable_needs_equal_trees(rt: HostRuntime) -> Result<(), Fail> {
-    assert_eq!(rt; first_other(rt.alloc(), &SAME)?, None);
-    assert_eq!(rt; first_other(rt.alloc(), &OTHER)?, None);
-    Ok(())
+    expect(&rt, &SAME)?;
+    expect(&rt, &OTHER)
 }
 
 /// A rule with two conditions, between one that its first condition uses and one that is used where
@@ -129,9 +126,8 @@ static HOLDING: Work = Work {
 
 #[test]
 fn conditions_are_tried_in_order(rt: HostRuntime) -> Result<(), Fail> {
-    assert_eq!(rt; first_other(rt.alloc(), &FAILING)?, None);
-    assert_eq!(rt; first_other(rt.alloc(), &HOLDING)?, None);
-    Ok(())
+    expect(&rt, &FAILING)?;
+    expect(&rt, &HOLDING)
 }
 
 /// A condition that asks for the value of its own left side.
@@ -146,8 +142,7 @@ static OWN_RULE: Work = Work {
 
 #[test]
 fn a_condition_may_ask_for_its_own_rule(rt: HostRuntime) -> Result<(), Fail> {
-    assert_eq!(rt; first_other(rt.alloc(), &OWN_RULE)?, None);
-    Ok(())
+    expect(&rt, &OWN_RULE)
 }
 
 /// Two rules that fit.
@@ -162,8 +157,7 @@ static TWO_FIT: Work = Work {
 
 #[test]
 fn the_first_rule_that_fits_is_used(rt: HostRuntime) -> Result<(), Fail> {
-    assert_eq!(rt; first_other(rt.alloc(), &TWO_FIT)?, None);
-    Ok(())
+    expect(&rt, &TWO_FIT)
 }
 
 /// An argument without a value, under a rule that leaves it out.
@@ -178,8 +172,7 @@ static ENDLESS: Work = Work {
 
 #[test]
 fn arguments_come_before_the_head(rt: HostRuntime) -> Result<(), Fail> {
-    assert_eq!(rt; first_other(rt.alloc(), &ENDLESS)?, None);
-    Ok(())
+    expect(&rt, &ENDLESS)
 }
 
 /// Rules, a term, its fuel and its room, and how many trees are needed at once.

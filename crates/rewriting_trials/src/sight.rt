@@ -11,6 +11,7 @@ use innermost::{Machine, Normal, RunFault, may_be_normalized};
 use rewrite_model::Term;
 use rule_match::Plan;
 use std::alloc::Global;
+use std::process::Abort;
 use std::test::Fail;
 use term_model::{Flat, Item};
 use terms_api::Terms;
@@ -113,9 +114,27 @@ pub(crate) fn answer_of<T: Terms>(
     })
 }
 
+/// The answer of a new machine with so much room.
+pub(crate) fn answer_anew<T: Terms>(
+    alloc: Global,
+    plan: &Plan,
+    depth: u32,
+    order: Order,
+    term: &Flat,
+    fuel: u64,
+    terms: &mut T,
+) -> Result<Option<Result<Normal, RunFault>>, Fail>
+    requires inside { (T.store terms.old).inside ≡ true }
+    requires wide { plan.now.widest ≤ (T.store terms.old).widest }
+    ensures inside { (T.store terms.new).inside ≡ true }
+{
+    let mut machine = Machine::new(alloc, plan, depth)?;
+    Ok(answer_of(&mut machine, plan, depth, order, term, fuel, terms))
+}
+
 /// What is seen of a term in a store that is watched.
 fn watch(
-    machine: &mut Machine,
+    alloc: Global,
     plan: &Plan,
     term: &Flat,
     order: Order,
@@ -124,12 +143,14 @@ fn watch(
     store: &mut Watched,
 ) -> Result<Sight, Fail>
     requires inside { (store_of store.old.store).inside ≡ true }
-    requires machine { IsFor plan.now machine.old }
-    requires depth { machine.old.depth ≡ limits.depth }
     requires wide { plan.now.widest ≤ (store_of store.old.store).widest }
 {
-    let Some(answer) = answer_of(machine, plan, limits.depth, order, term, limits.fuel, store)
-    else {
+    let Limits {
+        fuel,
+        depth,
+        rows: _,
+    } = limits;
+    let Some(answer) = answer_anew(alloc, plan, depth, order, term, fuel, store)? else {
         return Err(Fail::from("not a term of the plan"));
     };
     let is_right = match answer {
@@ -158,9 +179,8 @@ pub(crate) fn look(
     requires { plan.now.widest ≤ 2 }
 {
     let mut store = Watched::new(alloc, limits.rows, limits.depth, WIDEST, wanted)?;
-    let mut machine = Machine::new(alloc, plan, limits.depth)?;
     store.enter();
-    watch(&mut machine, plan, term, order, limits, value, &mut store)
+    watch(alloc, plan, term, order, limits, value, &mut store)
 }
 
 /// Rules, a term and its order, the trees that are to be built, up to where it ends, and its value;
@@ -214,9 +234,15 @@ fn first_of(
 }
 
 /// The first run of a work, by its number, in which something else is seen.
-pub(crate) fn first_other(alloc: Global, work: &Work) -> Result<Option<usize>, Fail> {
+fn first_other(alloc: Global, work: &Work) -> Result<Option<usize>, Fail> {
     let value = tree(alloc, work.value)?;
     let term = flat(alloc, work.term)?;
     let plan = plan_of(alloc, work.rules)?;
     first_of(alloc, &plan, &term, work, &value)
+}
+
+/// Expects each run of a work to be as it says.
+pub(crate) fn expect<R: Abort + Alloc<A = Global>>(rt: &R, work: &Work) -> Result<(), Fail> {
+    assert_eq!(rt; first_other(rt.alloc(), work)?, None);
+    Ok(())
 }

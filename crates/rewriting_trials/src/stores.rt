@@ -6,7 +6,9 @@ ghost use Rattle.innermost.specs.Machines.{IsFor};
 
 use crate::adding::{BUILDS, ONE_AND_ONE, TWO, sums};
 use crate::building::build_terms;
-use crate::sight::{Limits, OUT_OF_FUEL, Order, STORE_FULL, TOO_DEEP, answer_of, is_on_top};
+use crate::sight::{
+    Limits, OUT_OF_FUEL, Order, STORE_FULL, TOO_DEEP, answer_anew, answer_of, is_on_top,
+};
 use crate::watched::Watched;
 use crate::writing::{C, F, PLUS, WIDEST, X, Z, boxed, flat, plan_of, tree};
 use innermost::{Machine, Normal, RunFault};
@@ -47,27 +49,6 @@ fn tower(alloc: Global, levels: u32) -> Result<Flat, Fail> {
     flat(alloc, &items)
 }
 
-/// The answer for a term by a machine of so much room, and whether its value is a constant that is
-/// doubled so many times.
-fn doubled(
-    machine: &mut Machine,
-    plan: &Plan,
-    depth: u32,
-    levels: u32,
-    term: &Flat,
-    store: &mut PlainStore,
-) -> Result<(Result<Normal, RunFault>, bool), Fail>
-    requires inside { (store_of store.old).inside ≡ true }
-    requires machine { IsFor plan.now machine.old }
-    requires depth { machine.old.depth ≡ depth }
-    requires wide { plan.now.widest ≤ (store_of store.old).widest }
-{
-    match answer_of(machine, plan, depth, Order::Innermost, term, 99, store) {
-        Some(answer) => Ok((answer, is_doubled(levels, store))),
-        None => Err(Fail::from("not a term of the plan")),
-    }
-}
-
 /// How often a constant is doubled, in how much room and how many rows; and then the answer. A
 /// value has one more different nodes than it has levels.
 type Doubled = (u32, u32, u32, Result<Normal, RunFault>);
@@ -82,16 +63,30 @@ static DOUBLES: [Doubled; 6] = [
 ];
 
 /// Whether the answer comes, and the doubled tree just where it is a value.
+fn is_answered_in(
+    alloc: Global,
+    plan: &Plan,
+    row: &Doubled,
+    term: &Flat,
+    store: &mut PlainStore,
+) -> Result<bool, Fail>
+    requires inside { (store_of store.old).inside ≡ true }
+    requires wide { plan.now.widest ≤ (store_of store.old).widest }
+{
+    let (levels, depth, _, want) = *row;
+    let got = answer_anew(alloc, plan, depth, Order::Innermost, term, 99, store)?;
+    let is_value = matches!(want, Ok(Normal::Value { .. }));
+    Ok(got == Some(want) && is_doubled(levels, store) == is_value)
+}
+
 fn is_answered(alloc: Global, plan: &Plan, row: &Doubled) -> Result<bool, Fail>
     requires { plan.now.widest ≤ 2 }
 {
-    let (levels, depth, rows, want) = *row;
+    let (levels, depth, rows, _) = *row;
     let term = tower(alloc, levels)?;
-    let mut machine = Machine::new(alloc, plan, depth)?;
     let mut store = PlainStore::new(alloc, rows, depth, WIDEST)?;
     store.enter();
-    let got = doubled(&mut machine, plan, depth, levels, &term, &mut store)?;
-    Ok(got == (want, matches!(want, Ok(Normal::Value { .. }))))
+    is_answered_in(alloc, plan, row, &term, &mut store)
 }
 
 /// The first of the rows, by its number, that has another answer.
@@ -130,29 +125,31 @@ fn lowest<T: Terms>(terms: &mut T) -> Option<Row>
 /// Normalizes a term on a stack that isn't empty: the answer, and how many places are in use then,
 /// if the lowest of them has the row that it had.
 fn answer_above(
-    machine: &mut Machine,
+    alloc: Global,
     plan: &Plan,
     term: &Flat,
     limits: Limits,
     store: &mut PlainStore,
-) -> Option<(Result<Normal, RunFault>, u32)>
+) -> Result<Option<(Result<Normal, RunFault>, u32)>, Fail>
     requires inside { (store_of store.old).inside ≡ true }
-    requires machine { IsFor plan.now machine.old }
-    requires depth { machine.old.depth ≡ limits.depth }
     requires two { plan.now.widest ≤ 2 }
     requires wide { 2 ≤ (store_of store.old).widest }
 {
     if !build_terms(&[C, F], store) {
-        return None;
+        return Ok(None);
     }
-    let before = lowest(store)?;
-    let order = Order::Innermost;
-    let answer = answer_of(machine, plan, limits.depth, order, term, limits.fuel, store)?;
-    if lowest(store) == Some(before) {
-        Some((answer, store.depth()))
-    } else {
-        None
-    }
+    let before = lowest(store);
+    let Limits {
+        fuel,
+        depth,
+        rows: _,
+    } = limits;
+    let answer = answer_anew(alloc, plan, depth, Order::Innermost, term, fuel, store)?;
+    let stays = before.is_some() && lowest(store) == before;
+    Ok(match answer {
+        Some(answer) if stays => Some((answer, store.depth())),
+        _ => None,
+    })
 }
 
 /// Fuel, room and rows; and then the answer, and how many places are in use.
@@ -171,10 +168,9 @@ fn is_answered_above(alloc: Global, plan: &Plan, term: &Flat, row: &Above) -> Re
 {
     let (fuel, depth, rows, answer, places) = *row;
     let limits = Limits { fuel, depth, rows };
-    let mut machine = Machine::new(alloc, plan, depth)?;
     let mut store = PlainStore::new(alloc, rows, depth.saturating_add(1), WIDEST)?;
     store.enter();
-    let got = answer_above(&mut machine, plan, term, limits, &mut store);
+    let got = answer_above(alloc, plan, term, limits, &mut store)?;
     Ok(got == Some((answer, places)))
 }
 
@@ -256,8 +252,22 @@ fn comes_four_times(
     first && second && third && fourth && store.in_order() && store.built() == 28
 }
 
-/// Four sums of one and one in a store of so many rows: whether each comes to two and builds what
-/// it is to build, and the store's epoch then.
+/// The same by a new machine, and the store's epoch then.
+fn comes_anew(
+    alloc: Global,
+    plan: &Plan,
+    term: &Flat,
+    value: &Term,
+    store: &mut Watched,
+) -> Result<(bool, Option<u64>), Fail>
+    requires inside { (store_of store.old.store).inside ≡ true }
+    requires wide { plan.now.widest ≤ (store_of store.old.store).widest }
+{
+    let mut machine = Machine::new(alloc, plan, 6)?;
+    let as_wanted = comes_four_times(&mut machine, plan, term, value, store);
+    Ok((as_wanted, store.epoch()))
+}
+
 fn four_sums_by(
     alloc: Global,
     plan: &Plan,
@@ -268,12 +278,12 @@ fn four_sums_by(
     requires { plan.now.widest ≤ 2 }
 {
     let mut store = Watched::new(alloc, rows, 6, WIDEST, four_wanted(alloc)?)?;
-    let mut machine = Machine::new(alloc, plan, 6)?;
     store.enter();
-    let as_wanted = comes_four_times(&mut machine, plan, term, value, &mut store);
-    Ok((as_wanted, store.epoch()))
+    comes_anew(alloc, plan, term, value, &mut store)
 }
 
+/// Four sums of one and one in a store of so many rows: whether each comes to two and builds what
+/// it is to build, and the store's epoch then.
 fn four_sums(alloc: Global, rows: u32) -> Result<(bool, Option<u64>), Fail> {
     let value = tree(alloc, &TWO)?;
     let term = flat(alloc, &ONE_AND_ONE)?;

@@ -9,6 +9,7 @@ use innermost::{Event, Machine, Normal, TraceFault, may_be_normalized};
 use plain_store::PlainStore;
 use rule_match::Plan;
 use std::alloc::Global;
+use std::process::Abort;
 use std::test::Fail;
 use term_model::{Flat, Item};
 use terms_api::Terms;
@@ -35,25 +36,50 @@ fn answer_of<T: Terms>(
     Some(machine.normalize_traced(plan, term, fuel, terms, events))
 }
 
-/// Normalizes a term in a new store of so many rows, and appends its events.
+/// Normalizes a term by a new machine, and appends its events.
+fn answer_anew<T: Terms>(
+    alloc: Global,
+    plan: &Plan,
+    depth: u32,
+    term: &Flat,
+    fuel: u64,
+    terms: &mut T,
+    events: &mut Vec<Event>,
+) -> Result<Option<Result<Normal, TraceFault>>, Fail>
+    requires inside { (T.store terms.old).inside ≡ true }
+    requires wide { plan.now.widest ≤ (T.store terms.old).widest }
+{
+    let mut machine = Machine::new(alloc, plan, depth)?;
+    Ok(answer_of(&mut machine, plan, depth, term, fuel, terms, events))
+}
+
+/// The same in a new store of so many rows.
+fn trace_term(
+    alloc: Global,
+    plan: &Plan,
+    term: &Flat,
+    limits: (u64, u32, u32),
+    events: &mut Vec<Event>,
+) -> Result<Option<Result<Normal, TraceFault>>, Fail>
+    requires { plan.now.widest ≤ 2 }
+{
+    let (fuel, depth, rows) = limits;
+    let mut store = PlainStore::new(alloc, rows, depth, WIDEST)?;
+    store.enter();
+    answer_anew(alloc, plan, depth, term, fuel, &mut store, events)
+}
+
 fn trace(
     alloc: Global,
     plan: &Plan,
     term: &[Item],
     limits: (u64, u32, u32),
     events: &mut Vec<Event>,
-) -> Result<Result<Normal, TraceFault>, Fail>
+) -> Result<Option<Result<Normal, TraceFault>>, Fail>
     requires { plan.now.widest ≤ 2 }
 {
-    let (fuel, depth, rows) = limits;
     let term = flat(alloc, term)?;
-    let mut machine = Machine::new(alloc, plan, depth)?;
-    let mut store = PlainStore::new(alloc, rows, depth, WIDEST)?;
-    store.enter();
-    match answer_of(&mut machine, plan, depth, &term, fuel, &mut store, events) {
-        Some(answer) => Ok(answer),
-        None => Err(Fail::from("not a term of the plan")),
-    }
+    trace_term(alloc, plan, &term, limits, events)
 }
 
 /// Rules, a term, its fuel, its room and how many rows there are; and then the answer, and the
@@ -77,7 +103,7 @@ fn is_traced(alloc: Global, row: &Traced, events: &mut Vec<Event>) -> Result<boo
     let (rules, term, limits, want, told) = row;
     let plan = plan_of(alloc, rules)?;
     let got = trace(alloc, &plan, term, *limits, events)?;
-    Ok(got == *want && are_same(events, told))
+    Ok(got == Some(*want) && are_same(events, told))
 }
 
 /// The first of the rows, by its number, that has another answer or other events, where there are
@@ -90,6 +116,16 @@ fn first_after(alloc: Global, rows: &[Traced], before: &[Event]) -> Result<Optio
         }
     }
     Ok(None)
+}
+
+/// Expects each of the rows to be so, where there are some events before.
+fn expect<R: Abort + Alloc<A = Global>>(
+    rt: &R,
+    rows: &[Traced],
+    before: &[Event],
+) -> Result<(), Fail> {
+    assert_eq!(rt; first_after(rt.alloc(), rows, before)?, None);
+    Ok(())
 }
 
 /// The sum of one and one, at each limit.
@@ -127,8 +163,7 @@ static ONE_AND_ONES: [Traced; 5] = [
 
 #[test]
 fn one_and_one_is_traced(rt: HostRuntime) -> Result<(), Fail> {
-    assert_eq!(rt; first_after(rt.alloc(), &ONE_AND_ONES, &[])?, None);
-    Ok(())
+    expect(&rt, &ONE_AND_ONES, &[])
 }
 
 /// Two uses of one rule.
@@ -148,8 +183,7 @@ static APPENDED: [Traced; 1] = [(
 
 #[test]
 fn events_are_appended(rt: HostRuntime) -> Result<(), Fail> {
-    assert_eq!(rt; first_after(rt.alloc(), &APPENDED, &[Event::Up])?, None);
-    Ok(())
+    expect(&rt, &APPENDED, &[Event::Up])
 }
 
 /// Moves up, no further than is shared.
@@ -174,8 +208,7 @@ static SHARED: [Traced; 1] = [(
 
 #[test]
 fn moves_go_up_no_further_than_is_shared(rt: HostRuntime) -> Result<(), Fail> {
-    assert_eq!(rt; first_after(rt.alloc(), &SHARED, &[])?, None);
-    Ok(())
+    expect(&rt, &SHARED, &[])
 }
 
 /// A right side in which rules are used.
@@ -201,8 +234,7 @@ static INTO_RIGHT_SIDES: [Traced; 1] = [(
 
 #[test]
 fn moves_go_into_right_sides(rt: HostRuntime) -> Result<(), Fail> {
-    assert_eq!(rt; first_after(rt.alloc(), &INTO_RIGHT_SIDES, &[])?, None);
-    Ok(())
+    expect(&rt, &INTO_RIGHT_SIDES, &[])
 }
 
 /// A rule after a rule, in its place.
@@ -226,8 +258,7 @@ static IN_ITS_PLACE: [Traced; 1] = [(
 
 #[test]
 fn a_rule_may_follow_a_rule_in_its_place(rt: HostRuntime) -> Result<(), Fail> {
-    assert_eq!(rt; first_after(rt.alloc(), &IN_ITS_PLACE, &[])?, None);
-    Ok(())
+    expect(&rt, &IN_ITS_PLACE, &[])
 }
 
 const LEAVING: [Written; 2] = [
@@ -255,8 +286,7 @@ static WITHOUT_ROOM: [Traced; 2] = [
 
 #[test]
 fn a_rule_without_room_is_not_told(rt: HostRuntime) -> Result<(), Fail> {
-    assert_eq!(rt; first_after(rt.alloc(), &WITHOUT_ROOM, &[])?, None);
-    Ok(())
+    expect(&rt, &WITHOUT_ROOM, &[])
 }
 
 const INTO: [Written; 1] = [(&[X, F], &[X, G], 1, &[])];
@@ -283,11 +313,7 @@ static RIGHT_SIDES_WITHOUT_ROOM: [Traced; 3] = [
 
 #[test]
 fn a_rule_is_told_whose_right_side_has_no_room(rt: HostRuntime) -> Result<(), Fail> {
-    assert_eq!(rt;
-        first_after(rt.alloc(), &RIGHT_SIDES_WITHOUT_ROOM, &[])?,
-        None
-    );
-    Ok(())
+    expect(&rt, &RIGHT_SIDES_WITHOUT_ROOM, &[])
 }
 
 /// A build that is refused.
@@ -301,8 +327,7 @@ static REFUSED: [Traced; 1] = [(
 
 #[test]
 fn what_was_replaced_is_told_where_a_build_is_refused(rt: HostRuntime) -> Result<(), Fail> {
-    assert_eq!(rt; first_after(rt.alloc(), &REFUSED, &[])?, None);
-    Ok(())
+    expect(&rt, &REFUSED, &[])
 }
 
 /// A rule whose condition uses another.
@@ -311,7 +336,7 @@ const GUARDED: [Written; 2] = [
     (&[X, F], &[E], 1, &[(&[X, G], &[B], true)]),
 ];
 
-fn guarded_answer(alloc: Global) -> Result<Result<Normal, TraceFault>, Fail> {
+fn guarded_answer(alloc: Global) -> Result<Option<Result<Normal, TraceFault>>, Fail> {
     let mut events = Vec::new(alloc);
     let plan = plan_of(alloc, &GUARDED)?;
     trace(alloc, &plan, &[A, F], AMPLE, &mut events)
@@ -321,7 +346,7 @@ fn guarded_answer(alloc: Global) -> Result<Result<Normal, TraceFault>, Fail> {
 fn conditions_leave_the_answer(rt: HostRuntime) -> Result<(), Fail> {
     assert_eq!(rt;
         guarded_answer(rt.alloc())?,
-        Ok(Normal::Value { left: 998 })
+        Some(Ok(Normal::Value { left: 998 }))
     );
     Ok(())
 }

@@ -1,7 +1,7 @@
 use Rattle.std.proofs.Common.{Ok}
 use Rattle.innermost.specs.declared.normal.Normal.TheVariants.{OutOfFuel}
 use Rattle.innermost.proofs.CachedEnds.{settled_right}
-use Rattle.rewriting_trials.proofs.remembered.answer_in.Goals as goal
+use Rattle.rewriting_trials.proofs.remembered.answer_with.Goals as goal
 
 pub returns-clause-memory : goal.returns-clause-memory
 returns-clause-memory g c =
