@@ -162,73 +162,180 @@ fn head_at<T: Terms>(rt: &impl Abort, terms: &mut T, i: u32) -> Head
 
 // Two rows. Both creations draw from the claim, so the collection that the third one needs has the
 // number 1 + 2, and its epoch the base 4. It frees the row that isn't on the stack, and the third
-// constant takes it.
+// constant takes it. The builds, the epochs before and after the third, whether both rows are on
+// the stack then, and the head of the second.
+fn collect_and_go_on<T: Terms>(
+    rt: &impl Abort,
+    terms: &mut T,
+) -> ([Option<BuildFault>; 3], [Option<u64>; 2], bool, Head)
+    requires inside { (T.store terms.old).inside ≡ true }
+{
+    let zero = build_symbol(terms, 0, 0);
+    let one = build_symbol(terms, 1, 0);
+    let first = row_at(rt, terms, 0);
+    let freed = row_at(rt, terms, 1);
+    keep_lowest(rt, terms, 1);
+    let before = terms.epoch();
+    let two = build_symbol(terms, 2, 0);
+    let after = terms.epoch();
+    let stay = terms.depth() == 2 && row_at(rt, terms, 0) == first && row_at(rt, terms, 1) == freed;
+    let head = head_at(rt, terms, 1);
+    ([zero, one, two], [before, after], stay, head)
+}
+
 #[test]
 fn a_full_desk_collects_and_goes_on(rt: HostRuntime) -> Result<(), Fail> {
     let (store, mut passes) = new_store(rt.alloc(), sizes(2, 1, 1))?;
     let pass = last_pass(&rt, &store, &mut passes);
     let mut desk = desk_at(&rt, rt.alloc(), &store, pass)?;
     desk.enter();
-    assert_eq!(rt; build_symbol(&mut desk, 0, 0), None);
-    assert_eq!(rt; build_symbol(&mut desk, 1, 0), None);
-    let first = row_at(&rt, &mut desk, 0);
-    let freed = row_at(&rt, &mut desk, 1);
-    keep_lowest(&rt, &mut desk, 1);
-    assert_eq!(rt; desk.epoch(), Some(1));
-    assert_eq!(rt; build_symbol(&mut desk, 2, 0), None);
-    assert_eq!(rt; desk.epoch(), Some(4));
-    assert_eq!(rt; desk.depth(), 2);
-    assert_eq!(rt; row_at(&rt, &mut desk, 0), first);
-    assert_eq!(rt; row_at(&rt, &mut desk, 1), freed);
-    assert_eq!(rt; head_at(&rt, &mut desk, 1), Head::App(Symbol(2)));
+    let seen = collect_and_go_on(&rt, &mut desk);
+    let epochs = [Some(1), Some(4)];
+    let head = Head::App(Symbol(2));
+    assert_eq!(rt; seen, ([None, None, None], epochs, true, head));
     Ok(())
 }
 
 // The epoch begins with a collection, and with nothing else: not with an entry, a creation, a find
-// or a breath.
+// or a breath. The builds, and the epochs after the entry, after the find, after a creation behind
+// a breath, after a collection, and after another entry.
+fn begin_epochs<T: Terms>(
+    rt: &impl Abort,
+    terms: &mut T,
+) -> ([Option<BuildFault>; 4], [Option<u64>; 5])
+    requires inside { (T.store terms.old).inside ≡ true }
+    requires width { 1 ≤ (T.store terms.old).widest }
+{
+    let entered = terms.epoch();
+    let made = build_symbol(terms, 0, 0);
+    let found = build_symbol(terms, 0, 0);
+    let first = terms.epoch();
+    terms.breathe();
+    let over = build_symbol(terms, 1, 1);
+    let second = terms.epoch();
+    keep_lowest(rt, terms, 0);
+    let collected = build_symbol(terms, 2, 0);
+    let third = terms.epoch();
+    terms.leave();
+    terms.enter();
+    let again = terms.epoch();
+    (
+        [made, found, over, collected],
+        [entered, first, second, third, again],
+    )
+}
+
 #[test]
 fn an_epoch_begins_with_a_collection(rt: HostRuntime) -> Result<(), Fail> {
     let (store, mut passes) = new_store(rt.alloc(), sizes(2, 1, 1))?;
     let pass = last_pass(&rt, &store, &mut passes);
     let mut desk = desk_at(&rt, rt.alloc(), &store, pass)?;
     desk.enter();
-    assert_eq!(rt; desk.epoch(), Some(1));
-    assert_eq!(rt; build_symbol(&mut desk, 0, 0), None);
-    assert_eq!(rt; build_symbol(&mut desk, 0, 0), None);
-    assert_eq!(rt; desk.epoch(), Some(1));
-    desk.breathe();
-    assert_eq!(rt; build_symbol(&mut desk, 1, 1), None);
-    assert_eq!(rt; desk.epoch(), Some(1));
-    keep_lowest(&rt, &mut desk, 0);
-    assert_eq!(rt; build_symbol(&mut desk, 2, 0), None);
-    assert_eq!(rt; desk.epoch(), Some(4));
-    desk.leave();
-    desk.enter();
-    assert_eq!(rt; desk.epoch(), Some(4));
+    let seen = begin_epochs(&rt, &mut desk);
+    let epochs = [Some(1), Some(1), Some(1), Some(4), Some(4)];
+    assert_eq!(rt; seen, ([None, None, None, None], epochs));
     Ok(())
 }
 
 // Two rows, and both are on the stack. Each refusal has collected: number 3 and then, since the
-// epoch of base 4 has drawn nothing, number 4. Once a place is given up there is a row.
+// epoch of base 4 has drawn nothing, number 4. Once a place is given up there is a row. The builds,
+// the epochs after the refusal and at the end, and whether the second row stays where it is.
+fn fill_and_give_up<T: Terms>(
+    rt: &impl Abort,
+    terms: &mut T,
+) -> ([Option<BuildFault>; 5], [Option<u64>; 2], bool)
+    requires inside { (T.store terms.old).inside ≡ true }
+{
+    let zero = build_symbol(terms, 0, 0);
+    let one = build_symbol(terms, 1, 0);
+    let second = row_at(rt, terms, 1);
+    let refused = build_symbol(terms, 2, 0);
+    let full = terms.epoch();
+    let stays = terms.depth() == 2 && row_at(rt, terms, 1) == second;
+    let found = build_symbol(terms, 1, 0);
+    let above = row_at(rt, terms, 2);
+    keep_lowest(rt, terms, 1);
+    let two = build_symbol(terms, 2, 0);
+    let last = terms.epoch();
+    let taken = row_at(rt, terms, 1);
+    (
+        [zero, one, refused, found, two],
+        [full, last],
+        stays && above == second && taken == second,
+    )
+}
+
 #[test]
 fn a_store_is_full_where_all_rows_are_on_the_stack(rt: HostRuntime) -> Result<(), Fail> {
     let (store, mut passes) = new_store(rt.alloc(), sizes(2, 1, 1))?;
     let pass = last_pass(&rt, &store, &mut passes);
     let mut desk = desk_at(&rt, rt.alloc(), &store, pass)?;
     desk.enter();
-    assert_eq!(rt; build_symbol(&mut desk, 0, 0), None);
-    assert_eq!(rt; build_symbol(&mut desk, 1, 0), None);
-    let second = row_at(&rt, &mut desk, 1);
-    assert_eq!(rt; build_symbol(&mut desk, 2, 0), Some(BuildFault::StoreFull));
-    assert_eq!(rt; desk.epoch(), Some(4));
-    assert_eq!(rt; desk.depth(), 2);
-    assert_eq!(rt; row_at(&rt, &mut desk, 1), second);
-    assert_eq!(rt; build_symbol(&mut desk, 1, 0), None);
-    assert_eq!(rt; row_at(&rt, &mut desk, 2), second);
-    keep_lowest(&rt, &mut desk, 1);
-    assert_eq!(rt; build_symbol(&mut desk, 2, 0), None);
-    assert_eq!(rt; desk.epoch(), Some(5));
-    assert_eq!(rt; row_at(&rt, &mut desk, 1), second);
+    let seen = fill_and_give_up(&rt, &mut desk);
+    let built = [None, None, Some(BuildFault::StoreFull), None, None];
+    assert_eq!(rt; seen, (built, [Some(4), Some(5)], true));
+    Ok(())
+}
+
+// A constant, and a symbol over it: their rows.
+fn make_term<T: Terms>(rt: &impl Abort, terms: &mut T) -> (Row, Row)
+    requires inside { (T.store terms.old).inside ≡ true }
+    requires width { 1 ≤ (T.store terms.old).widest }
+    ensures inside { (T.store terms.new).inside ≡ true }
+    ensures widest { (T.store terms.new).widest ≡ (T.store terms.old).widest }
+{
+    assert_eq!(rt; build_symbol(terms, 0, 0), None);
+    let constant = row_at(rt, terms, 0);
+    assert_eq!(rt; build_symbol(terms, 1, 1), None);
+    (constant, row_at(rt, terms, 0))
+}
+
+// A constant that is given up, and another: their rows, and the epoch then.
+fn replace_constant<T: Terms>(rt: &impl Abort, terms: &mut T) -> (Row, Row, Option<u64>)
+    requires inside { (T.store terms.old).inside ≡ true }
+    ensures inside { (T.store terms.new).inside ≡ true }
+{
+    assert_eq!(rt; build_symbol(terms, 2, 0), None);
+    let freed = row_at(rt, terms, 0);
+    keep_lowest(rt, terms, 0);
+    assert_eq!(rt; build_symbol(terms, 3, 0), None);
+    let epoch = terms.epoch();
+    (freed, row_at(rt, terms, 0), epoch)
+}
+
+// The rows of the lowest place and of the first constant, the head of that place, and the epoch.
+fn find_constant<T: Terms>(rt: &impl Abort, terms: &mut T) -> (Row, Row, Head, Option<u64>)
+    requires inside { (T.store terms.old).inside ≡ true }
+{
+    let epoch = terms.epoch();
+    let lowest = row_at(rt, terms, 0);
+    let head = head_at(rt, terms, 0);
+    assert_eq!(rt; build_symbol(terms, 0, 0), None);
+    (lowest, row_at(rt, terms, 1), head, epoch)
+}
+
+// Two desks: what the second sees, and what the first sees then, against what was worked out.
+fn collect_beside<R: Wait + Abort + Alloc<A = Global>>(
+    rt: &R,
+    store: &Store,
+    pass: Pass,
+    other: Pass,
+) -> Result<(), Fail>
+    requires first { MayHaveDesk store.now pass }
+    requires second { MayHaveDesk store.now other }
+{
+    let mut first = desk_at(rt, rt.alloc(), store, pass)?;
+    let mut second = desk_at(rt, rt.alloc(), store, other)?;
+    first.enter();
+    let (constant, term) = make_term(rt, &mut first);
+    first.leave();
+    second.enter();
+    let (freed, taken, epoch) = replace_constant(rt, &mut second);
+    second.leave();
+    first.enter();
+    let seen = find_constant(rt, &mut first);
+    assert!(rt; taken == freed && epoch == Some(5));
+    assert_eq!(rt; seen, (term, constant, Head::App(Symbol(1)), Some(5)));
     Ok(())
 }
 
@@ -240,49 +347,39 @@ fn a_collection_keeps_the_stack_of_another_desk(rt: HostRuntime) -> Result<(), F
     let (store, mut passes) = new_store(rt.alloc(), sizes(3, 2, 1))?;
     let pass = last_pass(&rt, &store, &mut passes);
     let other = last_pass(&rt, &store, &mut passes);
-    let mut first = desk_at(&rt, rt.alloc(), &store, pass)?;
-    let mut second = desk_at(&rt, rt.alloc(), &store, other)?;
-    first.enter();
-    assert_eq!(rt; build_symbol(&mut first, 0, 0), None);
-    let constant = row_at(&rt, &mut first, 0);
-    assert_eq!(rt; build_symbol(&mut first, 1, 1), None);
-    let term = row_at(&rt, &mut first, 0);
-    first.leave();
-    second.enter();
-    assert_eq!(rt; build_symbol(&mut second, 2, 0), None);
-    let freed = row_at(&rt, &mut second, 0);
-    keep_lowest(&rt, &mut second, 0);
-    assert_eq!(rt; build_symbol(&mut second, 3, 0), None);
-    assert_eq!(rt; second.epoch(), Some(5));
-    assert_eq!(rt; row_at(&rt, &mut second, 0), freed);
-    second.leave();
-    first.enter();
-    assert_eq!(rt; first.epoch(), Some(5));
-    assert_eq!(rt; row_at(&rt, &mut first, 0), term);
-    assert_eq!(rt; head_at(&rt, &mut first, 0), Head::App(Symbol(1)));
-    assert_eq!(rt; build_symbol(&mut first, 0, 0), None);
-    assert_eq!(rt; row_at(&rt, &mut first, 1), constant);
-    Ok(())
+    collect_beside(&rt, &store, pass, other)
 }
 
 // With the first base 2^62 - 5 there is room for one collection with an empty claim:
 // 2^62 - 5 + 0 + 1 + (2 + 1 + 1). Two creations have drawn, so the one that the third needs is
-// worn, and a refused one changes nothing. Its entries were Roots last.
+// worn, and a refused one changes nothing. The builds, and the epoch and the depth after the
+// refusal.
+fn wear_out<T: Terms>(rt: &impl Abort, terms: &mut T) -> ([Option<BuildFault>; 4], Option<u64>, u32)
+    requires inside { (T.store terms.old).inside ≡ true }
+    ensures inside { (T.store terms.new).inside ≡ true }
+{
+    let zero = build_symbol(terms, 0, 0);
+    let one = build_symbol(terms, 1, 0);
+    keep_lowest(rt, terms, 0);
+    let worn = build_symbol(terms, 2, 0);
+    let epoch = terms.epoch();
+    let depth = terms.depth();
+    let found = build_symbol(terms, 1, 0);
+    ([zero, one, worn, found], epoch, depth)
+}
+
+// Its entries were Roots last.
 #[test]
 fn a_worn_store_says_so(rt: HostRuntime) -> Result<(), Fail> {
     let (store, mut passes) = new_store(rt.alloc(), sizes(2, 1, (1 << 62) - 5))?;
     let pass = last_pass(&rt, &store, &mut passes);
     let mut desk = desk_at(&rt, rt.alloc(), &store, pass)?;
     desk.enter();
-    assert_eq!(rt; build_symbol(&mut desk, 0, 0), None);
-    assert_eq!(rt; build_symbol(&mut desk, 1, 0), None);
-    keep_lowest(&rt, &mut desk, 0);
-    assert_eq!(rt; build_symbol(&mut desk, 2, 0), Some(BuildFault::Worn));
-    assert_eq!(rt; desk.epoch(), Some((1 << 62) - 5));
-    assert_eq!(rt; desk.depth(), 0);
-    assert_eq!(rt; build_symbol(&mut desk, 1, 0), None);
+    let seen = wear_out(&rt, &mut desk);
     desk.leave();
     let pass = desk.into_pass();
+    let built = [None, None, Some(BuildFault::Worn), None];
+    assert_eq!(rt; seen, (built, Some((1 << 62) - 5), 0));
     assert_eq!(rt; last(&pass), Last::Roots((1 << 62) - 4));
     Ok(())
 }
@@ -291,21 +388,30 @@ fn a_worn_store_says_so(rt: HostRuntime) -> Result<(), Fail> {
 // made as row 1 with the number 2. The stack is then let go but for symbol 0, so that symbol 2 fits
 // only after a collection, which has the number 3 and keeps row 0; symbol 2 is made as row 1 with
 // the number 4.
+fn build_four<T: Terms>(rt: &impl Abort, terms: &mut T) -> [Option<BuildFault>; 4]
+    requires inside { (T.store terms.old).inside ≡ true }
+    requires width { 1 ≤ (T.store terms.old).widest }
+    ensures inside { (T.store terms.new).inside ≡ true }
+{
+    let made = build_symbol(terms, 0, 0);
+    let found = build_symbol(terms, 0, 0);
+    let over = build_symbol(terms, 1, 1);
+    keep_lowest(rt, terms, 1);
+    [made, found, over, build_symbol(terms, 2, 0)]
+}
+
+const LINES: &[u8] =
+    b"# make 1 0 s0\n# find 1 0 s0\n# make 2 1 s1 0\n# roots 2 0\n# collect 3 0\n# make 4 1 s2\n# roots 4 0 1\n# roots 4 0 1\n";
+
 #[test]
 fn a_desk_writes_its_entries_as_lines(rt: HostRuntime) -> Result<(), Fail> {
     let (store, mut passes) = unnoted_store(rt.alloc(), sizes(2, 1, 1))?;
     let pass = unnoted_pass(&rt, &store, &mut passes);
     let mut desk = log_desk_at(&rt, rt.alloc(), &store, pass)?;
     desk.enter();
-    assert_eq!(rt; build_symbol(&mut desk, 0, 0), None);
-    assert_eq!(rt; build_symbol(&mut desk, 0, 0), None);
-    assert_eq!(rt; build_symbol(&mut desk, 1, 1), None);
-    keep_lowest(&rt, &mut desk, 1);
-    assert_eq!(rt; build_symbol(&mut desk, 2, 0), None);
+    assert_eq!(rt; build_four(&rt, &mut desk), [None, None, None, None]);
     desk.leave();
-    let want: &[u8] =
-        b"# make 1 0 s0\n# find 1 0 s0\n# make 2 1 s1 0\n# roots 2 0\n# collect 3 0\n# make 4 1 s2\n# roots 4 0 1\n# roots 4 0 1\n";
-    assert_eq!(rt; desk.lines(), want);
+    assert_eq!(rt; desk.lines(), LINES);
     assert!(rt; !desk.lost());
     let pass = desk.into_pass();
     assert_eq!(rt; last(&pass), Last::Roots(4));

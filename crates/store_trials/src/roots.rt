@@ -161,29 +161,63 @@ fn two_rows_are_full_by_two_passes(rt: HostRuntime) -> Result<(), Fail> {
     Ok(())
 }
 
+// While the first pass is in shared access, the second one is refused exclusive access.
+fn refused_beside(rt: &impl Abort, store: &Store, first: &mut Pass, second: &mut Pass) -> Busy
+    requires store { IsOpen store.now }
+    requires first { IsSeated store.now first.old × IsOut (view_of first.old) × Tells first.old }
+    requires second { IsSeated store.now second.old × IsOut (view_of second.old)
+        × Tells second.old }
+    ensures first { IsSeated store.now first.new × IsOut (view_of first.new) × Tells first.new }
+    ensures second { IsSeated store.now second.new × IsOut (view_of second.new)
+        × Tells second.new }
+{
+    enter(rt, store, first);
+    let Err(busy) = store.try_enter_exclusive(second) else {
+        panic!(rt; "the first pass is in");
+    };
+    store.leave_shared(first);
+    busy
+}
+
+// While the second pass is in exclusive access, the first one is refused shared access, and then
+// exclusive access.
+fn refused_behind(
+    rt: &impl Abort,
+    store: &Store,
+    first: &mut Pass,
+    second: &mut Pass,
+) -> (Busy, Busy)
+    requires store { IsOpen store.now }
+    requires first { IsSeated store.now first.old × IsOut (view_of first.old) × Tells first.old }
+    requires second { IsSeated store.now second.old × IsOut (view_of second.old)
+        × Tells second.old }
+{
+    let Ok(()) = store.try_enter_exclusive(second) else {
+        panic!(rt; "nobody is in");
+    };
+    let Err(shared) = store.try_enter_shared(first) else {
+        panic!(rt; "the second pass is in");
+    };
+    let Err(exclusive) = store.try_enter_exclusive(first) else {
+        panic!(rt; "the second pass has the mutex");
+    };
+    store.leave_exclusive(second);
+    (shared, exclusive)
+}
+
 #[test]
 fn exclusive_access_waits_for_shared(rt: HostRuntime) -> Result<(), Fail> {
     let (store, mut passes) = Store::make(rt.alloc(), SMALL)?;
     let mut second = last_pass(&rt, &store, &mut passes);
     let mut first = last_pass(&rt, &store, &mut passes);
-    enter(&rt, &store, &mut first);
-    let Err(busy) = store.try_enter_exclusive(&mut second) else {
-        panic!(rt; "the first pass is in");
-    };
-    assert_eq!(rt; busy, Busy::Seat(0));
-    store.leave_shared(&mut first);
-    let Ok(()) = store.try_enter_exclusive(&mut second) else {
-        panic!(rt; "nobody is in");
-    };
-    let Err(busy) = store.try_enter_shared(&mut first) else {
-        panic!(rt; "the second pass is in");
-    };
-    assert_eq!(rt; busy, Busy::Forbidden);
-    let Err(busy) = store.try_enter_exclusive(&mut first) else {
-        panic!(rt; "the second pass has the mutex");
-    };
-    assert_eq!(rt; busy, Busy::Mutex);
-    store.leave_exclusive(&mut second);
+    assert_eq!(rt;
+        refused_beside(&rt, &store, &mut first, &mut second),
+        Busy::Seat(0)
+    );
+    assert_eq!(rt;
+        refused_behind(&rt, &store, &mut first, &mut second),
+        (Busy::Forbidden, Busy::Mutex)
+    );
     Ok(())
 }
 

@@ -15,7 +15,7 @@ use std::process::Abort;
 use std::test::Fail;
 use store_model::Sizes;
 use sweep_phase::{Kept, TryCollect, Worn, collect, collect_now};
-use term_create::create;
+use term_create::{Full, create};
 use term_model::{Head, Row, Symbol};
 
 mod creating;
@@ -109,19 +109,61 @@ fn collect_and_tell(rt: &impl Abort, store: &Store, pass: &mut Pass) -> (Result<
 fn a_store_wears_out(rt: HostRuntime) -> Result<(), Fail> {
     let (store, mut passes) = Store::make(rt.alloc(), worn_sizes((1 << 62) - 5))?;
     let mut pass = last_pass(&rt, &store, &mut passes);
-    let (first, told) = collect_and_tell(&rt, &store, &mut pass);
-    assert_eq!(rt;
-        first,
-        Ok(Kept {
-            live: 0,
-            buckets: 1
-        })
-    );
-    assert_eq!(rt; told, Last::Collect((1 << 62) - 5));
-    let (second, told) = collect_and_tell(&rt, &store, &mut pass);
-    assert_eq!(rt; second, Err(Worn));
-    assert_eq!(rt; told, Last::Roots((1 << 62) - 5));
+    let first = collect_and_tell(&rt, &store, &mut pass);
+    let second = collect_and_tell(&rt, &store, &mut pass);
+    let kept = Kept {
+        live: 0,
+        buckets: 1,
+    };
+    let collected = (Ok(kept), Last::Collect((1 << 62) - 5));
+    let worn = (Err(Worn), Last::Roots((1 << 62) - 5));
+    assert_eq!(rt; [first, second], [collected, worn]);
     Ok(())
+}
+
+// In one shared access: two constants, whose rows are then protected.
+fn protect_two(rt: &impl Abort, store: &Store, pass: &mut Pass) -> (Row, Row)
+    requires store { IsOpen store.now }
+    requires pass { IsSeated store.now pass.old × IsOut (view_of pass.old) × Tells pass.old }
+    ensures pass { IsSeated store.now pass.new × IsOut (view_of pass.new) × Tells pass.new }
+{
+    enter(rt, store, pass);
+    let first = protect_constant(rt, store, pass, 0);
+    let second = protect_constant(rt, store, pass, 1);
+    store.leave_shared(pass);
+    (first, second)
+}
+
+// Three collections, each in an access of its own.
+fn collect_thrice(rt: &impl Abort, store: &Store, pass: &mut Pass) -> [Result<Kept, Worn>; 3]
+    requires store { IsOpen store.now }
+    requires pass { IsSeated store.now pass.old × IsOut (view_of pass.old) × Tells pass.old }
+    ensures pass { IsSeated store.now pass.new × IsOut (view_of pass.new) × Tells pass.new }
+{
+    let (first, _) = collect_and_tell(rt, store, pass);
+    let (second, _) = collect_and_tell(rt, store, pass);
+    let (third, _) = collect_and_tell(rt, store, pass);
+    [first, second, third]
+}
+
+// In one shared access: the same two constants.
+fn find_two(
+    rt: &impl Abort,
+    store: &Store,
+    pass: &mut Pass,
+) -> (Result<Row, Full>, Result<Row, Full>)
+    requires store { IsOpen store.now }
+    requires pass { IsSeated store.now pass.old × IsOut (view_of pass.old) × Tells pass.old }
+{
+    enter(rt, store, pass);
+    let first = create(store, pass, Head::App(Symbol(0)), &[]);
+    let second = create(store, pass, Head::App(Symbol(1)), &[]);
+    store.leave_shared(pass);
+    (first, second)
+}
+
+const fn kept_two(buckets: u32) -> Result<Kept, Worn> {
+    Ok(Kept { live: 2, buckets })
 }
 
 // Two constants are protected, of a store of four rows and four buckets, of which one is in use.
@@ -139,21 +181,48 @@ fn buckets_in_use_double_up_to_all(rt: HostRuntime) -> Result<(), Fail> {
     };
     let (store, mut passes) = Store::make(rt.alloc(), sizes)?;
     let mut pass = last_pass(&rt, &store, &mut passes);
-    enter(&rt, &store, &mut pass);
-    let a = protect_constant(&rt, &store, &mut pass, 0);
-    let b = protect_constant(&rt, &store, &mut pass, 1);
-    store.leave_shared(&mut pass);
-    for buckets in [2, 4, 4] {
-        let (kept, _) = collect_and_tell(&rt, &store, &mut pass);
-        assert_eq!(rt; kept, Ok(Kept { live: 2, buckets }));
-    }
-    enter(&rt, &store, &mut pass);
-    let again = create(&store, &mut pass, Head::App(Symbol(0)), &[]);
-    assert_eq!(rt; again, Ok(a));
-    let other = create(&store, &mut pass, Head::App(Symbol(1)), &[]);
-    assert_eq!(rt; other, Ok(b));
-    store.leave_shared(&mut pass);
+    let made = protect_two(&rt, &store, &mut pass);
+    let kept = collect_thrice(&rt, &store, &mut pass);
+    let found = find_two(&rt, &store, &mut pass);
+    assert_eq!(rt; kept, [kept_two(2), kept_two(4), kept_two(4)]);
+    assert_eq!(rt; found, (Ok(made.0), Ok(made.1)));
     Ok(())
+}
+
+// In one shared access: a constant, whose row is then protected.
+fn protect_one(rt: &impl Abort, store: &Store, pass: &mut Pass) -> Row
+    requires store { IsOpen store.now }
+    requires pass { IsSeated store.now pass.old × IsOut (view_of pass.old) × Tells pass.old }
+    ensures pass { IsSeated store.now pass.new × IsOut (view_of pass.new) × Tells pass.new }
+{
+    enter(rt, store, pass);
+    let row = protect_constant(rt, store, pass, 0);
+    store.leave_shared(pass);
+    row
+}
+
+// In one shared access: a constant, whose row is then protected, and one that nobody protects.
+fn protect_and_make(rt: &impl Abort, store: &Store, pass: &mut Pass) -> (Row, Result<Row, Full>)
+    requires store { IsOpen store.now }
+    requires pass { IsSeated store.now pass.old × IsOut (view_of pass.old) × Tells pass.old }
+    ensures pass { IsSeated store.now pass.new × IsOut (view_of pass.new) × Tells pass.new }
+{
+    enter(rt, store, pass);
+    let row = protect_constant(rt, store, pass, 1);
+    let other = create(store, pass, Head::App(Symbol(2)), &[]);
+    store.leave_shared(pass);
+    (row, other)
+}
+
+// In one shared access: a constant that is new.
+fn make_another(rt: &impl Abort, store: &Store, pass: &mut Pass) -> Result<Row, Full>
+    requires store { IsOpen store.now }
+    requires pass { IsSeated store.now pass.old × IsOut (view_of pass.old) × Tells pass.old }
+{
+    enter(rt, store, pass);
+    let row = create(store, pass, Head::App(Symbol(3)), &[]);
+    store.leave_shared(pass);
+    row
 }
 
 // Two passes protect a constant each, and a third one is made that nobody protects: it alone is
@@ -172,27 +241,13 @@ fn rows_of_both_passes_stay(rt: HostRuntime) -> Result<(), Fail> {
     let (store, mut passes) = Store::make(rt.alloc(), sizes)?;
     let mut second = last_pass(&rt, &store, &mut passes);
     let mut first = last_pass(&rt, &store, &mut passes);
-    enter(&rt, &store, &mut first);
-    let a = protect_constant(&rt, &store, &mut first, 0);
-    store.leave_shared(&mut first);
-    enter(&rt, &store, &mut second);
-    let b = protect_constant(&rt, &store, &mut second, 1);
-    let c = create(&store, &mut second, Head::App(Symbol(2)), &[]);
-    store.leave_shared(&mut second);
+    let a = protect_one(&rt, &store, &mut first);
+    let (b, c) = protect_and_make(&rt, &store, &mut second);
     let (result, _) = collect_and_tell(&rt, &store, &mut first);
-    assert_eq!(rt;
-        result,
-        Ok(Kept {
-            live: 2,
-            buckets: 2
-        })
-    );
-    assert!(rt; kept(&first, a) && kept(&first, b));
-    assert!(rt; c.is_ok() && c != Ok(a) && c != Ok(b));
-    enter(&rt, &store, &mut first);
-    let again = create(&store, &mut first, Head::App(Symbol(3)), &[]);
-    assert_eq!(rt; again, c);
-    store.leave_shared(&mut first);
+    let stay = kept(&first, a) && kept(&first, b);
+    let again = make_another(&rt, &store, &mut first);
+    assert_eq!(rt; result, kept_two(2));
+    assert!(rt; stay && c.is_ok() && c != Ok(a) && c != Ok(b) && again == c);
     Ok(())
 }
 

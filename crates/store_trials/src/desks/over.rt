@@ -1,5 +1,5 @@
 //! Builds over rows that aren't on the stack, and reads of what was built.
-ghost use Rattle.std.specs.Prelude.{◌≡◌, ◌≤◌, true};
+ghost use Rattle.std.specs.Prelude.{◌≡◌, ◌<◌, ◌≤◌, true};
 ghost use Rattle.terms_api.specs.Terms.{IsHeld};
 
 use super::{build_symbol, desk_at, head_at, keep_lowest, last_pass, new_store, row_at};
@@ -108,33 +108,48 @@ fn put_row<T: Terms>(rt: &impl Abort, terms: &mut T, row: Row)
     terms.put(row);
 }
 
+// Whether two places have these rows, from one of them on.
+fn lie_at<T: Terms>(rt: &impl Abort, terms: &mut T, i: u32, first: Row, second: Row) -> bool
+    requires inside { (T.store terms.old).inside ≡ true }
+    requires below { i < 8 }
+    ensures unchanged { T.store terms.new ≡ T.store terms.old }
+{
+    row_at(rt, terms, i) == first && row_at(rt, terms, i + 1) == second
+}
+
+// The faults of three builds, the epochs after the last two of them, whether the rows are where
+// they should be, and a node.
+type Seen = ([Option<BuildFault>; 3], [Option<u64>; 2], bool, (Head, u32));
+
 // Three rows. Two are built over, of which one lies on the stack as well. The tree fits only after
 // a collection, which has the number 1 + 3: its epoch has the base 5. The tree takes the freed row,
 // above the row that lay there. The tree over the same rows in turn about is another one, which
 // comes in place of the first: the collection that it needs has the number 5 + 1.
-fn build_where_all_rows_are_in_use<T: Terms>(rt: &impl Abort, terms: &mut T)
+fn build_where_all_rows_are_in_use<T: Terms>(rt: &impl Abort, terms: &mut T) -> Seen
     requires inside { (T.store terms.old).inside ≡ true }
     requires width { 2 ≤ (T.store terms.old).widest }
 {
-    assert_eq!(rt; build_constant(rt, terms, 2), None);
+    let constant = build_constant(rt, terms, 2);
     let freed = row_at(rt, terms, 0);
     keep_lowest(rt, terms, 0);
     let (zero, one) = make_two(rt, terms);
     put_row(rt, terms, zero);
-    assert_eq!(rt; build_pair(rt, terms, 3, one, zero), None);
-    assert_eq!(rt; terms.epoch(), Some(5));
-    assert_eq!(rt; terms.depth(), 2);
-    assert_eq!(rt; row_at(rt, terms, 0), zero);
-    assert_eq!(rt; row_at(rt, terms, 1), freed);
+    let built = build_pair(rt, terms, 3, one, zero);
+    let epoch = terms.epoch();
+    let depth = terms.depth();
+    let lie = lie_at(rt, terms, 0, zero, freed);
     let (node, (first, second)) = both_at(rt, terms, 1);
-    assert_eq!(rt; node, (Head::App(Symbol(3)), 2));
-    assert_eq!(rt; (first, second), (one, zero));
     keep_lowest(rt, terms, 1);
-    assert_eq!(rt; build_pair(rt, terms, 3, second, first), None);
-    assert_eq!(rt; terms.epoch(), Some(7));
-    assert_eq!(rt; terms.depth(), 2);
-    assert_eq!(rt; row_at(rt, terms, 0), zero);
-    assert_eq!(rt; row_at(rt, terms, 1), freed);
+    let turned = build_pair(rt, terms, 3, second, first);
+    let last = terms.epoch();
+    let last_depth = terms.depth();
+    let lie_again = lie_at(rt, terms, 0, zero, freed);
+    (
+        [constant, built, turned],
+        [epoch, last],
+        depth == 2 && lie && (first, second) == (one, zero) && last_depth == 2 && lie_again,
+        node,
+    )
 }
 
 #[test]
@@ -143,37 +158,41 @@ fn a_full_desk_keeps_the_rows_that_it_builds_over(rt: HostRuntime) -> Result<(),
     let pass = last_pass(&rt, &store, &mut passes);
     let mut desk = desk_at(&rt, rt.alloc(), &store, pass)?;
     desk.enter();
-    build_where_all_rows_are_in_use(&rt, &mut desk);
+    let seen = build_where_all_rows_are_in_use(&rt, &mut desk);
+    let node = (Head::App(Symbol(3)), 2);
+    assert_eq!(rt; seen, ([None, None, None], [Some(5), Some(7)], true, node));
     Ok(())
 }
 
 // Three rows. The tree takes the third one, and is found again. The tree over the same rows in turn
 // about is another one: the collection that it needs has the number 1 + 3, and frees the first
 // tree's row.
-fn find_over_rows<T: Terms>(rt: &impl Abort, terms: &mut T)
+fn find_over_rows<T: Terms>(rt: &impl Abort, terms: &mut T) -> Seen
     requires inside { (T.store terms.old).inside ≡ true }
     requires width { 2 ≤ (T.store terms.old).widest }
 {
     let (zero, one) = make_two(rt, terms);
-    assert_eq!(rt; build_pair(rt, terms, 3, one, zero), None);
+    let built = build_pair(rt, terms, 3, one, zero);
     let made = row_at(rt, terms, 0);
     let (_, (first, second)) = both_at(rt, terms, 0);
-    assert_eq!(rt; (first, second), (one, zero));
+    let is_made = (first, second) == (one, zero);
     keep_lowest(rt, terms, 0);
     put_row(rt, terms, second);
-    assert_eq!(rt; build_pair(rt, terms, 3, first, second), None);
-    assert_eq!(rt; terms.epoch(), Some(1));
-    assert_eq!(rt; row_at(rt, terms, 0), zero);
-    assert_eq!(rt; row_at(rt, terms, 1), made);
+    let found = build_pair(rt, terms, 3, first, second);
+    let epoch = terms.epoch();
+    let lie = lie_at(rt, terms, 0, zero, made);
     let (_, (first, second)) = both_at(rt, terms, 1);
     keep_lowest(rt, terms, 0);
-    assert_eq!(rt; build_pair(rt, terms, 3, second, first), None);
-    assert_eq!(rt; terms.epoch(), Some(5));
-    assert_eq!(rt; row_at(rt, terms, 0), made);
-    assert_eq!(rt;
-        both_at(rt, terms, 0),
-        ((Head::App(Symbol(3)), 2), (zero, one))
-    );
+    let turned = build_pair(rt, terms, 3, second, first);
+    let last = terms.epoch();
+    let taken = row_at(rt, terms, 0);
+    let (node, arguments) = both_at(rt, terms, 0);
+    (
+        [built, found, turned],
+        [epoch, last],
+        is_made && lie && taken == made && arguments == (zero, one),
+        node,
+    )
 }
 
 #[test]
@@ -182,32 +201,41 @@ fn a_tree_over_rows_that_are_not_on_the_stack_is_found(rt: HostRuntime) -> Resul
     let pass = last_pass(&rt, &store, &mut passes);
     let mut desk = desk_at(&rt, rt.alloc(), &store, pass)?;
     desk.enter();
-    find_over_rows(&rt, &mut desk);
+    let seen = find_over_rows(&rt, &mut desk);
+    let node = (Head::App(Symbol(3)), 2);
+    assert_eq!(rt; seen, ([None, None, None], [Some(1), Some(5)], true, node));
     Ok(())
 }
 
 // Two rows, and neither is on the stack. The tree over them is refused after a collection, which
 // has the number 1 + 2, and leaves both on the stack. Where all four places are in use there is
-// none for a constant.
-fn be_refused_over_rows<T: Terms>(rt: &impl Abort, terms: &mut T)
+// none for a constant. The faults, the epoch, whether the rows are where they should be, and the
+// head of the second place.
+fn be_refused_over_rows<T: Terms>(
+    rt: &impl Abort,
+    terms: &mut T,
+) -> ([Option<BuildFault>; 2], Option<u64>, bool, Head)
     requires inside { (T.store terms.old).inside ≡ true }
     requires width { 2 ≤ (T.store terms.old).widest }
 {
     let (zero, one) = make_two(rt, terms);
     let refused = build_pair(rt, terms, 2, one, zero);
-    assert_eq!(rt; refused, Some(BuildFault::StoreFull));
-    assert_eq!(rt; terms.epoch(), Some(4));
-    assert_eq!(rt; terms.depth(), 2);
+    let epoch = terms.epoch();
+    let depth = terms.depth();
     let below = row_at(rt, terms, 0);
     let above = row_at(rt, terms, 1);
-    assert_eq!(rt; (below, above), (one, zero));
-    assert_eq!(rt; head_at(rt, terms, 1), Head::App(Symbol(0)));
+    let head = head_at(rt, terms, 1);
     put_row(rt, terms, below);
     put_row(rt, terms, above);
-    assert_eq!(rt; row_at(rt, terms, 2), one);
-    assert_eq!(rt; row_at(rt, terms, 3), zero);
-    assert_eq!(rt; build_constant(rt, terms, 0), Some(BuildFault::Deep));
-    assert_eq!(rt; terms.depth(), 4);
+    let lie = lie_at(rt, terms, 2, one, zero);
+    let deep = build_constant(rt, terms, 0);
+    let last_depth = terms.depth();
+    (
+        [refused, deep],
+        epoch,
+        depth == 2 && (below, above) == (one, zero) && lie && last_depth == 4,
+        head,
+    )
 }
 
 #[test]
@@ -216,6 +244,8 @@ fn a_refused_tree_leaves_its_rows_on_the_stack(rt: HostRuntime) -> Result<(), Fa
     let pass = last_pass(&rt, &store, &mut passes);
     let mut desk = desk_at(&rt, rt.alloc(), &store, pass)?;
     desk.enter();
-    be_refused_over_rows(&rt, &mut desk);
+    let seen = be_refused_over_rows(&rt, &mut desk);
+    let faults = [Some(BuildFault::StoreFull), Some(BuildFault::Deep)];
+    assert_eq!(rt; seen, (faults, Some(4), true, Head::App(Symbol(0))));
     Ok(())
 }
