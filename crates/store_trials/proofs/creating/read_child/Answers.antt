@@ -1,4 +1,4 @@
-use Rattle.std.proofs.Common.{◌≡◌, inl, ◌<◌, arith, subst, sym, refl}
+use Rattle.std.proofs.Common.{inl, ◌<◌, arith, subst, sym, refl}
 use Rattle.std.proofs.lemmas.Bool.Decides.{nat_tests}
 use Rattle.store_model.specs.ByView.{KnowsWord}
 use Rattle.node_rows.specs.declared.view.NodeView.{NodeView}
