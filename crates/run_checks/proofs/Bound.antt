@@ -1,18 +1,18 @@
 -- A variable that is bound to a term, or a term that is opened, by numbers.
-use Rattle.std.proofs.Common.{◌≡◌, ◌≢◌, ℕ, zero, suc, ◌<◌, Bool, true, false, ◌&&◌, List, [], ◌∷◌, ◌++◌, length, get_or, map, reverse, Option, Some, None, All, refl, sym, ap, subst, ◌∙◌, arith, eqb, eq-eqb, ne_eqb}
+use Rattle.std.proofs.Common.{◌≡◌, ℕ, ◌<◌, Bool, true, false, ◌&&◌, List, [], ◌∷◌, ◌++◌, length, get_or, map, reverse, Option, Some, None, All, refl, sym, ap, subst, ◌∙◌, arith, eq-eqb, ne_eqb}
 use Rattle.std.specs.Prelude.{IsTrue, ◌==◌}
 use Rattle.std.specs.Bool.{OnTrue}
 use Rattle.std.specs.Global.{Vec}
-use Rattle.std.proofs.lemmas.List.{map-append, length-map, reverse-append}
+use Rattle.std.proofs.lemmas.List.{map-append, reverse-append}
 use Rattle.std.proofs.lemmas.List.Elements.{All-head, All-tail, All-append, All-push}
 use Rattle.term_model.specs.declared.Symbol.{Symbol}
 use Rattle.term_model.specs.declared.Head.TheVariants.{App}
-use Rattle.term_model.specs.Tree.{Tree, Node, Trees, End, More, arguments, trees_of, count_of}
+use Rattle.term_model.specs.Tree.{Tree, arguments, trees_of, count_of}
 use Rattle.rewrite_model.specs.Matching.{bind}
 use Rattle.rule_match.specs.Stands.{stands}
 use Rattle.run_checks.specs.Held.{Held, IsThere, term_at, term_over}
 use Rattle.run_checks.specs.Matched.{Binds, IsMatched}
-use Rattle.run_checks.proofs.Matches.{bound_same, bound_other, not_yet, newly}
+use Rattle.run_checks.proofs.Matches.{bound_same, bound_other, newly}
 use Rattle.run_checks.proofs.Steps.{list_of-trees_of}
 
 pub bound_there : (h : Held) (variable number q : ℕ) (rows : List ℕ) (b : Bool) → All (IsThere h) rows → variable < length rows → q ≡ get_or rows variable q → (IsTrue b → term_at h q ≡ term_at h number) × (term_at h q ≡ term_at h number → IsTrue b) → Binds h rows (bind variable (term_at h number) (map (term_at h) rows)) b

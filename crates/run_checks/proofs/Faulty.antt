@@ -1,11 +1,9 @@
 -- Why a text spells no specification that may be checked.
-use Rattle.std.proofs.Common.{◌≡◌, ℕ, List, inl, inr, Some, None, Result, Ok, Err, refl}
-use Rattle.faults.specs.declared.refusal.Refusal.{Refusal}
+use Rattle.std.proofs.Common.{◌≡◌, ℕ, List, inl, inr, None, Ok}
 use Rattle.rec_reader.specs.declared.token.Token.{Token}
 use Rattle.read_faults.specs.declared.fail.ReadFail.{ReadFail}
 use Rattle.read_faults.specs.declared.fail.ReadFail.TheVariants.{Refused, Memory}
 use Rattle.rec_reader.specs.Parsed.{Parsed}
-use Rattle.rec_reader.specs.Scanned.{Scanned}
 use Rattle.rec_reader.specs.Tokens.{tokens_of, IsBadByte}
 use Rattle.rec_reader.specs.Grammar.{IsInput}
 use Rattle.rec_reader.specs.Refusal.{IsRefusal}

@@ -1,6 +1,6 @@
 -- A table of terms that grows, once and again.
-use Rattle.std.proofs.Common.{◌≡◌, ℕ, ◌≤◌, length, refl, ◌∙◌, arith}
-use Rattle.run_checks.specs.Held.{Held, Grows, IsThere}
+use Rattle.std.proofs.Common.{refl, ◌∙◌, arith}
+use Rattle.run_checks.specs.Held.{Held, Grows}
 
 pub grows_not : (h : Held) → Grows h h
 grows_not h = record { symbols = refl; count = omega arith; same = λ n lt. refl }

@@ -1,25 +1,25 @@
 -- The numbers on a stack are those of the instances of the patterns that the items so far spell.
-use Rattle.std.proofs.Common.{◌≡◌, ℕ, zero, suc, ◌+◌, ◌<◌, ◌≤◌, Bool, true, false, List, [], ◌∷◌, ◌++◌, length, take, drop, get_or, reverse, Option, Some, None, refl, sym, ap, subst, ◌∙◌, arith, All, append-nil}
-use Rattle.std.specs.Prelude.{map, nat_lt, slice_index_or}
+use Rattle.std.proofs.Common.{◌≡◌, ℕ, zero, suc, ◌+◌, ◌<◌, ◌≤◌, true, List, [], ◌∷◌, ◌++◌, length, take, drop, get_or, reverse, refl, sym, ap, subst, ◌∙◌, arith, All}
+use Rattle.std.specs.Prelude.{map, slice_index_or}
 use Rattle.std.specs.List.{list_all}
 use Rattle.std.proofs.lemmas.Bool.{ltb-true}
 use Rattle.std.proofs.lemmas.List.{length-append, length-map, map-append, reverse-append, reverse-reverse, take-append-drop, take_more}
 use Rattle.std.proofs.Math.Seq.{drop-cons}
-use Rattle.std.proofs.lemmas.List.Elements.{All-append, All-head, All-tail, All-push}
+use Rattle.std.proofs.lemmas.List.Elements.{All-head, All-tail, All-push}
 use Rattle.std.proofs.lemmas.Option.{same_Some}
 use Rattle.symbol_pool.specs.Pool.{Named}
 use Rattle.term_model.specs.declared.Head.{Head}
 use Rattle.term_model.specs.declared.Head.TheVariants as head
 use Rattle.term_model.specs.declared.Item.{Item}
-use Rattle.term_model.specs.declared.Item.TheVariants.{Var, App, Int, Nil, Cons}
+use Rattle.term_model.specs.declared.Item.TheVariants.{Var, App}
 use Rattle.term_model.specs.declared.Symbol.{Symbol}
-use Rattle.term_model.specs.Tree.{Tree, Leaf, Node, Trees, End, More, trees_of, IsWellFormed}
+use Rattle.term_model.specs.Tree.{Tree, Leaf, Node, More, trees_of, IsWellFormed}
 use Rattle.term_model.specs.Postorder.{postorder, push_items}
-use Rattle.rewrite_model.specs.Matching.{instance, instances, tree_at}
+use Rattle.rewrite_model.specs.Matching.{instance, instances}
 use Rattle.term_file.specs.Sharing.{Pushes, IsCutInto}
-use Rattle.term_file.proofs.Pushing.{Over, pushed_over, Between, between, one_more, PushesAll, term_pushed, same_reverse}
+use Rattle.term_file.proofs.Pushing.{pushed_over, Between, between, one_more, PushesAll, term_pushed, same_reverse}
 use Rattle.term_file.proofs.Shares.{passes}
-use Rattle.run_checks.specs.Held.{Held, Grows, IsPut, IsThere, term_at, term_over}
+use Rattle.run_checks.specs.Held.{Held, Grows, IsPut, IsThere, term_at}
 use Rattle.run_checks.specs.Instances.{may_be_put, MayBePut, Stands, ComesOn, Comes, PutsOver}
 use Rattle.run_checks.proofs.Growing.{grows_not, grows_twice}
 use Rattle.run_checks.proofs.Shelves.{map_same}

@@ -1,5 +1,5 @@
 -- The terms and the right sides of a specification may be put into a table of terms.
-use Rattle.std.proofs.Common.{◌≡◌, ℕ, ◌<◌, Bool, true, false, ◌&&◌, List, [], ◌∷◌, ◌++◌, length, All, refl, sym, ap, subst, ◌∙◌, arith, get_or}
+use Rattle.std.proofs.Common.{◌≡◌, ℕ, ◌<◌, Bool, true, List, [], ◌∷◌, length, refl, sym, ◌∙◌, get_or}
 use Rattle.std.specs.Prelude.{nat_lt}
 use Rattle.std.specs.List.{list_all}
 use Rattle.std.specs.Cmp.{first_so, second_so}
@@ -8,12 +8,12 @@ use Rattle.symbol_pool.specs.Pool.{Named}
 use Rattle.term_model.specs.declared.Head.{Head}
 use Rattle.term_model.specs.declared.Head.TheVariants as head
 use Rattle.term_model.specs.declared.Item.{Item}
-use Rattle.term_model.specs.Tree.{Tree, Leaf, Node, Trees, End, More, count_of, is_ground, all_ground, IsGround}
+use Rattle.term_model.specs.Tree.{Tree, Leaf, Node, Trees, End, More, count_of, is_ground, all_ground}
 use Rattle.term_model.specs.Postorder.{postorder, postorder_all, item_of}
 use Rattle.term_model.proofs.Order.{both}
-use Rattle.tree_text.specs.Text.{is_named, has_names, all_have_names, HasNames}
-use Rattle.rewrite_model.specs.Rule.{Rule, IsRule, is_below, all_below}
-use Rattle.rule_match.specs.Planned.{is_plain, IsPlain, HasSymbolsAlone, IsPlan, planned}
+use Rattle.tree_text.specs.Text.{is_named, has_names, all_have_names}
+use Rattle.rewrite_model.specs.Rule.{is_below, all_below}
+use Rattle.rule_match.specs.Planned.{is_plain}
 use Rattle.rec_check.specs.Spelled.{Specified}
 use Rattle.rec_check.specs.Run.{MayBeRun}
 use Rattle.rec_check.specs.Symbols.{widest_of}

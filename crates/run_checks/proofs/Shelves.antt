@@ -1,5 +1,5 @@
 -- A table's records by their numbers: what is before them, their trees, and that different ones have different trees.
-use Rattle.std.proofs.Common.{◌≡◌, ℕ, zero, suc, ◌+◌, ◌<◌, ◌≤◌, Bool, true, false, not, ◌&&◌, cond, List, [], ◌∷◌, ◌++◌, length, get_or, slice_get, Option, Some, None, refl, sym, ap, subst, ◌∙◌, arith, All, true≢false}
+use Rattle.std.proofs.Common.{◌≡◌, ℕ, zero, suc, ◌<◌, ◌≤◌, Bool, true, false, not, ◌&&◌, cond, List, [], ◌∷◌, ◌++◌, length, get_or, slice_get, Some, refl, sym, ap, subst, ◌∙◌, arith, All, true≢false}
 use Rattle.std.specs.Prelude.{map, nat_lt, unwrap_or}
 use Rattle.std.specs.List.{list_any, list_all, AllByRecursion}
 use Rattle.std.specs.Cmp.{first_so, second_so}
@@ -10,10 +10,9 @@ use Rattle.std.proofs.lemmas.Option.{slice_get_within}
 use Rattle.symbol_pool.specs.Pool.{Named}
 use Rattle.symbol_pool.proofs.Places.{slice_get-append}
 use Rattle.symbol_pool.proofs.Pools.{stands}
-use Rattle.term_model.specs.declared.Head.{Head}
-use Rattle.term_model.specs.declared.Head.TheVariants.{App, Int, Nil, Cons}
+use Rattle.term_model.specs.declared.Head.TheVariants.{App}
 use Rattle.term_model.specs.declared.Symbol.{Symbol}
-use Rattle.term_model.specs.Tree.{Tree, Leaf, Node, Trees, trees_of}
+use Rattle.term_model.specs.Tree.{Tree, Leaf, Node, trees_of}
 use Rattle.term_file.specs.declared.record.Kind.{Kind}
 use Rattle.term_file.specs.declared.record.Kind.TheVariants.{Call, Integer, Empty, Cell}
 use Rattle.term_file.specs.Outcome.{head_of}
@@ -23,7 +22,7 @@ use Rattle.term_file.specs.Tables.{has_lesser}
 use Rattle.term_file.specs.Sharing.{IsPlaced}
 use Rattle.term_file.proofs.Facts.{split, passes_at, list_any_at, record_eq_refl}
 use Rattle.term_file.proofs.Equations.{tree_of_record}
-use Rattle.term_file.proofs.Tables.{length-table_of, table_of-push, slice_get-behind}
+use Rattle.term_file.proofs.Tables.{length-table_of, table_of-push}
 use Rattle.term_file.proofs.TableLaws.{all_after-push}
 use Rattle.run_checks.specs.Held.{Held, Grows, IsPut, IsThere, term_at, term_over}
 use Rattle.run_checks.specs.Shelved.{is_symbol_of, is_shelved, AreShelved}

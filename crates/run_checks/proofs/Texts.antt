@@ -1,18 +1,17 @@
 -- Pieces on a stack spell the text of a term.
-use Rattle.std.proofs.Common.{◌≡◌, ℕ, zero, suc, ◌+◌, ◌<◌, Bool, true, false, true≢false, eqb, eqb-true, eq-eqb, List, [], ◌∷◌, ◌++◌, length, take, drop, get_or, reverse, Option, Some, None, All, refl, sym, ap, subst, ◌∙◌, arith, append_assoc, append-nil, Bor}
-use Rattle.std.specs.Prelude.{map, sum_by, unwrap_or, nat_eq, IsTrue, MatchOption}
+use Rattle.std.proofs.Common.{◌≡◌, ℕ, zero, suc, ◌+◌, ◌<◌, Bool, true, false, true≢false, eqb, eqb-true, eq-eqb, List, [], ◌∷◌, ◌++◌, length, take, get_or, reverse, Option, Some, None, All, refl, sym, ap, subst, ◌∙◌, arith, append_assoc, append-nil, Bor}
+use Rattle.std.specs.Prelude.{map, unwrap_or, nat_eq, IsTrue, MatchOption}
 use Rattle.std.specs.Cmp.Lexicographic.{pointwise, bytes_decides}
 use Rattle.std.specs.Option.{option_map}
 use Rattle.std.specs.List.{flat_map}
 use Rattle.std.proofs.lemmas.Grind.{flat_map-append}
-use Rattle.std.proofs.lemmas.List.{reverse-append, length-append, drop_more}
+use Rattle.std.proofs.lemmas.List.{reverse-append}
 use Rattle.std.proofs.lemmas.List.Elements.{All-append, All-head, All-tail}
 use Rattle.std.proofs.lemmas.List.Sums.{sum_by-cons, sum_by-append}
-use Rattle.symbol_pool.specs.Pool.{Named, name_at}
+use Rattle.symbol_pool.specs.Pool.{name_at}
 use Rattle.term_model.specs.declared.Symbol.{Symbol}
-use Rattle.term_model.specs.declared.Head.TheVariants.{App}
-use Rattle.term_model.specs.Tree.{Tree, Leaf, Node, Trees, End, More, trees_of}
-use Rattle.tree_text.specs.Text.{text_by, in_parentheses, after_commas}
+use Rattle.term_model.specs.Tree.{trees_of}
+use Rattle.tree_text.specs.Text.{in_parentheses, after_commas}
 use Rattle.term_text.specs.Text.{plain_name, text}
 use Rattle.run_checks.specs.declared.text.Piece.{Piece}
 use Rattle.run_checks.specs.declared.text.Piece.TheVariants.{Term, Byte}

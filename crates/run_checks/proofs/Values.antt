@@ -1,8 +1,7 @@
 -- The lines that are values, and their traces, one after another.
-use Rattle.std.proofs.Common.{◌≡◌, ℕ, zero, suc, ◌+◌, ◌<◌, ◌≤◌, Bool, true, false, cond, eqb, List, [], ◌∷◌, ◌++◌, length, take, drop, get_or, Option, Some, None, Bor, refl, sym, ap, ◌∙◌, arith}
-use Rattle.std.specs.Prelude.{map, is_some, nat_lt, slice_index_or}
+use Rattle.std.proofs.Common.{◌≡◌, ℕ, zero, suc, ◌+◌, ◌<◌, ◌≤◌, Bool, true, false, cond, eqb, List, [], ◌∷◌, ◌++◌, length, take, drop, get_or, Some, None, Bor, refl, sym, ap, ◌∙◌, arith}
+use Rattle.std.specs.Prelude.{map, is_some, nat_lt}
 use Rattle.std.proofs.lemmas.List.{drop_more, drop_all, length-append}
-use Rattle.std.proofs.lemmas.Bool.{cases_lt}
 use Rattle.log_check.specs.Words.{lines, before_first}
 use Rattle.run_checks.specs.Form.{trace_in, is_no_value, values_from, is_end, wrong_from, wrong_after, wrong_line}
 use Rattle.run_checks.specs.Refusing.{IsCut}

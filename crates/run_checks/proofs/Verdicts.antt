@@ -1,11 +1,10 @@
 -- What a replay and a text tell of a trace, and what the parts of an input tell of its verdict.
-use Rattle.std.proofs.Common.{◌≡◌, ℕ, zero, suc, ◌+◌, ◌<◌, ◌≤◌, Bool, true, false, List, [], ◌∷◌, length, map, Option, Some, None, Result, Ok, Err, inl, inr, Bor, refl, sym, ap, subst, ◌∙◌, arith}
-use Rattle.std.specs.Prelude.{IfOk, IsTrue, option_and_then}
+use Rattle.std.proofs.Common.{◌≡◌, ℕ, ◌≤◌, Bool, false, List, [], length, Option, Some, None, Result, Ok, Err, inl, inr, Bor, refl, sym, ap, subst, ◌∙◌, arith}
+use Rattle.std.specs.Prelude.{IfOk, IfErr, IsTrue, option_and_then}
 use Rattle.std.specs.Option.{option_map, option_map_or}
 use Rattle.std.specs.Str.{bytes_eq}
 use Rattle.std.proofs.lemmas.Bool.Decides.{same_from_decides}
 use Rattle.std.proofs.lemmas.Slice.Eq.{bytes_eq-Decides}
-use Rattle.faults.specs.declared.refusal.Refusal.{Refusal}
 use Rattle.read_faults.specs.declared.fail.ReadFail.{ReadFail}
 use Rattle.read_faults.specs.declared.fail.ReadFail.TheVariants.{Refused, Memory}
 use Rattle.symbol_pool.specs.Pool.{Named}
@@ -18,12 +17,14 @@ use Rattle.rec_check.specs.Spelled.{Specified}
 use Rattle.term_text.specs.Text.{text}
 use Rattle.log_check.specs.Words.{lines}
 use Rattle.run_checks.specs.Form.{values_from, wrong_after, wrong_line}
-use Rattle.run_checks.specs.Held.{Held, Grows, IsPut, IsReplayed, term_at}
+use Rattle.run_checks.specs.Held.{Held, IsPut, IsReplayed, term_at}
 use Rattle.run_checks.specs.Parts.{parts}
 use Rattle.run_checks.specs.Refusing.{IsCut, IsCutOff, IsWrongAt}
 use Rattle.run_checks.specs.Specification.{Spells, IsFaulty}
 use Rattle.run_checks.specs.Verdict.{leads_to, first_underived, told, verdict, term_lines, trace_lines, HasParts, IsChecked, IsRefused}
 use Rattle.run_checks.specs.declared.checking.TraceVerdict.{TraceVerdict}
+use Rattle.run_checks.specs.Reached.{IsSound}
+use Rattle.run_checks.proofs.Soundness.{is_sound}
 use Rattle.run_checks.proofs.Values.{seen_lines, count_taken, cut_take, cut_drop, wrong_after_cut, wrong_cut_off}
 
 -- ---- a pattern to which nothing is bound is its own instance
@@ -107,47 +108,66 @@ module _ (bytes spec_text output : List ℕ) (are : parts bytes ≡ Some (spec_t
   bad_specification (Refused kind offset) f = inr (inl (record { spec_text = spec_text; output = output; parts_are = are; fault_is = f }))
   bad_specification Memory f = tt
 
-  module _ (spec : Specified) (spells : Spells spec_text spec) (count : ℕ) (wanted : count ≡ length spec.terms) where
+  module _ (spec : Specified) (spells : Spells spec_text spec) where
     has_parts : HasParts bytes spec (lines output)
     has_parts = record { spec_text = spec_text; output = output; parts_are = are; spelled = spells; lines_are = refl }
 
-    pub too_short : (e : ReadFail) → IsCutOff count (lines output) e → IsRefused bytes e
-    too_short (Refused kind line) f =
-        let less : length (lines output) < length spec.terms = omega (arith, f.1, wanted) in
-        inr (inr (record { spec = spec; all_lines = lines output; in_parts = has_parts; kind = f.0; line = wrong_cut_off (length spec.terms) (lines output) less ∙ ap Some (sym f.2) }))
-    too_short Memory f = tt
+    wrong_form : (e : ReadFail) → IsWrongAt (wrong_line (length spec.terms) (lines output)) e → IsRefused bytes e
+    wrong_form (Refused kind line) f =
+        inr (inr (record { spec = spec; all_lines = lines output; in_parts = has_parts; kind = f.0; line = f.1 }))
+    wrong_form Memory f = tt
 
-    module _ (taken items : List (Bor (List ℕ))) (rest : List (List ℕ)) (same : items ≡ taken) (cut : IsCut count (lines output) (seen_lines taken) rest) where
-      pub few_taken : length spec.terms ≤ 65535 → length items ≤ 65535
-      few_taken few =
-          let n = count_taken taken in
-          let m = ap (λ (xs : List (Bor (List ℕ))). length xs) same in
-          omega (arith, n, m, few, cut.size, wanted)
+    abbrev IsFormed : Type 0
+    IsFormed = wrong_line (length spec.terms) (lines output) ≡ None
 
-      cut_there : IsCut (length spec.terms) (lines output) (seen_lines taken) rest
-      cut_there = subst (λ (m : ℕ). IsCut m (lines output) (seen_lines taken) rest) wanted cut
+    abbrev IsTold : TraceVerdict → Type 0
+    IsTold v = v ≡ verdict spec (term_lines spec (lines output)) (trace_lines spec (lines output))
 
-      wrong_there : wrong_line (length spec.terms) (lines output) ≡ wrong_after (seen_lines items) rest
-      wrong_there = wrong_after_cut (length spec.terms) (lines output) (seen_lines taken) rest cut_there ∙ ap (λ (xs : List (Bor (List ℕ))). wrong_after (seen_lines xs) rest) (sym same)
+    is_checked : (v : TraceVerdict) → IsFormed → IsTold v → IsChecked bytes v
+    is_checked v formed e = record {
+      spec = spec;
+      all_lines = lines output;
+      in_parts = has_parts;
+      formed = formed;
+      verdict_is = e;
+    }
 
-      pub wrong_form : (e : ReadFail) → IsWrongAt (wrong_after (seen_lines items) rest) e → IsRefused bytes e
-      wrong_form (Refused kind line) f =
-          inr (inr (record { spec = spec; all_lines = lines output; in_parts = has_parts; kind = f.0; line = wrong_there ∙ f.1 }))
-      wrong_form Memory f = tt
+    pub checked_if : (r : Result TraceVerdict ReadFail) → IfOk r (λ v. IsFormed) → IfOk r IsTold → IfOk r (IsChecked bytes)
+    checked_if (Ok v) formed told = is_checked v formed told
+    checked_if (Err e) formed told = tt
 
-      verdict_there : (found : Option ℕ) (values : ℕ) → values ≡ length (values_from 0 (seen_lines items)) → found ≡ first_underived spec (seen_lines taken) (values_from 0 (seen_lines taken)) rest → told found values ≡ verdict spec (term_lines spec (lines output)) (trace_lines spec (lines output))
-      verdict_there found values n f =
-          let m : values ≡ length (values_from 0 (seen_lines taken)) = n ∙ ap (λ (xs : List (Bor (List ℕ))). length (values_from 0 (seen_lines xs))) same in
-          let here : told found values ≡ verdict spec (seen_lines taken) rest = (λ i. told (f i) (m i)) in
-          let there : verdict spec (seen_lines taken) rest ≡ verdict spec (term_lines spec (lines output)) (trace_lines spec (lines output)) =
-          (λ i. verdict spec (sym (cut_take (length spec.terms) (lines output) (seen_lines taken) rest cut_there) i) (sym (cut_drop (length spec.terms) (lines output) (seen_lines taken) rest cut_there) i)) in
-          here ∙ there
+    pub sound_if : (r : Result TraceVerdict ReadFail) → IfOk r (λ v. IsFormed) → IfOk r IsTold → IfOk r (IsSound bytes)
+    sound_if (Ok v) formed told = is_sound bytes v (is_checked v formed told)
+    sound_if (Err e) formed told = tt
 
-      pub is_checked : (v : TraceVerdict) (found : Option ℕ) (values : ℕ) → wrong_after (seen_lines items) rest ≡ None → values ≡ length (values_from 0 (seen_lines items)) → found ≡ first_underived spec (seen_lines taken) (values_from 0 (seen_lines taken)) rest → v ≡ told found values → IsChecked bytes v
-      is_checked v found values formed n f e = record {
-        spec = spec;
-        all_lines = lines output;
-        in_parts = has_parts;
-        formed = wrong_there ∙ formed;
-        verdict_is = e ∙ verdict_there found values n f;
-      }
+    pub refused_if : (r : Result TraceVerdict ReadFail) → IfErr r (IsWrongAt (wrong_line (length spec.terms) (lines output))) → IfErr r (IsRefused bytes)
+    refused_if (Ok v) w = tt
+    refused_if (Err e) w = wrong_form e w
+
+-- ---- an output that is cut
+
+pub cut_off : (count : ℕ) (ls : List (List ℕ)) (e : ReadFail) → IsCutOff count ls e → IsWrongAt (wrong_line count ls) e
+cut_off count ls (Refused kind line) f = (f.0, wrong_cut_off count ls f.1 ∙ ap Some (sym f.2))
+cut_off count ls Memory f = tt
+
+module _ (count : ℕ) (ls : List (List ℕ)) (taken items : List (Bor (List ℕ))) (rest : List (List ℕ)) (same : items ≡ taken) (cut : IsCut count ls (seen_lines taken) rest) where
+  pub few_taken : count ≤ 65535 → length items ≤ 65535
+  few_taken few =
+      let n = count_taken taken in
+      let m = ap (λ (xs : List (Bor (List ℕ))). length xs) same in
+      omega (arith, n, m, few, cut.size)
+
+  pub wrong_there : wrong_line count ls ≡ wrong_after (seen_lines items) rest
+  wrong_there = wrong_after_cut count ls (seen_lines taken) rest cut ∙ ap (λ (xs : List (Bor (List ℕ))). wrong_after (seen_lines xs) rest) (sym same)
+
+  pub counted : (n : ℕ) → n ≡ length (values_from 0 (seen_lines items)) → n ≡ length (values_from 0 (seen_lines taken))
+  counted n e = e ∙ ap (λ (xs : List (Bor (List ℕ))). length (values_from 0 (seen_lines xs))) same
+
+pub terms_cut : (count : ℕ) (ls first rest : List (List ℕ)) (spec : Specified) → count ≡ length spec.terms → IsCut count ls first rest → IsCut (length spec.terms) ls first rest
+terms_cut count ls first rest spec e cut = subst (λ (n : ℕ). IsCut n ls first rest) e cut
+
+pub verdict_there : (spec : Specified) (ls first rest : List (List ℕ)) (found : Option ℕ) (values : ℕ) → IsCut (length spec.terms) ls first rest
+    → values ≡ length (values_from 0 first) → found ≡ first_underived spec first (values_from 0 first) rest → told found values ≡ verdict spec (term_lines spec ls) (trace_lines spec ls)
+verdict_there spec ls first rest found values cut n f =
+    (λ i. told (f i) (n i))
+    ∙ (λ i. verdict spec (sym (cut_take (length spec.terms) ls first rest cut) i) (sym (cut_drop (length spec.terms) ls first rest cut) i))

@@ -1,6 +1,6 @@
 -- Putting the instance of a pattern item by item: on a stack stand the numbers of the instances of the patterns that
 -- the items so far spell.
-use Rattle.std.specs.Prelude.{◌≡◌, ℕ, ◌<◌, List, [], ◌∷◌, ◌++◌, length, map, All, Bool, true, false, nat_lt}
+use Rattle.std.specs.Prelude.{◌≡◌, ℕ, List, [], ◌∷◌, ◌++◌, length, map, All, Bool, true, false, nat_lt}
 use Rattle.std.specs.List.{list_all}
 use Rattle.symbol_pool.specs.Pool.{Named}
 use Rattle.term_model.specs.declared.Item.{Item}

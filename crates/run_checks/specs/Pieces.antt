@@ -1,5 +1,5 @@
 -- What is still to be read of a line, as pieces on a stack, the next one last.
-use Rattle.std.specs.Prelude.{◌≡◌, ℕ, ◌+◌, ◌<◌, List, [], ◌∷◌, ◌++◌, length, reverse, sum_by, Option, Some, None, All}
+use Rattle.std.specs.Prelude.{◌≡◌, ℕ, ◌+◌, ◌<◌, List, [], ◌∷◌, ◌++◌, reverse, sum_by, Option, Some, None, All}
 use Rattle.std.specs.List.{flat_map}
 use Rattle.term_model.specs.Tree.{Tree, Leaf, Node, Trees, End, More}
 use Rattle.term_text.specs.Text.{text}

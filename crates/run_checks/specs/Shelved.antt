@@ -1,5 +1,5 @@
 -- A table of terms: its records are different symbols over records before them.
-use Rattle.std.specs.Prelude.{◌≡◌, ℕ, ◌≤◌, List, [], length, Bool, true, false, ◌&&◌, nat_lt}
+use Rattle.std.specs.Prelude.{◌≡◌, ◌≤◌, List, [], length, Bool, true, false, ◌&&◌, nat_lt}
 use Rattle.symbol_pool.specs.Pool.{Named}
 use Rattle.term_model.specs.declared.Head.{Head}
 use Rattle.term_model.specs.declared.Head.TheVariants.{App, Int, Nil, Cons}

@@ -1,22 +1,22 @@
 //! Checks an output with its traces.
 
-ghost use Rattle.std.specs.Prelude.{◌≡◌, ◌<◌, ◌≤◌, length, IfOk, IfErr};
+ghost use Rattle.std.specs.Prelude.{◌≡◌, ◌<◌, ◌≤◌, length, None, All, IfOk, IfErr};
 ghost use Rattle.std.specs.Bool.{OnTrue};
 ghost use Rattle.rec_check.specs.Run.{MayBeRun};
 ghost use Rattle.rec_check.specs.Spec.{specified};
 ghost use Rattle.rec_check.specs.Symbols.{widest_of};
-ghost use Rattle.run_checks.specs.Form.{trace_in, values_from};
+ghost use Rattle.run_checks.specs.Form.{trace_in, values_from, wrong_line};
 ghost use Rattle.run_checks.specs.Instances.{MayBePut};
 ghost use Rattle.run_checks.specs.Rules.{ArePut};
-ghost use Rattle.run_checks.specs.Refusing.{seen};
+ghost use Rattle.run_checks.specs.Refusing.{IsWrongAt, seen};
 ghost use Rattle.run_checks.specs.Named.{IsNamed};
 ghost use Rattle.run_checks.specs.Reached.{IsSound};
-ghost use Rattle.run_checks.specs.Verdict.{IsChecked, IsRefused, first_underived, leads_to};
+ghost use Rattle.run_checks.specs.Verdict.{IsChecked, IsRefused, first_underived, leads_to, term_lines, told, trace_lines, verdict};
 ghost use Rattle.log_check.specs.Words.{lines};
 
 use crate::building::put_instance;
 use crate::form::{events_of, is_no_value};
-use crate::lines::{Output, bad_line, count_traces, take_lines};
+use crate::lines::{Output, bad_line, formed};
 use crate::parts::{parts, specification};
 use crate::replaying::replay;
 use crate::table::TermTable;
@@ -27,6 +27,7 @@ use read_faults::ReadFail;
 use rec_check::Spec;
 use rule_match::Plan;
 use std::alloc::Global;
+use symbol_pool::Symbols;
 use term_model::Flat;
 
 /// What the check of a well-formed output comes to.
@@ -58,11 +59,36 @@ pub fn check_trace(alloc: Global, bytes: &[u8]) -> Result<TraceVerdict, ReadFail
         return Err(bad_line(0));
     };
     let spec = specification(alloc, text)?;
-    let output = take_lines(alloc, spec.terms.len(), output)?;
-    let values = count_traces(&output.lines, output.traces)?;
-    match first_underived(alloc, spec, &output)? {
-        Some(number) => Ok(TraceVerdict::Underived(number)),
-        None => Ok(TraceVerdict::Derived(values)),
+    verdict(alloc, spec, output)
+}
+
+/// The verdict on an output of a specification.
+fn verdict(alloc: Global, spec: Spec, output: &[u8]) -> Result<TraceVerdict, ReadFail>
+    requires may_be_run { MayBeRun (specified spec) }
+    requires named { IsNamed (specified spec) }
+    requires widest { spec.widest ≡ widest_of spec.symbols }
+    requires few { length spec.terms.items ≤ 65535 }
+    ensures formed { IfOk result
+        (λ v. wrong_line (length spec.terms.items) (lines output.now) ≡ None) }
+    ensures verdict { IfOk result (λ v. v ≡ verdict (specified spec)
+        (term_lines (specified spec) (lines output.now))
+        (trace_lines (specified spec) (lines output.now))) }
+    ensures wrong { IfErr result
+        (IsWrongAt (wrong_line (length spec.terms.items) (lines output.now))) }
+{
+    let (output, values) = formed(alloc, spec.terms.len(), output)?;
+    let found = first_underived(alloc, spec, &output)?;
+    Ok(told(found, values))
+}
+
+/// The verdict where this is the first term whose trace doesn't derive its line, if there is one,
+/// and so many lines are values.
+fn told(found: Option<u64>, values: u64) -> TraceVerdict
+    ensures { result ≡ told found values }
+{
+    match found {
+        Some(number) => TraceVerdict::Underived(number),
+        None => TraceVerdict::Derived(values),
     }
 }
 
@@ -84,7 +110,45 @@ fn first_underived(alloc: Global, spec: Spec, output: &Output<'_>) -> Result<Opt
         widest,
     } = spec;
     let plan = Plan::of(alloc, rules, widest)?;
+    first_by_plan(alloc, &plan, symbols, &terms, output)
+}
+
+/// The same of terms over these symbols, by the rules of a plan.
+fn first_by_plan(
+    alloc: Global,
+    plan: &Plan,
+    symbols: Symbols,
+    terms: &[Flat],
+    output: &Output<'_>,
+) -> Result<Option<u64>, Memory>
+    requires rules { ArePut symbols plan.now.rules }
+    requires terms { All (MayBePut symbols 0) terms.now }
+    requires few { length terms.now ≤ 65535 }
+    requires lines { length output.now.lines.items ≡ length terms.now }
+    ensures { IfOk result (λ found. found ≡ first_underived
+        (record { symbols = symbols; rules = plan.now.rules; terms = terms.now })
+        (seen output.now) (values_from 0 (seen output.now)) (lines output.now.traces.now)) }
+{
     let mut table = TermTable::new(alloc, symbols);
+    first_of_terms(alloc, &mut table, plan, terms, output)
+}
+
+/// The same over the symbols of a table, into which the terms are put.
+fn first_of_terms(
+    alloc: Global,
+    table: &mut TermTable,
+    plan: &Plan,
+    terms: &[Flat],
+    output: &Output<'_>,
+) -> Result<Option<u64>, Memory>
+    requires rules { ArePut table.old.symbols plan.now.rules }
+    requires terms { All (MayBePut table.old.symbols 0) terms.now }
+    requires few { length terms.now ≤ 65535 }
+    requires lines { length output.now.lines.items ≡ length terms.now }
+    ensures { IfOk result (λ found. found ≡ first_underived
+        (record { symbols = table.old.symbols; rules = plan.now.rules; terms = terms.now })
+        (seen output.now) (values_from 0 (seen output.now)) (lines output.now.traces.now)) }
+{
     let mut rest = output.traces;
     for (number, line) in output.lines.iter().enumerate() {
         if is_no_value(line) {
@@ -95,8 +159,8 @@ fn first_underived(alloc: Global, spec: Spec, output: &Output<'_>) -> Result<Opt
         };
         if !derives(
             alloc,
-            &mut table,
-            &plan,
+            table,
+            plan,
             &terms[number],
             number as u32,
             trace,

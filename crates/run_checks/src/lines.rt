@@ -1,8 +1,8 @@
 //! The lines of an output, and the traces after them.
 
 ghost use Rattle.std.specs.Prelude.{◌≡◌, ℕ, ◌+◌, ◌<◌, ◌≤◌, ◌^◌, List, [], ◌∷◌, length, map, None, IfOk, IfErr, OnOk};
-ghost use Rattle.run_checks.specs.Form.{values_from, wrong_from, wrong_after};
-ghost use Rattle.run_checks.specs.Refusing.{IsCutOff, IsWrongAt, IsCut};
+ghost use Rattle.run_checks.specs.Form.{values_from, wrong_from, wrong_after, wrong_line};
+ghost use Rattle.run_checks.specs.Refusing.{IsCutOff, IsWrongAt, IsCut, seen};
 ghost use Rattle.log_check.specs.Words.{lines};
 ghost use Rattle.read_faults.specs.declared.fail.ReadFail.TheVariants.{Refused};
 
@@ -29,12 +29,27 @@ pub(crate) struct Output<'a> {
     pub(crate) traces: &'a [u8],
 }
 
-/// The first `count` lines of an output, and what comes after them.
-pub(crate) fn take_lines<'a>(
+/// The lines of so many terms and what comes after them, where the whole output has its form, and
+/// how many of these lines are values.
+pub(crate) fn formed<'a>(
     alloc: Global,
     count: usize,
     output: &'a [u8],
-) -> Result<Output<'a>, ReadFail>
+) -> Result<(Output<'a>, u64), ReadFail>
+    requires { count ≤ 65535 }
+    ensures cut { IfOk result
+        (λ x. IsCut count (lines output.now) (seen x.0) (lines x.0.traces.now)) }
+    ensures formed { IfOk result (λ x. wrong_line count (lines output.now) ≡ None) }
+    ensures count { IfOk result (λ x. x.1 ≡ length (values_from 0 (seen x.0))) }
+    ensures wrong { IfErr result (IsWrongAt (wrong_line count (lines output.now))) }
+{
+    let cut = take_lines(alloc, count, output)?;
+    let values = count_traces(&cut.lines, cut.traces)?;
+    Ok((cut, values))
+}
+
+/// The first `count` lines of an output, and what comes after them.
+fn take_lines<'a>(alloc: Global, count: usize, output: &'a [u8]) -> Result<Output<'a>, ReadFail>
     requires { count ≤ 65535 }
     ensures taken { IfOk result (λ o. IsCut count (lines output.now)
         (map (λ l. l.now) o.lines.items) (lines o.traces.now)) }
@@ -57,7 +72,7 @@ pub(crate) fn take_lines<'a>(
 
 /// How many of the lines are values, where each of these has its trace, and nothing but the end
 /// comes after the traces.
-pub(crate) fn count_traces(taken: &[&[u8]], traces: &[u8]) -> Result<u64, ReadFail>
+fn count_traces(taken: &[&[u8]], traces: &[u8]) -> Result<u64, ReadFail>
     requires { length taken.now ≤ 65535 }
     ensures formed { IfOk result
         (λ n. wrong_after (map (λ l. l.now) taken.now) (lines traces.now) ≡ None) }

@@ -1,19 +1,20 @@
 //! The parts of an input: a specification, and an output.
 
-ghost use Rattle.std.specs.Prelude.{◌≡◌, ℕ, IfOk, IfErr};
+ghost use Rattle.std.specs.Prelude.{◌≡◌, ℕ, Ok, IfOk, IfErr};
 ghost use Rattle.std.specs.Option.{option_map};
 ghost use Rattle.log_check.specs.Words.{capped};
 ghost use Rattle.rec_check.specs.Run.{MayBeRun};
 ghost use Rattle.rec_check.specs.Spec.{specified};
 ghost use Rattle.rec_check.specs.Symbols.{widest_of};
+ghost use Rattle.rec_reader.specs.Tokens.{tokens_of};
 ghost use Rattle.run_checks.specs.Named.{IsNamed};
 ghost use Rattle.run_checks.specs.Parts.{announced, at_line_feed, cut_at, parts};
-ghost use Rattle.run_checks.specs.Specification.{Spells, IsFaulty};
+ghost use Rattle.run_checks.specs.Specification.{IsRead, Spells, IsFaulty};
 
 use log_check::lines::split_line;
 use log_check::words::capped_number_of;
 use rec_check::{Spec, check, unconditional};
-use rec_reader::{ReadFail, syntax, tokens};
+use rec_reader::{ReadFail, Syntax, Tokens, syntax, tokens};
 use std::alloc::Global;
 
 /// What stands before and after the first line feed.
@@ -72,8 +73,32 @@ pub(crate) fn specification(alloc: Global, text: &[u8]) -> Result<Spec, ReadFail
     ensures failed { IfErr result (IsFaulty text.now) }
 {
     let tokens = tokens(alloc, text)?;
-    let syntax = syntax(alloc, &tokens)?;
-    let spec = check(alloc, &syntax)?;
-    unconditional(alloc, &syntax)?;
+    of_tokens(alloc, &tokens)
+}
+
+/// The specification that tokens spell, without conditions.
+fn of_tokens(alloc: Global, tokens: &Tokens<'_>) -> Result<Spec, ReadFail>
+    requires { tokens_of tokens.now.bytes ≡ Ok tokens.now.tokens }
+    ensures made { IfOk result (λ spec. Spells tokens.now.bytes (specified spec)) }
+    ensures may_be_run { IfOk result (λ spec. MayBeRun (specified spec)) }
+    ensures named { IfOk result (λ spec. IsNamed (specified spec)) }
+    ensures widest { IfOk result (λ spec. spec.widest ≡ widest_of spec.symbols) }
+    ensures failed { IfErr result (IsFaulty tokens.now.bytes) }
+{
+    let syntax = syntax(alloc, tokens)?;
+    of_syntax(alloc, &syntax)
+}
+
+/// The specification that a syntax spells, without conditions.
+fn of_syntax(alloc: Global, syntax: &Syntax<'_>) -> Result<Spec, ReadFail>
+    requires { IsRead syntax.now.bytes syntax.now }
+    ensures made { IfOk result (λ spec. Spells syntax.now.bytes (specified spec)) }
+    ensures may_be_run { IfOk result (λ spec. MayBeRun (specified spec)) }
+    ensures named { IfOk result (λ spec. IsNamed (specified spec)) }
+    ensures widest { IfOk result (λ spec. spec.widest ≡ widest_of spec.symbols) }
+    ensures failed { IfErr result (IsFaulty syntax.now.bytes) }
+{
+    let spec = check(alloc, syntax)?;
+    unconditional(alloc, syntax)?;
     Ok(spec)
 }

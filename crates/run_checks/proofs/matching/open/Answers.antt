@@ -1,6 +1,5 @@
-use Rattle.std.proofs.Common.{arith, sym, ◌∙◌}
-use Rattle.std.proofs.lemmas.Bool.{OnTrue_from}
-use Rattle.run_checks.proofs.Bound.{opened, other_symbol, other_count, opened_onto, all_opened}
+use Rattle.std.proofs.Common.{arith, sym}
+use Rattle.run_checks.proofs.Bound.{opened, other_count, opened_onto, all_opened}
 use Rattle.run_checks.proofs.matching.open.Goals as goal
 
 pub returns-clause-opened : goal.returns-clause-opened

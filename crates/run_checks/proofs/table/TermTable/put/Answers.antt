@@ -1,8 +1,5 @@
-use Rattle.std.proofs.Common.{◌≡◌, ◌∙◌, ℕ, List, ◌<◌, length, All, sym, ap, subst, arith}
-use Rattle.std.proofs.lemmas.Bool.{lt-ltb}
-use Rattle.term_file.specs.Contents.{Record, trees}
-use Rattle.term_file.specs.declared.record.Kind.TheVariants.{Call}
-use Rattle.run_checks.specs.Held.{Held, IsPut, IsThere, term_over}
+use Rattle.std.proofs.Common.{List, sym, subst}
+use Rattle.term_file.specs.Contents.{Record}
 use Rattle.run_checks.specs.Shelved.{AreShelved}
 use Rattle.run_checks.proofs.Shelves.{all_there_shown, kept_shelved, put_shown}
 use Rattle.run_checks.proofs.table.TermTable.put.Goals.{in-Ok, in-Err-StoreFull, in-Err-Memory}
