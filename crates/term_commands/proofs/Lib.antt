@@ -1,4 +1,5 @@
 pub mod AtOnce
+pub mod Ends
 pub mod Exact
 pub mod Filling
 pub mod Fitting

@@ -12,7 +12,7 @@ use term_model::{Flat, Head, Item};
 use terms_api::{BuildFault, Terms};
 
 /// The trees have more different subtrees than the store has rows.
-#[derive(Clone, Copy, Debug, PartialEq, Eq)]
+#[derive(Clone, Copy)]
 pub(crate) struct Full;
 
 /// Builds the tree of a head over the last `n` trees. There is a place for it.

@@ -1,10 +1,11 @@
 //! The command `terms`: term text to the canonical line of each term, and how large they are
 //! together.
-ghost use Rattle.std.specs.Prelude.{◌≡◌, ◌++◌, All, IfOk, IfErr, OnOk};
+ghost use Rattle.std.specs.Prelude.{◌≡◌, ◌≤◌, ◌++◌, [], All, IfOk, IfErr, OnOk};
 ghost use Rattle.term_model.specs.Tree.{IsGround};
 ghost use Rattle.tree_text.specs.Canonical.{canonical_lines};
 ghost use Rattle.tree_text.specs.Text.{HasNames};
-ghost use Rattle.term_commands.specs.Listing.{IsListed, IsUntold, counts_line};
+ghost use Rattle.term_commands.specs.Different.{different};
+ghost use Rattle.term_commands.specs.Listing.{IsListed, IsUncounted, IsUntold, counts_line, sizes_line};
 
 use crate::fault::TermsFault;
 use crate::measuring::sizes_together;
@@ -45,6 +46,37 @@ pub(crate) fn write_sizes(sizes: TermSizes, out: &mut Vec<u8>) -> Result<(), Mem
     Ok(())
 }
 
+/// What is told of terms over these symbols.
+fn told(alloc: Global, terms: &[Flat], symbols: &Symbols, rows: u32) -> Result<Vec<u8>, TermsFault>
+    requires ground { All IsGround terms.now }
+    requires held { All (HasNames symbols.now) terms.now }
+    ensures told { IfOk result
+        (λ text. text.items ≡ canonical_lines symbols.now terms.now ++ sizes_line terms.now) }
+    ensures fit { OnOk result (different terms.now ≤ rows) }
+    ensures uncounted { IfErr result (IsUncounted rows terms.now) }
+{
+    let sizes = sizes_together(alloc, terms, rows)?;
+    let mut text = Vec::new(alloc);
+    write_lines(terms, symbols, &mut text)?;
+    write_sizes(sizes, &mut text)?;
+    Ok(text)
+}
+
+/// What is told of the terms that the input spells, over symbols that are taken up meanwhile.
+fn told_over(
+    alloc: Global,
+    input: &[u8],
+    symbols: &mut Symbols,
+    rows: u32,
+) -> Result<Vec<u8>, TermsFault>
+    requires { symbols.old ≡ [] }
+    ensures told { IfOk result (λ text. IsListed rows input.now text.items) }
+    ensures untold { IfErr result (IsUntold rows input.now) }
+{
+    let terms = read_terms(alloc, input, symbols)?;
+    told(alloc, terms.as_slice(), symbols, rows)
+}
+
 /// The canonical line of each term that the input spells, and the line `distinct D nodes N`: how
 /// many different subtrees the terms have together, and how many nodes, at most 2^64 - 1.
 ///
@@ -58,10 +90,5 @@ pub fn tell_terms(alloc: Global, input: &[u8], rows: u32) -> Result<Vec<u8>, Ter
         return Ok(text);
     }
     let mut symbols = Symbols::new(alloc);
-    let terms = read_terms(alloc, input, &mut symbols)?;
-    let sizes = sizes_together(alloc, terms.as_slice(), rows)?;
-    let mut text = Vec::new(alloc);
-    write_lines(terms.as_slice(), &symbols, &mut text)?;
-    write_sizes(sizes, &mut text)?;
-    Ok(text)
+    told_over(alloc, input, &mut symbols, rows)
 }

@@ -1,5 +1,5 @@
 //! The command `terms` in one pass over the text, where all is well.
-ghost use Rattle.std.specs.Prelude.{◌≡◌, ◌≤◌, IfOk, true, length, sum_by};
+ghost use Rattle.std.specs.Prelude.{◌≡◌, ◌≤◌, [], IfOk, true, length, sum_by};
 ghost use Rattle.term_model.specs.Tree.{nodes};
 ghost use Rattle.terms_api.specs.Terms.{trees};
 ghost use Rattle.plain_store.specs.Contents.{store_of};
@@ -64,6 +64,27 @@ fn sizes_in(alloc: Global, store: &mut Counted, rows: u32) -> Result<TermSizes, 
     Ok(stack_sizes(store, &mut marks))
 }
 
+/// The output, by an empty store of so many rows with room for so many arguments.
+fn told_by(
+    alloc: Global,
+    input: &[u8],
+    rows: u32,
+    widest: u32,
+    store: &mut Counted,
+) -> Result<Vec<u8>, GivenUp>
+    requires inside { store.old.inside ≡ true }
+    requires wide { widest ≤ store.old.widest }
+    requires cells { 2 ≤ store.old.widest }
+    requires empty { trees (store_of store.old) ≡ [] }
+    requires rows { length store.old.trees ≡ rows }
+    ensures { IfOk result (λ text. IsListed rows input.now text.items) }
+{
+    let mut text = build_text(alloc, input, widest, store)?;
+    let sizes = sizes_in(alloc, store, rows)?;
+    write_sizes(sizes, &mut text)?;
+    Ok(text)
+}
+
 /// The output, with so many rows, places and arguments.
 fn told_in(
     alloc: Global,
@@ -76,10 +97,7 @@ fn told_in(
 {
     let mut store = Counted::new(PlainStore::new(alloc, rows, places, widest)?);
     store.enter();
-    let mut text = build_text(alloc, input, widest, &mut store)?;
-    let sizes = sizes_in(alloc, &mut store, rows)?;
-    write_sizes(sizes, &mut text)?;
-    Ok(text)
+    told_by(alloc, input, rows, widest, &mut store)
 }
 
 /// The output, in the smaller store that does for most texts.

@@ -1,6 +1,7 @@
 //! The command `unpack`: a file of terms to their lines.
 ghost use Rattle.std.specs.Prelude.{◌≡◌, ◌<◌, ◌≤◌, IfOk, IfErr, length};
 ghost use Rattle.term_file.specs.Contents.{tree_at};
+ghost use Rattle.term_commands.specs.declared.fault.TermsFault.TheVariants as fault;
 ghost use Rattle.term_commands.specs.Unpacking.{IsUnpacked, IsClosed, lines, all_written};
 ghost use Rattle.term_commands.specs.WritingLines.{WritesLine};
 
@@ -51,9 +52,10 @@ fn write_line(
 }
 
 /// The lines of shared terms.
-fn lines_of(alloc: Global, shared: &Shared) -> Result<Unpacked, Memory>
+fn lines_of(alloc: Global, shared: &Shared) -> Result<Unpacked, TermsFault>
     ensures text { IfOk result (λ u. u.text.items ≡ lines 0 shared.now.symbols shared.now.trees) }
     ensures whole { IfOk result (λ u. u.whole ≡ all_written 0 shared.now.trees) }
+    ensures memory { IfErr result (λ e. e ≡ fault.Memory) }
 {
     let mut text = Vec::new(alloc);
     let mut written: u64 = 0;
@@ -75,5 +77,5 @@ pub fn unpack_terms(alloc: Global, file: &[u8]) -> Result<Unpacked, TermsFault>
     ensures closed { IfErr result (IsClosed file.now) }
 {
     let shared = decode(alloc, file)?;
-    Ok(lines_of(alloc, &shared)?)
+    lines_of(alloc, &shared)
 }
