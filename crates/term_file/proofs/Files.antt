@@ -14,11 +14,11 @@ use Rattle.term_file.specs.InOrder.{came_after, visits, visits_at, visits_over, 
 use Rattle.term_file.specs.Right.{IsRight, all_after, is_right_symbol, is_right_record}
 use Rattle.term_file.specs.File.{symbol_bytes, record_bytes, numbers_bytes, magic, file_bytes}
 use Rattle.term_file.specs.Reading.{◌>>=◌, checked, text_where, number_where, symbols_at, Records, records_at, Roots, roots_at, is_nil, no_records, no_roots, roots_to_end, records_to_end, read_file}
-use Rattle.term_file.proofs.FieldLaws.{IsBytes, bind_ok, checked_ok, wide4, number_where_takes, number_where_again, text_where_takes, text_where_again}
-use Rattle.term_file.proofs.SymbolFields.{symbols_take, symbols_again}
-use Rattle.term_file.proofs.RecordFields.{records_take}
+use Rattle.term_file.proofs.FieldLaws.{IsBytes, TextTaken, NumberTaken, bind_ok, checked_ok, wide4, number_where_takes, number_where_again, text_where_takes, text_where_again}
+use Rattle.term_file.proofs.SymbolFields.{SymbolsTaken, symbols_take, symbols_again}
+use Rattle.term_file.proofs.RecordFields.{RecordsTaken, records_take}
 use Rattle.term_file.proofs.RecordsAgain.{records_again}
-use Rattle.term_file.proofs.RootFields.{is_below, roots_take, roots_again}
+use Rattle.term_file.proofs.RootFields.{RootsTaken, is_below, roots_take, roots_again}
 use Rattle.term_file.proofs.Tables.{length-table_of}
 use Rattle.read_faults.specs.declared.fail.ReadFail.{ReadFail}
 use Rattle.read_faults.specs.Fault.{IsDue}
@@ -69,57 +69,122 @@ pub record FileTaken (bytes : List ℕ) (c : Contents) : Type 0 where
   pub right : IsRight c
   pub bytes_are : bytes ≡ file_bytes c
 
-pub file_takes : (bytes : List ℕ) (c : Contents) → IsBytes bytes → read_file bytes ≡ Ok c → FileTaken bytes c
-unfolding read_file records_to_end roots_to_end
-file_takes bytes c fits e =
-    let total : ℕ = length bytes in
-    let a = bind_ok (text_where total 8 (pointwise nat_eq magic) bytes) (after_magic total) c e in
-    let b = bind_ok (number_where total 4 few_symbols a.0.1) (after_symbol_count total) c a.2 in
-    let s = bind_ok (symbols_at total b.0.0 [] b.0.1) (after_symbols total) c b.2 in
-    let d = bind_ok (number_where total 4 few_records s.0.1) (after_record_count total s.0.0) c s.2 in
-    let r = bind_ok (records_at total s.0.0 d.0.0 no_records d.0.1) (after_records total s.0.0) c d.2 in
-    let f = bind_ok (number_where total 4 (all_used s.0.0 r.0.0) r.0.1) (after_root_count total s.0.0 r.0.0) c r.2 in
-    let g = bind_ok (roots_at total (visits r.0.0.records) f.0.0 no_roots f.0.1) (after_roots total s.0.0 r.0.0) c f.2 in
-    let k = checked_ok total g.0.1 (eqb g.0.0.visited (length r.0.0.records) && is_nil g.0.1) (made s.0.0 r.0.0 g.0.0) c g.2 in
-    let start = text_where_takes total 8 (pointwise nat_eq magic) bytes a.0 fits a.1 in
-    let symbol_count = number_where_takes total 4 wide4 few_symbols a.0.1 b.0 start.takes.rest_fits b.1 in
-    let symbols = symbols_take total b.0.0 [] b.0.1 s.0 symbol_count.takes.rest_fits s.1 in
-    let record_count = number_where_takes total 4 wide4 few_records s.0.1 d.0 symbols.takes.rest_fits d.1 in
-    let records = records_take total s.0.0 d.0.0 no_records d.0.1 r.0 record_count.takes.rest_fits r.1 in
-    let root_count = number_where_takes total 4 wide4 (all_used s.0.0 r.0.0) r.0.1 f.0 records.takes.rest_fits f.1 in
-    let roots = roots_take total (visits r.0.0.records) f.0.0 no_roots f.0.1 g.0 root_count.takes.rest_fits g.1 in
-    let visited : g.0.0.visited ≡ length r.0.0.records = eqb-true _ _ (first_so (eqb g.0.0.visited (length r.0.0.records)) _ k.0) in
-    let nothing : g.0.1 ≡ [] = nil_is g.0.1 (second_so (eqb g.0.0.visited (length r.0.0.records)) _ k.0) in
-    let used : r.0.0.used ≡ length s.0.0 = eqb-true _ _ root_count.kept in
-    let is_magic : magic ≡ a.0.0 = (bytes_decides magic a.0.0).0 start.kept in
-    let symbols_are : s.0.0 ≡ symbols.symbols = symbols.added in
-    let records_are : r.0.0.records ≡ records.more = records.added in
-    let roots_are : g.0.0.roots ≡ roots.more = roots.added in
-    let symbols_size : length s.0.0 ≡ b.0.0 = ap (λ (x : List Named). length x) symbols_are ∙ symbols.size in
-    let records_size : length r.0.0.records ≡ d.0.0 = ap (λ (x : List Record). length x) records_are ∙ records.size in
-    let roots_size : length g.0.0.roots ≡ f.0.0 = ap (λ (x : List ℕ). length x) roots_are ∙ roots.size in
-    let table : length (visits r.0.0.records) ≡ length r.0.0.records = length-table_of visits_over r.0.0.records in
-    let right : IsRight (made s.0.0 r.0.0 g.0.0) = record {
-      few_symbols = omega (arith, leb-true _ _ symbol_count.kept, symbols_size);
-      symbols_right = subst (λ (x : List Named). all_after is_right_symbol [] x ≡ true) (sym symbols_are) symbols.right;
-      few_records = omega (arith, leb-true _ _ record_count.kept, records_size);
-      records_right = subst (λ (x : List Record). all_after (is_right_record s.0.0) [] x ≡ true) (sym records_are) records.right;
-      uses_in_order = ap (λ (x : List Record). came_after 0 (uses x)) records_are ∙ records.in_order ∙ ap Some used;
-      few_roots = omega (arith, root_count.below, roots_size);
-      roots_right = ap (λ (n : ℕ). list_all (is_below n) g.0.0.roots) (sym table) ∙ ap (λ (x : List ℕ). list_all (is_below (length (visits r.0.0.records))) x) roots_are ∙ roots.right;
-      visits_in_order = ap (λ (x : List ℕ). came_after 0 (flat_map (visits_at (visits r.0.0.records)) x)) roots_are ∙ roots.in_order ∙ ap Some visited;
-    } in
-    let parts7 : f.0.1 ≡ numbers_bytes g.0.0.roots = roots.takes.parts ∙ ap (λ (x : List ℕ). numbers_bytes roots.more ++ x) nothing ∙ append-nil (numbers_bytes roots.more) ∙ ap numbers_bytes (sym roots_are) in
-    let parts6 : r.0.1 ≡ big_bytes 4 (length g.0.0.roots) ++ numbers_bytes g.0.0.roots = root_count.takes.parts ∙ ap (λ (n : ℕ). big_bytes 4 n ++ f.0.1) (sym roots_size) ∙ ap (λ (x : List ℕ). big_bytes 4 (length g.0.0.roots) ++ x) parts7 in
-    let parts5 : d.0.1 ≡ flat_map record_bytes r.0.0.records ++ (big_bytes 4 (length g.0.0.roots) ++ numbers_bytes g.0.0.roots) = records.takes.parts ∙ ap (λ (x : List Record). flat_map record_bytes x ++ r.0.1) (sym records_are) ∙ ap (λ (x : List ℕ). flat_map record_bytes r.0.0.records ++ x) parts6 in
-    let tail5 : List ℕ = flat_map record_bytes r.0.0.records ++ (big_bytes 4 (length g.0.0.roots) ++ numbers_bytes g.0.0.roots) in
-    let parts4 : s.0.1 ≡ big_bytes 4 (length r.0.0.records) ++ tail5 = record_count.takes.parts ∙ ap (λ (n : ℕ). big_bytes 4 n ++ d.0.1) (sym records_size) ∙ ap (λ (x : List ℕ). big_bytes 4 (length r.0.0.records) ++ x) parts5 in
-    let tail4 : List ℕ = big_bytes 4 (length r.0.0.records) ++ tail5 in
-    let parts3 : b.0.1 ≡ flat_map symbol_bytes s.0.0 ++ tail4 = symbols.takes.parts ∙ ap (λ (x : List Named). flat_map symbol_bytes x ++ s.0.1) (sym symbols_are) ∙ ap (λ (x : List ℕ). flat_map symbol_bytes s.0.0 ++ x) parts4 in
-    let tail3 : List ℕ = flat_map symbol_bytes s.0.0 ++ tail4 in
-    let parts2 : a.0.1 ≡ big_bytes 4 (length s.0.0) ++ tail3 = symbol_count.takes.parts ∙ ap (λ (n : ℕ). big_bytes 4 n ++ b.0.1) (sym symbols_size) ∙ ap (λ (x : List ℕ). big_bytes 4 (length s.0.0) ++ x) parts3 in
-    let parts1 : bytes ≡ file_bytes (made s.0.0 r.0.0 g.0.0) = start.takes.parts ∙ ap (λ (x : List ℕ). x ++ a.0.1) (sym is_magic) ∙ ap (λ (x : List ℕ). magic ++ x) parts2 in
-    subst (λ (x : Contents). FileTaken bytes x) k.1 (record { right = right; bytes_are = parts1 })
+-- the parts of a file, one behind the other
+module _ (bytes : List ℕ) (c : Contents) where
+  abbrev total : ℕ
+  total = length bytes
+
+  module _ (a : List ℕ × List ℕ) (start : TextTaken 8 (pointwise nat_eq magic) bytes a) where
+    module _ (b : ℕ × List ℕ) (symbol_count : NumberTaken 4 few_symbols a.1 b) where
+      module _ (s : List Named × List ℕ) (symbols : SymbolsTaken b.0 [] b.1 s) where
+        module _ (d : ℕ × List ℕ) (record_count : NumberTaken 4 few_records s.1 d) where
+          module _ (r : Records × List ℕ) (records : RecordsTaken s.0 d.0 no_records d.1 r) where
+            module _ (f : ℕ × List ℕ) (root_count : NumberTaken 4 (all_used s.0 r.0) r.1 f) where
+              module _ (g : Roots × List ℕ) (roots : RootsTaken (visits r.0.records) f.0 no_roots f.1 g) (visited : g.0.visited ≡ length r.0.records) (nothing : g.1 ≡ []) where
+                used : r.0.used ≡ length s.0
+                used = eqb-true _ _ root_count.kept
+
+                symbols_size : length s.0 ≡ b.0
+                symbols_size = ap (λ (x : List Named). length x) symbols.added ∙ symbols.size
+
+                records_size : length r.0.records ≡ d.0
+                records_size = ap (λ (x : List Record). length x) records.added ∙ records.size
+
+                roots_size : length g.0.roots ≡ f.0
+                roots_size = ap (λ (x : List ℕ). length x) roots.added ∙ roots.size
+
+                table : length (visits r.0.records) ≡ length r.0.records
+                table = length-table_of visits_over r.0.records
+
+                right : IsRight (made s.0 r.0 g.0)
+                right = record {
+                  few_symbols = omega (arith, leb-true _ _ symbol_count.kept, symbols_size);
+                  symbols_right = subst (λ (x : List Named). all_after is_right_symbol [] x ≡ true) (sym symbols.added) symbols.right;
+                  few_records = omega (arith, leb-true _ _ record_count.kept, records_size);
+                  records_right = subst (λ (x : List Record). all_after (is_right_record s.0) [] x ≡ true) (sym records.added) records.right;
+                  uses_in_order = ap (λ (x : List Record). came_after 0 (uses x)) records.added ∙ records.in_order ∙ ap Some used;
+                  few_roots = omega (arith, root_count.below, roots_size);
+                  roots_right = ap (λ (n : ℕ). list_all (is_below n) g.0.roots) (sym table) ∙ ap (λ (x : List ℕ). list_all (is_below (length (visits r.0.records))) x) roots.added ∙ roots.right;
+                  visits_in_order = ap (λ (x : List ℕ). came_after 0 (flat_map (visits_at (visits r.0.records)) x)) roots.added ∙ roots.in_order ∙ ap Some visited;
+                }
+
+                abbrev tail6 : List ℕ
+                tail6 = numbers_bytes g.0.roots
+
+                abbrev tail5 : List ℕ
+                tail5 = big_bytes 4 (length g.0.roots) ++ tail6
+
+                abbrev tail4 : List ℕ
+                tail4 = flat_map record_bytes r.0.records ++ tail5
+
+                abbrev tail3 : List ℕ
+                tail3 = big_bytes 4 (length r.0.records) ++ tail4
+
+                abbrev tail2 : List ℕ
+                tail2 = flat_map symbol_bytes s.0 ++ tail3
+
+                parts6 : f.1 ≡ tail6
+                parts6 = roots.takes.parts ∙ ap (λ (x : List ℕ). numbers_bytes roots.more ++ x) nothing ∙ append-nil (numbers_bytes roots.more) ∙ ap numbers_bytes (sym roots.added)
+
+                parts5 : r.1 ≡ tail5
+                parts5 = root_count.takes.parts ∙ (λ i. big_bytes 4 (sym roots_size i) ++ parts6 i)
+
+                parts4 : d.1 ≡ tail4
+                parts4 = records.takes.parts ∙ (λ i. flat_map record_bytes (sym records.added i) ++ parts5 i)
+
+                parts3 : s.1 ≡ tail3
+                parts3 = record_count.takes.parts ∙ (λ i. big_bytes 4 (sym records_size i) ++ parts4 i)
+
+                parts2 : b.1 ≡ tail2
+                parts2 = symbols.takes.parts ∙ (λ i. flat_map symbol_bytes (sym symbols.added i) ++ parts3 i)
+
+                parts1 : a.1 ≡ big_bytes 4 (length s.0) ++ tail2
+                parts1 = symbol_count.takes.parts ∙ (λ i. big_bytes 4 (sym symbols_size i) ++ parts2 i)
+
+                is_magic : magic ≡ a.0
+                is_magic = (bytes_decides magic a.0).0 start.kept
+
+                taken : FileTaken bytes (made s.0 r.0 g.0)
+                taken = record { right = right; bytes_are = start.takes.parts ∙ (λ i. sym is_magic i ++ parts1 i) }
+
+              with_roots : after_root_count total s.0 r.0 f ≡ Ok c → FileTaken bytes c
+              with_roots e =
+                  let g = bind_ok (roots_at total (visits r.0.records) f.0 no_roots f.1) (after_roots total s.0 r.0) c e in
+                  let k = checked_ok total g.0.1 (eqb g.0.0.visited (length r.0.records) && is_nil g.0.1) (made s.0 r.0 g.0.0) c g.2 in
+                  subst (λ (x : Contents). FileTaken bytes x) k.1
+                  (taken g.0 (roots_take total (visits r.0.records) f.0 no_roots f.1 g.0 root_count.takes.rest_fits g.1)
+                  (eqb-true _ _ (first_so (eqb g.0.0.visited (length r.0.records)) _ k.0)) (nil_is g.0.1 (second_so (eqb g.0.0.visited (length r.0.records)) _ k.0)))
+
+            with_root_count : after_records total s.0 r ≡ Ok c → FileTaken bytes c
+            with_root_count e =
+                let f = bind_ok (number_where total 4 (all_used s.0 r.0) r.1) (after_root_count total s.0 r.0) c e in
+                with_roots f.0 (number_where_takes total 4 wide4 (all_used s.0 r.0) r.1 f.0 records.takes.rest_fits f.1) f.2
+
+          with_records : after_record_count total s.0 d ≡ Ok c → FileTaken bytes c
+          with_records e =
+              let r = bind_ok (records_at total s.0 d.0 no_records d.1) (after_records total s.0) c e in
+              with_root_count r.0 (records_take total s.0 d.0 no_records d.1 r.0 record_count.takes.rest_fits r.1) r.2
+
+        with_record_count : after_symbols total s ≡ Ok c → FileTaken bytes c
+        with_record_count e =
+            let d = bind_ok (number_where total 4 few_records s.1) (after_record_count total s.0) c e in
+            with_records d.0 (number_where_takes total 4 wide4 few_records s.1 d.0 symbols.takes.rest_fits d.1) d.2
+
+      with_symbols : after_symbol_count total b ≡ Ok c → FileTaken bytes c
+      with_symbols e =
+          let s = bind_ok (symbols_at total b.0 [] b.1) (after_symbols total) c e in
+          with_record_count s.0 (symbols_take total b.0 [] b.1 s.0 symbol_count.takes.rest_fits s.1) s.2
+
+    with_symbol_count : after_magic total a ≡ Ok c → FileTaken bytes c
+    with_symbol_count e =
+        let b = bind_ok (number_where total 4 few_symbols a.1) (after_symbol_count total) c e in
+        with_symbols b.0 (number_where_takes total 4 wide4 few_symbols a.1 b.0 start.takes.rest_fits b.1) b.2
+
+  pub file_takes : IsBytes bytes → read_file bytes ≡ Ok c → FileTaken bytes c
+  unfolding read_file records_to_end roots_to_end
+  file_takes fits e =
+      let a = bind_ok (text_where total 8 (pointwise nat_eq magic) bytes) (after_magic total) c e in
+      with_symbol_count a.0 (text_where_takes total 8 (pointwise nat_eq magic) bytes a.0 fits a.1) a.2
 
 pub file_again : (c : Contents) → IsRight c → read_file (file_bytes c) ≡ Ok c
 unfolding read_file records_to_end roots_to_end

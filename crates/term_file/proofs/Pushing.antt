@@ -1,8 +1,8 @@
 -- An item takes the last of some trees, and puts a tree over them behind the others.
-use Rattle.std.proofs.Common.{◌≡◌, ℕ, zero, suc, ◌≤◌, Bool, true, false, cond, List, [], ◌∷◌, ◌++◌, length, reverse, Option, Some, None, refl, sym, ap, ◌∙◌, arith, inl, inr, ◌⊎◌, append_assoc, append-nil}
+use Rattle.std.proofs.Common.{◌≡◌, ℕ, zero, suc, ◌+◌, ◌-◌, ◌≤◌, take, drop, Bool, true, false, cond, List, [], ◌∷◌, ◌++◌, length, reverse, Option, Some, None, refl, sym, ap, ◌∙◌, arith, inl, inr, ◌⊎◌, append_assoc, append-nil}
 use Rattle.std.specs.Prelude.{option_and_then}
 use Rattle.std.specs.List.{flat_map}
-use Rattle.std.proofs.lemmas.List.{length-append, reverse-append, reverse-reverse}
+use Rattle.std.proofs.lemmas.List.{length-append, length-drop, take-append-drop, take_all, reverse-append, reverse-reverse}
 use Rattle.std.proofs.lemmas.Grind.{flat_map-append}
 use Rattle.std.proofs.lemmas.Option.{same_Some}
 use Rattle.term_model.specs.declared.Head.{Head}
@@ -15,7 +15,17 @@ use Rattle.term_model.proofs.Equality.{among_there, contains_from_among, among_f
 use Rattle.term_model.proofs.Members.{distinct_of_part}
 use Rattle.term_model.proofs.Subtrees.{among_left, among_right, among_either}
 use Rattle.term_model.proofs.Order.{tree_pushed}
-use Rattle.term_file.specs.Sharing.{Pushes, different}
+use Rattle.term_file.specs.Sharing.{IsCutInto, Pushes, different}
+
+-- ---- the last numbers of a stack
+pub cut_last : (old whole taken front : List ℕ) (from count : ℕ) → whole ≡ old → from + count ≡ length old → taken ≡ take (length whole - from) (drop from whole) → front ≡ take from old → IsCutInto old front taken count
+cut_last old whole taken front from count e n t f =
+    let size = length-drop from old in
+    let all : taken ≡ drop from old = t ∙ (λ i. take (length (e i) - from) (drop from (e i))) ∙ take_all (length old - from) (drop from old) (omega (arith, size)) in
+    record {
+      whole = sym (take-append-drop from old) ∙ (λ i. sym f i ++ sym all i);
+      size = ap (λ (ns : List ℕ). length ns) all ∙ size ∙ omega (arith, n);
+    }
 
 -- ---- one item
 
