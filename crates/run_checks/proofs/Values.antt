@@ -1,7 +1,7 @@
 -- The lines that are values, and their traces, one after another.
-use Rattle.std.proofs.Common.{◌≡◌, ℕ, zero, suc, ◌+◌, ◌<◌, ◌≤◌, Bool, true, false, cond, eqb, List, [], ◌∷◌, ◌++◌, length, take, drop, get_or, Some, None, Bor, refl, sym, ap, ◌∙◌, arith}
+use Rattle.std.proofs.Common.{◌≡◌, ℕ, zero, suc, ◌+◌, ◌<◌, ◌≤◌, Bool, true, false, cond, eqb, List, [], ◌∷◌, ◌++◌, length, take, drop, get_or, Some, None, Bor, refl, sym, ap, ◌∙◌, arith, append_assoc, append-nil}
 use Rattle.std.specs.Prelude.{map, is_some, nat_lt}
-use Rattle.std.proofs.lemmas.List.{drop_more, drop_all, length-append}
+use Rattle.std.proofs.lemmas.List.{map-append, drop_more, drop_all, length-append}
 use Rattle.log_check.specs.Words.{lines, before_first}
 use Rattle.run_checks.specs.Form.{trace_in, is_no_value, values_from, is_end, wrong_from, wrong_after, wrong_line}
 use Rattle.run_checks.specs.Refusing.{IsCut}
@@ -102,14 +102,26 @@ surplus place ls l after is e more = go (lines after) refl is
 abbrev pub seen_lines : List (Bor (List ℕ)) → List (List ℕ)
 seen_lines taken = map (λ l. l.now) taken
 
+pub count_taken : (taken : List (Bor (List ℕ))) → length (seen_lines taken) ≡ length taken
+count_taken [] = refl
+count_taken (l ∷ ls) = let n = count_taken ls in omega (arith, n)
+
+pub line_taken : (ls rest more : List (List ℕ)) (taken pushed : List (Bor (List ℕ))) (l : Bor (List ℕ)) → ls ≡ seen_lines taken ++ rest → rest ≡ l.now ∷ more → pushed ≡ taken ++ l ∷ [] → ls ≡ seen_lines pushed ++ more
+line_taken ls rest more taken pushed l whole next is =
+    whole
+    ∙ ap (λ (xs : List (List ℕ)). seen_lines taken ++ xs) next
+    ∙ sym (append_assoc (seen_lines taken) (l.now ∷ []) more)
+    ∙ ap (λ (xs : List (List ℕ)). xs ++ more) (sym (map-append (λ (m : Bor (List ℕ)). m.now) taken (l ∷ [])))
+    ∙ ap (λ (xs : List (Bor (List ℕ))). seen_lines xs ++ more) (sym is)
+
+pub none_follows : (ls rest : List (List ℕ)) (taken : List (Bor (List ℕ))) → ls ≡ seen_lines taken ++ rest → rest ≡ [] → length ls ≡ length taken
+none_follows ls rest taken whole none =
+    ap (λ (xs : List (List ℕ)). length xs) (whole ∙ ap (λ (xs : List (List ℕ)). seen_lines taken ++ xs) none ∙ append-nil (seen_lines taken)) ∙ count_taken taken
+
 pub taken_at : (taken : List (Bor (List ℕ))) (i : ℕ) (d : Bor (List ℕ)) → i < length taken → (get_or taken i d).now ≡ get_or (seen_lines taken) i []
 taken_at [] i d lt = absurd (omega arith)
 taken_at (l ∷ ls) zero d lt = refl
 taken_at (l ∷ ls) (suc i) d lt = taken_at ls i d (omega arith)
-
-pub count_taken : (taken : List (Bor (List ℕ))) → length (seen_lines taken) ≡ length taken
-count_taken [] = refl
-count_taken (l ∷ ls) = let n = count_taken ls in omega (arith, n)
 
 pub value_taken : (taken : List (Bor (List ℕ))) (i : ℕ) (d : Bor (List ℕ)) → i < length taken → is_no_value (get_or taken i d).now ≡ false → values_from i (drop i (seen_lines taken)) ≡ i ∷ values_from (i + 1) (drop (i + 1) (seen_lines taken))
 value_taken taken i d lt e = value_here (seen_lines taken) i (get_or taken i d).now [] (let n = count_taken taken in omega (arith, n, lt)) (taken_at taken i d lt) e

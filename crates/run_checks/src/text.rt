@@ -4,7 +4,7 @@ ghost use Rattle.std.specs.Prelude.{◌≡◌, ◌↔◌, ℕ, List, [], ◌∷�
 ghost use Rattle.std.specs.Option.{option_map};
 ghost use Rattle.term_text.specs.Text.{text};
 ghost use Rattle.run_checks.specs.Held.{IsThere, term_at};
-ghost use Rattle.run_checks.specs.Pieces.{ArePieces, Takes, over_arguments};
+ghost use Rattle.run_checks.specs.Pieces.{ArePieces, Takes, further, over_arguments};
 
 use crate::table::TermTable;
 use faults::Memory;
@@ -84,6 +84,19 @@ fn after_name<'a>(name: &[u8], bytes: &'a [u8]) -> Option<&'a [u8]>
     if start == name { Some(after) } else { None }
 }
 
+/// Puts arguments on a stack, each after a comma, so that they are taken from the first on.
+fn push_further(arguments: &[u32], pieces: &mut Vec<Piece>) -> Result<(), AllocError>
+    ensures { OnOk result (pieces.new.items ≡ pieces.old.items ++ further arguments.now) }
+{
+    let mut place = arguments.len();
+    'places: while place > 0 {
+        place -= 1;
+        pieces.push(Piece::Term(arguments[place]))?;
+        pieces.push(Piece::Byte(b','))?;
+    }
+    Ok(())
+}
+
 /// Puts arguments in parentheses on a stack, so that they are taken from the first on; nothing
 /// where there are none.
 fn push_arguments(arguments: &[u32], pieces: &mut Vec<Piece>) -> Result<(), AllocError>
@@ -93,12 +106,7 @@ fn push_arguments(arguments: &[u32], pieces: &mut Vec<Piece>) -> Result<(), Allo
         return Ok(());
     };
     pieces.push(Piece::Byte(b')'))?;
-    let mut place = others.len();
-    'places: while place > 0 {
-        place -= 1;
-        pieces.push(Piece::Term(others[place]))?;
-        pieces.push(Piece::Byte(b','))?;
-    }
+    push_further(others, pieces)?;
     pieces.push(Piece::Term(*first))?;
     pieces.push(Piece::Byte(b'('))?;
     Ok(())
