@@ -1,7 +1,7 @@
 //! Rules made by chance come to what the plain program says, with every fuel, room and number of
 //! rows near the ends.
 
-ghost use Rattle.std.specs.Prelude.{◌≡◌, ◌≤◌};
+ghost use Rattle.std.specs.Prelude.{◌≤◌};
 
 use crate::chance::{Dice, plan, term};
 use crate::sight::{Limits, OUT_OF_FUEL, Order, STORE_FULL, Sight, TOO_DEEP, look, sight_of};

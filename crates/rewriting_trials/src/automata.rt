@@ -2,7 +2,7 @@
 
 mod by_chance;
 
-ghost use Rattle.std.specs.Prelude.{◌≡◌, ◌<◌, ◌≤◌, IfOk, IfSome, Some, length, true};
+ghost use Rattle.std.specs.Prelude.{◌≡◌, ◌<◌, ◌≤◌, IfSome, Some, length, true};
 ghost use Rattle.term_model.specs.declared.Head.{Head};
 ghost use Rattle.rule_match.specs.Groups.{head_at};
 ghost use Rattle.rule_match.specs.Planned.{HasRoom};

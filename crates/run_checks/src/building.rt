@@ -1,6 +1,6 @@
 //! Putting the instance of a pattern into a table of terms.
 
-ghost use Rattle.std.specs.Prelude.{◌≡◌, ◌<◌, ◌≤◌, length, map, All, IfOk, OnOk};
+ghost use Rattle.std.specs.Prelude.{◌<◌, ◌≤◌, length, map, All, IfOk, OnOk};
 ghost use Rattle.rewrite_model.specs.Matching.{instance};
 ghost use Rattle.run_checks.specs.Held.{IsPut, IsThere, term_at};
 ghost use Rattle.run_checks.specs.Instances.{MayBePut, ComesOn, Comes, PutsOver};

@@ -1,7 +1,7 @@
 //! Matching the left side of a rule against a term.
 
 ghost use Rattle.std.specs.Prelude.{◌≡◌, ◌<◌, ◌++◌, [], length, map, reverse, None, Some, All, IfOk, OnOk};
-ghost use Rattle.std.specs.Bool.{OnTrue, OnFalse};
+ghost use Rattle.std.specs.Bool.{OnTrue};
 ghost use Rattle.term_model.specs.Tree.{arguments};
 ghost use Rattle.term_model.specs.declared.Head.TheVariants.{App};
 ghost use Rattle.rewrite_model.specs.Matching.{bind as bind_of};

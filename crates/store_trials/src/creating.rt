@@ -1,5 +1,5 @@
 //! Passes of one store, on one thread and on two.
-ghost use Rattle.std.specs.Prelude.{◌≡◌, ◌<◌, ◌+◌, All, IfOk};
+ghost use Rattle.std.specs.Prelude.{◌≡◌, ◌<◌, All, IfOk};
 ghost use Rattle.lock_core.specs.declared.parts.Phase.TheVariants.{Shared};
 ghost use Rattle.store_model.specs.Machine.{In};
 ghost use Rattle.node_rows.specs.Belonging.{IsSeated, IsOpen};

@@ -1,5 +1,5 @@
 //! Protected rows on one thread, in stores with hand-worked answers.
-ghost use Rattle.std.specs.Prelude.{◌≡◌, ◌<◌, ℕ, All, IfOk, length};
+ghost use Rattle.std.specs.Prelude.{◌≡◌, ◌<◌, ℕ, All, length};
 ghost use Rattle.lock_core.specs.declared.parts.Phase.TheVariants.{Shared};
 ghost use Rattle.store_model.specs.Machine.{In, Each, protected_in};
 ghost use Rattle.node_rows.specs.Belonging.{IsSeated, IsOpen};

@@ -1,5 +1,5 @@
 //! Reads a file.
-ghost use Rattle.std.specs.Prelude.{◌≡◌, ◌==◌, ◌&&◌, List, length, nat_le, IfOk, IfErr};
+ghost use Rattle.std.specs.Prelude.{◌≡◌, ◌==◌, ◌&&◌, List, length, IfOk, IfErr};
 ghost use Rattle.read_faults.specs.declared.fail.ReadFail.TheVariants.{Memory};
 ghost use Rattle.read_faults.specs.Fault.{IsDue};
 ghost use Rattle.term_file.specs.File.{Terms, IsFile};

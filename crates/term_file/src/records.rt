@@ -1,5 +1,5 @@
 //! The records of a file.
-ghost use Rattle.std.specs.Prelude.{◌≡◌, ◌<◌, ◌≤◌, ◌+◌, ◌^◌, ◌∷◌, [], length, nat_le, nat_lt, is_some, ◌&&◌, All, IfOk, OnOk, true};
+ghost use Rattle.std.specs.Prelude.{◌≡◌, ◌<◌, ◌≤◌, ◌+◌, ◌^◌, ◌∷◌, [], length, nat_le, nat_lt, is_some, ◌&&◌, All, IfOk, true};
 ghost use Rattle.term_file.specs.InOrder.{came_after};
 ghost use Rattle.term_file.specs.Reading as spec;
 ghost use Rattle.term_file.specs.Right as right;

@@ -1,5 +1,5 @@
 //! The roots of a file.
-ghost use Rattle.std.specs.Prelude.{◌≡◌, length, unwrap_or, IfOk};
+ghost use Rattle.std.specs.Prelude.{◌≡◌, unwrap_or, IfOk};
 ghost use Rattle.term_file.specs.InOrder.{came_after, visits_at, visits};
 ghost use Rattle.term_file.specs.Reading as spec;
 ghost use Rattle.term_file.specs.Outcome.{Gives};

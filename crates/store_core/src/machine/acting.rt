@@ -4,7 +4,7 @@ ghost use Rattle.store_model.specs.Words.{same_place};
 ghost use Rattle.store_model.specs.Machine as machine;
 ghost use Rattle.store_model.specs.StoreSteps.{act, row_place, Loads};
 ghost use Rattle.store_core.specs.NextActs.{act_of};
-ghost use Rattle.store_core.specs.Planning.{PlansIf, sizes_seen};
+ghost use Rattle.store_core.specs.Planning.{PlansIf};
 
 use crate::machine::change::{Change, Sight};
 use crate::machine::contents::{bucket_of, word_at, words_of};

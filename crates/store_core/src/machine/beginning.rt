@@ -1,5 +1,5 @@
 //! The step that begins a creation.
-ghost use Rattle.std.specs.Prelude.{◌≡◌, ◌⊎◌, ◌↔◌, ℕ, ◌<◌, ◌≤◌, false, length, get_or, IfOk, IsTrue};
+ghost use Rattle.std.specs.Prelude.{◌≡◌, ◌↔◌, ◌<◌, ◌≤◌, false, length, get_or, IfOk, IsTrue};
 ghost use Rattle.std.specs.List.{list_all};
 ghost use Rattle.term_model.specs.declared.Head.TheVariants.{Cons};
 ghost use Rattle.store_model.specs.Calls.{IsOver, bucket};

@@ -1,5 +1,5 @@
 //! The words and the bucket of a content.
-ghost use Rattle.std.specs.Prelude.{◌≡◌, [], ◌∷◌, ◌++◌, length, get_or, IfOk, vec_len};
+ghost use Rattle.std.specs.Prelude.{◌≡◌, [], ◌∷◌, get_or, IfOk};
 ghost use Rattle.hash_buckets.specs.Hash.{hash_of, mixed_all};
 ghost use Rattle.store_model.specs.Calls.{words_of, bucket};
 

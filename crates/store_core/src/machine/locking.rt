@@ -1,5 +1,5 @@
 //! The steps of the lock, and those that begin a granted access.
-ghost use Rattle.std.specs.Prelude.{◌≡◌, ◌≢◌, ◌⊎◌, ◌↔◌, ℕ, ◌<◌, IsTrue, OnOk, MatchBool, length};
+ghost use Rattle.std.specs.Prelude.{◌≡◌, ◌≢◌, ◌↔◌, ℕ, ◌<◌, IsTrue, OnOk, MatchBool, length};
 ghost use Rattle.lock_core.specs.Lock.{seat_of};
 ghost use Rattle.lock_core.specs.Exclusion.{IsExclusive};
 ghost use Rattle.lock_core.specs.declared.parts.Standing.TheVariants.{Held};

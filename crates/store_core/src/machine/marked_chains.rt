@@ -1,11 +1,11 @@
 //! The chains of the rows that are marked.
-ghost use Rattle.std.specs.Prelude.{◌≡◌, ◌⊎◌, ◌<◌, ◌≤◌, ◌↔◌, ℕ, IfOk, IsTrue, MatchBool, MatchOption, length, get_or};
+ghost use Rattle.std.specs.Prelude.{◌≡◌, ◌<◌, ◌↔◌, ℕ, IfOk, IsTrue, MatchBool, MatchOption, length, get_or};
 ghost use Rattle.store_model.specs.Shown.{shown};
 ghost use Rattle.store_model.specs.Words.{write};
 ghost use Rattle.store_model.specs.declared.view.Place.TheVariants.{Claim, InUse};
 ghost use Rattle.store_model.specs.Meaning.{Meaning};
 ghost use Rattle.store_model.specs.Invariant.{ChainsHold};
-ghost use Rattle.store_model.specs.MarkedChains.{AllStand, ChainsMarked, IsChain, IsMeant, IsSound, NotMeant, OneStrays, StandInFirst, StandsIn, UsesBuckets};
+ghost use Rattle.store_model.specs.MarkedChains.{AllStand, ChainsMarked, IsChain, IsSound, NotMeant, OneStrays, StandInFirst, StandsIn, UsesBuckets};
 
 use crate::machine::marking::{are_marked, mark_rows, no_marks};
 use crate::machine::row_contents::stands_in;

@@ -1,9 +1,8 @@
 //! Marks of the rows in free places, and of those that are reached.
-ghost use Rattle.std.specs.Prelude.{◌≡◌, ◌<◌, ◌↔◌, ℕ, [], false, IfOk, IsTrue, OnOk, MatchBool, MatchOption, length, get_or, vec_len, replicate};
-ghost use Rattle.store_core.specs.RowLists.{count_place, item_place, IsPast};
+ghost use Rattle.std.specs.Prelude.{◌≡◌, ◌<◌, ◌↔◌, ℕ, false, IfOk, IsTrue, MatchOption, length, get_or, vec_len, replicate};
 ghost use Rattle.store_model.specs.Shown.{shown};
 ghost use Rattle.store_model.specs.Steps.{rows_left};
-ghost use Rattle.store_model.specs.Marks.{Marks, Adds, AreNotApart, AreOpposite, Halfway, IsMarked, MarksFree, MarksPlaces, MarksReached, ReachesPast, Repeats};
+ghost use Rattle.store_model.specs.Marks.{Marks, AreNotApart, AreOpposite, IsMarked, MarksFree, MarksPlaces, Repeats};
 
 use crate::machine::row_lists::{RowList, rows_of};
 use crate::machine::table::Table;

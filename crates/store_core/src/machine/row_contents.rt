@@ -1,5 +1,5 @@
 //! What a row's words are the words of.
-ghost use Rattle.std.specs.Prelude.{◌≡◌, ℕ, IfOk, MatchBool, MatchOption, length};
+ghost use Rattle.std.specs.Prelude.{◌≡◌, IfOk, MatchBool, MatchOption};
 ghost use Rattle.term_model.specs.declared.Head.{Head};
 ghost use Rattle.store_core.specs.RowLists.{IsList};
 ghost use Rattle.store_core.specs.declared.machine.row_lists.RowList.TheVariants.{Arguments};

@@ -1,6 +1,6 @@
 //! The words of a store, in their places.
-ghost use Rattle.std.specs.Prelude.{◌≡◌, ◌+◌, ◌*◌, ◌<◌, ◌≤◌, ◌^◌, true, false, length, vec_len, slice_index, slice_set, replicate, MatchOption, IfOk};
-ghost use Rattle.store_model.specs.Shown.{in_table, index_of, shown, total};
+ghost use Rattle.std.specs.Prelude.{◌≡◌, ◌+◌, ◌*◌, ◌<◌, ◌≤◌, ◌^◌, true, false, vec_len, replicate, MatchOption, IfOk};
+ghost use Rattle.store_model.specs.Shown.{in_table, shown, total};
 ghost use Rattle.store_model.specs.Machine.{widest};
 ghost use Rattle.store_core.specs.Table.{IsPlaceOf};
 ghost use Rattle.store_core.specs.Running.{IsBegun};

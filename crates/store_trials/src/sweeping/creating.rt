@@ -1,5 +1,5 @@
 //! Creations after a collection, in stores with answers worked out by hand.
-ghost use Rattle.std.specs.Prelude.{◌≡◌, true, IfOk};
+ghost use Rattle.std.specs.Prelude.{◌≡◌, true};
 ghost use Rattle.lock_core.specs.declared.parts.Phase.TheVariants.{Shared};
 ghost use Rattle.store_model.specs.NewStore.{MaySize};
 ghost use Rattle.store_model.specs.Machine.{In};
