@@ -1,5 +1,5 @@
 -- The names that this crate's proofs cite from elsewhere, passed on. Declares nothing.
-pub use Rattle.std.proofs.Common.{◌≡◌, ℕ, suc, ◌+◌, ◌<◌, ◌≤◌, min, length-drop, Bool, true, false, cond, List, [], ◌∷◌, ◌++◌, length, drop, get_or, Option, refl, sym, ap, ◌∙◌, add-one, arith, drop-cons, rules, ◌||◌, ◌&&◌, ◌==◌, nat_lt, Some, None, ◌⊎◌, inl, inr, subst, slice_get, ◌-◌, map, not, zero, take, append_assoc, append-nil, Contains, ◌^◌, nat_le, length-append, reverse, nat_eq, eq-eqb, Result, OnOk, take-suc, take_all}
+pub use Rattle.std.proofs.Common.{◌≡◌, ℕ, suc, ◌+◌, ◌<◌, ◌≤◌, min, length-drop, Bool, true, false, cond, List, [], ◌∷◌, ◌++◌, length, drop, get_or, Option, refl, sym, ap, ◌∙◌, add-one, arith, drop-cons, rules, ◌||◌, ◌&&◌, ◌==◌, nat_lt, Some, None, ◌⊎◌, inl, inr, subst, slice_get, ◌-◌, map, not, zero, take, append_assoc, append-nil, Contains, ◌^◌, nat_le, length-append, reverse, nat_eq, eq-eqb, Result, OnOk}
 pub use Rattle.std.proofs.Math.Seq.{take-append_seam, take-length, drop-append-add, take-append-add}
 pub use Rattle.std.proofs.lemmas.Bool.Decides.{nat_tests}
 pub use Rattle.std.proofs.lemmas.Grind.{common_steps}
@@ -30,7 +30,7 @@ pub use Rattle.rec_offences.specs.Grouped.{verdict_of, limits_group, long_declar
 pub use Rattle.rec_offences.specs.Inclusion.{counted, extent_of, IsFront, IsOn, AreLevels, last_material, last_number, path_of, IsAtLevel, IsDeclared, IsInclusion, IsPastLevel}
 pub use Rattle.rec_offences.specs.Known.{Known, known, entries_of}
 pub use Rattle.rec_offences.specs.Laws.{IsLeastOf, nodes_of, VisitsAreOfArguments}
-pub use Rattle.rec_offences.specs.Offences.{Include, is_clashing, is_passing, includes_from, bare_variables, free_variables, past_limits, unknown_names, wrong_counts, sort_clashes, include, is_long, names_in, names_in_declaration, names_in_variables, terms_of, most, passes, symbol_names, clashing, repeated, unknown_name, wrong_count, clashing_arguments, clashing_sides, clashing_side}
+pub use Rattle.rec_offences.specs.Offences.{is_unknown, Include, is_clashing, is_passing, includes_from, bare_variables, free_variables, past_limits, unknown_names, wrong_counts, sort_clashes, include, is_long, names_in, names_in_declaration, names_in_variables, terms_of, most, passes, symbol_names, clashing, repeated, unknown_name, wrong_count, clashing_arguments, clashing_sides, clashing_side}
 pub use Rattle.rec_offences.specs.Scope.{heads, Entry, names_of, look_up, symbol_entry, own_entries, Visit, visits, is_variable, variable_entry, root}
 pub use Rattle.rec_offences.specs.Visited.{free_variables_of}
 pub use Rattle.rec_offences.specs.Walked.{clashing_sorts, sort_of, arguments_of, heads_on, misplaced, at_side, at_node, visit_over, names_with}

@@ -16,8 +16,11 @@ use Rattle.rec_offences.specs.Scope.{Entry, names_of, own_entries, look_up, is_v
 abbrev pub used_sorts : Specification → List Name
 used_sorts s = flat_map (λ d. d.arguments ++ d.sort ∷ []) s.declarations ++ map (λ v. v.sort) s.variables
 
+abbrev pub is_unknown : List ℕ → (known : List Name) → Name → Bool
+is_unknown bytes known n = not (is_among bytes known n)
+
 abbrev pub unknown_sorts : List ℕ → (known : List Name) → Specification → List Name
-unknown_sorts bytes known s = filter (λ n. not (is_among bytes known n)) (used_sorts s)
+unknown_sorts bytes known s = filter (is_unknown bytes known) (used_sorts s)
 
 -- ---- Unknown name: a head that isn't declared
 abbrev pub unknown_name : List ℕ → List Entry → Visit → List Name

@@ -1,5 +1,6 @@
 //! Checks an input, one specification after another.
-ghost use Rattle.std.specs.Prelude.{◌≡◌, ◌<◌, ◌+◌, ◌++◌, ◌∷◌, IfOk, OnOk, length, map};
+ghost use Rattle.std.specs.Prelude.{◌≡◌, ◌<◌, ◌+◌, ◌++◌, ◌∷◌, All, IfOk, OnOk, length, map};
+ghost use Rattle.std.specs.List.{flat_map};
 ghost use Rattle.rec_includes.specs.Material.{symbols_by};
 ghost use Rattle.rec_includes.specs.Listing.{listing};
 ghost use Rattle.rec_includes.specs.Numbered.{headers_in};
@@ -15,35 +16,12 @@ use crate::offences::repeated::note_repeated_names;
 use crate::offences::unknown::{note_unknown_includes, note_unknown_sorts};
 use crate::offences::variables::note_misplaced_variables;
 use crate::scope::Scope;
-use crate::signatures::{Signature, own_signatures, own_symbols};
+use crate::signatures::{Signature, own_symbols};
 use crate::turn::Turn;
 use faults::{Memory, Refusal};
 use rec_includes::{Directory, headers_in, order};
 use rec_reader::{Specification, Syntax};
 use std::alloc::Global;
-
-/// Declares a specification's own names, and notes what is wrong with its declarations.
-#[tactic(auto, using(crate::proofs::Leasts::noting), unfolding(crate::specs::Grouped::declared_group))]
-fn note_declared<'a>(
-    alloc: Global,
-    found: &mut Option<Refusal>,
-    turn: &Turn,
-    sorts: &mut Directory<'a>,
-    scope: &mut Scope<'a>,
-    own: &[Signature<'a>],
-) -> Result<(), Memory>
-    requires sorts { sorts.old.bytes ≡ turn.now.headers.now.bytes }
-    requires scope { scope.old.bytes ≡ turn.now.headers.now.bytes }
-    ensures declared { OnOk result (scope.new ≡ with_entries scope.old (entries_of own.now)) }
-    ensures listed { OnOk result (sorts.new ≡ listing sorts.old.bytes
-        (sorts.old.names ++ turn.now.specification.now.sorts)) }
-    ensures noted { OnOk result (found.new ≡ least_with found.old
-        (declared_at turn.now sorts.old.names scope.old.entries (entries_of own.now))) }
-{
-    sorts.add_all(turn.specification.sorts.as_slice())?;
-    note_unknown_sorts(alloc, found, sorts, turn.specification)?;
-    note_repeated_names(alloc, found, turn, scope, own)
-}
 
 /// Notes what else is wrong with a specification, where names are declared so; `symbols` are its
 /// own, and so many symbols and rules are included. The limits come before the heads: a variable's
@@ -68,7 +46,7 @@ fn note_used(
 
 /// Notes the offences of a specification, where what it includes is at hand, and gives how many
 /// symbols there are with its own.
-#[tactic(auto, using(crate::proofs::Leasts::noting))]
+#[tactic(auto, using(crate::proofs::Leasts::noting), unfolding(crate::specs::Grouped::declared_group))]
 fn note_included<'a>(
     alloc: Global,
     found: &mut Option<Refusal>,
@@ -94,16 +72,10 @@ fn note_included<'a>(
         (included.old.scope.entries ++ own_entries turn.now.specification.now))) }
 {
     let before = (included.scope.len(), included.rules);
+    included.sorts.add_all(turn.specification.sorts.as_slice())?;
+    note_unknown_sorts(found, &included.sorts, turn.specification);
+    note_repeated_names(alloc, found, turn, &mut included.scope)?;
     let symbols = own_symbols(alloc, turn.specification)?;
-    let own = own_signatures(alloc, turn.specification)?;
-    note_declared(
-        alloc,
-        found,
-        turn,
-        &mut included.sorts,
-        &mut included.scope,
-        &own,
-    )?;
     note_used(alloc, found, turn, before, &symbols, &included.scope)?;
     Ok(before.0 + symbols.len())
 }
@@ -149,6 +121,20 @@ impl<'a> Checking<'_, 'a> {
         let symbols = note_included(alloc, &mut self.found, &turn, &mut self.included)?;
         self.included.enter(turn.specification, number, symbols)
     }
+
+    /// Notes the offences of the specifications with these numbers, and gives the least.
+    #[tactic(auto, using(crate::proofs::Leasts::noting_parts))]
+    fn note_all(&mut self, alloc: Global, numbers: &[usize]) -> Result<Option<Refusal>, Memory>
+        requires there { All (λ n. n < length self.old.specifications.now) numbers.now }
+        requires checking { IsChecking self.old }
+        ensures { IfOk result (λ f. f ≡ least_with self.old.found (flat_map
+            (offences_at self.old.headers.now.bytes self.old.specifications.now) numbers.now)) }
+    {
+        for number in numbers {
+            self.note_offences(alloc, *number)?;
+        }
+        Ok(self.found)
+    }
 }
 
 /// The fault of specifications: of all their offences the one with the least place, and of those
@@ -177,10 +163,7 @@ pub fn fault_with<'a>(
         included: Inclusion::new(alloc, syntax.text()),
         found,
     };
-    for number in &numbers {
-        checking.note_offences(alloc, *number)?;
-    }
-    Ok(checking.found)
+    checking.note_all(alloc, &numbers)
 }
 
 /// The fault of specifications, as `fault_with` gives it.

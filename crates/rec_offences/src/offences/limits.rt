@@ -124,12 +124,12 @@ fn note_long_names(found: &mut Option<Refusal>, text: &[u8], specification: &Spe
     }
 }
 
-/// The 17th sort of arguments.
-fn past_arguments(arguments: &[Name]) -> Option<Name>
-    ensures { result ≡ slice_get arguments.now 16 }
+/// The name at a place, if there are so many.
+fn name_at(names: &[Name], place: usize) -> Option<Name>
+    ensures { result ≡ slice_get names.now place }
 {
-    match arguments.get(16) {
-        Some(sort) => Some(*sort),
+    match names.get(place) {
+        Some(name) => Some(*name),
         None => None,
     }
 }
@@ -143,7 +143,7 @@ fn note_many_arguments(found: &mut Option<Refusal>, declarations: &[Declaration]
         note_some(
             found,
             kinds::LIMIT,
-            past_arguments(declaration.arguments.as_slice()),
+            name_at(declaration.arguments.as_slice(), 16),
         );
     }
 }

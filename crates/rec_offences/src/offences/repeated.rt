@@ -2,7 +2,7 @@
 ghost use Rattle.std.specs.Prelude.{◌≡◌, ◌∷◌, [], OnOk};
 ghost use Rattle.std.specs.List.{filter};
 ghost use Rattle.rec_includes.specs.Names.{is_among};
-ghost use Rattle.rec_offences.specs.Scope.{names_of};
+ghost use Rattle.rec_offences.specs.Scope.{names_of, own_entries};
 ghost use Rattle.rec_offences.specs.Offences.{repeated};
 ghost use Rattle.rec_offences.specs.Faults.{of_kind, least_with};
 ghost use Rattle.rec_offences.specs.Known.{entries_of, with_entries};
@@ -11,7 +11,7 @@ ghost use Rattle.rec_offences.specs.Grouped.{clashing_entries, earlier_headers, 
 use crate::entries::Verdict;
 use crate::least::note_if;
 use crate::scope::Scope;
-use crate::signatures::Signature;
+use crate::signatures::{Signature, own_signatures};
 use crate::turn::Turn;
 use faults::{Memory, Refusal, kinds};
 use rec_includes::Directory;
@@ -56,6 +56,15 @@ fn declare<'a>(
     Ok(())
 }
 
+/// Notes the sorts of a specification whose text an earlier one of them has.
+fn note_equal_sorts(alloc: Global, found: &mut Option<Refusal>, turn: &Turn) -> Result<(), Memory>
+    ensures { OnOk result (found.new ≡ least_with found.old (of_kind 6
+        (repeated turn.now.headers.now.bytes [] turn.now.specification.now.sorts))) }
+{
+    let mut sorts = Directory::new(alloc, turn.headers.text());
+    note_repeated(found, &mut sorts, turn.specification.sorts.as_slice())
+}
+
 /// Notes a header's name that an earlier header has.
 fn note_repeated_header(found: &mut Option<Refusal>, turn: &Turn)
     ensures { found.new ≡ least_with found.old (of_kind 6
@@ -83,19 +92,19 @@ fn note_clashing_entries(found: &mut Option<Refusal>, verdicts: &[Verdict])
 pub(crate) fn note_repeated_names<'a>(
     alloc: Global,
     found: &mut Option<Refusal>,
-    turn: &Turn,
+    turn: &Turn<'_, 'a>,
     scope: &mut Scope<'a>,
-    own: &[Signature<'a>],
 ) -> Result<(), Memory>
     requires { scope.old.bytes ≡ turn.now.headers.now.bytes }
-    ensures declared { OnOk result (scope.new ≡ with_entries scope.old (entries_of own.now)) }
-    ensures noted { OnOk result (found.new ≡ least_with found.old
-        (of_kind 6 (repeated_at turn.now scope.old.entries (entries_of own.now)))) }
+    ensures declared { OnOk result (scope.new
+        ≡ with_entries scope.old (own_entries turn.now.specification.now)) }
+    ensures noted { OnOk result (found.new ≡ least_with found.old (of_kind 6
+        (repeated_at turn.now scope.old.entries (own_entries turn.now.specification.now)))) }
 {
     note_repeated_header(found, turn);
-    let mut sorts = Directory::new(alloc, turn.headers.text());
-    note_repeated(found, &mut sorts, turn.specification.sorts.as_slice())?;
-    declare(found, scope, own)?;
+    note_equal_sorts(alloc, found, turn)?;
+    let own = own_signatures(alloc, turn.specification)?;
+    declare(found, scope, &own)?;
     note_clashing_entries(found, turn.verdicts);
     Ok(())
 }

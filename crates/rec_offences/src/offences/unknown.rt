@@ -1,48 +1,50 @@
 //! Sorts and entries of lists of includes that aren't known.
-ghost use Rattle.std.specs.Prelude.{◌≡◌, IfOk, OnOk, not};
+ghost use Rattle.std.specs.Prelude.{◌≡◌, ◌++◌, ◌∷◌, [], not};
 ghost use Rattle.std.specs.List.{filter};
 ghost use Rattle.rec_includes.specs.Names.{is_among};
-ghost use Rattle.rec_offences.specs.Offences.{used_sorts, unknown_sorts};
+ghost use Rattle.rec_offences.specs.Offences.{is_unknown, unknown_sorts};
 ghost use Rattle.rec_offences.specs.Faults.{of_kind, least_with};
 ghost use Rattle.rec_offences.specs.Grouped.{earlier_headers};
 
 use crate::least::note_if;
 use crate::turn::Turn;
-use faults::{Memory, Refusal, kinds};
+use faults::{Refusal, kinds};
 use rec_includes::Directory;
-use rec_reader::{Name, Specification};
-use std::alloc::Global;
+use rec_reader::{Declaration, Name, Specification};
 
-/// The sorts of arguments, symbols and variables.
-fn used_sorts(alloc: Global, specification: &Specification) -> Result<Vec<Name>, Memory>
-    ensures { IfOk result (λ v. v.items ≡ used_sorts specification.now) }
+fn note_unknown_sort(found: &mut Option<Refusal>, sorts: &Directory, sort: Name)
+    ensures { found.new ≡ least_with found.old (of_kind 4
+        (filter (is_unknown sorts.now.bytes sorts.now.names) (sort ∷ []))) }
 {
-    let mut sorts = Vec::new(alloc);
-    for declaration in specification.declarations.as_slice() {
-        sorts.extend_from_slice(declaration.arguments.as_slice())?;
-        sorts.push(declaration.sort)?;
-    }
-    for variables in specification.variables.as_slice() {
-        sorts.push(variables.sort)?;
-    }
-    Ok(sorts)
+    note_if(found, kinds::UNKNOWN_SORT, sort, !sorts.has(sort));
 }
 
-/// Notes the sorts that aren't known.
+fn note_unknown_in(found: &mut Option<Refusal>, sorts: &Directory, declaration: &Declaration)
+    ensures { found.new ≡ least_with found.old (of_kind 4
+        (filter (is_unknown sorts.now.bytes sorts.now.names)
+        (declaration.now.arguments ++ declaration.now.sort ∷ []))) }
+{
+    for sort in declaration.arguments.as_slice() {
+        note_unknown_sort(found, sorts, *sort);
+    }
+    note_unknown_sort(found, sorts, declaration.sort);
+}
+
+/// Notes the sorts of arguments, symbols and variables that aren't known.
 pub(crate) fn note_unknown_sorts(
-    alloc: Global,
     found: &mut Option<Refusal>,
     sorts: &Directory,
     specification: &Specification,
-) -> Result<(), Memory>
-    ensures { OnOk result (found.new ≡ least_with found.old
-        (of_kind 4 (unknown_sorts sorts.now.bytes sorts.now.names specification.now))) }
+)
+    ensures { found.new ≡ least_with found.old
+        (of_kind 4 (unknown_sorts sorts.now.bytes sorts.now.names specification.now)) }
 {
-    let used = used_sorts(alloc, specification)?;
-    for sort in &used {
-        note_if(found, kinds::UNKNOWN_SORT, *sort, !sorts.has(*sort));
+    for declaration in specification.declarations.as_slice() {
+        note_unknown_in(found, sorts, declaration);
     }
-    Ok(())
+    for variables in specification.variables.as_slice() {
+        note_unknown_sort(found, sorts, variables.sort);
+    }
 }
 
 /// Notes the entries that no header before this one has.
