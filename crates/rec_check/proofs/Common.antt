@@ -47,5 +47,5 @@ pub use Rattle.rec_check.specs.Rule.{variables_in, condition_in, rule_in, ◌>>=
 pub use Rattle.rec_check.specs.Run.{MayBeRun, last_of, spelled_with, spelled_in}
 pub use Rattle.rec_check.specs.Scope.{seen}
 pub use Rattle.rec_check.specs.Spelled.{variables_of, terms_in, rules_in, Specified, nothing, with_few_rules, most_rules, spelled_by}
-pub use Rattle.rec_check.specs.Symbols.{named_in, may_be_added, with_symbol, with_symbols, widest_of}
+pub use Rattle.rec_check.specs.Symbols.{named_in, named_by, may_be_added, with_symbol, with_symbols, widest_of}
 pub use Rattle.rec_check.specs.Term.{same_symbol, most_arguments, Scope, all_of, item_in, item_by, symbol_item, tree_in, after}

@@ -1,5 +1,5 @@
 -- Names and symbols added one after another.
-use Rattle.rec_check.proofs.Common.{[], nat_tests, arith, ◌≡◌, ℕ, ◌+◌, ◌<◌, length, get_or, drop, List, ◌∷◌, ◌++◌, Option, Some, None, true, false, is_some, refl, sym, ap, ◌∙◌, suc, Bool, cond, ◌||◌, map, position, zero, not, slice_get, max, Result, OnOk, option_and_then, if◌then◌else◌, nat_le, option_map, append_assoc, at_drop_more, map-append, after, all_of, same_symbol, most_arguments, list_any, flat_map, bytes_eq, Name, text_of, is_among, Listing, listing, texts, with_new, place_in, variable, Declared, with_name, with_names, Named, named, most_symbols, Lacks, Node, Specification, named_in, may_be_added, with_symbol, with_symbols, widest_of, Entry, symbol_entry, entry_of, entries_of, drop_at, Rule, rule_in, rules_in, bytes_decides, common_steps}
+use Rattle.rec_check.proofs.Common.{[], nat_tests, arith, ◌≡◌, ℕ, ◌+◌, ◌<◌, length, get_or, drop, List, ◌∷◌, ◌++◌, Option, Some, None, true, false, is_some, refl, sym, ap, ◌∙◌, suc, Bool, cond, ◌||◌, map, position, zero, not, slice_get, max, Result, OnOk, option_and_then, if◌then◌else◌, nat_le, option_map, append_assoc, at_drop_more, map-append, after, all_of, same_symbol, most_arguments, list_any, flat_map, bytes_eq, Name, text_of, is_among, Listing, listing, texts, with_new, place_in, variable, Declared, with_name, with_names, Named, named, most_symbols, Lacks, Node, Specification, named_in, named_by, may_be_added, with_symbol, with_symbols, widest_of, symbol_entry, entry_of, entries_of, drop_at, Rule, rule_in, rules_in, bytes_decides, common_steps}
 use Rattle.std.proofs.Common.{filter, nat_lt}
 use Rattle.rec_reader.specs.declared.syntax_tree.Variables.{Variables}
 use Rattle.rec_includes.specs.Material.{variables_of}
@@ -110,13 +110,13 @@ widest_of_push (t ∷ ss) s = let r = widest_of_push ss s in omega arith
 
 -- ---- the symbols of a material, one after another
 
--- a declared symbol by its name and its number of arguments
-abbrev pub named_by : List ℕ → Entry → Named
-named_by text e = named (text_of text e.declared.name) (length e.declared.arguments)
-
 pub entries_named : (text : List ℕ) (ds : List Declared) → map (named_by text) (map symbol_entry ds) ≡ named_in text ds
 entries_named text [] = refl
 entries_named text (d ∷ ds) = ap (λ more. named (text_of text d.name) (length d.arguments) ∷ more) (entries_named text ds)
+
+pub all_declared : (text : List ℕ) (ds : List Declared) (xs : List Signature) (pool : List Named) → entries_of xs ≡ map symbol_entry ds → pool ≡ [] →
+    with_symbols pool (map (named_by text) (entries_of xs)) ≡ with_symbols [] (named_in text ds)
+all_declared text ds xs pool listed none = (λ i. with_symbols (none i) (map (named_by text) (listed i))) ∙ ap (with_symbols []) (entries_named text ds)
 
 -- from a place on
 module _ (text : List ℕ) (items : List Signature) (i : ℕ) (s : Signature) (pool : List Named) (total : Option (List Named)) (l : i < length items) (is : s ≡ get_or items i s)
@@ -142,4 +142,4 @@ module _ (old : List Rule) (text : List ℕ) (symbols : List Named) (s : Specifi
 -- adding a symbol, and all symbols of a material
 pub ruleset adding = (common_steps, lacks, comes_last, widest_of_push)
 
-pub ruleset declaring = (common_steps, entries_named, symbol_known_next, symbol_next)
+pub ruleset declaring = (common_steps, symbol_known_next, symbol_next)

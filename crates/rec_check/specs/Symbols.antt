@@ -4,11 +4,16 @@ use Rattle.std.specs.List.{list_any}
 use Rattle.symbol_pool.specs.Pool.{Named, named, most_symbols}
 use Rattle.rec_includes.specs.Names.{text_of}
 use Rattle.rec_includes.specs.Material.{Declared}
+use Rattle.rec_offences.specs.Scope.{Entry}
 use Rattle.rec_check.specs.Term.{same_symbol, most_arguments}
 
 -- declared symbols, each by its name and its number of arguments
 abbrev pub named_in : List ℕ → List Declared → List Named
 named_in text ds = map (λ d. named (text_of text d.name) (length d.arguments)) ds
+
+-- a declared symbol by its name and its number of arguments
+abbrev pub named_by : List ℕ → Entry → Named
+named_by text e = named (text_of text e.declared.name) (length e.declared.arguments)
 
 -- whether a symbol may be added to others: it is none of them, it doesn't have too many arguments, and
 -- there aren't too many symbols

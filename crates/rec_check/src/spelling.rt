@@ -1,14 +1,15 @@
 //! What specifications spell together.
 
-ghost use Rattle.std.specs.Prelude.{◌≡◌, ◌++◌, [], All, Some, IfOk, IsSome, OnOk};
+ghost use Rattle.std.specs.Prelude.{◌≡◌, ◌++◌, [], All, Some, IfOk, IsSome, OnOk, map};
 ghost use Rattle.std.specs.List.{flat_map};
 ghost use Rattle.rec_reader.specs.Few.{HasFewNodes, HasFewLeftNodes};
-ghost use Rattle.rec_check.specs.Symbols.{named_in, with_symbols};
+ghost use Rattle.rec_check.specs.Symbols.{named_by, named_in, with_symbols};
 ghost use Rattle.rec_check.specs.Rule.{rule_in};
 ghost use Rattle.rec_check.specs.Spelled as spelled;
 ghost use Rattle.rec_check.specs.Term.{after, all_of};
 ghost use Rattle.rec_includes.specs.Material.{symbols_of, specifications_at};
 ghost use Rattle.rec_includes.specs.Listing.{listing, texts};
+ghost use Rattle.rec_offences.specs.Known.{entries_of};
 
 use crate::rules::rule_of;
 use crate::scope::Scope;
@@ -16,15 +17,28 @@ use crate::table::Table;
 use crate::terms::trees_of;
 use faults::Memory;
 use rec_includes::{Directory, text_of};
-use rec_offences::{specification_at, symbols_at};
+use rec_offences::{Signature, specification_at, symbols_at};
 use rec_reader::{Node, Rule as WrittenRule, Sequence, Specification};
 use rewrite_model::Rule;
 use std::alloc::Global;
 use symbol_pool::Symbols;
 use term_model::Flat;
 
-/// The symbols that these of the specifications declare, in order.
+/// Adds symbols, in order.
 #[tactic(auto, using(crate::proofs::Declaring::declaring))]
+fn add_symbols(table: &mut Table, text: &[u8], symbols: &[Signature]) -> Result<(), Memory>
+    requires { IsSome (with_symbols table.old.symbols
+        (map (named_by text.now) (entries_of symbols.now))) }
+    ensures { OnOk result (with_symbols table.old.symbols
+        (map (named_by text.now) (entries_of symbols.now)) ≡ Some table.new.symbols) }
+{
+    for symbol in symbols {
+        table.add(text_of(text, symbol.name), symbol.arguments.len())?;
+    }
+    Ok(())
+}
+
+/// The symbols that these of the specifications declare, in order.
 pub(crate) fn table_of(
     alloc: Global,
     text: &[u8],
@@ -37,11 +51,9 @@ pub(crate) fn table_of(
         with_symbols [] (named_in text.now (symbols_of specifications.now material.now))
         ≡ Some t.symbols) }
 {
-    let mut table = Table::new(alloc);
     let symbols = symbols_at(alloc, specifications, material)?;
-    for symbol in &symbols {
-        table.add(text_of(text, symbol.name), symbol.arguments.len())?;
-    }
+    let mut table = Table::new(alloc);
+    add_symbols(&mut table, text, &symbols)?;
     Ok(table)
 }
 
