@@ -78,6 +78,12 @@ further_cell spell (Node h ts) e =
     ap (λ (x : Head). further_elements spell (Node x ts)) (some_same h Cons e)
     ∙ ap (λ us. codes "," ++ elements spell us) (sym (trees_of-list_of ts))
 
+pub is_cons : (h : Head) → is_cell h ≡ true → h ≡ Cons
+is_cons (App f) e = absurd cc
+is_cons (Int v) e = absurd cc
+is_cons Nil e = absurd cc
+is_cons Cons e = refl
+
 pub further_other : (spell : Symbol → List ℕ) (t : Tree) (h : Head) → root t ≡ Some h → is_cell h ≡ false → further_elements spell t ≡ []
 further_other spell (Leaf x) h e n = absurd (cc)
 further_other spell (Node (App f) ts) h e n = refl

@@ -1,6 +1,7 @@
 -- What each step of writing does.
 use Rattle.std.proofs.Common.{◌≡◌, ℕ, ◌+◌, ◌<◌, ◌≤◌, List, [], ◌∷◌, ◌++◌, Some, length, drop, ap, sym, ◌∙◌, subst, arith, append_assoc, append-nil}
-use Rattle.std.specs.Prelude.{All, slice_get, codes, decimal, sum_by}
+use Rattle.std.specs.Prelude.{All, Result, OnOk, slice_get, codes, decimal, sum_by}
+use Rattle.std.proofs.lemmas.Result.{on_ok_weaker}
 use Rattle.std.proofs.lemmas.List.{nil_from_length, drop_all}
 use Rattle.std.proofs.lemmas.List.Sums.{sum_by_push, sum_by-append, sum_by-cons}
 use Rattle.std.proofs.lemmas.List.Elements.{All-append, All-push, All-nil}
@@ -13,10 +14,10 @@ use Rattle.terms_api.specs.Terms.{Store, IsHeld, tree_at}
 use Rattle.symbol_pool.specs.Pool.{Named, name_at}
 use Rattle.tree_text.specs.Text.{text_by, in_parentheses, after_commas, elements, further_elements, HasNames}
 use Rattle.term_text.specs.Text.{text, plain_name}
-use Rattle.term_text.specs.Works.{text_of, text_of_all, steps_of, steps_of_all, IsReady, Extends, Advances, PushesCell}
+use Rattle.term_text.specs.Works.{text_of, text_of_all, steps_of, steps_of_all, IsReady, Extends, Advances, PushesArgument, PushesCell}
 use Rattle.term_text.specs.declared.works.Work.{Work}
 use Rattle.term_text.specs.declared.works.Work.TheVariants.{Term, Arguments, Elements}
-use Rattle.term_text.proofs.Shapes.{drop_at, nodes-arguments, named_at, spelled, text_symbol, text_integer, text_empty, cell_arguments}
+use Rattle.term_text.proofs.Shapes.{drop_at, nodes-arguments, named_at, spelled, text_symbol, text_integer, text_empty, further_cell, cell_arguments}
 
 -- lists of work
 text_append : (names : List Named) (s : Store) (xs ys : List Work) → text_of_all names s (xs ++ ys) ≡ text_of_all names s ys ++ text_of_all names s xs
@@ -36,7 +37,7 @@ both_ready names s w v a b =
     let P = IsReady names s in
     All-push P (w ∷ []) v (All-push P [] w (All-nil P) a) b
 
-two_pushed : {A : Type 0} (old one two : List A) (x y : A) → one ≡ old ++ x ∷ [] → two ≡ one ++ y ∷ [] → two ≡ old ++ (x ∷ y ∷ [])
+pub two_pushed : {A : Type 0} (old one two : List A) (x y : A) → one ≡ old ++ x ∷ [] → two ≡ one ++ y ∷ [] → two ≡ old ++ (x ∷ y ∷ [])
 two_pushed old one two x y e f = f ∙ ap (λ xs. xs ++ y ∷ []) e ∙ append_assoc old (x ∷ []) (y ∷ [])
 
 -- nothing is left of the piece
@@ -72,13 +73,14 @@ constant_written names s row f name works before after e named none out =
     all_written names s (Term row) works before after name out all (some_steps s row)
 
 -- a symbol with arguments: the first is next
-pub symbol_written : (names : List Named) (s : Store) (row first : Row) (f : Symbol) (name : List ℕ) (works one two : List Work) (before middle after : List ℕ)
-    → IsReady names s (Term row) → IsHeld s first
-    → root (tree_at s row) ≡ Some (App f) → name_at names f ≡ Some name → slice_get (arguments (tree_at s row)) 0 ≡ Some (tree_at s first)
+symbol_written : (names : List Named) (s : Store) (row : Row) (f : Symbol) (name : List ℕ) (works two : List Work) (before middle after : List ℕ)
+    → IsReady names s (Term row) → root (tree_at s row) ≡ Some (App f) → name_at names f ≡ Some name
     → middle ≡ before ++ name → after ≡ middle ++ 40 ∷ []
-    → one ≡ works ++ Arguments row 1 ∷ [] → two ≡ one ++ Term first ∷ []
+    → PushesArgument s row 0 works two
     → Advances names s (Term row) works two before after
-symbol_written names s row first f name works one two before middle after ready held e named at out out' push push' =
+symbol_written names s row f name works two before middle after ready e named out out' push =
+    let first = push.next in
+    let at = push.tree in
     let spell = plain_name names in
     let t = tree_at s row in
     let a = tree_at s first in
@@ -92,7 +94,7 @@ symbol_written names s row first f name works one two before middle after ready 
     record {
       more = Arguments row 1 ∷ Term first ∷ [];
       written = name ++ 40 ∷ [];
-      works = two_pushed works one two (Arguments row 1) (Term first) push push';
+      works = push.works;
       out = out' ∙ ap (λ ys. ys ++ 40 ∷ []) out ∙ append_assoc before name (40 ∷ []);
       text =
           text_symbol spell t f e
@@ -100,9 +102,18 @@ symbol_written names s row first f name works one two before middle after ready 
           ∙ ap (λ ys. ys ++ (codes "(" ++ text_by spell a ++ rest ++ codes ")")) (spelled names f name named)
           ∙ ap (λ ys. name ++ 40 ∷ ys) (append_assoc (text_by spell a) rest (codes ")"))
           ∙ sym (append_assoc name (40 ∷ []) (text_by spell a ++ (rest ++ codes ")")));
-      ready = both_ready names s (Arguments row 1) (Term first) (record { held = ready.held; named = ready.named }) (record { held = held; named = named_at names t 0 a ready.named at });
+      ready = both_ready names s (Arguments row 1) (Term first) (record { held = ready.held; named = ready.named }) (record { held = push.held; named = named_at names t 0 a ready.named at });
       fewer = omega (arith, steps, sum, size, n);
     }
+
+-- the same, where it was pushed in a store that is the same
+pub symbol_begun : {X E : Type 0} (result : Result X E) (names : List Named) (s t : Store) (row : Row) (f : Symbol) (name : List ℕ) (works two : List Work) (before middle after : List ℕ)
+    → t ≡ s → IsReady names s (Term row) → root (tree_at s row) ≡ Some (App f) → name_at names f ≡ Some name
+    → middle ≡ before ++ name → after ≡ middle ++ 40 ∷ []
+    → OnOk result (PushesArgument t row 0 works two) → OnOk result (Advances names s (Term row) works two before after)
+symbol_begun result names s t row f name works two before middle after there ready e named out out' push =
+    on_ok_weaker result (λ (p : PushesArgument t row 0 works two).
+    symbol_written names s row f name works two before middle after ready e named out out' (subst (λ (x : Store). PushesArgument x row 0 works two) there p)) push
 
 -- no argument is left
 pub arguments_closed : (names : List Named) (s : Store) (row : Row) (j : ℕ) (works : List Work) (before after : List ℕ)
@@ -113,13 +124,12 @@ arguments_closed names s row j works before after past out =
     all_written names s (Arguments row j) works before after (41 ∷ []) out all (omega arith)
 
 -- the next argument is next
-pub argument_written : (names : List Named) (s : Store) (row next : Row) (j : ℕ) (works one two : List Work) (before after : List ℕ)
-    → IsReady names s (Arguments row j) → IsHeld s next
-    → slice_get (arguments (tree_at s row)) j ≡ Some (tree_at s next)
-    → after ≡ before ++ 44 ∷ []
-    → one ≡ works ++ Arguments row (j + 1) ∷ [] → two ≡ one ++ Term next ∷ []
+argument_written : (names : List Named) (s : Store) (row : Row) (j : ℕ) (works two : List Work) (before after : List ℕ)
+    → IsReady names s (Arguments row j) → after ≡ before ++ 44 ∷ [] → PushesArgument s row j works two
     → Advances names s (Arguments row j) works two before after
-argument_written names s row next j works one two before after ready held at out push push' =
+argument_written names s row j works two before after ready out push =
+    let next = push.next in
+    let at = push.tree in
     let spell = plain_name names in
     let t = tree_at s row in
     let a = tree_at s next in
@@ -132,14 +142,21 @@ argument_written names s row next j works one two before after ready held at out
     record {
       more = Arguments row (j + 1) ∷ Term next ∷ [];
       written = 44 ∷ [];
-      works = two_pushed works one two (Arguments row (j + 1)) (Term next) push push';
+      works = push.works;
       out = out;
       text =
           ap (λ ys. after_commas spell (trees_of ys) ++ codes ")") split
           ∙ ap (λ ys. 44 ∷ ys) (append_assoc (text_by spell a) rest (codes ")"));
-      ready = both_ready names s (Arguments row (j + 1)) (Term next) (record { held = ready.held; named = ready.named }) (record { held = held; named = named_at names t j a ready.named at });
+      ready = both_ready names s (Arguments row (j + 1)) (Term next) (record { held = ready.held; named = ready.named }) (record { held = push.held; named = named_at names t j a ready.named at });
       fewer = omega (arith, steps, sum, n);
     }
+
+pub argument_begun : {X E : Type 0} (result : Result X E) (names : List Named) (s t : Store) (row : Row) (j : ℕ) (works two : List Work) (before after : List ℕ)
+    → t ≡ s → IsReady names s (Arguments row j) → after ≡ before ++ 44 ∷ []
+    → OnOk result (PushesArgument t row j works two) → OnOk result (Advances names s (Arguments row j) works two before after)
+argument_begun result names s t row j works two before after there ready out push =
+    on_ok_weaker result (λ (p : PushesArgument t row j works two).
+    argument_written names s row j works two before after ready out (subst (λ (x : Store). PushesArgument x row j works two) there p)) push
 
 -- the elements of a cell are next
 pub cell_pushed : (names : List Named) (s : Store) (row list first : Row) (works one two : List Work)
@@ -169,6 +186,24 @@ cell_pushed names s row list first works one two named held held' w e next at pu
       ready = both_ready names s (Elements list) (Term first) (record { held = held; named = named_at names t 1 u named next }) (record { held = held'; named = named_at names t 0 a named at });
       fewer = omega (arith, steps, sum, size, n);
     }
+
+-- a cell among the elements of a list, whose elements were pushed in a store that is the same
+pub cell_begun : {X E : Type 0} (result : Result X E) (names : List Named) (s t : Store) (row : Row) (works two : List Work) (before after : List ℕ)
+    → t ≡ s → root (tree_at s row) ≡ Some Cons → after ≡ before ++ 44 ∷ []
+    → OnOk result (PushesCell names t row works two) → OnOk result (Advances names s (Elements row) works two before after)
+cell_begun result names s t row works two before after there e out push =
+    on_ok_weaker result (λ (h : PushesCell names t row works two).
+    let p = subst (λ (x : Store). PushesCell names x row works two) there h in
+    let few = p.fewer in
+    record {
+      more = p.more;
+      written = 44 ∷ [];
+      works = p.works;
+      out = out;
+      text = ap (λ ys. ys ++ codes "]") (further_cell (plain_name names) (tree_at s row) e) ∙ ap (λ ys. 44 ∷ ys) p.text;
+      ready = p.ready;
+      fewer = omega (arith, few);
+    }) push
 
 -- where no element follows
 pub elements_closed : (names : List Named) (s : Store) (row : Row) (works : List Work) (before after : List ℕ)

@@ -1,5 +1,5 @@
 -- What is still to be written of a term, the next last.
-use Rattle.std.specs.Prelude.{◌≡◌, ℕ, ◌+◌, ◌-◌, ◌*◌, ◌<◌, ◌≤◌, List, [], ◌∷◌, ◌++◌, All, drop, codes, sum_by, Bool, true, false}
+use Rattle.std.specs.Prelude.{◌≡◌, ℕ, ◌+◌, ◌-◌, ◌*◌, ◌<◌, ◌≤◌, List, [], ◌∷◌, ◌++◌, All, Some, slice_get, drop, codes, sum_by, Bool, true, false}
 use Rattle.term_model.specs.declared.Row.{Row}
 use Rattle.term_model.specs.declared.Head.{Head}
 use Rattle.term_model.specs.declared.Head.TheVariants.{App, Int, Nil, Cons}
@@ -63,6 +63,13 @@ pub record Advances (names : List Named) (s : Store) (w : Work) (old new : List 
   pub text : text_of names s w ≡ written ++ text_of_all names s more
   pub ready : All (IsReady names s) more
   pub fewer : steps_of_all s more < steps_of s w
+
+-- An argument is to be written, and then those after it.
+pub record PushesArgument (s : Store) (row : Row) (j : ℕ) (old new : List Work) : Type 0 where
+  pub next : Row
+  pub held : IsHeld s next
+  pub tree : slice_get (arguments (tree_at s row)) j ≡ Some (tree_at s next)
+  pub works : new ≡ old ++ (Arguments row (j + 1) ∷ Term next ∷ [])
 
 -- The elements of a cell, and the bracket after them, are to be written.
 pub record PushesCell (names : List Named) (s : Store) (row : Row) (old new : List Work)

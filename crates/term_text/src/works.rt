@@ -1,11 +1,11 @@
 //! Writing a term piece by piece, with a stack of what is still to be written.
 
-ghost use Rattle.std.specs.Prelude.{◌≡◌, ◌++◌, ◌∷◌, [], OnOk, Some, true, length, slice_get};
+ghost use Rattle.std.specs.Prelude.{◌≡◌, ◌<◌, ◌++◌, ◌∷◌, [], OnOk, Some, true, length, slice_get};
 ghost use Rattle.term_model.specs.Tree.{root, arguments};
 ghost use Rattle.term_model.specs.declared.Head.TheVariants.{App, Cons};
 ghost use Rattle.terms_api.specs.Terms.{IsHeld, IsSound, tree_at};
 ghost use Rattle.tree_text.specs.Text.{HasNames};
-ghost use Rattle.term_text.specs.Works.{IsReady, Advances, Extends, PushesCell, is_cell};
+ghost use Rattle.term_text.specs.Works.{IsReady, Advances, Extends, PushesArgument, PushesCell, is_cell};
 
 use faults::Memory;
 use itoa::Buffer;
@@ -103,10 +103,7 @@ fn write_symbol<T: Terms>(
         return Ok(());
     }
     out.push(b'(')?;
-    let first = terms.child(row, 0);
-    works.push(Work::Arguments(row, 1))?;
-    works.push(Work::Term(first))?;
-    Ok(())
+    push_argument(terms, row, 0, works)
 }
 
 /// Writes a comma before the next argument, or the parenthesis after the last.
@@ -131,6 +128,25 @@ fn write_arguments<T: Terms>(
         return Ok(());
     }
     out.push(b',')?;
+    push_argument(terms, row, from, works)
+}
+
+/// Puts an argument on the stack, and below it the arguments after it.
+fn push_argument<T: Terms>(
+    terms: &mut T,
+    row: Row,
+    from: u32,
+    works: &mut Vec<Work>,
+) -> Result<(), Memory>
+    requires inside { (T.store terms.old).inside ≡ true }
+    requires held { IsHeld (T.store terms.old) row }
+    requires below { from < length (arguments (tree_at (T.store terms.old) row)) }
+    requires fits { from < u32.MAX }
+    ensures argument { OnOk result (PushesArgument (T.store terms.old) row from
+        works.old.items works.new.items) }
+    ensures unchanged { T.store terms.new ≡ T.store terms.old }
+    ensures same { T.same terms.old terms.new }
+{
     let next = terms.child(row, from);
     works.push(Work::Arguments(row, from + 1))?;
     works.push(Work::Term(next))?;

@@ -53,3 +53,6 @@ path-preserved g c =
 pub returns-clause-within : goal.returns-clause-within
 returns-clause-within g c = λ ts w a.
     none_visited (g.T.Terms.store c.args.terms.now) c.path.tally.counts.items c.path.tally.path.items ts (c.path.invariant.within ts w a)
+
+pub returns-then-index-gt0-clause-same : goal.returns-then-index-gt0-clause-same
+returns-then-index-gt0-clause-same g c = g.met.T.Terms.same_as_itself _

@@ -82,3 +82,6 @@ returns-in-None-clause-continues g c =
     let nodes = nodes_there s _ v.row count c.first_uncounted.ensures.unchanged c.nodes_over-nodes.ensures.nodes in
     let on = counted_on s t.counts.items t.rows.items t.path.items v count c.requires.sound c.requires.halfway nodes in
     subst (λ (rows : List Row). Continues s t.counts.items (set t.counts.items v.row.0 count) t.rows.items rows (t.path.items ++ v ∷ []) t.path.items) (sym c.push_reserved-in-None.ensures.items) on
+
+pub returns-in-None-clause-same : goal.returns-in-None-clause-same
+returns-in-None-clause-same g c = g.met.T.Terms.same_in_turn _ _ _ c.first_uncounted.ensures.same c.nodes_over-nodes.ensures.same

@@ -11,3 +11,6 @@ returns-then-left-eq0-clause-exact g c =
     let some = some_nodes (tree_at s c.in-Some.top) in
     let all = c.rows.invariant.nodes in
     (λ h. absurd (cc), λ h. absurd (omega (arith, top, some, all, h)))
+
+pub returns-in_err-push_arguments-clause-same : goal.returns-in_err-push_arguments-clause-same
+returns-in_err-push_arguments-clause-same g c = g.met.T.Terms.same_in_turn _ _ _ c.rows.invariant.same c.push_arguments.ensures.same

@@ -25,3 +25,6 @@ returns-clause-nodes g c =
     let s = g.T.Terms.store c.args.terms.now in
     let end : c.loop-j.j ≡ length (arguments (tree_at s c.args.row)) = omega (arith, c.count-j-end.ensures.count) in
     arguments_counted s c.args.row c.loop-j.j c.args.stack.now.items c.loop-j.stack.items c.loop-j.invariant.nodes end
+
+pub returns-in_err-push-clause-same : goal.returns-in_err-push-clause-same
+returns-in_err-push-clause-same g c = g.met.T.Terms.same_in_turn _ _ _ c.loop-j.invariant.same c.child-argument.ensures.same

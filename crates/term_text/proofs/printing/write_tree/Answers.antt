@@ -27,3 +27,9 @@ works-preserved g c =
       grows = extends_more _ _ _ i.grows c.write_work.ensures.grows;
       ready = ready_kept names s w _ _ _ _ step all.0;
     }
+
+pub returns-in_err-write_work-clause-same : goal.returns-in_err-write_work-clause-same
+returns-in_err-write_work-clause-same g c = g.met.T.Terms.same_in_turn _ _ _ c.works.invariant.same c.write_work.ensures.same
+
+pub returns-in_err-write_work-clause-grows : goal.returns-in_err-write_work-clause-grows
+returns-in_err-write_work-clause-grows g c = extends_more _ _ _ c.works.invariant.grows c.write_work.ensures.grows

@@ -20,3 +20,12 @@ returns-clause-cell g c =
     (well_formed_at s c.args.row c.depth.ensures.sound c.requires.held) c.requires.root
     c.child-list.ensures.tree (child_there s _ c.args.row c.child-first.result 0 e c.child-first.ensures.tree)
     c.in_ok-push.ensures.items c.in_ok-push-2.ensures.items
+
+pub returns-clause-same : goal.returns-clause-same
+returns-clause-same g c = g.met.T.Terms.same_in_turn _ _ _ c.child-list.ensures.same c.child-first.ensures.same
+
+pub returns-in_err-push-clause-same : goal.returns-in_err-push-clause-same
+returns-in_err-push-clause-same g c = g.met.T.Terms.same_in_turn _ _ _ c.child-list.ensures.same c.child-first.ensures.same
+
+pub returns-in_err-push-2-clause-same : goal.returns-in_err-push-2-clause-same
+returns-in_err-push-2-clause-same g c = g.met.T.Terms.same_in_turn _ _ _ c.child-list.ensures.same c.child-first.ensures.same

@@ -1,6 +1,5 @@
-use Rattle.std.proofs.Common.{arith}
-use Rattle.term_text.proofs.Rows.{child_there, held_there}
-use Rattle.term_text.proofs.Writing.{arguments_closed, argument_written}
+use Rattle.std.proofs.Common.{arith, ◌∷◌, []}
+use Rattle.term_text.proofs.Writing.{arguments_closed, argument_begun}
 use Rattle.term_text.proofs.works.write_arguments.Goals as goal
 
 pub returns-then-count-from-clause-advances : goal.returns-then-count-from-clause-advances
@@ -10,10 +9,11 @@ returns-then-count-from-clause-advances g c =
 
 pub returns-clause-advances : goal.returns-clause-advances
 returns-clause-advances g c =
-    let s = g.T.Terms.store c.args.terms.now in
-    let e = c.count.ensures.unchanged in
-    argument_written c.args.symbols.now s c.args.row c.child-next.result c.args.from _ _ _ _ _
-    c.requires.ready (held_there s _ c.child-next.result e c.child-next.ensures.held)
-    (child_there s _ c.args.row c.child-next.result c.args.from e c.child-next.ensures.tree)
-    c.in_ok-push-2.ensures.items
-    c.in_ok-push-3.ensures.items c.in_ok-push-4.ensures.items
+    argument_begun c.push_argument.result c.args.symbols.now (g.T.Terms.store c.args.terms.now) _ c.args.row c.args.from _ _ _ _
+    c.count.ensures.unchanged c.requires.ready c.in_ok-push-2.ensures.items c.push_argument.ensures.argument
+
+pub returns-clause-grows : goal.returns-clause-grows
+returns-clause-grows g c = (44 ∷ [], c.in_ok-push-2.ensures.items)
+
+pub returns-clause-same : goal.returns-clause-same
+returns-clause-same g c = g.met.T.Terms.same_in_turn _ _ _ c.count.ensures.same c.push_argument.ensures.same
