@@ -1,5 +1,5 @@
 //! The material that is at hand while specifications are checked.
-ghost use Rattle.std.specs.Prelude.{◌≡◌, ◌-◌, ◌++◌, ◌∷◌, ℕ, List, [], false, true, IsSome, OnOk, length, take};
+ghost use Rattle.std.specs.Prelude.{◌≡◌, ◌-◌, ◌∷◌, ℕ, List, [], false, true, IsSome, OnOk, length, take};
 ghost use Rattle.rec_reader.specs.declared.syntax_tree.Specification.{Specification};
 ghost use Rattle.rec_includes.specs.Forest.{cut};
 ghost use Rattle.rec_offences.specs.Inclusion.{IsAtLevel, IsDeclared, AreLevels, extent_of, last_material, last_number, path_of};

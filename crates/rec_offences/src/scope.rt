@@ -1,5 +1,5 @@
 //! Declared names, and what each is first declared as.
-ghost use Rattle.std.specs.Prelude.{◌≡◌, ◌<◌, ◌^◌, ◌∷◌, [], OnOk, length, map, not, slice_get, take};
+ghost use Rattle.std.specs.Prelude.{◌≡◌, ◌<◌, ◌^◌, ◌∷◌, [], OnOk, length, not, slice_get, take};
 ghost use Rattle.std.specs.Option.{option_map};
 ghost use Rattle.rec_includes.specs.Names.{is_among, same_text};
 ghost use Rattle.rec_offences.specs.Scope.{look_up, names_of, is_variable};

@@ -14,7 +14,6 @@ pub(crate) struct Parts {
 
 impl Model for Parts {
     ghost use Rattle.std.specs.Prelude.{List};
-    ghost use Rattle.std.specs.Coded.{coded_list};
     ghost use Rattle.term_syntax.specs.declared.machine.Entry.{Entry};
 
     ghost Value = { List Entry };

@@ -1,6 +1,6 @@
 //! Counting the nodes of trees whose parts are shared, each part once.
 
-ghost use Rattle.std.specs.Prelude.{◌≡◌, ◌<◌, ◌≤◌, ◌++◌, ◌∷◌, [], Contains, IfSome, IfNone, List, true, length, vec_len, vec_capacity};
+ghost use Rattle.std.specs.Prelude.{◌≡◌, ◌<◌, ◌≤◌, ◌++◌, ◌∷◌, [], Contains, IfSome, IfNone, List, true, length};
 ghost use Rattle.term_model.specs.Tree.{Tree, arguments, nodes};
 ghost use Rattle.term_model.specs.declared.Row.{Row};
 ghost use Rattle.terms_api.specs.Terms.{IsHeld, IsSound, tree_at};

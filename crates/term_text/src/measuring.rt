@@ -1,6 +1,6 @@
 //! How large terms are.
 
-ghost use Rattle.std.specs.Prelude.{◌≡◌, ◌≤◌, ◌-◌, ◌^◌, IfOk, true, min, sum_by};
+ghost use Rattle.std.specs.Prelude.{◌≡◌, ◌≤◌, ◌-◌, ◌^◌, IfOk, true, sum_by};
 ghost use Rattle.term_model.specs.Tree.{nodes, subtrees, distinct};
 ghost use Rattle.terms_api.specs.Terms.{IsHeld, tree_at, trees, reachable};
 ghost use Rattle.term_text.specs.Sizes.{saturated};

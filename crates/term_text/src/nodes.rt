@@ -2,7 +2,7 @@
 
 ghost use Rattle.std.specs.Prelude.{◌≡◌, ◌+◌, ◌≤◌, ◌↔◌, IfOk, OnOk, IsTrue, All, true};
 ghost use Rattle.term_model.specs.Tree.{nodes};
-ghost use Rattle.terms_api.specs.Terms.{IsHeld, IsSound, tree_at};
+ghost use Rattle.terms_api.specs.Terms.{IsHeld, tree_at};
 ghost use Rattle.term_text.specs.Nodes.{nodes_at, nodes_of_rows};
 
 use faults::Memory;

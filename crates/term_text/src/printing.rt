@@ -1,6 +1,6 @@
 //! Terms of a store as text.
 
-ghost use Rattle.std.specs.Prelude.{◌≡◌, ◌++◌, ◌<◌, ◌↔◌, ◌∷◌, [], IfOk, OnOk, OnErr, Ok, true};
+ghost use Rattle.std.specs.Prelude.{◌≡◌, ◌++◌, ◌<◌, ◌↔◌, IfOk, OnOk, OnErr, Ok, true};
 ghost use Rattle.term_model.specs.Tree.{nodes};
 ghost use Rattle.terms_api.specs.Terms.{IsHeld, tree_at};
 ghost use Rattle.tree_text.specs.Text.{HasNames};

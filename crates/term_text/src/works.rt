@@ -1,9 +1,9 @@
 //! Writing a term piece by piece, with a stack of what is still to be written.
 
-ghost use Rattle.std.specs.Prelude.{◌≡◌, ◌<◌, ◌++◌, ◌∷◌, [], OnOk, Some, true, length, slice_get};
+ghost use Rattle.std.specs.Prelude.{◌≡◌, ◌<◌, [], OnOk, Some, true, length};
 ghost use Rattle.term_model.specs.Tree.{root, arguments};
 ghost use Rattle.term_model.specs.declared.Head.TheVariants.{App, Cons};
-ghost use Rattle.terms_api.specs.Terms.{IsHeld, IsSound, tree_at};
+ghost use Rattle.terms_api.specs.Terms.{IsHeld, tree_at};
 ghost use Rattle.tree_text.specs.Text.{HasNames};
 ghost use Rattle.term_text.specs.Works.{IsReady, Advances, Extends, PushesArgument, PushesCell, is_cell};
 

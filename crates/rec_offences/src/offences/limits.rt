@@ -1,5 +1,5 @@
 //! More than the limits allow.
-ghost use Rattle.std.specs.Prelude.{◌≡◌, ◌∷◌, [], map, slice_get};
+ghost use Rattle.std.specs.Prelude.{◌≡◌, ◌∷◌, [], slice_get};
 ghost use Rattle.std.specs.List.{filter, flat_map};
 ghost use Rattle.std.specs.Option.{option_map, option_to_list, option_and_then, option_copied};
 ghost use Rattle.rec_offences.specs.Scope.{root, heads};

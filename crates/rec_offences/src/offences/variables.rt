@@ -1,5 +1,5 @@
 //! Variables as left sides, and variables that don't occur on the left.
-ghost use Rattle.std.specs.Prelude.{◌≡◌, ◌++◌, ◌∷◌, [], OnOk};
+ghost use Rattle.std.specs.Prelude.{◌≡◌, ◌++◌, OnOk};
 ghost use Rattle.std.specs.List.{filter, flat_map};
 ghost use Rattle.std.specs.Option.{option_to_list};
 ghost use Rattle.rec_includes.specs.Listing.{listing};
