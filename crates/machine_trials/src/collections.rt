@@ -22,7 +22,7 @@ const ROOMS: Sizes = Sizes {
 
 /// Seat 0 protects row 0 and seat 1 row 1; row 2 is made and protected by nobody. Seat 0 is then in
 /// exclusive access, and has loaded all words.
-pub(crate) static SWEPT: [(u32, Act); 14] = [
+pub(crate) static LOADED: [(u32, Act); 14] = [
     (0, Act::Enter),
     (0, Act::Make(0)),
     (0, Act::Protect(0, 0)),
@@ -80,7 +80,7 @@ fn has_kept_both(store: &StoreState, alloc: Global) -> Result<bool, Memory> {
 type Kept = ((bool, bool, u32), bool);
 
 fn both_kept(alloc: Global) -> Result<Kept, Memory> {
-    let mut driven = Driven::after(alloc, ROOMS, &SWEPT)?;
+    let mut driven = Driven::after(alloc, ROOMS, &LOADED)?;
     let answers = keep_both(&mut driven)?;
     Ok((answers, has_kept_both(&driven.store, alloc)?))
 }
@@ -116,7 +116,7 @@ pub(crate) fn stored(driven: &mut Driven, words: &[(Place, u64)]) -> Result<(u32
 }
 
 fn ends_with(alloc: Global, words: &[(Place, u64)]) -> Result<(u32, bool), Memory> {
-    let mut driven = Driven::after(alloc, ROOMS, &SWEPT)?;
+    let mut driven = Driven::after(alloc, ROOMS, &LOADED)?;
     stored(&mut driven, words)
 }
 

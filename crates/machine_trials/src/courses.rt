@@ -47,8 +47,8 @@ pub(crate) enum Play {
     Sweeping,
 }
 
-/// How far the two programs of a sweep have come: how often the creator has stored its protected
-/// rows, whether it has left; whether the collector has begun to leave, and has left.
+/// How far the two programs of a sweep have come: how many stores of its protected rows the creator
+/// has made, and whether it has left; whether the collector has begun to leave, and has left.
 #[derive(Clone, Copy, Debug)]
 pub(crate) struct Progress {
     pub(crate) rooting: u32,
@@ -109,7 +109,7 @@ pub(crate) fn started(alloc: Global, play: Play) -> Result<Course, Memory> {
 
 impl Course {
     /// A seat's next step; false, and none, where it has come to its end. In a sweep the entries of
-    /// both have to be a legal history after it.
+    /// both have to be a legal history after it, and leave the set that the words show.
     pub(crate) fn turn(&mut self, seat: u32) -> Result<bool, Memory> {
         let Some(step) = self.next(seat) else {
             return Ok(false);

@@ -49,7 +49,8 @@ pub(crate) enum Act {
     Store(Place, u64),
 }
 
-/// A store, the steps that it was driven by, and how many of them were out of place.
+/// A store, the steps of it that are listed, and how many steps were out of place or left an
+/// unsound history.
 #[derive(Drop)]
 pub(crate) struct Driven {
     pub(crate) store: StoreState,
@@ -68,18 +69,17 @@ pub(crate) fn phase_of(store: &StoreState, seat: u32) -> Phase {
     }
 }
 
-// The step by which a collection stores a word; the load of the base for a word that it doesn't
-// store.
-fn store_of(place: Place, value: u64) -> StoreStep {
+// The step by which a collection stores a word; None for a word that it doesn't store.
+fn store_of(place: Place, value: u64) -> Option<StoreStep> {
     match place {
-        Place::Next(row) => StoreStep::StoreNext { row, value },
-        Place::Bucket(bucket) => StoreStep::StoreBucket { bucket, value },
-        Place::FreePlace(index) => StoreStep::StoreFreePlace { index, value },
-        Place::FreeCount => StoreStep::StoreFreeCount(value),
-        Place::Base => StoreStep::StoreBase(value),
-        Place::InUse => StoreStep::StoreInUse(value),
-        Place::Claim => StoreStep::StoreClaim(value),
-        _ => StoreStep::LoadBase,
+        Place::Next(row) => Some(StoreStep::StoreNext { row, value }),
+        Place::Bucket(bucket) => Some(StoreStep::StoreBucket { bucket, value }),
+        Place::FreePlace(index) => Some(StoreStep::StoreFreePlace { index, value }),
+        Place::FreeCount => Some(StoreStep::StoreFreeCount(value)),
+        Place::Base => Some(StoreStep::StoreBase(value)),
+        Place::InUse => Some(StoreStep::StoreInUse(value)),
+        Place::Claim => Some(StoreStep::StoreClaim(value)),
+        _ => None,
     }
 }
 
@@ -126,7 +126,7 @@ impl Driven {
             Act::Protect(place, row) => self.protect(seat, place, row),
             Act::LoadFirst => self.load_first(seat),
             Act::LoadAll => self.load_all(seat),
-            Act::Store(place, value) => self.step(seat, store_of(place, value)),
+            Act::Store(place, value) => self.store_word(seat, place, value),
         }
     }
 
@@ -143,7 +143,7 @@ impl Driven {
         Ok(())
     }
 
-    /// One more that was out of place.
+    /// One more fault.
     pub(crate) fn refuse(&mut self) {
         self.refused = self.refused.wrapping_add(1);
     }
@@ -192,10 +192,19 @@ impl Driven {
         self.step(seat, StoreStep::StoreRootCount(place.wrapping_add(1)))
     }
 
+    // A store of a collection; a fault for a word that none stores.
+    fn store_word(&mut self, seat: u32, place: Place, value: u64) -> Result<(), Memory> {
+        if let Some(step) = store_of(place, value) {
+            return self.step(seat, step);
+        }
+        self.refuse();
+        Ok(())
+    }
+
     /// Stores of a collection by seat 0.
     pub(crate) fn stores(&mut self, words: &[(Place, u64)]) -> Result<(), Memory> {
         for (place, value) in words {
-            self.step(0, store_of(*place, *value))?;
+            self.store_word(0, *place, *value)?;
         }
         Ok(())
     }

@@ -1,5 +1,5 @@
 //! Collections that have stored these words: which of them may end.
-use crate::collections::{SWEPT as FLAT, stored};
+use crate::collections::{LOADED as FLAT, stored};
 use crate::driving::{Act, Driven};
 use faults::Memory;
 use lock_core::LockStep;
@@ -188,7 +188,7 @@ fn ends_with(alloc: Global, rows: Rows, words: &[(Place, u64)]) -> Result<(u32, 
 }
 
 #[test]
-fn collections_end_exactly_so(rt: HostRuntime) -> Result<(), Fail> {
+fn collections_end_only_over_whole_chains_and_free_places(rt: HostRuntime) -> Result<(), Fail> {
     for (what, rows, words, ends) in &CASES {
         let found = ends_with(rt.alloc(), *rows, words)?;
         assert_eq!(rt; found, (0, *ends), "{what}");

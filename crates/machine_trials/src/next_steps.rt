@@ -27,8 +27,8 @@ pub(crate) fn integer(alloc: Global, value: u64) -> Content {
     }
 }
 
-// Word k of a row of a symbol or of an integer, worked out by hand: the symbol or 2 ^ 32, the count
-// of arguments, and the arguments or the integer.
+// Word k of a row of a symbol or of an integer, by a rule of its own: the symbol or 2 ^ 32, the
+// count of arguments, and the arguments or the integer.
 fn word_of(content: &Content, k: u32) -> u64 {
     match (content.head, k) {
         (Head::App(symbol), 0) => u64::from(symbol.0),

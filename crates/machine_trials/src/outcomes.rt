@@ -39,15 +39,15 @@ pub(crate) fn ended(course: &Course) -> Result<usize, Memory> {
         return Ok(BAD);
     }
     match course.play {
-        Play::Creations(one, other) => Ok(raced(course, one.0 == other.0, 1)),
-        Play::Leaving(one, other) => Ok(raced(course, one == other, 2)),
+        Play::Creations(one, other) => Ok(raced(course, one.0 == other.0, false)),
+        Play::Leaving(one, other) => Ok(raced(course, one == other, true)),
         Play::Sweeping => swept(course),
     }
 }
 
 // As a set of one thread would have it: equal constants have one name, different ones have two.
-// Each seat has noted its creation, and where it leaves, what it protects.
-fn raced(course: &Course, same: bool, entries: usize) -> usize {
+// Each seat has noted its creation, and where both leave, that it protects nothing.
+fn raced(course: &Course, same: bool, leave: bool) -> usize {
     let store = &course.driven.store;
     let (Some(one), Some(other)) = (store.view(0), store.view(1)) else {
         return BAD;
@@ -57,10 +57,29 @@ fn raced(course: &Course, same: bool, entries: usize) -> usize {
     } else {
         both_make(one, other)
     };
-    if good && one.entries.len() == entries && other.entries.len() == entries {
+    if good && is_complete(one, leave) && is_complete(other, leave) {
         GOOD
     } else {
         BAD
+    }
+}
+
+// Whether a seat has noted one entry; or where it leaves, two, of which the second is under the
+// number of the first, and protects nothing.
+fn is_complete(view: &View, leaves: bool) -> bool {
+    if leaves {
+        view.entries.len() == 2 && protects_nothing(view)
+    } else {
+        view.entries.len() == 1
+    }
+}
+
+fn protects_nothing(view: &View) -> bool {
+    match (view.entries.front(), view.entries.back()) {
+        (Some(first), Some(Entry::Roots { after, rows })) => {
+            *after == first.key() && rows.is_empty()
+        }
+        _ => false,
     }
 }
 

@@ -34,12 +34,16 @@ fn entry_of(alloc: Global, noted: Noted) -> Entry {
     }
 }
 
-// Whether a seat has noted this, and then that it has left with nothing protected.
-fn has_left(store: &StoreState, alloc: Global, seat: u32, noted: Noted) -> Result<bool, Memory> {
+// Whether a seat has noted this, and then that it has left with nothing protected, after this
+// number.
+fn has_left(
+    store: &StoreState,
+    alloc: Global,
+    seat: u32,
+    (noted, after): (Noted, u64),
+) -> Result<bool, Memory> {
     let mut list = LinkedList::new(alloc);
-    let entry = entry_of(alloc, noted);
-    let after = entry.key();
-    list.push_back(entry)?;
+    list.push_back(entry_of(alloc, noted))?;
     let rows = LinkedList::new(alloc);
     list.push_back(Entry::Roots { after, rows })?;
     Ok(has_noted(store, seat, &list))
@@ -62,17 +66,22 @@ fn race(alloc: Global, other: u32) -> Result<Driven, Memory> {
     Driven::after(alloc, SMALL, &acts)
 }
 
-// How many steps were out of place; whether seat 0 has made constant 0 under 1, and seat 1 has
-// noted this; and whether the steps are in place in a list.
-fn outcome(driven: &Driven, second: Noted) -> Result<(u32, bool, bool, bool), Memory> {
+// How many steps were out of place; whether seat 0 has made constant 0 under 1 and left after 1,
+// and seat 1 has noted this and left after that number; and whether the steps are in place in a
+// list.
+fn outcome(driven: &Driven, second: (Noted, u64)) -> Result<(u32, bool, bool, bool), Memory> {
     let alloc = driven.alloc;
-    let winner = has_left(&driven.store, alloc, 0, Noted::Makes(1, 0, 0))?;
+    let winner = has_left(&driven.store, alloc, 0, (Noted::Makes(1, 0, 0), 1))?;
     let loser = has_left(&driven.store, alloc, 1, second)?;
     let replayed = replay(alloc, SMALL, driven.steps.as_slice())?.is_some();
     Ok((driven.refused, winner, loser, replayed))
 }
 
-fn raced(alloc: Global, other: u32, second: Noted) -> Result<(u32, bool, bool, bool), Memory> {
+fn raced(
+    alloc: Global,
+    other: u32,
+    second: (Noted, u64),
+) -> Result<(u32, bool, bool, bool), Memory> {
     let driven = race(alloc, other)?;
     outcome(&driven, second)
 }
@@ -84,7 +93,7 @@ fn of_two_seats_that_race_for_one_term_one_makes_and_the_other_finds(
     rt: HostRuntime,
 ) -> Result<(), Fail> {
     assert_eq!(rt;
-        raced(rt.alloc(), 0, Noted::Finds(1, 0, 0))?,
+        raced(rt.alloc(), 0, (Noted::Finds(1, 0, 0), 1))?,
         (0, true, true, true)
     );
     Ok(())
@@ -95,7 +104,7 @@ fn of_two_seats_that_race_for_one_term_one_makes_and_the_other_finds(
 #[test]
 fn a_lost_exchange_walks_the_new_part_and_makes(rt: HostRuntime) -> Result<(), Fail> {
     assert_eq!(rt;
-        raced(rt.alloc(), 1, Noted::Makes(2, 1, 1))?,
+        raced(rt.alloc(), 1, (Noted::Makes(2, 1, 1), 2))?,
         (0, true, true, true)
     );
     Ok(())

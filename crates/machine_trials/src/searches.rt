@@ -4,7 +4,6 @@ use crate::outcomes::{BAD, Tally, add, ended};
 use crate::states::text_of;
 use faults::Memory;
 use std::alloc::Global;
-use std::mem;
 
 /// The orders of turns that lead to one state: one of them, and how many there are. Since the state
 /// decides how a course goes on, they go on alike.
