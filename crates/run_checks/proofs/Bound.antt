@@ -37,10 +37,6 @@ opened h number g f count ns t e n =
     ap (stands (App f) count) t ∙ stands_over h g f count ns
     ∙ (λ i. eq-eqb f.0 g.0 (sym e) i && eq-eqb (length ns) count n i)
 
-pub other_symbol : (h : Held) (number : ℕ) (g f : Symbol) (count : ℕ) (ns : List ℕ) → term_at h number ≡ term_over h g ns → (g.0 ≡ f.0 → ⊥) → stands (App f) count (term_at h number) ≡ false
-other_symbol h number g f count ns t other =
-    ap (stands (App f) count) t ∙ stands_over h g f count ns ∙ ap (λ b. b && (length ns == count)) (ne_eqb f.0 g.0 (λ e. other (sym e)))
-
 pub other_count : (h : Held) (number : ℕ) (g f : Symbol) (count : ℕ) (ns : List ℕ) → term_at h number ≡ term_over h g ns → (length ns ≡ count → ⊥) → stands (App f) count (term_at h number) ≡ false
 other_count h number g f count ns t other =
     ap (stands (App f) count) t ∙ stands_over h g f count ns ∙ ap (λ b. (f.0 == g.0) && b) (ne_eqb (length ns) count other) ∙ never (f.0 == g.0)

@@ -64,21 +64,6 @@ cut_take count ls first others c = ap (take count) c.whole ∙ take_front first 
 pub cut_drop : (count : ℕ) (ls first others : List (List ℕ)) → IsCut count ls first others → drop count ls ≡ others
 cut_drop count ls first others c = ap (drop count) c.whole ∙ drop_front first others count c.size
 
-not_less : (m n : ℕ) → n ≤ m → nat_lt m n ≡ false
-not_less m n le = grind (arith, le)
-
-less : (m n : ℕ) → m < n → nat_lt m n ≡ true
-less m n lt = grind (arith, lt)
-
-pub wrong_after_cut : (count : ℕ) (ls first others : List (List ℕ)) → IsCut count ls first others → wrong_line count ls ≡ wrong_after first others
-wrong_after_cut count ls first others c =
-    let n = ap (λ (xs : List (List ℕ)). length xs) c.whole ∙ length-append first others in
-    ap (λ b. cond b (Some (length ls + 1)) (wrong_after (take count ls) (drop count ls))) (not_less (length ls) count (omega (arith, n, c.size)))
-    ∙ (λ i. wrong_after (cut_take count ls first others c i) (cut_drop count ls first others c i))
-
-pub wrong_cut_off : (count : ℕ) (ls : List (List ℕ)) → length ls < count → wrong_line count ls ≡ Some (length ls + 1)
-wrong_cut_off count ls lt = ap (λ b. cond b (Some (length ls + 1)) (wrong_after (take count ls) (drop count ls))) (less (length ls) count lt)
-
 -- ---- more than the end
 
 lines_none : (bytes : List ℕ) → lines bytes ≡ [] → bytes ≡ []

@@ -25,7 +25,7 @@ use Rattle.run_checks.specs.Verdict.{leads_to, first_underived, told, verdict, t
 use Rattle.run_checks.specs.declared.checking.TraceVerdict.{TraceVerdict}
 use Rattle.run_checks.specs.Reached.{IsSound}
 use Rattle.run_checks.proofs.Soundness.{is_sound}
-use Rattle.run_checks.proofs.Values.{seen_lines, count_taken, cut_take, cut_drop, wrong_after_cut, wrong_cut_off}
+use Rattle.run_checks.proofs.Values.{seen_lines, count_taken, cut_take, cut_drop}
 
 -- ---- a pattern to which nothing is bound is its own instance
 
@@ -145,23 +145,6 @@ module _ (bytes spec_text output : List ℕ) (are : parts bytes ≡ Some (spec_t
     refused_if (Err e) w = wrong_form e w
 
 -- ---- an output that is cut
-
-pub cut_off : (count : ℕ) (ls : List (List ℕ)) (e : ReadFail) → IsCutOff count ls e → IsWrongAt (wrong_line count ls) e
-cut_off count ls (Refused kind line) f = (f.0, wrong_cut_off count ls f.1 ∙ ap Some (sym f.2))
-cut_off count ls Memory f = tt
-
-module _ (count : ℕ) (ls : List (List ℕ)) (taken items : List (Bor (List ℕ))) (rest : List (List ℕ)) (same : items ≡ taken) (cut : IsCut count ls (seen_lines taken) rest) where
-  pub few_taken : count ≤ 65535 → length items ≤ 65535
-  few_taken few =
-      let n = count_taken taken in
-      let m = ap (λ (xs : List (Bor (List ℕ))). length xs) same in
-      omega (arith, n, m, few, cut.size)
-
-  pub wrong_there : wrong_line count ls ≡ wrong_after (seen_lines items) rest
-  wrong_there = wrong_after_cut count ls (seen_lines taken) rest cut ∙ ap (λ (xs : List (Bor (List ℕ))). wrong_after (seen_lines xs) rest) (sym same)
-
-  pub counted : (n : ℕ) → n ≡ length (values_from 0 (seen_lines items)) → n ≡ length (values_from 0 (seen_lines taken))
-  counted n e = e ∙ ap (λ (xs : List (Bor (List ℕ))). length (values_from 0 (seen_lines xs))) same
 
 pub terms_cut : (count : ℕ) (ls first rest : List (List ℕ)) (spec : Specified) → count ≡ length spec.terms → IsCut count ls first rest → IsCut (length spec.terms) ls first rest
 terms_cut count ls first rest spec e cut = subst (λ (n : ℕ). IsCut n ls first rest) e cut

@@ -16,7 +16,7 @@ ghost use Rattle.log_check.specs.Words.{lines};
 
 use crate::building::put_instance;
 use crate::form::{events_of, is_no_value};
-use crate::lines::{Output, bad_line, formed};
+use crate::lines::{Output, bad_line, take_formed};
 use crate::parts::{parts, specification};
 use crate::replaying::replay;
 use crate::table::TermTable;
@@ -76,7 +76,7 @@ fn verdict(alloc: Global, spec: Spec, output: &[u8]) -> Result<TraceVerdict, Rea
     ensures wrong { IfErr result
         (IsWrongAt (wrong_line (length spec.terms.items) (lines output.now))) }
 {
-    let (output, values) = formed(alloc, spec.terms.len(), output)?;
+    let (output, values) = take_formed(alloc, spec.terms.len(), output)?;
     let found = first_underived(alloc, spec, &output)?;
     Ok(told(found, values))
 }

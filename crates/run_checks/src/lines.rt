@@ -31,7 +31,7 @@ pub(crate) struct Output<'a> {
 
 /// The lines of so many terms and what comes after them, where the whole output has its form, and
 /// how many of these lines are values.
-pub(crate) fn formed<'a>(
+pub(crate) fn take_formed<'a>(
     alloc: Global,
     count: usize,
     output: &'a [u8],

@@ -73,11 +73,11 @@ pub(crate) fn specification(alloc: Global, text: &[u8]) -> Result<Spec, ReadFail
     ensures failed { IfErr result (IsFaulty text.now) }
 {
     let tokens = tokens(alloc, text)?;
-    of_tokens(alloc, &tokens)
+    spec_of_tokens(alloc, &tokens)
 }
 
 /// The specification that tokens spell, without conditions.
-fn of_tokens(alloc: Global, tokens: &Tokens<'_>) -> Result<Spec, ReadFail>
+fn spec_of_tokens(alloc: Global, tokens: &Tokens<'_>) -> Result<Spec, ReadFail>
     requires { tokens_of tokens.now.bytes ≡ Ok tokens.now.tokens }
     ensures made { IfOk result (λ spec. Spells tokens.now.bytes (specified spec)) }
     ensures may_be_run { IfOk result (λ spec. MayBeRun (specified spec)) }
@@ -86,11 +86,11 @@ fn of_tokens(alloc: Global, tokens: &Tokens<'_>) -> Result<Spec, ReadFail>
     ensures failed { IfErr result (IsFaulty tokens.now.bytes) }
 {
     let syntax = syntax(alloc, tokens)?;
-    of_syntax(alloc, &syntax)
+    spec_of_syntax(alloc, &syntax)
 }
 
 /// The specification that a syntax spells, without conditions.
-fn of_syntax(alloc: Global, syntax: &Syntax<'_>) -> Result<Spec, ReadFail>
+fn spec_of_syntax(alloc: Global, syntax: &Syntax<'_>) -> Result<Spec, ReadFail>
     requires { IsRead syntax.now.bytes syntax.now }
     ensures made { IfOk result (λ spec. Spells syntax.now.bytes (specified spec)) }
     ensures may_be_run { IfOk result (λ spec. MayBeRun (specified spec)) }

@@ -7,7 +7,7 @@ use Rattle.term_file.specs.File.{Terms, IsFile}
 use Rattle.term_file.specs.NamedTree.{AreSame}
 use Rattle.term_commands.specs.Different.{different}
 
--- a file of the same terms, with other numbers of their symbols
+-- a file of these terms, in which their symbols may have other numbers
 pub record IsFileOf (symbols : List Named) (terms : List Tree) (file : List ℕ) : Type 0 where
   pub held : Terms
   pub is_file : IsFile file held

@@ -22,7 +22,7 @@ pub(crate) struct Change {
 }
 
 impl Change {
-    /// Neither.
+    /// Nothing beside the own view.
     pub(crate) fn of_nothing() -> Change
         ensures { result ≡ record { lock = None; stored = None } }
     {

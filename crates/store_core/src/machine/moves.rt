@@ -65,7 +65,7 @@ pub(crate) fn base_on(view: &mut View, base: u64) -> Result<(), Memory>
 }
 
 /// A row was got.
-pub(crate) fn get_row(view: &mut View, row: u32) -> Result<(), Memory>
+pub(crate) fn add_got(view: &mut View, row: u32) -> Result<(), Memory>
     ensures { OnOk result (view.new ≡ machine.with_got view.old row) }
 {
     view.got.push_front(row)?;

@@ -19,7 +19,8 @@ use faults::Memory;
 use lock_core::LockState;
 use store_model::{Place, StoreStep, View};
 
-// The plan of a step, by what the seat sees.
+// The plan of a step, by what the seat sees. Here and in each plan `view` begins as a copy of
+// `sight.view`, and becomes what the seat knows after the step.
 fn plan(sight: &Sight, view: &mut View, step: StoreStep) -> Result<Option<Change>, Memory>
     requires { view.old ≡ sight.now.view.now }
     ensures { Serves sight.now step view.new result }
@@ -87,8 +88,8 @@ fn plan_publish(
     )
 }
 
-/// The plan of a step of a seat. `view` is a copy of the seat's, and becomes what the seat knows after
-/// the step, if that is in place.
+/// The plan of a step of a seat. `view` is a copy of the seat's: it becomes what the seat knows
+/// after the step where that is in place, and is of no use else.
 pub(crate) fn planned(
     table: &Table,
     lock: &LockState,

@@ -12,7 +12,7 @@ ghost use Rattle.store_model.specs.declared.step.StoreStep.TheVariants.{StoreRoo
 use crate::machine::acting::{NextAct, plan_act, row_place};
 use crate::machine::change::{Change, Sight};
 use crate::machine::locking::{is_at_rest, is_idle};
-use crate::machine::moves::{get_row, know, narrow};
+use crate::machine::moves::{add_got, know, narrow};
 use crate::machine::naming::{is_named, named_rows};
 use crate::machine::rooting::{count_roots, root};
 use crate::machine::table::Table;
@@ -32,7 +32,7 @@ pub(crate) fn plan_load_root(
         return Ok(None);
     }
     let row = narrow(sight.table.load(&Place::Root(sight.seat, k)))?;
-    get_row(view, row)?;
+    add_got(view, row)?;
     Ok(Some(Change::of_nothing()))
 }
 
@@ -189,6 +189,6 @@ fn plan_read_argument(
     let value = sight.table.load(&Place::RowWord(row, word));
     let argument = narrow(value)?;
     know(view, row, word, value)?;
-    get_row(view, argument)?;
+    add_got(view, argument)?;
     Ok(Some(Change::of_nothing()))
 }

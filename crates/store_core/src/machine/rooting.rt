@@ -61,6 +61,7 @@ fn put_dropped(list: &mut LinkedList<u32>, rows: &[u32], n: usize) -> Result<(),
     put_rows(list, rows, n)
 }
 
+// The same, where there are so many.
 fn put_rows(list: &mut LinkedList<u32>, rows: &[u32], n: usize) -> Result<(), Memory>
     requires { n ≤ length rows.now }
     ensures { OnOk result (list.new ≡ drop n rows.now ++ list.old) }

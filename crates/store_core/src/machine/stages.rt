@@ -79,7 +79,7 @@ fn filled(content: Content, from: u32, index: u32, row: u32, k: u32) -> Result<C
 }
 
 // The rows that the walks of the call have passed.
-pub(crate) fn set_path(view: &mut View, passed: u32, path: LinkedList<Passed>)
+fn set_path(view: &mut View, passed: u32, path: LinkedList<Passed>)
     ensures { view.new ≡ machine.with_path view.old passed path }
 {
     view.passed = passed;

@@ -7,16 +7,16 @@ use Rattle.run_checks.specs.Specification.{Spells, IsFaulty}
 use Rattle.run_checks.proofs.Faulty.{byte_fails}
 use Rattle.run_checks.proofs.parts.specification.Goals as goal
 
-pub of_tokens-requires : goal.of_tokens-requires
-of_tokens-requires c =
+pub spec_of_tokens-requires : goal.spec_of_tokens-requires
+spec_of_tokens-requires c =
     let tokens = c.in_ok-tokens.tokens in
     subst (λ (bs : List ℕ). tokens_of bs ≡ Ok tokens.tokens) (sym c.in_ok-tokens.ensures.bytes) c.in_ok-tokens.ensures.tokens
 
 pub returns-clause-made : goal.returns-clause-made
-returns-clause-made c = subst (λ (bs : List ℕ). IfOk c.of_tokens.result (λ spec. Spells bs (specified spec))) c.in_ok-tokens.ensures.bytes c.of_tokens.ensures.made
+returns-clause-made c = subst (λ (bs : List ℕ). IfOk c.spec_of_tokens.result (λ spec. Spells bs (specified spec))) c.in_ok-tokens.ensures.bytes c.spec_of_tokens.ensures.made
 
 pub returns-clause-failed : goal.returns-clause-failed
-returns-clause-failed c = subst (λ (bs : List ℕ). IfErr c.of_tokens.result (IsFaulty bs)) c.in_ok-tokens.ensures.bytes c.of_tokens.ensures.failed
+returns-clause-failed c = subst (λ (bs : List ℕ). IfErr c.spec_of_tokens.result (IsFaulty bs)) c.in_ok-tokens.ensures.bytes c.spec_of_tokens.ensures.failed
 
 pub returns-in_err-tokens-clause-failed : goal.returns-in_err-tokens-clause-failed
 returns-in_err-tokens-clause-failed c =

@@ -12,6 +12,6 @@ pub returns : goal.returns
 returns c = (
   first_of (search rules, grind (arith, common_steps)),
   tt,
-  made_view c.args.sight.now (machine.LoadRoot c.args.k) c.of_nothing.result c.get_row.new.view c.of_nothing.ensures refl (write_same (state_seen c.args.sight.now).words (Root c.args.sight.now.seat c.args.k))
-      (c.in_ok-get_row.ensures ∙ two with_got c.args.view.now c.args.sight.now.view.now c.in_ok-row.row ((state_seen c.args.sight.now).words (Root c.args.sight.now.seat c.args.k)) c.requires (c.in_ok-row.ensures ∙ c.load.ensures)),
+  made_view c.args.sight.now (machine.LoadRoot c.args.k) c.of_nothing.result c.add_got.new.view c.of_nothing.ensures refl (write_same (state_seen c.args.sight.now).words (Root c.args.sight.now.seat c.args.k))
+      (c.in_ok-add_got.ensures ∙ two with_got c.args.view.now c.args.sight.now.view.now c.in_ok-row.row ((state_seen c.args.sight.now).words (Root c.args.sight.now.seat c.args.k)) c.requires (c.in_ok-row.ensures ∙ c.load.ensures)),
 )

@@ -2,7 +2,7 @@ use Rattle.std.proofs.lemmas.Result.{err_from_is_err_and}
 use Rattle.rec_check.specs.Spec.{specified}
 use Rattle.run_checks.proofs.Faulty.{offence_fails, condition_fails}
 use Rattle.run_checks.proofs.Named.{symbols_named}
-use Rattle.run_checks.proofs.parts.of_syntax.Goals as goal
+use Rattle.run_checks.proofs.parts.spec_of_syntax.Goals as goal
 
 pub returns-clause-made : goal.returns-clause-made
 returns-clause-made c = record {
