@@ -97,9 +97,9 @@ fn counted(
 /// How many rows there are; and then the builds, the refusals, the sweeps, the load and the answer.
 type Loaded = (u32, u32, u32, u32, usize, Result<Normal, RunFault>);
 
-// With three rows the two sums are lost one after the other.
 static LOADS: [Loaded; 3] = [
     (99, 7, 0, 0, 3, Ok(Normal::Value { left: 0 })),
+    // In three rows the two sums are lost one after the other.
     (3, 7, 0, 2, 3, Ok(Normal::Value { left: 0 })),
     (2, 4, 1, 0, 2, STORE_FULL),
 ];
@@ -176,11 +176,11 @@ fn towers(alloc: Global, levels: &[usize]) -> Result<Vec<Flat>, Fail> {
 /// row without that.
 type Long = (&'static [usize], u32, u32, u32);
 
-// One machine goes on counting from term to term.
 static LONG: [Long; 4] = [
     (&[254], 255, 0, 255),
     (&[255], 256, 1, 255),
     (&[600], 601, 2, 256),
+    // One machine goes on counting from term to term.
     (&[199, 199], 400, 1, 255),
 ];
 
@@ -240,8 +240,8 @@ struct Seen {
     full: u32,
 }
 
-/// Whether terms do what is allowed in so many rows less than are needed, and end where none is
-/// less.
+/// Whether terms do what is allowed in so many rows less than are needed, and aren't stopped by a
+/// full store where none is less.
 fn is_in_bounds(
     alloc: Global,
     plan: &Plan,

@@ -70,7 +70,8 @@ fn is_bound<T: Terms>(plan: &Plan, rule: u32, binds: &mut Binds, terms: &mut T) 
     if is_right { Some(is_matched) } else { None }
 }
 
-/// The same of the last of some terms, after the terms before it.
+/// The same of the last of some terms, after the terms before it; no answer where they aren't
+/// built.
 fn is_bound_over<T: Terms>(
     plan: &Plan,
     rule: u32,

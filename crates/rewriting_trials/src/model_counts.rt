@@ -105,12 +105,12 @@ fn product(alloc: Global, a: u32, b: u32) -> Result<Flat, Fail> {
     flat(alloc, &items)
 }
 
-/// Two numbers; the fuel of their product, and how many nodes it has, which all differ.
+/// Two numbers; the fuel of their product, its nodes, and as many different subtrees.
 type Factors = (u32, u32, u64, u64, usize);
 
 static FACTORS: [Factors; 3] = [(3, 1, 6, 4, 4), (10, 6, 73, 61, 61), (6, 11, 89, 67, 67)];
 
-/// Whether a product has these nodes with just so much fuel, and no value with less.
+/// Whether a product has these nodes with just so much fuel, and no value with one less.
 fn is_spent(alloc: Global, rules: &[Rule], row: &Factors) -> Result<bool, Fail> {
     let (a, b, spent, nodes, different) = *row;
     let term = product(alloc, a, b)?;

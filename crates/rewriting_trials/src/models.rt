@@ -1,5 +1,6 @@
 //! Worked rows by the plain program: what terms come to, and their single steps.
 
+use crate::sight::Order;
 use crate::writing::{Written, flat, rules_of, tree};
 use rewrite_model::{End, Rule, Term, evaluation, outermost, steps};
 use std::alloc::Global;
@@ -72,13 +73,6 @@ pub(crate) const ONE_AND_ONE: [Item; 5] = [Z, S, Z, S, PLUS];
 
 const TWO: [Item; 3] = [Z, S, S];
 
-/// Which position is rewritten first.
-#[derive(Clone, Copy)]
-enum Order {
-    Inner,
-    Outer,
-}
-
 /// What a term is to come to: its value, with so much fuel left, or what else.
 #[derive(Clone, Copy)]
 enum Wanted {
@@ -88,7 +82,7 @@ enum Wanted {
 }
 
 /// Rules, a term and its value; and its runs, with their fuel and room, and what they come to.
-struct Work {
+struct Evaluations {
     rules: &'static [Written],
     term: &'static [Item],
     value: &'static [Item],
@@ -117,8 +111,8 @@ fn comes_so(
 ) -> Result<bool, Fail> {
     let (order, fuel, room, want) = *run;
     let got = match order {
-        Order::Inner => evaluation(alloc, rules, term, fuel, room)?,
-        Order::Outer => outermost(alloc, rules, term, fuel, room)?,
+        Order::Innermost => evaluation(alloc, rules, term, fuel, room)?,
+        Order::Outermost => outermost(alloc, rules, term, fuel, room)?,
     };
     Ok(is_end(&got.end, value, want))
 }
@@ -139,30 +133,30 @@ fn first_run(
     Ok(None)
 }
 
-/// The first run of a work, by its number, that comes to something else.
-fn first_other(alloc: Global, work: &Work) -> Result<Option<usize>, Fail> {
-    let value = tree(alloc, work.value)?;
-    let term = flat(alloc, work.term)?;
-    let rules = rules_of(alloc, work.rules)?;
-    first_run(alloc, &rules, &term, &value, work.runs)
+/// The first run of some evaluations, by its number, that comes to something else.
+fn first_other(alloc: Global, given: &Evaluations) -> Result<Option<usize>, Fail> {
+    let value = tree(alloc, given.value)?;
+    let term = flat(alloc, given.term)?;
+    let rules = rules_of(alloc, given.rules)?;
+    first_run(alloc, &rules, &term, &value, given.runs)
 }
 
-/// Expects each run of a work to be as it says.
-fn expect<R: Abort + Alloc<A = Global>>(rt: &R, work: &Work) -> Result<(), Fail> {
-    assert_eq!(rt; first_other(rt.alloc(), work)?, None);
+/// Expects each run of some evaluations to be as it says.
+fn expect<R: Abort + Alloc<A = Global>>(rt: &R, given: &Evaluations) -> Result<(), Fail> {
+    assert_eq!(rt; first_other(rt.alloc(), given)?, None, "{:?}", given.term);
     Ok(())
 }
 
-static ONE_AND_ONES: Work = Work {
+static ONE_AND_ONES: Evaluations = Evaluations {
     rules: &SUMS,
     term: &ONE_AND_ONE,
     value: &TWO,
     runs: &[
-        (Order::Inner, 2, 6, Wanted::Value(0)),
-        (Order::Inner, 1, 6, Wanted::OutOfFuel),
-        (Order::Inner, 2, 5, Wanted::TooDeep),
-        (Order::Outer, 2, 99, Wanted::Value(0)),
-        (Order::Outer, 1, 99, Wanted::OutOfFuel),
+        (Order::Innermost, 2, 6, Wanted::Value(0)),
+        (Order::Innermost, 1, 6, Wanted::OutOfFuel),
+        (Order::Innermost, 2, 5, Wanted::TooDeep),
+        (Order::Outermost, 2, 99, Wanted::Value(0)),
+        (Order::Outermost, 1, 99, Wanted::OutOfFuel),
     ],
 };
 
@@ -171,18 +165,18 @@ fn one_and_one_is_two(rt: HostRuntime) -> Result<(), Fail> {
     expect(&rt, &ONE_AND_ONES)
 }
 
-static SAME: Work = Work {
+static SAME: Evaluations = Evaluations {
     rules: &EQUAL,
     term: &[Z, S, Z, S, EQ],
     value: &[A],
-    runs: &[(Order::Inner, 9, 99, Wanted::Value(8))],
+    runs: &[(Order::Innermost, 9, 99, Wanted::Value(8))],
 };
 
-static OTHER: Work = Work {
+static OTHER: Evaluations = Evaluations {
     rules: &EQUAL,
     term: &[Z, S, Z, EQ],
     value: &[Z, S, Z, EQ],
-    runs: &[(Order::Inner, 9, 99, Wanted::Value(9))],
+    runs: &[(Order::Innermost, 9, 99, Wanted::Value(9))],
 };
 
 #[test]
@@ -192,22 +186,22 @@ fn a_repeated_variable_needs_equal_trees(rt: HostRuntime) -> Result<(), Fail> {
 }
 
 /// The second condition fails.
-static FAILING: Work = Work {
+static FAILING: Evaluations = Evaluations {
     rules: &GUARDED,
     term: &[C, F],
     value: &[E],
     runs: &[
-        (Order::Inner, 3, 99, Wanted::Value(0)),
-        (Order::Inner, 2, 99, Wanted::OutOfFuel),
+        (Order::Innermost, 3, 99, Wanted::Value(0)),
+        (Order::Innermost, 2, 99, Wanted::OutOfFuel),
     ],
 };
 
 /// Both conditions hold.
-static HOLDING: Work = Work {
+static HOLDING: Evaluations = Evaluations {
     rules: &GUARDED,
     term: &[A, F],
     value: &[A],
-    runs: &[(Order::Inner, 2, 99, Wanted::Value(0))],
+    runs: &[(Order::Innermost, 2, 99, Wanted::Value(0))],
 };
 
 #[test]
@@ -216,14 +210,14 @@ fn conditions_are_tried_in_order(rt: HostRuntime) -> Result<(), Fail> {
     expect(&rt, &HOLDING)
 }
 
-static ROOT: Work = Work {
+static ROOT: Evaluations = Evaluations {
     rules: &ENDLESS,
     term: &[L, F],
     value: &[A],
     runs: &[
-        (Order::Outer, 1, 2, Wanted::Value(0)),
-        (Order::Outer, 1, 1, Wanted::TooDeep),
-        (Order::Inner, 5, 99, Wanted::OutOfFuel),
+        (Order::Outermost, 1, 2, Wanted::Value(0)),
+        (Order::Outermost, 1, 1, Wanted::TooDeep),
+        (Order::Innermost, 5, 99, Wanted::OutOfFuel),
     ],
 };
 

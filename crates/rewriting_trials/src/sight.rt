@@ -1,4 +1,4 @@
-//! What can be seen of a normalization.
+//! What can be seen of a normalization, and works with what is to be seen of them.
 
 ghost use Rattle.std.specs.Prelude.{◌≡◌, ◌≤◌, true};
 ghost use Rattle.plain_store.specs.Contents.{store_of};
@@ -47,8 +47,8 @@ pub(crate) const TOO_DEEP: Result<Normal, RunFault> = Ok(Normal::TooDeep);
 
 pub(crate) const STORE_FULL: Result<Normal, RunFault> = Err(RunFault::StoreFull);
 
-/// What is to be seen on an empty stack where the answer is this, after so many builds: its value
-/// is in a place, and all is as wanted.
+/// What is to be seen where a term on an empty stack has this answer after so many builds: all is
+/// as wanted, and one place is in use by a value, else none.
 pub(crate) fn sight_of(answer: Result<Normal, RunFault>, built: usize) -> Sight {
     let places = match answer {
         Ok(Normal::Value { left: _ }) => 1,
@@ -243,6 +243,6 @@ fn first_other(alloc: Global, work: &Work) -> Result<Option<usize>, Fail> {
 
 /// Expects each run of a work to be as it says.
 pub(crate) fn expect<R: Abort + Alloc<A = Global>>(rt: &R, work: &Work) -> Result<(), Fail> {
-    assert_eq!(rt; first_other(rt.alloc(), work)?, None);
+    assert_eq!(rt; first_other(rt.alloc(), work)?, None, "{:?}", work.builds);
     Ok(())
 }

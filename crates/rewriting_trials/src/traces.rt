@@ -168,7 +168,7 @@ fn one_and_one_is_traced(rt: HostRuntime) -> Result<(), Fail> {
     expect(&rt, &ONE_AND_ONES, &[])
 }
 
-/// Two uses of one rule.
+/// Two uses of one rule, behind an event that was there before.
 static APPENDED: [Traced; 1] = [(
     &[(&[X, F], &[X], 1, &[])],
     &[A, F, F],

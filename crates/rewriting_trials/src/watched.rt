@@ -64,7 +64,7 @@ impl Watched {
         self.in_order = self.in_order && is_next;
     }
 
-    fn count(&mut self, is_built: bool)
+    fn count_build(&mut self, is_built: bool)
         ensures { self.new.store ≡ self.old.store }
     {
         if is_built {
@@ -129,7 +129,7 @@ impl Terms for Watched {
         let _ = self.store.depth();
         self.compare(head, n);
         let answer = self.store.build(head, n);
-        self.count(answer.is_ok());
+        self.count_build(answer.is_ok());
         answer
     }
 

@@ -1,4 +1,4 @@
-//! Events of normalizations that have just enough room or rows, or too few.
+//! Events of normalizations that have just enough room, or too little room or too few rows.
 
 use super::{Traced, expect};
 use crate::writing::{A, B, F, G, PLUS, S, Written, X, Y};
