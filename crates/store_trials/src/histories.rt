@@ -61,7 +61,7 @@ static BEFORE: [(u32, Written); 5] = [
     (1, Written::Roots(4, &[9])),
 ];
 
-/// That history.
+/// That history, of callers 0 and 1 (`% 2` changes none of them).
 fn history(alloc: Global) -> Result<Vec<(u32, Entry)>, Memory>
     ensures { IfOk result (λ history. All (λ x. x.0 < 2) history.items) }
 {

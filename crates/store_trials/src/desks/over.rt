@@ -108,7 +108,7 @@ fn put_row<T: Terms>(rt: &impl Abort, terms: &mut T, row: Row)
     terms.put(row);
 }
 
-// Whether two places have these rows, from one of them on.
+// Whether a place and the next one have these rows.
 fn lie_at<T: Terms>(rt: &impl Abort, terms: &mut T, i: u32, first: Row, second: Row) -> bool
     requires inside { (T.store terms.old).inside ≡ true }
     requires below { i < 8 }

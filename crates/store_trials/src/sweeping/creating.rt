@@ -182,7 +182,7 @@ fn a_creation_takes_the_row_that_was_freed(rt: HostRuntime) -> Result<(), Fail> 
 
 // A collection of the pass, and in its access a term over the first protected row, and the
 // constants of symbols 1 and 0: what was kept, what each creation gave, and the last entry after
-// the first.
+// the first of them.
 fn collect_and_find(
     rt: &impl Abort,
     store: &Store,

@@ -1,5 +1,5 @@
 use Rattle.shared_desk.proofs.Telling.{made_may, made_new}
-use Rattle.store_trials.proofs.desks.unnoted_store.Goals as goal
+use Rattle.store_trials.proofs.desks.ends.unnoted_store.Goals as goal
 
 pub returns-clause-may : goal.returns-clause-may
 returns-clause-may c = made_may (λ v. v.items) c.args.sizes c.make.result c.make.ensures.store c.make.ensures.passes c.make.ensures.ready c.make.ensures.told
