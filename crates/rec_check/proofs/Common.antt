@@ -1,4 +1,4 @@
--- The names that this crate's proofs cite from elsewhere, passed on. Declares nothing.
+-- Names that several proofs cite, passed on from one place. Declares nothing.
 pub use Rattle.std.proofs.Common.{arith, ◌≡◌, ℕ, ◌-◌, Bool, true, false, eqb, ◌&&◌, ◌||◌, ◌⊎◌, inl, inr, List, [], ◌∷◌, ◌++◌, length, map, take, Option, Some, None, is_some, All, refl, ap, ◌∙◌, ◌+◌, ◌≤◌, slice_get, get_or, position, rules, ◌<◌, drop, sym, subst, length-append, suc, cond, zero, not, max, Result, OnOk, IfNone, Ok, fold, nat_eq, IfOk}
 pub use Rattle.std.proofs.Math.Seq.{drop-append_seam, take-append_seam}
 pub use Rattle.std.proofs.lemmas.Bool.{false_from_ne_true, eqb-true}

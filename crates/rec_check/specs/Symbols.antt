@@ -11,7 +11,7 @@ use Rattle.rec_check.specs.Term.{same_symbol, most_arguments}
 abbrev pub named_in : List ℕ → List Declared → List Named
 named_in text ds = map (λ d. named (text_of text d.name) (length d.arguments)) ds
 
--- a declared symbol by its name and its number of arguments
+-- what is declared, by its name and its number of arguments
 abbrev pub named_by : List ℕ → Entry → Named
 named_by text e = named (text_of text e.declared.name) (length e.declared.arguments)
 

@@ -1,4 +1,4 @@
--- The names that this crate's proofs cite from elsewhere, passed on. Declares nothing.
+-- Names that several proofs cite, passed on from one place. Declares nothing.
 pub use Rattle.std.proofs.Common.{◌≡◌, ℕ, zero, suc, ◌<◌, ◌≤◌, true, ◌||◌, List, [], ◌∷◌, ◌++◌, fold, take, slice_get, Option, Some, None, refl, sym, ap, subst, ◌∙◌, arith, eqb-true, Bool, false, cond, append_assoc, append-nil, nat_eq, eq-eqb, length-append, ◌+◌, length, map, length-take, length-take-le, true≢false, ◌-◌, min, nat_lt, ◌⊎◌, drop, add-one, take-suc, ◌*◌, ◌^◌, suc-mul, get_or, drop-cons, IfSome, set, All, Contains, length-set, get_or-set_other, get_or-set_same, inl, inr}
 pub use Rattle.std.proofs.lemmas.Bool.Decides.{nat_tests}
 pub use Rattle.std.proofs.lemmas.Grind.{common_steps}

@@ -1,4 +1,4 @@
--- The names that this crate's proofs cite from elsewhere, passed on. Declares nothing.
+-- Names that several proofs cite, passed on from one place. Declares nothing.
 pub use Rattle.std.proofs.Common.{◌≡◌, ℕ, suc, ◌+◌, ◌<◌, ◌≤◌, min, length-drop, Bool, true, false, cond, List, [], ◌∷◌, ◌++◌, length, drop, get_or, Option, refl, sym, ap, ◌∙◌, add-one, arith, drop-cons, rules, ◌||◌, ◌&&◌, ◌==◌, nat_lt, Some, None, ◌⊎◌, inl, inr, subst, slice_get, ◌-◌, map, not, zero, take, append_assoc, append-nil, Contains, ◌^◌, nat_le, length-append, reverse, nat_eq, eq-eqb, Result, OnOk}
 pub use Rattle.std.proofs.Math.Seq.{take-append_seam, take-length, drop-append-add, take-append-add}
 pub use Rattle.std.proofs.lemmas.Bool.Decides.{nat_tests}

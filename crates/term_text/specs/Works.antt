@@ -64,7 +64,7 @@ pub record Advances (names : List Named) (s : Store) (w : Work) (old new : List 
   pub ready : All (IsReady names s) more
   pub fewer : steps_of_all s more < steps_of s w
 
--- An argument is to be written, and then those after it.
+-- An argument is to be written, and then those after it and the parenthesis.
 pub record PushesArgument (s : Store) (row : Row) (j : ℕ) (old new : List Work) : Type 0 where
   pub next : Row
   pub held : IsHeld s next

@@ -124,7 +124,7 @@ fn note_long_names(found: &mut Option<Refusal>, text: &[u8], specification: &Spe
     }
 }
 
-/// The name at a place, if there are so many.
+/// The name at a place, counted from 0, where there is one.
 fn name_at(names: &[Name], place: usize) -> Option<Name>
     ensures { result ≡ slice_get names.now place }
 {

@@ -12,6 +12,7 @@ use faults::{Refusal, kinds};
 use rec_includes::Directory;
 use rec_reader::{Declaration, Name, Specification};
 
+/// Notes a sort that isn't known; and below, those of a declaration.
 fn note_unknown_sort(found: &mut Option<Refusal>, sorts: &Directory, sort: Name)
     ensures { found.new ≡ least_with found.old (of_kind 4
         (filter (is_unknown sorts.now.bytes sorts.now.names) (sort ∷ []))) }
