@@ -7,12 +7,6 @@ pub mod SingleSteps
 pub mod Reached
 pub mod OutermostReached
 pub mod OutermostFuel
-pub mod Stacks
-pub mod Binding
-pub mod Comes
-pub mod Measures
-pub mod Counts
-pub mod OutwardSteps
 pub mod Derivations
 pub mod Fewest
 pub mod InnermostDerives

@@ -19,8 +19,4 @@ pub mod OutermostRows
 pub mod TraceRows
 pub mod Laws
 pub mod TraceLaws
-pub mod Boxed
-pub mod Noted
-pub mod Program
-pub mod OutwardSteps
 pub mod Code

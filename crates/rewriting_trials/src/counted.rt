@@ -11,7 +11,7 @@ use crate::counting::{Counting, Counts};
 use crate::sight::{Limits, Order, STORE_FULL, answer_of};
 use crate::writing::{F, WIDEST, Z, flat, plan_of};
 use innermost::{Machine, Normal, RunFault};
-use rewrite_model::need;
+use plain_rewriting::need;
 use rule_match::Plan;
 use std::alloc::Global;
 use std::test::Fail;

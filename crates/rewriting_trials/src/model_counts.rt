@@ -2,7 +2,8 @@
 
 use crate::models::{A, C, D, F, G, ONE_AND_ONE, P, PLUS, S, SUMS, X, Y, Z};
 use crate::writing::{Written, flat, rules_of};
-use rewrite_model::{End, Rule, Term, distinct, evaluation, need};
+use plain_rewriting::{End, Term, distinct, evaluation, need};
+use rewrite_model::Rule;
 use std::alloc::Global;
 use std::test::Fail;
 use term_model::{Flat, Item, Symbol};

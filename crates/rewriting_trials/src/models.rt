@@ -2,7 +2,8 @@
 
 use crate::sight::Order;
 use crate::writing::{Written, flat, rules_of, tree};
-use rewrite_model::{End, Rule, Term, evaluation, outermost, steps};
+use plain_rewriting::{End, Term, evaluation, outermost, steps};
+use rewrite_model::Rule;
 use std::alloc::Global;
 use std::process::Abort;
 use std::test::Fail;

@@ -3,7 +3,7 @@
 ghost use Rattle.std.specs.Prelude.{◌≡◌, ◌≤◌, length, true};
 ghost use Rattle.terms_api.specs.Terms.{IsHeld};
 
-use rewrite_model::{Arguments, Term};
+use plain_rewriting::{Arguments, Term};
 use term_model::{Head, Row};
 use terms_api::Terms;
 

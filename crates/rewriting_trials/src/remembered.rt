@@ -10,7 +10,7 @@ use crate::counting::Counting;
 use crate::sight::is_on_top;
 use crate::writing::{WIDEST, flat, tree};
 use innermost::{Known, Machine, Memo, NoMemo, Normal, may_be_normalized};
-use rewrite_model::Term;
+use plain_rewriting::Term;
 use rule_match::Plan;
 use std::alloc::Global;
 use std::test::Fail;

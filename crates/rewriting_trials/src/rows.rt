@@ -5,7 +5,7 @@ use crate::adding::{BUILDS, ONE_AND_ONE, SUMS, TWO};
 use crate::sight::{OUT_OF_FUEL, Order, STORE_FULL, TOO_DEEP, Work, expect};
 use crate::writing::{A, B, C, E, EQ, F, G, PLUS, S, Written, X, Z, flat, rules_of};
 use innermost::Normal;
-use rewrite_model::need;
+use plain_rewriting::need;
 use std::alloc::Global;
 use std::test::Fail;
 use term_model::Item;

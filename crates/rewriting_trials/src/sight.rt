@@ -8,7 +8,7 @@ use crate::reading::is_term;
 use crate::watched::Watched;
 use crate::writing::{WIDEST, Written, boxed, flat, plan_of, tree};
 use innermost::{Machine, Normal, RunFault, may_be_normalized};
-use rewrite_model::Term;
+use plain_rewriting::Term;
 use rule_match::Plan;
 use std::alloc::Global;
 use std::process::Abort;

@@ -12,8 +12,8 @@ use crate::sight::{
 use crate::watched::Watched;
 use crate::writing::{C, F, PLUS, WIDEST, X, Z, boxed, flat, plan_of, tree};
 use innermost::{Machine, Normal, RunFault};
+use plain_rewriting::Term;
 use plain_store::PlainStore;
-use rewrite_model::Term;
 use rule_match::Plan;
 use std::alloc::Global;
 use std::test::Fail;

@@ -5,8 +5,8 @@ ghost use Rattle.plain_store.specs.Contents.{empty, store_of, IsSame};
 
 use crate::reading::is_asked;
 use faults::Memory;
+use plain_rewriting::Term;
 use plain_store::PlainStore;
-use rewrite_model::Term;
 use std::alloc::Global;
 use term_model::{Head, Row};
 use terms_api::{BuildFault, Deep, Terms};

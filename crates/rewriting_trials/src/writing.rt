@@ -2,7 +2,8 @@
 
 ghost use Rattle.std.specs.Prelude.{◌≡◌, IfOk};
 
-use rewrite_model::{Condition, Rule, Term};
+use plain_rewriting::Term;
+use rewrite_model::{Condition, Rule};
 use rule_match::{Plan, may_be_planned};
 use std::alloc::Global;
 use std::test::Fail;

@@ -1,0 +1,4 @@
+pub mod Boxed
+pub mod Noted
+pub mod Program
+pub mod OutwardSteps

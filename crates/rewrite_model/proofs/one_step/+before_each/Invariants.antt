@@ -1,5 +1,0 @@
-use Rattle.std.proofs.Common.{◌-◌, length}
-use Rattle.rewrite_model.proofs.one_step.+before_each.Given as goal
-
-abbrev pub decreases-before_each : goal.decreases-before_each
-decreases-before_each l = length l.rests.now - l.from

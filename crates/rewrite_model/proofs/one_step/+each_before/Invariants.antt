@@ -1,5 +1,0 @@
-use Rattle.std.proofs.Common.{◌-◌, length}
-use Rattle.rewrite_model.proofs.one_step.+each_before.Given as goal
-
-abbrev pub decreases-each_before : goal.decreases-each_before
-decreases-each_before l = length l.firsts.now - l.from

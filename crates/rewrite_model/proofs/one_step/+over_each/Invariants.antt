@@ -1,5 +1,0 @@
-use Rattle.std.proofs.Common.{◌-◌, length}
-use Rattle.rewrite_model.proofs.one_step.+over_each.Given as goal
-
-abbrev pub decreases-over_each : goal.decreases-over_each
-decreases-over_each l = length l.args.now - l.from

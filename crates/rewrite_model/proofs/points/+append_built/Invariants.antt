@@ -1,5 +1,0 @@
-use Rattle.std.proofs.Common.{◌-◌, length}
-use Rattle.rewrite_model.proofs.points.+append_built.Given as goal
-
-abbrev pub decreases-append_built : goal.decreases-append_built
-decreases-append_built l = length l.points.now - l.from

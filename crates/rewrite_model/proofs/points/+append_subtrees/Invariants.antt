@@ -1,5 +1,0 @@
-use Rattle.std.proofs.Common.{◌-◌, length}
-use Rattle.rewrite_model.proofs.points.+append_subtrees.Given as goal
-
-abbrev pub decreases-append_subtrees : goal.decreases-append_subtrees
-decreases-append_subtrees l = length l.terms.now - l.from

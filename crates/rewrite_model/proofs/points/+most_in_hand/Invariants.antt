@@ -1,5 +1,0 @@
-use Rattle.std.proofs.Common.{◌-◌, length}
-use Rattle.rewrite_model.proofs.points.+most_in_hand.Given as goal
-
-abbrev pub decreases-most_in_hand : goal.decreases-most_in_hand
-decreases-most_in_hand l = length l.points.now - l.from
