@@ -9,7 +9,6 @@ mod coding;
 mod compile;
 mod depths;
 mod evaluating;
-mod fitness;
 mod frames;
 mod going;
 mod instantiating;
@@ -36,7 +35,6 @@ mod trail;
 mod walking;
 mod windows;
 
-pub use fitness::may_be_normalized;
 pub use laws::{choice_laws, code_laws, outermost_laws, step_laws};
 pub use memo::{Known, Memo, NoMemo};
 pub use normal::{Normal, RunFault, TraceFault};

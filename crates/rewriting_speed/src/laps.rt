@@ -5,7 +5,8 @@ ghost use Rattle.term_model.specs.Tree.{IsGround};
 ghost use Rattle.rule_match.specs.Planned.{IsPlain};
 ghost use Rattle.rewriting_speed.specs.Ready.{IsReady};
 
-use innermost::{Machine, Normal, may_be_normalized};
+use innermost::{Machine, Normal};
+use rule_fitness::may_be_normalized;
 use rule_match::Plan;
 use std::time::{CpuClock, Duration};
 use term_model::Flat;

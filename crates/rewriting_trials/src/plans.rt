@@ -2,7 +2,9 @@
 
 use crate::writing::{Written, rule, rules_of};
 use rewrite_model::Rule;
-use rule_match::{Binds, Plan, may_be_planned};
+use row_match::Binds;
+use rule_fitness::may_be_planned;
+use rule_match::Plan;
 use std::alloc::Global;
 use std::test::Fail;
 use term_model::{Head, Item, Symbol};

@@ -7,8 +7,9 @@ ghost use Rattle.innermost.specs.Machines.{IsFor};
 
 use crate::adding::{ONE_AND_ONE, SUMS};
 use crate::writing::{A, B, C, E, F, G, PLUS, S, WIDEST, Written, X, Y, Z, flat, plan_of};
-use innermost::{Event, Machine, Normal, TraceFault, may_be_normalized};
+use innermost::{Event, Machine, Normal, TraceFault};
 use plain_store::PlainStore;
+use rule_fitness::may_be_normalized;
 use rule_match::Plan;
 use std::alloc::Global;
 use std::process::Abort;

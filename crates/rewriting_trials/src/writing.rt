@@ -4,7 +4,8 @@ ghost use Rattle.std.specs.Prelude.{◌≡◌, IfOk};
 
 use plain_rewriting::Term;
 use rewrite_model::{Condition, Rule};
-use rule_match::{Plan, may_be_planned};
+use rule_fitness::may_be_planned;
+use rule_match::Plan;
 use std::alloc::Global;
 use std::test::Fail;
 use term_model::{Flat, Item, Symbol};

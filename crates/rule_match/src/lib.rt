@@ -1,16 +1,12 @@
-//! Matching rules against stored terms: a plan has rules by the head of their left side, and a
-//! match binds a rule's variables to rows.
+//! Plans of rules, which have rules by the head of their left side and each left side in preorder,
+//! and whether a symbol stands at a stored row.
 #![tactic(auto)]
 
-mod binding;
-mod checking;
 mod compiling;
 mod heads;
 mod linking;
-mod matching;
 mod planning;
+mod standing;
 
-pub use binding::Binds;
-pub use checking::{has_symbols_alone, may_be_planned};
-pub use matching::{matches, stands_at};
 pub use planning::Plan;
+pub use standing::stands_at;

@@ -6,8 +6,8 @@ ghost use Rattle.rewrite_workers.specs.Trials.{IsEmptyDesk};
 
 use crate::told::{Hears, Told};
 use ends::{Gate, OpenGate};
-use innermost::may_be_normalized;
 use rewrite_workers::{AllFault, Lines, Work, rewrite_all};
+use rule_fitness::may_be_normalized;
 use rule_match::Plan;
 use settings::{Command, Settings};
 use std::alloc::Global;

@@ -4,7 +4,7 @@ ghost use Rattle.settings.specs.Words.{AreInRange};
 ghost use Rattle.rewrite_workers.specs.Works.{MayWork};
 
 use ends::OpenGate;
-use innermost::may_be_normalized;
+use rule_fitness::may_be_normalized;
 use rule_match::Plan;
 use settings::{Command, Settings};
 use shared_work::{AllFault, Lines, Work, rewrite_shared};
