@@ -13,7 +13,7 @@ use faults::Memory;
 use std::alloc::Global;
 
 /// A tree that is to be reduced by all rules, the trees that are kept there, and the room.
-#[derive(Debug, Drop)]
+#[derive(Drop)]
 pub struct Point {
     pub tree: Term,
     pub hand: Vec<Term>,
