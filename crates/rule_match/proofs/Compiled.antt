@@ -1,9 +1,9 @@
 -- The left sides of rules, one after another.
-use Rattle.std.proofs.Common.{◌≡◌, ℕ, zero, suc, ◌+◌, ◌-◌, ◌≤◌, ◌<◌, List, [], ◌∷◌, ◌++◌, length, refl, sym, ◌∙◌, ap, arith, get_or, take, drop}
-use Rattle.std.proofs.lemmas.List.{append_assoc, append-nil, length-append, take_more}
+use Rattle.std.proofs.Common.{◌≡◌, ℕ, zero, suc, ◌+◌, ◌-◌, ◌≤◌, ◌<◌, List, [], ◌∷◌, ◌++◌, length, refl, sym, ◌∙◌, ap, arith, subst, get_or, take, drop}
+use Rattle.std.proofs.lemmas.List.{append_assoc, append-nil, length-append, take_more, take_all}
 use Rattle.std.proofs.Math.Seq.{take-append_seam, drop-append_seam}
 use Rattle.std.specs.Prelude.{All}
-use Rattle.std.proofs.lemmas.List.Elements.{All-head, All-tail}
+use Rattle.std.proofs.lemmas.List.Elements.{All-head, All-tail, All-push}
 use Rattle.term_model.specs.Tree.{Tree, nodes}
 use Rattle.term_model.specs.declared.Item.{Item}
 use Rattle.rewrite_model.specs.Rule.{Rule}
@@ -111,3 +111,13 @@ pub plain_at : (w : ℕ) (rules : List Rule) (k : ℕ) → k < length rules → 
 plain_at w [] k l all = absurd (omega arith)
 plain_at w (r ∷ rs) zero l all = (All-head (HasSymbolsAlone w) r rs all).left
 plain_at w (r ∷ rs) (suc k) l all = plain_at w rs k (omega arith) (All-tail (HasSymbolsAlone w) r rs all)
+
+-- room for the left sides of one rule more
+pub room_more : (rules : List Rule) (k : ℕ) (r : Rule) (room more : ℕ) → k < length rules → r ≡ get_or rules k r → room ≤ more → nodes r.left ≤ more → HasRoom room (take k rules) → HasRoom more (take (k + 1) rules)
+room_more rules k r room more l e kept past all =
+    let one = take_more rules k r l ∙ ap (λ q. take k rules ++ q ∷ []) (sym e) in
+    subst (HasRoom more) (sym one)
+    (All-push (λ (q : Rule). nodes q.left ≤ more) (take k rules) r (λ i d h. let b : nodes (get_or (take k rules) i d).left ≤ room = all i d h in omega arith) past)
+
+pub room_of_all : (rules given : List Rule) (k room : ℕ) → given ≡ rules → length given ≤ k → HasRoom room (take k given) → HasRoom room rules
+room_of_all rules given k room e l all = subst (HasRoom room) (take_all k given l ∙ e) all

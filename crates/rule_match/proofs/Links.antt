@@ -1,11 +1,11 @@
 -- Rules linked from the last to the first.
-use Rattle.std.proofs.Common.{◌≡◌, ℕ, zero, suc, ◌+◌, ◌<◌, ◌≤◌, inl, inr, List, [], ◌∷◌, length, get_or, set, Option, Some, None, Bool, true, refl, sym, ◌∙◌, ap, arith, subst, get_or-set_other}
+use Rattle.std.proofs.Common.{◌≡◌, ℕ, zero, suc, ◌+◌, ◌<◌, ◌≤◌, inl, inr, List, [], ◌∷◌, length, get_or, set, Option, Some, None, Bool, true, refl, sym, ◌∙◌, ap, arith, subst, get_or-set_other, ◌++◌, take, drop}
 use Rattle.std.specs.Prelude.{All, IsSome, IfSome, replicate}
 use Rattle.std.specs.List.{list_all}
 use Rattle.std.proofs.lemmas.Option.{same_Some, IfSome_then}
 use Rattle.std.proofs.lemmas.Grind.{get_or-set_at}
 use Rattle.std.proofs.lemmas.Bool.{cases_eq}
-use Rattle.std.proofs.lemmas.List.{get_or-replicate, length-set}
+use Rattle.std.proofs.lemmas.List.{get_or-replicate, length-set, append-nil, drop_all, take_all}
 use Rattle.std.proofs.lemmas.List.Folds.{list_all-append}
 use Rattle.std.proofs.lemmas.List.Elements.{All-head, All-tail}
 use Rattle.term_model.specs.Tree.{Tree, Leaf, Node, root, count_of}
@@ -16,8 +16,8 @@ use Rattle.term_model.specs.declared.Symbol.{Symbol}
 use Rattle.term_model.specs.declared.Item.{Item}
 use Rattle.term_model.proofs.Order.{both_hold}
 use Rattle.rewrite_model.specs.Rule.{Rule, IsRule, IsNode}
-use Rattle.rule_match.specs.Planned.{IsPlain, is_plain, HasSymbolsAlone}
-use Rattle.rule_match.specs.Groups.{head_at, IsNext, IsLinked, IsBelow, HeadsAreBelow, HaveSymbols, symbol_of}
+use Rattle.rule_match.specs.Planned.{planned, IsPlan, IsPlain, is_plain, HasSymbolsAlone}
+use Rattle.rule_match.specs.Groups.{head_at, IsNext, IsLinked, IsIndexed, IsBelow, HeadsAreBelow, HaveSymbols, symbol_of}
 use Rattle.rule_match.proofs.Skipping.{head_at-get}
 
 -- a plain pattern that is no variable has a symbol at its root
@@ -142,3 +142,13 @@ plan_symbols w (r ∷ rs) all plain zero l =
     let s = plain_symbol w r (All-head IsRule r rs all) (All-head (HasSymbolsAlone w) r rs plain) in
     rw s.1 refl
 plan_symbols w (r ∷ rs) all plain (suc k) l = plan_symbols w rs (All-tail IsRule r rs all) (All-tail (HasSymbolsAlone w) r rs plain) k (omega arith)
+
+-- what was written through a slice is the whole
+pub written_back : {A : Type 0} (items new : List A) (n : ℕ) → n ≡ length items → length new ≡ length items → take n (new ++ drop (length new) items) ≡ new
+written_back {A = A} items new n long same =
+    ap (λ (xs : List A). take n (new ++ xs)) (drop_all (length new) items (omega arith)) ∙ (ap (take n) (append-nil new) ∙ take_all n new (omega arith))
+
+-- rules that are linked are indexed by what was written
+pub indexed : (rules : List Rule) (w : ℕ) (firsts nexts written_firsts written_nexts : List (Option ℕ)) → IsPlan (planned rules w) → length nexts ≡ length rules → HeadsAreBelow (length firsts) rules → IsLinked rules 0 firsts nexts → written_firsts ≡ firsts → written_nexts ≡ nexts → IsIndexed rules w written_firsts written_nexts
+indexed rules w firsts nexts written_firsts written_nexts plan size heads linked f n =
+    rw (f, n) (record { plan = plan; size = size; heads = heads; linked = linked })
