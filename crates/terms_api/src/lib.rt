@@ -3,7 +3,5 @@
 #![tactic(auto)]
 
 mod terms;
-mod trials;
 
 pub use terms::{BuildFault, Deep, Terms};
-pub use trials::{build_pair, have_one_row, read_back};

@@ -6,7 +6,8 @@ use std::alloc::Global;
 use std::collections::{BTreeMap, BTreeSet};
 use std::test::Fail;
 use term_model::{Head, Row, Symbol};
-use terms_api::{BuildFault, Deep, Terms, have_one_row, read_back};
+use terms_api::{BuildFault, Deep, Terms};
+use terms_calls::{have_one_row, read_back};
 
 // Builds a symbol over the last `n` places, if there are so many, and tells the fault.
 fn build_symbol<T: Terms>(terms: &mut T, symbol: u32, n: u32) -> Option<BuildFault>

@@ -1,8 +1,8 @@
 use Rattle.std.proofs.Common.{◌≡◌, ◌+◌, length, arith, ap, ◌∙◌, eq-eqb}
 use Rattle.std.specs.Prelude.{Some, slice_get}
 use Rattle.terms_api.specs.Terms.{trees}
-use Rattle.terms_api.proofs.Growing.{one_row, taken_off, two_deeper}
-use Rattle.terms_api.proofs.trials.have_one_row.Goals as goal
+use Rattle.terms_calls.proofs.Growing.{one_row, taken_off, two_deeper}
+use Rattle.terms_calls.proofs.calls.have_one_row.Goals as goal
 
 pub overflow_add-before : goal.overflow_add-before
 overflow_add-before g c =

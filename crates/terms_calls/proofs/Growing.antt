@@ -8,7 +8,7 @@ use Rattle.term_model.specs.declared.Symbol.{Symbol}
 use Rattle.term_model.specs.declared.Head.TheVariants.{App}
 use Rattle.term_model.specs.Tree.{Tree, Node, End, trees_of}
 use Rattle.terms_api.specs.Terms.{Store, tree_at, trees, last, but_last, asked, IsSound, Built, kept}
-use Rattle.terms_api.specs.Trials.{pair, Grown}
+use Rattle.terms_calls.specs.Calls.{pair, Grown}
 use Rattle.terms_api.proofs.Callers.{last-append, but_last-append, last-none, but_last-none, trees-at, trees-kept, held-stack, same_row}
 
 -- what a leaf leaves

@@ -2,10 +2,10 @@
 ghost use Rattle.std.specs.Prelude.{◌≡◌, ◌+◌, ◌<◌, ◌≤◌, Ok, Some, OnOk, IfOk, IsTrue, true};
 ghost use Rattle.term_model.specs.Tree.{root};
 ghost use Rattle.terms_api.specs.Terms.{IsHeld, IsSound, tree_at, trees};
-ghost use Rattle.terms_api.specs.Trials.{pair, Grown};
+ghost use Rattle.terms_calls.specs.Calls.{pair, Grown};
 
-use crate::{BuildFault, Deep, Terms};
 use term_model::{Head, Row, Symbol};
+use terms_api::{BuildFault, Deep, Terms};
 
 /// Builds a leaf, the same leaf, and a node over both.
 pub fn build_pair<T: Terms>(terms: &mut T, leaf: Symbol, node: Symbol) -> Result<(), BuildFault>

@@ -1,5 +1,5 @@
-use Rattle.terms_api.proofs.Growing.{grown}
-use Rattle.terms_api.proofs.trials.build_pair.Goals as goal
+use Rattle.terms_calls.proofs.Growing.{grown}
+use Rattle.terms_calls.proofs.calls.build_pair.Goals as goal
 
 pub returns-clause-ok : goal.returns-clause-ok
 returns-clause-ok g c =
