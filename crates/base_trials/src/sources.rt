@@ -1,5 +1,6 @@
 //! What is read of a source and written to a sink, to the end or up to a fault.
-use ends::{MemSink, MemSource, ReadAllFault, WriteFault, read_all, write_all};
+use ends::{ReadAllFault, WriteFault, read_all, write_all};
+use memory_ends::{MemSink, MemSource};
 use std::test::Fail;
 
 // A source, how much of it is read, and what comes of it: `None` for all its bytes.

@@ -2,14 +2,12 @@
 #![tactic(auto)]
 
 mod gate;
-mod memory_sink;
-mod memory_source;
 mod sink;
 mod source;
+mod streams;
 
 pub use faults::Memory;
 pub use gate::{Gate, OpenGate};
-pub use memory_sink::MemSink;
-pub use memory_source::MemSource;
 pub use sink::{Sink, WriteFault, write_all};
 pub use source::{Failed, ReadAllFault, Source, read_all};
+pub use streams::{Reading, Writing};

@@ -1,8 +1,6 @@
 //! The program `rec`: standard input, output and error under the top call.
 #![tactic(auto)]
 
-mod streams;
-
 ghost use Rattle.std.specs.Prelude.{◌≡◌, ◌≢◌, [], IfOk, IfErr, IsErr, IsOkAnd, OnErr};
 ghost use Rattle.std.specs.IoError.{error_kind};
 ghost use Rattle.std.specs.Process.{exit_status};
@@ -10,7 +8,7 @@ ghost use Rattle.std.specs.Vec.Iter.{into_iter_items};
 ghost use Rattle.rec_top.specs.Lines.{status_line, TookLine};
 ghost use Rattle.rec_top.specs.Run.{IsStatus};
 
-use ends::{Memory, OpenGate, Sink, Source};
+use ends::{Memory, OpenGate, Reading, Sink, Source, Writing};
 use rec_top::{Outcome, out_of_memory, run};
 use std::alloc::Global;
 use std::env::Args;
@@ -19,7 +17,6 @@ use std::process::ExitCode;
 use std::sync::Wait;
 use std::thread::Threads;
 use std::{env, io};
-use streams::{Reading, Writing};
 
 // The words of the command line. Where one is no text there are none, which the top call refuses as
 // it refuses all wrong words.

@@ -1,6 +1,7 @@
 // What a gate is told.
 use crate::trial::{FOUR_SUMS, words_of};
-use ends::{Gate, MemSink, MemSource};
+use ends::Gate;
+use memory_ends::{MemSink, MemSource};
 use rec_top::{Workers, run};
 use std::alloc::Global;
 use std::process::Abort;

@@ -1,5 +1,6 @@
 use crate::trial::{SUM, words_of};
-use ends::{MemSink, MemSource, OpenGate};
+use ends::OpenGate;
+use memory_ends::{MemSink, MemSource};
 use rec_top::run;
 use std::alloc::Global;
 use std::process::Abort;

@@ -1,6 +1,7 @@
 // Logs behind lines, and their checks.
 use crate::trial::{FOUR_SUMS, PAIR, ROW, Row, SUM, USAGE, check_all, words_of};
-use ends::{MemSink, MemSource, OpenGate};
+use ends::OpenGate;
+use memory_ends::{MemSink, MemSource};
 use rec_top::run;
 use std::alloc::Global;
 use std::process::Abort;

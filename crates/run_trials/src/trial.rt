@@ -1,5 +1,6 @@
 // Runs of the program on bytes, and what comes of them.
-use ends::{MemSink, MemSource, OpenGate};
+use ends::OpenGate;
+use memory_ends::{MemSink, MemSource};
 use rec_top::{Outcome, run};
 use std::alloc::Global;
 use std::process::Abort;

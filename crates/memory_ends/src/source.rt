@@ -3,9 +3,10 @@ ghost use Rattle.std.specs.Prelude.{◌≡◌, ◌<◌, ◌↔◌, Some, Result,
 ghost use Rattle.std.specs.Io.{ReadsAtMost};
 ghost use Rattle.std.specs.Io.KnownBytes.{ReadConsumes};
 ghost use Rattle.faults.specs.Count.{HasCause, next_count};
-ghost use Rattle.ends.specs.InMemory.{read_count, source_of, source_after};
+ghost use Rattle.memory_ends.specs.InMemory.{read_count, source_of, source_after};
 
-use crate::{Failed, Memory, Source};
+use ends::{Failed, Source};
+use faults::Memory;
 use std::alloc::Global;
 use std::marker::Model;
 
@@ -23,7 +24,7 @@ pub struct MemSource {
 
 impl Model for MemSource {
     ghost use Rattle.std.specs.Prelude.{◌≤◌, ◌<◌, length, drop};
-    ghost use Rattle.ends.specs.InMemory.{SourceState};
+    ghost use Rattle.memory_ends.specs.InMemory.{SourceState};
 
     ghost Value = { SourceState };
 

@@ -2,9 +2,10 @@
 ghost use Rattle.std.specs.Prelude.{◌≡◌, ◌≤◌, ◌<◌, ◌↔◌, ◌⊎◌, Some, Result, IfOk, IsErr, Contains, length};
 ghost use Rattle.std.specs.Io.KnownBytes.{WriteAppends};
 ghost use Rattle.faults.specs.Count.{HasCause, next_count};
-ghost use Rattle.ends.specs.InMemory.{write_count, sink_of, sink_after};
+ghost use Rattle.memory_ends.specs.InMemory.{write_count, sink_of, sink_after};
 
-use crate::{Failed, Memory, Sink};
+use ends::{Failed, Sink};
+use faults::Memory;
 use std::alloc::Global;
 use std::marker::Model;
 
@@ -22,7 +23,7 @@ pub struct MemSink {
 
 impl Model for MemSink {
     ghost use Rattle.std.specs.Prelude.{◌≤◌, ◌+◌, ◌<◌, vec_len, vec_capacity};
-    ghost use Rattle.ends.specs.InMemory.{SinkState};
+    ghost use Rattle.memory_ends.specs.InMemory.{SinkState};
 
     ghost Value = { SinkState };
 

@@ -2,7 +2,7 @@
 // of the standard streams, and the bytes of those in memory.
 ghost use Rattle.std.specs.Prelude.{◌≡◌};
 
-use ends::{Failed, Sink, Source};
+use crate::{Failed, Sink, Source};
 use std::io::{Read, Write};
 
 /// A reader as a source. Each read is one read of the reader.

@@ -1,7 +1,7 @@
 use Rattle.std.proofs.Common.{◌≤◌, ◌+◌, length, arith}
 use Rattle.std.proofs.lemmas.Grind.{common_steps}
 use Rattle.ends.proofs.Pieces.{left_splits, none_left}
-use Rattle.ends.proofs.memory_source.MemSourceSource.read.Goals as goal
+use Rattle.memory_ends.proofs.source.MemSourceSource.read.Goals as goal
 
 pub returns-clause-bytes : goal.returns-clause-bytes
 returns-clause-bytes c =
