@@ -175,3 +175,26 @@ found_at a s rows m k run st here op q read =
 pub answer_of_all : (a : Made) (s : Store) (rows new : List Row) (m : Asked) (k : ℕ) (run : IsRun a s rows m k) (st : State) → get_or a.states k st ≡ st → (o : Option ℕ) → IsAnswerOf (rules_of a st) a s new m o → IsAnswer a s new m o
 answer_of_all a s rows new m k run st here None e = sym run.same ∙ ap (λ (v : State). first_match m.rules m.tree (rules_of a v)) (sym (run.there st) ∙ here) ∙ e
 answer_of_all a s rows new m k run st here (Some r) e = (sym run.same ∙ ap (λ (v : State). first_match m.rules m.tree (rules_of a v)) (sym (run.there st) ∙ here) ∙ e.0, e.1)
+
+-- the first rule of a state stands in the list
+pub tested_within : (a : Made) (s : Store) (rows : List Row) (m : Asked) (k : ℕ) (run : IsRun a s rows m k) (rule : ℕ) (rest : List ℕ) → IsTested a run.state rule rest → run.state.from < length a.rules
+tested_within a s rows m k run rule rest is =
+    let st = is_state a s rows m k run in
+    let w = st.within in
+    let n = ap length is.rules in
+    let l = length-take (run.state.to - run.state.from) (drop run.state.from a.rules) in
+    omega (arith, n, l, w)
+
+pub first_within : (a : Made) (s : Store) (rows : List Row) (m : Asked) (k : ℕ) (run : IsRun a s rows m k) (from other : ℕ) → ((d : State) → ((get_or a.states k d).from ≡ from) × ((get_or a.states k d).op ≡ Compare other)) → from < length a.rules
+first_within a s rows m k run from other is =
+    let there = run.there run.state in
+    let its = is run.state in
+    let r = subst (IsRight run.begun.automaton.table a k run.state) (sym (ap (λ (st : State). st.op) there) ∙ its.1) (is_state a s rows m k run).right in
+    let at : run.state.from ≡ from = sym (ap (λ (st : State). st.from) there) ∙ its.0 in
+    subst (λ i. i < length a.rules) at (tested_within a s rows m k run r.0 r.1 r.2)
+
+pub found_within : (a : Made) (s : Store) (rows : List Row) (m : Asked) (k : ℕ) (run : IsRun a s rows m k) (st : State) → get_or a.states k st ≡ st → st.op ≡ Found → st.from < length a.rules
+found_within a s rows m k run st here op =
+    let same : run.state ≡ st = sym (run.there st) ∙ here in
+    let r = subst (IsRight run.begun.automaton.table a k run.state) (ap (λ (v : State). v.op) same ∙ op) (is_state a s rows m k run).right in
+    subst (λ (v : State). v.from < length a.rules) same (tested_within a s rows m k run r.0 r.1 r.2)

@@ -1,10 +1,11 @@
 //! Automata, and rows for their places.
 
-ghost use Rattle.std.specs.Prelude.{◌≡◌, ◌<◌, ◌≤◌, length, true, IfOk};
+ghost use Rattle.std.specs.Prelude.{◌≡◌, ◌^◌, ◌<◌, ◌≤◌, length, true, IfOk, OnOk};
 ghost use Rattle.terms_api.specs.Terms.{IsHeld, IsSound, tree_at};
 ghost use Rattle.term_model.specs.Tree.{root};
 ghost use Rattle.rule_match.specs.Groups.{head_at};
-ghost use Rattle.rule_automaton.specs.Shapes.{variables_at};
+ghost use Rattle.rule_automaton.specs.Shapes.{numbers, variables_at};
+ghost use Rattle.rule_automaton.specs.Asking.{total};
 ghost use Rattle.rule_automaton.specs.Automata.{HasStarts, IsAutomaton};
 ghost use Rattle.rule_automaton.specs.Building.{HasFewStates};
 ghost use Rattle.rule_automaton.specs.Running.{made, asked, IsAnswer};
@@ -72,24 +73,43 @@ impl Automaton {
             IsAutomaton plan.now.rules (made automaton)) }
         ensures small { IfOk result (λ automaton. HasFewStates (made automaton)) }
     {
-        let _ = plan.rules();
         let firsts = firsts_of(alloc, plan)?;
-        let others = others_of(alloc, plan)?;
         let mut automaton = Self::in_turn(alloc, plan, &firsts)?;
-        let all = numbers_below(alloc, automaton.shapes.len())?;
-        let size = size_of(&automaton.shapes, &all);
+        automaton.grow(alloc, plan, &firsts)?;
+        Ok(automaton)
+    }
+
+    /// Decides what is done at the states, and where searches go on from the root.
+    fn grow(&mut self, alloc: Global, plan: &Plan, firsts: &[bool]) -> Result<(), Memory>
+        requires starts { HasStarts plan.now.rules (made self.old) }
+        requires count { length self.old.states.items ≡ length self.old.shapes.items }
+        ensures automaton { OnOk result (IsAutomaton plan.now.rules (made self.new)) }
+        ensures small { OnOk result (HasFewStates (made self.new)) }
+    {
+        let _ = plan.rules();
+        let others = others_of(alloc, plan)?;
+        let size = self.size(alloc)?;
         let most = size.saturating_mul(4);
-        let states = size.saturating_mul(3);
         let mut budget = Budget {
-            states,
+            states: size.saturating_mul(3),
             rules: most.saturating_mul(4),
             steps: STEPS,
         };
-        build(alloc, &mut automaton, &firsts, most, &mut budget)?;
-        build(alloc, &mut automaton, &others, most, &mut budget)?;
-        let roots = roots_of(alloc, plan, &automaton)?;
-        automaton.roots = roots;
-        Ok(automaton)
+        build(alloc, self, firsts, most, &mut budget)?;
+        build(alloc, self, &others, most, &mut budget)?;
+        let roots = roots_of(alloc, plan, self)?;
+        self.roots = roots;
+        Ok(())
+    }
+
+    /// How many rules there are, and how many tests, or fewer.
+    fn size(&self, alloc: Global) -> Result<usize, Memory>
+        requires { length self.now.shapes.items < 2 ^ 32 }
+        ensures { IfOk result (λ size. size
+            ≤ total self.now.shapes.items (numbers 0 (length self.now.shapes.items))) }
+    {
+        let all = numbers_below(alloc, self.shapes.len())?;
+        Ok(size_of(&self.shapes, &all))
     }
 
     /// A state for each rule, which tries it and those after it that have its symbol in turn.

@@ -6,6 +6,7 @@ mod asking;
 mod automaton;
 mod building;
 mod finding;
+mod reading;
 mod roots;
 mod rows;
 mod shapes;

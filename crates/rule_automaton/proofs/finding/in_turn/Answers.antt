@@ -1,7 +1,7 @@
-use Rattle.std.proofs.Common.{sym, ◌∙◌, subst, arith}
-use Rattle.terms_api.specs.Terms.{Store}
+use Rattle.std.proofs.Common.{sym, ◌∙◌, subst, ap, arith}
+use Rattle.terms_api.specs.Terms.{Store, IsSound}
 use Rattle.rule_automaton.specs.Running.{made, Asked, IsBegun, IsTried}
-use Rattle.rule_automaton.proofs.Trying.{begun_later, passed_more, passed_to}
+use Rattle.rule_automaton.proofs.Trying.{begun_later, passed_more, passed_to, passed_all}
 use Rattle.rule_automaton.proofs.finding.in_turn.Goals as goal
 
 pub try_rule-requires-clause-begun : goal.try_rule-requires-clause-begun
@@ -39,3 +39,25 @@ loop-place-preserved g c =
       passed = λ m b.
           passed_more a s c.try_rule.new.rows m c.args.from c.args.to c.loop-place.place r l c.requires.within c.index-rule.ensures ((tried m (begun_later a s c.args.rows.now c.loop-place.rows m b (i.root m b) i.size)).no c.if-try_rule.false) (record { same = (i.passed m b).same });
     }
+
+pub try_rule-requires-clause-inside : goal.try_rule-requires-clause-inside
+try_rule-requires-clause-inside g c = ap (λ (v : Store). v.inside) c.loop-place.invariant.store ∙ c.requires.inside
+
+pub try_rule-requires-clause-sound : goal.try_rule-requires-clause-sound
+try_rule-requires-clause-sound g c = subst IsSound (sym c.loop-place.invariant.store) c.requires.sound
+
+pub returns-then-try_rule-clause-unchanged : goal.returns-then-try_rule-clause-unchanged
+returns-then-try_rule-clause-unchanged g c = c.try_rule.ensures.unchanged ∙ c.loop-place.invariant.store
+
+pub returns-then-try_rule-clause-same : goal.returns-then-try_rule-clause-same
+returns-then-try_rule-clause-same g c = g.met.T.Terms.same_in_turn _ _ _ c.loop-place.invariant.same c.try_rule.ensures.same
+
+pub returns-clause-answer : goal.returns-clause-answer
+returns-clause-answer g c = λ m b.
+    passed_all (made c.args.automaton.now) (g.T.Terms.store c.args.terms.now) c.loop-place.rows m c.args.from c.args.to c.loop-place.place c.loop-place-test.false (c.loop-place.invariant.passed m b)
+
+pub returns-clause-unchanged : goal.returns-clause-unchanged
+returns-clause-unchanged g c = c.loop-place.invariant.store
+
+pub returns-clause-same : goal.returns-clause-same
+returns-clause-same g c = c.loop-place.invariant.same

@@ -1,6 +1,6 @@
-use Rattle.std.proofs.Common.{◌≡◌, ◌≤◌, List, length, sym, subst, arith}
+use Rattle.std.proofs.Common.{◌≡◌, ◌≤◌, List, length, sym, subst, ap, ◌∙◌, arith}
 use Rattle.term_model.specs.declared.Row.{Row}
-use Rattle.terms_api.specs.Terms.{Store, tree_at}
+use Rattle.terms_api.specs.Terms.{Store, IsSound, tree_at}
 use Rattle.rule_automaton.specs.Running.{made, asked, IsRun, IsAnswer}
 use Rattle.std.proofs.lemmas.List.{length-set, with_items_is}
 use Rattle.rule_automaton.proofs.Rooted.{rooted}
@@ -30,3 +30,18 @@ returns-clause-answer g c =
     let run = subst (λ (v : Store). IsRun a v c.begin-start.new.rows m c.begin-start.result) (sym c.begin-start.ensures.unchanged) (c.begin-start.ensures.run m it) in
     let answer = subst (λ (v : Store). IsAnswer a v c.run.new.rows m c.run.result) c.begin-start.ensures.unchanged (c.run.ensures.answer m run) in
     subst (λ (rs : List Row). IsAnswer a s rs m c.run.result) (sym (with_items_is c.args.places.now.rows c.run.new.rows size)) answer
+
+pub run-requires-clause-inside : goal.run-requires-clause-inside
+run-requires-clause-inside g c = ap (λ (v : Store). v.inside) c.begin-start.ensures.unchanged ∙ c.requires.inside
+
+pub run-requires-clause-sound : goal.run-requires-clause-sound
+run-requires-clause-sound g c = subst IsSound (sym c.begin-start.ensures.unchanged) c.depth.ensures.sound
+
+pub returns-clause-unchanged : goal.returns-clause-unchanged
+returns-clause-unchanged g c = c.run.ensures.unchanged ∙ c.begin-start.ensures.unchanged
+
+pub returns-clause-sound : goal.returns-clause-sound
+returns-clause-sound g c = subst IsSound (sym (c.run.ensures.unchanged ∙ c.begin-start.ensures.unchanged)) c.depth.ensures.sound
+
+pub returns-clause-same : goal.returns-clause-same
+returns-clause-same g c = g.met.T.Terms.same_in_turn _ _ _ c.begin-start.ensures.same c.run.ensures.same
