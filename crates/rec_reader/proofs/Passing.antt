@@ -1,5 +1,5 @@
 -- Steps at the tokens of bytes, from their front on.
-use Rattle.std.proofs.Common.{◌≡◌, ◌≤◌, ◌<◌, ◌∙◌, ℕ, ◌+◌, List, [], ◌∷◌, ◌++◌, length, drop, refl, ap, sym, subst, arith, inl, inr, append-nil, ◌⊎◌, Option, Some, None, Result, Ok, Err}
+use Rattle.std.proofs.Common.{◌≡◌, ◌≤◌, ◌<◌, ◌∙◌, ℕ, ◌+◌, List, [], ◌∷◌, ◌++◌, length, drop, refl, ap, sym, subst, arith, inl, inr, append-nil, Option, Some, None, Result, Ok, Err}
 use Rattle.std.specs.Prelude.{option_and_then}
 use Rattle.std.proofs.lemmas.List.{length-append, drop_all}
 use Rattle.std.proofs.lemmas.List.Elements.{All-nil}
@@ -12,9 +12,8 @@ use Rattle.rec_reader.specs.declared.machine.Machine.{Machine}
 use Rattle.rec_reader.specs.Few.{AreCountsFew}
 use Rattle.rec_reader.specs.Grammar.{IsInput}
 use Rattle.rec_reader.specs.Tokens.{tokens_from, tokens_of, after_token, piece_at}
-use Rattle.rec_reader.specs.Refusal.{place_of}
 use Rattle.rec_reader.specs.Steps.{run, start, step, accepted}
-use Rattle.rec_reader.specs.Reached.{Spells, IsByteRefused, IsTokenRefused, IsReadRefusal, HasRun, HasNoStep, IsUntaken, AreTokensStopped, IsStoppedIn}
+use Rattle.rec_reader.specs.Reached.{Spells, IsReadRefusal, HasRun, IsUntaken, IsStoppedIn}
 use Rattle.rec_reader.proofs.Reading.{after_tokens, after_push, blank_read, whole_read, bad_read}
 use Rattle.rec_reader.proofs.Runs.{run_more}
 use Rattle.rec_reader.proofs.Counts.{UpTo, counted_on, few_of}

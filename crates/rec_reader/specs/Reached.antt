@@ -1,5 +1,5 @@
 -- Bytes are read token by token: what was read of them, and why reading stops.
-use Rattle.std.specs.Prelude.{◌≡◌, ◌⊎◌, ℕ, List, Option, Some, None, Result, Ok, Err}
+use Rattle.std.specs.Prelude.{◌≡◌, ◌⊎◌, ℕ, List, Option, Some, None, Ok, Err}
 use Rattle.rec_reader.specs.declared.token.Token.{Token}
 use Rattle.rec_reader.specs.declared.syntax_tree.Specification.{Specification}
 use Rattle.rec_reader.specs.declared.machine.Machine.{Machine}
@@ -8,7 +8,7 @@ use Rattle.read_faults.specs.declared.fail.ReadFail.TheVariants.{Refused, Memory
 use Rattle.rec_reader.specs.Tokens.{tokens_of}
 use Rattle.rec_reader.specs.Grammar.{IsInput}
 use Rattle.rec_reader.specs.Refusal.{place_of, IsRefusal}
-use Rattle.rec_reader.specs.Steps.{run, start, step, StopsAt}
+use Rattle.rec_reader.specs.Steps.{run, start, step, accepted, StopsAt}
 
 -- the tokens of the bytes spell these specifications
 pub record Spells (bytes : List ℕ) (specs : List Specification) : Type 0 where
@@ -38,6 +38,18 @@ pub record HasRun (bytes : List ℕ) (m : Machine) : Type 0 where
   pub tokens : List Token
   pub cut : tokens_of bytes ≡ Ok tokens
   pub ran : run start tokens ≡ Some m
+
+-- a step was taken at each token; the specifications, where they may end there
+pub record HasEnded (tokens : List Token) (specs : Option (List Specification)) : Type 0 where
+  pub machine : Machine
+  pub ran : run start tokens ≡ Some machine
+  pub ended : specs ≡ accepted machine
+
+-- the same, at each token of the bytes
+pub record HasEndedIn (bytes : List ℕ) (specs : Option (List Specification)) : Type 0 where
+  pub machine : Machine
+  pub ran : HasRun bytes machine
+  pub ended : specs ≡ accepted machine
 
 -- the bytes have tokens, and there is no step at this one
 pub record HasNoStep (bytes : List ℕ) (m : Machine) (t : Token) (kind offset : ℕ) : Type 0 where

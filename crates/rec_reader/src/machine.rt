@@ -15,6 +15,7 @@ mod terms;
 use read_faults::NotTaken;
 use sequences::{Sequence, Stack};
 use std::alloc::Global;
+use std::mem;
 
 /// Of two sections of declarations, which.
 #[derive(Clone, Copy)]
@@ -125,25 +126,12 @@ impl Machine {
         }
     }
 
-    /// The specifications that were read, where they may end here.
-    pub(crate) fn finish(self) -> Option<Sequence<Specification>>
-        ensures { result ≡ steps.accepted self }
+    /// Gives the specifications that were read, where they may end here.
+    pub(crate) fn finish(&mut self, alloc: Global) -> Option<Sequence<Specification>>
+        ensures { result ≡ steps.accepted self.old }
     {
-        let Machine {
-            place,
-            done,
-            current: _,
-            names: _,
-            arguments: _,
-            rule: _,
-            first: _,
-            equal: _,
-            head: _,
-            nodes: _,
-            heads: _,
-        } = self;
-        match place {
-            Place::Between => Some(done),
+        match self.place {
+            Place::Between => Some(mem::replace(&mut self.done, Sequence::new(alloc))),
             _ => None,
         }
     }

@@ -3,24 +3,30 @@ ghost use Rattle.std.specs.Prelude.{◌≡◌, ◌<◌, ◌≤◌, ◌^◌, leng
 ghost use Rattle.rec_reader.specs.declared.syntax_tree.Specification.{Specification};
 ghost use Rattle.rec_reader.specs.Few.{AreCountsFew};
 ghost use Rattle.rec_reader.specs.Grammar.{IsInput};
-ghost use Rattle.rec_reader.specs.Reached.{HasRun, IsUntaken, IsStoppedIn, Spells, IsReadRefusal};
+ghost use Rattle.rec_reader.specs.Reached.{HasEnded, HasEndedIn, IsUntaken, IsStoppedIn, Spells, IsReadRefusal};
 ghost use Rattle.rec_reader.specs.Refusal.{IsRefusal};
-ghost use Rattle.rec_reader.specs.Steps.{run, start, step, IsStopped};
+ghost use Rattle.rec_reader.specs.Steps.{start, step, IsStopped};
 
 use crate::machine::Machine;
 use crate::scanner::{MOST_BYTES, Piece, piece_at, tokens};
-use crate::syntax_tree::Syntax;
+use crate::syntax_tree::{Specification, Syntax};
 use crate::token::{Token, Tokens};
 use faults::kinds;
 use read_faults::{NotTaken, ReadFail, refused};
+use sequences::Sequence;
 use std::alloc::Global;
 
-fn run(alloc: Global, tokens: &[Token]) -> Result<Machine, ReadFail>
-    requires { length tokens.now < 2 ^ 32 }
-    ensures ran { IfOk result (λ m. run start tokens.now ≡ Some m) }
+// Takes all tokens; gives the specifications, where they may end there.
+fn run(
+    alloc: Global,
+    tokens: &[Token],
+    machine: &mut Machine,
+) -> Result<Option<Sequence<Specification>>, ReadFail>
+    requires few { length tokens.now < 2 ^ 32 }
+    requires start { machine.old ≡ start }
+    ensures ended { IfOk result (HasEnded tokens.now) }
     ensures stopped { IfErr result (IsStopped tokens.now) }
 {
-    let mut machine = Machine::start(alloc);
     for token in tokens {
         match machine.step(alloc, *token) {
             Ok(()) => {}
@@ -30,7 +36,23 @@ fn run(alloc: Global, tokens: &[Token]) -> Result<Machine, ReadFail>
             Err(NotTaken::Memory) => return Err(ReadFail::Memory),
         }
     }
-    Ok(machine)
+    Ok(machine.finish(alloc))
+}
+
+// The same, with a machine of its own. Dropped by name, it is one step of the proof, and not one for
+// each of its lists.
+fn specifications_of(
+    alloc: Global,
+    tokens: &[Token],
+) -> Result<Option<Sequence<Specification>>, ReadFail>
+    requires { length tokens.now < 2 ^ 32 }
+    ensures ended { IfOk result (HasEnded tokens.now) }
+    ensures stopped { IfErr result (IsStopped tokens.now) }
+{
+    let mut machine = Machine::start(alloc);
+    let ended = run(alloc, tokens, &mut machine);
+    drop(machine);
+    ended
 }
 
 /// The specifications that tokens spell.
@@ -48,7 +70,7 @@ pub fn syntax<'a>(alloc: Global, tokens: &Tokens<'a>) -> Result<Syntax<'a>, Read
         → IsInput tokens.now.tokens specs → IfErr result (λ e. e ≡ ReadFail.Memory) }
     ensures refused_only_at_its_place { IfErr result (IsRefusal tokens.now) }
 {
-    match run(alloc, tokens.as_slice())?.finish() {
+    match specifications_of(alloc, tokens.as_slice())? {
         Some(items) => Ok(Syntax {
             text: tokens.text(),
             items,
@@ -74,25 +96,45 @@ fn take(alloc: Global, bytes: &[u8], machine: &mut Machine, token: Token) -> Res
     }
 }
 
-// Takes all tokens of the bytes. None of them is kept, but for what its sentence needs.
-fn run_bytes(alloc: Global, bytes: &[u8]) -> Result<Machine, ReadFail>
-    requires { length bytes.now < 2 ^ 32 }
-    ensures ran { IfOk result (HasRun bytes.now) }
+// Takes all tokens of the bytes; gives the specifications, where they may end there. No token is
+// kept, but for what its sentence needs.
+fn run_bytes(
+    alloc: Global,
+    bytes: &[u8],
+    machine: &mut Machine,
+) -> Result<Option<Sequence<Specification>>, ReadFail>
+    requires few { length bytes.now < 2 ^ 32 }
+    requires start { machine.old ≡ start }
+    ensures ended { IfOk result (HasEndedIn bytes.now) }
     ensures stopped { IfErr result (IsStoppedIn bytes.now) }
 {
-    let mut machine = Machine::start(alloc);
     let mut at = 0;
     while at < bytes.len() {
         match piece_at(bytes, at) {
             Piece::Blank(more) => at += more + 1,
             Piece::Whole(token, more) => {
-                take(alloc, bytes, &mut machine, token)?;
+                take(alloc, bytes, machine, token)?;
                 at += more + 1;
             }
             Piece::Bad => return Err(refused(kinds::BAD_BYTE, at)),
         }
     }
-    Ok(machine)
+    Ok(machine.finish(alloc))
+}
+
+// The same, with a machine of its own.
+fn specifications_in(
+    alloc: Global,
+    bytes: &[u8],
+) -> Result<Option<Sequence<Specification>>, ReadFail>
+    requires { length bytes.now < 2 ^ 32 }
+    ensures ended { IfOk result (HasEndedIn bytes.now) }
+    ensures stopped { IfErr result (IsStoppedIn bytes.now) }
+{
+    let mut machine = Machine::start(alloc);
+    let ended = run_bytes(alloc, bytes, &mut machine);
+    drop(machine);
+    ended
 }
 
 /// The specifications that bytes spell. It gives what `syntax` gives of their `tokens`, and keeps
@@ -113,7 +155,7 @@ pub fn read(alloc: Global, bytes: &[u8]) -> Result<Syntax<'_>, ReadFail>
     if bytes.len() > MOST_BYTES {
         return Err(ReadFail::Memory);
     }
-    match run_bytes(alloc, bytes)?.finish() {
+    match specifications_in(alloc, bytes)? {
         Some(items) => Ok(Syntax { text: bytes, items }),
         None => Err(refused(kinds::UNENDED, bytes.len())),
     }

@@ -1,4 +1,4 @@
-use Rattle.std.proofs.Common.{◌≡◌, ◌+◌, ℕ, List, drop, refl, ap, sym, ◌∙◌, arith, append-nil, Ok}
+use Rattle.std.proofs.Common.{◌≡◌, ◌+◌, drop, refl, ap, sym, ◌∙◌, arith, append-nil, Ok}
 use Rattle.std.proofs.lemmas.List.{at_drop_all}
 use Rattle.rec_reader.specs.Tokens.{tokens_from, tokens_of}
 use Rattle.rec_reader.proofs.Reading.{after_tokens, after_push, blank_read, whole_read, bad_read}
