@@ -85,8 +85,13 @@ fn records_to_end(
 {
     let (count, rest) = count_at(total, MOST_RECORDS, bytes)?;
     let (found, rest) = records_at(alloc, total, symbols, symbol_count, count, rest)?;
-    let roots = roots_to_end(alloc, total, symbol_count, &found, rest)?;
-    Ok((found.table, roots))
+    match roots_to_end(alloc, total, symbol_count, &found, rest) {
+        Ok(roots) => Ok((found.table, roots)),
+        Err(fault) => {
+            drop(found);
+            Err(fault)
+        }
+    }
 }
 
 /// What the bytes hold, where they are a right file.
@@ -100,8 +105,13 @@ fn parts(alloc: Global, bytes: &[u8]) -> Result<(Symbols, u32, Table, Vec<u32>),
     let rest = after_magic(total, bytes)?;
     let (symbol_count, rest) = count_at(total, MOST_SYMBOLS as u32, rest)?;
     let (symbols, rest) = symbols_at(alloc, total, symbol_count, rest)?;
-    let (table, roots) = records_to_end(alloc, total, &symbols, symbol_count, rest)?;
-    Ok((symbols, symbol_count, table, roots))
+    match records_to_end(alloc, total, &symbols, symbol_count, rest) {
+        Ok((table, roots)) => Ok((symbols, symbol_count, table, roots)),
+        Err(fault) => {
+            drop(symbols);
+            Err(fault)
+        }
+    }
 }
 
 /// The terms of a file.

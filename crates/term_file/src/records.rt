@@ -223,7 +223,13 @@ pub(crate) fn records_at<'a>(
     };
     let mut rest = bytes;
     for _number in 0..count {
-        rest = record_at(alloc, total, symbols, symbol_count, &mut found, rest)?;
+        match record_at(alloc, total, symbols, symbol_count, &mut found, rest) {
+            Ok(after) => rest = after,
+            Err(fault) => {
+                drop(found);
+                return Err(fault);
+            }
+        }
     }
     Ok((found, rest))
 }

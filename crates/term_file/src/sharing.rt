@@ -33,7 +33,13 @@ pub fn share(
     let _pool = symbols.find(b"", 0);
     let mut growing = Growing::new(alloc);
     for term in terms.as_slice() {
-        growing.take_term(alloc, symbols, term, rows)?;
+        match growing.take_term(alloc, symbols, term, rows) {
+            Ok(()) => {}
+            Err(fault) => {
+                drop(growing);
+                return Err(fault);
+            }
+        }
     }
     let Growing {
         symbols,

@@ -84,7 +84,13 @@ pub(crate) fn symbols_at(
     let mut symbols = Symbols::new(alloc);
     let mut rest = bytes;
     for _number in 0..count {
-        rest = symbol_at(total, &mut symbols, rest)?;
+        match symbol_at(total, &mut symbols, rest) {
+            Ok(after) => rest = after,
+            Err(fault) => {
+                drop(symbols);
+                return Err(fault);
+            }
+        }
     }
     Ok((symbols, rest))
 }

@@ -1,5 +1,4 @@
 use Rattle.std.proofs.Common.{List, length, ap, subst, sym, ◌∙◌, arith}
-use Rattle.std.proofs.lemmas.Result.{err_from_is_err_and}
 use Rattle.symbol_pool.specs.Pool.{Named}
 use Rattle.term_model.specs.Tree.{Tree}
 use Rattle.term_file.specs.declared.fault.ShareFault.TheVariants.{StoreFull}
@@ -8,19 +7,17 @@ use Rattle.term_file.specs.Growing.{contents_so_far}
 use Rattle.term_file.proofs.Shares.{next_shared, next_too_many, same_fault, shared_whole, is_right, shares_counted}
 use Rattle.term_file.proofs.sharing.share.Goals as goal
 
-pub returns-in_err-take_term-clause-full_only_where : goal.returns-in_err-take_term-clause-full_only_where
-returns-in_err-take_term-clause-full_only_where c =
-    let p = err_from_is_err_and c.from_residual.result c.from_residual.ensures.1 in
-    rw (p.1, p.2) (λ e.
+pub returns-in-Err-clause-full_only_where : goal.returns-in-Err-clause-full_only_where
+returns-in-Err-clause-full_only_where c = λ e.
     next_too_many c.args.symbols.now c.args.terms.now c.as_slice-term-items.result.now c.as_slice-term-items.ensures c.loop-term.term-index c.loop-term-test.true c.term-item.result c.term-item.is
-    (contents_so_far c.loop-term.growing) c.args.rows c.loop-term.invariant.shares (c.in_err-take_term.ensures.full_only_where (same_fault c.in_err-take_term.field-0.0 StoreFull e)))
+    (contents_so_far c.loop-term.growing) c.args.rows c.loop-term.invariant.shares (c.in-Err.ensures.full_only_where (same_fault c.in-Err.fault StoreFull e))
 
 pub loop-term-preserved : goal.loop-term-preserved
 loop-term-preserved c = record {
   shares =
       next_shared c.args.symbols.now c.args.terms.now c.as_slice-term-items.result.now c.as_slice-term-items.ensures c.loop-term.term-index c.loop-term-test.true c.term-item.result c.term-item.is
-      (contents_so_far c.loop-term.growing) (contents_so_far c.take_term.new.self) c.loop-term.invariant.shares c.in_ok-take_term.ensures.taken;
-  few = c.in_ok-take_term.ensures.few;
+      (contents_so_far c.loop-term.growing) (contents_so_far c.take_term.new.self) c.loop-term.invariant.shares c.in-Ok.ensures.taken;
+  few = c.in-Ok.ensures.few;
 }
 
 pub invariant_of-result : goal.invariant_of-result
