@@ -4,7 +4,7 @@ use lock_core::LockStep;
 
 /// One atomic action of a seat on one word. Where it stores, loads or exchanges, its place and
 /// value are numbers; a draw is one fetch and add.
-#[derive(Drop)]
+#[derive(Clone, Drop)]
 pub enum StoreStep {
     Lock(LockStep),
     LoadBase,

@@ -16,7 +16,7 @@ pub struct Sizes {
 }
 
 /// A word of a store past those of the lock.
-#[derive(Clone, Copy, PartialEq, Eq)]
+#[derive(Clone, Copy, Debug, PartialEq, Eq)]
 pub enum Place {
     Base,
     FreeCount,
@@ -34,7 +34,7 @@ pub enum Place {
 }
 
 /// A head over rows.
-#[derive(Clone, Drop)]
+#[derive(Debug, Clone, Drop)]
 pub struct Content {
     pub head: Head,
     pub arguments: LinkedList<u32>,
@@ -43,7 +43,7 @@ pub struct Content {
 /// What a seat has under way. In a creation: the content, the drawn index with its row, the head
 /// that was read last, the word that its walk ends at, where the walk is, and how many words were
 /// compared or stored. Words of chains are 0 at the end, else the row and 1.
-#[derive(Drop)]
+#[derive(Debug, Drop)]
 pub enum Call {
     Idle,
     Comparing(Content, Option<(u32, u32)>, u32, u32, u32, u32),
@@ -95,7 +95,7 @@ pub struct Passed {
 
 /// A creation that ended with Full: the head of the chain that it read, the rows that it passed up
 /// to the chain's end, and the claim that it read or drew with the free count.
-#[derive(Clone, Drop)]
+#[derive(Debug, Clone, Drop)]
 pub struct Refusal {
     pub content: Content,
     pub head: u32,
@@ -105,7 +105,7 @@ pub struct Refusal {
 }
 
 /// What a seat knows of the store.
-#[derive(Drop)]
+#[derive(Debug, Drop)]
 pub struct View {
     pub call: Call,
     pub stay: Stay,
