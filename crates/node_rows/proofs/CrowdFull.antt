@@ -4,11 +4,9 @@ use Rattle.term_model.specs.Tree.{Tree, Node, Leaf, Trees, End, More}
 use Rattle.history_core.specs.TermSet.{Names, Holds, Lacks, tree_at, trees_at, tree_over}
 use Rattle.store_model.specs.declared.view.KnownWord.{KnownWord}
 use Rattle.store_model.specs.declared.view.Sizes.{Sizes}
-use Rattle.store_model.specs.declared.view.Content.{Content}
-use Rattle.node_rows.specs.declared.view.NodeView.{NodeView}
-use Rattle.node_rows.specs.Crowding.{IsSwept, HasCrowd}
-use Rattle.node_rows.specs.CrowdFull.{IsCrowded, FilledIsCrowded}
-use Rattle.node_rows.specs.Full.{IsFilled, held_then}
+use Rattle.node_rows.specs.Crowding.{HasCrowd}
+use Rattle.node_rows.specs.CrowdFull.{FilledIsCrowded}
+use Rattle.node_rows.specs.Full.{held_then}
 use Rattle.node_rows.specs.Joining.{with_views}
 use Rattle.node_rows.specs.Knowing.{KnowsTree, KnowsTrees}
 use Rattle.node_rows.proofs.Crowding.{full_is_crowded, absent_is_not_crowded}

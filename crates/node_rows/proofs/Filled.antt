@@ -1,10 +1,10 @@
 -- Where the only pass finds no row free each row has a tree.
-use Rattle.std.proofs.Common.{◌≡◌, true, Some, ℕ, suc, ◌+◌, ◌%◌, ◌^◌, ◌<◌, ◌≤◌, List, [], ◌∷◌, get_or, refl, sym, ap, ◌∙◌, subst, arith}
+use Rattle.std.proofs.Common.{◌≡◌, true, Some, ℕ, ◌+◌, ◌%◌, ◌^◌, ◌<◌, ◌≤◌, List, [], ◌∷◌, get_or, refl, sym, ap, ◌∙◌, subst, arith}
 use mathlib.Core.Option.{some}
 use lib.ListN.{get_elem?}
 use Rattle.atomic_table.specs.Table.{State, Me, Allows}
 use Rattle.history_core.specs.declared.entry.Entry.{Entry}
-use Rattle.history_core.specs.TermSet.{Names, IsHeld}
+use Rattle.history_core.specs.TermSet.{Names}
 use Rattle.history_core.specs.Chronicle.{chronicle, set_of}
 use Rattle.busy_forbidden.proofs.Goes.{same_place}
 use Rattle.store_model.specs.declared.view.Sizes.{Sizes}
@@ -19,12 +19,12 @@ use Rattle.store_model.specs.Machine.{IsCreation, Go, action}
 use Rattle.store_model.specs.Seats.{HasRead}
 use Rattle.store_model.specs.Invariant.{listed, names_of}
 use Rattle.store_model.specs.Runs.{Inductive}
-use Rattle.store_model.specs.Shown.{shown, in_table, index_of}
+use Rattle.store_model.specs.Shown.{shown}
 use Rattle.store_model.proofs.Eight.{inductive}
 use Rattle.store_model.proofs.Full.{sole_words, sole_now, sole_all}
 use Rattle.store_model.proofs.Histories.{live_held}
 use Rattle.node_rows.specs.declared.view.NodeView.{NodeView}
-use Rattle.node_rows.specs.Shown.{state_of, Shows}
+use Rattle.node_rows.specs.Shown.{state_of}
 use Rattle.node_rows.specs.Joining.{with_views, ShowsJoined}
 use Rattle.node_rows.specs.Gathering.{not_spent, known_at}
 use Rattle.node_rows.specs.Locking.{store_here, below}

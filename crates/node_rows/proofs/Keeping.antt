@@ -1,9 +1,7 @@
 -- What a pass is led to stays.
-use Rattle.std.proofs.Common.{◌≡◌, ◌≢◌, ℕ, zero, suc, ◌+◌, ◌<◌, ◌≤◌, true, List, [], ◌∷◌, length, get_or, refl, sym, subst, arith}
+use Rattle.std.proofs.Common.{◌≢◌, ℕ, suc, ◌<◌, List, [], ◌∷◌, length, get_or, sym, subst, arith}
 use Rattle.term_model.specs.Tree.{Tree, Leaf, Node, Trees, End, More}
-use Rattle.term_model.specs.declared.Head.{Head}
 use Rattle.hash_buckets.specs.Spelled.{spelled}
-use Rattle.history_core.specs.declared.entry.Entry.{Entry}
 use Rattle.store_model.specs.declared.view.View.{View}
 use Rattle.store_model.specs.declared.view.KnownWord.{KnownWord}
 use Rattle.store_model.specs.Machine.{Each, In, protected_in, rows_kept, words_kept, based, ready}
@@ -13,7 +11,7 @@ use Rattle.store_model.specs.Leading.{LeadsTo, leads_first, leads_on}
 use Rattle.store_model.proofs.Gains.{two_words, enough_words}
 use Rattle.store_model.proofs.ByWords.{spelled_at}
 use Rattle.store_model.proofs.Leading.{among_in, led_in, words_in, entry_keeps}
-use Rattle.node_rows.specs.Knowing.{KnowsRow, KnowsTree, KnowsTrees}
+use Rattle.node_rows.specs.Knowing.{KnowsTree, KnowsTrees}
 use Rattle.node_rows.specs.Keeping.{IsLedTo, KeepsLed, LedToArguments}
 
 each_at : (P : ℕ → Type 0) (rs : List ℕ) → ((k : ℕ) → k < length rs → P (get_or rs k 0)) → Each P rs

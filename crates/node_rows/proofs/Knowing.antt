@@ -1,30 +1,24 @@
 -- What a pass knows of rows is so.
-use Rattle.std.proofs.Common.{◌≡◌, ◌≢◌, ◌⊎◌, ℕ, zero, suc, ◌<◌, ◌≤◌, true, Some, List, [], ◌∷◌, length, get_or, refl, sym, ap, ap₂, ◌∙◌, subst, ⊎_elim, arith}
+use Rattle.std.proofs.Common.{◌≡◌, ◌≢◌, ℕ, ◌<◌, ◌≤◌, true, Some, List, [], ◌∷◌, length, get_or, refl, sym, ap, ap₂, ◌∙◌, subst, ⊎_elim, arith}
 use Rattle.term_model.specs.Tree.{Tree, Leaf, Node, Trees, End, More}
 use Rattle.term_model.specs.declared.Head.{Head}
 use Rattle.term_model.specs.declared.Head.TheVariants.{App, Int, Nil, Cons}
-use Rattle.history_core.specs.TermSet.{Names, Lacks, tree_over}
-use Rattle.history_core.specs.Chronicle.{chronicle, set_of}
+use Rattle.history_core.specs.TermSet.{Lacks, tree_over}
 use Rattle.hash_buckets.specs.Spelled.{spelled}
 use Rattle.store_model.specs.declared.view.Sizes.{Sizes}
-use Rattle.store_model.specs.declared.view.View.{View}
 use Rattle.store_model.specs.declared.view.Content.{Content}
 use Rattle.store_model.specs.declared.view.KnownWord.{KnownWord}
 use Rattle.store_model.specs.declared.view.Place.{Place}
 use Rattle.store_model.specs.declared.view.Place.TheVariants.{InUse, Bucket, RowWord}
-use Rattle.store_model.specs.declared.view.Call.{Call}
-use Rattle.store_model.specs.declared.view.Call.TheVariants.{Idle, Comparing, Passing, Finding, Ended, Counting, Drawing, Placing, Filling, Numbering, Linking, Publishing, Loading, Storing}
-use Rattle.store_model.specs.declared.view.Stay.TheVariants.{Away, Ready}
 use Rattle.store_model.specs.Words.{row_at}
 use Rattle.store_model.specs.Calls.{IsOver, words_of, bucket}
-use Rattle.store_model.specs.Machine as core
-use Rattle.store_model.specs.Machine.{Each, In, with_call}
+use Rattle.store_model.specs.Machine.{Each, In}
 use Rattle.store_model.specs.Meaning as meaning
 use Rattle.store_model.specs.Meaning.{Meaning, Linked, grown}
-use Rattle.store_model.specs.Seats.{Lacks as Misses, Walked, IsKnown, IsSeen, SeatHolds}
+use Rattle.store_model.specs.Seats.{Lacks as Misses, Walked, IsKnown}
 use Rattle.store_model.specs.Invariant.{ChainsHold, names_of}
 use Rattle.store_model.specs.ByView.{KnowsWord}
-use Rattle.store_model.proofs.Basics.{each_map, each_in}
+use Rattle.store_model.proofs.Basics.{each_in}
 use Rattle.store_model.proofs.Chains.{linked_once}
 use Rattle.store_model.proofs.Histories.{spelled_once, held_live, live_held, trees_named}
 use Rattle.store_model.proofs.Publishes.{content_is}

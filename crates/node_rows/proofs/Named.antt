@@ -1,6 +1,5 @@
 -- What the entries of a legal history name, and that what a pass knows of trees is in the set that all entries leave.
-use Rattle.std.proofs.Common.{◌≡◌, ℕ, Bool, cond, Some, List, [], ◌∷◌, ◌++◌, refl, sym, ap, ◌∙◌, eq-eqb}
-use Rattle.std.specs.Prelude.{Contains}
+use Rattle.std.proofs.Common.{ℕ, Bool, cond, Some, [], ◌∷◌, ◌++◌, refl, ap, ◌∙◌, eq-eqb}
 use Rattle.term_model.specs.Tree.{Tree}
 use Rattle.history_core.specs.declared.entry.Entry.{Entry}
 use Rattle.history_core.specs.declared.entry.Entry.TheVariants.{Make, Find, Roots, Collect}
@@ -9,7 +8,6 @@ use Rattle.history_core.specs.Entry.{IsStep, after}
 use Rattle.history_core.specs.Chronicle.{History, Legal, left_by}
 use Rattle.history_core.proofs.Kept.{collect_keeps_reached}
 use Rattle.store_model.specs.declared.view.Sizes.{Sizes}
-use Rattle.store_model.specs.HistoryMatches.{history_of}
 use Rattle.store_model.specs.Laws.{held_by}
 use Rattle.store_model.specs.Machine as core
 use Rattle.store_model.specs.Steps.{IsAtRest, is_collecting}

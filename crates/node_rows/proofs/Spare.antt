@@ -1,6 +1,6 @@
 -- After a collection in its exclusive access a pass that finds no row free has a store in which each row has a tree, and lacks the
 -- tree that it asks for.
-use Rattle.std.proofs.Common.{◌≡◌, ℕ, ◌<◌, ◌≤◌, get_or, true, false, None, Some, List, refl, sym, ap, ◌∙◌, subst, ⊎_elim, inl, inr, arith}
+use Rattle.std.proofs.Common.{◌≡◌, ℕ, ◌<◌, ◌≤◌, get_or, true, false, None, Some, refl, sym, ap, ◌∙◌, subst, ⊎_elim, inl, inr, arith}
 use mathlib.Core.Option.{some}
 use lib.ListN.{get_elem?}
 use Rattle.atomic_table.specs.Table.{State, Me}
@@ -31,13 +31,13 @@ use Rattle.store_model.proofs.Histories.{live_held}
 use Rattle.store_model.proofs.Wrapped.{quiet, quiet_fresh, creation_calm}
 use Rattle.busy_forbidden.proofs.Goes.{same_place}
 use Rattle.node_rows.specs.declared.view.NodeView.{NodeView}
-use Rattle.node_rows.specs.Shown.{state_of, store_at}
+use Rattle.node_rows.specs.Shown.{state_of}
 use Rattle.node_rows.specs.Joining.{with_views, ShowsJoined}
 use Rattle.node_rows.specs.Gathering.{not_spent, known_at}
 use Rattle.node_rows.specs.Locking.{store_here}
 use Rattle.node_rows.specs.Knowing.{KnowsTree}
 use Rattle.node_rows.specs.Steps.{Goes}
-use Rattle.node_rows.specs.Full.{Moment, IsFilled, FullAfter}
+use Rattle.node_rows.specs.Full.{FullAfter}
 use Rattle.node_rows.proofs.Own.{shown_at}
 use Rattle.node_rows.proofs.Knowing.{names_lack, tree_is}
 

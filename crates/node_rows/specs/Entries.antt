@@ -1,5 +1,5 @@
 -- What an entry of a legal history tells of the rows that it names.
-use Rattle.std.specs.Prelude.{ℕ, List, [], ◌∷◌, Contains}
+use Rattle.std.specs.Prelude.{ℕ, Contains}
 use Rattle.std.specs.List.{AllByRecursion}
 use Rattle.term_model.specs.Tree.{Tree}
 use Rattle.history_core.specs.declared.entry.Entry.{Entry}

@@ -7,6 +7,9 @@ use Rattle.node_rows.specs.Told.{view_of}
 use Rattle.node_rows.proofs.Joins.{all_next}
 use Rattle.node_rows.proofs.closing.gather_all.Goals as goal
 
+pub gather-requires-clause-other : goal.gather-requires-clause-other
+gather-requires-clause-other c = (All-pop (λ p. IsPass c.args.store.now.table.shared.table_id c.args.store.now.sizes p.seat.seat p.seat.seats × IsOut p.seat.seat.me.0) c.loop-pass.rest.items c.pop.new.self.items (Some c.in-Some.pass) c.in-Some.ensures.items c.loop-pass.invariant.passes).1
+
 pub loop-pass-preserved : goal.loop-pass-preserved
 loop-pass-preserved c =
     let inv = c.loop-pass.invariant in

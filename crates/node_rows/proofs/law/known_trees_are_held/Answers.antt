@@ -1,4 +1,4 @@
-use Rattle.std.proofs.Common.{ℕ, sym, subst}
+use Rattle.std.proofs.Common.{sym, subst}
 use Rattle.store_model.specs.declared.view.View.{View}
 use Rattle.store_model.specs.Steps.{IsAtRest}
 use Rattle.store_model.proofs.Eight.{inductive}
