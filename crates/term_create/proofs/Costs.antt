@@ -1,5 +1,6 @@
 -- The steps of a creation, added up. W is how many arguments a row has room for.
-use Rattle.std.proofs.Common.{◌≡◌, ℕ, zero, suc, ◌+◌, ◌*◌, ◌<◌, ◌≤◌, Bool, false, cond, Option, eqb, ap, ◌∙◌, subst, arith}
+use Rattle.std.proofs.Common.{◌≡◌, ℕ, zero, suc, ◌+◌, ◌*◌, ◌<◌, ◌≤◌, Bool, false, cond, Option, Result, Ok, Err, eqb, ap, ◌∙◌, subst, arith}
+use Rattle.std.specs.Prelude.{MatchResult}
 use Rattle.std.proofs.Math.Nat.{suc-mul, mul_comm, mul-le-mul_right}
 use Rattle.store_model.specs.declared.view.Content.{Content}
 use Rattle.store_model.specs.declared.view.Call.TheVariants.{Comparing}
@@ -35,6 +36,20 @@ walk_found W R before n m c t p h below l e =
 -- what is left for all rows
 pub rest_cost : (W R n p : ℕ) → p ≤ R → n + 2 + p * (W + 3) ≤ n + 2 + R * (W + 3)
 rest_cost W R n p l = let f : p * (W + 3) ≤ R * (W + 3) = mul-le-mul_right (W + 3) l in omega arith
+
+-- a row was linked and published
+pub made_cost : (W R n l m p : ℕ) → p ≤ R → l ≡ n + 1 → m ≡ l + 1 → m + p * (W + 3) ≤ n + 2 + R * (W + 3)
+made_cost W R n l m p few a b = let f = rest_cost W R n p few in omega arith
+
+-- the exchange was lost, and a walk followed, up to b passed rows
+pub lost_cost : (W b n l k m p q : ℕ) → q ≡ p → l ≡ n + 1 → k ≡ l + 1 → m + q * (W + 3) ≤ k + 0 + b * (W + 3) → m + p * (W + 3) ≤ n + 2 + b * (W + 3)
+lost_cost W b n l k m p q same a c h = let f = ap (λ (j : ℕ). j * (W + 3)) same in omega arith
+
+-- a walk to the end of a chain, and then a row that was made, or none that was free
+pub walked_cost : {A E : Type 0} → (W R n m k before p : ℕ) (r : Result A E) → p ≤ R → m + before * (W + 3) ≤ n + 0 + p * (W + 3)
+    → MatchResult r (λ _. k + p * (W + 3) ≤ m + (W + 7 + 2 * (R + 1)) + R * (W + 3)) (λ _. k ≤ m + (W + 7)) → k ≤ n + (2 * (R + 1) + (W + 7) + R * (W + 3))
+walked_cost W R n m k before p (Ok a) few h g = omega (arith, h, g)
+walked_cost W R n m k before p (Err e) few h g = let f : p * (W + 3) ≤ R * (W + 3) = mul-le-mul_right (W + 3) few in omega (arith, h, g)
 
 -- a walk that isn't at its end has passed fewer rows than there are
 pub few_before : (N n : ℕ) (c : Content) (d : Option (ℕ × ℕ)) (from old at : ℕ) → eqb at old ≡ false → Few N n (arrived c d from old at) → n < N

@@ -4,3 +4,4 @@ pub mod Costs
 pub mod Reading
 pub mod Remainders
 pub mod Arguments
+pub mod Views

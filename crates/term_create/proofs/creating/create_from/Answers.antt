@@ -1,6 +1,10 @@
 use Rattle.std.proofs.Common.{◌++◌, ◌∙◌, ap, sym, subst}
 use Rattle.std.specs.Prelude.{◌≡◌, IfErr}
+use Rattle.store_model.specs.declared.view.Call.{Call}
 use Rattle.store_model.specs.declared.view.Call.TheVariants.{Ended}
+use Rattle.store_model.specs.Machine.{widest}
+use Rattle.node_rows.specs.Steps.{Few}
+use Rattle.term_create.proofs.Costs.{walked_cost}
 use Rattle.node_rows.specs.Full.{HoldsAll}
 use Rattle.node_rows.specs.Knowing.{EndsAbsent}
 use Rattle.node_rows.specs.Rows.{names}
@@ -64,3 +68,11 @@ returns-in-None-clause-filled g c =
     let h = c.in-None.ensures.view in
     ends_filled a.store.now.sizes seat.number c.walk.new.seat.number v c.walk.new.seat.seat.me.0 a.head (names a.args.now)
     h.passed (v.store.path ++ h.path) (Ended (content a) c.args.from) c.make_told.result c.walk.ensures.same.number h.view c.make_told.ensures.filled
+
+pub returns-in-None-clause-cost : goal.returns-in-None-clause-cost
+returns-in-None-clause-cost g c =
+    let z = c.args.asked.now.store.now.sizes in
+    let u = c.walk.new.seat.seat.me.0 in
+    let few = subst (λ (x : Call). Few z.rows u.store.passed x) (ap (λ (q : NodeView). q.store.call) c.in-None.ensures.view.view) c.walk.ensures.at.known.few in
+    walked_cost (widest z) z.rows c.args.steps.now c.walk.new.steps c.make_told.new.steps c.args.pass.now.seat.seat.me.0.store.passed u.store.passed c.make_told.result
+    few c.in-None.ensures.cost c.make_told.ensures.cost

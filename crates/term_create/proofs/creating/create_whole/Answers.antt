@@ -8,6 +8,8 @@ use Rattle.node_rows.specs.Knowing.{IsAbsent}
 use Rattle.node_rows.specs.Steps.{over}
 use Rattle.node_rows.proofs.Tellings.{told_on}
 use Rattle.term_create.proofs.Told.{ends_whole, ends_filled}
+use Rattle.term_create.proofs.Arguments.{second_word}
+use Rattle.term_create.proofs.Whole.{words_fit}
 use Rattle.term_create.proofs.Costs.{whole_cost}
 use Rattle.term_create.proofs.creating.create_whole.Goals as goal
 
@@ -42,3 +44,9 @@ pub returns-clause-filled : goal.returns-clause-filled
 returns-clause-filled g c = let n = c.begin-from.result in
     ends_filled c.args.store.now.sizes c.args.pass.now.seat.number c.begin-from.new.seat.number c.args.pass.now.seat.seat.me.0 c.begin-from.new.seat.seat.me.0 c.args.head (names c.args.args.now)
     0 [] (arrived (over c.args.head (names c.args.args.now)) None n 0 n) c.create_from.result c.begin-from.ensures.same.1 c.begin-from.ensures.view c.create_from.ensures.filled
+
+pub invariant_of-asked-clause-second : goal.invariant_of-asked-clause-second
+invariant_of-asked-clause-second g c = second_word c.args.head c.args.args.now c.requires.may.over
+
+pub invariant_of-asked-clause-fits : goal.invariant_of-asked-clause-fits
+invariant_of-asked-clause-fits g c = words_fit c.args.store.now.sizes c.args.head (names c.args.args.now) c.requires.may.over c.requires.may.few

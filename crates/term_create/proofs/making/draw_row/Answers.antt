@@ -1,8 +1,10 @@
-use Rattle.std.proofs.Common.{arith, ◌≤◌, ◌<◌, ◌∙◌, subst}
+use Rattle.std.proofs.Common.{arith, ◌≤◌, ◌<◌, ◌∙◌, ap, subst}
 use Rattle.store_model.specs.declared.view.Call.TheVariants.{Counting}
 use Rattle.std.proofs.lemmas.Bool.Decides.{nat_tests}
 use Rattle.term_create.specs.Stage.{HoldsAllAlone, content}
 use Rattle.term_create.proofs.Whole.{full_count, full_draw, count_holds, filled_before, count_fills}
+use Rattle.node_rows.specs.declared.view.NodeView.{NodeView}
+use Rattle.term_create.proofs.Views.{on_call, based_on, drawing, placing}
 use Rattle.term_create.proofs.making.draw_row.Goals as goal
 
 pub returns-then-claim-count-clause-view : goal.returns-then-claim-count-clause-view
@@ -48,3 +50,51 @@ returns-then-index-count-clause-filled g c =
     count_fills c.args.asked.now c.args.seat.now.number c.read_count-count.new.seat.number (c.read_count-count.ensures.same.number ∙ c.read_claim-claim.ensures.same.number)
     c.args.seat.now.seat.me.0 c.read_claim-claim.new.seat.seat.me.0 c.read_count-count.new.seat.seat.me.0 (content c.args.asked.now) c.args.from c.read_claim-claim.result c.read_count-count.result
     c.read_claim-claim.ensures.view c.read_count-count.ensures.view less (c.draw-index.ensures.filled l)
+
+pub draw-index-requires-clause-stage : goal.draw-index-requires-clause-stage
+draw-index-requires-clause-stage g c =
+    let v = c.args.seat.now.seat.me.0 in
+    let claim = c.read_claim-claim in
+    let count = c.read_count-count in
+    let l : claim.result < count.result = omega (arith, c.if-claim-count.false) in
+    ap (λ (q : NodeView). q.store.call) (drawing v claim.new.seat.seat.me.0 count.new.seat.seat.me.0 (content c.args.asked.now) c.args.from claim.result count.result claim.ensures.view count.ensures.view l)
+
+pub read_place-row-requires-clause-stage : goal.read_place-row-requires-clause-stage
+read_place-row-requires-clause-stage g c =
+    let v = c.args.seat.now.seat.me.0 in
+    let claim = c.read_claim-claim in
+    let count = c.read_count-count in
+    let a = content c.args.asked.now in
+    let l : claim.result < count.result = omega (arith, c.if-claim-count.false) in
+    let m : c.draw-index.result < count.result = omega (arith, c.if-index-count.false) in
+    ap (λ (q : NodeView). q.store.call)
+    (placing v count.new.seat.seat.me.0 c.draw-index.new.seat.seat.me.0 a c.args.from count.result c.draw-index.result
+    (drawing v claim.new.seat.seat.me.0 count.new.seat.seat.me.0 a c.args.from claim.result count.result claim.ensures.view count.ensures.view l) c.draw-index.ensures.view m)
+
+pub fill_row-requires-clause-based : goal.fill_row-requires-clause-based
+fill_row-requires-clause-based g c =
+    let v = c.args.seat.now.seat.me.0 in
+    let claim = c.read_claim-claim in
+    let count = c.read_count-count in
+    let a = content c.args.asked.now in
+    let l : claim.result < count.result = omega (arith, c.if-claim-count.false) in
+    let m : c.draw-index.result < count.result = omega (arith, c.if-index-count.false) in
+    based_on c.args.asked.now v c.read_place-row.new.seat.seat.me.0 _
+    (on_call v c.draw-index.new.seat.seat.me.0 c.read_place-row.new.seat.seat.me.0 _ _
+    (placing v count.new.seat.seat.me.0 c.draw-index.new.seat.seat.me.0 a c.args.from count.result c.draw-index.result
+    (drawing v claim.new.seat.seat.me.0 count.new.seat.seat.me.0 a c.args.from claim.result count.result claim.ensures.view count.ensures.view l) c.draw-index.ensures.view m)
+    c.read_place-row.ensures.view) c.requires.based
+
+pub returns-clause-view : goal.returns-clause-view
+returns-clause-view g c =
+    let v = c.args.seat.now.seat.me.0 in
+    let claim = c.read_claim-claim in
+    let count = c.read_count-count in
+    let a = content c.args.asked.now in
+    let l : claim.result < count.result = omega (arith, c.if-claim-count.false) in
+    let m : c.draw-index.result < count.result = omega (arith, c.if-index-count.false) in
+    on_call v c.read_place-row.new.seat.seat.me.0 c.fill_row.new.seat.seat.me.0 _ _
+    (on_call v c.draw-index.new.seat.seat.me.0 c.read_place-row.new.seat.seat.me.0 _ _
+    (placing v count.new.seat.seat.me.0 c.draw-index.new.seat.seat.me.0 a c.args.from count.result c.draw-index.result
+    (drawing v claim.new.seat.seat.me.0 count.new.seat.seat.me.0 a c.args.from claim.result count.result claim.ensures.view count.ensures.view l) c.draw-index.ensures.view m)
+    c.read_place-row.ensures.view) c.fill_row.ensures.view

@@ -5,7 +5,8 @@ use Rattle.store_model.specs.declared.view.Call.{Call}
 use Rattle.node_rows.specs.Steps.{Stands, Few}
 use Rattle.node_rows.specs.declared.view.NodeView.{NodeView}
 use Rattle.term_create.specs.Stage.{content}
-use Rattle.term_create.proofs.Whole.{walk_goes_on, same_joined}
+use Rattle.term_create.proofs.Whole.{walk_goes_on, walk_passes, same_joined}
+use Rattle.term_create.proofs.Views.{compares, other_here}
 use Rattle.term_create.proofs.Costs.{walk_more, walk_found, few_before}
 use Rattle.term_create.proofs.walking.walk.Goals as goal
 
@@ -28,6 +29,22 @@ loop-step-preserved g c =
           c.loop-step.invariant.cost c.if-compare_row.ensures.cost c.pass_on-at.ensures.tick
           (ap (λ (q : NodeView). q.store.passed) on.view ∙ ap (λ (q : NodeView). suc q.store.passed) other.view);
     }
+
+pub compare_row-requires-clause-stage : goal.compare_row-requires-clause-stage
+compare_row-requires-clause-stage g c =
+    let d = c.args.walk in
+    compares c.args.seat.now.seat.me.0 c.loop-step.seat.seat.me.0 (content c.args.asked.now) d.drawn d.from d.old c.loop-step.at c.loop-step._step c.loop-step.invariant.view c.if-at-walk.false
+
+pub pass_on-at-requires-clause-stage : goal.pass_on-at-requires-clause-stage
+pass_on-at-requires-clause-stage g c =
+    let d = c.args.walk in
+    other_here c.loop-step.seat.seat.me.0 c.compare_row.new.seat.seat.me.0 (content c.args.asked.now) d.drawn d.from d.old c.loop-step.at c.if-compare_row.ensures.view
+
+pub returns-then-at-walk-clause-view : goal.returns-then-at-walk-clause-view
+returns-then-at-walk-clause-view g c =
+    let d = c.args.walk in
+    walk_passes c.args.seat.now.seat.me.0 c.loop-step.seat.seat.me.0 c.loop-step._step (content c.args.asked.now) d.drawn d.from d.old c.loop-step.at
+    c.loop-step.invariant.view c.loop-step.invariant.first c.if-at-walk.true
 
 pub returns-then-compare_row-clause-cost : goal.returns-then-compare_row-clause-cost
 returns-then-compare_row-clause-cost g c =
