@@ -55,6 +55,7 @@ impl Builder {
         ensures known { IfOk result (λ b. AreKnown b.lately b.symbols) }
         ensures most { IfOk result (λ b. b.most ≡ most) }
     {
+        let lines = Lines::new(alloc, text)?;
         Ok(Builder {
             stage: Stage::Settled,
             heading: Heading {
@@ -63,7 +64,7 @@ impl Builder {
                 quoted: false,
             },
             groups: Groups::new(alloc),
-            lines: Lines::new(alloc, text)?,
+            lines,
             lately: Lately::new(),
             symbols: Symbols::new(alloc),
             most,

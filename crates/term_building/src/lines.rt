@@ -3,6 +3,7 @@ ghost use Rattle.std.specs.Prelude.{◌≡◌, ◌++◌, ◌∷◌, ◌+◌, ◌
 ghost use Rattle.term_building.specs.Copying.{copied};
 
 use std::alloc::{AllocError, Global};
+use std::mem;
 
 /// What was written so far. It goes on with the bytes of the text from a place on, which are copied
 /// together where something else comes.
@@ -83,13 +84,12 @@ impl Lines {
         Ok(())
     }
 
-    /// What was written, with all bytes up to the end of the text.
-    pub(crate) fn whole(mut self, text: &[u8]) -> Result<Vec<u8>, AllocError>
+    /// Gives what was written, with all bytes up to the end of the text.
+    pub(crate) fn whole(&mut self, alloc: Global, text: &[u8]) -> Result<Vec<u8>, AllocError>
         ensures { IfOk result (λ lines. lines.items
-            ≡ copied text.now (length text.now) self.written.items self.from) }
+            ≡ copied text.now (length text.now) self.old.written.items self.old.from) }
     {
         self.copy_to(text, text.len())?;
-        let Lines { written, from: _ } = self;
-        Ok(written)
+        Ok(mem::replace(&mut self.written, Vec::new(alloc)))
     }
 }

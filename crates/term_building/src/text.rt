@@ -28,30 +28,34 @@ fn run<T: Terms>(alloc: Global, text: &[u8], most: u32, store: &mut T) -> Result
     let mut builder = Builder::start(alloc, text, most)?;
     let mut at = 0;
     while at < text.len() {
-        at = builder.pass(alloc, text, at, store)?;
+        match builder.pass(alloc, text, at, store) {
+            Ok(after) => at = after,
+            Err(cause) => {
+                drop(builder);
+                return Err(cause);
+            }
+        }
     }
     Ok(builder)
 }
 
 // What was written and copied, where the text may end here.
-fn written(builder: Builder, text: &[u8]) -> Result<Vec<u8>, GivenUp>
+fn written(alloc: Global, mut builder: Builder, text: &[u8]) -> Result<Vec<u8>, GivenUp>
     ensures stage { OnOk result (builder.stage ≡ stage.Settled) }
     ensures groups { OnOk result (builder.groups ≡ []) }
     ensures written { IfOk result (λ lines. lines.items ≡ copied text.now (length text.now)
         builder.lines.written.items builder.lines.from) }
 {
-    let Builder {
-        stage,
-        heading: _,
-        groups,
-        lines,
-        lately: _,
-        symbols: _,
-        most: _,
-    } = builder;
-    match stage {
-        Stage::Settled if groups.is_empty() => Ok(lines.whole(text)?),
-        _ => Err(GivenUp::Otherwise),
+    match builder.stage {
+        Stage::Settled if builder.groups.is_empty() => {
+            let lines = builder.lines.whole(alloc, text);
+            drop(builder);
+            Ok(lines?)
+        }
+        _ => {
+            drop(builder);
+            Err(GivenUp::Otherwise)
+        }
     }
 }
 
@@ -75,7 +79,13 @@ pub fn build_text<T: Terms>(
     ensures same { OnOk result (T.same store.old store.new) }
 {
     let mut builder = run(alloc, text, most, store)?;
-    builder.settle_last(alloc, text, store)?;
-    let lines = written(builder, text)?;
+    match builder.settle_last(alloc, text, store) {
+        Ok(()) => {}
+        Err(cause) => {
+            drop(builder);
+            return Err(cause);
+        }
+    }
+    let lines = written(alloc, builder, text)?;
     Ok(lines)
 }

@@ -30,7 +30,7 @@ loop-at-init g c =
 pub loop-at-preserved : goal.loop-at-preserved
 loop-at-preserved g c =
     let l = c.loop-at in
-    let taken = c.in_ok-at.ensures in
+    let taken = c.in-Ok.ensures in
     record {
       within = taken.passes.within;
       ready = taken.ready;
