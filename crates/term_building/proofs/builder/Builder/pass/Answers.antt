@@ -1,4 +1,5 @@
-use Rattle.std.proofs.Common.{◌+◌, ℕ, subst, IfOk, Result, Ok, Err}
+use Rattle.std.proofs.Common.{◌+◌, ℕ, subst, IfOk, OnOk, Result, Ok, Err}
+use Rattle.term_building.specs.Reached.{Passes}
 use Rattle.term_building.specs.Ready.{state_in}
 use Rattle.term_building.specs.Taken.{Begins}
 use Rattle.term_building.proofs.Passing.{passes_blank, passes_whole, cut_place, passes_on}
@@ -7,6 +8,10 @@ use Rattle.term_building.proofs.builder.Builder.pass.Goals as goal
 if_ok : {E : Type 0} {A B : ℕ → Type 0} (r : Result ℕ E) → ((n : ℕ) → A n → B n) → IfOk r A → IfOk r B
 if_ok (Ok n) f a = f n a
 if_ok (Err e) f a = tt
+
+on_ok : {E A B : Type 0} (r : Result ℕ E) → (A → B) → OnOk r A → OnOk r B
+on_ok (Ok n) f a = f a
+on_ok (Err e) f a = tt
 
 pub returns-in_ok-leave_out-in-Blank-clause-passes : goal.returns-in_ok-leave_out-in-Blank-clause-passes
 returns-in_ok-leave_out-in-Blank-clause-passes g c =
@@ -52,3 +57,27 @@ pub begin-requires-clause-place : goal.begin-requires-clause-place
 begin-requires-clause-place g c =
     let cut = c.in_ok-piece_at in
     cut_place c.args.text.now c.args.at cut.field-0 c.requires.at cut.ensures.piece c.in-Whole.token c.in-Whole.end c.in-Whole.is cut.ensures.begins cut.ensures.after cut.ensures.fits
+
+pub pass_behind-requires-clause-stage : goal.pass_behind-requires-clause-stage
+pass_behind-requires-clause-stage g c =
+    let t = c.in-Whole.token in
+    let old = state_in c.args.self.now (g.T.Terms.store c.args.store.now) in
+    let mid = state_in c.begin.new.self (g.T.Terms.store c.begin.new.store) in
+    (subst (λ b. Begins b c.args.text.now t.place c.in-Whole.end t.shape old mid) c.in-Whole-2.is c.in_ok-begin-in-Whole.ensures.begun).begun.1
+
+pub returns-in-Whole-2-clause-same : goal.returns-in-Whole-2-clause-same
+returns-in-Whole-2-clause-same g c =
+    on_ok c.pass_behind.result (g.met.T.Terms.same_in_turn _ _ _ c.in_ok-begin-in-Whole.ensures.same) c.pass_behind.ensures.same
+
+pub returns-in_ok-next-in-Nothing-clause-passes : goal.returns-in_ok-next-in-Nothing-clause-passes
+returns-in_ok-next-in-Nothing-clause-passes g c =
+    let text = c.args.text.now in
+    let t = c.in-Whole.token in
+    let old = state_in c.args.self.now (g.T.Terms.store c.args.store.now) in
+    let mid = state_in c.begin.new.self (g.T.Terms.store c.begin.new.store) in
+    let new = state_in c.pass_any.new.self (g.T.Terms.store c.pass_any.new.store) in
+    let nothing = subst (λ b. Begins b text t.place c.in-Whole.end t.shape old mid) c.in-Nothing.is c.in_ok-begin-in-Whole.ensures.begun in
+    subst (λ s. Passes text c.args.at s c.in_ok-next-in-Nothing.next new) nothing c.in_ok-next-in-Nothing.ensures.passes
+
+pub returns-in_ok-next-in-Nothing-clause-same : goal.returns-in_ok-next-in-Nothing-clause-same
+returns-in_ok-next-in-Nothing-clause-same g c = g.met.T.Terms.same_in_turn _ _ _ c.in_ok-begin-in-Whole.ensures.same c.in_ok-next-in-Nothing.ensures.same
