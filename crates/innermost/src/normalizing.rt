@@ -13,17 +13,15 @@ ghost use Rattle.innermost.specs.Remembered.{AreRight, BuildsCached};
 ghost use Rattle.innermost.specs.Traced.{TracedAnswers, TracedBuilds, RefusedOnlyWhereTold, TracedSweeps, TellsReplacements};
 ghost use Rattle.innermost.specs.Machines.{IsFor, settled};
 
-use crate::building::BREATH;
 use crate::caching::evaluate_with;
 use crate::coding::code_plan;
 use crate::compile::Code;
 use crate::evaluating::evaluate;
 use crate::frames::Parts;
-use crate::matcher::Matcher;
 use crate::outward::rewrite;
 use crate::remembering::refresh;
 use crate::spots::Spot;
-use crate::trail::{Telling, Trail};
+use crate::trail::Telling;
 use crate::windows::Window;
 use crate::{Event, Memo, Normal, RunFault, TraceFault, tracing};
 use faults::Memory;
@@ -32,9 +30,6 @@ use std::alloc::Global;
 use std::marker::Model;
 use term_model::Flat;
 use terms_api::Terms;
-
-/// How many nodes of a term have their depths at hand at a time.
-const SHOWN: usize = 4096;
 
 /// A machine that normalizes terms by the rules of one plan, with stacks of its own.
 #[derive(Drop)]
@@ -69,24 +64,15 @@ impl Machine {
         ensures depth { IfOk result (λ machine. machine.depth ≡ depth) }
     {
         let room = depth as usize;
+        let spots = Vec::with_capacity(alloc, room)?;
+        let window = Window::of(alloc, room)?;
+        let code = code_plan(alloc, plan, depth)?;
         Ok(Machine {
-            code: code_plan(alloc, plan, depth)?,
-            parts: Parts {
-                matcher: Matcher::of(alloc, plan)?,
-                frames: Vec::with_capacity(alloc, room)?,
-                left: 0,
-                builds: BREATH,
-            },
-            window: Window {
-                depths: vec![in alloc; 0u32; SHOWN]?,
-                from: 0,
-                path: Vec::with_capacity(alloc, room)?,
-            },
-            spots: Vec::with_capacity(alloc, room)?,
-            telling: Telling {
-                trail: Trail::new(alloc),
-                events: Vec::new(alloc),
-            },
+            parts: Parts::of(alloc, plan, room)?,
+            code,
+            window,
+            spots,
+            telling: Telling::new(alloc),
         })
     }
 

@@ -50,6 +50,16 @@ impl Trail {
     }
 }
 
+impl Telling {
+    /// No events, and a trail at the root.
+    pub(crate) fn new(alloc: Global) -> Self {
+        Telling {
+            trail: Trail::new(alloc),
+            events: Vec::new(alloc),
+        }
+    }
+}
+
 pub(crate) fn lesser(one: usize, other: usize) -> usize
     ensures { result ≡ min one other }
 {
@@ -159,6 +169,34 @@ fn push_moves(from: &[u32], to: &[u32], same: usize, moves: &mut Vec<Event>) -> 
     push_downs(&to[shared..], moves)
 }
 
+/// Lists the events of a use of a rule at the end of a way: the moves to it from a position, where
+/// so many of the first are the same, and the use.
+fn list_use(
+    from: &[u32],
+    to: &[u32],
+    same: usize,
+    rule: u32,
+    moves: &mut Vec<Event>,
+) -> Result<(), Memory>
+    requires { HasShared from.now to.now same }
+    ensures { OnOk result (moves.new.items ≡ moves_of from.now to.now ++ event.Rule rule ∷ []) }
+{
+    moves.clear();
+    push_moves(from, to, same, moves)?;
+    moves.push(Event::Rule(rule))?;
+    Ok(())
+}
+
+/// Makes a position that of the end of a way, where so many of the first are the same.
+fn go_along(cursor: &mut Vec<u32>, way: &[u32], same: usize) -> Result<(), Memory>
+    requires { HasShared cursor.old.items way.now same }
+    ensures { OnOk result (cursor.new.items ≡ way.now) }
+{
+    cursor.truncate(same);
+    cursor.extend_from_slice(&way[same..])?;
+    Ok(())
+}
+
 /// Moves the cursor to the end of the way, uses a rule there, and appends these events.
 pub(crate) fn tell(trail: &mut Trail, rule: u32, events: &mut Vec<Event>) -> Result<(), Memory>
     requires { HasShared trail.old.cursor.items trail.old.way.items trail.old.same }
@@ -169,11 +207,14 @@ pub(crate) fn tell(trail: &mut Trail, rule: u32, events: &mut Vec<Event>) -> Res
     ensures trail { OnOk result ((steps : List Steps) (base : List ℕ) (frames : List Frames)
         → IsTrail steps base frames trail.old → IsTrail steps base frames trail.new) }
 {
-    trail.moves.clear();
-    push_moves(&trail.cursor, &trail.way, trail.same, &mut trail.moves)?;
-    trail.moves.push(Event::Rule(rule))?;
-    trail.cursor.truncate(trail.same);
-    trail.cursor.extend_from_slice(&trail.way[trail.same..])?;
+    list_use(
+        &trail.cursor,
+        &trail.way,
+        trail.same,
+        rule,
+        &mut trail.moves,
+    )?;
+    go_along(&mut trail.cursor, &trail.way, trail.same)?;
     trail.same = trail.way.len();
     events.extend_from_slice(&trail.moves)?;
     Ok(())

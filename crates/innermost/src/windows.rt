@@ -1,13 +1,18 @@
 //! How far below the room the nodes of a term stand, found for a part of them at a time.
 
-ghost use Rattle.std.specs.Prelude.{◌≡◌, ℕ, ◌<◌, ◌≤◌, length, vec_capacity, slice_index};
+ghost use Rattle.std.specs.Prelude.{◌≡◌, ℕ, ◌<◌, ◌≤◌, length, IfOk, vec_capacity, slice_index};
 ghost use Rattle.term_model.specs.Tree.{nodes};
 ghost use Rattle.rule_match.specs.Planned.{IsPlain};
 ghost use Rattle.innermost.specs.Depths.{depths as depths_of};
 ghost use Rattle.innermost.specs.Shown.{Shows};
 
 use crate::depths::{Pending, find_depths};
+use faults::Memory;
+use std::alloc::Global;
 use term_model::Flat;
+
+/// How many nodes of a term have their depths at hand at a time.
+const SHOWN: usize = 4096;
 
 /// The depths of the nodes of a term from one on.
 #[derive(Drop)]
@@ -15,6 +20,21 @@ pub(crate) struct Window {
     pub depths: Vec<u32>,
     pub from: usize,
     pub path: Vec<Pending>,
+}
+
+impl Window {
+    /// A window for terms that are evaluated in so much room.
+    pub(crate) fn of(alloc: Global, room: usize) -> Result<Self, Memory>
+        ensures room { IfOk result (λ window. room ≤ vec_capacity window.path) }
+        ensures some { IfOk result (λ window. 0 < length window.depths.items) }
+    {
+        let path = Vec::with_capacity(alloc, room)?;
+        Ok(Window {
+            depths: vec![in alloc; 0u32; SHOWN]?,
+            from: 0,
+            path,
+        })
+    }
 }
 
 /// The depth of a node of a term, told apart up to a limit.

@@ -1,7 +1,8 @@
 use Rattle.std.proofs.Common.{List, refl, sym, ◌∙◌, ap, subst, arith}
 use Rattle.terms_api.specs.Terms.{Store, tree_at}
 use Rattle.innermost.specs.declared.spots.Spot.{Spot}
-use Rattle.innermost.specs.Walking.{IsTrying}
+use Rattle.innermost.specs.declared.spots.Walk.{Walk}
+use Rattle.innermost.specs.Walking.{IsTrying, IsWalk}
 use Rattle.innermost.proofs.Walks.{walk_begins}
 use Rattle.innermost.proofs.walking.walk.Goals as goal
 
@@ -27,4 +28,28 @@ walk-init g c =
       unchanged = e.unchanged;
       state = e.state c.args.depth t (subst (λ (fs : List Spot). IsTrying c.args.plan.now c.args.depth t now fs c.args.row c.args.depth) (sym c.clear.ensures.items) (walk_begins c.args.plan.now c.args.depth t now c.args.row c.requires.held refl));
       same = e.same;
+    }
+
+pub walk_on-found-requires-clause-state : goal.walk_on-found-requires-clause-state
+walk_on-found-requires-clause-state g c =
+    let i = c.walk.invariant in
+    let t = tree_at (g.T.Terms.store c.args.terms.now) c.args.row in (
+      c.args.depth,
+      t,
+      omega (arith, c.requires.spots_room, i.spots_room),
+      subst (λ (w : Walk). IsWalk c.args.plan.now c.args.depth t (g.T.Terms.store c.walk.terms) c.walk.spots.items c.walk.matcher.rows w) c.in-On.is i.state,
+    )
+
+pub walk-preserved : goal.walk-preserved
+walk-preserved g c =
+    let i = c.walk.invariant in
+    let e = c.walk_on-found.ensures in
+    let t = tree_at (g.T.Terms.store c.args.terms.now) c.args.row in
+    record {
+      inside = ap (λ (q : Store). q.inside) e.unchanged ∙ i.inside;
+      spots_room = e.spots_room ∙ i.spots_room;
+      matcher = e.matcher ∙ i.matcher;
+      unchanged = e.unchanged ∙ i.unchanged;
+      state = e.state c.args.depth t (subst (λ (w : Walk). IsWalk c.args.plan.now c.args.depth t (g.T.Terms.store c.walk.terms) c.walk.spots.items c.walk.matcher.rows w) c.in-On.is i.state);
+      same = g.met.T.Terms.same_in_turn _ _ _ i.same e.same;
     }
