@@ -5,15 +5,15 @@ use Rattle.std.proofs.lemmas.Option.{same_Some}
 use Rattle.std.proofs.lemmas.Result.{err_from_is_err_and}
 use Rattle.term_model.specs.Tree.{arguments, root}
 use Rattle.term_model.specs.declared.Head.{Head}
-use Rattle.terms_api.specs.Terms.{Store, tree_at, kept, MayBuild}
+use Rattle.terms_api.specs.Terms.{Store, IsHeld, tree_at, kept, MayBuild}
 use Rattle.terms_api.proofs.Callers.{held-has}
 use Rattle.rewrite_model.specs.Run.{TooDeep}
 use Rattle.innermost.specs.Building.{IsPointOver}
 use Rattle.innermost.specs.Outward.{Stops}
 use Rattle.innermost.specs.Rebuilding.{Pushes}
 use Rattle.innermost.proofs.Points.{height}
-use Rattle.innermost.proofs.Pushing.{pushes_height, length_taken}
-use Rattle.innermost.proofs.Changes.{tree_is, again_stops, within_arguments, some_argument, again_places, mid_stands, mid_has, pushes_held, args, rebuilt, again_point, again_over}
+use Rattle.innermost.proofs.Pushing.{pushes_height, pushes_kept, length_taken}
+use Rattle.innermost.proofs.Changes.{tree_is, spot_held, now_height, again_stops, within_arguments, some_argument, again_places, mid_stands, mid_has, pushes_held, args, rebuilt, again_point, again_over}
 use Rattle.innermost.proofs.Again.{top_has, stands3, may_again, again_fault, again_built}
 use Rattle.innermost.proofs.rebuilding.build_again.Goals as goal
 
@@ -231,3 +231,87 @@ returns-in_err-build_at-clause-state g c =
 
 pub returns-then-spot-count-clause-same : goal.returns-then-spot-count-clause-same
 returns-then-spot-count-clause-same g c = c.count-count.ensures.same
+
+pub count-count-requires-clause-held : goal.count-count-requires-clause-held
+count-count-requires-clause-held g c =
+    let now = g.T.Terms.store c.args.terms.now in
+    let s = c.requires.state in
+    spot_held s.0 s.1 s.2 s.3 now s.4 c.args.spot s.5
+
+pub head-head-requires-clause-inside : goal.head-head-requires-clause-inside
+head-head-requires-clause-inside g c =
+    ap (λ (q : Store). q.inside) c.count-count.ensures.unchanged ∙ c.requires.inside
+
+pub head-head-requires-clause-held : goal.head-head-requires-clause-held
+head-head-requires-clause-held g c =
+    let now = g.T.Terms.store c.args.terms.now in
+    let s = c.requires.state in
+    subst (λ (q : Store). IsHeld q c.args.spot.row) (sym c.count-count.ensures.unchanged) (spot_held s.0 s.1 s.2 s.3 now s.4 c.args.spot s.5)
+
+pub at-changed-requires-clause-inside : goal.at-changed-requires-clause-inside
+at-changed-requires-clause-inside g c =
+    ap (λ (q : Store). q.inside) (c.head-head.ensures.unchanged ∙ c.count-count.ensures.unchanged) ∙ c.requires.inside
+
+pub overflow_sub-place : goal.overflow_sub-place
+overflow_sub-place g c =
+    let now = g.T.Terms.store c.args.terms.now in
+    let s = c.requires.state in
+    let u = ap (λ (q : Store). length q.stack) (c.head-head.ensures.unchanged ∙ c.count-count.ensures.unchanged) in
+    let h = now_height s.0 s.1 s.2 s.3 now s.4 c.args.spot s.5 in
+    omega (arith, c.depth-place.ensures.depth, u, h)
+
+pub at-changed-requires-clause-place : goal.at-changed-requires-clause-place
+at-changed-requires-clause-place g c =
+    let now = g.T.Terms.store c.args.terms.now in
+    let s = c.requires.state in
+    let u = ap (λ (q : Store). length q.stack) (c.head-head.ensures.unchanged ∙ c.count-count.ensures.unchanged) in
+    let h = now_height s.0 s.1 s.2 s.3 now s.4 c.args.spot s.5 in
+    omega (arith, c.depth-place.ensures.depth, u, h)
+
+pub keep-requires-clause-inside : goal.keep-requires-clause-inside
+keep-requires-clause-inside g c =
+    ap (λ (q : Store). q.inside) (c.at-changed.ensures.unchanged ∙ c.head-head.ensures.unchanged ∙ c.count-count.ensures.unchanged) ∙ c.requires.inside
+
+pub keep-requires-clause-places : goal.keep-requires-clause-places
+keep-requires-clause-places g c =
+    let v = ap (λ (q : Store). length q.stack) c.at-changed.ensures.unchanged in
+    omega (arith, c.depth-place.ensures.depth, v)
+
+pub overflow_sub-spot : goal.overflow_sub-spot
+overflow_sub-spot g c =
+    let now = g.T.Terms.store c.args.terms.now in
+    let s = c.requires.state in
+    some_argument s.0 s.1 s.2 s.3 now s.4 c.args.spot s.5
+
+pub push_arguments-requires-clause-inside : goal.push_arguments-requires-clause-inside
+push_arguments-requires-clause-inside g c =
+    ap (λ (q : Store). q.inside) c.keep.ensures.kept ∙ ap (λ (q : Store). q.inside) (c.at-changed.ensures.unchanged ∙ c.head-head.ensures.unchanged ∙ c.count-count.ensures.unchanged) ∙ c.requires.inside
+
+pub push_arguments-requires-clause-held : goal.push_arguments-requires-clause-held
+push_arguments-requires-clause-held g c =
+    let now = g.T.Terms.store c.args.terms.now in
+    let s = c.requires.state in
+    subst (λ (q : Store). IsHeld q c.args.spot.row) (sym c.keep.ensures.kept) (subst (λ (q : Store). IsHeld q c.args.spot.row) (sym (c.at-changed.ensures.unchanged ∙ c.head-head.ensures.unchanged ∙ c.count-count.ensures.unchanged)) (spot_held s.0 s.1 s.2 s.3 now s.4 c.args.spot s.5))
+
+pub put-requires-clause-inside : goal.put-requires-clause-inside
+put-requires-clause-inside g c =
+    ap (λ (q : Store). q.inside) c.push_arguments.ensures.pushed.is ∙ ap (λ (q : Store). q.inside) c.keep.ensures.kept ∙ ap (λ (q : Store). q.inside) (c.at-changed.ensures.unchanged ∙ c.head-head.ensures.unchanged ∙ c.count-count.ensures.unchanged) ∙ c.requires.inside
+
+pub push_arguments-requires-2-clause-inside : goal.push_arguments-requires-2-clause-inside
+push_arguments-requires-2-clause-inside g c =
+    ap (λ (q : Store). q.inside) c.put.ensures.pushed ∙ ap (λ (q : Store). q.inside) c.push_arguments.ensures.pushed.is ∙ ap (λ (q : Store). q.inside) c.keep.ensures.kept ∙ ap (λ (q : Store). q.inside) (c.at-changed.ensures.unchanged ∙ c.head-head.ensures.unchanged ∙ c.count-count.ensures.unchanged) ∙ c.requires.inside
+
+pub push_arguments-requires-2-clause-held : goal.push_arguments-requires-2-clause-held
+push_arguments-requires-2-clause-held g c =
+    let now = g.T.Terms.store c.args.terms.now in
+    let s = c.requires.state in
+    subst (λ (q : Store). IsHeld q c.args.spot.row) (sym c.put.ensures.pushed) (pushes_kept (g.T.Terms.store c.keep.new.self) (g.T.Terms.store c.push_arguments.new.terms) _ c.args.spot.row c.push_arguments.ensures.pushed (subst (λ (q : Store). IsHeld q c.args.spot.row) (sym c.keep.ensures.kept) (subst (λ (q : Store). IsHeld q c.args.spot.row) (sym (c.at-changed.ensures.unchanged ∙ c.head-head.ensures.unchanged ∙ c.count-count.ensures.unchanged)) (spot_held s.0 s.1 s.2 s.3 now s.4 c.args.spot s.5))))
+
+pub push_arguments-requires-2-clause-within : goal.push_arguments-requires-2-clause-within
+push_arguments-requires-2-clause-within g c =
+    let n = ap (λ (q : Store). length (arguments (tree_at q c.args.spot.row))) c.put.ensures.pushed ∙ ap (λ (q : Store). length (arguments (tree_at q c.args.spot.row))) c.push_arguments.ensures.pushed.is ∙ ap (λ (q : Store). length (arguments (tree_at q c.args.spot.row))) c.keep.ensures.kept ∙ ap (λ (q : Store). length (arguments (tree_at q c.args.spot.row))) (c.at-changed.ensures.unchanged ∙ c.head-head.ensures.unchanged ∙ c.count-count.ensures.unchanged) in
+    omega (arith, n, c.count-count.ensures.count)
+
+pub build_at-requires-clause-inside : goal.build_at-requires-clause-inside
+build_at-requires-clause-inside g c =
+    ap (λ (q : Store). q.inside) c.push_arguments-2.ensures.pushed.is ∙ ap (λ (q : Store). q.inside) c.put.ensures.pushed ∙ ap (λ (q : Store). q.inside) c.push_arguments.ensures.pushed.is ∙ ap (λ (q : Store). q.inside) c.keep.ensures.kept ∙ ap (λ (q : Store). q.inside) (c.at-changed.ensures.unchanged ∙ c.head-head.ensures.unchanged ∙ c.count-count.ensures.unchanged) ∙ c.requires.inside

@@ -1,10 +1,10 @@
-use Rattle.std.proofs.Common.{◌≡◌, ◌+◌, List, sym, ◌∙◌, ap, subst, arith, Some}
+use Rattle.std.proofs.Common.{◌≡◌, ◌+◌, List, length, sym, ◌∙◌, ap, subst, arith, Some}
 use Rattle.std.specs.Prelude.{slice_get}
 use Rattle.term_model.specs.Tree.{arguments, nodes}
 use Rattle.terms_api.specs.Terms.{Store, IsHeld, tree_at}
 use Rattle.innermost.specs.declared.spots.Spot.{Spot}
 use Rattle.innermost.specs.Walking.{IsWalking, IsTrying, left_of}
-use Rattle.innermost.proofs.Walks.{walk_leaves, walk_goes_in}
+use Rattle.innermost.proofs.Walks.{last_held, walk_leaves, walk_goes_in}
 use Rattle.innermost.proofs.Lefts.{left_push, nodes_drop}
 use Rattle.innermost.proofs.walking.walk_on.Goals as goal
 
@@ -77,3 +77,34 @@ returns-then-spot-count-clause-same g c = c.count.ensures.same
 
 pub returns-clause-same : goal.returns-clause-same
 returns-clause-same g c = g.met.T.Terms.same_in_turn _ _ _ (g.met.T.Terms.same_in_turn _ _ _ c.count.ensures.same c.child-argument.ensures.same) c.try_at.ensures.same
+
+pub count-requires-clause-held : goal.count-requires-clause-held
+count-requires-clause-held g c =
+    let s = c.requires.state in
+    let now = g.T.Terms.store c.args.terms.now in
+    let held = last_held c.args.plan.now s.0 s.1 now c.args.spots.now.items c.pop.new.self.items c.in-Some.spot c.in-Some.ensures.items s.3 in
+    held
+
+pub child-argument-requires-clause-inside : goal.child-argument-requires-clause-inside
+child-argument-requires-clause-inside g c =
+    ap (λ (q : Store). q.inside) c.count.ensures.unchanged ∙ c.requires.inside
+
+pub child-argument-requires-clause-held : goal.child-argument-requires-clause-held
+child-argument-requires-clause-held g c =
+    let s = c.requires.state in
+    let now = g.T.Terms.store c.args.terms.now in
+    let held = last_held c.args.plan.now s.0 s.1 now c.args.spots.now.items c.pop.new.self.items c.in-Some.spot c.in-Some.ensures.items s.3 in
+    subst (λ (q : Store). IsHeld q c.in-Some.spot.row) (sym c.count.ensures.unchanged) held
+
+pub child-argument-requires-clause-below : goal.child-argument-requires-clause-below
+child-argument-requires-clause-below g c =
+    let n = ap (λ (q : Store). length (arguments (tree_at q c.in-Some.spot.row))) c.count.ensures.unchanged in
+    omega (arith, n, c.count.ensures.count, c.if-spot-count.false)
+
+pub try_at-requires-clause-inside : goal.try_at-requires-clause-inside
+try_at-requires-clause-inside g c =
+    ap (λ (q : Store). q.inside) (c.child-argument.ensures.unchanged ∙ c.count.ensures.unchanged) ∙ c.requires.inside
+
+pub returns-clause-unchanged : goal.returns-clause-unchanged
+returns-clause-unchanged g c =
+    c.try_at.ensures.unchanged ∙ c.child-argument.ensures.unchanged ∙ c.count.ensures.unchanged
