@@ -1,11 +1,10 @@
 //! Automata, and rows for their places.
 
-ghost use Rattle.std.specs.Prelude.{◌≡◌, ◌^◌, ◌<◌, ◌≤◌, length, true, IfOk, OnOk};
+ghost use Rattle.std.specs.Prelude.{◌≡◌, ◌<◌, ◌≤◌, length, true, IfOk, OnOk};
 ghost use Rattle.terms_api.specs.Terms.{IsHeld, IsSound, tree_at};
 ghost use Rattle.term_model.specs.Tree.{root};
 ghost use Rattle.rule_match.specs.Groups.{head_at};
-ghost use Rattle.rule_automaton.specs.Shapes.{numbers, variables_at};
-ghost use Rattle.rule_automaton.specs.Asking.{total};
+ghost use Rattle.rule_automaton.specs.Shapes.{variables_at};
 ghost use Rattle.rule_automaton.specs.Automata.{HasStarts, IsAutomaton};
 ghost use Rattle.rule_automaton.specs.Building.{HasFewStates};
 ghost use Rattle.rule_automaton.specs.Running.{made, asked, IsAnswer};
@@ -88,7 +87,8 @@ impl Automaton {
     {
         let _ = plan.rules();
         let others = others_of(alloc, plan)?;
-        let size = self.size(alloc)?;
+        let all = numbers_below(alloc, self.shapes.len())?;
+        let size = size_of(&self.shapes, &all);
         let most = size.saturating_mul(4);
         let mut budget = Budget {
             states: size.saturating_mul(3),
@@ -100,16 +100,6 @@ impl Automaton {
         let roots = roots_of(alloc, plan, self)?;
         self.roots = roots;
         Ok(())
-    }
-
-    /// How many rules there are, and how many tests, or fewer.
-    fn size(&self, alloc: Global) -> Result<usize, Memory>
-        requires { length self.now.shapes.items < 2 ^ 32 }
-        ensures { IfOk result (λ size. size
-            ≤ total self.now.shapes.items (numbers 0 (length self.now.shapes.items))) }
-    {
-        let all = numbers_below(alloc, self.shapes.len())?;
-        Ok(size_of(&self.shapes, &all))
     }
 
     /// A state for each rule, which tries it and those after it that have its symbol in turn.

@@ -2,16 +2,16 @@
 
 ghost use Rattle.std.specs.Prelude.{◌≡◌, ◌+◌, ◌^◌, ◌<◌, ◌≤◌, nat_lt, true, length, All, IfOk, OnOk, slice_index_or};
 ghost use Rattle.rule_automaton.specs.Places.{Tabled};
+ghost use Rattle.rule_automaton.specs.Automata.{AreStates, kept as kept_of};
 ghost use Rattle.std.specs.List.{list_all};
 ghost use Rattle.rule_automaton.specs.Shapes.{tests_at};
 ghost use Rattle.rule_automaton.specs.Running.{made};
-ghost use Rattle.rule_automaton.specs.Building.{with_state, IsBuilt, ArePaid, Serves, Decides, IsGrown};
+ghost use Rattle.rule_automaton.specs.Building.{with_state, with_way, way_to, AreBased, ReadsOn, IsBuilt, IsAsked, ArePaid, Serves, Decides, IsGrown};
 
 use crate::Automaton;
-use crate::asking::{size_of, some_place};
-use crate::reading::read_least;
+use crate::asking::{kept, least_of_all, passing, size_of, some_place, words_at};
 use crate::shapes::Test;
-use crate::states::{Op, State};
+use crate::states::{Node, Op, State, Way};
 use faults::Memory;
 use std::alloc::Global;
 
@@ -25,7 +25,7 @@ pub(crate) struct Budget {
 
 impl Budget {
     /// Takes so many of each. Where one of them is too few, nothing is taken, and it answers false.
-    pub(crate) fn take(&mut self, states: usize, rules: usize, steps: usize) -> bool
+    fn take(&mut self, states: usize, rules: usize, steps: usize) -> bool
         ensures taken { result ≡ true → self.new.states + states ≡ self.old.states }
         ensures left { self.new.states ≤ self.old.states }
     {
@@ -40,11 +40,7 @@ impl Budget {
 }
 
 /// One more state of some rules, which it tries in turn.
-pub(crate) fn push_state(
-    automaton: &mut Automaton,
-    rules: &[u32],
-    bound: u32,
-) -> Result<usize, Memory>
+fn push_state(automaton: &mut Automaton, rules: &[u32], bound: u32) -> Result<usize, Memory>
     ensures place { IfOk result (λ at. at ≡ length automaton.old.states.items) }
     ensures pushed { OnOk result (made automaton.new
         ≡ with_state (made automaton.old) rules.now bound) }
@@ -60,6 +56,93 @@ pub(crate) fn push_state(
         op: Op::Turn,
     })?;
     Ok(at)
+}
+
+/// One more way, for a symbol that rules ask for at a place, to a new state of those that ask for
+/// no other.
+fn push_way(
+    alloc: Global,
+    automaton: &mut Automaton,
+    rules: &[u32],
+    place: u32,
+    word: &Test,
+) -> Result<(), Memory>
+    requires rules { All (λ r. r < length automaton.old.shapes.items) rules.now }
+    requires place { place + 1 < 2 ^ 32 }
+    ensures { OnOk result (made automaton.new ≡ with_way (with_state (made automaton.old)
+        (kept_of automaton.old.shapes.items place word.now.symbol word.now.count rules.now)
+        (place + 1)) (way_to word.now (length automaton.old.states.items))) }
+{
+    let some = kept(alloc, &automaton.shapes, rules, place, word)?;
+    let to = push_state(automaton, &some, place + 1)?;
+    automaton.ways.push(Way {
+        symbol: word.symbol,
+        count: word.count,
+        base: word.base,
+        to,
+    })?;
+    Ok(())
+}
+
+/// Reads a place: one more way for each symbol that rules ask for there. The rules are tried in
+/// turn where the budget is too small.
+fn read_place(
+    alloc: Global,
+    automaton: &mut Automaton,
+    rules: &[u32],
+    place: u32,
+    budget: &mut Budget,
+) -> Result<Op, Memory>
+    requires rules { All (λ r. r < length automaton.old.shapes.items) rules.now }
+    requires place { place + 1 < 2 ^ 32 }
+    ensures reads { IfOk result (λ op. (table : Tabled) → AreStates table (made automaton.old)
+        → AreBased table automaton.old.shapes.items
+        → ReadsOn table (made automaton.old) (made automaton.new) rules.now place op) }
+    ensures paid { OnOk result (ArePaid (made automaton.old) budget.old.states
+        (made automaton.new) budget.new.states) }
+{
+    let words = words_at(alloc, &automaton.shapes, rules, place)?;
+    let rest = passing(alloc, &automaton.shapes, rules, place)?;
+    let count = words.len();
+    let listed = rest.len().saturating_mul(count).saturating_add(rules.len());
+    let steps = size_of(&automaton.shapes, rules).saturating_mul(count);
+    if !budget.take(count + 1, listed, steps) {
+        return Ok(Op::Turn);
+    }
+    let first = automaton.ways.len();
+    for word in &words {
+        push_way(alloc, automaton, rules, place, word)?;
+    }
+    let last = automaton.ways.len();
+    let other = push_state(automaton, &rest, place + 1)?;
+    Ok(Op::Read(Node {
+        place,
+        first,
+        last,
+        other,
+    }))
+}
+
+/// Reads the least place not below a bound that rules ask for, some of which asks for a place.
+fn read_least(
+    alloc: Global,
+    automaton: &mut Automaton,
+    rules: &[u32],
+    bound: u32,
+    place: u32,
+    budget: &mut Budget,
+) -> Result<Op, Memory>
+    requires rules { All (λ r. r < length automaton.old.shapes.items) rules.now }
+    requires built { (table : Tabled) × IsBuilt table (made automaton.old) }
+    requires asked { IsAsked automaton.old.shapes.items rules.now place }
+    ensures serves { IfOk result (λ op. (table : Tabled) → IsBuilt table (made automaton.old)
+        → Serves table (made automaton.old) (made automaton.new) rules.now bound op) }
+    ensures paid { OnOk result (ArePaid (made automaton.old) budget.old.states
+        (made automaton.new) budget.new.states) }
+{
+    let least = least_of_all(&automaton.shapes, rules, bound, place);
+    let op = read_place(alloc, automaton, rules, least, budget)?;
+    Ok(op)
 }
 
 /// What is done where all tests of the first of some rules hold.
@@ -113,28 +196,6 @@ fn choose(
     }
 }
 
-/// What is done at a state of some rules.
-fn op_for(
-    alloc: Global,
-    automaton: &mut Automaton,
-    rules: &[u32],
-    bound: u32,
-    budget: &mut Budget,
-) -> Result<Op, Memory>
-    requires rules { All (λ r. r < length automaton.old.shapes.items) rules.now }
-    requires built { (table : Tabled) × IsBuilt table (made automaton.old) }
-    ensures serves { IfOk result (λ op. (table : Tabled) → IsBuilt table (made automaton.old)
-        → Serves table (made automaton.old) (made automaton.new) rules.now bound op) }
-    ensures paid { OnOk result (ArePaid (made automaton.old) budget.old.states
-        (made automaton.new) budget.new.states) }
-{
-    let steps = size_of(&automaton.shapes, rules).saturating_mul(4);
-    if rules.is_empty() || !budget.take(0, 0, steps) {
-        return Ok(Op::Turn);
-    }
-    choose(alloc, automaton, rules, bound, budget)
-}
-
 /// What is done at a state.
 fn op_of(
     alloc: Global,
@@ -151,7 +212,11 @@ fn op_of(
 {
     let state = automaton.states[at];
     let rules = Vec::from_slice(alloc, &automaton.rules[state.from..state.to])?;
-    let op = op_for(alloc, automaton, &rules, state.bound, budget)?;
+    let steps = size_of(&automaton.shapes, &rules).saturating_mul(4);
+    if rules.is_empty() || !budget.take(0, 0, steps) {
+        return Ok(Op::Turn);
+    }
+    let op = choose(alloc, automaton, &rules, state.bound, budget)?;
     Ok(op)
 }
 

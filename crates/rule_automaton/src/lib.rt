@@ -6,7 +6,6 @@ mod asking;
 mod automaton;
 mod building;
 mod finding;
-mod reading;
 mod roots;
 mod rows;
 mod shapes;

@@ -1,6 +1,6 @@
 //! Left sides as tests of places.
 
-ghost use Rattle.std.specs.Prelude.{◌≡◌, ◌+◌, ◌^◌, ◌<◌, [], ◌∷◌, ◌++◌, length, reverse, IfOk, OnOk};
+ghost use Rattle.std.specs.Prelude.{◌≡◌, ◌+◌, ◌^◌, ◌<◌, ◌++◌, length, reverse, IfOk, OnOk};
 ghost use Rattle.rule_match.specs.Preorder.{left_at};
 ghost use Rattle.rule_automaton.specs.Places.{IsTable, Keeps};
 ghost use Rattle.rule_automaton.specs.Shapes.{HasShape, HaveShapes, IsNoted, numbers};
@@ -63,46 +63,6 @@ pub(crate) fn numbers_below(alloc: Global, count: usize) -> Result<Vec<u32>, Mem
     Ok(all)
 }
 
-/// Lays out a rule's left side. The places that wait for their items stand on a stack, the next one
-/// on top.
-fn lay_out(
-    plan: &Plan,
-    rule: u32,
-    table: &mut Table,
-    stack: &mut Vec<u32>,
-    shape: &mut Shape,
-) -> Result<(), Memory>
-    requires rule { rule < length plan.now.rules }
-    requires table { IsTable (tabled table.old) }
-    requires root { stack.old.items ≡ 0 ∷ [] }
-    requires tests { shape.old.tests.items ≡ [] }
-    requires pairs { shape.old.pairs.items ≡ [] }
-    requires variables { shape.old.variables.items ≡ [] }
-    ensures shape { OnOk result
-        (HasShape (tabled table.new) (left_at plan.now.rules rule) shape.new) }
-    ensures kept { OnOk result (Keeps (tabled table.old) (tabled table.new)) }
-    ensures table { OnOk result (IsTable (tabled table.new)) }
-{
-    for item in plan.program(rule) {
-        let place = stack.take_last();
-        match *item {
-            Item::Var(variable) => note_variable(shape, variable, place)?,
-            Item::App(symbol, count) => {
-                let base = table.kids(place, count)?;
-                shape.tests.push(Test {
-                    place,
-                    symbol,
-                    count,
-                    base,
-                })?;
-                push_places(base, count, stack)?;
-            }
-            _ => unreachable!(),
-        }
-    }
-    Ok(())
-}
-
 /// The shape of a rule's left side. It takes time linear in the left side's nodes.
 pub(crate) fn shape_of(
     alloc: Global,
@@ -117,13 +77,29 @@ pub(crate) fn shape_of(
     ensures kept { OnOk result (Keeps (tabled table.old) (tabled table.new)) }
     ensures table { OnOk result (IsTable (tabled table.new)) }
 {
-    let mut stack = vec![in alloc; 0u32]?;
     let mut shape = Shape {
         tests: Vec::new(alloc),
         pairs: Vec::new(alloc),
         variables: Vec::new(alloc),
     };
-    lay_out(plan, rule, table, &mut stack, &mut shape)?;
+    let mut stack = vec![in alloc; 0u32]?;
+    for item in plan.program(rule) {
+        let place = stack.take_last();
+        match *item {
+            Item::Var(variable) => note_variable(&mut shape, variable, place)?,
+            Item::App(symbol, count) => {
+                let base = table.kids(place, count)?;
+                shape.tests.push(Test {
+                    place,
+                    symbol,
+                    count,
+                    base,
+                })?;
+                push_places(base, count, &mut stack)?;
+            }
+            _ => unreachable!(),
+        }
+    }
     Ok(shape)
 }
 

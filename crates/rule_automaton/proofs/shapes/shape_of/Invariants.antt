@@ -2,7 +2,7 @@ use Rattle.rule_match.specs.Preorder.{left_at}
 use Rattle.rule_automaton.specs.Places.{IsTable, Keeps}
 use Rattle.rule_automaton.specs.Tables.{tabled}
 use Rattle.rule_automaton.proofs.Laying.{Laid}
-use Rattle.rule_automaton.proofs.shapes.lay_out.Given as goal
+use Rattle.rule_automaton.proofs.shapes.shape_of.Given as goal
 
 -- the items before a place are laid out
 abbrev pub invariant-loop-item : goal.invariant-loop-item

@@ -2,14 +2,13 @@ use Rattle.std.proofs.Common.{◌≡◌, ◌+◌, ◌<◌, List, length, refl, s
 use Rattle.std.specs.Prelude.{All}
 use Rattle.std.proofs.lemmas.List.{length_push}
 use Rattle.rule_automaton.specs.Automata.{Made, passing}
+use Rattle.rule_automaton.specs.Asking.{word_key, AreWords}
+use Rattle.std.specs.List.Sorted.{IsNonDecreasingBy}
 use Rattle.rule_automaton.specs.Running.{made}
 use Rattle.rule_automaton.proofs.Built.{no_way, way_at, reads_end, reads_turn}
 use Rattle.rule_automaton.specs.declared.shapes.Test.{Test}
 use Rattle.rule_automaton.specs.declared.shapes.Shape.{Shape}
-use Rattle.rule_automaton.proofs.reading.read_words.Goals as goal
-
-pub size_of-requires : goal.size_of-requires
-size_of-requires c = subst (λ (ss : List Shape). All (λ r. r < length ss) c.args.rules.now) (sym c.deref.ensures.value) c.requires.rules
+use Rattle.rule_automaton.proofs.building.read_place.Goals as goal
 
 pub loop-word-init : goal.loop-word-init
 loop-word-init c =
@@ -28,6 +27,7 @@ loop-word-preserved c =
     let a = made c.args.automaton.now in
     let b = made c.loop-word.automaton in
     let zero : Test = record { place = 0; symbol = record { 0 = 0 }; count = 0; base = 0 } in
+    let words = subst (λ (ss : List Shape). AreWords ss c.args.rules.now c.args.place c.deref-word-items.result.now) c.deref.ensures.value (subst (AreWords c.deref.result.now c.args.rules.now c.args.place) (sym c.deref-word-items.ensures.value) c.in_ok-words.ensures.words) in
     let e = c.in_ok-push_way.ensures in
     let i = c.loop-word.invariant in
     record {
@@ -35,7 +35,7 @@ loop-word-preserved c =
       count = (let n : length (made c.push_way.new.automaton).states ≡ length b.states + 1 = ap (λ (v : Made). length v.states) e ∙ length_push b.states _ in let k = i.count in omega (arith, n, k));
       within = omega arith;
       partway = λ table are based.
-          way_at table a b c.args.rules.now c.args.place c.len-first.result c.args.words.now c.loop-word.word-index zero c.loop-word-test.true c.requires.words based c.requires.rules (i.partway table are based) (made c.push_way.new.automaton) e;
+          way_at table a b c.args.rules.now c.args.place c.len-first.result _ c.loop-word.word-index zero c.loop-word-test.true words based c.requires.rules (i.partway table are based) (made c.push_way.new.automaton) e;
     }
 
 pub returns-then-not-take-clause-reads : goal.returns-then-not-take-clause-reads
@@ -48,11 +48,14 @@ returns-clause-paid c =
     let i = c.loop-word.invariant in
     let k = i.count in
     let w = i.within in
+    let z = c.deref-word-items.ensures.len in
     let t = c.take.ensures.taken c.if-not-take.false in
-    omega (arith, n, k, w, t)
+    omega (arith, n, k, w, z, t, c.len-count.ensures)
 
 pub returns-clause-reads : goal.returns-clause-reads
 returns-clause-reads c = λ table are based.
     let b = made c.loop-word.automaton in
-    let rest = c.requires.rest ∙ ap (λ (ss : List Shape). passing ss c.args.place c.args.rules.now) (sym c.loop-word.invariant.shapes) in
-    reads_end table (made c.args.automaton.now) b c.args.rules.now c.args.place c.len-first.result c.args.words.now c.loop-word.word-index c.loop-word-test.false (c.loop-word.invariant.partway table are based) c.requires.words c.requires.order c.requires.rules c.len-last.result c.in_ok-other.other (omega (arith, c.len-last.ensures)) (omega (arith, c.in_ok-other.ensures.place)) _ rest (made c.push_state.new.automaton) c.in_ok-other.ensures.pushed
+    let words = subst (λ (ss : List Shape). AreWords ss c.args.rules.now c.args.place c.deref-word-items.result.now) c.deref.ensures.value (subst (AreWords c.deref.result.now c.args.rules.now c.args.place) (sym c.deref-word-items.ensures.value) c.in_ok-words.ensures.words) in
+    let rest = c.deref-4.ensures.value ∙ c.in_ok-rest.ensures ∙ ap (λ (ss : List Shape). passing ss c.args.place c.args.rules.now) (c.deref-2.ensures.value ∙ sym c.loop-word.invariant.shapes) in
+    let order = subst (IsNonDecreasingBy word_key) (sym c.deref-word-items.ensures.value) c.in_ok-words.ensures.order in
+    reads_end table (made c.args.automaton.now) b c.args.rules.now c.args.place c.len-first.result _ c.loop-word.word-index c.loop-word-test.false (c.loop-word.invariant.partway table are based) words order c.requires.rules c.len-last.result c.in_ok-other.other (omega (arith, c.len-last.ensures)) (omega (arith, c.in_ok-other.ensures.place)) _ rest (made c.push_state.new.automaton) c.in_ok-other.ensures.pushed

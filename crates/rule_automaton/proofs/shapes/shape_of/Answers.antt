@@ -4,8 +4,8 @@ use Rattle.rule_match.specs.Preorder.{left_at}
 use Rattle.rule_match.proofs.Compiled.{plain_at}
 use Rattle.rule_automaton.specs.Tables.{tabled}
 use Rattle.rule_automaton.proofs.Laying.{first_laid, numbered_at, place_waits, no_other_item, shaped, place_within, again, newly, under, keeps_itself, keeps_on}
-use Rattle.rule_automaton.proofs.shapes.lay_out.Goals.{in-Var+in_ok-note_variable-in-Var, in-App+in_ok-base-in-App+in_ok-push-in-App+in_ok-push_places-in-App}
-use Rattle.rule_automaton.proofs.shapes.lay_out.Goals as goal
+use Rattle.rule_automaton.proofs.shapes.shape_of.Goals.{in-Var+in_ok-note_variable-in-Var, in-App+in_ok-base-in-App+in_ok-push-in-App+in_ok-push_places-in-App}
+use Rattle.rule_automaton.proofs.shapes.shape_of.Goals as goal
 
 pub loop-item-init : goal.loop-item-init
 loop-item-init c =
@@ -13,7 +13,7 @@ loop-item-init c =
     record {
       table = c.requires.table;
       kept = keeps_itself (tabled c.args.table.now);
-      laid = first_laid (tabled c.args.table.now) c.args.plan.now.widest (left_at c.args.plan.now.rules c.args.rule) _ _ _ _ _ plain c.program-item-items.ensures.program c.requires.root c.requires.tests c.requires.pairs c.requires.variables;
+      laid = first_laid (tabled c.args.table.now) c.args.plan.now.widest (left_at c.args.plan.now.rules c.args.rule) _ _ _ _ _ plain c.program-item-items.ensures.program c.in_ok-stack.ensures.items c.new.ensures.items c.new-2.ensures.items c.new-3.ensures.items;
     }
 
 pub take_last-place-requires : goal.take_last-place-requires

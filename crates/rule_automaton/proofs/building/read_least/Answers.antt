@@ -8,7 +8,7 @@ use Rattle.rule_automaton.specs.Running.{made}
 use Rattle.rule_automaton.specs.declared.shapes.Test.{Test}
 use Rattle.rule_automaton.specs.declared.shapes.Shape.{Shape}
 use Rattle.rule_automaton.proofs.Decided.{place_small, least_asked, reads_least}
-use Rattle.rule_automaton.proofs.reading.read_least.Goals as goal
+use Rattle.rule_automaton.proofs.building.read_least.Goals as goal
 
 pub read_place-requires-clause-place : goal.read_place-requires-clause-place
 read_place-requires-clause-place c =
