@@ -1,6 +1,7 @@
 //! Cuts bytes into tokens.
 ghost use Rattle.std.specs.Prelude.{◌≡◌, ◌+◌, ◌-◌, ◌≤◌, ◌<◌, ◌^◌, ◌∷◌, [], false, length, drop, slice_get, IfOk, IfErr, IfSome, Ok, Err, IsErrOf, take};
 ghost use Rattle.std.specs.Option.{option_map_or};
+ghost use Rattle.std.specs.Str.{bytes_eq};
 ghost use Rattle.rec_reader.specs.Tokens.{is_space, is_plain, is_name_byte, run_length, comment_length, begins, is_frequent_mark, ends_word, word_of, mark_of, more_of, token_of_run, piece_at, tokens_of, IsBadByte};
 
 use crate::token::{Name, Sign, Token, Tokens};
@@ -104,28 +105,35 @@ fn word_of(run: &[u8]) -> Option<Sign>
     }
 }
 
+// Whether a run is this text.
+fn is_text(run: &[u8], text: &[u8]) -> bool
+    ensures { result ≡ bytes_eq run.now text.now }
+{
+    run == text
+}
+
 fn word_among(run: &[u8]) -> Option<Sign>
     ensures { result ≡ word_of run.now }
 {
-    if run == b"REC-SPEC".as_slice() {
+    if is_text(run, b"REC-SPEC") {
         Some(Sign::RecSpec)
-    } else if run == b"SORTS".as_slice() {
+    } else if is_text(run, b"SORTS") {
         Some(Sign::Sorts)
-    } else if run == b"CONS".as_slice() {
+    } else if is_text(run, b"CONS") {
         Some(Sign::Cons)
-    } else if run == b"OPNS".as_slice() {
+    } else if is_text(run, b"OPNS") {
         Some(Sign::Opns)
-    } else if run == b"VARS".as_slice() {
+    } else if is_text(run, b"VARS") {
         Some(Sign::Vars)
-    } else if run == b"RULES".as_slice() {
+    } else if is_text(run, b"RULES") {
         Some(Sign::Rules)
-    } else if run == b"EVAL".as_slice() {
+    } else if is_text(run, b"EVAL") {
         Some(Sign::Eval)
-    } else if run == b"END-SPEC".as_slice() {
+    } else if is_text(run, b"END-SPEC") {
         Some(Sign::EndSpec)
-    } else if run == b"if".as_slice() {
+    } else if is_text(run, b"if") {
         Some(Sign::If)
-    } else if run == b"and-if".as_slice() {
+    } else if is_text(run, b"and-if") {
         Some(Sign::AndIf)
     } else {
         None
