@@ -1,4 +1,4 @@
-use Rattle.std.proofs.Common.{◌≡◌, ◌-◌, [], ◌∷◌, get_or, sym, ap, subst, arith, rules}
+use Rattle.std.proofs.Common.{◌≡◌, ◌-◌, [], ◌∷◌, get_or, sym, ap, subst, refl, inl, inr, arith, rules}
 use Rattle.std.proofs.lemmas.Result.{err_from_is_err_and}
 use Rattle.std.proofs.lemmas.List.{get_or_default}
 use Rattle.term_model.specs.Tree.{Tree, Leaf}
@@ -232,3 +232,24 @@ returns-then-not-branch-2-clause-same g c = g.met.T.Terms.same_in_turn _ _ _ c.i
 
 pub returns-clause-same : goal.returns-clause-same
 returns-clause-same g c = g.met.T.Terms.same_in_turn _ _ _ (g.met.T.Terms.same_in_turn _ _ _ c.instantiate.ensures.same c.rebuild.ensures.same) c.keep.ensures.same
+
+pub overflow_sub-room : goal.overflow_sub-room
+overflow_sub-room g c =
+    let some = c.requires.state.1.found.some in
+    omega (arith, some)
+
+pub returns-then-left-eq0-clause-smaller : goal.returns-then-left-eq0-clause-smaller
+returns-then-left-eq0-clause-smaller g c =
+    inr refl
+
+pub returns-then-not-branch-clause-smaller : goal.returns-then-not-branch-clause-smaller
+returns-then-not-branch-clause-smaller g c =
+    inr refl
+
+pub returns-then-not-branch-2-clause-smaller : goal.returns-then-not-branch-2-clause-smaller
+returns-then-not-branch-2-clause-smaller g c =
+    inr refl
+
+pub returns-clause-smaller : goal.returns-clause-smaller
+returns-clause-smaller g c =
+    inl (omega (arith, c.if-left-eq0.false))

@@ -1,9 +1,9 @@
-use Rattle.std.proofs.Common.{◌≡◌, refl, sym, ◌∙◌, ap, subst, arith, Some}
+use Rattle.std.proofs.Common.{◌≡◌, ◌-◌, length, drop, refl, sym, ◌∙◌, ap, subst, arith, Some}
 use Rattle.std.specs.Prelude.{slice_get}
 use Rattle.term_model.specs.Tree.{Tree, arguments}
-use Rattle.terms_api.specs.Terms.{Store, tree_at, pushed}
+use Rattle.terms_api.specs.Terms.{Store, IsHeld, tree_at, pushed}
 use Rattle.innermost.specs.Rebuilding.{Pushes}
-use Rattle.innermost.proofs.Pushing.{pushes_more, pushes_tree, take_next}
+use Rattle.innermost.proofs.Pushing.{pushes_more, pushes_tree, pushes_kept, pushes_height, length_taken, take_next}
 use Rattle.innermost.proofs.rebuilding.push_arguments.Goals as goal
 
 pub arguments-preserved : goal.arguments-preserved
@@ -29,3 +29,37 @@ arguments-preserved g c =
 
 pub returns-clause-same : goal.returns-clause-same
 returns-clause-same g c = c.arguments.invariant.same
+
+pub child-argument-requires-clause-held : goal.child-argument-requires-clause-held
+child-argument-requires-clause-held g c =
+    let s = g.T.Terms.store c.args.terms.now in
+    let now = g.T.Terms.store c.arguments.terms in
+    let i = c.arguments.invariant in
+    pushes_kept s now _ c.args.row i.pushed c.requires.held
+
+pub child-argument-requires-clause-below : goal.child-argument-requires-clause-below
+child-argument-requires-clause-below g c =
+    let s = g.T.Terms.store c.args.terms.now in
+    let now = g.T.Terms.store c.arguments.terms in
+    let i = c.arguments.invariant in
+    let n = ap (λ (t : Tree). length (arguments t)) (pushes_tree s now _ c.args.row i.pushed) in
+    omega (arith, n, c.requires.within, c.arguments-test.true)
+
+pub put-requires-clause-inside : goal.put-requires-clause-inside
+put-requires-clause-inside g c =
+    ap (λ (q : Store). q.inside) c.child-argument.ensures.unchanged ∙ c.arguments.invariant.inside
+
+pub put-requires-clause-held : goal.put-requires-clause-held
+put-requires-clause-held g c =
+    subst (λ (q : Store). IsHeld q c.child-argument.result) (sym c.child-argument.ensures.unchanged) c.child-argument.ensures.held
+
+pub put-requires-clause-place : goal.put-requires-clause-place
+put-requires-clause-place g c =
+    let s = g.T.Terms.store c.args.terms.now in
+    let now = g.T.Terms.store c.arguments.terms in
+    let i = c.arguments.invariant in
+    let h = pushes_height s now _ i.pushed in
+    let u = ap (λ (q : Store). length q.stack) c.child-argument.ensures.unchanged in
+    let r = ap (λ (q : Store). q.room) c.child-argument.ensures.unchanged in
+    let t = length_taken (c.arguments.at - c.args.from) (drop c.args.from (arguments (tree_at s c.args.row))) in
+    omega (arith, h.0, h.1, u, r, t, c.requires.places, c.arguments-test.true, i.low)
