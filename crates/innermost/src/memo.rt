@@ -8,7 +8,7 @@ use term_model::Row;
 
 /// The row of a value, how much fuel the reduction to it takes, and the least room in which it
 /// does.
-#[derive(Clone, Copy)]
+#[derive(Clone, Copy, Debug, PartialEq, Eq)]
 pub struct Known {
     pub value: Row,
     pub fuel: u64,
@@ -36,7 +36,7 @@ pub trait Memo {
 }
 
 /// The memory that remembers nothing.
-#[derive(Clone, Copy)]
+#[derive(Clone, Copy, Debug)]
 pub struct NoMemo;
 
 impl Memo for NoMemo {
