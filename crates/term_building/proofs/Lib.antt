@@ -1,4 +1,5 @@
 pub mod Resumed
+pub mod Results
 pub mod SameText
 pub mod Growing
 pub mod Lists

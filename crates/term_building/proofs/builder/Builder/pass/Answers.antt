@@ -1,17 +1,14 @@
-use Rattle.std.proofs.Common.{◌+◌, ℕ, subst, IfOk, OnOk, Result, Ok, Err}
+use Rattle.std.proofs.Common.{◌+◌, ℕ, subst, IfOk, Result, Ok, Err}
 use Rattle.term_building.specs.Reached.{Passes}
 use Rattle.term_building.specs.Ready.{state_in}
 use Rattle.term_building.specs.Taken.{Begins}
 use Rattle.term_building.proofs.Passing.{passes_blank, passes_whole, cut_place, passes_on}
+use Rattle.term_building.proofs.Results.{on_ok}
 use Rattle.term_building.proofs.builder.Builder.pass.Goals as goal
 
 if_ok : {E : Type 0} {A B : ℕ → Type 0} (r : Result ℕ E) → ((n : ℕ) → A n → B n) → IfOk r A → IfOk r B
 if_ok (Ok n) f a = f n a
 if_ok (Err e) f a = tt
-
-on_ok : {E A B : Type 0} (r : Result ℕ E) → (A → B) → OnOk r A → OnOk r B
-on_ok (Ok n) f a = f a
-on_ok (Err e) f a = tt
 
 pub returns-in_ok-leave_out-in-Blank-clause-passes : goal.returns-in_ok-leave_out-in-Blank-clause-passes
 returns-in_ok-leave_out-in-Blank-clause-passes g c =
