@@ -1,6 +1,7 @@
 -- What a collection notes of the words that it has worked out.
-use Rattle.std.proofs.Common.{◌≡◌, ◌≢◌, ℕ, suc, ◌+◌, ◌<◌, ◌≤◌, Bool, false, cond, Some, List, [], ◌∷◌, get_or, refl, sym, ap, ◌∙◌, subst, ⊎_elim, arith, eq-eqb, ne_eqb}
-use Rattle.std.proofs.lemmas.Bool.{cases_lt}
+use Rattle.std.proofs.Common.{◌≡◌, ◌≢◌, ℕ, suc, ◌+◌, ◌<◌, ◌≤◌, Bool, true, false, cond, Some, List, [], ◌∷◌, get_or, refl, sym, ap, ◌∙◌, subst, ⊎_elim, arith, eq-eqb, ne_eqb}
+use Rattle.std.specs.Bool.{IsTrue}
+use Rattle.std.proofs.lemmas.Bool.{cases_lt, false≢true}
 use Rattle.atomic_table.specs.declared.shared.Seat.{Seat}
 use Rattle.store_model.specs.declared.view.Sizes.{Sizes}
 use Rattle.store_model.specs.declared.view.Call.{Call}
@@ -24,6 +25,12 @@ use Rattle.sweep_phase.specs.Compared.{told_by, unmarked_before, place_for, Note
 use Rattle.sweep_phase.specs.declared.turns.Order.{Order}
 use Rattle.sweep_phase.specs.Turns.{order_for, row_in_turn}
 use Rattle.sweep_phase.proofs.Turning.{turn_back, turn_same}
+
+-- what a test says of a mark
+pub as_told : (r b : Bool) → (IsTrue r → b ≡ true) × (b ≡ true → IsTrue r) → b ≡ r
+as_told true b h = h.0 refl
+as_told false true h = absurd (false≢true (h.1 refl))
+as_told false false h = refl
 
 -- a cell that says that the word stays, and another one
 pub told_stays : (word cell : ℕ) → cell ≡ 4294967295 → told_by word cell ≡ word

@@ -50,18 +50,18 @@ placing v v2 v3 c from count drawn e f l =
 -- the exchange was lost
 pub lost : (v l u : NodeView) (f : Head) (a : Asked) (from i r found number : ℕ) → l ≡ at_call v (Publishing (content a) from i r)
     → u ≡ with_store l (cond (eqb found from) (gained l.store (content a) r number (Make number f (names a.args.now) r))
-        (with_call l.store (arrived (content a) (Some (i, r)) found from found)))
+    (with_call l.store (arrived (content a) (Some (i, r)) found from found)))
     → found ≢ from → u ≡ at_call v (arrived (content a) (Some (i, r)) found from found)
 lost v l u f a from i r found number e h ne =
     let no = differs found from ne in
     h ∙ (ap (λ (b : Bool). with_store l (cond b (gained l.store (content a) r number (Make number f (names a.args.now) r))
-        (with_call l.store (arrived (content a) (Some (i, r)) found from found)))) no
+    (with_call l.store (arrived (content a) (Some (i, r)) found from found)))) no
     ∙ ap (λ (q : NodeView). at_call q (arrived (content a) (Some (i, r)) found from found)) e)
 
 -- the exchange was made
 pub makes : (v l u : NodeView) (a : Asked) (from i r found : ℕ) → l ≡ at_call v (Publishing (content a) from i r)
     → u ≡ with_store l (cond (eqb found from) (gained l.store (content a) r (a.base + i) (Make (a.base + i) a.head (names a.args.now) r))
-        (with_call l.store (arrived (content a) (Some (i, r)) found from found)))
+    (with_call l.store (arrived (content a) (Some (i, r)) found from found)))
     → found ≡ from → IsBased a v.store → v.store.call ≡ Linking (content a) from i r → Where (index v.store.call) (λ k. v.store.seen < v.store.base + k)
     → Makes v u a.head (names a.args.now) r (a.base + i)
 makes v l u a from i r found e h is based stage later = record {
@@ -69,7 +69,7 @@ makes v l u a from i r found e h is based stage later = record {
   path = v.store.path;
   later = subst (λ (b : ℕ). v.store.seen < b + i) (sym based.base) (subst (λ (x : Call). Where (index x) (λ k. v.store.seen < v.store.base + k)) stage later);
   view = h ∙ (ap (λ (b : Bool). with_store l (cond b (gained l.store (content a) r (a.base + i) (Make (a.base + i) a.head (names a.args.now) r))
-        (with_call l.store (arrived (content a) (Some (i, r)) found from found)))) (eq-eqb found from is)
+      (with_call l.store (arrived (content a) (Some (i, r)) found from found)))) (eq-eqb found from is)
       ∙ ap (λ (q : NodeView). with_store q (gained q.store (content a) r (a.base + i) (Make (a.base + i) a.head (names a.args.now) r))) e);
 }
 

@@ -25,3 +25,7 @@ returns-clause-loads c =
     let n = c.load_any.result in
     let is = ap (λ (u : NodeView). u.store) e.view ∙ ap (λ (x : Call). with_call v (loading c.args.store.now.table.shared.key (loads x ++ (Claim, n) ∷ []))) c.requires.call in
     claim_loads c.args.store.now.sizes t.number v t.seat.me.0.store c.args.base n (subst (λ (z : Sizes). HasStore z t.number t.seat.me.0.store) c.requires.store.told e.has_store) is c.requires.base
+
+pub returns-clause-alone : goal.returns-clause-alone
+returns-clause-alone c = let s = c.args.seat.now in let t = c.load_any.new.seat in let e = c.load_any.ensures in
+    begin_alone c.args.store.now s.seat s.number s.seats c.requires.alone ((Base, c.args.base) ∷ []) (begun_loading s.seat.me.0.store.call ((Base, c.args.base) ∷ []) c.requires.call) Claim t.seat t.number t.seats c.load_any.result e.same.0 e.same.1 e.same.2 e.view

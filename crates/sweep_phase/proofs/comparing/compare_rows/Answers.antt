@@ -1,10 +1,11 @@
 use Rattle.std.proofs.Common.{◌≡◌, ℕ, ◌+◌, ◌<◌, false, cond, get_or, refl, ap, ◌∙◌, subst, arith}
+use Rattle.store_model.specs.declared.view.Sizes.{Sizes}
 use Rattle.store_model.specs.declared.view.Place.{Place}
 use Rattle.store_model.specs.declared.view.Place.TheVariants.{FreePlace, Next}
 use Rattle.store_model.specs.Marks.{IsMarked}
 use Rattle.sweep_phase.specs.Gathered.{sizes_of, words_of}
 use Rattle.sweep_phase.specs.Read.{again_itself, again_in_turn}
-use Rattle.sweep_phase.specs.Compared.{told_by}
+use Rattle.sweep_phase.specs.Compared.{told_by, Notes}
 use Rattle.sweep_phase.proofs.Compares.{notes_none, notes_more, unmarked_next}
 use Rattle.sweep_phase.proofs.comparing.compare_rows.Goals as goal
 
@@ -43,3 +44,11 @@ loop-turn-preserved c =
       few = (let f = e.few in let g = i.few in omega arith);
       size = e.size ∙ i.size;
     }
+
+pub returns-clause-notes : goal.returns-clause-notes
+returns-clause-notes c =
+    let told = ap (λ (z : Sizes). z.rows) c.args.sweep.now.at.told in
+    let past = c.loop-turn-test.false in
+    let within = c.loop-turn.auto.turn-end in
+    let all : c.loop-turn.turn ≡ (sizes_of c.args.sweep.now).rows = omega arith in
+    subst (λ (n : ℕ). Notes (words_of c.args.seat.now.seat) c.args.sweep.now.count c.args.marks.now c.args.cells.now c.loop-turn.cells (sizes_of c.args.sweep.now) c.args.order n) all c.loop-turn.invariant.notes

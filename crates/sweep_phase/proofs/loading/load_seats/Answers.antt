@@ -1,4 +1,5 @@
-use Rattle.std.proofs.Common.{◌≡◌, ℕ, suc, ◌+◌, ◌<◌, arith}
+use Rattle.std.proofs.Common.{◌≡◌, ℕ, suc, ◌+◌, ◌<◌, ap, arith}
+use Rattle.store_model.specs.declared.view.Sizes.{Sizes}
 use Rattle.sweep_phase.specs.Loaded.{HasRoots}
 use Rattle.sweep_phase.specs.Gathered.{loads_of, sizes_of}
 use Rattle.sweep_phase.proofs.Loads.{more_itself, more_in_turn}
@@ -20,3 +21,9 @@ loop-j-preserved c =
       more = more_in_turn a.seat a.number a.seats t.seat t.number t.seats s.seat s.number s.seats i.more e.more;
       loaded = below_more (λ (q : ℕ). HasRoots (loads_of t.seat) q) (λ (q : ℕ). HasRoots (loads_of s.seat) q) c.loop-j.j i.loaded (λ q. roots_on (loads_of t.seat) (loads_of s.seat) q e.more.extends) e.loaded;
     }
+
+pub returns-clause-loaded : goal.returns-clause-loaded
+returns-clause-loaded c = λ j l.
+    let told = ap (λ (z : Sizes). z.seats) c.args.sweep.now.at.told in
+    let past = c.loop-j-test.false in
+    c.loop-j.invariant.loaded j (omega arith)

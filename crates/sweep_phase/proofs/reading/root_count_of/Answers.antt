@@ -18,3 +18,6 @@ overflow_cast-result c = let s = c.args.seat.now in let e = c.reload.ensures.val
 
 pub returns-clause-few : goal.returns-clause-few
 returns-clause-few c = let s = c.args.seat.now in let e = c.reload.ensures.value in let f = root_words_few c.args.sweep.now s.seat s.number s.seats c.requires.at c.args.j c.requires.below in omega arith
+
+pub reload-requires-clause-loaded : goal.reload-requires-clause-loaded
+reload-requires-clause-loaded c = c.requires.at.all.root_counts c.args.j c.requires.below

@@ -5,7 +5,7 @@ use Rattle.sweep_phase.specs.Gathered.{sizes_of}
 use Rattle.node_rows.specs.Collecting.{HasSeen}
 use Rattle.sweep_phase.specs.Turns.{row_in_turn}
 use Rattle.sweep_phase.specs.Compared.{unmarked_before, place_for}
-use Rattle.sweep_phase.specs.Stored.{seen_of}
+use Rattle.sweep_phase.specs.Stored.{ArePlaced, seen_of}
 use Rattle.sweep_phase.proofs.Writes.{stores_itself, stores_in_turn}
 use Rattle.sweep_phase.proofs.Placing.{placed_none}
 use Rattle.sweep_phase.proofs.Compares.{unmarked_next}
@@ -43,3 +43,11 @@ store_place-count-requires-clause-held c = λ not is.
       i.later c.loop-turn.count (omega arith) ∙ (ap (λ (k : ℕ). seen_of c.args.seat.now.seat (FreePlace k)) at ∙ h.0),
       i.more.seen (FreePlace c.loop-turn.count) (subst (λ (k : ℕ). HasSeen c.args.seat.now.seat.me.0.store (FreePlace k)) (sym at) h.1),
     )
+
+pub returns-clause-placed : goal.returns-clause-placed
+returns-clause-placed c =
+    let told = ap (λ (z : Sizes). z.rows) c.args.sweep.now.at.told in
+    let past = c.loop-turn-test.false in
+    let within = c.loop-turn.auto.turn-end in
+    let all : c.loop-turn.turn ≡ (sizes_of c.args.sweep.now).rows = omega arith in
+    subst (λ (n : ℕ). ArePlaced (λ i. seen_of c.loop-turn.seat.seat (FreePlace i)) c.args.marks.now (sizes_of c.args.sweep.now) c.args.order n c.loop-turn.count) all c.loop-turn.invariant.placed
