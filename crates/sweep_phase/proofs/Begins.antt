@@ -1,18 +1,18 @@
 -- The first loads of a collection.
-use Rattle.std.proofs.Common.{◌≡◌, ◌⊎◌, ℕ, ◌+◌, ◌<◌, ◌≤◌, ◌^◌, Bool, true, false, cond, Some, List, [], ◌∷◌, ◌++◌, refl, sym, ap, ◌∙◌, subst, inl, inr, arith}
+use Rattle.std.proofs.Common.{◌≡◌, ℕ, ◌+◌, ◌<◌, ◌≤◌, ◌^◌, Bool, true, cond, List, [], ◌∷◌, ◌++◌, refl, sym, ap, ◌∙◌, subst, inl, inr}
 use Rattle.std.proofs.lemmas.Bool.{lt-ltb}
 use Rattle.atomic_table.specs.declared.shared.Seat.{Seat}
 use Rattle.busy_forbidden.specs.Calls.{IsSame}
 use Rattle.store_model.specs.declared.view.Sizes.{Sizes}
 use Rattle.store_model.specs.declared.view.View.{View}
 use Rattle.store_model.specs.declared.view.Place.{Place}
-use Rattle.store_model.specs.declared.view.Place.TheVariants.{Base, FreeCount, Claim}
+use Rattle.store_model.specs.declared.view.Place.TheVariants.{Base, Claim}
 use Rattle.store_model.specs.declared.view.Call.{Call}
 use Rattle.store_model.specs.declared.view.Call.TheVariants.{Idle, Loading}
 use Rattle.store_model.specs.Invariant.{span}
 use Rattle.store_model.specs.Machine.{LoadAny, with_call}
 use Rattle.store_model.specs.Shown.{in_table, index_of}
-use Rattle.store_model.specs.Steps.{loads, loading, value_at, IsLoading, IsNextLoad}
+use Rattle.store_model.specs.Steps.{loads, loading, IsLoading, IsNextLoad}
 use Rattle.node_rows.specs.declared.store.Store.{Store}
 use Rattle.node_rows.specs.declared.view.NodeView.{NodeView}
 use Rattle.node_rows.specs.Collecting.{loaded_any, MayCollect, HasStore}
@@ -20,7 +20,6 @@ use Rattle.node_rows.specs.Steps.{with_store, Known}
 use Rattle.sweep_phase.specs.declared.sweep.Sweep.{Sweep}
 use Rattle.sweep_phase.specs.Loaded.{begun}
 use Rattle.sweep_phase.specs.Gathered.{sizes_of, IsAlone, Gathers, StaysSeat, LoadsClaim}
-use Rattle.sweep_phase.specs.Read.{stays_in_turn}
 use Rattle.sweep_phase.proofs.Loads.{alone_on, stays_by, loading_on}
 use Rattle.sweep_phase.proofs.Stands.{base_is, claim_few, count_few, there}
 

@@ -1,10 +1,8 @@
 -- New chains, one row more; and the hash of a row's words.
-use Rattle.std.proofs.Common.{◌≡◌, ◌≢◌, ◌⊎◌, ℕ, zero, suc, ◌+◌, ◌*◌, ◌<◌, ◌≤◌, eqb, Bool, true, false, cond, Option, Some, List, [], ◌∷◌, ◌++◌, length, get_or, set, refl, sym, ap, ◌∙◌, subst, ⊎_elim, inl, inr, arith, true≢false, get_or-set_same, get_or-set_other}
+use Rattle.std.proofs.Common.{◌≡◌, ◌≢◌, ℕ, zero, suc, ◌+◌, ◌<◌, ◌≤◌, Bool, false, List, [], ◌∷◌, ◌++◌, length, get_or, set, refl, sym, ap, ◌∙◌, subst, ⊎_elim, inl, inr, arith, true≢false, get_or-set_same, get_or-set_other}
 use Rattle.std.specs.Prelude.{◌%◌}
 use Rattle.std.proofs.lemmas.Bool.{cases_lt}
 use Rattle.std.proofs.lemmas.List.{length_push}
-use mathlib.Core.Logic.{dite}
-use native.Mathlib.Decide.{ℕ_discrete}
 use Rattle.term_model.specs.declared.Head.{Head}
 use Rattle.term_model.specs.declared.Head.TheVariants.{App, Int, Nil, Cons}
 use Rattle.hash_buckets.specs.Hash.{mixed, mixed_all, hash_of, bucket_of}
@@ -13,13 +11,12 @@ use Rattle.store_model.specs.declared.view.Content.{Content}
 use Rattle.store_model.specs.declared.view.Place.{Place}
 use Rattle.store_model.specs.declared.view.Place.TheVariants.{RowWord}
 use Rattle.store_model.specs.Words.{put}
-use Rattle.store_model.specs.Calls.{words_of, bucket, IsOver}
+use Rattle.store_model.specs.Calls.{IsOver}
 use Rattle.store_model.specs.Machine.{Each, In}
 use Rattle.store_model.specs.Marks.{IsMarked}
 use Rattle.store_model.specs.MarkedChains.{HasContent, StandsIn}
-use Rattle.store_model.proofs.Basics.{put_case, put_same, each_map, each_in}
+use Rattle.store_model.proofs.Basics.{put_case, put_same, each_map}
 use Rattle.sweep_phase.specs.Chained.{numbers_of, IsHashed, LeadsTo, Belongs, ChainsTo}
-use Rattle.sweep_phase.proofs.Gathering.{below_more}
 
 -- rows below the one that is written lead on as before
 pub leads_same : (f g : ℕ → ℕ) (at : ℕ) (rs : List ℕ) → Each (λ r. f r ≡ g r) rs → LeadsTo f at rs → LeadsTo g at rs

@@ -1,17 +1,16 @@
 -- What a collection has loaded grows to all.
-use Rattle.std.proofs.Common.{◌≡◌, ℕ, suc, ◌+◌, ◌<◌, ◌≤◌, Option, Some, List, [], ◌∷◌, ◌++◌, refl, sym, ap, ◌∙◌, subst, ⊎_elim, arith}
+use Rattle.std.proofs.Common.{◌≡◌, ℕ, ◌+◌, ◌<◌, ◌≤◌, Option, Some, List, [], ◌∷◌, ◌++◌, sym, ap, ◌∙◌, subst, ⊎_elim, arith}
 use Rattle.std.proofs.lemmas.Bool.{cases_lt}
 use Rattle.atomic_table.specs.declared.shared.Seat.{Seat}
 use Rattle.store_model.specs.declared.view.Sizes.{Sizes}
 use Rattle.store_model.specs.declared.view.Place.{Place}
 use Rattle.store_model.specs.declared.view.Place.TheVariants.{Base, FreeCount, Claim, InUse, FreePlace, Bucket, RowWord, Birth, Next, RootCount, Root}
-use Rattle.store_model.specs.Machine.{widest}
 use Rattle.store_model.specs.Steps.{loads, value_at}
 use Rattle.store_model.specs.ByView.{IsLoaded, HasAll}
 use Rattle.node_rows.specs.declared.view.NodeView.{NodeView}
 use Rattle.sweep_phase.specs.declared.sweep.Sweep.{Sweep}
 use Rattle.sweep_phase.specs.Loaded.{begun, Extends, found, HasRow, HasRoots, HasLists}
-use Rattle.sweep_phase.specs.Gathered.{sizes_of, loads_of, words_of, Gathers, StaysSeat, LoadsMore, HasGathered, LoadsAgain}
+use Rattle.sweep_phase.specs.Gathered.{sizes_of, loads_of, words_of, Gathers, LoadsMore, HasGathered, LoadsAgain}
 use Rattle.sweep_phase.proofs.Values.{found_again}
 use Rattle.sweep_phase.proofs.Stands.{root_count_few}
 use Rattle.node_rows.specs.Collecting.{or_zero}

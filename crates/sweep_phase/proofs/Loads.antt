@@ -1,30 +1,25 @@
 -- A load of a collection, as its seat's view shows it.
-use Rattle.std.proofs.Common.{◌≡◌, ℕ, ◌+◌, ◌<◌, ◌≤◌, ◌^◌, true, false, Bool, cond, Some, List, [], ◌∷◌, ◌++◌, refl, sym, ap, ◌∙◌, subst, inl, inr, arith}
+use Rattle.std.proofs.Common.{◌≡◌, ℕ, ◌+◌, ◌≤◌, ◌^◌, true, Bool, cond, Some, List, [], ◌∷◌, ◌++◌, sym, ap, ◌∙◌, subst, inr}
 use Rattle.std.proofs.lemmas.Bool.{le-ltb}
 use Rattle.atomic_table.specs.declared.shared.Seat.{Seat}
 use Rattle.busy_forbidden.specs.Calls.{IsSame}
 use Rattle.busy_forbidden.specs.Exclusive.{IsGranted}
 use Rattle.busy_forbidden.specs.declared.view.LockView.{LockView}
 use Rattle.store_model.specs.declared.view.Sizes.{Sizes}
-use Rattle.store_model.specs.declared.view.View.{View}
 use Rattle.store_model.specs.declared.view.Place.{Place}
-use Rattle.store_model.specs.declared.view.Place.TheVariants.{Base, Claim, FreeCount}
-use Rattle.store_model.specs.Words.{same_place}
 use Rattle.store_model.specs.declared.view.Call.{Call}
 use Rattle.store_model.specs.declared.view.Call.TheVariants.{Idle, Loading}
 use Rattle.store_model.specs.Invariant.{span}
-use Rattle.store_model.specs.Machine.{LoadAny, with_call, protected_in}
+use Rattle.store_model.specs.Machine.{LoadAny, with_call}
 use Rattle.store_model.specs.Shown.{in_table, index_of}
-use Rattle.store_model.specs.Steps.{loads, value_at, loading, AreLastRoots, IsLoading, IsNextLoad}
-use Rattle.store_model.specs.ByView.{IsLoaded}
+use Rattle.store_model.specs.Steps.{loads, value_at, loading, AreLastRoots, IsNextLoad}
 use Rattle.node_rows.specs.declared.store.Store.{Store}
 use Rattle.node_rows.specs.declared.view.NodeView.{NodeView}
 use Rattle.node_rows.specs.Collecting.{loaded_any, MayCollect, HasStore}
-use Rattle.node_rows.specs.Passes.{IsStore}
-use Rattle.node_rows.specs.Steps.{IsOf, Known, with_store}
+use Rattle.node_rows.specs.Steps.{Known, with_store}
 use Rattle.sweep_phase.specs.declared.sweep.Sweep.{Sweep}
 use Rattle.sweep_phase.specs.Loaded.{begun, Extends}
-use Rattle.sweep_phase.specs.Gathered.{sizes_of, loads_of, IsAlone, Gathers, OnlyCalls, StaysSeat, LoadsMore}
+use Rattle.sweep_phase.specs.Gathered.{sizes_of, loads_of, IsAlone, Gathers, StaysSeat, LoadsMore}
 use Rattle.sweep_phase.specs.Read.{stays_itself, stays_in_turn}
 use Rattle.sweep_phase.proofs.Values.{same_itself, extends_push, value_loaded}
 use Rattle.sweep_phase.proofs.Stands.{loaded_there}

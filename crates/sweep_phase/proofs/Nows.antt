@@ -2,11 +2,10 @@
 use Rattle.std.proofs.Common.{◌≡◌, ℕ, List, [], length, Result, Ok, Err, sym, ap, ◌∙◌, subst}
 use Rattle.std.specs.Prelude.{IfOk, IfErr}
 use Rattle.term_model.specs.Tree.{Tree}
-use Rattle.busy_forbidden.specs.declared.rule.Busy.{Busy}
 use Rattle.history_core.specs.declared.entry.Entry.TheVariants.{Roots}
 use Rattle.store_model.specs.declared.view.Sizes.{Sizes}
 use Rattle.store_model.specs.declared.view.View.{View}
-use Rattle.store_model.specs.Machine.{based, ready, left, protected_in}
+use Rattle.store_model.specs.Machine.{left, protected_in}
 use Rattle.node_rows.specs.declared.view.NodeView.{NodeView}
 use Rattle.node_rows.specs.Collecting.{IsKept}
 use Rattle.node_rows.specs.Crowding.{kept_in}
@@ -16,7 +15,7 @@ use Rattle.sweep_phase.specs.declared.sweep.Kept.{Kept}
 use Rattle.sweep_phase.specs.declared.sweep.Worn.{Worn}
 use Rattle.sweep_phase.specs.Gathered.{IsWorn}
 use Rattle.sweep_phase.specs.Collected.{Collects, HasKept}
-use Rattle.sweep_phase.specs.Now.{CollectsNow, IsWornNow, Leaves, Enters}
+use Rattle.sweep_phase.specs.Now.{Leaves, Enters}
 
 pub leaves_by : (z : Sizes) (i j : ℕ) (v m w : NodeView) (r : Result Kept Worn) → j ≡ i → IfOk r (λ kept. Collects z i v.store m.store kept.live kept.buckets) → IfErr r (λ _. IsWorn z i v.store) → IfErr r (λ _. m ≡ v) → Left m w → Leaves z j v.store w.store r
 leaves_by z i j v m w (Ok kept) same h k e l = record { after = m.store; collects = subst (λ (q : ℕ). Collects z q v.store m.store kept.live kept.buckets) (sym same) h; left = l }

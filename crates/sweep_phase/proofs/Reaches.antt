@@ -1,11 +1,10 @@
 -- Marks of the rows that are reached, from one protected row to all.
-use Rattle.std.proofs.Common.{◌≡◌, ◌≢◌, ◌⊎◌, ℕ, zero, suc, ◌+◌, ◌<◌, ◌≤◌, Bool, true, false, cond, Option, Some, List, [], ◌∷◌, ◌++◌, length, get_or, refl, sym, ap, ◌∙◌, subst, ⊎_elim, inl, inr, arith, true≢false}
+use Rattle.std.proofs.Common.{◌≡◌, ℕ, zero, suc, ◌+◌, ◌<◌, Bool, true, false, cond, Some, List, [], ◌∷◌, ◌++◌, length, get_or, refl, sym, ap, ◌∙◌, subst, ⊎_elim, arith}
 use Rattle.std.specs.Prelude.{Contains, replicate, slice_get}
 use Rattle.std.proofs.lemmas.Bool.{cases_lt}
 use Rattle.std.proofs.lemmas.List.{length-replicate, length_push}
 use Rattle.std.proofs.lemmas.List.Elements.{Contains-push, Contains-push_cases, Contains-append_left}
 use Rattle.history_core.proofs.Members.{contains_none}
-use Rattle.atomic_table.specs.declared.shared.Seat.{Seat}
 use Rattle.term_model.specs.declared.Row.{Row}
 use Rattle.mark_phase.specs.Reachable.{Reaches, itself, child, IsClosed, AddsReached}
 use Rattle.store_model.specs.declared.view.Place.{Place}
@@ -13,7 +12,6 @@ use Rattle.store_model.specs.declared.view.Place.TheVariants.{RowWord, RootCount
 use Rattle.store_model.specs.Marks.{IsMarked, MarksReached}
 use Rattle.store_model.specs.Steps.{ReachesByWords, protected_row, argument_row}
 use Rattle.store_model.proofs.Marked.{none_marked}
-use Rattle.node_rows.specs.declared.view.NodeView.{NodeView}
 use Rattle.sweep_phase.specs.Marked.{row_of, arguments_of, children_of, MarksTo, marked_below}
 
 module _ (w : Place → ℕ) (r : ℕ) where

@@ -1,5 +1,5 @@
 -- The words that a collection has loaded are sound: what its rows that are reached say.
-use Rattle.std.proofs.Common.{◌≡◌, ◌≢◌, ◌⊎◌, ℕ, zero, suc, ◌+◌, ◌<◌, ◌≤◌, max, Bool, true, Option, None, Some, List, [], ◌∷◌, length, get_or, refl, sym, ap, ◌∙◌, subst, ⊎_elim, inl, inr, arith}
+use Rattle.std.proofs.Common.{◌≡◌, ◌⊎◌, ℕ, suc, ◌+◌, ◌<◌, ◌≤◌, true, Option, None, Some, List, length, get_or, refl, sym, ap, ◌∙◌, subst, ⊎_elim, inl, inr, arith}
 use Rattle.std.proofs.lemmas.Bool.{cases_lt}
 use Rattle.term_model.specs.declared.Head.{Head}
 use Rattle.term_model.specs.declared.Head.TheVariants.{App, Int, Nil, Cons}
@@ -9,12 +9,12 @@ use Rattle.store_model.specs.declared.view.Sizes.{Sizes}
 use Rattle.store_model.specs.declared.view.View.{View}
 use Rattle.store_model.specs.declared.view.Content.{Content}
 use Rattle.store_model.specs.declared.view.Place.{Place}
-use Rattle.store_model.specs.declared.view.Place.TheVariants.{Base, FreeCount, Claim, InUse, FreePlace, Bucket, RowWord, Birth, Next, RootCount, Root}
+use Rattle.store_model.specs.declared.view.Place.TheVariants.{InUse, Bucket, RowWord, Birth, RootCount, Root}
 use Rattle.store_model.specs.declared.view.Call.TheVariants.{Loading}
 use Rattle.store_model.specs.Words.{row_at}
 use Rattle.store_model.specs.Calls.{words_of, IsOver}
-use Rattle.store_model.specs.Machine.{State, In, widest}
-use Rattle.store_model.specs.Meaning.{Meaning, IsOlder, Linked}
+use Rattle.store_model.specs.Machine.{State, widest}
+use Rattle.store_model.specs.Meaning.{IsOlder, Linked}
 use Rattle.store_model.specs.Invariant.{Holds}
 use Rattle.store_model.specs.MarkedChains.{HasContent}
 use Rattle.store_model.specs.Steps.{loads, value_at, ReachesByWords, protected_row, argument_row}
@@ -25,8 +25,8 @@ use Rattle.store_model.proofs.Gains.{argument_at, two_words, enough_words}
 use Rattle.node_rows.specs.Collecting.{or_zero, HasStore}
 use Rattle.node_rows.specs.declared.view.NodeView.{NodeView}
 use Rattle.sweep_phase.specs.declared.sweep.Sweep.{Sweep}
-use Rattle.sweep_phase.specs.Loaded.{begun, found, FitsRows}
-use Rattle.sweep_phase.specs.Gathered.{sizes_of, loads_of, Gathers, HasGathered}
+use Rattle.sweep_phase.specs.Loaded.{found, FitsRows}
+use Rattle.sweep_phase.specs.Gathered.{sizes_of, loads_of, HasGathered}
 use Rattle.sweep_phase.proofs.Stands.{still, there, in_use_is}
 
 -- the length of a content's words, by its count

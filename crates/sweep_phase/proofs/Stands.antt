@@ -1,5 +1,5 @@
 -- What a collection that has loaded words knows of them: that its store is sound.
-use Rattle.std.proofs.Common.{◌≡◌, ◌≢◌, ℕ, zero, suc, ◌+◌, ◌<◌, ◌≤◌, Bool, true, false, Some, List, [], ◌∷◌, ◌++◌, refl, sym, ap, ◌∙◌, subst, arith}
+use Rattle.std.proofs.Common.{◌≡◌, ◌≢◌, ℕ, zero, suc, ◌+◌, ◌≤◌, Bool, true, false, Some, List, sym, ap, ◌∙◌, subst, arith}
 use Rattle.store_model.specs.declared.view.Sizes.{Sizes}
 use Rattle.store_model.specs.declared.view.View.{View}
 use Rattle.store_model.specs.declared.view.Place.{Place}
@@ -9,7 +9,7 @@ use Rattle.store_model.specs.declared.view.Call.TheVariants.{Loading}
 use Rattle.store_model.specs.declared.view.Stay.TheVariants.{Away, Ready}
 use Rattle.store_model.specs.Machine.{State, Each}
 use Rattle.store_model.specs.Invariant.{tally, one_if, is_at}
-use Rattle.store_model.specs.Steps.{loads, value_at, is_storing, is_collecting, CoreHolds}
+use Rattle.store_model.specs.Steps.{loads, value_at, is_storing, is_collecting}
 use Rattle.store_model.specs.StoreHolds.{StoreHolds}
 use Rattle.store_model.proofs.ByWords.{value_is}
 use Rattle.store_model.proofs.CollectsKept.{words_still}

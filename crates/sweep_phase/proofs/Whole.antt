@@ -1,10 +1,8 @@
 -- A whole collection, as its pass shows it.
-use Rattle.std.proofs.Common.{◌≡◌, ◌↔◌, ℕ, suc, pred, ◌+◌, ◌<◌, ◌≤◌, ◌^◌, Bool, List, [], ◌∷◌, ◌++◌, length, refl, sym, ap, ◌∙◌, subst, arith}
-use Rattle.std.specs.Prelude.{Contains}
+use Rattle.std.proofs.Common.{◌≡◌, ℕ, suc, pred, ◌+◌, ◌≤◌, ◌^◌, Bool, List, [], ◌∷◌, ◌++◌, length, refl, sym, ap, ◌∙◌, subst, arith}
 use Rattle.atomic_table.specs.declared.shared.Seat.{Seat}
 use Rattle.atomic_table.specs.Seated.{TableId}
 use Rattle.busy_forbidden.specs.Exclusive.{IsGranted}
-use Rattle.history_core.specs.declared.entry.Entry.{Entry}
 use Rattle.history_core.specs.declared.entry.Entry.TheVariants.{Collect}
 use Rattle.history_core.specs.Entry.{IsAscending}
 use Rattle.store_model.specs.declared.view.Sizes.{Sizes}
@@ -18,7 +16,7 @@ use Rattle.node_rows.specs.declared.view.NodeView.{NodeView}
 use Rattle.node_rows.specs.Passes.{IsStore, IsPass, IsReady}
 use Rattle.node_rows.specs.Crowding.{kept_in, swept}
 use Rattle.node_rows.specs.CrowdsKept.{kept_snoc}
-use Rattle.node_rows.specs.Steps.{IsOf, Known}
+use Rattle.node_rows.specs.Steps.{Known}
 use Rattle.sweep_phase.specs.declared.sweep.Sweep.{Sweep}
 use Rattle.sweep_phase.specs.Gathered.{sizes_of, IsAlone, LoadsClaim}
 use Rattle.sweep_phase.specs.Collected.{Collects, HasKept, Ends}

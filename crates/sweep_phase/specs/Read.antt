@@ -1,5 +1,5 @@
 -- The rows with their arguments are a graph that a collection reads by loading words again, which are as they were.
-use Rattle.std.specs.Prelude.{◌≡◌, ℕ, refl, List}
+use Rattle.std.specs.Prelude.{◌≡◌, ℕ, refl}
 use Rattle.std.proofs.Common.{◌∙◌, ap, sym, subst}
 use Rattle.atomic_table.specs.declared.shared.Seat.{Seat}
 use Rattle.term_model.specs.declared.Row.{Row}

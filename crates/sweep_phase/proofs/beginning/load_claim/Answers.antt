@@ -1,4 +1,4 @@
-use Rattle.std.proofs.Common.{◌≡◌, ◌+◌, ◌≤◌, [], ◌∷◌, ◌++◌, ap, ◌∙◌, subst}
+use Rattle.std.proofs.Common.{◌+◌, ◌≤◌, [], ◌∷◌, ◌++◌, ap, ◌∙◌, subst}
 use Rattle.store_model.specs.declared.view.Place.TheVariants.{Base, Claim}
 use Rattle.store_model.specs.declared.view.Sizes.{Sizes}
 use Rattle.store_model.specs.declared.view.Call.{Call}

@@ -1,10 +1,9 @@
-use Rattle.std.proofs.Common.{◌≡◌, ◌+◌, ◌<◌, ◌≤◌, ◌^◌, sym, ap, ◌∙◌, subst, arith}
+use Rattle.std.proofs.Common.{◌+◌, ◌≤◌, ◌^◌, sym, ap, ◌∙◌, subst, arith}
 use Rattle.store_model.specs.declared.view.Sizes.{Sizes}
 use Rattle.store_model.specs.Invariant.{span}
 use Rattle.node_rows.specs.declared.store.Store.{Store}
 use Rattle.node_rows.specs.declared.view.NodeView.{NodeView}
 use Rattle.node_rows.specs.Steps.{Known}
-use Rattle.sweep_phase.specs.Gathered.{sizes_of}
 use Rattle.sweep_phase.proofs.Whole.{pass_alone, whole_only, whole_kept, whole_collects, whole_ready, whole_pass}
 use Rattle.sweep_phase.proofs.Sweeping.{ends_after}
 use Rattle.sweep_phase.proofs.collecting.collect.Goals as goal

@@ -1,7 +1,5 @@
-use Rattle.std.proofs.Common.{◌≡◌, ◌+◌, ◌<◌, length, sym, ap, subst, ◌∙◌, arith}
+use Rattle.std.proofs.Common.{length, sym, ap, subst, ◌∙◌, arith}
 use Rattle.store_model.specs.declared.view.Sizes.{Sizes}
-use Rattle.node_rows.specs.declared.view.NodeView.{NodeView}
-use Rattle.sweep_phase.specs.Gathered.{sizes_of}
 use Rattle.sweep_phase.specs.Collected.{EndsSo}
 use Rattle.sweep_phase.proofs.Whole.{whole_entries, whole_seen}
 use Rattle.sweep_phase.proofs.collecting.collect_on.Goals as goal

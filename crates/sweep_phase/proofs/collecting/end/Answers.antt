@@ -1,4 +1,3 @@
-use Rattle.sweep_phase.specs.Gathered.{sizes_of}
 use Rattle.sweep_phase.proofs.Ending.{ends_by}
 use Rattle.sweep_phase.proofs.Sweeping.{swept_ends}
 use Rattle.sweep_phase.proofs.collecting.end.Goals as goal

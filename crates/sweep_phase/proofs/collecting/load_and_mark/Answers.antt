@@ -1,7 +1,7 @@
-use Rattle.std.proofs.Common.{◌≡◌, ℕ, sym, subst}
+use Rattle.std.proofs.Common.{ℕ, sym, subst}
 use Rattle.store_model.specs.declared.view.Place.{Place}
 use Rattle.store_model.specs.Marks.{MarksReached}
-use Rattle.sweep_phase.specs.Gathered.{sizes_of, words_of}
+use Rattle.sweep_phase.specs.Gathered.{sizes_of}
 use Rattle.sweep_phase.specs.Read.{stays_in_turn}
 use Rattle.sweep_phase.proofs.collecting.load_and_mark.Goals as goal
 

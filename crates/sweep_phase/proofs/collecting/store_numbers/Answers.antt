@@ -1,5 +1,5 @@
-use Rattle.std.proofs.Common.{◌≡◌, ◌+◌, refl, sym, ap, ◌∙◌}
-use Rattle.store_model.specs.declared.view.Place.TheVariants.{Base, FreeCount, InUse}
+use Rattle.std.proofs.Common.{refl, sym, ◌∙◌}
+use Rattle.store_model.specs.declared.view.Place.TheVariants.{FreeCount, InUse}
 use Rattle.sweep_phase.specs.Stored.{seen_of}
 use Rattle.sweep_phase.proofs.Writes.{written_other, stores_in_turn, number_count, number_use, number_base, number_others}
 use Rattle.sweep_phase.proofs.collecting.store_numbers.Goals as goal

@@ -1,4 +1,4 @@
-use Rattle.std.proofs.Common.{◌≡◌, ℕ, ◌<◌, ◌≤◌, refl, sym, ap, ◌∙◌, subst, arith}
+use Rattle.std.proofs.Common.{◌≡◌, ℕ, sym, ap, ◌∙◌, subst, arith}
 use Rattle.store_model.specs.declared.view.Sizes.{Sizes}
 use Rattle.store_model.specs.declared.view.Place.{Place}
 use Rattle.store_model.specs.declared.view.Place.TheVariants.{InUse}

@@ -1,4 +1,4 @@
-use Rattle.std.proofs.Common.{◌≡◌, ◌+◌, Bool, false, cond, get_or, sym, ap, ◌∙◌}
+use Rattle.std.proofs.Common.{◌+◌, Bool, false, cond, get_or, sym, ap, ◌∙◌}
 use Rattle.std.proofs.lemmas.Bool.{true≢false}
 use Rattle.sweep_phase.proofs.Compares.{as_told}
 use Rattle.sweep_phase.proofs.comparing.compare_row.Goals as goal

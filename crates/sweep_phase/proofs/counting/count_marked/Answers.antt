@@ -1,5 +1,4 @@
-use Rattle.std.proofs.Common.{◌≡◌, ◌+◌, ◌<◌, ◌≤◌, arith}
-use Rattle.sweep_phase.proofs.Reaches.{counts_more, counts_same}
+use Rattle.std.proofs.Common.{arith}
 use Rattle.sweep_phase.proofs.counting.count_marked.Goals as goal
 
 pub overflow_add-count : goal.overflow_add-count

@@ -1,4 +1,4 @@
-use Rattle.std.proofs.Common.{◌≡◌, ◌∙◌, inr, map, sym}
+use Rattle.std.proofs.Common.{◌∙◌, inr, map, sym}
 use Rattle.sweep_phase.proofs.Since.{since_collected}
 use Rattle.sweep_phase.proofs.CrowdFull.{refused_crowds}
 use Rattle.sweep_phase.proofs.creating.create_exclusive.Goals as goal

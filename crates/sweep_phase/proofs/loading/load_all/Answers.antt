@@ -1,5 +1,3 @@
-use Rattle.store_model.specs.Steps.{loads}
-use Rattle.sweep_phase.specs.Gathered.{sizes_of, loads_of}
 use Rattle.sweep_phase.proofs.Gathering.{all_loaded}
 use Rattle.sweep_phase.proofs.Loads.{more_in_turn}
 use Rattle.sweep_phase.proofs.loading.load_all.Goals as goal

@@ -1,4 +1,4 @@
-use Rattle.std.specs.Prelude.{◌≡◌, ℕ, ◌<◌, Some}
+use Rattle.std.specs.Prelude.{ℕ, ◌<◌}
 use Rattle.store_model.specs.declared.view.Place.TheVariants.{Bucket}
 use Rattle.store_model.specs.ByView.{IsLoaded}
 use Rattle.sweep_phase.specs.Gathered.{loads_of, Gathers, LoadsMore}

@@ -1,6 +1,3 @@
-use Rattle.sweep_phase.specs.Loaded.{begun}
-use Rattle.sweep_phase.specs.Gathered.{sizes_of}
-use Rattle.sweep_phase.proofs.Stands.{root_count_few}
 use Rattle.sweep_phase.proofs.Gathering.{loaded_few}
 use Rattle.sweep_phase.proofs.loading.load_count.Goals as goal
 

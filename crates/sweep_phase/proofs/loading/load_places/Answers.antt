@@ -1,9 +1,9 @@
-use Rattle.std.proofs.Common.{◌≡◌, ℕ, suc, ◌+◌, ◌<◌, arith}
+use Rattle.std.proofs.Common.{ℕ, arith}
 use Rattle.store_model.specs.declared.view.Place.TheVariants.{FreePlace}
 use Rattle.store_model.specs.ByView.{IsLoaded}
-use Rattle.sweep_phase.specs.Gathered.{loads_of, sizes_of}
+use Rattle.sweep_phase.specs.Gathered.{loads_of}
 use Rattle.sweep_phase.proofs.Loads.{more_itself, more_in_turn}
-use Rattle.sweep_phase.proofs.Gathering.{below_more, loaded_on, row_on, roots_on}
+use Rattle.sweep_phase.proofs.Gathering.{below_more, loaded_on}
 use Rattle.sweep_phase.proofs.loading.load_places.Goals as goal
 
 pub loop-i-init : goal.loop-i-init

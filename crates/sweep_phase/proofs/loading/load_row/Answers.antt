@@ -1,5 +1,5 @@
 use Rattle.store_model.specs.declared.view.Place.TheVariants.{RowWord}
-use Rattle.sweep_phase.specs.Gathered.{sizes_of, loads_of}
+use Rattle.sweep_phase.specs.Gathered.{loads_of}
 use Rattle.sweep_phase.proofs.Gathering.{loaded_on}
 use Rattle.sweep_phase.proofs.Loads.{more_in_turn}
 use Rattle.sweep_phase.proofs.loading.load_row.Goals as goal

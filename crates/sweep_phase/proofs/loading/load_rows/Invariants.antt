@@ -1,4 +1,4 @@
-use Rattle.std.specs.Prelude.{◌≡◌, ℕ, ◌<◌, Some}
+use Rattle.std.specs.Prelude.{ℕ, ◌<◌}
 use Rattle.sweep_phase.specs.Loaded.{HasRow}
 use Rattle.sweep_phase.specs.Gathered.{loads_of, Gathers, LoadsMore, sizes_of}
 use Rattle.sweep_phase.proofs.loading.load_rows.Given as goal

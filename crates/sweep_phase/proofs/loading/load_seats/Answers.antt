@@ -1,9 +1,9 @@
-use Rattle.std.proofs.Common.{◌≡◌, ℕ, suc, ◌+◌, ◌<◌, ap, arith}
+use Rattle.std.proofs.Common.{ℕ, ap, arith}
 use Rattle.store_model.specs.declared.view.Sizes.{Sizes}
 use Rattle.sweep_phase.specs.Loaded.{HasRoots}
-use Rattle.sweep_phase.specs.Gathered.{loads_of, sizes_of}
+use Rattle.sweep_phase.specs.Gathered.{loads_of}
 use Rattle.sweep_phase.proofs.Loads.{more_itself, more_in_turn}
-use Rattle.sweep_phase.proofs.Gathering.{below_more, loaded_on, row_on, roots_on}
+use Rattle.sweep_phase.proofs.Gathering.{below_more, roots_on}
 use Rattle.sweep_phase.proofs.loading.load_seats.Goals as goal
 
 pub loop-j-init : goal.loop-j-init

@@ -1,4 +1,4 @@
-use Rattle.std.specs.Prelude.{◌≡◌, ℕ, ◌<◌, Some}
+use Rattle.std.specs.Prelude.{ℕ, ◌<◌}
 use Rattle.sweep_phase.specs.Loaded.{HasRoots}
 use Rattle.sweep_phase.specs.Gathered.{loads_of, Gathers, LoadsMore}
 use Rattle.sweep_phase.proofs.loading.load_seats.Given as goal

@@ -1,10 +1,9 @@
-use Rattle.std.proofs.Common.{◌≡◌, ℕ, ◌+◌, ◌<◌, List, Bool, refl, sym, ap, ◌∙◌, subst}
+use Rattle.std.proofs.Common.{ℕ, sym, subst}
 use Rattle.mark_phase.specs.Reachable.{AddsReached, IsClosed}
 use Rattle.store_model.specs.declared.view.Place.{Place}
-use Rattle.store_model.specs.declared.view.Place.TheVariants.{RootCount, Root}
 use Rattle.store_model.specs.Steps.{ReachesByWords, protected_row}
 use Rattle.sweep_phase.specs.Gathered.{sizes_of, words_of}
-use Rattle.sweep_phase.specs.Marked.{MarksTo, children_of, row_of}
+use Rattle.sweep_phase.specs.Marked.{children_of, row_of}
 use Rattle.sweep_phase.specs.Read.{again_in_turn}
 use Rattle.sweep_phase.proofs.Reaches.{closed_marks, marks_root}
 use Rattle.sweep_phase.proofs.marking.mark_one.Goals as goal

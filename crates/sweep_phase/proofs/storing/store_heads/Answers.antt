@@ -1,7 +1,5 @@
-use Rattle.std.proofs.Common.{◌≡◌, ℕ, ◌+◌, ◌<◌, ◌≤◌, false, get_or, refl, sym, ap, ◌∙◌, arith}
-use Rattle.store_model.specs.declared.view.Place.{Place}
-use Rattle.store_model.specs.declared.view.Place.TheVariants.{FreePlace, Bucket, Next}
-use Rattle.sweep_phase.specs.Gathered.{sizes_of}
+use Rattle.std.proofs.Common.{ℕ, get_or, refl, ap, arith}
+use Rattle.store_model.specs.declared.view.Place.TheVariants.{Bucket}
 use Rattle.sweep_phase.specs.Compared.{told_by}
 use Rattle.sweep_phase.specs.Stored.{seen_of}
 use Rattle.sweep_phase.proofs.Writes.{stores_itself, stores_in_turn, heads_more, heads_rest, head_others}

@@ -1,4 +1,4 @@
-use Rattle.std.proofs.Common.{◌≡◌, ℕ, false, get_or}
+use Rattle.std.proofs.Common.{get_or}
 use Rattle.store_model.specs.declared.view.Place.TheVariants.{Next}
 use Rattle.sweep_phase.specs.Compared.{told_by}
 use Rattle.sweep_phase.specs.Stored.{seen_of}

@@ -1,7 +1,4 @@
-use Rattle.std.proofs.Common.{◌≡◌, ℕ, ◌+◌, ◌<◌, ◌≤◌, false, get_or, refl, sym, ap, ◌∙◌, arith}
-use Rattle.store_model.specs.declared.view.Place.{Place}
-use Rattle.store_model.specs.declared.view.Place.TheVariants.{FreePlace, Bucket, Next}
-use Rattle.sweep_phase.specs.Gathered.{sizes_of}
+use Rattle.std.proofs.Common.{refl, arith}
 use Rattle.sweep_phase.specs.Stored.{seen_of}
 use Rattle.sweep_phase.proofs.Writes.{stores_itself, stores_in_turn, nexts_more, nexts_rest, next_others}
 use Rattle.sweep_phase.proofs.storing.store_nexts.Goals as goal
