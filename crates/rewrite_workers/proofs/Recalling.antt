@@ -1,5 +1,5 @@
 -- What a worker remembers from one term to the next, and how its rewriter is asked.
-use Rattle.std.proofs.Common.{◌≡◌, ◌⊎◌, inl, inr, ℕ, ◌<◌, Bool, true, false, List, [], ◌∷◌, length, Option, Some, refl, sym, ap, subst, ◌∙◌, arith}
+use Rattle.std.proofs.Common.{◌≡◌, ◌⊎◌, inl, inr, ℕ, ◌<◌, Bool, true, false, List, [], ◌∷◌, length, Option, None, Some, refl, sym, ap, subst, ◌∙◌, arith}
 use Rattle.std.specs.Prelude.{All, Result, ◌==◌, ◌&&◌}
 use Rattle.std.proofs.lemmas.Bool.{eqb-true}
 use Rattle.std.proofs.lemmas.List.Elements.{All-nil, All-cons}
@@ -24,6 +24,7 @@ use Rattle.term_lines.specs.declared.ending.Ending.{Ending}
 use Rattle.term_lines.specs.declared.rewriter.Rewriter.{Rewriter}
 use Rattle.term_lines.specs.declared.stop.LineStop.{LineStop}
 use Rattle.term_lines.proofs.Recalling.{may_still}
+use Rattle.innermost.proofs.Memories.{none_right}
 use Rattle.rewrite_workers.specs.Lined.{Told, told_of}
 use Rattle.rewrite_workers.specs.Works.{strategy_of, is_traced, are_unconditional, tells_events, remembers_results}
 use Rattle.rewrite_workers.specs.Working.{IsRewriterOf, Recalls}
@@ -133,3 +134,11 @@ module _ (s : Settings) (plan : Planned) (rewriter : Rewriter) (is : IsRewriterO
       → MadeOf kind text spent events ≡ told_of s symbols plan.rules term
   line_told symbols read term same kind text spent events t k f e =
       made_same kind _ text _ spent _ events _ k t f (e may_tell_asked) ∙ same_told symbols read term same
+
+-- where nothing is known, all that is known is right
+none_known : (remembered : Bool) (rules : List Rule) (desk : Store) (map : Map) → ((row : Row) → map row ≡ None) → MayRecall remembered rules desk map
+none_known true rules desk map none = none_right rules desk.built desk map none
+none_known false rules desk map none = tt
+
+pub recalls_nothing : (s : Settings) (rules : List Rule) (desk : Store) (map : Map) (epoch : Option ℕ) → ((row : Row) → map row ≡ None) → epoch ≡ None → Recalls s rules desk map epoch
+recalls_nothing s rules desk map epoch none e = record { right = none_known (remembers_results s rules) rules desk map none; epoch_is = λ n k. cc }

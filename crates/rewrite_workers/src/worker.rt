@@ -61,10 +61,11 @@ impl<'a, G> Drop for Job<'a, G> {
 fn rewriter_of<G>(job: &Job<G>) -> Result<Rewriter, Memory>
     ensures { IfOk result (IsRewriterOf job.now.work.settings job.now.work.plan.now) }
 {
+    let marks = SizeMarks::new(job.alloc, job.work.settings.rows)?;
     Ok(Rewriter {
         machine: Machine::new(job.alloc, job.work.plan, job.work.settings.depth)?,
         strategy: job.work.strategy(),
-        marks: SizeMarks::new(job.alloc, job.work.settings.rows)?,
+        marks,
         fuel: job.work.settings.fuel,
         sizes: job.work.settings.sizes,
         traced: job.work.traced(),
@@ -204,16 +205,14 @@ fn draw_terms<T: Terms, G: Gate, M: Memo>(
     }
 }
 
-// The same with a memory that has nothing yet.
+// The same from the start, with a memory that has nothing yet.
 fn draw_with<T: Terms, G: Gate, M: Memo + Drop>(
     job: &Job<G>,
-    mut rewriter: Rewriter,
     memo: M,
     desk: &mut T,
     share: &mut Share,
 ) -> Result<(), LineStop>
     requires may { MayWork job.now.work.plan.now job.now.work.symbols.now job.now.work.terms.now }
-    requires rewriter { IsRewriterOf job.now.work.settings job.now.work.plan.now rewriter }
     requires memo { (row : Row) → M.map memo row ≡ None }
     requires ready { IsReady job.now.work.settings job.now.work.plan.now (T.store desk.old) }
     requires fresh { IsFresh job.now.draws.now.shared.table_id (length job.now.work.terms.now)
@@ -225,6 +224,7 @@ fn draw_with<T: Terms, G: Gate, M: Memo + Drop>(
     ensures ready { IsReady job.now.work.settings job.now.work.plan.now (T.store desk.new) }
     ensures same { T.same desk.old desk.new }
 {
+    let mut rewriter = rewriter_of(job)?;
     let mut memory = Remembered::new(memo);
     draw_terms(job, &mut rewriter, &mut memory, desk, share)
 }
@@ -246,12 +246,11 @@ fn work_through<T: Terms, G: Gate>(
     ensures ready { IsReady job.now.work.settings job.now.work.plan.now (T.store desk.new) }
     ensures same { T.same desk.old desk.new }
 {
-    let rewriter = rewriter_of(job)?;
     if job.work.settings.cache == 0 {
-        return draw_with(job, rewriter, NoMemo, desk, share);
+        return draw_with(job, NoMemo, desk, share);
     }
     let memo = LruMemo::new(job.alloc, job.work.settings.cache)?;
-    draw_with(job, rewriter, memo, desk, share)
+    draw_with(job, memo, desk, share)
 }
 
 /// One worker: draws terms until none is left or it must stop, and makes the line of each. How it

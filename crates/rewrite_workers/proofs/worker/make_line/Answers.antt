@@ -81,3 +81,11 @@ returns-in-Ok-clause-line g c =
     let text = e.text ∙ ap (λ (xs : List ℕ). xs ++ line_text r.sizes work.symbols.now end) c.new-text.ensures.items in
     line_told work.settings work.plan.now c.args.rewriter.now c.requires.rewriter work.symbols.now read term same c.in-Ok.ending.kind c.write_line-made.new.out.items c.in-Ok.ending.spent c.write_line-made.new.events.items
     text e.kind e.spent e.events
+
+pub returns-in-Ok-clause-same : goal.returns-in-Ok-clause-same
+returns-in-Ok-clause-same g c =
+    g.met.T.Terms.same_in_turn _ _ _ (g.met.T.Terms.same_in_turn _ _ _ c.enter.ensures.same c.write_line-made.ensures.same) c.leave-2.ensures.same
+
+pub returns-in-Err-clause-same : goal.returns-in-Err-clause-same
+returns-in-Err-clause-same g c =
+    g.met.T.Terms.same_in_turn _ _ _ (g.met.T.Terms.same_in_turn _ _ _ c.enter.ensures.same c.write_line-made.ensures.same) c.leave-2.ensures.same
