@@ -145,14 +145,24 @@ pub(crate) fn size_of(shapes: &[Shape], rules: &[u32]) -> usize
 fn allow(tests: &[Test], place: u32, symbol: Symbol, count: u32) -> bool
     ensures { result ≡ list_all (λ (t : Test). is_allowed place symbol count t) tests.now }
 {
-    tests.iter().all(|test| test.place != place || asks_for(test, symbol, count))
+    for test in tests {
+        if test.place == place && !asks_for(test, symbol, count) {
+            return false;
+        }
+    }
+    true
 }
 
 /// Whether tests ask for no symbol at a place.
 fn pass(tests: &[Test], place: u32) -> bool
     ensures { result ≡ list_all (λ (t : Test). not (t.place == place)) tests.now }
 {
-    tests.iter().all(|test| test.place != place)
+    for test in tests {
+        if test.place == place {
+            return false;
+        }
+    }
+    true
 }
 
 /// The rules that ask for no other symbol at a place.

@@ -1,7 +1,8 @@
 use Rattle.std.proofs.Common.{◌++◌, [], ◌∷◌, get_or, sym, ◌∙◌, ap}
 use Rattle.std.specs.List.{list_all}
+use Rattle.std.proofs.lemmas.List.{take_all}
 use Rattle.rule_automaton.specs.Shapes.{tests_at}
-use Rattle.rule_automaton.specs.Automata.{is_allowed}
+use Rattle.rule_automaton.specs.Automata.{is_allowed, kept}
 use Rattle.rule_automaton.proofs.Trying.{read_shape}
 use Rattle.rule_automaton.proofs.Asked.{filter_yes, filter_no}
 use Rattle.rule_automaton.specs.declared.shapes.Test.{Test}
@@ -23,3 +24,12 @@ loop-rule-preserved c =
       | then-allow+in_ok-push w ↦ rw w.all-is (w.in_ok-push.ensures.items ∙ ap (λ xs. xs ++ r ∷ []) c.loop-rule.invariant ∙ sym (filter_yes (λ q. list_all test (tests_at shapes q)) rules i 0 l (is ∙ w.if-allow.true)))
       | else-allow w ↦ rw w.all-is (c.loop-rule.invariant ∙ sym (filter_no (λ q. list_all test (tests_at shapes q)) rules i 0 l (is ∙ w.if-allow.false)))
     ]
+
+pub bounds-shapes-rule : goal.bounds-shapes-rule
+bounds-shapes-rule c = c.requires c.loop-rule.rule-index 0 c.loop-rule-test.true
+
+pub loop-rule-init : goal.loop-rule-init
+loop-rule-init c = c.new-all.ensures.items
+
+pub returns : goal.returns
+returns c = c.loop-rule.invariant ∙ ap (λ rs. kept c.args.shapes.now c.args.place c.args.word.now.symbol c.args.word.now.count rs) (take_all c.loop-rule.rule-index c.args.rules.now c.loop-rule-test.false)

@@ -1,6 +1,6 @@
 use Rattle.std.proofs.Common.{List, get_or, subst}
-use Rattle.std.proofs.lemmas.List.{get_or_default}
-use Rattle.rule_automaton.specs.Asking.{HasWord}
+use Rattle.std.proofs.lemmas.List.{get_or_default, take_all}
+use Rattle.rule_automaton.specs.Asking.{HasWord, ArePicked}
 use Rattle.rule_automaton.proofs.Asked.{none_picked, picked_more, picked_kept}
 use Rattle.rule_automaton.specs.declared.shapes.Test.{Test}
 use Rattle.rule_automaton.proofs.asking.picked.Goals.{then-not-is_last+in_ok-push, else-not-is_last}
@@ -23,3 +23,7 @@ loop-test-preserved c =
 
 pub loop-test-init : goal.loop-test-init
 loop-test-init c = rw c.new-words.ensures.items (none_picked c.args.tests.now)
+
+pub returns : goal.returns
+returns c =
+    subst (λ ts. ArePicked c.args.tests.now ts c.loop-test.words.items) (take_all c.loop-test.test-index c.args.tests.now c.loop-test-test.false) c.loop-test.invariant
