@@ -10,7 +10,7 @@ use term_model::{Flat, Head, Item};
 
 /// A term or a pattern: a variable, or a head over terms.
 #[cycle(term)]
-#[derive(Drop)]
+#[derive(Debug, Drop)]
 pub enum Term {
     Var(u32),
     Over(Head, Arguments),
@@ -18,7 +18,7 @@ pub enum Term {
 
 /// A list of terms.
 #[cycle(term)]
-#[derive(Drop)]
+#[derive(Debug, Drop)]
 pub enum Arguments {
     Empty,
     Next(Box<Term>, Box<Arguments>),

@@ -7,7 +7,7 @@ use faults::Memory;
 use std::alloc::{AllocError, AllocFailed};
 
 /// The end of an evaluation: a value with the fuel that is left, or the end of fuel or of room.
-#[derive(Drop)]
+#[derive(Debug, Drop)]
 pub enum End {
     Value(Term, u64),
     OutOfFuel,
@@ -15,7 +15,7 @@ pub enum End {
 }
 
 /// What an evaluation built, in order, and its end.
-#[derive(Drop)]
+#[derive(Debug, Drop)]
 pub struct Evaluated {
     pub built: Vec<Term>,
     pub end: End,

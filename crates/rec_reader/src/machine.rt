@@ -126,7 +126,7 @@ impl Machine {
         }
     }
 
-    /// Gives the specifications that were read, where they may end here.
+    /// Takes out the specifications that were read, where they may end here.
     pub(crate) fn finish(&mut self, alloc: Global) -> Option<Sequence<Specification>>
         ensures { result ≡ steps.accepted self.old }
     {

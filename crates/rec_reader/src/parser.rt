@@ -39,8 +39,8 @@ fn run(
     Ok(machine.finish(alloc))
 }
 
-// The same, with a machine of its own. Dropped by name, it is one step of the proof, and not one for
-// each of its lists.
+// The specifications that tokens spell, where they may end after the last. The machine is dropped
+// by name: that is one step of the proof, and not one for each of its lists.
 fn specifications_of(
     alloc: Global,
     tokens: &[Token],
@@ -122,7 +122,7 @@ fn run_bytes(
     Ok(machine.finish(alloc))
 }
 
-// The same, with a machine of its own.
+// The specifications that the tokens of bytes spell, where they may end after the last.
 fn specifications_in(
     alloc: Global,
     bytes: &[u8],

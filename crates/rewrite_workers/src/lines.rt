@@ -3,7 +3,7 @@ use innermost::Event;
 use term_lines::LineKind;
 
 /// The line of a term.
-#[derive(Drop)]
+#[derive(Debug, Drop)]
 pub struct Line {
     /// What the line has.
     pub kind: LineKind,
@@ -16,7 +16,7 @@ pub struct Line {
 }
 
 /// The lines of all terms, one for each term, in the order of the terms.
-#[derive(Drop)]
+#[derive(Debug, Drop)]
 pub struct Lines {
     pub list: Vec<Line>,
     /// Beside each line the events that lead to its value, where they are asked; else none.

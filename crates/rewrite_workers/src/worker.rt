@@ -205,7 +205,8 @@ fn draw_terms<T: Terms, G: Gate, M: Memo>(
     }
 }
 
-// The same from the start, with a memory that has nothing yet.
+// Makes a worker's rewriter, and draws terms with it and this memory of results, which has nothing
+// yet.
 fn draw_with<T: Terms, G: Gate, M: Memo + Drop>(
     job: &Job<G>,
     memo: M,

@@ -1,5 +1,5 @@
-//! Whether rules make a plan, and terms may be normalized by it: what the calls that plan and
-//! normalize ask for, told by a program.
+//! Tests of what planning and normalizing ask for: whether rules make a plan, and whether a term may
+//! be normalized.
 #![tactic(auto)]
 
 mod rules;

@@ -18,12 +18,14 @@ pub fn may_be_planned(rules: &[Rule], widest: u32) -> bool
     rules.len() <= u32::MAX as usize && are_fit(rules, widest)
 }
 
+/// Whether each rule is one that a plan may have.
 fn are_fit(rules: &[Rule], widest: u32) -> bool
     ensures { IsTrue result ↔ All (IsFit widest) rules.now }
 {
     rules.iter().all(|rule| is_fit(rule, widest))
 }
 
+/// Whether a rule is one that a plan may have.
 fn is_fit(rule: &Rule, widest: u32) -> bool
     ensures { IsTrue result ↔ IsFit widest rule.now }
 {

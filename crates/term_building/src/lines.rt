@@ -84,7 +84,7 @@ impl Lines {
         Ok(())
     }
 
-    /// Gives what was written, with all bytes up to the end of the text.
+    /// Takes out what was written, with all bytes up to the end of the text.
     pub(crate) fn whole(&mut self, alloc: Global, text: &[u8]) -> Result<Vec<u8>, AllocError>
         ensures { IfOk result (λ lines. lines.items
             ≡ copied text.now (length text.now) self.old.written.items self.old.from) }

@@ -31,6 +31,7 @@ fn run<T: Terms>(alloc: Global, text: &[u8], most: u32, store: &mut T) -> Result
         match builder.pass(alloc, text, at, store) {
             Ok(after) => at = after,
             Err(cause) => {
+                // Dropped by name: one step of the proof; `?` takes one for each of its lists.
                 drop(builder);
                 return Err(cause);
             }

@@ -88,6 +88,7 @@ fn records_to_end(
     match roots_to_end(alloc, total, symbol_count, &found, rest) {
         Ok(roots) => Ok((found.table, roots)),
         Err(fault) => {
+            // Dropped by name: one step of the proof; `?` takes one for each of its lists.
             drop(found);
             Err(fault)
         }

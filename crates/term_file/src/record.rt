@@ -2,7 +2,7 @@
 
 /// What stands at the root of a record: a symbol by its number, an integer, the empty list or a
 /// cell.
-#[derive(Clone, Copy, PartialEq, Eq, Hash)]
+#[derive(Clone, Copy, Debug, PartialEq, Eq, Hash)]
 pub enum Kind {
     Call(u32),
     Integer(u64),
@@ -11,7 +11,7 @@ pub enum Kind {
 }
 
 /// A head over records, which are given by their numbers.
-#[derive(PartialEq, Eq, Hash, Drop)]
+#[derive(Debug, PartialEq, Eq, Hash, Drop)]
 pub struct Record {
     pub kind: Kind,
     pub arguments: Vec<u32>,

@@ -226,6 +226,7 @@ pub(crate) fn records_at<'a>(
         match record_at(alloc, total, symbols, symbol_count, &mut found, rest) {
             Ok(after) => rest = after,
             Err(fault) => {
+                // Dropped by name: one step of the proof; `?` takes one for each of its lists.
                 drop(found);
                 return Err(fault);
             }

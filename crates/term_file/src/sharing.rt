@@ -36,6 +36,7 @@ pub fn share(
         match growing.take_term(alloc, symbols, term, rows) {
             Ok(()) => {}
             Err(fault) => {
+                // Dropped by name: one step of the proof; `?` takes one for each of its lists.
                 drop(growing);
                 return Err(fault);
             }

@@ -87,6 +87,7 @@ pub(crate) fn symbols_at(
         match symbol_at(total, &mut symbols, rest) {
             Ok(after) => rest = after,
             Err(fault) => {
+                // Dropped by name: one step of the proof; `?` takes one for each of its lists.
                 drop(symbols);
                 return Err(fault);
             }
