@@ -15,7 +15,7 @@ use Rattle.rewrite_cache.specs.Cached.{IsLeastRoom}
 use Rattle.rewrite_cache.proofs.Alike.{is_known}
 use Rattle.rewrite_cache.proofs.Least.{no_less_serves}
 use Rattle.rule_match.specs.Planned.{Planned}
-use Rattle.innermost.specs.declared.compile.Code.{Code}
+use Rattle.rule_code.specs.declared.compile.Code.{Code}
 use Rattle.innermost.specs.declared.frames.Task.TheVariants.{Reduce}
 use Rattle.innermost.specs.declared.normal.Normal.TheVariants.{Value}
 use Rattle.innermost.specs.Follow.{onto}

@@ -1,4 +1,3 @@
-pub mod Pendings
 pub mod Points
 pub mod Builds
 pub mod Endings
@@ -11,14 +10,11 @@ pub mod Simple
 pub mod Runs
 pub mod Following
 pub mod Choosing
-pub mod Starts
-pub mod Spelling
 pub mod States
 pub mod Counting
 pub mod Telling
 pub mod Tellings
 pub mod Using
-pub mod Ways
 pub mod Skipping
 pub mod Constructs
 pub mod Crumbs
@@ -48,4 +44,3 @@ pub mod Sparing
 pub mod LeastRooms
 pub mod OnTop
 pub mod Joined
-pub mod Growing

@@ -10,10 +10,10 @@ use Rattle.term_model.specs.declared.Item.TheVariants.{Var}
 use Rattle.term_model.specs.declared.Head.{Head}
 use Rattle.term_model.proofs.Subtrees.{items_are_nodes}
 use Rattle.rule_match.specs.Planned.{IsPlain}
-use Rattle.innermost.specs.declared.step.Step.{Step}
-use Rattle.innermost.specs.declared.step.Step.TheVariants.{Over}
-use Rattle.innermost.specs.Code.{code}
-use Rattle.innermost.specs.Depths.{depths}
+use Rattle.rule_code.specs.declared.step.Step.{Step}
+use Rattle.rule_code.specs.declared.step.Step.TheVariants.{Over}
+use Rattle.rule_code.specs.Code.{code}
+use Rattle.rule_code.specs.Depths.{depths}
 use Rattle.innermost.specs.Whole.{place_in}
 use Rattle.innermost.specs.Trail.{node_place, place_before, IsDownAt}
 use Rattle.innermost.proofs.Evaluations.{node_step, head_of_node, lower_at}

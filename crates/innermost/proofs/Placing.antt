@@ -5,9 +5,9 @@ use Rattle.std.proofs.lemmas.Bool.{ltb-true, ltb-false}
 use Rattle.std.proofs.lemmas.List.{length-append, length-take-le, length_push, take-append-drop, take_at, get_or_at, get_or-append_right, replicate_more}
 use Rattle.term_model.specs.Tree.{Tree, Leaf, Node, Trees, End, More, count_of, is_ground, all_ground, IsGround}
 use Rattle.term_model.proofs.Order.{both_hold}
-use Rattle.innermost.specs.declared.step.Step.{Step}
-use Rattle.innermost.specs.declared.step.Step.TheVariants.{Bound, Over, Test, Chosen, Last, Give}
-use Rattle.innermost.specs.Code.{further, code, code_all}
+use Rattle.rule_code.specs.declared.step.Step.{Step}
+use Rattle.rule_code.specs.declared.step.Step.TheVariants.{Bound, Over, Test, Chosen, Last, Give}
+use Rattle.rule_code.specs.Code.{further, code, code_all}
 use Rattle.innermost.specs.Whole.{place_in}
 use Rattle.innermost.proofs.Fitting.{further_cases}
 

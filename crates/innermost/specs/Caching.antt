@@ -10,12 +10,12 @@ use Rattle.rewrite_model.specs.Evaluation.{Point, Evaluated, evaluation}
 use Rattle.rewrite_model.specs.Built.{trees_in_hand, greatest}
 use Rattle.rewrite_cache.specs.Cached.{IsCached, IsKnown, IsLeastRoom}
 use Rattle.rule_match.specs.Planned.{Planned}
-use Rattle.innermost.specs.declared.compile.Code.{Code}
+use Rattle.rule_code.specs.declared.compile.Code.{Code}
 use Rattle.innermost.specs.declared.memo.Known.{Known}
 use Rattle.innermost.specs.declared.normal.Normal.{Normal}
 use Rattle.innermost.specs.declared.normal.Normal.TheVariants as normal
 use Rattle.innermost.specs.declared.normal.RunFault.{RunFault}
-use Rattle.innermost.specs.Code.{code}
+use Rattle.rule_code.specs.Code.{code}
 use Rattle.innermost.specs.Follow.{onto}
 use Rattle.innermost.specs.State.{at_steps, whole, comes_to, reduces_to, point_of}
 use Rattle.innermost.specs.Fits.{Fits}

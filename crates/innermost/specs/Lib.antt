@@ -1,6 +1,4 @@
 pub mod Building
-pub mod Code
-pub mod Depths
 pub mod Evaluating
 pub mod Faults
 pub mod Fits
@@ -10,9 +8,7 @@ pub mod Reducing
 pub mod Matchers
 pub mod Machines
 pub mod Normalized
-pub mod Ops
 pub mod Shown
-pub mod Spelled
 pub mod Standing
 pub mod State
 pub mod Whole

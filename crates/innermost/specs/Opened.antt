@@ -6,10 +6,10 @@ use Rattle.rewrite_model.specs.Rule.{IsUnconditional}
 use Rattle.rewrite_model.specs.Run.{noting}
 use Rattle.rewrite_model.specs.Evaluation.{Point}
 use Rattle.rule_match.specs.Planned.{Planned}
-use Rattle.innermost.specs.declared.compile.Code.{Code}
+use Rattle.rule_code.specs.declared.compile.Code.{Code}
 use Rattle.innermost.specs.declared.frames.Task.{Task}
 use Rattle.innermost.specs.declared.frames.Task.TheVariants.{Reduce, Go, Return, End}
-use Rattle.innermost.specs.Code.{code}
+use Rattle.rule_code.specs.Code.{code}
 use Rattle.innermost.specs.State.{at_steps, whole, reduces_to, point_of}
 use Rattle.innermost.specs.Fits.{Fits}
 use Rattle.innermost.specs.Whole.{Origin, AreNormal, AreArguments, ToldReducing}

@@ -5,8 +5,8 @@ use Rattle.term_model.specs.declared.Head.{Head}
 use Rattle.rewrite_model.specs.Rule.{Rule}
 use Rattle.rewrite_model.specs.Run.{noting, ends, ◌>>=◌, TooDeep}
 use Rattle.rewrite_model.specs.Outermost.{build, Changed, step}
-use Rattle.innermost.specs.declared.step.Step.{Step}
-use Rattle.innermost.specs.Code.{code}
+use Rattle.rule_code.specs.declared.step.Step.{Step}
+use Rattle.rule_code.specs.Code.{code}
 use Rattle.innermost.specs.Instances.{construct}
 use Rattle.innermost.specs.Walking.{Crumb, onto, with_last, onward, pending}
 

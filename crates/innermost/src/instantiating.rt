@@ -4,7 +4,7 @@ ghost use Rattle.std.specs.Prelude.{◌≡◌, ℕ, ◌<◌, ◌≤◌, length, 
 ghost use Rattle.term_model.specs.Tree.{Tree, nodes};
 ghost use Rattle.terms_api.specs.Terms.{trees};
 ghost use Rattle.rule_match.specs.Planned.{IsPlain};
-ghost use Rattle.innermost.specs.Depths.{depths as depths_of};
+ghost use Rattle.rule_code.specs.Depths.{depths as depths_of};
 ghost use Rattle.innermost.specs.Outward.{WasGivenUp, KeepsParts};
 ghost use Rattle.innermost.specs.Instances.{Site, IsBegun, IsBuilding, HasBuilt, IsInstance};
 

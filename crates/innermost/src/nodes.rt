@@ -5,7 +5,7 @@ ghost use Rattle.term_model.specs.Tree.{IsGround, nodes};
 ghost use Rattle.term_model.specs.Postorder.{postorder, arity_of};
 ghost use Rattle.term_model.specs.declared.Item.{Item as Items};
 ghost use Rattle.rule_match.specs.Planned.{IsPlain};
-ghost use Rattle.innermost.specs.declared.step.Step.{Step as Steps};
+ghost use Rattle.rule_code.specs.declared.step.Step.{Step as Steps};
 ghost use Rattle.innermost.specs.Trail.{IsTrail, IsDownAt, node_place, place_before};
 
 use crate::trail::{Trail, lesser};

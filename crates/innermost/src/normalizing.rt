@@ -14,8 +14,6 @@ ghost use Rattle.innermost.specs.Traced.{TracedAnswers, TracedBuilds, RefusedOnl
 ghost use Rattle.innermost.specs.Machines.{IsFor, settled};
 
 use crate::caching::evaluate_with;
-use crate::coding::code_plan;
-use crate::compile::Code;
 use crate::evaluating::evaluate;
 use crate::frames::Parts;
 use crate::outward::rewrite;
@@ -25,6 +23,7 @@ use crate::trail::Telling;
 use crate::windows::Window;
 use crate::{Event, Memo, Normal, RunFault, TraceFault, tracing};
 use faults::Memory;
+use rule_code::{Code, code_plan};
 use rule_match::Plan;
 use std::alloc::Global;
 use std::marker::Model;
@@ -45,7 +44,7 @@ impl Model for Machine {
     ghost use Rattle.std.specs.Prelude.{◌<◌, ◌≤◌, length, vec_capacity};
     ghost use Rattle.innermost.specs.BuiltTrees.{BuildsTrees};
     ghost use Rattle.innermost.specs.Machines.{Made};
-    ghost use Rattle.innermost.specs.Ops.{AreOps};
+    ghost use Rattle.rule_code.specs.Ops.{AreOps};
 
     ghost Value = { Made };
 

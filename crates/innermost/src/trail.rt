@@ -4,15 +4,15 @@ ghost use Rattle.std.specs.Prelude.{◌≡◌, ℕ, ◌+◌, ◌-◌, ◌<◌, �
 ghost use Rattle.rewrite_model.specs.Trace.{moves as moves_of, ups, downs};
 ghost use Rattle.rewrite_model.specs.declared.event.Event.TheVariants as event;
 ghost use Rattle.innermost.specs.declared.frames.Frame.{Frame as Frames};
-ghost use Rattle.innermost.specs.declared.step.Step.{Step as Steps};
+ghost use Rattle.rule_code.specs.declared.step.Step.{Step as Steps};
 ghost use Rattle.innermost.specs.Tasks.{KeepsOthers};
 ghost use Rattle.innermost.specs.Trail.{HasShared, IsTrail};
 
 use crate::Event;
 use crate::frames::Frame;
 use crate::places::push_place;
-use crate::step::Step;
 use faults::Memory;
+use rule_code::Step;
 use std::alloc::Global;
 
 /// Where a rule was used last in a term, and where the tree stands that is reduced.
@@ -169,8 +169,8 @@ fn push_moves(from: &[u32], to: &[u32], same: usize, moves: &mut Vec<Event>) -> 
     push_downs(&to[shared..], moves)
 }
 
-/// Lists the events of a use of a rule at the end of a way: the moves to it from a position, where
-/// so many of the first are the same, and the use.
+/// Makes `moves` the events of a use of the rule at `to`: the moves there from `from`, of which the
+/// first `same` numbers agree, and the use.
 fn list_use(
     from: &[u32],
     to: &[u32],
@@ -187,7 +187,7 @@ fn list_use(
     Ok(())
 }
 
-/// Makes a position that of the end of a way, where so many of the first are the same.
+/// Makes the cursor equal to the way. Their first `same` numbers agree already.
 fn go_along(cursor: &mut Vec<u32>, way: &[u32], same: usize) -> Result<(), Memory>
     requires { HasShared cursor.old.items way.now same }
     ensures { OnOk result (cursor.new.items ≡ way.now) }

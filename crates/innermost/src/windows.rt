@@ -3,11 +3,11 @@
 ghost use Rattle.std.specs.Prelude.{◌≡◌, ℕ, ◌<◌, ◌≤◌, length, IfOk, vec_capacity, slice_index};
 ghost use Rattle.term_model.specs.Tree.{nodes};
 ghost use Rattle.rule_match.specs.Planned.{IsPlain};
-ghost use Rattle.innermost.specs.Depths.{depths as depths_of};
+ghost use Rattle.rule_code.specs.Depths.{depths as depths_of};
 ghost use Rattle.innermost.specs.Shown.{Shows};
 
-use crate::depths::{Pending, find_depths};
 use faults::Memory;
+use rule_code::{Pending, find_depths};
 use std::alloc::Global;
 use term_model::Flat;
 
@@ -23,7 +23,7 @@ pub(crate) struct Window {
 }
 
 impl Window {
-    /// A window for terms that are evaluated in so much room.
+    /// A window for terms that are evaluated in this room.
     pub(crate) fn of(alloc: Global, room: usize) -> Result<Self, Memory>
         ensures room { IfOk result (λ window. room ≤ vec_capacity window.path) }
         ensures some { IfOk result (λ window. 0 < length window.depths.items) }

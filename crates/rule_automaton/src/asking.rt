@@ -145,6 +145,7 @@ pub(crate) fn size_of(shapes: &[Shape], rules: &[u32]) -> usize
 fn allow(tests: &[Test], place: u32, symbol: Symbol, count: u32) -> bool
     ensures { result ≡ list_all (λ (t : Test). is_allowed place symbol count t) tests.now }
 {
+    // A loop is cheaper to prove than a closure.
     for test in tests {
         if test.place == place && !asks_for(test, symbol, count) {
             return false;
@@ -157,6 +158,7 @@ fn allow(tests: &[Test], place: u32, symbol: Symbol, count: u32) -> bool
 fn pass(tests: &[Test], place: u32) -> bool
     ensures { result ≡ list_all (λ (t : Test). not (t.place == place)) tests.now }
 {
+    // A loop is cheaper to prove than a closure.
     for test in tests {
         if test.place == place {
             return false;

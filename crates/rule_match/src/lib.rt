@@ -1,5 +1,5 @@
-//! Plans of rules, which have rules by the head of their left side and each left side in preorder,
-//! and whether a symbol stands at a stored row.
+//! Plans of rules: the rules by the head of their left side, and each left side in preorder. Also
+//! whether a symbol stands at a stored row.
 #![tactic(auto)]
 
 mod compiling;

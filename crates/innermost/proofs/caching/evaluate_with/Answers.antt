@@ -1,4 +1,4 @@
-use Rattle.std.proofs.Common.{◌∙◌, subst, arith, refl, rules, ℕ, ◌≤◌, sym}
+use Rattle.std.proofs.Common.{◌∙◌, subst, arith, refl, ℕ, ◌≤◌, sym}
 use Rattle.std.proofs.lemmas.Result.{err_from_is_err_and}
 use Rattle.innermost.specs.declared.normal.Normal.{Normal}
 use Rattle.innermost.specs.Caching.{CachesNext}
@@ -25,10 +25,18 @@ nodes-init g c =
       same = g.met.T.Terms.same_as_itself _;
     }
 
-pub returns-in_err-end-clause-fault : goal.returns-in_err-end-clause-fault
-returns-in_err-end-clause-fault g c =
+pub returns-in_err-end : goal.returns-in_err-end
+returns-in_err-end g c =
     let p = err_from_is_err_and c.from_residual.result c.from_residual.ensures.1 in
-    rw (p.1, p.2) (c.in_err-end.ensures.fault _ _ c.nodes.invariant.state)
+    record {
+      state = rw p.1 tt;
+      fault = rw (p.1, p.2) (c.in_err-end.ensures.fault _ _ c.nodes.invariant.state);
+      frames_room = c.cache_node.ensures.frames_room ∙ c.nodes.invariant.frames_room;
+      matcher = c.cache_node.ensures.matcher ∙ c.nodes.invariant.matcher;
+      path_room = c.depth_at-down.ensures.room;
+      window = c.depth_at-down.ensures.some;
+      same = g.met.T.Terms.same_in_turn _ _ _ c.nodes.invariant.same c.cache_node.ensures.same;
+    }
 
 pub returns-in_default : goal.returns-in_default
 returns-in_default g c =
@@ -65,59 +73,34 @@ nodes-preserved g c =
       same = g.met.T.Terms.same_in_turn _ _ _ i.same e.same;
     }
 
-pub returns-clause-state : goal.returns-clause-state
-returns-clause-state g c =
-    caching_all c.args.plan.now c.args.code.now (g.T.Terms.store c.args.terms.now) c.args.term.now c.args.parts.now.left (g.M.Memo.map c.nodes.memo) c.nodes.epoch c.nodes.at c.nodes.parts.left (g.T.Terms.store c.nodes.terms) (omega (arith, c.node_count-count.ensures.nodes, c.nodes-test.false)) c.nodes.invariant.within c.nodes.invariant.state
+pub returns : goal.returns
+returns g c = record {
+  state = caching_all c.args.plan.now c.args.code.now (g.T.Terms.store c.args.terms.now) c.args.term.now c.args.parts.now.left (g.M.Memo.map c.nodes.memo) c.nodes.epoch c.nodes.at c.nodes.parts.left (g.T.Terms.store c.nodes.terms) (omega (arith, c.node_count-count.ensures.nodes, c.nodes-test.false)) c.nodes.invariant.within c.nodes.invariant.state;
+  fault = tt;
+  frames_room = c.nodes.invariant.frames_room;
+  matcher = c.nodes.invariant.matcher;
+  path_room = c.nodes.invariant.path_room;
+  window = c.nodes.invariant.window;
+  same = c.nodes.invariant.same;
+}
 
-pub returns-in_err-end-clause-state : goal.returns-in_err-end-clause-state
-returns-in_err-end-clause-state g c =
-    let p = err_from_is_err_and c.from_residual.result c.from_residual.ensures.1 in
-    rw p.1 tt
+pub depth_at-down-requires : goal.depth_at-down-requires
+depth_at-down-requires g c = record {
+  plain = (c.args.plan.now.widest, c.requires.plain);
+  node = omega (arith, c.node_count-count.ensures.nodes, c.nodes-test.true);
+  some = c.nodes.invariant.window;
+  room = c.nodes.invariant.path_room;
+  shows = c.nodes.invariant.shows;
+}
 
-pub returns-in_err-end-clause-frames_room : goal.returns-in_err-end-clause-frames_room
-returns-in_err-end-clause-frames_room g c = search rules
-
-pub returns-in_err-end-clause-matcher : goal.returns-in_err-end-clause-matcher
-returns-in_err-end-clause-matcher g c = search rules
-
-pub returns-in_err-end-clause-path_room : goal.returns-in_err-end-clause-path_room
-returns-in_err-end-clause-path_room g c = search rules
-
-pub returns-in_err-end-clause-window : goal.returns-in_err-end-clause-window
-returns-in_err-end-clause-window g c = search rules
-
-pub returns-in_err-end-clause-same : goal.returns-in_err-end-clause-same
-returns-in_err-end-clause-same g c = g.met.T.Terms.same_in_turn _ _ _ c.nodes.invariant.same c.cache_node.ensures.same
-
-pub returns-clause-same : goal.returns-clause-same
-returns-clause-same g c = c.nodes.invariant.same
-
-pub depth_at-down-requires-clause-plain : goal.depth_at-down-requires-clause-plain
-depth_at-down-requires-clause-plain g c = (c.args.plan.now.widest, c.requires.plain)
-
-pub depth_at-down-requires-clause-node : goal.depth_at-down-requires-clause-node
-depth_at-down-requires-clause-node g c = omega (arith, c.node_count-count.ensures.nodes, c.nodes-test.true)
-
-pub depth_at-down-requires-clause-some : goal.depth_at-down-requires-clause-some
-depth_at-down-requires-clause-some g c = c.nodes.invariant.window
-
-pub depth_at-down-requires-clause-room : goal.depth_at-down-requires-clause-room
-depth_at-down-requires-clause-room g c = c.nodes.invariant.path_room
-
-pub depth_at-down-requires-clause-shows : goal.depth_at-down-requires-clause-shows
-depth_at-down-requires-clause-shows g c = c.nodes.invariant.shows
-
-pub cache_node-requires-clause-inside : goal.cache_node-requires-clause-inside
-cache_node-requires-clause-inside g c = c.nodes.invariant.inside
-
-pub cache_node-requires-clause-node : goal.cache_node-requires-clause-node
-cache_node-requires-clause-node g c = omega (arith, c.node_count-count.ensures.nodes, c.nodes-test.true)
-
-pub cache_node-requires-clause-down : goal.cache_node-requires-clause-down
-cache_node-requires-clause-down g c = c.depth_at-down.ensures.depth
-
-pub cache_node-requires-clause-frames_room : goal.cache_node-requires-clause-frames_room
-cache_node-requires-clause-frames_room g c = subst (λ (n : ℕ). c.args.code.now.depth ≤ n) (sym c.nodes.invariant.frames_room) c.requires.frames_room
-
-pub cache_node-requires-clause-matcher : goal.cache_node-requires-clause-matcher
-cache_node-requires-clause-matcher g c = subst (IsAutomaton c.args.plan.now.rules) (sym c.nodes.invariant.matcher) c.requires.matcher
+pub cache_node-requires : goal.cache_node-requires
+cache_node-requires g c = record {
+  inside = c.nodes.invariant.inside;
+  frames_room = subst (λ (n : ℕ). c.args.code.now.depth ≤ n) (sym c.nodes.invariant.frames_room) c.requires.frames_room;
+  matcher = subst (IsAutomaton c.args.plan.now.rules) (sym c.nodes.invariant.matcher) c.requires.matcher;
+  node = omega (arith, c.node_count-count.ensures.nodes, c.nodes-test.true);
+  no_variables = c.requires.no_variables;
+  plain = c.requires.plain;
+  down = c.depth_at-down.ensures.depth;
+  state = (_, _, c.nodes.invariant.state);
+}

@@ -10,28 +10,34 @@ use Rattle.innermost.proofs.instantiating.build_node.Goals as goal
 pub returns-then-room-down-clause-state : goal.returns-then-room-down-clause-state
 returns-then-room-down-clause-state g c = λ site b. site_stops site (g.T.Terms.store c.args.terms.now) c.args.rows.now c.args.pattern.now c.args.room c.args.at b c.args.limit c.args.down (omega (arith, c.ranges.limit.fits)) c.requires.limit c.requires.node c.requires.down (omega (arith, c.if-room-down.true))
 
+pub returns-then-room-down-clause-same : goal.returns-then-room-down-clause-same
+returns-then-room-down-clause-same g c = g.met.T.Terms.same_as_itself _
+
 pub item_at-item-requires : goal.item_at-item-requires
 item_at-item-requires g c = omega (arith, c.requires.node, ap length c.items.ensures.items, items_are_nodes c.args.pattern.now)
 
 pub bounds-rows-variable : goal.bounds-rows-variable
 bounds-rows-variable g c = let s = c.requires.state in var_within s.0 (g.T.Terms.store c.args.terms.now) c.args.rows.now c.args.pattern.now c.args.room c.args.at s.1 c.args.limit c.args.down (omega (arith, c.ranges.limit.fits)) c.requires.limit c.requires.node c.requires.down c.item_at-item.result (c.item_at-item.ensures ∙ ap (λ (is : List Item). get_or is c.args.at c.item_at-item.result) c.items.ensures.items) (omega (arith, c.if-room-down.false)) c.in-Var.variable c.in-Var.is
 
-pub put-requires-clause-held : goal.put-requires-clause-held
-put-requires-clause-held g c =
+pub put-requires : goal.put-requires
+put-requires g c =
     let s = c.requires.state in
     let l = var_within s.0 (g.T.Terms.store c.args.terms.now) c.args.rows.now c.args.pattern.now c.args.room c.args.at s.1 c.args.limit c.args.down (omega (arith, c.ranges.limit.fits)) c.requires.limit c.requires.node c.requires.down c.item_at-item.result (c.item_at-item.ensures ∙ ap (λ (is : List Item). get_or is c.args.at c.item_at-item.result) c.items.ensures.items) (omega (arith, c.if-room-down.false)) c.in-Var.variable c.in-Var.is in
-    var_held s.0 (g.T.Terms.store c.args.terms.now) c.args.rows.now c.args.pattern.now c.args.room c.args.at s.1 c.args.limit c.args.down (omega (arith, c.ranges.limit.fits)) c.requires.limit c.requires.node c.requires.down c.item_at-item.result (c.item_at-item.ensures ∙ ap (λ (is : List Item). get_or is c.args.at c.item_at-item.result) c.items.ensures.items) (omega (arith, c.if-room-down.false)) c.in-Var.variable c.in-Var.is _ (get_or_default c.args.rows.now c.in-Var.variable _ _ l)
+    record {
+      inside = c.requires.inside;
+      held = var_held s.0 (g.T.Terms.store c.args.terms.now) c.args.rows.now c.args.pattern.now c.args.room c.args.at s.1 c.args.limit c.args.down (omega (arith, c.ranges.limit.fits)) c.requires.limit c.requires.node c.requires.down c.item_at-item.result (c.item_at-item.ensures ∙ ap (λ (is : List Item). get_or is c.args.at c.item_at-item.result) c.items.ensures.items) (omega (arith, c.if-room-down.false)) c.in-Var.variable c.in-Var.is _ (get_or_default c.args.rows.now c.in-Var.variable _ _ l);
+      place = let s = c.requires.state in var_place s.0 (g.T.Terms.store c.args.terms.now) c.args.rows.now c.args.pattern.now c.args.room c.args.at s.1 c.args.limit c.args.down (omega (arith, c.ranges.limit.fits)) c.requires.limit c.requires.node c.requires.down c.item_at-item.result (c.item_at-item.ensures ∙ ap (λ (is : List Item). get_or is c.args.at c.item_at-item.result) c.items.ensures.items) (omega (arith, c.if-room-down.false)) c.in-Var.variable c.in-Var.is;
+    }
 
-pub put-requires-clause-place : goal.put-requires-clause-place
-put-requires-clause-place g c = let s = c.requires.state in var_place s.0 (g.T.Terms.store c.args.terms.now) c.args.rows.now c.args.pattern.now c.args.room c.args.at s.1 c.args.limit c.args.down (omega (arith, c.ranges.limit.fits)) c.requires.limit c.requires.node c.requires.down c.item_at-item.result (c.item_at-item.ensures ∙ ap (λ (is : List Item). get_or is c.args.at c.item_at-item.result) c.items.ensures.items) (omega (arith, c.if-room-down.false)) c.in-Var.variable c.in-Var.is
-
-pub returns-in-Var-clause-state : goal.returns-in-Var-clause-state
-returns-in-Var-clause-state g c = λ site b.
-    let l = var_within site (g.T.Terms.store c.args.terms.now) c.args.rows.now c.args.pattern.now c.args.room c.args.at b c.args.limit c.args.down (omega (arith, c.ranges.limit.fits)) c.requires.limit c.requires.node c.requires.down c.item_at-item.result (c.item_at-item.ensures ∙ ap (λ (is : List Item). get_or is c.args.at c.item_at-item.result) c.items.ensures.items) (omega (arith, c.if-room-down.false)) c.in-Var.variable c.in-Var.is in
-    var_builds site (g.T.Terms.store c.args.terms.now) c.args.rows.now c.args.pattern.now c.args.room c.args.at b c.args.limit c.args.down (omega (arith, c.ranges.limit.fits)) c.requires.limit c.requires.node c.requires.down c.item_at-item.result (c.item_at-item.ensures ∙ ap (λ (is : List Item). get_or is c.args.at c.item_at-item.result) c.items.ensures.items) (omega (arith, c.if-room-down.false)) c.in-Var.variable c.in-Var.is (g.T.Terms.store c.put.new.self) _ (get_or_default c.args.rows.now c.in-Var.variable _ _ l) c.put.ensures.pushed c.put.ensures.sound
-
-pub returns-in-Var-clause-keeps : goal.returns-in-Var-clause-keeps
-returns-in-Var-clause-keeps g c = λ root k. keeps_pushed (g.T.Terms.store c.args.terms.now) (g.T.Terms.store c.put.new.self) root _ c.put.ensures.pushed
+pub returns-in-Var : goal.returns-in-Var
+returns-in-Var g c = record {
+  state = λ site b.
+      let l = var_within site (g.T.Terms.store c.args.terms.now) c.args.rows.now c.args.pattern.now c.args.room c.args.at b c.args.limit c.args.down (omega (arith, c.ranges.limit.fits)) c.requires.limit c.requires.node c.requires.down c.item_at-item.result (c.item_at-item.ensures ∙ ap (λ (is : List Item). get_or is c.args.at c.item_at-item.result) c.items.ensures.items) (omega (arith, c.if-room-down.false)) c.in-Var.variable c.in-Var.is in
+      var_builds site (g.T.Terms.store c.args.terms.now) c.args.rows.now c.args.pattern.now c.args.room c.args.at b c.args.limit c.args.down (omega (arith, c.ranges.limit.fits)) c.requires.limit c.requires.node c.requires.down c.item_at-item.result (c.item_at-item.ensures ∙ ap (λ (is : List Item). get_or is c.args.at c.item_at-item.result) c.items.ensures.items) (omega (arith, c.if-room-down.false)) c.in-Var.variable c.in-Var.is (g.T.Terms.store c.put.new.self) _ (get_or_default c.args.rows.now c.in-Var.variable _ _ l) c.put.ensures.pushed c.put.ensures.sound;
+  fault = tt;
+  keeps = λ root k. keeps_pushed (g.T.Terms.store c.args.terms.now) (g.T.Terms.store c.put.new.self) root _ c.put.ensures.pushed;
+  same = c.put.ensures.same;
+}
 
 pub build_at-requires : goal.build_at-requires
 build_at-requires g c =
@@ -60,9 +66,3 @@ returns g c =
       keeps = c.build_at.ensures.keeps;
       same = c.build_at.ensures.same;
     }
-
-pub returns-then-room-down-clause-same : goal.returns-then-room-down-clause-same
-returns-then-room-down-clause-same g c = g.met.T.Terms.same_as_itself _
-
-pub returns-in-Var-clause-same : goal.returns-in-Var-clause-same
-returns-in-Var-clause-same g c = c.put.ensures.same

@@ -19,21 +19,34 @@ nodes-init g c =
       same = g.met.T.Terms.same_as_itself _;
     }
 
-pub returns-in_err-build_node-clause-keeps : goal.returns-in_err-build_node-clause-keeps
-returns-in_err-build_node-clause-keeps g c = λ root k r t part h.
-    let s = c.requires.state in
-    let i = c.nodes.invariant in
-    c.build_node.ensures.keeps root (site_contains s.0 (g.T.Terms.store c.args.terms.now) (g.T.Terms.store c.nodes.terms) c.args.rows.now c.args.pattern.now c.args.room c.nodes.at root s.1 (i.state s.0 s.1) k) r t part (i.keeps root k r t part h)
+pub returns-in_err-build_node : goal.returns-in_err-build_node
+returns-in_err-build_node g c =
+    let p = err_from_is_err_and c.from_residual.result c.from_residual.ensures.1 in
+    record {
+      state = rw p.1 tt;
+      fault = rw (p.1, p.2) (λ site b. c.in_err-build_node.ensures.fault site (c.nodes.invariant.state site b));
+      keeps = λ root k r t part h.
+          let s = c.requires.state in
+          let i = c.nodes.invariant in
+          c.build_node.ensures.keeps root (site_contains s.0 (g.T.Terms.store c.args.terms.now) (g.T.Terms.store c.nodes.terms) c.args.rows.now c.args.pattern.now c.args.room c.nodes.at root s.1 (i.state s.0 s.1) k) r t part (i.keeps root k r t part h);
+      path_room = c.depth_at-down.ensures.room;
+      window = c.depth_at-down.ensures.some;
+      same = g.met.T.Terms.same_in_turn _ _ _ c.nodes.invariant.same c.build_node.ensures.same;
+    }
 
-pub returns-then-not-branch-clause-keeps : goal.returns-then-not-branch-clause-keeps
-returns-then-not-branch-clause-keeps g c = λ root k r t part h.
-    let s = c.requires.state in
-    let i = c.nodes.invariant in
-    c.build_node.ensures.keeps root (site_contains s.0 (g.T.Terms.store c.args.terms.now) (g.T.Terms.store c.nodes.terms) c.args.rows.now c.args.pattern.now c.args.room c.nodes.at root s.1 (i.state s.0 s.1) k) r t part (i.keeps root k r t part h)
-
-pub returns-then-not-branch-clause-state : goal.returns-then-not-branch-clause-state
-returns-then-not-branch-clause-state g c = λ site b.
-    subst (λ x. HasBuilt site (g.T.Terms.store c.build_node.new.terms) c.args.rows.now c.args.pattern.now c.args.room c.nodes.at x) c.if-not-branch.true (c.in_ok-build_node.ensures.state site (c.nodes.invariant.state site b))
+pub returns-then-not-branch : goal.returns-then-not-branch
+returns-then-not-branch g c = record {
+  state = λ site b.
+      subst (λ x. HasBuilt site (g.T.Terms.store c.build_node.new.terms) c.args.rows.now c.args.pattern.now c.args.room c.nodes.at x) c.if-not-branch.true (c.in_ok-build_node.ensures.state site (c.nodes.invariant.state site b));
+  fault = tt;
+  keeps = λ root k r t part h.
+      let s = c.requires.state in
+      let i = c.nodes.invariant in
+      c.build_node.ensures.keeps root (site_contains s.0 (g.T.Terms.store c.args.terms.now) (g.T.Terms.store c.nodes.terms) c.args.rows.now c.args.pattern.now c.args.room c.nodes.at root s.1 (i.state s.0 s.1) k) r t part (i.keeps root k r t part h);
+  path_room = c.depth_at-down.ensures.room;
+  window = c.depth_at-down.ensures.some;
+  same = g.met.T.Terms.same_in_turn _ _ _ c.nodes.invariant.same c.build_node.ensures.same;
+}
 
 pub nodes-preserved : goal.nodes-preserved
 nodes-preserved g c =
@@ -51,55 +64,31 @@ nodes-preserved g c =
       same = g.met.T.Terms.same_in_turn _ _ _ i.same c.in_ok-build_node.ensures.same;
     }
 
-pub returns-clause-state : goal.returns-clause-state
-returns-clause-state g c = λ site b.
-    site_ends site (g.T.Terms.store c.nodes.terms) c.args.rows.now c.args.pattern.now c.args.room c.nodes.at (omega (arith, c.node_count-count.ensures.nodes, c.nodes-test.false)) c.nodes.invariant.within (c.nodes.invariant.state site b)
+pub returns : goal.returns
+returns g c = record {
+  state = λ site b.
+      site_ends site (g.T.Terms.store c.nodes.terms) c.args.rows.now c.args.pattern.now c.args.room c.nodes.at (omega (arith, c.node_count-count.ensures.nodes, c.nodes-test.false)) c.nodes.invariant.within (c.nodes.invariant.state site b);
+  fault = tt;
+  keeps = c.nodes.invariant.keeps;
+  path_room = c.nodes.invariant.path_room;
+  window = c.nodes.invariant.window;
+  same = c.nodes.invariant.same;
+}
 
-pub returns-in_err-build_node-clause-state : goal.returns-in_err-build_node-clause-state
-returns-in_err-build_node-clause-state g c =
-    let p = err_from_is_err_and c.from_residual.result c.from_residual.ensures.1 in
-    rw p.1 tt
+pub depth_at-down-requires : goal.depth_at-down-requires
+depth_at-down-requires g c = record {
+  plain = c.requires.plain;
+  node = omega (arith, c.node_count-count.ensures.nodes, c.nodes-test.true);
+  some = c.nodes.invariant.window;
+  room = c.nodes.invariant.path_room;
+  shows = c.nodes.invariant.shows;
+}
 
-pub returns-in_err-build_node-clause-fault : goal.returns-in_err-build_node-clause-fault
-returns-in_err-build_node-clause-fault g c =
-    let p = err_from_is_err_and c.from_residual.result c.from_residual.ensures.1 in
-    rw (p.1, p.2) (λ site b. c.in_err-build_node.ensures.fault site (c.nodes.invariant.state site b))
-
-pub returns-in_err-build_node-clause-path_room : goal.returns-in_err-build_node-clause-path_room
-returns-in_err-build_node-clause-path_room g c = c.depth_at-down.ensures.room
-
-pub returns-in_err-build_node-clause-window : goal.returns-in_err-build_node-clause-window
-returns-in_err-build_node-clause-window g c = c.depth_at-down.ensures.some
-
-pub returns-in_err-build_node-clause-same : goal.returns-in_err-build_node-clause-same
-returns-in_err-build_node-clause-same g c = g.met.T.Terms.same_in_turn _ _ _ c.nodes.invariant.same c.build_node.ensures.same
-
-pub returns-then-not-branch-clause-same : goal.returns-then-not-branch-clause-same
-returns-then-not-branch-clause-same g c = g.met.T.Terms.same_in_turn _ _ _ c.nodes.invariant.same c.build_node.ensures.same
-
-pub returns-clause-same : goal.returns-clause-same
-returns-clause-same g c = c.nodes.invariant.same
-
-pub depth_at-down-requires-clause-plain : goal.depth_at-down-requires-clause-plain
-depth_at-down-requires-clause-plain g c = c.requires.plain
-
-pub depth_at-down-requires-clause-node : goal.depth_at-down-requires-clause-node
-depth_at-down-requires-clause-node g c = omega (arith, c.node_count-count.ensures.nodes, c.nodes-test.true)
-
-pub depth_at-down-requires-clause-some : goal.depth_at-down-requires-clause-some
-depth_at-down-requires-clause-some g c = c.nodes.invariant.window
-
-pub depth_at-down-requires-clause-room : goal.depth_at-down-requires-clause-room
-depth_at-down-requires-clause-room g c = c.nodes.invariant.path_room
-
-pub depth_at-down-requires-clause-shows : goal.depth_at-down-requires-clause-shows
-depth_at-down-requires-clause-shows g c = c.nodes.invariant.shows
-
-pub build_node-requires-clause-inside : goal.build_node-requires-clause-inside
-build_node-requires-clause-inside g c = c.nodes.invariant.inside
-
-pub build_node-requires-clause-node : goal.build_node-requires-clause-node
-build_node-requires-clause-node g c = omega (arith, c.node_count-count.ensures.nodes, c.nodes-test.true)
-
-pub build_node-requires-clause-down : goal.build_node-requires-clause-down
-build_node-requires-clause-down g c = c.depth_at-down.ensures.depth
+pub build_node-requires : goal.build_node-requires
+build_node-requires g c = record {
+  inside = c.nodes.invariant.inside;
+  node = omega (arith, c.node_count-count.ensures.nodes, c.nodes-test.true);
+  limit = c.requires.limit;
+  down = c.depth_at-down.ensures.depth;
+  state = (c.requires.state.0, c.nodes.invariant.state c.requires.state.0 c.requires.state.1);
+}

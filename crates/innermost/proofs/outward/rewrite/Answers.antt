@@ -1,4 +1,4 @@
-use Rattle.std.proofs.Common.{◌∙◌, subst, arith, refl, Option, rules}
+use Rattle.std.proofs.Common.{◌∙◌, subst, arith, refl, Option}
 use Rattle.std.proofs.lemmas.Result.{err_from_is_err_and}
 use Rattle.innermost.specs.declared.normal.Normal.{Normal}
 use Rattle.innermost.specs.Instances.{IsInstance}
@@ -9,14 +9,29 @@ use Rattle.innermost.proofs.outward.rewrite.Goals as goal
 pub instantiate-requires-clause-state : goal.instantiate-requires-clause-state
 instantiate-requires-clause-state g c = ((term_site c.args.plan.now c.args.term.now c.args.fuel c.args.depth (g.T.Terms.store c.args.terms.now)), (term_begins c.args.plan.now c.args.term.now c.args.fuel c.args.depth (g.T.Terms.store c.args.terms.now) c.requires.sound c.requires.inside c.requires.no_variables c.requires.plain c.requires.wide c.requires.free (omega (arith, c.ranges.depth.fits))))
 
-pub returns-in_err-instantiate-clause-fault : goal.returns-in_err-instantiate-clause-fault
-returns-in_err-instantiate-clause-fault g c =
+pub returns-in_err-instantiate : goal.returns-in_err-instantiate
+returns-in_err-instantiate g c =
     let p = err_from_is_err_and c.from_residual.result c.from_residual.ensures.1 in
-    rw (p.1, p.2) (c.in_err-instantiate.ensures.fault (term_site c.args.plan.now c.args.term.now c.args.fuel c.args.depth (g.T.Terms.store c.args.terms.now)) (term_begins c.args.plan.now c.args.term.now c.args.fuel c.args.depth (g.T.Terms.store c.args.terms.now) c.requires.sound c.requires.inside c.requires.no_variables c.requires.plain c.requires.wide c.requires.free (omega (arith, c.ranges.depth.fits))))
+    record {
+      state = rw p.1 tt;
+      fault = rw (p.1, p.2) (c.in_err-instantiate.ensures.fault (term_site c.args.plan.now c.args.term.now c.args.fuel c.args.depth (g.T.Terms.store c.args.terms.now)) (term_begins c.args.plan.now c.args.term.now c.args.fuel c.args.depth (g.T.Terms.store c.args.terms.now) c.requires.sound c.requires.inside c.requires.no_variables c.requires.plain c.requires.wide c.requires.free (omega (arith, c.ranges.depth.fits))));
+      spots_room = refl;
+      matcher = refl;
+      path_room = c.instantiate.ensures.path_room;
+      window = c.instantiate.ensures.window;
+      same = c.instantiate.ensures.same;
+    }
 
-pub returns-then-not-branch-clause-state : goal.returns-then-not-branch-clause-state
-returns-then-not-branch-clause-state g c =
-    subst (λ b. IsInstance (term_site c.args.plan.now c.args.term.now c.args.fuel c.args.depth (g.T.Terms.store c.args.terms.now)) (g.T.Terms.store c.instantiate.new.terms) b) c.if-not-branch.true (c.in_ok-instantiate.ensures.state (term_site c.args.plan.now c.args.term.now c.args.fuel c.args.depth (g.T.Terms.store c.args.terms.now)) (term_begins c.args.plan.now c.args.term.now c.args.fuel c.args.depth (g.T.Terms.store c.args.terms.now) c.requires.sound c.requires.inside c.requires.no_variables c.requires.plain c.requires.wide c.requires.free (omega (arith, c.ranges.depth.fits))))
+pub returns-then-not-branch : goal.returns-then-not-branch
+returns-then-not-branch g c = record {
+  state = subst (λ b. IsInstance (term_site c.args.plan.now c.args.term.now c.args.fuel c.args.depth (g.T.Terms.store c.args.terms.now)) (g.T.Terms.store c.instantiate.new.terms) b) c.if-not-branch.true (c.in_ok-instantiate.ensures.state (term_site c.args.plan.now c.args.term.now c.args.fuel c.args.depth (g.T.Terms.store c.args.terms.now)) (term_begins c.args.plan.now c.args.term.now c.args.fuel c.args.depth (g.T.Terms.store c.args.terms.now) c.requires.sound c.requires.inside c.requires.no_variables c.requires.plain c.requires.wide c.requires.free (omega (arith, c.ranges.depth.fits))));
+  fault = tt;
+  spots_room = refl;
+  matcher = refl;
+  path_room = c.instantiate.ensures.path_room;
+  window = c.instantiate.ensures.window;
+  same = c.instantiate.ensures.same;
+}
 
 pub steps-init : goal.steps-init
 steps-init g c =
@@ -32,14 +47,29 @@ steps-init g c =
       same = c.in_ok-instantiate.ensures.same;
     }
 
-pub returns-in_err-end-clause-fault : goal.returns-in_err-end-clause-fault
-returns-in_err-end-clause-fault g c =
+pub returns-in_err-end : goal.returns-in_err-end
+returns-in_err-end g c =
     let p = err_from_is_err_and c.from_residual-in_err-end.result c.from_residual-in_err-end.ensures.1 in
-    rw (p.1, p.2) (c.in_err-end.ensures.fault (whole_run c.args.plan.now c.args.term.now c.args.fuel c.args.depth (g.T.Terms.store c.args.terms.now)) c.steps.invariant.state)
+    record {
+      state = rw p.1 tt;
+      fault = rw (p.1, p.2) (c.in_err-end.ensures.fault (whole_run c.args.plan.now c.args.term.now c.args.fuel c.args.depth (g.T.Terms.store c.args.terms.now)) c.steps.invariant.state);
+      spots_room = c.step.ensures.spots_room ∙ c.steps.invariant.spots_room;
+      matcher = c.step.ensures.matcher ∙ c.steps.invariant.matcher;
+      path_room = c.step.ensures.path_room;
+      window = c.step.ensures.window;
+      same = g.met.T.Terms.same_in_turn _ _ _ c.steps.invariant.same c.step.ensures.same;
+    }
 
-pub returns-in-Some-clause-state : goal.returns-in-Some-clause-state
-returns-in-Some-clause-state g c =
-    subst (λ (o : Option Normal). GoesOn (whole_run c.args.plan.now c.args.term.now c.args.fuel c.args.depth (g.T.Terms.store c.args.terms.now)) c.args.plan.now c.args.depth c.step.new.left (g.T.Terms.store c.step.new.terms) o) c.in-Some.is (c.in_ok-end.ensures.state (whole_run c.args.plan.now c.args.term.now c.args.fuel c.args.depth (g.T.Terms.store c.args.terms.now)) c.steps.invariant.state)
+pub returns-in-Some : goal.returns-in-Some
+returns-in-Some g c = record {
+  state = subst (λ (o : Option Normal). GoesOn (whole_run c.args.plan.now c.args.term.now c.args.fuel c.args.depth (g.T.Terms.store c.args.terms.now)) c.args.plan.now c.args.depth c.step.new.left (g.T.Terms.store c.step.new.terms) o) c.in-Some.is (c.in_ok-end.ensures.state (whole_run c.args.plan.now c.args.term.now c.args.fuel c.args.depth (g.T.Terms.store c.args.terms.now)) c.steps.invariant.state);
+  fault = tt;
+  spots_room = c.step.ensures.spots_room ∙ c.steps.invariant.spots_room;
+  matcher = c.step.ensures.matcher ∙ c.steps.invariant.matcher;
+  path_room = c.step.ensures.path_room;
+  window = c.step.ensures.window;
+  same = g.met.T.Terms.same_in_turn _ _ _ c.steps.invariant.same c.step.ensures.same;
+}
 
 pub steps-preserved : goal.steps-preserved
 steps-preserved g c =
@@ -55,49 +85,3 @@ steps-preserved g c =
       state = on;
       same = g.met.T.Terms.same_in_turn _ _ _ i.same e.same;
     }
-
-pub returns-in_err-instantiate-clause-state : goal.returns-in_err-instantiate-clause-state
-returns-in_err-instantiate-clause-state g c =
-    let p = err_from_is_err_and c.from_residual.result c.from_residual.ensures.1 in
-    rw p.1 tt
-
-pub returns-in_err-end-clause-state : goal.returns-in_err-end-clause-state
-returns-in_err-end-clause-state g c =
-    let p = err_from_is_err_and c.from_residual-in_err-end.result c.from_residual-in_err-end.ensures.1 in
-    rw p.1 tt
-
-pub returns-in_err-instantiate-clause-spots_room : goal.returns-in_err-instantiate-clause-spots_room
-returns-in_err-instantiate-clause-spots_room g c = search rules
-
-pub returns-in_err-instantiate-clause-matcher : goal.returns-in_err-instantiate-clause-matcher
-returns-in_err-instantiate-clause-matcher g c = search rules
-
-pub returns-in_err-instantiate-clause-path_room : goal.returns-in_err-instantiate-clause-path_room
-returns-in_err-instantiate-clause-path_room g c = search rules
-
-pub returns-in_err-instantiate-clause-window : goal.returns-in_err-instantiate-clause-window
-returns-in_err-instantiate-clause-window g c = search rules
-
-pub returns-in_err-end-clause-spots_room : goal.returns-in_err-end-clause-spots_room
-returns-in_err-end-clause-spots_room g c = search rules
-
-pub returns-in_err-end-clause-matcher : goal.returns-in_err-end-clause-matcher
-returns-in_err-end-clause-matcher g c = search rules
-
-pub returns-in_err-end-clause-path_room : goal.returns-in_err-end-clause-path_room
-returns-in_err-end-clause-path_room g c = search rules
-
-pub returns-in_err-end-clause-window : goal.returns-in_err-end-clause-window
-returns-in_err-end-clause-window g c = search rules
-
-pub returns-in_err-instantiate-clause-same : goal.returns-in_err-instantiate-clause-same
-returns-in_err-instantiate-clause-same g c = c.instantiate.ensures.same
-
-pub returns-then-not-branch-clause-same : goal.returns-then-not-branch-clause-same
-returns-then-not-branch-clause-same g c = c.instantiate.ensures.same
-
-pub returns-in_err-end-clause-same : goal.returns-in_err-end-clause-same
-returns-in_err-end-clause-same g c = g.met.T.Terms.same_in_turn _ _ _ c.steps.invariant.same c.step.ensures.same
-
-pub returns-in-Some-clause-same : goal.returns-in-Some-clause-same
-returns-in-Some-clause-same g c = g.met.T.Terms.same_in_turn _ _ _ c.steps.invariant.same c.step.ensures.same

@@ -15,8 +15,7 @@ arguments-preserved g c =
     let i = c.arguments.invariant in
     let child = c.child-argument.ensures in
     let r = c.child-argument.result in
-    let at : slice_get (arguments (tree_at s row)) c.arguments.at ≡ Some (tree_at now r) =
-    subst (λ (t : Tree). slice_get (arguments t) c.arguments.at ≡ Some (tree_at now r)) (pushes_tree s now _ row i.pushed) child.tree in
+    let at : slice_get (arguments (tree_at s row)) c.arguments.at ≡ Some (tree_at now r) = subst (λ (t : Tree). slice_get (arguments t) c.arguments.at ≡ Some (tree_at now r)) (pushes_tree s now _ row i.pushed) child.tree in
     let put = c.put.ensures.pushed ∙ ap (λ (q : Store). pushed q r) child.unchanged in
     record {
       low = omega (arith, i.low);
@@ -45,16 +44,8 @@ child-argument-requires-clause-below g c =
     let n = ap (λ (t : Tree). length (arguments t)) (pushes_tree s now _ c.args.row i.pushed) in
     omega (arith, n, c.requires.within, c.arguments-test.true)
 
-pub put-requires-clause-inside : goal.put-requires-clause-inside
-put-requires-clause-inside g c =
-    ap (λ (q : Store). q.inside) c.child-argument.ensures.unchanged ∙ c.arguments.invariant.inside
-
-pub put-requires-clause-held : goal.put-requires-clause-held
-put-requires-clause-held g c =
-    subst (λ (q : Store). IsHeld q c.child-argument.result) (sym c.child-argument.ensures.unchanged) c.child-argument.ensures.held
-
-pub put-requires-clause-place : goal.put-requires-clause-place
-put-requires-clause-place g c =
+pub put-requires : goal.put-requires
+put-requires g c =
     let s = g.T.Terms.store c.args.terms.now in
     let now = g.T.Terms.store c.arguments.terms in
     let i = c.arguments.invariant in
@@ -62,4 +53,8 @@ put-requires-clause-place g c =
     let u = ap (λ (q : Store). length q.stack) c.child-argument.ensures.unchanged in
     let r = ap (λ (q : Store). q.room) c.child-argument.ensures.unchanged in
     let t = length_taken (c.arguments.at - c.args.from) (drop c.args.from (arguments (tree_at s c.args.row))) in
-    omega (arith, h.0, h.1, u, r, t, c.requires.places, c.arguments-test.true, i.low)
+    record {
+      inside = ap (λ (q : Store). q.inside) c.child-argument.ensures.unchanged ∙ c.arguments.invariant.inside;
+      held = subst (λ (q : Store). IsHeld q c.child-argument.result) (sym c.child-argument.ensures.unchanged) c.child-argument.ensures.held;
+      place = omega (arith, h.0, h.1, u, r, t, c.requires.places, c.arguments-test.true, i.low);
+    }

@@ -1,0 +1,5 @@
+pub mod Pendings
+pub mod Ways
+pub mod Spelling
+pub mod Growing
+pub mod Starts
