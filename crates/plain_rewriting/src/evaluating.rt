@@ -214,6 +214,7 @@ fn hold(
     )
 }
 
+/// Whether a condition holds for the values of its two sides.
 fn condition_holds(condition: &Condition, first: &Term, second: &Term) -> bool
     ensures { result ≡ holds condition.now (tree_of first.now) (tree_of second.now) }
 {
@@ -263,6 +264,7 @@ fn replace(
     }
 }
 
+/// The room that is left beside so many variables.
 fn room_below(room: u32, vars: usize) -> u32
     ensures { result ≡ room - vars }
 {

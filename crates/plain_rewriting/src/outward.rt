@@ -87,6 +87,7 @@ fn build(
     }
 }
 
+/// The trees of patterns over what their variables are bound to, one after the other.
 #[cycle(building)]
 fn build_all(
     alloc: Global,
@@ -185,6 +186,7 @@ fn step(
     }
 }
 
+/// One step in the first argument that has one.
 #[cycle(stepping)]
 fn step_in(
     alloc: Global,

@@ -37,6 +37,7 @@ fn is_fit(rule: &Rule, widest: u32) -> bool
         && have_sides(rule.conditions(), rule.vars(), widest)
 }
 
+/// Whether each condition's two sides are fit for a rule of so many variables.
 fn have_sides(conditions: &[Condition], vars: u32, widest: u32) -> bool
     ensures { IsTrue result ↔ All (HasSides vars widest) conditions.now }
 {
@@ -45,6 +46,7 @@ fn have_sides(conditions: &[Condition], vars: u32, widest: u32) -> bool
         .all(|condition| has_sides(condition, vars, widest))
 }
 
+/// Whether a condition's two sides have variables below a count, and symbols alone beside them.
 fn has_sides(condition: &Condition, vars: u32, widest: u32) -> bool
     ensures { IsTrue result ↔ HasSides vars widest condition.now }
 {
@@ -73,12 +75,14 @@ fn numbers_variables(pattern: &Flat, vars: u32) -> bool
     count == vars as usize
 }
 
+/// Whether a pattern's variables are below a count.
 fn has_variables_below(pattern: &Flat, vars: u32) -> bool
     ensures { result ≡ is_below vars pattern.now }
 {
     are_below(pattern.items(), vars)
 }
 
+/// Whether the variables of nodes are below a count.
 fn are_below(items: &[Item], vars: u32) -> bool
     ensures { result ≡ list_all (is_item_below vars) items.now }
 {
@@ -95,6 +99,7 @@ pub fn has_symbols_alone(pattern: &Flat, widest: u32) -> bool
     are_plain(pattern.items(), widest)
 }
 
+/// Whether nodes are variables, or symbols over at most `widest` arguments.
 fn are_plain(items: &[Item], widest: u32) -> bool
     ensures { result ≡ list_all (is_plain widest) items.now }
 {

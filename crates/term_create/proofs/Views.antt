@@ -38,7 +38,7 @@ drawing v v1 v2 c from claim count e f l =
     f ∙ (ap (λ (b : Bool). with_store v1 (cond b (with_call v1.store (Drawing c from count)) (refusing v1.store c from claim count))) less
     ∙ ap (λ (q : NodeView). at_call q (Drawing c from count)) e)
 
--- and so was the number that was drawn
+-- a number was drawn that is below the count, so the call is at placing it
 pub placing : (v v2 v3 : NodeView) (c : Content) (from count drawn : ℕ) → v2 ≡ at_call v (Drawing c from count)
     → v3 ≡ with_store v2 (cond (nat_lt drawn count) (with_call v2.store (Placing c from drawn)) (overdrawn v2.store c from drawn count))
     → drawn < count → v3 ≡ at_call v (Placing c from drawn)
@@ -107,7 +107,7 @@ same_word v w c d from old at k n e f is =
     ∙ (ap (λ (b : Bool). at_call v (cond b (compared c d from old at k) (Passing c d from old at (k, n)))) (eq-eqb n (get_or (words_of c) k 0) is)
     ∙ ap (λ (m : ℕ). at_call v (stage c d from old at m)) more))
 
--- or it isn't
+-- the word that was found is another than the content's
 pub other_word : (v w : NodeView) (c : Content) (d : Option (ℕ × ℕ)) (from old at k n : ℕ) → v.store.call ≡ Comparing c d from old at k → w ≡ with_store v (went v.store n)
     → n ≢ get_or (words_of c) k 0 → w ≡ at_call v (Passing c d from old at (k, n))
 other_word v w c d from old at k n e f ne =
@@ -115,7 +115,7 @@ other_word v w c d from old at k n e f ne =
     f ∙ (ap (λ (x : Call). with_store v ((action v.store x).moved n)) e
     ∙ ap (λ (b : Bool). at_call v (cond b (compared c d from old at k) (Passing c d from old at (k, n)))) no)
 
--- so the row is another
+-- a word of the row was found to be another, so the row holds another content
 pub other_row : (v w : NodeView) (c : Content) (d : Option (ℕ × ℕ)) (from old at k : ℕ) (r : Option ℕ) → is_some r ≡ true → k < length (words_of c)
     → IfSome r (λ n. (n ≢ get_or (words_of c) k 0) × (w ≡ at_call v (Passing c d from old at (k, n)))) → IsOther v w c d from old at
 other_row v w c d from old at k (Some n) e below h = record { word = k; found = n; differs = record { there = below; other = h.0 }; view = h.1 }

@@ -131,7 +131,7 @@ fn write_arguments<T: Terms>(
     push_argument(terms, row, from, works)
 }
 
-/// Puts an argument on the stack, and below it those after it, with the parenthesis.
+/// Puts an argument on the stack, and below it those after it, with the closing parenthesis.
 fn push_argument<T: Terms>(
     terms: &mut T,
     row: Row,
