@@ -5,8 +5,8 @@ ghost use Rattle.std.specs.Prelude.{◌≡◌, ◌≢◌, [], IfOk, IfErr, IsErr
 ghost use Rattle.std.specs.IoError.{error_kind};
 ghost use Rattle.std.specs.Process.{exit_status};
 ghost use Rattle.std.specs.Vec.Iter.{into_iter_items};
-ghost use Rattle.rec_top.specs.Lines.{status_line, TookLine};
-ghost use Rattle.rec_top.specs.Run.{IsStatus};
+ghost use Rattle.rec_answers.specs.Lines.{status_line, TookLine};
+ghost use Rattle.rec_answers.specs.Run.{IsStatus};
 
 use ends::{Memory, OpenGate, Reading, Sink, Source, Writing};
 use rec_top::{Outcome, out_of_memory, run};

@@ -1,53 +1,23 @@
--- What is said of an answer that may not have been made, where it is known how it ended.
-use Rattle.std.proofs.Common.{◌≡◌, ◌⊎◌, inl, inr, ℕ, List, [], map, sym, subst, ◌∙◌}
+-- What the history tells of an answer that may not have been made, where it is known how it ended.
+use Rattle.std.proofs.Common.{◌≡◌, ◌⊎◌, inl, inr, ℕ, List, [], map, sym, subst}
 use Rattle.std.specs.Prelude.{Result, Ok, Err, IfOk, IfErr, length}
-use Rattle.faults.specs.declared.refusal.Refusal.{Refusal}
 use Rattle.history_core.specs.declared.entry.Entry.{Entry}
 use Rattle.history_core.specs.Chronicle.{chronicle, IsLegal}
 use Rattle.settings.specs.declared.parts.Settings.{Settings}
-use Rattle.rewrite_workers.specs.declared.lines.Lines.{Lines}
+use Rattle.worker_crew.specs.declared.lines.Lines.{Lines}
 use Rattle.rewrite_workers.specs.Lined.{worker_of}
 use Rattle.shared_work.specs.Sharing.{CollectsFew, EachRises}
 use Rattle.rec_check.specs.Spelled.{Specified}
-use Rattle.rec_top.specs.Rewritten.{Spells}
-use Rattle.rec_top.specs.Sequence.{AreLinesOf}
-use Rattle.rec_top.specs.Answered.{Answers, StopsWith}
-use Rattle.rec_top.specs.Stops.{stop_of_drill}
+use Rattle.rec_answers.specs.Rewritten.{Spells}
+use Rattle.rec_answers.specs.Sequence.{AreLinesOf}
+use Rattle.rec_answers.specs.Stops.{stop_of_drill}
 use Rattle.rec_top.specs.Histories.{SpellsSuch, StopsEarly, CountsWorkers, NamesAll, TellsStop, TellsTerms}
-use Rattle.rec_top.specs.declared.answers.Answer.{Answer}
-use Rattle.rec_top.specs.declared.stops.Stop.{Stop}
-use Rattle.rec_top.specs.declared.stops.Stop.TheVariants.{Usage, Refused, StoreFull, ReadFault, WriteFault, Memory, Worn}
+use Rattle.rec_answers.specs.declared.answers.Answer.{Answer}
+use Rattle.rec_answers.specs.declared.stops.Stop.{Stop}
+use Rattle.rec_answers.specs.declared.stops.Stop.TheVariants.{Usage, Refused, StoreFull, ReadFault, WriteFault, Memory, Worn}
+use Rattle.rec_answers.proofs.Outcomes.{if_ok, if_err}
 use Rattle.rec_top.proofs.Drawing.{whole_front}
 use Rattle.rec_top.proofs.Recounting.{Of}
-
-pub if_ok : {A : Type 0} (P : A → Type 0) (r : Result A Stop) (a : A) → r ≡ Ok a → IfOk r P → P a
-if_ok P (Err s) a is h = absurd (let bad : Err s ≡ Ok a = is in cc)
-if_ok P (Ok b) a is h = let same : b ≡ a = cc in subst P same h
-
-pub if_err : {A : Type 0} (P : Stop → Type 0) (r : Result A Stop) (stop : Stop) → r ≡ Err stop → IfErr r P → P stop
-if_err P (Ok a) stop is h = absurd (let bad : Ok a ≡ Err stop = is in cc)
-if_err P (Err s) stop is h = let same : s ≡ stop = cc in subst P same h
-
-pub answers_ok : {A : Type 0} (P : A → Type 0) (r : Result A Stop) (a : A) → r ≡ Ok a → Answers r P → P a
-answers_ok P (Err s) a is h = absurd (let bad : Err s ≡ Ok a = is in cc)
-answers_ok P (Ok b) a is h = let same : b ≡ a = cc in subst P same h
-
-pub answers_err : {A : Type 0} (P : A → Type 0) (r : Result A Stop) (stop : Stop) → r ≡ Err stop → Answers r P → stop ≡ Memory
-answers_err P (Ok a) stop is h = absurd (let bad : Ok a ≡ Err stop = is in cc)
-answers_err P (Err s) stop is h = let same : s ≡ stop = cc in sym same ∙ h
-
-pub stops_ok : {A : Type 0} (r : Result A Stop) (a : A) (fault : Refusal) → r ≡ Ok a → StopsWith r fault → ⊥
-stops_ok (Err s) a fault is h = let bad : Err s ≡ Ok a = is in cc
-stops_ok (Ok b) a fault is h = h
-
-pub stops_err : {A : Type 0} (r : Result A Stop) (stop : Stop) (fault : Refusal) → r ≡ Err stop → StopsWith r fault → (stop ≡ Refused fault) ⊎ (stop ≡ Memory)
-stops_err (Ok a) stop fault is h = absurd h
-stops_err (Err s) stop fault is h = let same : s ≡ stop = cc in subst (λ t. (t ≡ Refused fault) ⊎ (t ≡ Memory)) same h
-
--- what is made where nothing but memory is wanted
-pub but_memory : {A : Type 0} (P : A → Type 0) (r : Result A Stop) → IfOk r P → IfErr r (λ why. why ≡ Memory) → Answers r P
-but_memory P (Ok a) made why = made
-but_memory P (Err s) made why = why
 
 -- ---- how many workers the history tells of
 count_of : {A : Type 0} (s : Settings) (r : Result A Stop) (a : A) (lists : List (List Entry)) → r ≡ Ok a → CountsWorkers s r lists → length lists ≡ s.workers

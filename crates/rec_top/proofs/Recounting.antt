@@ -1,6 +1,6 @@
 -- What a history tells of an input, told of the run that read it.
-use Rattle.std.proofs.Common.{◌≡◌, ◌⊎◌, inl, inr, ℕ, List, [], Option, Some, refl, sym, subst, ◌∙◌, arith}
-use Rattle.std.specs.Prelude.{Result, Ok, Err, IfOk, IfErr, IsErrAnd, length}
+use Rattle.std.proofs.Common.{◌≡◌, ◌⊎◌, inl, inr, ℕ, List, [], Option, Some, None, refl, sym, ap, subst, ◌∙◌, arith}
+use Rattle.std.specs.Prelude.{Result, Ok, Err, IfOk, IfErr, OnOk, IsErrAnd, length}
 use Rattle.std.proofs.lemmas.Option.{same_Some}
 use Rattle.history_core.specs.declared.entry.Entry.{Entry}
 use Rattle.history_core.specs.Chronicle.{chronicle, entries_of, IsLegal}
@@ -13,16 +13,17 @@ use Rattle.settings.specs.declared.parts.Settings.{Settings}
 use Rattle.shared_work.specs.Sharing.{CollectsFew, EachRises}
 use Rattle.rec_check.specs.Spelled.{Specified}
 use Rattle.rec_drill.specs.Drill.{drill_bytes}
-use Rattle.rec_top.specs.Input.{GaveInput}
-use Rattle.rec_top.specs.Lines.{stop_status}
-use Rattle.rec_top.specs.Run.{IsMade}
-use Rattle.rec_top.specs.Answered.{StopsSpelling, StopsReading, StopsAnswering}
-use Rattle.rec_top.specs.Histories.{Rewrites, AsksRewriting, HasLegalHistory, StandInTurn, HasFewCollects, MayEndEarly, HasEach, StopsEarly, CountsWorkers, SpellsSuch, GaveSuch, HasSuch, NamesAll, NamesAllFronts, Fills, TellsStop, TellsTerms, TellsFor, TellsHistory}
-use Rattle.rec_top.specs.declared.answers.Answer.{Answer}
-use Rattle.rec_top.specs.declared.specification.Conditions.{Conditions}
-use Rattle.rec_top.specs.declared.stops.Stop.{Stop}
-use Rattle.rec_top.proofs.Inputs.{gave_text}
-use Rattle.rec_top.specs.declared.stops.Stop.TheVariants.{Usage, Refused, StoreFull, ReadFault, WriteFault, Memory, Worn}
+use Rattle.rec_answers.specs.Input.{GaveInput}
+use Rattle.rec_answers.specs.Lines.{stop_status}
+use Rattle.rec_answers.specs.Logged.{log_bytes, log_by}
+use Rattle.rec_answers.specs.Run.{IsMade, Rewrites, AsksRewriting}
+use Rattle.rec_answers.specs.Answered.{StopsSpelling, StopsReading, StopsAnswering}
+use Rattle.rec_top.specs.Histories.{HasLegalHistory, StandInTurn, HasFewCollects, MayEndEarly, HasEach, StopsEarly, CountsWorkers, SpellsSuch, GaveSuch, HasSuch, NamesAll, NamesAllFronts, Fills, TellsStop, TellsTerms, TellsFor, TellsHistory}
+use Rattle.rec_answers.specs.declared.answers.Answer.{Answer}
+use Rattle.rec_answers.specs.declared.specification.Conditions.{Conditions}
+use Rattle.rec_answers.specs.declared.stops.Stop.{Stop}
+use Rattle.rec_answers.proofs.Inputs.{gave_text}
+use Rattle.rec_answers.specs.declared.stops.Stop.TheVariants.{Usage, Refused, StoreFull, ReadFault, WriteFault, Memory, Worn}
 
 -- ---- a history without entries
 pub legal_nothing : (rows : ℕ) (lists : List (List Entry)) → lists ≡ [] → IsLegal rows (chronicle lists)
@@ -101,6 +102,33 @@ pub drill_history : {S : Type 0} (s : Settings) (left : S → Option (List ℕ))
 drill_history s left old new r lists e same t =
     subst (λ c. TellsFor c s (GaveSuch s left old new) r lists) (sym e)
     (terms_known s (SpellsSuch (drill_bytes s.count)) (GaveSuch s left old new) lists r (λ P p. (drill_bytes s.count, gave_text s left old new e same, p)) t)
+
+-- a command that rewrites nothing has none, and no log of it
+pub alone_tells : (c : Command) (s : Settings) (of : Of) (r : Result Answer Stop) (lists : List (List Entry)) → (Rewrites c → ⊥) → lists ≡ [] → TellsFor c s of r lists
+alone_tells Rewrite s of r lists alone e = absurd (alone tt)
+alone_tells Drill s of r lists alone e = absurd (alone tt)
+alone_tells Schedule s of r lists alone e = e
+alone_tells Terms s of r lists alone e = e
+alone_tells Pack s of r lists alone e = e
+alone_tells Unpack s of r lists alone e = e
+alone_tells CheckLog s of r lists alone e = e
+alone_tells CheckTrace s of r lists alone e = e
+alone_tells Outermost s of r lists alone e = absurd (alone tt)
+
+no_log : (c : Command) (s : Settings) (lists : List (List Entry)) (log : Option (List ℕ)) → (Rewrites c → ⊥) → log ≡ None → log_bytes log ≡ log_by c s lists
+no_log Rewrite s lists log alone e = absurd (alone tt)
+no_log Drill s lists log alone e = absurd (alone tt)
+no_log Schedule s lists log alone e = ap log_bytes e
+no_log Terms s lists log alone e = ap log_bytes e
+no_log Pack s lists log alone e = ap log_bytes e
+no_log Unpack s lists log alone e = ap log_bytes e
+no_log CheckLog s lists log alone e = ap log_bytes e
+no_log CheckTrace s lists log alone e = ap log_bytes e
+no_log Outermost s lists log alone e = absurd (alone tt)
+
+pub alone_logs : {A E : Type 0} (c : Command) (s : Settings) (lists : List (List Entry)) (log : Option (List ℕ)) (r : Result A E) → (Rewrites c → ⊥) → log ≡ None → OnOk r (log_bytes log ≡ log_by c s lists)
+alone_logs c s lists log (Ok a) alone e = no_log c s lists log alone e
+alone_logs c s lists log (Err stop) alone e = tt
 
 -- ---- a command that stops before any term is rewritten
 pub stops_spelling : (kind : Conditions) (s : Settings) (of : Of) (input : List ℕ) (lists : List (List Entry)) (stop : Stop) → lists ≡ [] → StopsSpelling kind input stop → TellsStop s of lists stop

@@ -10,27 +10,11 @@ use Rattle.shared_work.specs.Sharing.{NamesWhatItBuilt, CollectsFew, EachRises}
 use Rattle.shared_work.specs.Filling.{FillsRows}
 use Rattle.shared_work.specs.Fronts.{NamesFronts}
 use Rattle.rec_check.specs.Spelled.{Specified}
-use Rattle.rec_top.specs.Rewritten.{Spells}
-use Rattle.rec_top.specs.Input.{GaveInput}
-use Rattle.rec_top.specs.declared.answers.Answer.{Answer}
-use Rattle.rec_top.specs.declared.stops.Stop.{Stop}
-use Rattle.rec_top.specs.declared.stops.Stop.TheVariants.{Usage, Refused, StoreFull, ReadFault, WriteFault, Memory, Worn}
-
--- the command rewrites terms
-abbrev pub Rewrites : Command → Type 0
-Rewrites Rewrite = Unit {0}
-Rewrites Drill = Unit {0}
-Rewrites Schedule = ⊥
-Rewrites Terms = ⊥
-Rewrites Pack = ⊥
-Rewrites Unpack = ⊥
-Rewrites CheckLog = ⊥
-Rewrites CheckTrace = ⊥
-Rewrites Outermost = Unit {0}
-
--- the words ask for such a command
-abbrev pub AsksRewriting : List (List ℕ) → Type 0
-AsksRewriting words = (settings : Settings) × (settings_of words ≡ Some settings) × Rewrites settings.command
+use Rattle.rec_answers.specs.Rewritten.{Spells}
+use Rattle.rec_answers.specs.Input.{GaveInput}
+use Rattle.rec_answers.specs.declared.answers.Answer.{Answer}
+use Rattle.rec_answers.specs.declared.stops.Stop.{Stop}
+use Rattle.rec_answers.specs.declared.stops.Stop.TheVariants.{Usage, Refused, StoreFull, ReadFault, WriteFault, Memory, Worn}
 
 -- The chronicle is legal in as many rows as the words ask for. Where the words are refused nothing is said here: `no_history`
 -- says that it is empty then.

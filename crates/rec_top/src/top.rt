@@ -2,39 +2,23 @@
 ghost use Rattle.std.specs.Prelude.{◌≡◌, ◌≢◌, ◌⊎◌, ◌≤◌, [], None};
 ghost use Rattle.faults.specs.Count.{Rose};
 ghost use Rattle.ends.specs.Bytes.{TookFront};
-ghost use Rattle.rec_top.specs.Logged.{with_log};
+ghost use Rattle.rec_answers.specs.Logged.{with_log};
 ghost use Rattle.settings.specs.Words.{settings_of, texts};
-ghost use Rattle.rec_top.specs.Written.{Output, status_for};
-ghost use Rattle.rec_top.specs.Lines.{fault_line, status_line, TookLine};
-ghost use Rattle.rec_top.specs.Run.{HasOutput, HasFault, HasTooMuch, HasTooMany, HasNoFault, Accepts, Refuses, IsWritten, HasWorkers, AsksDrill, IsMade, IsWhole, IsStatus, IsUpheld, IsRefuted};
-ghost use Rattle.rec_top.specs.GoodLog.{HasGoodLog};
-ghost use Rattle.rec_top.specs.Histories.{AsksRewriting, HasLegalHistory, StandInTurn, HasFewCollects, HasEach, HasSuch, NamesAll, NamesAllFronts, Fills};
+ghost use Rattle.rec_answers.specs.Written.{Output};
+ghost use Rattle.rec_answers.specs.Lines.{fault_line, status_line, TookLine};
+ghost use Rattle.rec_answers.specs.Run.{HasOutput, HasFault, HasTooMuch, HasTooMany, HasNoFault, Accepts, Refuses, IsWritten, HasWorkers, AsksDrill, IsMade, IsWhole, IsStatus, IsUpheld, IsRefuted, AsksRewriting};
+ghost use Rattle.rec_answers.specs.GoodLog.{HasGoodLog};
+ghost use Rattle.rec_top.specs.Promise.{IsPromised};
+ghost use Rattle.rec_top.specs.Histories.{HasLegalHistory, StandInTurn, HasFewCollects, HasEach, HasSuch, NamesAll, NamesAllFronts, Fills};
 ghost use Rattle.faults.specs.declared.refusal.Refusal.{Refusal};
 
 use crate::answering::answer_of;
-use crate::answers::Finished;
-use crate::results::{Outcome, Workers};
-use crate::stops::{Stop, stopped, stopped_before};
-use crate::writing::write_both;
 use ends::{Gate, Sink, Source};
-use settings::{WordsFault, settings};
+use rec_answers::{Outcome, Stop, finish, stopped_before};
+use settings::settings;
 use std::alloc::Global;
 use std::sync::Wait;
 use std::thread::Threads;
-
-// The status where the whole output was written.
-fn status_for(values: bool, refuted: bool) -> u8
-    ensures status { result ≡ status_for values refuted }
-    ensures whole { IsWhole result }
-{
-    if refuted {
-        9
-    } else if values {
-        0
-    } else {
-        1
-    }
-}
 
 /// Runs the program: reads the words and, but for a drill, all that the source has left, writes the
 /// output to `out`, and to `err` the line that says why there is none. As many workers as the words
@@ -175,26 +159,26 @@ pub fn run<R: Threads + Wait + Sync, S: Source, O: Sink, E: Sink, G: Gate>(
     ensures full { result.status ≡ 4 → AsksRewriting (texts words.now)
         → HasSuch (texts words.now) S.left source.old source.new (Fills result.chronicle) }
 {
+    ran(rt, alloc, words, source, out, err, gate)
+}
+
+// Runs the program. All clauses of `run` are fields of one record.
+fn ran<R: Threads + Wait + Sync, S: Source, O: Sink, E: Sink, G: Gate>(
+    rt: &R,
+    alloc: Global,
+    words: &[String],
+    source: &mut S,
+    out: &mut O,
+    err: &mut E,
+    gate: &G,
+) -> Outcome
+    ensures { IsPromised (texts words.now) S.left S.faults source.old source.new
+        O.taken O.faults out.old out.new E.taken E.faults err.old err.new result }
+{
     let settings = match settings(alloc, words) {
         Ok(settings) => settings,
-        Err(WordsFault::Usage) => return stopped_before(alloc, err, Stop::Usage),
-        Err(WordsFault::Memory) => return stopped_before(alloc, err, Stop::Memory),
+        Err(fault) => return stopped_before(alloc, err, Stop::from(fault)),
     };
-    let Finished {
-        answer,
-        chronicle,
-        log,
-    } = answer_of(rt, alloc, &settings, source, gate);
-    let answer = match answer {
-        Ok(answer) => answer,
-        Err(stop) => return stopped(err, stop, Workers::none(alloc), chronicle),
-    };
-    match write_both(out, &answer.output, &log) {
-        Ok(()) => Outcome {
-            status: status_for(answer.values, answer.refuted),
-            chronicle,
-            workers: answer.workers,
-        },
-        Err(_) => stopped(err, Stop::WriteFault, answer.workers, chronicle),
-    }
+    let finished = answer_of(rt, alloc, &settings, source, gate);
+    finish(alloc, out, err, finished)
 }

@@ -1,5 +1,5 @@
 -- Lines and events beside each other, from lines with their events.
-use Rattle.std.proofs.Common.{◌≡◌, ℕ, List, [], ◌∷◌, map, refl, sym, ap, ◌∙◌}
+use Rattle.std.proofs.Common.{◌≡◌, List, [], ◌∷◌, map, refl, sym, ap, ◌∙◌}
 use Rattle.std.specs.Prelude.{Vec}
 use Rattle.std.specs.Global.{Global}
 use Rattle.term_model.specs.Tree.{Tree}
@@ -7,8 +7,8 @@ use Rattle.symbol_pool.specs.Pool.{Named}
 use Rattle.rewrite_model.specs.Rule.{Rule}
 use Rattle.rewrite_model.specs.declared.event.Event.{Event}
 use Rattle.settings.specs.declared.parts.Settings.{Settings}
-use Rattle.rewrite_workers.specs.declared.lines.Line.{Line}
-use Rattle.rewrite_workers.specs.declared.lines.Traced.{Traced}
+use Rattle.worker_crew.specs.declared.lines.Line.{Line}
+use Rattle.worker_crew.specs.declared.lines.Traced.{Traced}
 use Rattle.rewrite_workers.specs.Lined.{said, worker_of, line_of, trace_of, Told, told, told_of, maker_of}
 
 map_twice : {A B C : Type 0} (f : A → B) (g : B → C) (xs : List A) → map g (map f xs) ≡ map (λ x. g (f x)) xs

@@ -1,5 +1,5 @@
 -- A hand of numbers that rises is known by what is in it.
-use Rattle.std.proofs.Common.{◌≡◌, ◌≢◌, ◌⊎◌, ◌==◌, ℕ, zero, suc, ◌+◌, ◌<◌, ◌≤◌, cond, true, false, List, [], ◌∷◌, ◌++◌, length, map, filter, get_or, nat_lt, sum_by, eq-eqb, ne_eqb, refl, sym, ap, subst, ◌∙◌, inl, inr, ⊎_elim, add-zero, arith, All}
+use Rattle.std.proofs.Common.{◌≡◌, ◌≢◌, ℕ, zero, suc, ◌+◌, ◌<◌, ◌≤◌, cond, true, List, [], ◌∷◌, length, map, get_or, nat_lt, sum_by, eq-eqb, ne_eqb, refl, sym, ap, subst, ◌∙◌, ⊎_elim, add-zero, arith, All}
 use mathlib.Core.Logic.{dite}
 use native.Mathlib.Decide.{ℕ_discrete}
 use Rattle.std.specs.List.{flat_map}
@@ -7,12 +7,12 @@ use Rattle.std.proofs.lemmas.Bool.{lt-ltb, le-ltb, ltb-true, cases_lt}
 use Rattle.std.proofs.lemmas.List.Elements.{All-nil, All-head, All-tail, All-cons, All-weaker, All-filter, filter_passes}
 use Rattle.std.proofs.lemmas.List.Concat.{flat_map-cons}
 use Rattle.term_model.specs.Tree.{Tree, Leaf}
-use Rattle.rewrite_workers.specs.Dealt.{times}
+use Rattle.worker_crew.specs.Dealt.{times}
 use Rattle.rewrite_workers.specs.Lined.{drawn_by}
 use Rattle.rewrite_workers.specs.Works.{term_at}
 use Rattle.rewrite_workers.specs.Ends.{Rises, numbered}
 use Rattle.rewrite_workers.specs.Worked.{of_terms}
-use Rattle.rewrite_workers.proofs.Dealing.{hit, times_cons, times_append, hit_same, hit_other, sum_cons}
+use Rattle.worker_crew.proofs.Dealing.{hit, times_cons, times_append, hit_same, hit_other, sum_cons}
 
 -- what is above isn't there
 pub times_none : (n : ℕ) (xs : List ℕ) → All (λ x. n < x) xs → times n xs ≡ 0

@@ -1,27 +1,14 @@
 -- What is told of each desk and its share, by place.
-use Rattle.std.proofs.Common.{◌≡◌, ℕ, zero, suc, ◌+◌, ◌<◌, ◌≤◌, List, [], ◌∷◌, length, map, get_or, sum_by, refl, sym, ap, subst, ◌∙◌, arith, All}
-use Rattle.std.specs.Prelude.{Option, Some, None, Contains, slice_get, unwrap_or}
+use Rattle.std.proofs.Common.{◌≡◌, ℕ, zero, suc, ◌+◌, ◌<◌, ◌≤◌, List, [], ◌∷◌, length, sum_by, refl, sym, ap, subst, ◌∙◌, arith, All}
+use Rattle.std.specs.Prelude.{Some, slice_get}
 use lib.ListN.{get_elem?}
 use mathlib.Core.Option.{some}
-use Rattle.std.proofs.lemmas.Option.{slice_get_within, slice_get-get_or, get_or_from_slice_get}
-use Rattle.std.proofs.lemmas.List.Elements.{All-nil, All-cons, All-head, All-tail, All-get_or, All-contains}
+use Rattle.std.proofs.lemmas.Option.{slice_get_within}
+use Rattle.std.proofs.lemmas.List.Elements.{All-nil, All-cons, All-get_or}
 use Rattle.rewrite_workers.specs.Desks.{EachDesk}
 use Rattle.rewrite_workers.specs.Shares.{EachShare}
-use Rattle.rewrite_workers.proofs.Dealing.{there, sum_none, sum_cons}
-
-pub same_some : {A : Type 0} (a b : A) → Some a ≡ Some b → a ≡ b
-same_some a b e = ap (λ o. unwrap_or o a) e
-
-pub at_place : {A : Type 0} (xs : List A) (k : ℕ) → k < length xs → (a : A) × (slice_get xs k ≡ Some a)
-at_place [] k h = absurd (omega arith)
-at_place (x ∷ xs) zero h = (x, refl)
-at_place (x ∷ xs) (suc k) h = at_place xs k (omega arith)
-
-pub contained : {A : Type 0} (xs : List A) (k : ℕ) (a : A) → slice_get xs k ≡ Some a → Contains xs a
-contained xs k a e = (k, slice_get_within xs k a e, get_or_from_slice_get xs k a a e)
-
-pub place_of : {A : Type 0} (xs : List A) (a : A) → Contains xs a → (k : ℕ) × (slice_get xs k ≡ Some a)
-place_of xs a c = (c.0, slice_get-get_or xs c.0 a c.1 ∙ ap Some c.2)
+use Rattle.worker_crew.proofs.Dealing.{there, sum_none, sum_cons}
+use Rattle.worker_crew.proofs.Finding.{same_some}
 
 pub all_elem : {A : Type 0} (P : A → Type 0) (xs : List A) (k : ℕ) (a : A) → All P xs → get_elem? xs k ≡ some a → P a
 all_elem P xs k a all e = let t = there xs k a a e in subst P t.1 (All-get_or P xs k a t.0 all)

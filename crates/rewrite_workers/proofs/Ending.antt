@@ -1,16 +1,15 @@
 -- What a desk built over several terms, one after another.
-use Rattle.std.proofs.Common.{◌≡◌, ℕ, zero, suc, ◌+◌, ◌<◌, ◌≤◌, List, [], ◌∷◌, ◌++◌, length, map, get_or, max, refl, sym, ap, subst, ◌∙◌, arith, All}
+use Rattle.std.proofs.Common.{◌≡◌, ℕ, zero, suc, ◌<◌, ◌≤◌, List, [], ◌∷◌, ◌++◌, length, refl, sym, ap, subst, ◌∙◌, arith}
 use Rattle.std.specs.Prelude.{Result, Ok, Err}
 use Rattle.std.proofs.lemmas.List.{append-nil, append_assoc}
-use Rattle.term_model.specs.Tree.{Tree, Leaf}
+use Rattle.term_model.specs.Tree.{Tree}
 use Rattle.terms_api.specs.Terms.{Store}
 use Rattle.rewrite_model.specs.Rule.{Rule}
-use Rattle.rewrite_model.specs.Built.{need, greatest, need_of_all}
 use Rattle.term_lines.proofs.Lists.{none_built, built_on}
 use Rattle.settings.specs.declared.parts.Settings.{Settings}
 use Rattle.innermost.specs.declared.normal.RunFault.{RunFault}
-use Rattle.term_lines.specs.declared.stop.LineStop.{LineStop}
-use Rattle.term_lines.specs.declared.stop.LineStop.TheVariants as stop
+use Rattle.line_ends.specs.declared.stop.LineStop.{LineStop}
+use Rattle.line_ends.specs.declared.stop.LineStop.TheVariants as stop
 use Rattle.rewrite_workers.specs.Desks.{KeepsDesk}
 use Rattle.rewrite_workers.specs.Ends.{BuiltAll, BuiltFront, RefusedLast, Ended, numbered}
 use Rattle.rewrite_workers.specs.Works.{term_at, strategy_of, remembers_results, AreBuilt, need_at, need_of}

@@ -1,55 +1,56 @@
 -- From what the workers leave to the answer.
-use Rattle.std.proofs.Common.{◌≡◌, ◌⊎◌, ℕ, zero, suc, ◌+◌, ◌<◌, ◌≤◌, List, [], ◌∷◌, ◌++◌, length, take, drop, map, get_or, sum_by, refl, sym, ap, subst, ◌∙◌, inl, inr, ⊎_elim, arith, zero-add, All}
+use Rattle.std.proofs.Common.{◌≡◌, ◌⊎◌, ℕ, ◌+◌, ◌<◌, ◌≤◌, List, ◌++◌, length, take, drop, map, get_or, sum_by, sym, ap, subst, ◌∙◌, ⊎_elim, arith, zero-add, All}
 use mathlib.Core.Logic.{dite}
 use native.Mathlib.Decide.{ℕ_discrete}
-use Rattle.std.specs.Prelude.{Option, Some, None, Result, Ok, Err, IfOk, IfErr, Contains, slice_get, option_map}
-use Rattle.std.specs.List.{flat_map}
+use Rattle.std.specs.Prelude.{Some, Result, Ok, Contains, slice_get, option_map}
 use Rattle.std.proofs.lemmas.Option.{slice_get_within, slice_get-get_or, get_or_from_slice_get, slice_get-map}
 use Rattle.std.proofs.lemmas.List.{ext_get_or, length-map, append-nil, take_all, drop_all}
 use Rattle.std.proofs.lemmas.Bool.{cases_lt}
-use Rattle.std.proofs.lemmas.List.Elements.{All-nil, All-weaker, All-map, All-contains, All-from_get_or}
+use Rattle.std.proofs.lemmas.List.Elements.{All-weaker, All-map, All-contains, All-from_get_or}
 use Rattle.term_model.specs.Tree.{Tree, Leaf}
 use Rattle.terms_api.specs.Terms.{Store}
 use Rattle.symbol_pool.specs.Pool.{Named}
 use Rattle.rule_match.specs.Planned.{Planned}
 use Rattle.settings.specs.declared.parts.Settings.{Settings}
 use Rattle.atomic_table.specs.Seated.{TableId}
-use Rattle.term_lines.specs.declared.stop.LineStop.{LineStop}
-use Rattle.rewrite_workers.specs.declared.fault.AllFault.{AllFault}
-use Rattle.rewrite_workers.specs.declared.fault.AllFault.TheVariants.{Memory}
-use Rattle.rewrite_workers.specs.declared.lines.Traced.{Traced}
-use Rattle.rewrite_workers.specs.declared.worker.Numbered.{Numbered}
-use Rattle.rewrite_workers.specs.declared.worker.Share.{Share}
-use Rattle.rewrite_workers.specs.Dealt.{times, once_below}
+use Rattle.line_ends.specs.declared.stop.LineStop.{LineStop}
+use Rattle.worker_crew.specs.declared.fault.AllFault.{AllFault}
+use Rattle.worker_crew.specs.declared.fault.AllFault.TheVariants.{Memory}
+use Rattle.worker_crew.specs.declared.lines.Traced.{Traced}
+use Rattle.worker_crew.specs.declared.share.Numbered.{Numbered}
+use Rattle.worker_crew.specs.declared.share.Share.{Share}
+use Rattle.worker_crew.specs.Dealt.{times, once_below}
 use Rattle.rewrite_workers.specs.Works.{term_at, need_of}
-use Rattle.rewrite_workers.specs.Lined.{Told, told, maker_of, told_of, drawn_by}
+use Rattle.rewrite_workers.specs.Lined.{told, maker_of, told_of, drawn_by}
 use Rattle.rewrite_workers.specs.Desks.{IsReady, EachDesk, KeepsDesk}
-use Rattle.rewrite_workers.specs.Ends.{AreApart, BuiltAll, Ended, IsWorst, Rises, Stopped, numbered}
-use Rattle.rewrite_workers.specs.Worked.{IsFresh, drawn_of, number_of, of_terms, IsLineAt, HasLines, HasLinesWhere}
+use Rattle.rewrite_workers.specs.Ends.{AreApart, BuiltAll, Ended, Rises, Stopped, numbered}
+use Rattle.rewrite_workers.specs.Worked.{of_terms, IsLineAt, HasLines, HasLinesWhere}
 use Rattle.rewrite_workers.specs.Shares.{EachShare, Works}
-use Rattle.rewrite_workers.specs.Gathered.{end_of_share, HasOneShare, HasPlaces, IsPlaced, PlacesAll}
-use Rattle.rewrite_workers.specs.Crews.{IsAt}
-use Rattle.rewrite_workers.proofs.Dealing.{sum_most, below_yes, below_no, is_below, is_in}
+use Rattle.worker_crew.specs.Gathered.{end_of_share, HasOneShare, HasPlaces, PlacesAll, IsWorst}
+use Rattle.worker_crew.specs.Crews.{IsAt, IsFresh, drawn_of, number_of}
+use Rattle.worker_crew.proofs.Dealing.{sum_most, below_yes, below_no, is_below, is_in}
 use Rattle.rewrite_workers.proofs.Ending.{keeps_desk}
-use Rattle.rewrite_workers.proofs.Dividing.{Parts, drawn_hand, terms_below, terms_rise, times_of_terms, times_most, times_flat}
-use Rattle.rewrite_workers.proofs.Eachwise.{Place, lengths, place_at, all_after, all_desks, each_desk, same_some, at_place, contained, place_of, sum_none_all, part_of_all, two_parts}
+use Rattle.rewrite_workers.proofs.Dividing.{drawn_hand, terms_below, terms_rise, times_of_terms, times_most, times_flat}
+use Rattle.rewrite_workers.proofs.Eachwise.{Place, lengths, place_at, all_after, all_desks, each_desk, sum_none_all, part_of_all, two_parts}
+use Rattle.worker_crew.proofs.Finding.{same_some, contained, place_of}
 
 once_most : (n x : ℕ) → once_below n x ≤ 1
 once_most n x = ⊎_elim (λ lt. let a = below_yes n x lt in omega arith) (λ le. let a = below_no n x le in omega arith) (cases_lt x n)
 
--- a clause on an answer from another
-pub by_ok : {A E : Type 0} (r : Result A E) (P Q : A → Type 0) → IfOk r P → ((a : A) → P a → Q a) → IfOk r Q
-by_ok (Ok a) P Q p f = f a p
-by_ok (Err e) P Q p f = tt
-
-pub by_err : {A E : Type 0} (r : Result A E) (P Q : E → Type 0) → IfErr r P → ((e : E) → P e → Q e) → IfErr r Q
-by_err (Ok a) P Q p f = tt
-by_err (Err e) P Q p f = f e p
-
 -- what was written through a slice is the whole
-pub write_back : {A : Type 0} (items new : List A) (n : ℕ) → n ≡ length items → length new ≡ length items → take n (new ++ drop (length new) items) ≡ new
+write_back : {A : Type 0} (items new : List A) (n : ℕ) → n ≡ length items → length new ≡ length items → take n (new ++ drop (length new) items) ≡ new
 write_back {A = A} items new n long same =
     ap (λ (xs : List A). take n (new ++ xs)) (drop_all (length new) items (omega arith)) ∙ (ap (take n) (append-nil new) ∙ take_all n new (omega arith))
+
+-- and so is what is told of each share
+pub each_back : {D : Type 0} (P : D → D → Share → Share → Type 0) (olds news : List D) (items begun after : List Share) (n : ℕ) → n ≡ length items → begun ≡ items
+    → EachShare P olds news begun after → EachShare P olds news begun (take n (after ++ drop (length after) items))
+each_back P olds news items begun after n whole value each =
+    let long = lengths P olds news begun after each in
+    let a = long.1 in
+    let b = long.2 in
+    let v = ap (λ (xs : List Share). length xs) value in
+    subst (EachShare P olds news begun) (sym (write_back items after n whole (omega (arith, a, b, v)))) each
 
 -- each share of a crew is fresh
 pub all_fresh : (table : TableId) (count workers : ℕ) (shares : List Share) → length shares ≡ workers → ((k : ℕ) → k < workers → IsAt table count k shares) → All (IsFresh table count) shares

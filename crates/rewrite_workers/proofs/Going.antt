@@ -1,27 +1,28 @@
 -- A worker that draws one term after another.
-use Rattle.std.proofs.Common.{◌≡◌, ℕ, zero, suc, ◌+◌, ◌-◌, ◌<◌, ◌≤◌, cond, true, false, List, [], ◌∷◌, ◌++◌, length, map, filter, max, nat_lt, refl, sym, ap, subst, ◌∙◌, arith, All}
+use Rattle.std.proofs.Common.{◌≡◌, ℕ, ◌+◌, ◌-◌, ◌<◌, ◌≤◌, cond, true, List, [], ◌∷◌, ◌++◌, length, map, max, nat_lt, refl, sym, ap, subst, ◌∙◌, arith, All}
 use Rattle.std.specs.Prelude.{Result, Ok, Err, is_ok, if◌then◌else◌}
 use Rattle.std.proofs.lemmas.List.{append-nil, map-append}
 use Rattle.std.proofs.lemmas.Bool.{lt-ltb, le-ltb}
-use Rattle.std.proofs.lemmas.List.Elements.{All-nil, All-head, All-tail, All-cons, All-push, All-weaker, filter-append}
+use Rattle.std.proofs.lemmas.List.Elements.{All-nil, All-head, All-tail, All-push, filter-append}
 use Rattle.term_model.specs.Tree.{Tree}
 use Rattle.terms_api.specs.Terms.{Store}
 use Rattle.symbol_pool.specs.Pool.{Named}
 use Rattle.rewrite_model.specs.Rule.{Rule}
 use Rattle.settings.specs.declared.parts.Settings.{Settings}
 use Rattle.atomic_table.specs.Seated.{TableId}
-use Rattle.term_lines.specs.declared.stop.LineStop.{LineStop}
-use Rattle.term_lines.specs.declared.stop.LineStop.TheVariants as stop
-use Rattle.rewrite_workers.specs.declared.draws.Drawn.{Drawn}
-use Rattle.rewrite_workers.specs.declared.worker.Numbered.{Numbered}
-use Rattle.rewrite_workers.specs.declared.worker.Share.{Share}
-use Rattle.rewrite_workers.specs.Dealt.{IsIn, drew, times}
+use Rattle.line_ends.specs.declared.stop.LineStop.{LineStop}
+use Rattle.line_ends.specs.declared.stop.LineStop.TheVariants as stop
+use Rattle.worker_crew.specs.declared.draws.Drawn.{Drawn}
+use Rattle.worker_crew.specs.declared.share.Numbered.{Numbered}
+use Rattle.worker_crew.specs.declared.share.Share.{Share}
+use Rattle.worker_crew.specs.Dealt.{IsIn, drew, times}
 use Rattle.rewrite_workers.specs.Works.{term_at, need_at, need_of}
 use Rattle.rewrite_workers.specs.Lined.{told_of}
 use Rattle.rewrite_workers.specs.Ends.{BuiltAll, Ended, Rises, numbered}
 use Rattle.rewrite_workers.specs.Working.{WorksOn}
-use Rattle.rewrite_workers.specs.Worked.{drawn_of, number_of, of_terms, IsFresh, KeepsSeat, AddsLine, Drew, IsLineAt, HasLines, HasLinesWhere, Worked}
-use Rattle.rewrite_workers.proofs.Dealing.{times_snoc, hit_same}
+use Rattle.rewrite_workers.specs.Worked.{of_terms, KeepsSeat, AddsLine, Drew, IsLineAt, HasLinesWhere, Worked}
+use Rattle.worker_crew.specs.Crews.{drawn_of, number_of, IsFresh}
+use Rattle.worker_crew.proofs.Dealing.{times_snoc, hit_same}
 use Rattle.rewrite_workers.proofs.Ending.{numbered-append, nothing_more, all_front, ended_after, works_after, works_begin, works_unbegun, need_most}
 
 pub rises_snoc : (xs : List ℕ) (n : ℕ) → Rises xs → All (λ x. x < n) xs → Rises (xs ++ n ∷ [])

@@ -1,14 +1,11 @@
-pub mod Dealing
 pub mod Ending
 pub mod Going
-pub mod Gathering
 pub mod Dividing
 pub mod Eachwise
 pub mod Finishing
 pub mod Lining
-pub mod Stopping
-pub mod Crewing
 pub mod Unbegun
 pub mod Trying
 pub mod Beside
 pub mod Recalling
+pub mod Outcome

@@ -5,7 +5,6 @@ use Rattle.std.proofs.lemmas.List.{append-nil}
 use Rattle.std.specs.List.{flat_map}
 use Rattle.term_model.specs.Tree.{Tree, subtrees, distinct}
 use Rattle.terms_api.specs.Terms.{Store, trees, tree_at, Entered, Left}
-use Rattle.rewrite_model.specs.Rule.{Rule}
 use Rattle.rewrite_model.specs.Evaluation.{Point}
 use Rattle.rewrite_model.specs.Built.{need}
 use Rattle.rewrite_model.specs.Outermost.{outermost_built}
@@ -22,8 +21,8 @@ use Rattle.term_lines.proofs.Lists.{none_built, one_built}
 use Rattle.term_lines.specs.declared.strategy.Strategy.{Strategy}
 use Rattle.term_lines.specs.declared.strategy.Strategy.TheVariants.{Innermost, Outermost}
 use Rattle.term_lines.specs.declared.ending.Ending.{Ending}
-use Rattle.term_lines.specs.declared.stop.LineStop.{LineStop}
-use Rattle.term_lines.specs.declared.stop.LineStop.TheVariants as stop
+use Rattle.line_ends.specs.declared.stop.LineStop.{LineStop}
+use Rattle.line_ends.specs.declared.stop.LineStop.TheVariants as stop
 use Rattle.rewrite_workers.specs.Desks.{IsReady}
 use Rattle.rewrite_workers.specs.Ends.{BuiltAll, BuiltFront, RefusedLast, Ended}
 use Rattle.rewrite_workers.specs.Working.{WorksOn, more_sweeps}

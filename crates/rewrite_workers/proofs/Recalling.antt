@@ -16,13 +16,13 @@ use Rattle.settings.specs.declared.parts.Settings.{Settings}
 use Rattle.term_lines.specs.Line.{line_text, kind_of, spent_of, is_value}
 use Rattle.term_lines.specs.Strategies.{ended}
 use Rattle.term_lines.specs.Tracing.{tells, remembers, MayTell, events_of}
-use Rattle.term_lines.specs.declared.ending.LineKind.{LineKind}
+use Rattle.line_ends.specs.declared.kind.LineKind.{LineKind}
 use Rattle.term_lines.specs.declared.strategy.Strategy.{Strategy}
 use Rattle.term_lines.specs.declared.strategy.Strategy.TheVariants.{Innermost, Outermost}
 use Rattle.term_lines.specs.Written.{BuildsForLine, MayRecall}
 use Rattle.term_lines.specs.declared.ending.Ending.{Ending}
 use Rattle.term_lines.specs.declared.rewriter.Rewriter.{Rewriter}
-use Rattle.term_lines.specs.declared.stop.LineStop.{LineStop}
+use Rattle.line_ends.specs.declared.stop.LineStop.{LineStop}
 use Rattle.term_lines.proofs.Recalling.{may_still}
 use Rattle.innermost.proofs.Memories.{none_right}
 use Rattle.rewrite_workers.specs.Lined.{Told, told_of}

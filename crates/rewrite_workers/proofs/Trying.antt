@@ -8,7 +8,6 @@ use Rattle.settings.specs.declared.parts.Settings.{Settings}
 use Rattle.plain_store.specs.Contents.{Contents, store_of, empty}
 use Rattle.term_model.specs.Tree.{Tree, IsGround}
 use Rattle.symbol_pool.specs.Pool.{Named}
-use Rattle.rewrite_model.specs.Rule.{Rule}
 use Rattle.rule_match.specs.Planned.{Planned, IsPlain}
 use Rattle.term_text.specs.Text.{HasNames}
 use Rattle.term_lines.specs.Laws.{WritesNames}

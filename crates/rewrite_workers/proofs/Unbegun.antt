@@ -1,19 +1,19 @@
 -- There was no memory to begin: no desk changed.
-use Rattle.std.proofs.Common.{◌≡◌, ℕ, ◌+◌, ◌<◌, ◌≤◌, List, [], ◌∷◌, length, map, max, refl, sym, ap, ◌∙◌, inr, arith, All}
+use Rattle.std.proofs.Common.{◌≡◌, ℕ, ◌<◌, List, [], length, map, refl, ap, ◌∙◌, inr, arith, All}
 use Rattle.std.specs.Prelude.{Result, Ok, slice_get, option_map, Some}
-use Rattle.std.proofs.lemmas.List.{append-nil, length-map}
+use Rattle.std.proofs.lemmas.List.{length-map}
 use Rattle.std.proofs.lemmas.List.Elements.{All-nil, All-map}
 use Rattle.std.proofs.lemmas.Option.{slice_get-map}
 use Rattle.term_model.specs.Tree.{Tree}
 use Rattle.terms_api.specs.Terms.{Store}
 use Rattle.rewrite_model.specs.Rule.{Rule}
 use Rattle.settings.specs.declared.parts.Settings.{Settings}
-use Rattle.term_lines.specs.declared.stop.LineStop.{LineStop}
-use Rattle.rewrite_workers.specs.declared.fault.AllFault.TheVariants.{Memory}
-use Rattle.rewrite_workers.specs.Dealt.{times}
+use Rattle.line_ends.specs.declared.stop.LineStop.{LineStop}
+use Rattle.worker_crew.specs.declared.fault.AllFault.TheVariants.{Memory}
+use Rattle.worker_crew.specs.Dealt.{times}
 use Rattle.rewrite_workers.specs.Desks.{EachDesk, KeepsDesk}
 use Rattle.rewrite_workers.specs.Ends.{Ended, Rises, Stopped, numbered}
-use Rattle.rewrite_workers.proofs.Dealing.{sum_none}
+use Rattle.worker_crew.proofs.Dealing.{sum_none}
 use Rattle.rewrite_workers.proofs.Dividing.{times_flat}
 use Rattle.rewrite_workers.proofs.Eachwise.{each_unchanged}
 use Rattle.rewrite_workers.proofs.Ending.{nothing_more}

@@ -1,5 +1,5 @@
 -- The desks of workers, before and after the terms are rewritten.
-use Rattle.std.specs.Prelude.{◌≡◌, ℕ, ◌+◌, ◌≤◌, List, [], Some, false, max, length, slice_get, All}
+use Rattle.std.specs.Prelude.{◌≡◌, ℕ, ◌+◌, ◌≤◌, List, [], Some, false, max, length, slice_get}
 use Rattle.terms_api.specs.Terms.{Store}
 use Rattle.rule_match.specs.Planned.{Planned}
 use Rattle.settings.specs.declared.parts.Settings.{Settings}

@@ -1,5 +1,5 @@
 -- How workers end, and which terms each drew.
-use Rattle.std.specs.Prelude.{◌≡◌, ℕ, ◌<◌, ◌≤◌, ◌⊎◌, List, [], ◌∷◌, ◌++◌, Option, Some, None, Result, Ok, Err, All, Contains, Bool, false, length, slice_get}
+use Rattle.std.specs.Prelude.{◌≡◌, ℕ, ◌<◌, ◌≤◌, ◌⊎◌, List, [], ◌∷◌, ◌++◌, Some, Result, Ok, Err, All, false, length, slice_get}
 use Rattle.std.specs.List.{flat_map}
 use Rattle.term_model.specs.Tree.{Tree}
 use Rattle.terms_api.specs.Terms.{Store}
@@ -8,11 +8,12 @@ use Rattle.settings.specs.declared.parts.Settings.{Settings}
 use Rattle.innermost.specs.declared.normal.RunFault.{RunFault}
 use Rattle.innermost.specs.declared.normal.RunFault.TheVariants as fault
 use Rattle.term_lines.specs.Strategies.{Adds, RefusedBy}
-use Rattle.term_lines.specs.declared.stop.LineStop.{LineStop}
-use Rattle.term_lines.specs.declared.stop.LineStop.TheVariants as stop
-use Rattle.rewrite_workers.specs.declared.fault.AllFault.{AllFault}
-use Rattle.rewrite_workers.specs.declared.fault.AllFault.TheVariants.{StoreFull, Worn, Memory}
-use Rattle.rewrite_workers.specs.Dealt.{times}
+use Rattle.line_ends.specs.declared.stop.LineStop.{LineStop}
+use Rattle.line_ends.specs.declared.stop.LineStop.TheVariants as stop
+use Rattle.worker_crew.specs.declared.fault.AllFault.{AllFault}
+use Rattle.worker_crew.specs.declared.fault.AllFault.TheVariants.{Memory}
+use Rattle.worker_crew.specs.Dealt.{times}
+use Rattle.worker_crew.specs.Gathered.{IsWorst}
 use Rattle.rewrite_workers.specs.Desks.{EachDesk}
 use Rattle.rewrite_workers.specs.Works.{term_at, strategy_of, tells_events, remembers_results, AreBuilt}
 
@@ -63,13 +64,6 @@ Ended s rules drawn old new (Ok _) = BuiltAll s rules drawn old new × (new.refu
 Ended s rules drawn old new (Err stop.StoreFull) = RefusedLast s rules drawn old new fault.StoreFull
 Ended s rules drawn old new (Err stop.Worn) = RefusedLast s rules drawn old new fault.Worn
 Ended s rules drawn old new (Err stop.Memory) = BuiltFront s rules drawn old new × (new.refusals ≡ old.refusals)
-
--- The fault of several ends: want of memory goes before want of numbers, and that before want of rows.
-abbrev pub IsWorst : List (Result (Unit {0}) LineStop) → Option AllFault → Type 0
-IsWorst ends None = All (λ end. end ≡ Ok tt) ends
-IsWorst ends (Some Memory) = Contains ends (Err stop.Memory)
-IsWorst ends (Some Worn) = Contains ends (Err stop.Worn) × (Contains ends (Err stop.Memory) → ⊥)
-IsWorst ends (Some StoreFull) = Contains ends (Err stop.StoreFull) × (Contains ends (Err stop.Worn) → ⊥) × (Contains ends (Err stop.Memory) → ⊥)
 
 -- Each worker drew some of the terms and ended so, with its desk. The fault is the worst of their ends, or there was no memory to begin
 -- or to end with.

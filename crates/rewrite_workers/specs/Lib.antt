@@ -1,11 +1,11 @@
-pub mod Dealt
 pub mod Works
+pub mod Lacking
+pub mod Wearing
 pub mod Lined
 pub mod Desks
 pub mod Ends
 pub mod Working
 pub mod Worked
 pub mod Shares
-pub mod Gathered
-pub mod Crews
+pub mod Outcome
 pub mod Trials

@@ -1,5 +1,5 @@
 -- The lines of terms with their events, and which worker drew which term.
-use Rattle.std.specs.Prelude.{ℕ, ◌==◌, List, [], ◌∷◌, map, if◌then◌else◌}
+use Rattle.std.specs.Prelude.{ℕ, ◌==◌, List, [], ◌∷◌, if◌then◌else◌}
 use Rattle.term_model.specs.Tree.{Tree}
 use Rattle.symbol_pool.specs.Pool.{Named}
 use Rattle.rewrite_model.specs.Rule.{Rule}
@@ -9,9 +9,9 @@ use Rattle.rewrite_model.specs.declared.event.Event.{Event}
 use Rattle.term_lines.specs.Line.{line_text, kind_of, spent_of, is_value}
 use Rattle.term_lines.specs.Tracing.{events_of}
 use Rattle.term_lines.specs.Strategies.{ended}
-use Rattle.term_lines.specs.declared.ending.LineKind.{LineKind}
-use Rattle.rewrite_workers.specs.declared.lines.Line.{Line}
-use Rattle.rewrite_workers.specs.declared.lines.Traced.{Traced}
+use Rattle.line_ends.specs.declared.kind.LineKind.{LineKind}
+use Rattle.worker_crew.specs.declared.lines.Line.{Line}
+use Rattle.worker_crew.specs.declared.lines.Traced.{Traced}
 use Rattle.rewrite_workers.specs.Works.{strategy_of, tells_events}
 
 -- what a line says of its term

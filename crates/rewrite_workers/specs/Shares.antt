@@ -1,12 +1,12 @@
 -- What all workers leave.
-use Rattle.std.specs.Prelude.{◌≡◌, ℕ, ◌<◌, ◌^◌, List, [], ◌∷◌, length, All}
+use Rattle.std.specs.Prelude.{List, [], ◌∷◌}
 use Rattle.term_model.specs.Tree.{Tree}
 use Rattle.terms_api.specs.Terms.{Store}
 use Rattle.symbol_pool.specs.Pool.{Named}
 use Rattle.rule_match.specs.Planned.{Planned}
 use Rattle.settings.specs.declared.parts.Settings.{Settings}
 use Rattle.atomic_table.specs.Seated.{TableId}
-use Rattle.rewrite_workers.specs.declared.worker.Share.{Share}
+use Rattle.worker_crew.specs.declared.share.Share.{Share}
 use Rattle.rewrite_workers.specs.Desks.{IsReady}
 use Rattle.rewrite_workers.specs.Worked.{Drew, Worked}
 

@@ -1,40 +1,25 @@
 -- What a worker's share has, before and after it draws terms.
-use Rattle.std.specs.Prelude.{◌≡◌, ◌≢◌, ℕ, ◌<◌, ◌≤◌, List, [], ◌∷◌, ◌++◌, Result, Ok, Err, map, length, filter, nat_lt, All, max}
+use Rattle.std.specs.Prelude.{◌≡◌, ℕ, ◌<◌, ◌≤◌, List, [], ◌∷◌, ◌++◌, Result, Ok, Err, map, length, filter, nat_lt, All}
 use Rattle.term_model.specs.Tree.{Tree}
 use Rattle.terms_api.specs.Terms.{Store}
 use Rattle.symbol_pool.specs.Pool.{Named}
 use Rattle.rewrite_model.specs.Rule.{Rule}
 use Rattle.settings.specs.declared.parts.Settings.{Settings}
 use Rattle.atomic_table.specs.Seated.{TableId}
-use Rattle.term_lines.specs.declared.stop.LineStop.{LineStop}
-use Rattle.rewrite_workers.specs.declared.lines.Traced.{Traced}
-use Rattle.rewrite_workers.specs.declared.worker.Numbered.{Numbered}
-use Rattle.rewrite_workers.specs.declared.worker.Share.{Share}
-use Rattle.rewrite_workers.specs.Dealt.{IsIn, times}
+use Rattle.line_ends.specs.declared.stop.LineStop.{LineStop}
+use Rattle.worker_crew.specs.declared.lines.Traced.{Traced}
+use Rattle.worker_crew.specs.declared.share.Numbered.{Numbered}
+use Rattle.worker_crew.specs.declared.share.Share.{Share}
+use Rattle.worker_crew.specs.Dealt.{IsIn, times}
+use Rattle.worker_crew.specs.Crews.{drawn_of, number_of}
 use Rattle.rewrite_workers.specs.Works.{term_at, need_of}
 use Rattle.rewrite_workers.specs.Lined.{Told, told, told_of}
 use Rattle.rewrite_workers.specs.Ends.{Ended, Rises, numbered}
 use Rattle.rewrite_workers.specs.Working.{WorksOn}
 
--- what a share's seat has drawn
-abbrev pub drawn_of : Share → List ℕ
-drawn_of share = share.seat.me.0.numbers
-
-abbrev pub number_of : Numbered → ℕ
-number_of x = x.number
-
 -- the numbers that are those of terms
 abbrev pub of_terms : ℕ → List ℕ → List ℕ
 of_terms count numbers = filter (λ i. nat_lt i count) numbers
-
--- one share of the draws, which has drawn nothing, and no lines
-pub record IsFresh (table : TableId) (count : ℕ) (share : Share) : Type 0 where
-  pub seat : IsIn table share.seat.table_id share.seat.me share.seat.me.0
-  pub shares : share.seat.me.0.shares ≡ 1
-  pub end : share.seat.me.0.end ≡ count
-  pub past : share.seat.me.0.past ≡ 0
-  pub none : drawn_of share ≡ []
-  pub no_lines : share.lines.items ≡ []
 
 -- the seat and the worker's number are as before
 pub record KeepsSeat (old new : Share) : Type 0 where

@@ -1,8 +1,6 @@
 -- What a worker has, and what it leaves of its desk.
-use Rattle.std.specs.Prelude.{◌≡◌, ◌≢◌, ℕ, ◌+◌, ◌<◌, ◌≤◌, List, [], ◌∷◌, Result, Ok, Err, max, map, length, filter, nat_lt, slice_index_or, All, Option, Some}
-use Rattle.term_model.specs.Tree.{Tree, Leaf}
+use Rattle.std.specs.Prelude.{◌≡◌, ℕ, ◌≤◌, List, Result, Ok, Err, max, nat_lt, Option, Some}
 use Rattle.terms_api.specs.Terms.{Store}
-use Rattle.symbol_pool.specs.Pool.{Named}
 use Rattle.rewrite_model.specs.Rule.{Rule}
 use Rattle.rule_match.specs.Planned.{Planned}
 use Rattle.innermost.specs.Machines.{IsFor}
@@ -10,9 +8,9 @@ use Rattle.innermost.specs.Remembered.{Map}
 use Rattle.settings.specs.declared.parts.Settings.{Settings}
 use Rattle.term_lines.specs.Written.{MayRecall, SweepsMore}
 use Rattle.term_lines.specs.declared.rewriter.Rewriter.{Rewriter}
-use Rattle.term_lines.specs.declared.stop.LineStop.{LineStop}
+use Rattle.line_ends.specs.declared.stop.LineStop.{LineStop}
 use Rattle.rewrite_workers.specs.Works.{strategy_of, is_traced, IsInnermost, remembers_results}
-use Rattle.term_lines.specs.declared.stop.LineStop.TheVariants as stop
+use Rattle.line_ends.specs.declared.stop.LineStop.TheVariants as stop
 
 -- a rewriter of a plan, with the strategy of the settings' command, their fuel, depth and rows, and what they ask to be told
 pub record IsRewriterOf (s : Settings) (plan : Planned) (rewriter : Rewriter) : Type 0 where

@@ -1,15 +1,12 @@
 // All terms, by all workers.
 ghost use Rattle.std.specs.Prelude.{◌≡◌, ◌<◌, ◌^◌, All, IfOk, IfErr, OnOk, length, map};
-ghost use Rattle.rewrite_workers.specs.Lined.{said, worker_of, line_of, trace_of, drawn_by, told, told_of, maker_of};
-ghost use Rattle.rewrite_workers.specs.declared.fault.AllFault.TheVariants as all;
+ghost use Rattle.rewrite_workers.specs.Lined.{said, worker_of, line_of, trace_of, drawn_by};
 ghost use Rattle.rewrite_workers.specs.Desks.{IsReady, EachDesk, KeepsDesk};
 ghost use Rattle.rewrite_workers.specs.Ends.{Stopped, BuiltAll};
-ghost use Rattle.rewrite_workers.specs.Crews.{IsCrew};
+ghost use Rattle.worker_crew.specs.Crews.{IsCrew};
+ghost use Rattle.rewrite_workers.specs.Outcome.{Traces, Rewrites};
 ghost use Rattle.rewrite_workers.specs.Works.{MayWork, need_of};
 
-use crate::crew::{Crew, crew_of};
-use crate::gather::{beside, collect};
-use crate::lines::Traced;
 use crate::threads::work_all;
 use crate::worker::Job;
 use crate::{AllFault, Lines, Work};
@@ -17,6 +14,7 @@ use ends::Gate;
 use std::alloc::Global;
 use std::thread::Threads;
 use terms_api::Terms;
+use worker_crew::{Crew, Traced, beside, collect, crew_of};
 
 // Rewrites the terms by a crew, and tells lines and events together.
 fn trace_by<R: Threads + Sync, T: Terms + Send, G: Gate>(
@@ -31,31 +29,8 @@ fn trace_by<R: Threads + Sync, T: Terms + Send, G: Gate>(
     requires may { MayWork work.now.plan.now work.now.symbols.now work.now.terms.now }
     requires ready { All (λ d. IsReady work.now.settings work.now.plan.now (T.store d)) desks.old }
     requires crew { IsCrew (length desks.old) (length work.now.terms.now) crew }
-    // The lines are those of the terms, in their order, whoever drew them.
-    ensures lines { IfOk result (λ l. map told l.items
-        ≡ map (told_of work.now.settings work.now.symbols.now work.now.plan.now.rules)
-        work.now.terms.now) }
-    ensures workers { IfOk result (λ l. All (λ w. w < length desks.old) (map maker_of l.items)) }
-
-    // Each desk built what the terms build that its worker drew.
-    ensures built { IfOk result (λ l. EachDesk (λ k old new. BuiltAll work.now.settings
-        work.now.plan.now.rules (drawn_by k (map maker_of l.items) work.now.terms.now)
-        (T.store old) (T.store new)) desks.old desks.new) }
-    ensures no_refusals { OnOk result (EachDesk
-        (λ _ old new. (T.store new).refusals ≡ (T.store old).refusals) desks.old desks.new) }
-
-    // Which desk refused what, and what each had built.
-    ensures stopped { IfErr result (Stopped T.store work.now.settings work.now.plan.now.rules
-        work.now.terms.now desks.old desks.new) }
-    ensures at_end { Stopped T.store work.now.settings work.now.plan.now.rules work.now.terms.now
-        desks.old desks.new all.Memory }
-
-    // What every answer leaves of each desk.
-    ensures ready { All (λ d. IsReady work.now.settings work.now.plan.now (T.store d)) desks.new }
-    ensures kept { EachDesk (λ _ old new. KeepsDesk work.now.settings
-        (need_of work.now.settings work.now.plan.now.rules work.now.terms.now)
-        (T.store old) (T.store new)) desks.old desks.new }
-    ensures same { EachDesk (λ _ old new. T.same old new) desks.old desks.new }
+    ensures { Traces T.store T.same work.now.settings work.now.plan.now work.now.symbols.now
+        work.now.terms.now desks.old desks.new result }
 {
     let Crew {
         draws,
@@ -86,33 +61,8 @@ fn rewrite_by<R: Threads + Sync, T: Terms + Send, G: Gate>(
     requires may { MayWork work.now.plan.now work.now.symbols.now work.now.terms.now }
     requires ready { All (λ d. IsReady work.now.settings work.now.plan.now (T.store d)) desks.old }
     requires crew { IsCrew (length desks.old) (length work.now.terms.now) crew }
-    // The lines are those of the terms, in their order, whoever drew them, and the events beside
-    // them lead to their values.
-    ensures lines { IfOk result (λ l. map said l.list.items
-        ≡ map (line_of work.now.settings work.now.symbols.now work.now.plan.now.rules)
-        work.now.terms.now) }
-    ensures traces { IfOk result (λ l. map (λ t. t.items) l.traces.items
-        ≡ map (trace_of work.now.settings work.now.plan.now.rules) work.now.terms.now) }
-    ensures workers { IfOk result (λ l. All (λ w. w < length desks.old)
-        (map worker_of l.list.items)) }
-
-    // Each desk built what the terms build that its worker drew.
-    ensures built { IfOk result (λ l. EachDesk (λ k old new. BuiltAll work.now.settings
-        work.now.plan.now.rules (drawn_by k (map worker_of l.list.items) work.now.terms.now)
-        (T.store old) (T.store new)) desks.old desks.new) }
-    ensures no_refusals { OnOk result (EachDesk
-        (λ _ old new. (T.store new).refusals ≡ (T.store old).refusals) desks.old desks.new) }
-
-    // Which desk refused what, and what each had built.
-    ensures stopped { IfErr result (Stopped T.store work.now.settings work.now.plan.now.rules
-        work.now.terms.now desks.old desks.new) }
-
-    // What every answer leaves of each desk.
-    ensures ready { All (λ d. IsReady work.now.settings work.now.plan.now (T.store d)) desks.new }
-    ensures kept { EachDesk (λ _ old new. KeepsDesk work.now.settings
-        (need_of work.now.settings work.now.plan.now.rules work.now.terms.now)
-        (T.store old) (T.store new)) desks.old desks.new }
-    ensures same { EachDesk (λ _ old new. T.same old new) desks.old desks.new }
+    ensures { Rewrites T.store T.same work.now.settings work.now.plan.now work.now.symbols.now
+        work.now.terms.now desks.old desks.new result }
 {
     match trace_by(rt, alloc, work, desks, gate, crew) {
         Ok(traced) => match beside(alloc, traced) {

@@ -3,13 +3,14 @@ ghost use Rattle.std.specs.Thread.{IsSync, IsSend};
 ghost use Rattle.std.specs.Prelude.{◌≡◌, All, length};
 ghost use Rattle.rewrite_workers.specs.Works.{MayWork};
 ghost use Rattle.rewrite_workers.specs.Desks.{IsReady};
-ghost use Rattle.rewrite_workers.specs.Worked.{IsFresh};
+ghost use Rattle.worker_crew.specs.Crews.{IsFresh};
 ghost use Rattle.rewrite_workers.specs.Shares.{EachShare, Works};
 
-use crate::worker::{Job, Share, work};
+use crate::worker::{Job, work};
 use ends::Gate;
 use std::thread::{Threads, join_mut};
 use terms_api::Terms;
+use worker_crew::Share;
 
 /// Each worker works on its desk, all at the same time: the first in this thread, and each other in
 /// one of its own where one can be made.

@@ -6,12 +6,11 @@ ghost use Rattle.rewrite_workers.specs.Lined.{told, told_of};
 ghost use Rattle.rewrite_workers.specs.Desks.{IsReady};
 ghost use Rattle.rewrite_workers.specs.Ends.{Ended};
 ghost use Rattle.rewrite_workers.specs.Working.{IsRewriterOf, Recalls, WorksOn};
-ghost use Rattle.rewrite_workers.specs.Worked.{IsFresh, AddsLine, KeepsSeat, Drew, Worked};
+ghost use Rattle.rewrite_workers.specs.Worked.{AddsLine, KeepsSeat, Drew, Worked};
+ghost use Rattle.worker_crew.specs.Crews.{IsFresh};
 
-use crate::draws::{Draws, Seat, draw};
-use crate::lines::Traced;
+use crate::Work;
 use crate::remembered::Remembered;
-use crate::{Line, Work};
 use ends::Gate;
 use faults::Memory;
 use innermost::{Machine, Memo, NoMemo};
@@ -20,23 +19,7 @@ use std::alloc::Global;
 use term_lines::{LineStop, Rewriter};
 use term_text::SizeMarks;
 use terms_api::Terms;
-
-/// The line of a term with its events, and with the term's number.
-#[derive(Drop)]
-pub(crate) struct Numbered {
-    pub number: u32,
-    pub line: Traced,
-}
-
-/// What a worker has of its own: its number, its seat in the draws, the lines that it made, in
-/// order, and how it ended.
-#[derive(Drop)]
-pub(crate) struct Share {
-    pub worker: u32,
-    pub seat: Seat,
-    pub lines: Vec<Numbered>,
-    pub end: Result<(), LineStop>,
-}
+use worker_crew::{Draws, Line, Numbered, Share, Traced, draw};
 
 /// What all workers share: the work, the draws and the gate.
 pub(crate) struct Job<'a, G> {

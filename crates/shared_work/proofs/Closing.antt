@@ -13,8 +13,8 @@ use Rattle.node_rows.specs.declared.store.Store.{Store}
 use Rattle.node_rows.specs.declared.store.Pass.{Pass}
 use Rattle.node_rows.specs.Passes.{IsPass, IsOut}
 use Rattle.node_rows.specs.Told.{HasEntries, KeepsOrder, HasRisingKeys, TellsTrees}
-use Rattle.rewrite_workers.specs.declared.fault.AllFault.{AllFault}
-use Rattle.rewrite_workers.specs.declared.lines.Lines.{Lines}
+use Rattle.worker_crew.specs.declared.fault.AllFault.{AllFault}
+use Rattle.worker_crew.specs.declared.lines.Lines.{Lines}
 use Rattle.rewrite_workers.specs.Lined.{worker_of, drawn_by}
 use Rattle.rewrite_workers.specs.Works.{AreBuilt}
 use Rattle.shared_desk.specs.Code.{Contents}
@@ -23,7 +23,7 @@ use Rattle.shared_desk.specs.Passes.{IsBack}
 use Rattle.shared_desk.specs.Passes as passes
 use Rattle.shared_desk.specs.Telling.{collects_by}
 use Rattle.shared_desk.proofs.Telling.{built_are_named, sweeps_are_counted}
-use Rattle.shared_work.specs.NewDesks.{IsNewDesk}
+use Rattle.work_desks.specs.NewDesks.{IsNewDesk}
 use Rattle.shared_work.specs.Running.{HasRun}
 use Rattle.shared_work.specs.Sharing.{named_by, NamesWhatItBuilt, CollectsFew, KeepsOrders, EachRises}
 

@@ -9,8 +9,8 @@ use Rattle.history_core.specs.Chronicle.{History}
 use Rattle.history_core.proofs.Members.{contains_here, contains_there}
 use Rattle.store_model.specs.Bases.{StaysBelow, collect_numbers}
 use Rattle.store_model.specs.Machine.{In}
-use Rattle.rewrite_workers.specs.Dealt.{times}
-use Rattle.rewrite_workers.proofs.Dealing.{hit, times_cons, hit_same}
+use Rattle.worker_crew.specs.Dealt.{times}
+use Rattle.worker_crew.proofs.Dealing.{hit, times_cons, hit_same}
 use Rattle.shared_desk.specs.Telling.{collects_by}
 
 -- g 0 + .. + g (n - 1)

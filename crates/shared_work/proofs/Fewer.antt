@@ -10,8 +10,8 @@ use Rattle.settings.specs.declared.parts.Settings.{Settings}
 use Rattle.history_core.specs.declared.entry.Entry.{Entry}
 use Rattle.rewrite_workers.specs.Ends.{numbered}
 use Rattle.rewrite_workers.specs.Works.{built_of}
-use Rattle.rewrite_workers.specs.declared.fault.AllFault.{AllFault}
-use Rattle.rewrite_workers.specs.declared.lines.Lines.{Lines}
+use Rattle.worker_crew.specs.declared.fault.AllFault.{AllFault}
+use Rattle.worker_crew.specs.declared.lines.Lines.{Lines}
 use Rattle.shared_work.specs.Filling.{IsMade, FillsRows, TellsFull}
 use Rattle.shared_work.specs.Fronts.{NamesOnlyBuilt}
 use Rattle.shared_work.specs.Numbers.{TellsNeed, TellsFew}

@@ -17,9 +17,9 @@ use Rattle.node_rows.specs.declared.store.Pass.{Pass}
 use Rattle.node_rows.specs.Crowding.{EndsWith, IsLastCollect}
 use Rattle.node_rows.specs.Told.{TellsTrees, TellsCrowd}
 use Rattle.node_rows.proofs.Crowding.{told_none_by}
-use Rattle.rewrite_workers.specs.declared.fault.AllFault.{AllFault}
-use Rattle.rewrite_workers.specs.declared.fault.AllFault.TheVariants.{StoreFull}
-use Rattle.rewrite_workers.specs.declared.lines.Lines.{Lines}
+use Rattle.worker_crew.specs.declared.fault.AllFault.{AllFault}
+use Rattle.worker_crew.specs.declared.fault.AllFault.TheVariants.{StoreFull}
+use Rattle.worker_crew.specs.declared.lines.Lines.{Lines}
 use Rattle.rewrite_workers.specs.Ends.{numbered, AreApart}
 use Rattle.rewrite_workers.specs.Works.{strategy_of, remembers_results}
 use Rattle.shared_desk.specs.Desk.{store_of}

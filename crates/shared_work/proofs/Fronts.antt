@@ -16,11 +16,11 @@ use Rattle.node_rows.specs.declared.store.Pass.{Pass}
 use Rattle.node_rows.specs.Told.{TellsTrees}
 use Rattle.term_lines.specs.Strategies.{IsBuiltBy}
 use Rattle.term_lines.proofs.Lists.{none_built}
-use Rattle.term_lines.specs.declared.stop.LineStop.{LineStop}
-use Rattle.term_lines.specs.declared.stop.LineStop.TheVariants as stop
-use Rattle.rewrite_workers.specs.declared.fault.AllFault.{AllFault}
-use Rattle.rewrite_workers.specs.declared.lines.Lines.{Lines}
-use Rattle.rewrite_workers.specs.Dealt.{times}
+use Rattle.line_ends.specs.declared.stop.LineStop.{LineStop}
+use Rattle.line_ends.specs.declared.stop.LineStop.TheVariants as stop
+use Rattle.worker_crew.specs.declared.fault.AllFault.{AllFault}
+use Rattle.worker_crew.specs.declared.lines.Lines.{Lines}
+use Rattle.worker_crew.specs.Dealt.{times}
 use Rattle.rewrite_workers.specs.Ends.{numbered, Rises, AreApart, BuiltAll, BuiltFront, RefusedLast, Ended}
 use Rattle.rewrite_workers.specs.Lined.{worker_of, drawn_by}
 use Rattle.rewrite_workers.specs.Works.{strategy_of, remembers_results, AreBuilt}

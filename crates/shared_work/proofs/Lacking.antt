@@ -19,9 +19,9 @@ use Rattle.node_rows.specs.declared.store.Pass.{Pass}
 use Rattle.node_rows.specs.Crowding.{IsLastCollect}
 use Rattle.node_rows.specs.Told.{KeepsOrder, TellsTrees, TellsCrowd}
 use Rattle.node_rows.proofs.Crowding.{told_none_by}
-use Rattle.rewrite_workers.specs.declared.fault.AllFault.{AllFault}
-use Rattle.rewrite_workers.specs.declared.fault.AllFault.TheVariants.{StoreFull}
-use Rattle.rewrite_workers.specs.declared.lines.Lines.{Lines}
+use Rattle.worker_crew.specs.declared.fault.AllFault.{AllFault}
+use Rattle.worker_crew.specs.declared.fault.AllFault.TheVariants.{StoreFull}
+use Rattle.worker_crew.specs.declared.lines.Lines.{Lines}
 use Rattle.rewrite_workers.specs.Works.{need_of, IsInnermost, remembers_results}
 use Rattle.shared_desk.specs.Desk.{store_of}
 use Rattle.shared_desk.specs.Telling.{protected_by}
@@ -126,7 +126,3 @@ pub tells_need : (s : Settings) (rules : List Rule) (terms : List Tree) (store :
 tells_need s rules terms store (Ok l) ps run lists seats same_rows count rows legal order tells crowds = tt
 tells_need s rules terms store (Err f) ps run lists seats same_rows count rows legal order tells crowds = λ e innermost.
     needs s innermost rules terms store ps (subst (λ (x : AllFault). let r : Result Lines AllFault = Err x in HasRun s rules terms store r ps) e run) lists seats same_rows count rows legal order tells crowds
-
-pub none_needed : (s : Settings) (rules : List Rule) (terms : List Tree) (lines : Result Lines AllFault) → WantsMemory lines → IfErr lines (TellsNeed s rules terms)
-none_needed s rules terms (Ok l) e = tt
-none_needed s rules terms (Err f) e = λ q. absurd cc

@@ -1,4 +1,3 @@
-pub mod Making
 pub mod Readying
 pub mod Closing
 pub mod Kept
@@ -14,4 +13,5 @@ pub mod Members
 pub mod Fronts
 pub mod Fewer
 pub mod Logging
-pub mod LastKeys
+pub mod Keyed
+pub mod Outcome

@@ -13,7 +13,7 @@ use Rattle.node_rows.specs.declared.store.Store.{Store}
 use Rattle.rewrite_workers.specs.Desks.{IsReady}
 use Rattle.shared_desk.specs.Code.{Contents}
 use Rattle.shared_desk.specs.Desk.{store_of}
-use Rattle.shared_work.specs.NewDesks.{sizes_for, IsNewDesk}
+use Rattle.work_desks.specs.NewDesks.{sizes_for, IsNewDesk}
 
 wide : (m n : ℕ) → m ≤ max m n
 wide m n = grind arith

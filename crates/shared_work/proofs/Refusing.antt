@@ -8,10 +8,11 @@ use Rattle.settings.specs.declared.parts.Settings.{Settings}
 use Rattle.innermost.specs.declared.normal.RunFault.TheVariants as fault
 use Rattle.node_rows.specs.declared.store.Store.{Store}
 use Rattle.node_rows.specs.declared.store.Pass.{Pass}
-use Rattle.term_lines.specs.declared.stop.LineStop.{LineStop}
-use Rattle.term_lines.specs.declared.stop.LineStop.TheVariants as stop
-use Rattle.rewrite_workers.specs.declared.fault.AllFault.TheVariants.{StoreFull, Memory}
-use Rattle.rewrite_workers.specs.Ends.{numbered, Ended, RefusedLast, IsWorst}
+use Rattle.line_ends.specs.declared.stop.LineStop.{LineStop}
+use Rattle.line_ends.specs.declared.stop.LineStop.TheVariants as stop
+use Rattle.worker_crew.specs.declared.fault.AllFault.TheVariants.{StoreFull, Memory}
+use Rattle.rewrite_workers.specs.Ends.{numbered, Ended, RefusedLast}
+use Rattle.worker_crew.specs.Gathered.{IsWorst}
 use Rattle.shared_desk.specs.Desk.{store_of}
 use Rattle.shared_work.specs.Running.{HasRun}
 use Rattle.shared_work.proofs.Closing.{Worker, worker, all_got}

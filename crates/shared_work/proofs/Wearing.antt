@@ -25,22 +25,24 @@ use Rattle.node_rows.specs.Joining.{HasBase}
 use Rattle.node_rows.specs.Told.{HasEntries, TellsTrees, view_of}
 use Rattle.term_lines.specs.Strategies.{built_by, IsBuiltBy}
 use Rattle.term_lines.proofs.Lists.{no_longer}
-use Rattle.term_lines.specs.declared.stop.LineStop.{LineStop}
-use Rattle.term_lines.specs.declared.stop.LineStop.TheVariants as stop
-use Rattle.rewrite_workers.specs.declared.fault.AllFault.{AllFault}
-use Rattle.rewrite_workers.specs.declared.fault.AllFault.TheVariants.{Worn, Memory}
-use Rattle.rewrite_workers.specs.declared.lines.Lines.{Lines}
-use Rattle.rewrite_workers.specs.Dealt.{times}
-use Rattle.rewrite_workers.specs.Ends.{numbered, BuiltAll, BuiltFront, Ended, RefusedLast, IsWorst}
+use Rattle.line_ends.specs.declared.stop.LineStop.{LineStop}
+use Rattle.line_ends.specs.declared.stop.LineStop.TheVariants as stop
+use Rattle.worker_crew.specs.declared.fault.AllFault.{AllFault}
+use Rattle.worker_crew.specs.declared.fault.AllFault.TheVariants.{Worn, Memory}
+use Rattle.worker_crew.specs.declared.lines.Lines.{Lines}
+use Rattle.worker_crew.specs.Dealt.{times}
+use Rattle.rewrite_workers.specs.Ends.{numbered, BuiltAll, BuiltFront, Ended, RefusedLast}
+use Rattle.worker_crew.specs.Gathered.{IsWorst}
 use Rattle.rewrite_workers.specs.Works.{term_at, strategy_of, remembers_results, built_of, AreBuilt}
-use Rattle.rewrite_workers.proofs.Dealing.{hit, times_cons, times_append}
+use Rattle.worker_crew.proofs.Dealing.{hit, times_cons, times_append}
 use Rattle.shared_desk.specs.Desk.{store_of}
 use Rattle.shared_desk.specs.Pass.{PassView, WhichStore, IsWorn}
 use Rattle.shared_desk.specs.Passes as passes
 use Rattle.shared_desk.specs.Telling.{collects_by}
 use Rattle.shared_work.specs.Running.{HasRun, WantsMemory}
 use Rattle.shared_work.specs.Sharing.{named_by}
-use Rattle.shared_work.specs.Wearing.{WearsOut, TellsWorn}
+use Rattle.rewrite_workers.specs.Wearing.{WearsOut}
+use Rattle.shared_work.specs.Wearing.{TellsWorn}
 use Rattle.shared_work.proofs.Closing.{Worker, worker, names_built, collects_few, all_got}
 use Rattle.shared_work.proofs.Refusals.{StopsAt, last_refused, first, drawn_builds, was_built}
 use Rattle.shared_work.proofs.Counting.{total, total_most, total_more, weigh, weigh_hands, weigh_once, collects_most, stays_most}

@@ -9,8 +9,8 @@ use Rattle.settings.specs.declared.parts.Settings.{Settings}
 use Rattle.node_rows.specs.Crowding.{IsLastCollect}
 use Rattle.rewrite_workers.specs.Ends.{numbered, AreApart}
 use Rattle.rewrite_workers.specs.Works.{AreBuilt}
-use Rattle.rewrite_workers.specs.declared.fault.AllFault.{AllFault}
-use Rattle.rewrite_workers.specs.declared.fault.AllFault.TheVariants.{StoreFull}
+use Rattle.worker_crew.specs.declared.fault.AllFault.{AllFault}
+use Rattle.worker_crew.specs.declared.fault.AllFault.TheVariants.{StoreFull}
 use Rattle.shared_work.specs.Sharing.{named_by}
 
 -- a worker has made or found the tree

@@ -6,8 +6,8 @@ use Rattle.rewrite_model.specs.Rule.{Rule}
 use Rattle.settings.specs.declared.parts.Settings.{Settings}
 use Rattle.rewrite_workers.specs.Ends.{numbered, AreApart}
 use Rattle.rewrite_workers.specs.Works.{built_of, AreBuilt}
-use Rattle.rewrite_workers.specs.declared.fault.AllFault.{AllFault}
-use Rattle.rewrite_workers.specs.declared.lines.Lines.{Lines}
+use Rattle.worker_crew.specs.declared.fault.AllFault.{AllFault}
+use Rattle.worker_crew.specs.declared.lines.Lines.{Lines}
 use Rattle.shared_work.specs.Running.{WantsMemory}
 use Rattle.shared_work.specs.Sharing.{named_by}
 

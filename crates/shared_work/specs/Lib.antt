@@ -1,9 +1,7 @@
-pub mod NewDesks
 pub mod Running
 pub mod Sharing
 pub mod Filling
 pub mod Numbers
 pub mod Wearing
 pub mod Fronts
-pub mod Keys
-pub mod Texts
+pub mod Outcome

@@ -1,25 +1,16 @@
 -- The numbers that the rows fall short of where workers on one store stop for want of them.
-use Rattle.std.specs.Prelude.{◌≡◌, ◌*◌, ◌<◌, List}
-use Rattle.term_model.specs.Tree.{Tree, distinct}
+use Rattle.std.specs.Prelude.{◌≡◌, List}
+use Rattle.term_model.specs.Tree.{Tree}
 use Rattle.rewrite_model.specs.Rule.{Rule}
-use Rattle.rewrite_model.specs.Built.{need_of_all}
 use Rattle.settings.specs.declared.parts.Settings.{Settings}
-use Rattle.rewrite_workers.specs.Works.{built_of, IsInnermost}
-use Rattle.rewrite_workers.specs.declared.fault.AllFault.{AllFault}
-use Rattle.rewrite_workers.specs.declared.fault.AllFault.TheVariants.{StoreFull}
+use Rattle.rewrite_workers.specs.Lacking.{NeedsMore, LacksRows}
+use Rattle.worker_crew.specs.declared.fault.AllFault.{AllFault}
+use Rattle.worker_crew.specs.declared.fault.AllFault.TheVariants.{StoreFull}
 
--- all workers at once may need more rows than there are; of outermost rewriting no need is told
-abbrev pub NeedsMore : Settings → List Rule → List Tree → Type 0
-NeedsMore s rules terms = IsInnermost s → s.rows < s.workers * need_of_all rules terms s.fuel s.depth
-
+-- want of rows is told only where all workers at once may need more
 abbrev pub TellsNeed : Settings → List Rule → List Tree → AllFault → Type 0
 TellsNeed s rules terms fault = fault ≡ StoreFull → NeedsMore s rules terms
 
--- and the terms build more different trees than there are rows
-pub record LacksRows (s : Settings) (rules : List Rule) (terms : List Tree) : Type 0 where
-  pub built : s.rows < distinct (built_of s rules terms)
-  pub need : NeedsMore s rules terms
-
--- want of rows is told only there
+-- want of rows is told only where the rows are too few
 abbrev pub TellsFew : Settings → List Rule → List Tree → AllFault → Type 0
 TellsFew s rules terms fault = fault ≡ StoreFull → LacksRows s rules terms

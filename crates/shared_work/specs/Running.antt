@@ -6,9 +6,9 @@ use Rattle.rewrite_model.specs.Rule.{Rule}
 use Rattle.settings.specs.declared.parts.Settings.{Settings}
 use Rattle.settings.specs.Words.{AreInRange}
 use Rattle.busy_forbidden.specs.Dealt.{EachPlace}
-use Rattle.rewrite_workers.specs.declared.fault.AllFault.{AllFault}
-use Rattle.rewrite_workers.specs.declared.fault.AllFault.TheVariants.{Memory}
-use Rattle.rewrite_workers.specs.declared.lines.Lines.{Lines}
+use Rattle.worker_crew.specs.declared.fault.AllFault.{AllFault}
+use Rattle.worker_crew.specs.declared.fault.AllFault.TheVariants.{Memory}
+use Rattle.worker_crew.specs.declared.lines.Lines.{Lines}
 use Rattle.rewrite_workers.specs.Desks.{EachDesk, KeepsDesk}
 use Rattle.rewrite_workers.specs.Ends.{BuiltAll, Stopped}
 use Rattle.rewrite_workers.specs.declared.work.Work.{Work}
@@ -21,7 +21,7 @@ use Rattle.log_text.specs.Lines.{log_of}
 use Rattle.shared_desk.specs.Code.{Contents}
 use Rattle.shared_desk.specs.Desk.{store_of, IsSame}
 use Rattle.shared_desk.specs.Telling.{MayHaveDesk}
-use Rattle.shared_work.specs.NewDesks.{sizes_for, IsNewPass, IsNewDesk, AreBack}
+use Rattle.work_desks.specs.NewDesks.{sizes_for, IsNewPass, IsNewDesk, AreBack}
 
 -- Workers may begin on the terms at these passes of a new store.
 pub record MayBegin (work : Work) (store : Store) (given : List Pass) : Type 0 where

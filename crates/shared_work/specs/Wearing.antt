@@ -1,16 +1,11 @@
--- When the numbers of the store for some work may be used up.
-use Rattle.std.specs.Prelude.{◌≡◌, ◌+◌, ◌*◌, ◌^◌, ◌≤◌, List, length}
+-- What is told of work on one store whose numbers may be used up.
+use Rattle.std.specs.Prelude.{◌≡◌, List}
 use Rattle.term_model.specs.Tree.{Tree}
 use Rattle.rewrite_model.specs.Rule.{Rule}
 use Rattle.settings.specs.declared.parts.Settings.{Settings}
-use Rattle.rewrite_workers.specs.Works.{built_of}
-use Rattle.rewrite_workers.specs.declared.fault.AllFault.{AllFault}
-use Rattle.rewrite_workers.specs.declared.fault.AllFault.TheVariants.{Worn}
-
--- The numbers end at 2^62, and there may be so many collections that those don't suffice: one for each tree that the terms build, and for
--- each worker one more; each, and two more, may use as many numbers as there are rows and workers, and one.
-abbrev pub WearsOut : Settings → List Rule → List Tree → Type 0
-WearsOut s rules terms = 2 ^ 62 ≤ (length (built_of s rules terms) + s.workers + 2) * (s.rows + s.workers + 1)
+use Rattle.rewrite_workers.specs.Wearing.{WearsOut}
+use Rattle.worker_crew.specs.declared.fault.AllFault.{AllFault}
+use Rattle.worker_crew.specs.declared.fault.AllFault.TheVariants.{Worn}
 
 -- want of numbers is told only where they may be used up
 abbrev pub TellsWorn : Settings → List Rule → List Tree → AllFault → Type 0

@@ -1,9 +1,6 @@
 //! The terms of some work, rewritten by desks on one shared store.
 #![tactic(auto)]
 
-mod desks;
-mod keys;
-mod logs;
 mod sharing;
 
 pub use rewrite_workers::{AllFault, Lines, Work};

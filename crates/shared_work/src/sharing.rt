@@ -10,13 +10,11 @@ ghost use Rattle.log_text.specs.Keys.{HaveKeys};
 ghost use Rattle.shared_work.specs.Filling.{TellsFull};
 ghost use Rattle.shared_work.specs.Wearing.{TellsWorn};
 ghost use Rattle.shared_work.specs.Fronts.{NamesFronts, NamesOnlyBuilt, TellsEach};
-ghost use Rattle.shared_work.specs.Numbers.{TellsFew, TellsNeed};
-ghost use Rattle.shared_work.specs.Running.{MayBegin, AreLines, HasRun, WantsMemory, IsAskedLog, entries_of};
+ghost use Rattle.shared_work.specs.Numbers.{TellsFew};
+ghost use Rattle.shared_work.specs.Outcome.{Ran, Tells};
+ghost use Rattle.shared_work.specs.Running.{MayBegin, WantsMemory, IsAskedLog};
 ghost use Rattle.shared_work.specs.Sharing.{NamesWhatItBuilt, CollectsFew, KeepsOrders, EachRises};
 
-use crate::desks::{desks_at, log_desks_at, passes_of, store_for};
-use crate::keys::with_keys;
-use crate::logs::{parts_of, with_end};
 use ends::Gate;
 use faults::Memory;
 use log_text::LogText;
@@ -25,6 +23,7 @@ use rewrite_workers::{AllFault, Lines, Work, rewrite_all};
 use std::alloc::Global;
 use std::sync::Wait;
 use std::thread::Threads;
+use work_desks::{desks_at, log_desks_at, parts_of, passes_of, store_for, with_end, with_keys};
 
 /// What comes of some work.
 #[derive(Drop)]
@@ -55,7 +54,6 @@ impl Rewritten {
 
 // The lines, the passes of the workers, which are out, and the log of their entries, where there is
 // one.
-#[derive(Drop)]
 struct Left {
     lines: Result<Lines, AllFault>,
     passes: Vec<Pass>,
@@ -73,14 +71,10 @@ fn rewrite_on<R: Threads + Wait + Sync, G: Gate>(
     gate: &G,
 ) -> Result<Left, Memory>
     requires begin { MayBegin work.now store.now passes.items }
-    ensures lines { IfOk result (λ left. IfOk left.lines (AreLines work.now)) }
-    ensures run { IfOk result (λ left. HasRun work.now.settings work.now.plan.now.rules
-        work.now.terms.now store.now left.lines left.passes.items) }
-    ensures log { IfOk result (λ left. IfSome left.log
-        (λ text. IsAskedLog work.now.settings (entries_of left.passes.items) text)) }
+    ensures { IfOk result
+        (λ left. Ran work.now store.now left.lines left.passes.items left.log) }
 {
-    let mut desks = desks_at(rt, alloc, store, passes)?;
-    let room = Vec::with_capacity(alloc, desks.len())?;
+    let (mut desks, room) = desks_at(rt, alloc, store, passes)?;
     let lines = rewrite_all(rt, alloc, work, &mut desks, gate);
     let passes = passes_of(room, desks);
     Ok(Left {
@@ -102,15 +96,10 @@ fn rewrite_logged<R: Threads + Wait + Sync, G: Gate>(
 ) -> Result<Left, Memory>
     requires begin { MayBegin work.now store.now passes.items }
     requires asked { work.now.settings.log ≡ true }
-    ensures lines { IfOk result (λ left. IfOk left.lines (AreLines work.now)) }
-    ensures run { IfOk result (λ left. HasRun work.now.settings work.now.plan.now.rules
-        work.now.terms.now store.now left.lines left.passes.items) }
-    ensures log { IfOk result (λ left. IfSome left.log
-        (λ text. IsAskedLog work.now.settings (entries_of left.passes.items) text)) }
+    ensures { IfOk result
+        (λ left. Ran work.now store.now left.lines left.passes.items left.log) }
 {
-    let mut desks = log_desks_at(rt, alloc, store, passes)?;
-    let room = Vec::with_capacity(alloc, desks.len())?;
-    let log = LogText::begin(alloc, work.settings.rows, desks.len() as u32)?;
+    let (mut desks, room, log) = log_desks_at(rt, alloc, store, passes, work.settings.rows)?;
     let lines = rewrite_all(rt, alloc, work, &mut desks, gate);
     let (passes, log) = parts_of(alloc, room, log, desks);
     let log = with_end(alloc, log);
@@ -127,11 +116,8 @@ fn rewrite_left<R: Threads + Wait + Sync, G: Gate>(
     gate: &G,
 ) -> Result<Left, Memory>
     requires begin { MayBegin work.now store.now passes.items }
-    ensures lines { IfOk result (λ left. IfOk left.lines (AreLines work.now)) }
-    ensures run { IfOk result (λ left. HasRun work.now.settings work.now.plan.now.rules
-        work.now.terms.now store.now left.lines left.passes.items) }
-    ensures log { IfOk result (λ left. IfSome left.log
-        (λ text. IsAskedLog work.now.settings (entries_of left.passes.items) text)) }
+    ensures { IfOk result
+        (λ left. Ran work.now store.now left.lines left.passes.items left.log) }
 {
     if work.settings.log {
         rewrite_logged(rt, alloc, work, store, passes, gate)
@@ -151,25 +137,7 @@ fn rewrite_at<R: Threads + Wait + Sync, G: Gate>(
 ) -> Rewritten
     requires store { IsOpen store }
     requires begin { MayBegin work.now store passes.items }
-    ensures lines { IfOk result.lines (AreLines work.now) }
-    ensures legal { IsLegal work.now.settings.rows (chronicle result.chronicle) }
-    ensures order { KeepsOrders work.now.settings result.chronicle }
-    ensures rises { EachRises result.chronicle }
-    ensures built { IfOk result.lines (λ l. NamesWhatItBuilt work.now.settings
-        work.now.plan.now.rules work.now.terms.now (map worker_of l.list.items) result.chronicle) }
-    ensures collects { CollectsFew work.now.settings result.chronicle }
-    ensures full { IfErr result.lines (TellsFull work.now.settings work.now.plan.now.rules
-        work.now.terms.now result.chronicle) }
-    ensures need { IfErr result.lines (TellsNeed work.now.settings work.now.plan.now.rules
-        work.now.terms.now) }
-    ensures worn { IfErr result.lines (TellsWorn work.now.settings work.now.plan.now.rules
-        work.now.terms.now) }
-    ensures each { TellsEach work.now.settings result.lines result.chronicle }
-    ensures front { IfErr result.lines (λ fault. NamesFronts work.now.settings
-        work.now.plan.now.rules work.now.terms.now result.chronicle) }
-    ensures log { IfSome result.log
-        (λ text. IsAskedLog work.now.settings result.chronicle text) }
-    ensures keys { IfSome result.log (λ _. AllByRecursion HaveKeys result.chronicle) }
+    ensures { Tells work.now result.lines result.chronicle result.log }
 {
     match rewrite_left(rt, alloc, work, &store, passes, gate) {
         Ok(left) => {
@@ -182,6 +150,24 @@ fn rewrite_at<R: Threads + Wait + Sync, G: Gate>(
                 log,
             }
         }
+        Err(_) => Rewritten::nothing(),
+    }
+}
+
+// Rewrites the terms on a store of their own.
+fn rewrite_new<R: Threads + Wait + Sync, G: Gate>(
+    rt: &R,
+    alloc: Global,
+    work: &Work,
+    gate: &G,
+) -> Rewritten
+    requires in_range { AreInRange work.now.settings }
+    requires width { work.now.plan.now.widest ≤ 16 }
+    requires may { MayWork work.now.plan.now work.now.symbols.now work.now.terms.now }
+    ensures { Tells work.now result.lines result.chronicle result.log }
+{
+    match store_for(alloc, &work.settings, work.plan) {
+        Ok((store, passes)) => rewrite_at(rt, alloc, work, store, passes, gate),
         Err(_) => Rewritten::nothing(),
     }
 }
@@ -258,8 +244,5 @@ pub fn rewrite_shared<R: Threads + Wait + Sync, G: Gate>(
         (λ text. IsAskedLog work.now.settings result.chronicle text) }
     ensures keys { IfSome result.log (λ _. AllByRecursion HaveKeys result.chronicle) }
 {
-    match store_for(alloc, work) {
-        Ok((store, passes)) => rewrite_at(rt, alloc, work, store, passes, gate),
-        Err(_) => Rewritten::nothing(),
-    }
+    rewrite_new(rt, alloc, work, gate)
 }

@@ -6,3 +6,4 @@ pub mod Topmost
 pub mod Recalling
 pub mod Bounded
 pub mod Lists
+pub mod Outcome

@@ -5,8 +5,8 @@ use Rattle.symbol_pool.specs.Pool.{Named}
 use Rattle.rewrite_model.specs.Run.{Ended, Done, OutOfFuel, TooDeep}
 use Rattle.term_text.specs.Text.{text}
 use Rattle.term_text.specs.Sizes.{saturated}
-use Rattle.term_lines.specs.declared.ending.LineKind.{LineKind}
-use Rattle.term_lines.specs.declared.ending.LineKind.TheVariants as kind
+use Rattle.line_ends.specs.declared.kind.LineKind.{LineKind}
+use Rattle.line_ends.specs.declared.kind.LineKind.TheVariants as kind
 
 -- how many nodes a value may have whose text is written
 abbrev pub most_written : ℕ

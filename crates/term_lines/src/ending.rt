@@ -1,20 +1,9 @@
 // What the line of a term is.
 ghost use Rattle.std.specs.Prelude.{◌≡◌, if◌then◌else◌};
-ghost use Rattle.term_lines.specs.declared.ending.LineKind.TheVariants as kind;
+ghost use Rattle.line_ends.specs.declared.kind.LineKind.TheVariants as kind;
 ghost use Rattle.term_lines.specs.Line.{is_value_kind};
 
-/// What a line has.
-#[derive(Clone, Copy, Debug, PartialEq, Eq)]
-pub enum LineKind {
-    /// The text of a value, or its sizes.
-    Value,
-    /// `out of fuel`.
-    OutOfFuel,
-    /// `too deep`.
-    TooDeep,
-    /// `too large`: the text of the value would be.
-    TooLarge,
-}
+use line_ends::LineKind;
 
 /// What rewriting a term came to.
 #[derive(Clone, Copy, Debug, PartialEq, Eq)]

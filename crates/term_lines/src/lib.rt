@@ -6,12 +6,11 @@ mod ending;
 mod laws;
 mod rewriter;
 mod rewriting;
-mod stop;
 mod strategy;
 mod value;
 
-pub use ending::{Ending, LineKind};
+pub use ending::Ending;
 pub use laws::name_laws;
+pub use line_ends::{LineKind, LineStop};
 pub use rewriter::Rewriter;
-pub use stop::LineStop;
 pub use strategy::Strategy;

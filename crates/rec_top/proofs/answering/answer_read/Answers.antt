@@ -1,12 +1,19 @@
-use Rattle.std.proofs.Common.{sym, subst}
-use Rattle.rec_top.specs.Input.{GaveInput}
-use Rattle.rec_top.proofs.Inputs.{gave_input}
-use Rattle.rec_top.proofs.Recounting.{given}
+use Rattle.std.proofs.Common.{ℕ, Vec, Global}
+use Rattle.rec_top.proofs.Sourcing.{read_answers, unread_answers}
 use Rattle.rec_top.proofs.answering.answer_read.Goals as goal
 
-pub returns-in-Ok-clause-history : goal.returns-in-Ok-clause-history
-returns-in-Ok-clause-history g c =
-    let s = c.args.settings.now in
-    let gave = gave_input s.command s.count g.S.Source.left c.args.source.now c.input_of.new.source c.in-Ok.input.items c.requires.reads c.in-Ok.ensures.whole in
-    given s g.S.Source.left c.args.source.now c.input_of.new.source c.deref.result.now c.output_for.result.answer c.output_for.result.chronicle
-    (subst (GaveInput s g.S.Source.left c.args.source.now c.input_of.new.source) (sym c.deref.ensures.value) gave) c.output_for.ensures.history
+pub returns-in-Ok : goal.returns-in-Ok
+returns-in-Ok g c =
+    let i = c.input_of in
+    let e = c.in-Ok.ensures in
+    let f = c.output_for in
+    read_answers c.args.settings.now g.S.Source.left g.S.Source.faults c.args.source.now i.new.source c.requires.reads i.ensures.later c.limit_of.result i.result c.in-Ok.input (λ (v : Vec ℕ Global). v.items) c.deref.result.now
+    c.limit_of.ensures c.in-Ok.is c.deref.ensures.value e.whole i.ensures.unfailed e.read e.refused f.result.answer f.result.chronicle f.result.log f.ensures
+
+pub returns-in-Err : goal.returns-in-Err
+returns-in-Err g c =
+    let i = c.input_of in
+    let e = c.in-Err.ensures in
+    let f = c.alone in
+    unread_answers c.args.settings.now g.S.Source.left g.S.Source.faults c.args.source.now i.new.source c.requires.reads i.ensures.later c.limit_of.result i.result c.in-Err.stop
+    c.limit_of.ensures c.in-Err.is e.stopped i.ensures.unfailed e.read e.refused f.result.answer f.result.chronicle f.result.log f.ensures.answer f.ensures.chronicle f.ensures.log

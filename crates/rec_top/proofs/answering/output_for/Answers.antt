@@ -1,24 +1,26 @@
-use Rattle.std.proofs.Common.{sym, subst}
-use Rattle.settings.specs.declared.parts.Command.{Command}
-use Rattle.rec_top.specs.Output.{IsOutputOf, HasRowsFor, HasNumbersFor}
-use Rattle.rec_top.specs.Rewritten.{MeetsConditions}
+use Rattle.rec_answers.proofs.Inputs.{alone_unless}
+use Rattle.rec_top.proofs.Sourcing.{rewrite_answers, outermost_answers, alone_answers}
 use Rattle.rec_top.proofs.answering.output_for.Goals as goal
 
-pub returns-in-Rewrite-clause-accepted : goal.returns-in-Rewrite-clause-accepted
-returns-in-Rewrite-clause-accepted g c = λ output o rows numbers.
-    let s = c.args.settings.now in
-    let input = c.args.input.now in
-    let r = subst (λ (k : Command). IsOutputOf k s input output) c.in-Rewrite.is o.output_is in
-    c.rewritten.ensures.accepted output r.0
-    (subst (λ k. MeetsConditions k input) (sym c.conditions_of.ensures) r.1)
-    (subst (λ (k : Command). HasRowsFor k s input) c.in-Rewrite.is rows)
-    (subst (λ (k : Command). HasNumbersFor k s input) c.in-Rewrite.is numbers)
+pub returns-in-Rewrite : goal.returns-in-Rewrite
+returns-in-Rewrite g c =
+    let f = c.rewritten in
+    rewrite_answers c.conditions_of.result c.args.settings.now c.args.input.now f.result.answer f.result.chronicle f.result.log c.conditions_of.ensures c.requires.limit c.in-Rewrite.is f.ensures
 
-pub returns-in-Outermost-clause-accepted : goal.returns-in-Outermost-clause-accepted
-returns-in-Outermost-clause-accepted g c = λ output o rows numbers.
-    let s = c.args.settings.now in
-    let input = c.args.input.now in
-    let r = subst (λ (k : Command). IsOutputOf k s input output) c.in-Outermost.is o.output_is in
-    c.rewritten-in-Outermost.ensures.accepted output r.0 r.1
-    (subst (λ (k : Command). HasRowsFor k s input) c.in-Outermost.is rows)
-    (subst (λ (k : Command). HasNumbersFor k s input) c.in-Outermost.is numbers)
+pub returns-in-Outermost : goal.returns-in-Outermost
+returns-in-Outermost g c =
+    let f = c.rewritten-in-Outermost in
+    outermost_answers c.args.settings.now c.args.input.now f.result.answer f.result.chronicle f.result.log c.requires.limit c.in-Outermost.is f.ensures
+
+pub answer_alone-requires-clause-alone : goal.answer_alone-requires-clause-alone
+answer_alone-requires-clause-alone g c =
+    let d = c.in_default in
+    alone_unless c.args.settings.now.command d.not-Rewrite d.not-Drill d.not-Outermost
+
+pub returns-in_default : goal.returns-in_default
+returns-in_default g c =
+    let d = c.in_default in
+    let f = c.alone in
+    let a = c.answer_alone.ensures in
+    alone_answers c.args.settings.now c.args.input.now c.answer_alone.result f.result.answer f.result.chronicle f.result.log f.ensures.answer f.ensures.chronicle f.ensures.log
+    (alone_unless c.args.settings.now.command d.not-Rewrite d.not-Drill d.not-Outermost) a.made a.stopped a.accepted a.refused

@@ -1,29 +1,19 @@
-use Rattle.std.proofs.Common.{ℕ, ◌<◌, List, length, map, All, sym, subst}
-use Rattle.rewrite_workers.specs.Lined.{worker_of, drawn_by}
-use Rattle.rewrite_workers.specs.Desks.{EachDesk}
-use Rattle.rewrite_workers.specs.Ends.{BuiltAll}
-use Rattle.rewrite_workers.proofs.Beside.{makers_beside, lines_beside, traces_beside}
+use Rattle.rewrite_workers.proofs.Outcome.{beside, at_end, at_fault}
 use Rattle.rewrite_workers.proofs.all.rewrite_by.Goals as goal
 
-pub returns-in-Ok-beside-clause-lines : goal.returns-in-Ok-beside-clause-lines
-returns-in-Ok-beside-clause-lines g c =
+pub returns-in-Ok-beside : goal.returns-in-Ok-beside
+returns-in-Ok-beside g c =
     let work = c.args.work.now in
-    lines_beside work.settings work.symbols.now work.plan.now.rules work.terms.now c.in-Ok.traced.items c.in-Ok.ensures.lines c.in-Ok-beside.lines.list.items c.in-Ok-beside.ensures.list
+    let l = c.in-Ok-beside in
+    beside g.T.Terms.store g.T.Terms.same work.settings work.plan.now work.symbols.now work.terms.now c.args.desks.now c.trace_by.new.desks c.in-Ok.traced l.lines l.ensures.list l.ensures.traces
+    c.in-Ok.ensures
 
-pub returns-in-Ok-beside-clause-traces : goal.returns-in-Ok-beside-clause-traces
-returns-in-Ok-beside-clause-traces g c =
+pub returns-in-Err-beside : goal.returns-in-Err-beside
+returns-in-Err-beside g c =
     let work = c.args.work.now in
-    traces_beside work.settings work.symbols.now work.plan.now.rules work.terms.now c.in-Ok.traced.items c.in-Ok.ensures.lines c.in-Ok-beside.lines.traces.items c.in-Ok-beside.ensures.traces
+    at_end g.T.Terms.store g.T.Terms.same work.settings work.plan.now work.symbols.now work.terms.now c.args.desks.now c.trace_by.new.desks c.trace_by.result c.trace_by.ensures
 
-pub returns-in-Ok-beside-clause-workers : goal.returns-in-Ok-beside-clause-workers
-returns-in-Ok-beside-clause-workers g c =
-    let same = makers_beside c.in-Ok.traced.items c.in-Ok-beside.lines.list.items c.in-Ok-beside.ensures.list in
-    subst (λ (ws : List ℕ). All (λ w. w < length c.args.desks.now) ws) (sym same) c.in-Ok.ensures.workers
-
-pub returns-in-Ok-beside-clause-built : goal.returns-in-Ok-beside-clause-built
-returns-in-Ok-beside-clause-built g c =
-    let store = g.T.Terms.store in
+pub returns-in-Err : goal.returns-in-Err
+returns-in-Err g c =
     let work = c.args.work.now in
-    let same = makers_beside c.in-Ok.traced.items c.in-Ok-beside.lines.list.items c.in-Ok-beside.ensures.list in
-    subst (λ (ws : List ℕ). EachDesk (λ k old new. BuiltAll work.settings work.plan.now.rules (drawn_by k ws work.terms.now) (store old) (store new)) c.args.desks.now c.trace_by.new.desks)
-    (sym same) c.in-Ok.ensures.built
+    at_fault g.T.Terms.store g.T.Terms.same work.settings work.plan.now work.symbols.now work.terms.now c.args.desks.now c.trace_by.new.desks c.in-Err.fault c.in-Err.ensures

@@ -1,8 +1,7 @@
 use Rattle.std.proofs.Common.{length, subst, All}
 use Rattle.std.proofs.lemmas.List.Elements.{All-head, All-rest}
-use Rattle.rewrite_workers.specs.declared.worker.Share.{Share}
 use Rattle.rewrite_workers.specs.Desks.{IsReady}
-use Rattle.rewrite_workers.specs.Worked.{IsFresh}
+use Rattle.worker_crew.specs.Crews.{IsFresh}
 use Rattle.rewrite_workers.proofs.threads.+threads.Goals as goal
 
 pub work_all-work_both-requires-clause-share : goal.work_all-work_both-requires-clause-share

@@ -1,13 +1,13 @@
-use Rattle.std.proofs.Common.{◌≡◌, ◌∷◌, ◌++◌, [], ap, sym, subst}
+use Rattle.std.proofs.Common.{◌∷◌, ◌++◌, [], ap, sym, subst}
 use Rattle.std.specs.Prelude.{OnOk, is_ok, Result}
-use Rattle.term_lines.specs.declared.stop.LineStop.{LineStop}
+use Rattle.line_ends.specs.declared.stop.LineStop.{LineStop}
 use Rattle.rewrite_workers.specs.Ends.{Ended}
 use Rattle.rewrite_workers.proofs.Ending.{all_front}
 use Rattle.rewrite_workers.specs.Works.{term_at}
 use Rattle.rewrite_workers.specs.Lined.{told_of}
 use Rattle.rewrite_workers.specs.Worked.{AddsLine}
-use Rattle.rewrite_workers.specs.declared.worker.Numbered.{Numbered}
-use Rattle.rewrite_workers.specs.declared.worker.Share.{Share}
+use Rattle.worker_crew.specs.declared.share.Numbered.{Numbered}
+use Rattle.worker_crew.specs.declared.share.Share.{Share}
 use Rattle.rewrite_workers.proofs.Going.{pushed_ok}
 use Rattle.rewrite_workers.proofs.worker.add_line.Goals as goal
 use Rattle.rewrite_workers.proofs.worker.add_line.Goals.{in-Ok, in-Err}

@@ -1,7 +1,7 @@
 use Rattle.std.proofs.Common.{refl, sym, subst, arith}
 use Rattle.std.proofs.lemmas.Result.{err_from_is_err_and}
 use Rattle.rewrite_workers.specs.Working.{IsRewriterOf}
-use Rattle.rewrite_workers.specs.declared.worker.Share.{Share}
+use Rattle.worker_crew.specs.declared.share.Share.{Share}
 use Rattle.rewrite_workers.proofs.Going.{Draws, begin, finish, halt, go_on, smaller}
 use Rattle.rewrite_workers.proofs.worker.draw_terms.Goals as goal
 

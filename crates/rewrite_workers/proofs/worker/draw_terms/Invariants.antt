@@ -1,7 +1,7 @@
 use Rattle.std.proofs.Common.{◌-◌, length}
 use Rattle.rewrite_workers.specs.Desks.{IsReady}
 use Rattle.rewrite_workers.specs.Working.{IsRewriterOf, Recalls}
-use Rattle.rewrite_workers.specs.Worked.{drawn_of}
+use Rattle.worker_crew.specs.Crews.{drawn_of}
 use Rattle.rewrite_workers.proofs.Going.{Going, next_of}
 use Rattle.rewrite_workers.proofs.worker.draw_terms.Given as goal
 

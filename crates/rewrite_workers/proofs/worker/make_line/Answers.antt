@@ -3,7 +3,7 @@ use Rattle.std.specs.Prelude.{Ok, Err}
 use Rattle.std.proofs.lemmas.Option.{get_or_from_slice_get, slice_get-get_or}
 use Rattle.term_model.specs.Tree.{Tree, Leaf}
 use Rattle.term_lines.specs.declared.ending.Ending.{Ending}
-use Rattle.rewrite_workers.specs.declared.lines.Traced.{Traced}
+use Rattle.worker_crew.specs.declared.lines.Traced.{Traced}
 use Rattle.term_lines.specs.Line.{line_text}
 use Rattle.term_lines.specs.Strategies.{ended}
 use Rattle.term_lines.specs.Written.{MayRecall}

@@ -1,48 +1,49 @@
-use Rattle.shared_work.proofs.Filling.{none_full}
-use Rattle.shared_work.proofs.Wearing.{none_worn}
-use Rattle.shared_work.proofs.Closing.{none_collect, none_order, none_legal}
-use Rattle.shared_work.specs.Fronts.{NamesFronts}
-use Rattle.shared_work.proofs.Fewer.{tells_few, none_few}
-use Rattle.shared_work.proofs.Fronts.{front_within, only_built, nothing_told, none_fronts, at_err}
 use Rattle.shared_work.proofs.sharing.rewrite_shared.Goals as goal
 
-pub returns-in-Err-clause-legal : goal.returns-in-Err-clause-legal
-returns-in-Err-clause-legal g c = none_legal c.args.work.now.settings.rows c.nothing.result.chronicle c.nothing.ensures.chronicle
+pub returns-clause-lines : goal.returns-clause-lines
+returns-clause-lines g c = c.rewrite_new.ensures.lines
 
-pub returns-in-Err-clause-collects : goal.returns-in-Err-clause-collects
-returns-in-Err-clause-collects g c = none_collect c.args.work.now.settings c.nothing.result.chronicle c.nothing.ensures.chronicle
+pub returns-clause-traces : goal.returns-clause-traces
+returns-clause-traces g c = c.rewrite_new.ensures.traces
 
-pub returns-in-Err-clause-full : goal.returns-in-Err-clause-full
-returns-in-Err-clause-full g c = none_full c.args.work.now.settings c.args.work.now.plan.now.rules c.args.work.now.terms.now c.nothing.result.chronicle c.nothing.result.lines c.nothing.ensures.lines
+pub returns-clause-workers : goal.returns-clause-workers
+returns-clause-workers g c = c.rewrite_new.ensures.workers
 
-pub returns-in-Err-clause-worn : goal.returns-in-Err-clause-worn
-returns-in-Err-clause-worn g c = none_worn c.args.work.now.settings c.args.work.now.plan.now.rules c.args.work.now.terms.now c.nothing.result.lines c.nothing.ensures.lines
+pub returns-clause-legal : goal.returns-clause-legal
+returns-clause-legal g c = c.rewrite_new.ensures.legal
 
-pub returns-in-Err-clause-each : goal.returns-in-Err-clause-each
-returns-in-Err-clause-each g c = nothing_told c.args.work.now.settings c.nothing.result.lines c.nothing.result.chronicle c.nothing.ensures.lines c.nothing.ensures.chronicle
+pub returns-clause-order : goal.returns-clause-order
+returns-clause-order g c = c.rewrite_new.ensures.order
 
-pub returns-in-Err-clause-front : goal.returns-in-Err-clause-front
-returns-in-Err-clause-front g c =
-    at_err (NamesFronts c.args.work.now.settings c.args.work.now.plan.now.rules c.args.work.now.terms.now c.nothing.result.chronicle) c.nothing.result.lines
-    (none_fronts c.args.work.now.settings c.args.work.now.plan.now.rules c.args.work.now.terms.now c.nothing.result.chronicle c.nothing.ensures.chronicle)
+pub returns-clause-rises : goal.returns-clause-rises
+returns-clause-rises g c = c.rewrite_new.ensures.rises
 
-pub returns-in-Err-clause-only : goal.returns-in-Err-clause-only
-returns-in-Err-clause-only g c =
-    front_within c.args.work.now.settings c.args.work.now.plan.now.rules c.args.work.now.terms.now c.nothing.result.chronicle
-    (none_fronts c.args.work.now.settings c.args.work.now.plan.now.rules c.args.work.now.terms.now c.nothing.result.chronicle c.nothing.ensures.chronicle)
+pub returns-clause-built : goal.returns-clause-built
+returns-clause-built g c = c.rewrite_new.ensures.built
 
-pub returns-in-Err-clause-few : goal.returns-in-Err-clause-few
-returns-in-Err-clause-few g c = none_few c.args.work.now.settings c.args.work.now.plan.now.rules c.args.work.now.terms.now c.nothing.result.lines c.nothing.ensures.lines
+pub returns-clause-collects : goal.returns-clause-collects
+returns-clause-collects g c = c.rewrite_new.ensures.collects
 
-pub returns-in-Ok-clause-only : goal.returns-in-Ok-clause-only
-returns-in-Ok-clause-only g c =
-    only_built c.args.work.now.settings c.args.work.now.plan.now.rules c.args.work.now.terms.now c.rewrite_at.result.lines c.rewrite_at.result.chronicle c.rewrite_at.ensures.built c.rewrite_at.ensures.front
+pub returns-clause-full : goal.returns-clause-full
+returns-clause-full g c = c.rewrite_new.ensures.full
 
-pub returns-in-Ok-clause-few : goal.returns-in-Ok-clause-few
-returns-in-Ok-clause-few g c =
-    tells_few c.args.work.now.settings c.args.work.now.plan.now.rules c.args.work.now.terms.now c.rewrite_at.result.lines c.rewrite_at.result.chronicle
-    (only_built c.args.work.now.settings c.args.work.now.plan.now.rules c.args.work.now.terms.now c.rewrite_at.result.lines c.rewrite_at.result.chronicle c.rewrite_at.ensures.built c.rewrite_at.ensures.front)
-    c.rewrite_at.ensures.full c.rewrite_at.ensures.need
+pub returns-clause-few : goal.returns-clause-few
+returns-clause-few g c = c.rewrite_new.ensures.few
 
-pub returns-in-Err-clause-order : goal.returns-in-Err-clause-order
-returns-in-Err-clause-order g c = none_order c.args.work.now.settings c.nothing.result.chronicle c.nothing.ensures.chronicle
+pub returns-clause-worn : goal.returns-clause-worn
+returns-clause-worn g c = c.rewrite_new.ensures.worn
+
+pub returns-clause-each : goal.returns-clause-each
+returns-clause-each g c = c.rewrite_new.ensures.each
+
+pub returns-clause-front : goal.returns-clause-front
+returns-clause-front g c = c.rewrite_new.ensures.front
+
+pub returns-clause-only : goal.returns-clause-only
+returns-clause-only g c = c.rewrite_new.ensures.only
+
+pub returns-clause-log : goal.returns-clause-log
+returns-clause-log g c = c.rewrite_new.ensures.log
+
+pub returns-clause-keys : goal.returns-clause-keys
+returns-clause-keys g c = c.rewrite_new.ensures.keys

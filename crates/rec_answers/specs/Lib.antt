@@ -1,0 +1,17 @@
+pub mod Answered
+pub mod Checked
+pub mod Conditioned
+pub mod Drilled
+pub mod Input
+pub mod Laws
+pub mod Lines
+pub mod Logged
+pub mod Output
+pub mod Rewritten
+pub mod Run
+pub mod Traced
+pub mod Sequence
+pub mod Stops
+pub mod Written
+pub mod GoodLog
+pub mod Endings

@@ -1,7 +1,0 @@
-use Rattle.std.proofs.Common.{◌≡◌, take, All}
-use Rattle.std.specs.Prelude.{Err}
-use Rattle.rewrite_workers.specs.declared.worker.Share.{Share}
-use Rattle.rewrite_workers.proofs.gather.any_stops.Given as goal
-
-abbrev pub invariant-shares : goal.invariant-shares
-invariant-shares l = All (λ (s : Share). s.end ≡ Err l.stop → ⊥) (take l.share-index l.shares)

@@ -1,0 +1,31 @@
+use Rattle.std.proofs.Common.{length, ap, sym, ◌∙◌, arith, ◌+◌, ℕ}
+use Rattle.std.proofs.lemmas.List.{length_push}
+use Rattle.std.proofs.lemmas.Iterator.Adapters.{YieldsList-from_vec}
+use Rattle.std.proofs.lemmas.Iterator.Consumers.{YieldsList-turn}
+use Rattle.work_desks.specs.NewDesks.{IsBackAt}
+use Rattle.work_desks.proofs.Making.{got_at, one_more}
+use Rattle.work_desks.proofs.desks.passes_of.Goals as goal
+
+pub push_reserved-requires : goal.push_reserved-requires
+push_reserved-requires g c =
+    let b = c.into_iter-desk-iterator.ensures.into_iter_gives in
+    let t = YieldsList-turn (YieldsList-from_vec {s = c.into_iter-desk-iterator.result} c.args.desks.items b.0 (b.1 ∙ c.args.desks.ok.0)) c.loop-desk.yielded c.loop-desk.desk-iterator c.loop-desk.yielded_by c.next.result c.next.new.self c.in-Some.desk c.in-Some.is c.next.ensures.steps in
+    let left = t.0 in
+    let given = c.args.desks.ok.0 in
+    let wide = c.requires.wide in
+    let len = c.loop-desk.invariant.1 in
+    let capacity = c.loop-desk.invariant.2 in
+    omega (arith, left, given, wide, len, capacity)
+
+pub loop-desk-preserved : goal.loop-desk-preserved
+loop-desk-preserved g c =
+    let b = c.into_iter-desk-iterator.ensures.into_iter_gives in
+    let t = YieldsList-turn (YieldsList-from_vec {s = c.into_iter-desk-iterator.result} c.args.desks.items b.0 (b.1 ∙ c.args.desks.ok.0)) c.loop-desk.yielded c.loop-desk.desk-iterator c.loop-desk.yielded_by c.next.result c.next.new.self c.in-Some.desk c.in-Some.is c.next.ensures.steps in
+    let k = length c.loop-desk.yielded in
+    let pushed = c.push_reserved.ensures in
+    let more = length_push c.loop-desk.yielded c.in-Some.desk in (
+      one_more (IsBackAt c.args.desks.items) c.loop-desk.passes.items c.push_reserved.new.self.items c.into_pass.result k _ pushed.items more c.loop-desk.invariant.0
+          (record { desk = c.in-Some.desk; at = got_at c.args.desks.items k c.in-Some.desk t.0 t.1; back = c.into_pass.ensures }),
+      pushed.len ∙ ap (λ (n : ℕ). n + 1) c.loop-desk.invariant.1 ∙ sym more,
+      pushed.capacity ∙ c.loop-desk.invariant.2,
+    )

@@ -1,0 +1,3 @@
+pub mod NewDesks
+pub mod Keys
+pub mod Texts
