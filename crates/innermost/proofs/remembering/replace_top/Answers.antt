@@ -1,4 +1,4 @@
-use Rattle.std.proofs.Common.{◌≡◌, ◌-◌, length, sym, ◌∙◌, ap, subst, arith}
+use Rattle.std.proofs.Common.{◌≡◌, ◌-◌, length, ◌∙◌, ap, subst}
 use Rattle.terms_api.specs.Terms.{Store, IsSound, kept, pushed}
 use Rattle.innermost.proofs.remembering.replace_top.Goals as goal
 
