@@ -12,3 +12,4 @@ pub mod Tellings
 pub mod Collects
 pub mod Keeping
 pub mod Crowding
+pub mod Stepped

@@ -1,5 +1,5 @@
 //! A new store, and its passes.
-ghost use Rattle.std.specs.Prelude.{◌≡◌, ◌+◌, ◌<◌, ◌≤◌, ◌^◌, IfOk, All, false, replicate, vec_capacity};
+ghost use Rattle.std.specs.Prelude.{◌≡◌, ◌+◌, ◌<◌, ◌≤◌, ◌^◌, ℕ, IfOk, All, false, replicate, vec_capacity};
 ghost use Rattle.store_model.specs.Shown.{total};
 ghost use Rattle.busy_forbidden.specs.Dealt.{EachPlace};
 ghost use Rattle.store_model.specs.Steps.{newcomer};
@@ -33,19 +33,36 @@ fn count_words(sizes: &Sizes) -> usize
         + sizes.seats as usize * (sizes.depth as usize + 1)
 }
 
+// The single words of a new store.
+fn put_single(words: &mut [u64], sizes: &Sizes)
+    requires small { total sizes.now < 2 ^ 62 }
+    requires zeros { words.old ≡ replicate (total sizes.now) 0 }
+    ensures { UpTo sizes.now words.new 0 }
+{
+    words[base_word(sizes)] = sizes.first;
+    words[free_count_word(sizes)] = sizes.rows as u64;
+    words[in_use_word(sizes)] = sizes.start as u64;
+}
+
+// Each row is free.
+fn put_places(words: &mut [u64], sizes: &Sizes)
+    requires small { total sizes.now < 2 ^ 62 }
+    requires single { UpTo sizes.now words.old 0 }
+    ensures { UpTo sizes.now words.new sizes.now.rows }
+{
+    for i in 0..sizes.rows {
+        words[free_place_word(sizes, i as u64)] = i as u64;
+    }
+}
+
 // The words of a new store: each row is free.
-#[tactic(auto, using(crate::proofs::Opens::up_to_none, crate::proofs::Opens::up_to_next))]
 fn first_words(alloc: Global, sizes: &Sizes) -> Result<Vec<u64>, Memory>
     requires small { total sizes.now < 2 ^ 62 }
     ensures { IfOk result (λ words. UpTo sizes.now words.items sizes.now.rows) }
 {
     let mut words = Vec::from_elem(alloc, 0u64, count_words(sizes))?;
-    words[base_word(sizes)] = sizes.first;
-    words[free_count_word(sizes)] = sizes.rows as u64;
-    words[in_use_word(sizes)] = sizes.start as u64;
-    for i in 0..sizes.rows {
-        words[free_place_word(sizes, i as u64)] = i as u64;
-    }
+    put_single(&mut words, sizes);
+    put_places(&mut words, sizes);
     Ok(words)
 }
 
@@ -152,6 +169,31 @@ fn next_pass(store: &Store, first: &mut Pass, k: u32, room: Room) -> Pass
     new_pass(seat, store.sizes.rows, room)
 }
 
+// The passes after the first, in order, split off it.
+fn rest_of(alloc: Global, store: &Store, first: &mut Pass) -> Result<Vec<Pass>, Memory>
+    requires store { IsOpen store.now }
+    requires first { IsNew store.now.table.shared.table_id store.now.sizes 0 first.old.seat.seat
+        first.old.seat.number first.old.seat.seats
+        × IsFirst 1 first.old.seat.seat }
+    requires told { Tells first.old }
+    ensures first { IfOk result
+        (λ _. IsNew store.now.table.shared.table_id store.now.sizes 0 first.new.seat.seat
+        first.new.seat.number first.new.seat.seats) }
+    ensures told { IfOk result (λ _. Tells first.new) }
+    ensures rest { IfOk result
+        (λ ps. (n : ℕ) × (n + 1 ≡ store.now.sizes.seats) × EachPlace
+        (λ j p. IsNew store.now.table.shared.table_id store.now.sizes (j + 1) p.seat.seat
+        p.seat.number p.seat.seats) n ps.items) }
+    ensures rest_told { IfOk result (λ ps. All Tells ps.items) }
+{
+    let mut rest = Vec::new(alloc);
+    for k in 1..store.sizes.seats {
+        let room = take_room(alloc, &store.sizes)?;
+        rest.push(next_pass(store, first, k, room))?;
+    }
+    Ok(rest)
+}
+
 impl Store {
     /// A new store of these sizes, without terms, and its passes in order, each of them out. There
     /// are at most 262,144 rows and as many buckets, 16 passes, 65,536 protected rows of each pass,
@@ -167,12 +209,8 @@ impl Store {
         ensures told { IfOk result (λ t. All Tells t.1.items) }
     {
         let (store, mut first) = first_pass(alloc, &sizes)?;
-        let mut rest = Vec::new(alloc);
-        for k in 1..sizes.seats {
-            let room = take_room(alloc, &sizes)?;
-            rest.push(next_pass(&store, &mut first, k, room))?;
-        }
-        rest.insert(0, first)?;
-        Ok((store, rest))
+        let mut passes = rest_of(alloc, &store, &mut first)?;
+        passes.insert(0, first)?;
+        Ok((store, passes))
     }
 }

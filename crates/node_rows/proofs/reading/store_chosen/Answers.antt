@@ -1,5 +1,8 @@
-use Rattle.node_rows.specs.Steps.{place_of}
+use Rattle.node_rows.specs.Steps.{place_of, with_store}
 use Rattle.node_rows.proofs.Plays.{word_fits, own_stores}
+use Rattle.std.proofs.Common.{refl, ap, ◌∙◌}
+use Rattle.store_model.specs.declared.view.View.{View}
+use Rattle.node_rows.proofs.Stepped.{after_step, fits_after}
 use Rattle.node_rows.proofs.reading.store_chosen.Goals as goal
 
 pub store-requires : goal.store-requires
@@ -12,3 +15,25 @@ store-requires g c =
       word_fits t z seat.seat c.args.word (place_of seat.number g.X.Chosen.step seat.seat.me.0.store) c.requires.of may.word may.there,
       own_stores z t.slots seat.seat.id seat.seat.me seat.number c.args.word g.X.Chosen.step c.args.value seat.fits.number may c.requires.stores c.requires.moves,
     )
+
+pub invariant_of-seat : goal.invariant_of-seat
+invariant_of-seat g c =
+    let z = c.args.table.now.shared.key in
+    let t = c.args.table.now.shared.table_id in
+    let seat = c.args.seat.now in
+    let e = c.store.ensures in
+    record { fits = fits_after t z seat.seat c.store.new.seat _ c.requires.of e.0 e.1 e.2.0 seat.number seat.seats seat.fits }
+
+pub returns : goal.returns
+returns g c =
+    let z = c.args.table.now.shared.key in
+    let t = c.args.table.now.shared.table_id in
+    let seat = c.args.seat.now in
+    let e = c.store.ensures in
+    let s = after_step t z seat.seat c.store.new.seat _ c.requires.of e.0 e.1 e.2.0 e.2.1 in
+    record {
+      of = s.of;
+      same = (s.same, refl, refl);
+      view = s.view ∙ ap (λ (x : View). with_store seat.seat.me.0 x) (c.requires.moves c.args.value 0);
+      known = s.known;
+    }

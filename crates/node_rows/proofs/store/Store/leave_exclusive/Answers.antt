@@ -10,27 +10,30 @@ leave_exclusive-requires-clause-may c =
     let seat = c.args.pass.now.seat in
     may_release seat.seat.me.0 seat.number seat.seats c.requires.ready.rest (granted_closed seat.seat.me.0.lock seat.number seat.seats seat.seat.table_id.words seat.fits c.requires.granted)
 
-pub returns-clause-pass : goal.returns-clause-pass
-returns-clause-pass c =
-    let t = ends_exclusive c.args.pass.now.seat.number c.args.pass.now.seat.seats c.args.pass.now.seat.seat.me.0 c.leave_exclusive.new.seat.seat.me.0 c.requires.ready.rest c.leave_exclusive.ensures.view in
-    record { table = c.leave_exclusive.ensures.of.0; sizes = t.sizes ∙ c.requires.of.pass.sizes; count = c.leave_exclusive.ensures.same.2 ∙ c.requires.of.pass.count; none = c.leave_exclusive.ensures.same.0.slots ∙ c.requires.of.pass.none }
-
-pub returns-clause-left : goal.returns-clause-left
-returns-clause-left c = (ends_exclusive c.args.pass.now.seat.number c.args.pass.now.seat.seats c.args.pass.now.seat.seat.me.0 c.leave_exclusive.new.seat.seat.me.0 c.requires.ready.rest c.leave_exclusive.ensures.view).store
-
-pub returns-clause-out : goal.returns-clause-out
-returns-clause-out c = record { phase = c.leave_exclusive.ensures.out.phase; away = (ends_exclusive c.args.pass.now.seat.number c.args.pass.now.seat.seats c.args.pass.now.seat.seat.me.0 c.leave_exclusive.new.seat.seat.me.0 c.requires.ready.rest c.leave_exclusive.ensures.view).away; roots = left_last c.args.pass.now.seat.seat.me.0.store c.leave_exclusive.new.seat.seat.me.0.store (ends_exclusive c.args.pass.now.seat.number c.args.pass.now.seat.seats c.args.pass.now.seat.seat.me.0 c.leave_exclusive.new.seat.seat.me.0 c.requires.ready.rest c.leave_exclusive.ensures.view).store }
+pub returns : goal.returns
+returns c =
+    let p = c.args.pass.now in
+    let v = p.seat.seat.me.0 in
+    let w = c.leave_exclusive.new.seat.seat.me.0 in
+    let e = c.leave_exclusive.ensures in
+    let was = c.requires.of.pass in
+    let t = ends_exclusive p.seat.number p.seat.seats v w c.requires.ready.rest e.view in
+    record {
+      pass = record { table = e.of.0; sizes = t.sizes ∙ was.sizes; count = e.same.2 ∙ was.count; none = e.same.0.slots ∙ was.none };
+      same = (e.same.0, e.same.1);
+      left = t.store;
+      out = record { phase = e.out.phase; away = t.away; roots = left_last v.store w.store t.store };
+      told = told_left_as v.store w.store p.rows p.seen p.last p.marks t.store;
+      crowd = t.crowd;
+    }
 
 pub invariant_of-pass : goal.invariant_of-pass
-invariant_of-pass c = record {
-  counted = c.args.pass.now.counted ∙ ap (λ (v : View). v.root_count) (sym (ends_exclusive c.args.pass.now.seat.number c.args.pass.now.seat.seats c.args.pass.now.seat.seat.me.0 c.leave_exclusive.new.seat.seat.me.0 c.requires.ready.rest c.leave_exclusive.ensures.view).store);
-  sized = c.args.pass.now.sized ∙ ap (λ (z : Sizes). z.rows) (sym (ends_exclusive c.args.pass.now.seat.number c.args.pass.now.seat.seats c.args.pass.now.seat.seat.me.0 c.leave_exclusive.new.seat.seat.me.0 c.requires.ready.rest c.leave_exclusive.ensures.view).sizes);
-  nexts_fit = c.args.pass.now.nexts_fit;
-  heads_fit = subst (λ (z : Sizes). z.buckets ≤ vec_capacity c.args.pass.now.heads) (sym (ends_exclusive c.args.pass.now.seat.number c.args.pass.now.seat.seats c.args.pass.now.seat.seat.me.0 c.leave_exclusive.new.seat.seat.me.0 c.requires.ready.rest c.leave_exclusive.ensures.view).sizes) c.args.pass.now.heads_fit;
-}
-
-pub returns-clause-told : goal.returns-clause-told
-returns-clause-told c = told_left_as c.args.pass.now.seat.seat.me.0.store c.leave_exclusive.new.seat.seat.me.0.store c.args.pass.now.rows c.args.pass.now.seen c.args.pass.now.last c.args.pass.now.marks (ends_exclusive c.args.pass.now.seat.number c.args.pass.now.seat.seats c.args.pass.now.seat.seat.me.0 c.leave_exclusive.new.seat.seat.me.0 c.requires.ready.rest c.leave_exclusive.ensures.view).store
-
-pub returns-clause-crowd : goal.returns-clause-crowd
-returns-clause-crowd c = (ends_exclusive c.args.pass.now.seat.number c.args.pass.now.seat.seats c.args.pass.now.seat.seat.me.0 c.leave_exclusive.new.seat.seat.me.0 c.requires.ready.rest c.leave_exclusive.ensures.view).crowd
+invariant_of-pass c =
+    let p = c.args.pass.now in
+    let t = ends_exclusive p.seat.number p.seat.seats p.seat.seat.me.0 c.leave_exclusive.new.seat.seat.me.0 c.requires.ready.rest c.leave_exclusive.ensures.view in
+    record {
+      counted = p.counted ∙ ap (λ (v : View). v.root_count) (sym t.store);
+      sized = p.sized ∙ ap (λ (z : Sizes). z.rows) (sym t.sizes);
+      nexts_fit = p.nexts_fit;
+      heads_fit = subst (λ (z : Sizes). z.buckets ≤ vec_capacity p.heads) (sym t.sizes) p.heads_fit;
+    }
