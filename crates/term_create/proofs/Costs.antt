@@ -51,6 +51,10 @@ pub walked_cost : {A E : Type 0} → (W R n m k before p : ℕ) (r : Result A E)
 walked_cost W R n m k before p (Ok a) few h g = omega (arith, h, g)
 walked_cost W R n m k before p (Err e) few h g = let f : p * (W + 3) ≤ R * (W + 3) = mul-le-mul_right (W + 3) few in omega (arith, h, g)
 
+-- a row was drawn and stored, and then published or found
+pub told_cost : (W R n m k p q b : ℕ) → q ≡ p → m ≤ n + (W + 7) → k + q * (W + 3) ≤ m + 2 * (R + 1) + b * (W + 3) → k + p * (W + 3) ≤ n + (W + 7 + 2 * (R + 1)) + b * (W + 3)
+told_cost W R n m k p q b same l h = let f = ap (λ (j : ℕ). j * (W + 3)) same in omega arith
+
 -- a walk that isn't at its end has passed fewer rows than there are
 pub few_before : (N n : ℕ) (c : Content) (d : Option (ℕ × ℕ)) (from old at : ℕ) → eqb at old ≡ false → Few N n (arrived c d from old at) → n < N
 few_before N n c d from old at e h = subst (λ (b : Bool). Few N n (cond b (ended c d from) (Comparing c d from old at 0))) e h

@@ -5,3 +5,4 @@ pub mod Reading
 pub mod Remainders
 pub mod Arguments
 pub mod Views
+mod Staged

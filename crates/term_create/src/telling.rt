@@ -16,6 +16,9 @@ pub(crate) fn tell(pass: &mut Pass, sizes: &Sizes, noted: Noted) -> Row
     requires { row_of noted < sizes.now.rows }
     ensures row { result.0 ≡ row_of noted }
     ensures seat { pass.new.seat ≡ pass.old.seat }
+    ensures same { (pass.new.seat.seat ≡ pass.old.seat.seat)
+        × (pass.new.seat.number ≡ pass.old.seat.number)
+        × (pass.new.seat.seats ≡ pass.old.seat.seats) }
     ensures view { view_of pass.new ≡ view_of pass.old }
     ensures loaded { (pass.new.base ≡ pass.old.base) × (pass.new.in_use ≡ pass.old.in_use) }
     ensures told { (v : NodeView) (f : Head) (rs : List ℕ)

@@ -1,4 +1,5 @@
-use Rattle.std.proofs.Common.{◌++◌, ◌∙◌, ap, sym, subst}
+use Rattle.std.proofs.Common.{◌++◌, ◌∙◌, ℕ, ap, sym, subst, arith}
+use Rattle.atomic_table.specs.declared.shared.Seat.{Seat}
 use Rattle.std.specs.Prelude.{◌≡◌, IfErr}
 use Rattle.store_model.specs.declared.view.Call.{Call}
 use Rattle.store_model.specs.declared.view.Call.TheVariants.{Ended}
@@ -10,7 +11,8 @@ use Rattle.node_rows.specs.Knowing.{EndsAbsent}
 use Rattle.node_rows.specs.Rows.{names}
 use Rattle.node_rows.specs.declared.view.NodeView.{NodeView}
 use Rattle.node_rows.proofs.Tellings.{told_on}
-use Rattle.term_create.specs.Stage.{Notes, content}
+use Rattle.term_create.specs.Stage.{IsAt, SameSeat, Notes, content}
+use Rattle.term_create.proofs.Whole.{same_joined}
 use Rattle.term_create.proofs.Told.{noted_below, made_after, ends_filled, where_refused}
 use Rattle.term_create.proofs.creating.create_from.Goals as goal
 
@@ -20,17 +22,26 @@ tell-requires g c =
     noted_below a.store.now.sizes c.args.pass.now.seat.seat.me.0 c.walk.new.seat.seat.me.0 a.head (names a.args.now) c.in-Some.noted
     c.requires.stay c.walk.ensures.at.known c.in-Some.ensures.view
 
-pub returns-in-Some-clause-view : goal.returns-in-Some-clause-view
-returns-in-Some-clause-view g c =
-    let a = c.args.asked.now in
-    (c.in-Some.noted, c.tell.ensures.row, subst (λ (u : NodeView). Notes c.args.pass.now.seat.seat.me.0 u a.head (names a.args.now) c.in-Some.noted) (sym c.tell.ensures.view) c.in-Some.ensures.view)
-
-pub returns-in-Some-clause-told : goal.returns-in-Some-clause-told
-returns-in-Some-clause-told g c =
+pub returns-in-Some : goal.returns-in-Some
+returns-in-Some g c =
     let a = c.args.asked.now in
     let p = c.args.pass.now in
-    c.tell.ensures.told p.seat.seat.me.0 a.head (names a.args.now)
-    c.requires.told c.in-Some.ensures.view
+    let v = p.seat.seat.me.0 in
+    let rs = names a.args.now in
+    let w = c.walk.ensures in
+    let e = c.tell.ensures in
+    let notes = c.in-Some.ensures.view in
+    record {
+      at = subst (λ (s : Seat (Unit {0}) NodeView). IsAt a s) (sym e.same.0) w.at;
+      same = subst (λ (y : Seat (Unit {0}) NodeView × ℕ × ℕ). SameSeat p.seat.seat y.0 p.seat.number y.1 p.seat.seats y.2) (λ k. (sym e.same.0 k, sym e.same.1 k, sym e.same.2 k)) w.same;
+      loaded = e.loaded;
+      told = e.told v a.head rs c.requires.told notes;
+      view = (c.in-Some.noted, e.row, subst (λ (u : NodeView). Notes v u a.head rs c.in-Some.noted) (sym e.view) notes);
+      alone = tt;
+      all = tt;
+      filled = tt;
+      cost = omega (arith, c.in-Some.ensures.cost);
+    }
 
 pub make_told-requires-clause-told : goal.make_told-requires-clause-told
 make_told-requires-clause-told g c =
@@ -42,37 +53,28 @@ make_told-requires-clause-told g c =
 pub make_told-requires-clause-base : goal.make_told-requires-clause-base
 make_told-requires-clause-base g c = c.requires.base ∙ (c.requires.based.base ∙ sym (ap (λ (u : NodeView). u.store.base) c.in-None.ensures.view.view))
 
-pub returns-in-None-clause-alone : goal.returns-in-None-clause-alone
-returns-in-None-clause-alone g c =
-    let z = c.args.asked.now.store.now.sizes in
-    where_refused c.make_told.result (subst (λ (u : NodeView). z.seats ≡ 1 → EndsAbsent u.store.entries u.store.call) c.in-None.ensures.view.view c.walk.ensures.at.known.absent)
-
-pub make_told-requires-clause-stay : goal.make_told-requires-clause-stay
-make_told-requires-clause-stay g c = ap (λ (u : NodeView). u.store.stay) c.in-None.ensures.view.view ∙ c.requires.stay
-
-pub returns-in-None-clause-view : goal.returns-in-None-clause-view
-returns-in-None-clause-view g c =
+pub returns-in-None : goal.returns-in-None
+returns-in-None g c =
     let a = c.args.asked.now in
-    made_after c.args.pass.now.seat.seat.me.0 c.walk.new.seat.seat.me.0 c.make_told.new.pass.seat.seat.me.0 a.head (names a.args.now) c.args.from c.make_told.result c.in-None.ensures.view c.make_told.ensures.view
-
-pub returns-in-None-clause-all : goal.returns-in-None-clause-all
-returns-in-None-clause-all g c =
     let z = c.args.asked.now.store.now.sizes in
-    subst (λ (u : NodeView). IfErr c.make_told.result (λ _. z.seats ≡ 1 → HoldsAll z.rows u.store.entries)) c.in-None.ensures.view.view c.make_told.ensures.all
-
-pub returns-in-None-clause-filled : goal.returns-in-None-clause-filled
-returns-in-None-clause-filled g c =
-    let a = c.args.asked.now in
     let seat = c.args.pass.now.seat in
     let v = seat.seat.me.0 in
     let h = c.in-None.ensures.view in
-    ends_filled a.store.now.sizes seat.number c.walk.new.seat.number v c.walk.new.seat.seat.me.0 a.head (names a.args.now)
-    h.passed (v.store.path ++ h.path) (Ended (content a) c.args.from) c.make_told.result c.walk.ensures.same.number h.view c.make_told.ensures.filled
-
-pub returns-in-None-clause-cost : goal.returns-in-None-clause-cost
-returns-in-None-clause-cost g c =
-    let z = c.args.asked.now.store.now.sizes in
     let u = c.walk.new.seat.seat.me.0 in
     let few = subst (λ (x : Call). Few z.rows u.store.passed x) (ap (λ (q : NodeView). q.store.call) c.in-None.ensures.view.view) c.walk.ensures.at.known.few in
-    walked_cost (widest z) z.rows c.args.steps.now c.walk.new.steps c.make_told.new.steps c.args.pass.now.seat.seat.me.0.store.passed u.store.passed c.make_told.result
-    few c.in-None.ensures.cost c.make_told.ensures.cost
+    record {
+      at = record { of = c.make_told.ensures.of; known = c.make_told.ensures.known };
+      same = same_joined c.walk.ensures.same c.make_told.ensures.same;
+      loaded = c.make_told.ensures.loaded;
+      told = c.make_told.ensures.told;
+      view = made_after c.args.pass.now.seat.seat.me.0 c.walk.new.seat.seat.me.0 c.make_told.new.pass.seat.seat.me.0 a.head (names a.args.now) c.args.from c.make_told.result c.in-None.ensures.view c.make_told.ensures.view;
+      alone = where_refused c.make_told.result (subst (λ (u : NodeView). z.seats ≡ 1 → EndsAbsent u.store.entries u.store.call) c.in-None.ensures.view.view c.walk.ensures.at.known.absent);
+      all = subst (λ (u : NodeView). IfErr c.make_told.result (λ _. z.seats ≡ 1 → HoldsAll z.rows u.store.entries)) c.in-None.ensures.view.view c.make_told.ensures.all;
+      filled = ends_filled a.store.now.sizes seat.number c.walk.new.seat.number v c.walk.new.seat.seat.me.0 a.head (names a.args.now)
+          h.passed (v.store.path ++ h.path) (Ended (content a) c.args.from) c.make_told.result c.walk.ensures.same.number h.view c.make_told.ensures.filled;
+      cost = walked_cost (widest z) z.rows c.args.steps.now c.walk.new.steps c.make_told.new.steps c.args.pass.now.seat.seat.me.0.store.passed u.store.passed c.make_told.result
+          few c.in-None.ensures.cost c.make_told.ensures.cost;
+    }
+
+pub make_told-requires-clause-stay : goal.make_told-requires-clause-stay
+make_told-requires-clause-stay g c = ap (λ (u : NodeView). u.store.stay) c.in-None.ensures.view.view ∙ c.requires.stay

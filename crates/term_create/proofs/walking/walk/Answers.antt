@@ -1,10 +1,13 @@
-use Rattle.std.proofs.Common.{◌≡◌, suc, eqb, false, ap, ◌∙◌, arith, subst}
-use Rattle.store_model.specs.Machine.{widest}
+use Rattle.std.proofs.Common.{◌≡◌, suc, ◌+◌, ◌-◌, ◌++◌, max, pred, eqb, false, ap, ◌∙◌, arith, subst}
+use Rattle.store_model.specs.Machine.{widest, gained}
 use Rattle.std.proofs.lemmas.Bool.Decides.{nat_tests}
 use Rattle.store_model.specs.declared.view.Call.{Call}
-use Rattle.node_rows.specs.Steps.{Stands, Few}
+use Rattle.store_model.specs.declared.view.Call.TheVariants.{Finding}
+use Rattle.history_core.specs.declared.entry.Entry.TheVariants.{Find}
+use Rattle.node_rows.specs.Steps.{Stands, Few, with_store}
+use Rattle.node_rows.specs.Rows.{names}
 use Rattle.node_rows.specs.declared.view.NodeView.{NodeView}
-use Rattle.term_create.specs.Stage.{content}
+use Rattle.term_create.specs.Stage.{at_call, content}
 use Rattle.term_create.proofs.Whole.{walk_goes_on, walk_passes, same_joined}
 use Rattle.term_create.proofs.Views.{compares, other_here}
 use Rattle.term_create.proofs.Costs.{walk_more, walk_found, few_before}
@@ -40,22 +43,43 @@ pass_on-at-requires-clause-stage g c =
     let d = c.args.walk in
     other_here c.loop-step.seat.seat.me.0 c.compare_row.new.seat.seat.me.0 (content c.args.asked.now) d.drawn d.from d.old c.loop-step.at c.if-compare_row.ensures.view
 
-pub returns-then-at-walk-clause-view : goal.returns-then-at-walk-clause-view
-returns-then-at-walk-clause-view g c =
+pub returns-then-at-walk : goal.returns-then-at-walk
+returns-then-at-walk g c =
     let d = c.args.walk in
-    walk_passes c.args.seat.now.seat.me.0 c.loop-step.seat.seat.me.0 c.loop-step._step (content c.args.asked.now) d.drawn d.from d.old c.loop-step.at
-    c.loop-step.invariant.view c.loop-step.invariant.first c.if-at-walk.true
+    let i = c.loop-step.invariant in
+    record {
+      at = i.at;
+      same = i.same;
+      view = walk_passes c.args.seat.now.seat.me.0 c.loop-step.seat.seat.me.0 c.loop-step._step (content c.args.asked.now) d.drawn d.from d.old c.loop-step.at i.view i.first c.if-at-walk.true;
+      cost = i.cost;
+    }
 
-pub returns-then-compare_row-clause-cost : goal.returns-then-compare_row-clause-cost
-returns-then-compare_row-clause-cost g c =
-    let z = c.args.asked.now.store.now.sizes in
+pub returns-then-compare_row : goal.returns-then-compare_row
+returns-then-compare_row g c =
+    let a = c.args.asked.now in
+    let z = a.store.now.sizes in
+    let d = c.args.walk in
     let v = c.args.seat.now.seat.me.0 in
     let u = c.loop-step.seat.seat.me.0 in
-    let f = c.if-at-walk.false in
-    let other : eqb c.loop-step.at c.args.walk.old ≡ false = grind (arith, nat_tests) in
-    let few : Few z.rows u.store.passed u.store.call = c.loop-step.invariant.at.known.few in
-    walk_found (widest z) z.rows v.store.passed c.args.steps.now c.loop-step.steps c.compare_row.new.steps c.find-birth.new.steps u.store.passed
-    c.loop-step.invariant.cost
-    (few_before z.rows u.store.passed (content c.args.asked.now) c.args.walk.drawn c.args.walk.from c.args.walk.old c.loop-step.at other
-    (subst (λ (x : Call). Few z.rows u.store.passed x) (ap (λ (q : NodeView). q.store.call) c.loop-step.invariant.view.view) few))
-    c.if-compare_row.ensures.cost c.find-birth.ensures.tick
+    let i = c.loop-step.invariant in
+    let e = c.if-compare_row.ensures in
+    let f = c.find-birth.ensures in
+    let n = c.find-birth.result in
+    let r = c.loop-step.at - 1 in
+    let no = c.if-at-walk.false in
+    let other : eqb c.loop-step.at d.old ≡ false = grind (arith, nat_tests) in
+    let few : Few z.rows u.store.passed u.store.call = i.at.known.few in
+    record {
+      at = f.at;
+      same = same_joined i.same (same_joined e.same f.same);
+      view = record {
+        passed = v.store.passed + c.loop-step._step;
+        path = v.store.path ++ i.view.path;
+        view = f.view ∙ ap (λ (q : NodeView). with_store q (gained q.store (content a) r n (Find (max q.store.seen n) a.head (names a.args.now) r)))
+            (e.view ∙ ap (λ (q : NodeView). at_call q (Finding (content a) d.drawn (pred c.loop-step.at))) i.view.view);
+      };
+      cost = walk_found (widest z) z.rows v.store.passed c.args.steps.now c.loop-step.steps c.compare_row.new.steps c.find-birth.new.steps u.store.passed i.cost
+          (few_before z.rows u.store.passed (content a) d.drawn d.from d.old c.loop-step.at other
+          (subst (λ (x : Call). Few z.rows u.store.passed x) (ap (λ (q : NodeView). q.store.call) i.view.view) few))
+          e.cost f.tick;
+    }
