@@ -41,10 +41,15 @@ loop-row-init c =
       heads = ap length is ∙ length-replicate (length c.args.heads.now) 0;
     }
 
-pub returns-clause-chains : goal.returns-clause-chains
-returns-clause-chains c =
+pub returns : goal.returns
+returns c =
     let told = ap (λ (z : Sizes). z.rows) c.args.sweep.now.at.told in
     let past = c.loop-row-test.false in
     let within = c.loop-row.auto.row-end in
     let all : c.loop-row.row ≡ (sizes_of c.args.sweep.now).rows = omega arith in
-    subst (λ (n : ℕ). ChainsTo (words_of c.args.seat.now.seat) c.args.marks.now c.args.in_use n c.loop-row.heads c.loop-row.nexts) all c.loop-row.invariant.chains
+    record {
+      at = c.loop-row.invariant.at;
+      again = c.loop-row.invariant.again;
+      chains = subst (λ (n : ℕ). ChainsTo (words_of c.args.seat.now.seat) c.args.marks.now c.args.in_use n c.loop-row.heads c.loop-row.nexts) all c.loop-row.invariant.chains;
+      lengths = (c.loop-row.invariant.nexts, c.loop-row.invariant.heads);
+    }

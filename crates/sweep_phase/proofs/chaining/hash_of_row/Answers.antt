@@ -16,9 +16,13 @@ hash_from-requires-clause-reached c = subst (λ (u : Place → ℕ). ReachesByWo
 pub hash_from-requires-clause-symbol : goal.hash_from-requires-clause-symbol
 hash_from-requires-clause-symbol c = c.row_word_of-symbol.ensures.value ∙ ap (λ (u : Place → ℕ). u (RowWord c.args.row 0)) (sym c.row_word_of-symbol.ensures.again.words)
 
-pub returns-clause-again : goal.returns-clause-again
-returns-clause-again c = let a = c.args.seat.now in let t = c.row_word_of-symbol.new.seat in let s = c.hash_from.new.seat in
-    again_in_turn c.args.sweep.now a.seat a.number a.seats t.seat t.number t.seats s.seat s.number s.seats c.row_word_of-symbol.ensures.again c.hash_from.ensures.again
-
-pub returns-clause-hash : goal.returns-clause-hash
-returns-clause-hash c = subst (λ (u : Place → ℕ). IsHashed u c.args.row c.hash_from.result) c.row_word_of-symbol.ensures.again.words c.hash_from.ensures.hash
+pub returns : goal.returns
+returns c =
+    let a = c.args.seat.now in
+    let t = c.row_word_of-symbol.new.seat in
+    let s = c.hash_from.new.seat in
+    record {
+      at = c.hash_from.ensures.at;
+      again = again_in_turn c.args.sweep.now a.seat a.number a.seats t.seat t.number t.seats s.seat s.number s.seats c.row_word_of-symbol.ensures.again c.hash_from.ensures.again;
+      hash = subst (λ (u : Place → ℕ). IsHashed u c.args.row c.hash_from.result) c.row_word_of-symbol.ensures.again.words c.hash_from.ensures.hash;
+    }

@@ -31,7 +31,13 @@ loop-j-preserved c =
           ∙ (ap (λ (h : ℕ). mixed h (words_of a.seat (RowWord c.args.row (c.loop-j.j + 2)))) i.hash ∙ numbers_more (words_of a.seat) c.args.row c.loop-j.j c.args.first));
     }
 
-pub returns-clause-hash : goal.returns-clause-hash
-returns-clause-hash c = let a = c.args.seat.now in let n = c.count_of-count.ensures.value in
+pub returns : goal.returns
+returns c =
+    let a = c.args.seat.now in
+    let n = c.count_of-count.ensures.value in
     let last : c.loop-j.j ≡ words_of a.seat (RowWord c.args.row 1) = omega arith in
-    subst (λ (k : ℕ). c.loop-j.hash ≡ mixed_all c.args.first (numbers_of (words_of a.seat) c.args.row k)) last c.loop-j.invariant.hash
+    record {
+      at = c.loop-j.invariant.at;
+      again = c.loop-j.invariant.again;
+      hash = subst (λ (k : ℕ). c.loop-j.hash ≡ mixed_all c.args.first (numbers_of (words_of a.seat) c.args.row k)) last c.loop-j.invariant.hash;
+    }

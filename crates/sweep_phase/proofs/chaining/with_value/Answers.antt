@@ -1,4 +1,5 @@
-use Rattle.std.proofs.Common.{arith}
+use Rattle.hash_buckets.specs.Hash.{mixed}
+use Rattle.std.proofs.Common.{arith, ℕ, ap, ◌∙◌}
 use Rattle.sweep_phase.proofs.Sound.{row_is_below}
 use Rattle.sweep_phase.proofs.chaining.with_value.Goals as goal
 
@@ -7,3 +8,10 @@ row_word_of-value-requires-clause-below c = let s = c.args.seat.now in row_is_be
 
 pub row_word_of-value-requires-clause-within : goal.row_word_of-value-requires-clause-within
 row_word_of-value-requires-clause-within c = omega arith
+
+pub returns : goal.returns
+returns c = record {
+  at = c.row_word_of-value.ensures.at;
+  again = c.row_word_of-value.ensures.again;
+  hash = c.with_word.ensures ∙ ap (λ (n : ℕ). mixed c.args.first n) c.row_word_of-value.ensures.value;
+}

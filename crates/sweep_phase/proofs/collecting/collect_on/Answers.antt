@@ -21,21 +21,21 @@ pub sweep_all-kept-requires-clause-heads : goal.sweep_all-kept-requires-clause-h
 sweep_all-kept-requires-clause-heads c =
     ap length c.deref_mut-2.ensures.value ∙ (c.fill_up-2.ensures.length ∙ sym (ap (λ (z : Sizes). z.buckets) c.args.sweep.now.at.told))
 
-pub returns-clause-told : goal.returns-clause-told
-returns-clause-told c =
+pub returns : goal.returns
+returns c =
+    let r = c.sweep_all-kept.result in
     let p = c.args.pass.now in
-    let a = p.seat in
     let b = c.sweep_all-kept.new.seat in
-    let r = c.sweep_all-kept.result in
     let e = c.sweep_all-kept.ensures.ends in
-    c.tell_collect.ensures.told a.seat.me.0.store.entries e.kept
-    (whole_entries c.args.sweep.now a.seat a.number a.seats b.seat b.number b.seats c.sweep_all-kept.new.marks r.live r.buckets e)
-    (whole_seen c.args.sweep.now a.seat a.number a.seats b.seat b.number b.seats c.sweep_all-kept.new.marks r.live r.buckets e)
-    (e.size ∙ sym (p.sized ∙ ap (λ (z : Sizes). z.rows) c.requires.at.alone.of.sizes))
-    (λ q. e.marked q.0)
-
-pub returns-clause-ends : goal.returns-clause-ends
-returns-clause-ends c =
-    let a = c.args.pass.now.seat in
-    let r = c.sweep_all-kept.result in
-    subst (λ s. EndsSo c.args.sweep.now a.seat a.number a.seats s.seat s.number s.seats r.live r.buckets) (sym c.tell_collect.ensures.seat.0) (c.sweep_all-kept.new.marks, c.sweep_all-kept.ensures.ends)
+    record {
+      ends = let a = c.args.pass.now.seat in
+          subst (λ s. EndsSo c.args.sweep.now a.seat a.number a.seats s.seat s.number s.seats r.live r.buckets) (sym c.tell_collect.ensures.seat.0) (c.sweep_all-kept.new.marks, c.sweep_all-kept.ensures.ends);
+      base = c.tell_collect.ensures.seat.1;
+      in_use = c.tell_collect.ensures.seat.2 ∙ c.from.ensures;
+      told = let a = p.seat in
+          c.tell_collect.ensures.told a.seat.me.0.store.entries e.kept
+          (whole_entries c.args.sweep.now a.seat a.number a.seats b.seat b.number b.seats c.sweep_all-kept.new.marks r.live r.buckets e)
+          (whole_seen c.args.sweep.now a.seat a.number a.seats b.seat b.number b.seats c.sweep_all-kept.new.marks r.live r.buckets e)
+          (e.size ∙ sym (p.sized ∙ ap (λ (z : Sizes). z.rows) c.requires.at.alone.of.sizes))
+          (λ q. e.marked q.0);
+    }

@@ -37,39 +37,34 @@ store_places-requires-clause-held c = λ r l not is.
       y.more.seen (FreePlace k) (x.more.seen (FreePlace k) (gathered_seen c.args.sweep.now a.seat a.number a.seats g (FreePlace k) (place_loaded c.args.sweep.now a.seat a.number a.seats g k p.0))),
     )
 
-pub returns-clause-stays : goal.returns-clause-stays
-returns-clause-stays c = let a = c.args.seat.now in let b = c.store_nexts.new.seat in let d = c.store_heads.new.seat in let e = c.store_places.new.seat in
-    stays_in_turn a.seat a.number a.seats b.seat b.number b.seats e.seat e.number e.seats c.store_nexts.ensures.more.stays
-    (stays_in_turn b.seat b.number b.seats d.seat d.number d.seats e.seat e.number e.seats c.store_heads.ensures.more.stays c.store_places.ensures.more.stays)
-
-pub returns-clause-stored : goal.returns-clause-stored
-returns-clause-stored c = let a = c.args.seat.now in let b = c.store_nexts.new.seat in let d = c.store_heads.new.seat in let e = c.store_places.new.seat in
-    let x = c.store_nexts.ensures in let y = c.store_heads.ensures in let z = c.store_places.ensures in
-    let h = c.requires.compared in
+pub returns : goal.returns
+returns c =
+    let a = c.args.seat.now in
+    let b = c.store_nexts.new.seat in
+    let d = c.store_heads.new.seat in
+    let e = c.store_places.new.seat in
+    let x = c.store_nexts.ensures in
+    let y = c.store_heads.ensures in
+    let z = c.store_places.ensures in
     let s = c.args.sweep.now in
     let same : c.order_for-order.result ≡ order_for (sizes_of s) c.args.kept.live = c.order_for-order.ensures ∙ ap (λ (z : Sizes). order_for z c.args.kept.live) (sym s.at.told) in
     let placed = subst (λ (o : Order). ArePlaced (λ i. seen_of e.seat (FreePlace i)) c.args.marks.now (sizes_of s) o (sizes_of s).rows c.store_places.result) same z.placed in
-    let start = seen_start c.args.sweep.now a.seat a.number a.seats h.out.gathered in
-    lists_stored c.args.sweep.now a.seat a.number a.seats c.args.marks.now h.new_nexts h.new_heads c.args.kept.live c.args.kept.buckets h.out
-    b.seat b.number b.seats d.seat d.number d.seats e.seat e.number e.seats c.store_places.result x.more y.more z.more z.at
-    (λ r l m. x.nexts r l m ∙ (ap (λ (n : ℕ). told_by n (get_or c.args.nexts.now r 0)) (start (Next r)) ∙ h.notes.next r l (turn_below (sizes_of c.args.sweep.now) (order_for (sizes_of c.args.sweep.now) c.args.kept.live) r l) m)) x.others
-    (λ q l. y.heads q l ∙ (ap (λ (n : ℕ). told_by n (get_or c.args.heads.now q 0)) (x.others (Bucket q) refl ∙ start (Bucket q)) ∙ h.heads_are q l)) y.others placed z.has z.few z.others
-
-pub returns-clause-count : goal.returns-clause-count
-returns-clause-count c =
-    let a = c.args.seat.now in
-    let x = c.store_nexts.ensures in let y = c.store_heads.ensures in let z = c.store_places.ensures in
-    let g = c.requires.compared.out.gathered in (
-      z.others FreeCount refl ∙ (y.others FreeCount refl ∙ (x.others FreeCount refl ∙ (seen_start c.args.sweep.now a.seat a.number a.seats g FreeCount ∙ ap (λ (k : Call). found (loads k) FreeCount) g.gathers.call))),
-      z.more.seen FreeCount (y.more.seen FreeCount (x.more.seen FreeCount (gathered_seen c.args.sweep.now a.seat a.number a.seats g FreeCount g.all.count))),
-    )
-
-pub returns-clause-in_use : goal.returns-clause-in_use
-returns-clause-in_use c =
-    let a = c.args.seat.now in
-    let x = c.store_nexts.ensures in let y = c.store_heads.ensures in let z = c.store_places.ensures in
-    let h = c.requires.compared.out in
-    let g = c.requires.compared.out.gathered in (
-      z.others InUse refl ∙ (y.others InUse refl ∙ (x.others InUse refl ∙ (seen_start c.args.sweep.now a.seat a.number a.seats g InUse ∙ h.use_is))),
-      z.more.seen InUse (y.more.seen InUse (x.more.seen InUse (gathered_seen c.args.sweep.now a.seat a.number a.seats g InUse g.all.in_use))),
-    )
+    record {
+      stays = stays_in_turn a.seat a.number a.seats b.seat b.number b.seats e.seat e.number e.seats c.store_nexts.ensures.more.stays
+          (stays_in_turn b.seat b.number b.seats d.seat d.number d.seats e.seat e.number e.seats c.store_heads.ensures.more.stays c.store_places.ensures.more.stays);
+      stored = let h = c.requires.compared in
+          let start = seen_start c.args.sweep.now a.seat a.number a.seats h.out.gathered in
+          lists_stored c.args.sweep.now a.seat a.number a.seats c.args.marks.now h.new_nexts h.new_heads c.args.kept.live c.args.kept.buckets h.out
+          b.seat b.number b.seats d.seat d.number d.seats e.seat e.number e.seats c.store_places.result x.more y.more z.more z.at
+          (λ r l m. x.nexts r l m ∙ (ap (λ (n : ℕ). told_by n (get_or c.args.nexts.now r 0)) (start (Next r)) ∙ h.notes.next r l (turn_below (sizes_of c.args.sweep.now) (order_for (sizes_of c.args.sweep.now) c.args.kept.live) r l) m)) x.others
+          (λ q l. y.heads q l ∙ (ap (λ (n : ℕ). told_by n (get_or c.args.heads.now q 0)) (x.others (Bucket q) refl ∙ start (Bucket q)) ∙ h.heads_are q l)) y.others placed z.has z.few z.others;
+      count = let g = c.requires.compared.out.gathered in (
+        z.others FreeCount refl ∙ (y.others FreeCount refl ∙ (x.others FreeCount refl ∙ (seen_start c.args.sweep.now a.seat a.number a.seats g FreeCount ∙ ap (λ (k : Call). found (loads k) FreeCount) g.gathers.call))),
+        z.more.seen FreeCount (y.more.seen FreeCount (x.more.seen FreeCount (gathered_seen c.args.sweep.now a.seat a.number a.seats g FreeCount g.all.count))),
+      );
+      in_use = let h = c.requires.compared.out in
+          let g = c.requires.compared.out.gathered in (
+            z.others InUse refl ∙ (y.others InUse refl ∙ (x.others InUse refl ∙ (seen_start c.args.sweep.now a.seat a.number a.seats g InUse ∙ h.use_is))),
+            z.more.seen InUse (y.more.seen InUse (x.more.seen InUse (gathered_seen c.args.sweep.now a.seat a.number a.seats g InUse g.all.in_use))),
+          );
+    }

@@ -28,8 +28,8 @@ chain_all-requires-clause-used c =
     let h = c.requires.heads in
     let d = ap (λ (z : Sizes). z.buckets) c.args.sweep.now.at.told in (omega arith, omega arith)
 
-pub returns-clause-out : goal.returns-clause-out
-returns-clause-out c =
+pub returns : goal.returns
+returns c =
     let s = c.args.seat.now in
     let t = c.chain_all.new.seat in
     let z = sizes_of c.args.sweep.now in
@@ -43,14 +43,18 @@ returns-clause-out c =
     let r = ap (λ (y : Sizes). y.rows) told in
     let live = c.count_marked-live.result in
     let uses = use_is c.args.sweep.now s.seat s.number s.seats c.requires.at in
-    let same : words_of t.seat InUse ≡ words_of s.seat InUse = ap (λ (w : Place → ℕ). w InUse) e.again.words in record {
-      gathered = e.at;
-      reached = subst (λ (w : Place → ℕ). MarksReached w z.rows c.args.marks.now) (sym e.again.words) c.requires.marks;
-      chains = subst (λ (w : Place → ℕ). ChainsTo w c.args.marks.now c.buckets_after-buckets.result z.rows c.chain_all.new.heads c.chain_all.new.nexts) (sym e.again.words) e.chains;
-      live_is = c.count_marked-live.ensures.count ∙ ap (λ (n : ℕ). marked_below c.args.marks.now n) (sym r);
-      buckets_are = c.buckets_after-buckets.ensures.grown ∙ (ap (λ (y : Sizes). grown_use y c.args.in_use live) (sym told) ∙ ap (λ (n : ℕ). grown_use z n live) (i ∙ sym (same ∙ uses)));
-      use_is = same ∙ (uses ∙ sym (ap (λ (v : NodeView). v.store.in_use) e.again.stays.only));
-      used = omega arith;
-      within = omega arith;
-      more = omega arith;
+    record {
+      stays = c.chain_all.ensures.again.stays;
+      out = let same : words_of t.seat InUse ≡ words_of s.seat InUse = ap (λ (w : Place → ℕ). w InUse) e.again.words in record {
+        gathered = e.at;
+        reached = subst (λ (w : Place → ℕ). MarksReached w z.rows c.args.marks.now) (sym e.again.words) c.requires.marks;
+        chains = subst (λ (w : Place → ℕ). ChainsTo w c.args.marks.now c.buckets_after-buckets.result z.rows c.chain_all.new.heads c.chain_all.new.nexts) (sym e.again.words) e.chains;
+        live_is = c.count_marked-live.ensures.count ∙ ap (λ (n : ℕ). marked_below c.args.marks.now n) (sym r);
+        buckets_are = c.buckets_after-buckets.ensures.grown ∙ (ap (λ (y : Sizes). grown_use y c.args.in_use live) (sym told) ∙ ap (λ (n : ℕ). grown_use z n live) (i ∙ sym (same ∙ uses)));
+        use_is = same ∙ (uses ∙ sym (ap (λ (v : NodeView). v.store.in_use) e.again.stays.only));
+        used = omega arith;
+        within = omega arith;
+        more = omega arith;
+      };
+      lengths = c.chain_all.ensures.lengths;
     }

@@ -37,15 +37,18 @@ compare_heads-requires-clause-small c = λ b l.
     let d = ap (λ (y : Sizes). y.rows) c.args.sweep.now.at.told in
     let k = c.args.sweep.now.may.rows.1 in omega arith
 
-pub returns-clause-stays : goal.returns-clause-stays
-returns-clause-stays c = let a = c.args.seat.now in let b = c.compare_rows.new.seat in let d = c.compare_heads.new.seat in
-    stays_in_turn a.seat a.number a.seats b.seat b.number b.seats d.seat d.number d.seats c.compare_rows.ensures.again.stays c.compare_heads.ensures.again.stays
-
-pub returns-clause-compared : goal.returns-clause-compared
-returns-clause-compared c = let a = c.args.seat.now in let b = c.compare_rows.new.seat in let d = c.compare_heads.new.seat in
+pub returns : goal.returns
+returns c =
+    let a = c.args.seat.now in
+    let b = c.compare_rows.new.seat in
+    let d = c.compare_heads.new.seat in
     let s = c.args.sweep.now in
     let same : c.order_for-order.result ≡ order_for (sizes_of s) c.args.kept.live = c.order_for-order.ensures ∙ ap (λ (z : Sizes). order_for z c.args.kept.live) (sym s.at.told) in
     let notes = subst (λ (o : Order). Notes (words_of a.seat) s.count c.args.marks.now c.args.nexts.now c.compare_rows.new.cells (sizes_of s) o (sizes_of s).rows) same c.compare_rows.ensures.notes in
-    all_compared c.args.sweep.now a.seat a.number a.seats c.args.marks.now c.args.nexts.now c.args.heads.now c.args.kept.live c.args.kept.buckets c.requires.out
-    b.seat b.number b.seats d.seat d.number d.seats c.compare_rows.ensures.again c.compare_heads.ensures.again c.compare_heads.ensures.at
-    c.compare_rows.new.cells c.compare_heads.new.heads notes c.compare_heads.ensures.tells
+    record {
+      stays = stays_in_turn a.seat a.number a.seats b.seat b.number b.seats d.seat d.number d.seats c.compare_rows.ensures.again.stays c.compare_heads.ensures.again.stays;
+      compared = all_compared c.args.sweep.now a.seat a.number a.seats c.args.marks.now c.args.nexts.now c.args.heads.now c.args.kept.live c.args.kept.buckets c.requires.out
+          b.seat b.number b.seats d.seat d.number d.seats c.compare_rows.ensures.again c.compare_heads.ensures.again c.compare_heads.ensures.at
+          c.compare_rows.new.cells c.compare_heads.new.heads notes c.compare_heads.ensures.tells;
+      lengths = (c.compare_rows.ensures.size, c.compare_heads.ensures.size);
+    }

@@ -30,3 +30,11 @@ loop-b-preserved c =
       rest = λ b l. e.others b (λ same. let x : b ≡ c.loop-b.b = same in omega arith) ∙ i.rest b (omega arith);
       size = e.size ∙ i.size;
     }
+
+pub returns : goal.returns
+returns c = record {
+  at = c.loop-b.invariant.at;
+  again = c.loop-b.invariant.again;
+  tells = λ b l. c.loop-b.invariant.tells b (let past = c.loop-b-test.false in omega arith);
+  size = c.loop-b.invariant.size;
+}

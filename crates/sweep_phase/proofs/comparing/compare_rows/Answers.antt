@@ -45,10 +45,15 @@ loop-turn-preserved c =
       size = e.size ∙ i.size;
     }
 
-pub returns-clause-notes : goal.returns-clause-notes
-returns-clause-notes c =
+pub returns : goal.returns
+returns c =
     let told = ap (λ (z : Sizes). z.rows) c.args.sweep.now.at.told in
     let past = c.loop-turn-test.false in
     let within = c.loop-turn.auto.turn-end in
     let all : c.loop-turn.turn ≡ (sizes_of c.args.sweep.now).rows = omega arith in
-    subst (λ (n : ℕ). Notes (words_of c.args.seat.now.seat) c.args.sweep.now.count c.args.marks.now c.args.cells.now c.loop-turn.cells (sizes_of c.args.sweep.now) c.args.order n) all c.loop-turn.invariant.notes
+    record {
+      at = c.loop-turn.invariant.at;
+      again = c.loop-turn.invariant.again;
+      notes = subst (λ (n : ℕ). Notes (words_of c.args.seat.now.seat) c.args.sweep.now.count c.args.marks.now c.args.cells.now c.loop-turn.cells (sizes_of c.args.sweep.now) c.args.order n) all c.loop-turn.invariant.notes;
+      size = c.loop-turn.invariant.size;
+    }

@@ -23,5 +23,9 @@ loop-b-preserved c =
       loaded = below_more (λ (q : ℕ). IsLoaded (Bucket q) (loads_of t.seat)) (λ (q : ℕ). IsLoaded (Bucket q) (loads_of s.seat)) c.loop-b.b i.loaded (λ q. loaded_on (loads_of t.seat) (loads_of s.seat) (Bucket q) e.more.extends) e.loaded;
     }
 
-pub returns-clause-loaded : goal.returns-clause-loaded
-returns-clause-loaded c = λ q l. c.loop-b.invariant.loaded q (let d = ap (λ (z : Sizes). z.buckets) c.args.sweep.now.at.told in omega arith)
+pub returns : goal.returns
+returns c = record {
+  at = c.loop-b.invariant.at;
+  more = c.loop-b.invariant.more;
+  loaded = λ q l. c.loop-b.invariant.loaded q (let d = ap (λ (z : Sizes). z.buckets) c.args.sweep.now.at.told in omega arith);
+}

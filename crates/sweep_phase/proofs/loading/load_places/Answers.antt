@@ -25,5 +25,9 @@ loop-i-preserved c =
 pub overflow_cast-i-end : goal.overflow_cast-i-end
 overflow_cast-i-end c = let m = c.args.sweep.now.may.rows.1 in let f = c.args.sweep.now.few in omega arith
 
-pub returns-clause-loaded : goal.returns-clause-loaded
-returns-clause-loaded c = λ q l. c.loop-i.invariant.loaded q (let m = c.args.sweep.now.may.rows.1 in let f = c.args.sweep.now.few in omega arith)
+pub returns : goal.returns
+returns c = record {
+  at = c.loop-i.invariant.at;
+  more = c.loop-i.invariant.more;
+  loaded = λ q l. c.loop-i.invariant.loaded q (let m = c.args.sweep.now.may.rows.1 in let f = c.args.sweep.now.few in omega arith);
+}

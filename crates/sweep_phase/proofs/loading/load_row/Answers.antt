@@ -4,13 +4,17 @@ use Rattle.sweep_phase.proofs.Gathering.{loaded_on}
 use Rattle.sweep_phase.proofs.Loads.{more_in_turn}
 use Rattle.sweep_phase.proofs.loading.load_row.Goals as goal
 
-pub returns-clause-more : goal.returns-clause-more
-returns-clause-more c = let a = c.args.seat.now in let b = c.load_words.new.seat in let d = c.load_links.new.seat in
-    more_in_turn a.seat a.number a.seats b.seat b.number b.seats d.seat d.number d.seats c.load_words.ensures.more c.load_links.ensures.more
-
-pub returns-clause-loaded : goal.returns-clause-loaded
-returns-clause-loaded c = let b = c.load_words.new.seat in let d = c.load_links.new.seat in record {
-  words = λ k l. loaded_on (loads_of b.seat) (loads_of d.seat) (RowWord c.args.row k) c.load_links.ensures.more.extends (c.load_words.ensures.loaded k l);
-  birth = c.load_links.ensures.birth;
-  next = c.load_links.ensures.next;
-}
+pub returns : goal.returns
+returns c =
+    let a = c.args.seat.now in
+    let b = c.load_words.new.seat in
+    let d = c.load_links.new.seat in
+    record {
+      at = c.load_links.ensures.at;
+      more = more_in_turn a.seat a.number a.seats b.seat b.number b.seats d.seat d.number d.seats c.load_words.ensures.more c.load_links.ensures.more;
+      loaded = let b = c.load_words.new.seat in let d = c.load_links.new.seat in record {
+        words = λ k l. loaded_on (loads_of b.seat) (loads_of d.seat) (RowWord c.args.row k) c.load_links.ensures.more.extends (c.load_words.ensures.loaded k l);
+        birth = c.load_links.ensures.birth;
+        next = c.load_links.ensures.next;
+      };
+    }

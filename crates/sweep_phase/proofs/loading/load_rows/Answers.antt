@@ -22,5 +22,9 @@ loop-row-preserved c =
       loaded = below_more (λ (q : ℕ). HasRow (sizes_of c.args.sweep.now) (loads_of t.seat) q) (λ (q : ℕ). HasRow (sizes_of c.args.sweep.now) (loads_of s.seat) q) c.loop-row.row i.loaded (λ q. row_on (sizes_of c.args.sweep.now) (loads_of t.seat) (loads_of s.seat) q e.more.extends) e.loaded;
     }
 
-pub returns-clause-loaded : goal.returns-clause-loaded
-returns-clause-loaded c = λ q l. c.loop-row.invariant.loaded q (let d = ap (λ (z : Sizes). z.rows) c.args.sweep.now.at.told in omega arith)
+pub returns : goal.returns
+returns c = record {
+  at = c.loop-row.invariant.at;
+  more = c.loop-row.invariant.more;
+  loaded = λ q l. c.loop-row.invariant.loaded q (let d = ap (λ (z : Sizes). z.rows) c.args.sweep.now.at.told in omega arith);
+}

@@ -27,9 +27,13 @@ loop-k-preserved c =
 pub overflow_cast-k-end : goal.overflow_cast-k-end
 overflow_cast-k-end c = let f = c.load_count-count.ensures.few in let d = ap (λ (z : Sizes). z.depth) c.args.sweep.now.at.told in let m = c.args.sweep.now.may.depth in omega arith
 
-pub returns-clause-loaded : goal.returns-clause-loaded
-returns-clause-loaded c = record {
-  count = c.load_count-count.result;
-  loaded = c.loop-k.invariant.count;
-  roots = λ q l. c.loop-k.invariant.loaded q (let f = c.load_count-count.ensures.few in let d = ap (λ (z : Sizes). z.depth) c.args.sweep.now.at.told in let m = c.args.sweep.now.may.depth in omega arith);
+pub returns : goal.returns
+returns c = record {
+  at = c.loop-k.invariant.at;
+  more = c.loop-k.invariant.more;
+  loaded = record {
+    count = c.load_count-count.result;
+    loaded = c.loop-k.invariant.count;
+    roots = λ q l. c.loop-k.invariant.loaded q (let f = c.load_count-count.ensures.few in let d = ap (λ (z : Sizes). z.depth) c.args.sweep.now.at.told in let m = c.args.sweep.now.may.depth in omega arith);
+  };
 }

@@ -22,8 +22,12 @@ loop-j-preserved c =
       loaded = below_more (λ (q : ℕ). HasRoots (loads_of t.seat) q) (λ (q : ℕ). HasRoots (loads_of s.seat) q) c.loop-j.j i.loaded (λ q. roots_on (loads_of t.seat) (loads_of s.seat) q e.more.extends) e.loaded;
     }
 
-pub returns-clause-loaded : goal.returns-clause-loaded
-returns-clause-loaded c = λ j l.
-    let told = ap (λ (z : Sizes). z.seats) c.args.sweep.now.at.told in
-    let past = c.loop-j-test.false in
-    c.loop-j.invariant.loaded j (omega arith)
+pub returns : goal.returns
+returns c = record {
+  at = c.loop-j.invariant.at;
+  more = c.loop-j.invariant.more;
+  loaded = λ j l.
+      let told = ap (λ (z : Sizes). z.seats) c.args.sweep.now.at.told in
+      let past = c.loop-j-test.false in
+      c.loop-j.invariant.loaded j (omega arith);
+}

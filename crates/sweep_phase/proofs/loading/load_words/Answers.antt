@@ -22,5 +22,9 @@ loop-k-preserved c =
       loaded = below_more (λ (q : ℕ). IsLoaded (RowWord c.args.row q) (loads_of t.seat)) (λ (q : ℕ). IsLoaded (RowWord c.args.row q) (loads_of s.seat)) c.loop-k.k i.loaded (λ q. loaded_on (loads_of t.seat) (loads_of s.seat) (RowWord c.args.row q) e.more.extends) e.loaded;
     }
 
-pub returns-clause-loaded : goal.returns-clause-loaded
-returns-clause-loaded c = λ q l. c.loop-k.invariant.loaded q (let e = c.requires.count in omega arith)
+pub returns : goal.returns
+returns c = record {
+  at = c.loop-k.invariant.at;
+  more = c.loop-k.invariant.more;
+  loaded = λ q l. c.loop-k.invariant.loaded q (let e = c.requires.count in omega arith);
+}

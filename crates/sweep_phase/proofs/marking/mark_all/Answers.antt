@@ -17,7 +17,8 @@ loop-j-init c = let s = c.args.seat.now in let z = sizes_of c.args.sweep.now in 
 }
 
 pub mark_seat-requires-clause-marks : goal.mark_seat-requires-clause-marks
-mark_seat-requires-clause-marks c = let i = c.loop-j.invariant in
+mark_seat-requires-clause-marks c =
+    let i = c.loop-j.invariant in
     subst (λ (w : Place → ℕ). MarksTo w (sizes_of c.args.sweep.now).rows c.loop-j.j 0 c.loop-j.marks) (sym i.again.words) i.marks
 
 pub loop-j-preserved : goal.loop-j-preserved
@@ -32,8 +33,15 @@ loop-j-preserved c =
       marks = subst (λ (w : Place → ℕ). MarksTo w (sizes_of c.args.sweep.now).rows (c.loop-j.j + 1) 0 c.mark_seat.new.marks) i.again.words e.marks;
     }
 
-pub returns-clause-marks : goal.returns-clause-marks
-returns-clause-marks c = let s = c.args.seat.now in let z = sizes_of c.args.sweep.now in let d = ap (λ (y : Sizes). y.seats) c.args.sweep.now.at.told in
+pub returns : goal.returns
+returns c =
+    let s = c.args.seat.now in
+    let z = sizes_of c.args.sweep.now in
+    let d = ap (λ (y : Sizes). y.seats) c.args.sweep.now.at.told in
     let last : c.loop-j.j ≡ z.seats = omega arith in
-    marks_reached (words_of s.seat) z.rows z.seats c.loop-j.marks (subst (λ (j : ℕ). MarksTo (words_of s.seat) z.rows j 0 c.loop-j.marks) last c.loop-j.invariant.marks)
-    (protected_below c.args.sweep.now s.seat s.number s.seats c.requires.at)
+    record {
+      at = c.loop-j.invariant.at;
+      again = c.loop-j.invariant.again;
+      marks = marks_reached (words_of s.seat) z.rows z.seats c.loop-j.marks (subst (λ (j : ℕ). MarksTo (words_of s.seat) z.rows j 0 c.loop-j.marks) last c.loop-j.invariant.marks)
+          (protected_below c.args.sweep.now s.seat s.number s.seats c.requires.at);
+    }

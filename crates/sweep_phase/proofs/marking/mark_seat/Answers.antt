@@ -18,7 +18,8 @@ pub mark_one-requires-clause-within : goal.mark_one-requires-clause-within
 mark_one-requires-clause-within c = let w = ap (λ (f : Place → ℕ). f (RootCount c.args.j)) c.loop-k.invariant.again.words in let e = c.root_count_of-count.ensures.value in omega arith
 
 pub mark_one-requires-clause-marks : goal.mark_one-requires-clause-marks
-mark_one-requires-clause-marks c = let i = c.loop-k.invariant in
+mark_one-requires-clause-marks c =
+    let i = c.loop-k.invariant in
     subst (λ (w : Place → ℕ). MarksTo w (sizes_of c.args.sweep.now).rows c.args.j c.loop-k.k c.loop-k.marks) (sym i.again.words) i.marks
 
 pub loop-k-preserved : goal.loop-k-preserved
@@ -33,6 +34,13 @@ loop-k-preserved c =
       marks = subst (λ (w : Place → ℕ). MarksTo w (sizes_of c.args.sweep.now).rows c.args.j (c.loop-k.k + 1) c.mark_one.new.marks) i.again.words e.marks;
     }
 
-pub returns-clause-marks : goal.returns-clause-marks
-returns-clause-marks c = let s = c.args.seat.now in let z = sizes_of c.args.sweep.now in let e = c.root_count_of-count.ensures.value in
-    marks_seat (words_of s.seat) z.rows c.args.j c.loop-k.marks (subst (λ (k : ℕ). MarksTo (words_of s.seat) z.rows c.args.j k c.loop-k.marks) (omega arith) c.loop-k.invariant.marks)
+pub returns : goal.returns
+returns c =
+    let s = c.args.seat.now in
+    let z = sizes_of c.args.sweep.now in
+    let e = c.root_count_of-count.ensures.value in
+    record {
+      at = c.loop-k.invariant.at;
+      again = c.loop-k.invariant.again;
+      marks = marks_seat (words_of s.seat) z.rows c.args.j c.loop-k.marks (subst (λ (k : ℕ). MarksTo (words_of s.seat) z.rows c.args.j k c.loop-k.marks) (omega arith) c.loop-k.invariant.marks);
+    }

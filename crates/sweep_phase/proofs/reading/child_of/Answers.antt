@@ -29,3 +29,10 @@ overflow_cast-result c =
     let f = row_is_below c.args.sweep.now s.seat s.number s.seats c.requires.at (words_of s.seat (RowWord c.args.row (suc (suc c.args.j)))) (argument_row c.args.row c.args.j c.requires.reached c.requires.below) in
     let d = ap (λ (z : Sizes). z.rows) c.args.sweep.now.at.told in
     let m = c.args.sweep.now.may.rows.1 in omega arith
+
+pub returns : goal.returns
+returns c = record {
+  at = c.row_word_of.ensures.at;
+  again = c.row_word_of.ensures.again;
+  value = c.row_word_of.ensures.value;
+}

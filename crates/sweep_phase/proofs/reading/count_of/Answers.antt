@@ -14,5 +14,10 @@ overflow_cast-result c =
     let d = ap (λ (z : Sizes). z.arity) c.args.sweep.now.at.told in
     let m = c.args.sweep.now.may.arity in omega arith
 
-pub returns-clause-few : goal.returns-clause-few
-returns-clause-few c = let s = c.args.seat.now in let e = c.row_word_of.ensures.value in let f = row_counts_few c.args.sweep.now s.seat s.number s.seats c.requires.at c.args.row c.requires.reached in omega arith
+pub returns : goal.returns
+returns c = record {
+  at = c.row_word_of.ensures.at;
+  again = c.row_word_of.ensures.again;
+  value = c.row_word_of.ensures.value;
+  few = let s = c.args.seat.now in let e = c.row_word_of.ensures.value in let f = row_counts_few c.args.sweep.now s.seat s.number s.seats c.requires.at c.args.row c.requires.reached in omega arith;
+}

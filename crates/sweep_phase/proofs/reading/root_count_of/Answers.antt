@@ -6,8 +6,13 @@ use Rattle.sweep_phase.proofs.reading.root_count_of.Goals as goal
 pub overflow_cast-result : goal.overflow_cast-result
 overflow_cast-result c = let s = c.args.seat.now in let e = c.reload.ensures.value in let f = root_words_few c.args.sweep.now s.seat s.number s.seats c.requires.at c.args.j c.requires.below in let d = ap (λ (z : Sizes). z.depth) c.args.sweep.now.at.told in let m = c.args.sweep.now.may.depth in omega arith
 
-pub returns-clause-few : goal.returns-clause-few
-returns-clause-few c = let s = c.args.seat.now in let e = c.reload.ensures.value in let f = root_words_few c.args.sweep.now s.seat s.number s.seats c.requires.at c.args.j c.requires.below in omega arith
+pub returns : goal.returns
+returns c = record {
+  at = c.reload.ensures.at;
+  again = c.reload.ensures.again;
+  value = c.reload.ensures.value;
+  few = let s = c.args.seat.now in let e = c.reload.ensures.value in let f = root_words_few c.args.sweep.now s.seat s.number s.seats c.requires.at c.args.j c.requires.below in omega arith;
+}
 
 pub reload-requires-clause-loaded : goal.reload-requires-clause-loaded
 reload-requires-clause-loaded c = c.requires.at.all.root_counts c.args.j c.requires.below

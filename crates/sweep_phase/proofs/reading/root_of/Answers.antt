@@ -26,3 +26,10 @@ overflow_cast-result c =
     let f = row_is_below c.args.sweep.now s.seat s.number s.seats c.requires.at (words_of s.seat (Root c.args.j c.args.k)) (protected_row c.args.j c.args.k c.requires.within) in
     let d = ap (λ (z : Sizes). z.rows) c.args.sweep.now.at.told in
     let m = c.args.sweep.now.may.rows.1 in omega arith
+
+pub returns : goal.returns
+returns c = record {
+  at = c.reload.ensures.at;
+  again = c.reload.ensures.again;
+  value = c.reload.ensures.value;
+}

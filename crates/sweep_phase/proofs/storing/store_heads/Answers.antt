@@ -23,3 +23,11 @@ loop-b-preserved c =
       rest = heads_rest (seen_of a.seat) (seen_of t.seat) (seen_of s.seat) c.loop-b.b n c.args.in_use (omega arith) e.words i.rest;
       others = head_others (seen_of a.seat) (seen_of t.seat) (seen_of s.seat) c.loop-b.b n c.args.in_use (omega arith) e.words i.others;
     }
+
+pub returns : goal.returns
+returns c = record {
+  at = c.loop-b.invariant.at;
+  more = c.loop-b.invariant.more;
+  heads = λ b l. c.loop-b.invariant.heads b (let past = c.loop-b-test.false in omega arith);
+  others = c.loop-b.invariant.others;
+}

@@ -5,10 +5,12 @@ use Rattle.sweep_phase.specs.Stored.{seen_of}
 use Rattle.sweep_phase.proofs.Writes.{written_here, written_other}
 use Rattle.sweep_phase.proofs.storing.store_next.Goals as goal
 
-pub returns-clause-next : goal.returns-clause-next
-returns-clause-next c = λ m. let u = seen_of c.args.seat.now.seat in
-    written_here (seen_of c.put_next.new.seat.seat) u (Next c.args.row) (told_by (u (Next c.args.row)) (get_or c.args.nexts.now c.args.row 0)) c.put_next.ensures.words
-
-pub returns-clause-others : goal.returns-clause-others
-returns-clause-others c = λ p not. let u = seen_of c.args.seat.now.seat in
-    written_other (seen_of c.put_next.new.seat.seat) u (Next c.args.row) (told_by (u (Next c.args.row)) (get_or c.args.nexts.now c.args.row 0)) c.put_next.ensures.words p not
+pub returns : goal.returns
+returns c = record {
+  at = c.put_next.ensures.at;
+  more = c.put_next.ensures.more;
+  next = λ m. let u = seen_of c.args.seat.now.seat in
+      written_here (seen_of c.put_next.new.seat.seat) u (Next c.args.row) (told_by (u (Next c.args.row)) (get_or c.args.nexts.now c.args.row 0)) c.put_next.ensures.words;
+  others = λ p not. let u = seen_of c.args.seat.now.seat in
+      written_other (seen_of c.put_next.new.seat.seat) u (Next c.args.row) (told_by (u (Next c.args.row)) (get_or c.args.nexts.now c.args.row 0)) c.put_next.ensures.words p not;
+}

@@ -1,4 +1,5 @@
-use Rattle.std.proofs.Common.{refl, arith}
+use Rattle.store_model.specs.declared.view.Sizes.{Sizes}
+use Rattle.std.proofs.Common.{refl, arith, ap}
 use Rattle.sweep_phase.specs.Stored.{seen_of}
 use Rattle.sweep_phase.proofs.Writes.{stores_itself, stores_in_turn, nexts_more, nexts_rest, next_others}
 use Rattle.sweep_phase.proofs.storing.store_nexts.Goals as goal
@@ -19,3 +20,11 @@ loop-row-preserved c =
       rest = nexts_rest (seen_of a.seat) (seen_of t.seat) (seen_of s.seat) c.loop-row.row e.others i.rest;
       others = next_others (seen_of a.seat) (seen_of t.seat) (seen_of s.seat) c.loop-row.row e.others i.others;
     }
+
+pub returns : goal.returns
+returns c = record {
+  at = c.loop-row.invariant.at;
+  more = c.loop-row.invariant.more;
+  nexts = λ r l. c.loop-row.invariant.nexts r (let told = ap (λ (z : Sizes). z.rows) c.args.sweep.now.at.told in let past = c.loop-row-test.false in omega arith);
+  others = c.loop-row.invariant.others;
+}

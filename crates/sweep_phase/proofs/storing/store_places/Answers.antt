@@ -44,10 +44,17 @@ store_place-count-requires-clause-held c = λ not is.
       i.more.seen (FreePlace c.loop-turn.count) (subst (λ (k : ℕ). HasSeen c.args.seat.now.seat.me.0.store (FreePlace k)) (sym at) h.1),
     )
 
-pub returns-clause-placed : goal.returns-clause-placed
-returns-clause-placed c =
+pub returns : goal.returns
+returns c =
     let told = ap (λ (z : Sizes). z.rows) c.args.sweep.now.at.told in
     let past = c.loop-turn-test.false in
     let within = c.loop-turn.auto.turn-end in
     let all : c.loop-turn.turn ≡ (sizes_of c.args.sweep.now).rows = omega arith in
-    subst (λ (n : ℕ). ArePlaced (λ i. seen_of c.loop-turn.seat.seat (FreePlace i)) c.args.marks.now (sizes_of c.args.sweep.now) c.args.order n c.loop-turn.count) all c.loop-turn.invariant.placed
+    record {
+      at = c.loop-turn.invariant.at;
+      more = c.loop-turn.invariant.more;
+      placed = subst (λ (n : ℕ). ArePlaced (λ i. seen_of c.loop-turn.seat.seat (FreePlace i)) c.args.marks.now (sizes_of c.args.sweep.now) c.args.order n c.loop-turn.count) all c.loop-turn.invariant.placed;
+      has = c.loop-turn.invariant.has;
+      few = let few = c.loop-turn.invariant.few in omega arith;
+      others = c.loop-turn.invariant.others;
+    }
