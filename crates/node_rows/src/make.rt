@@ -93,7 +93,8 @@ fn new_pass(seat: Seat<NodeRows>, rows: u32, room: Room) -> Pass
     requires rows { seat.seat.me.0.sizes.rows ≡ rows }
     requires nexts { rows ≤ vec_capacity room.nexts }
     requires heads { seat.seat.me.0.sizes.buckets ≤ vec_capacity room.heads }
-    ensures seat { result.seat ≡ seat }
+    ensures seat { (result.seat.seat ≡ seat.seat) × (result.seat.number ≡ seat.number)
+        × (result.seat.seats ≡ seat.seats) }
     ensures told { seat.seat.me.0.store ≡ newcomer seat.seat.me.0.sizes
         → room.marks ≡ replicate rows false → Tells result }
 {

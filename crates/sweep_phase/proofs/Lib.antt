@@ -17,3 +17,4 @@ pub mod Whole
 pub mod Nows
 pub mod Since
 pub mod CrowdFull
+mod Worded

@@ -1,5 +1,5 @@
 -- What a stage of a creation leaves, by what its step tells.
-use Rattle.std.proofs.Common.{◌≡◌, ℕ, ◌+◌, eqb, Bool, true, false, cond, Option, length, pred, ap, ◌∙◌, subst, eq-eqb}
+use Rattle.std.proofs.Common.{◌≡◌, ℕ, Bool, true, false, cond, Option, length, pred, ap, ◌∙◌, subst, eq-eqb}
 use Rattle.std.specs.Prelude.{MatchBool}
 use Rattle.atomic_table.specs.declared.shared.Seat.{Seat}
 use Rattle.store_model.specs.declared.view.Call.{Call}

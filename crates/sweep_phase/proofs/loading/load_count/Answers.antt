@@ -1,3 +1,5 @@
+use Rattle.sweep_phase.proofs.Worded.{there_in, word_at}
+use Rattle.store_model.specs.declared.view.Place.TheVariants.{RootCount}
 use Rattle.sweep_phase.proofs.Gathering.{loaded_few}
 use Rattle.sweep_phase.proofs.loading.load_count.Goals as goal
 
@@ -8,3 +10,12 @@ returns c = record {
   loaded = c.load.ensures.loaded;
   few = let s = c.load.new.seat in loaded_few c.args.sweep.now s.seat s.number s.seats c.load.ensures.at c.args.j c.load.result c.load.ensures.loaded;
 }
+
+pub load-requires : goal.load-requires
+load-requires c =
+    let s = c.args.sweep.now in
+    record {
+      at = c.requires.at;
+      there = there_in s (RootCount c.args.j) c.root_count_word-word.ensures.there;
+      word = word_at s (RootCount c.args.j) c.root_count_word-word.result c.root_count_word-word.ensures.word;
+    }

@@ -1,3 +1,5 @@
+use Rattle.sweep_phase.proofs.Worded.{word_as}
+use Rattle.std.proofs.Common.{ℕ}
 use Rattle.store_model.specs.declared.view.Place.TheVariants.{RowWord}
 use Rattle.sweep_phase.specs.Gathered.{loads_of}
 use Rattle.sweep_phase.proofs.Gathering.{loaded_on}
@@ -18,3 +20,13 @@ returns c =
         next = c.load_links.ensures.next;
       };
     }
+
+pub load_words-requires : goal.load_words-requires
+load_words-requires c =
+    let s = c.args.sweep.now in
+    record { at = c.requires.at; below = c.requires.below; first = word_as s (λ (r : ℕ). RowWord r 0) c.from.result c.args.row c.from.ensures c.word_in-first.result c.word_in-first.ensures.word; count = c.requires.count }
+
+pub load_links-requires : goal.load_links-requires
+load_links-requires c =
+    let s = c.args.sweep.now in
+    record { at = c.load_words.ensures.at; below = c.requires.below; first = word_as s (λ (r : ℕ). RowWord r 0) c.from.result c.args.row c.from.ensures c.word_in-first.result c.word_in-first.ensures.word }

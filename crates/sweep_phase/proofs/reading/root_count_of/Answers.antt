@@ -1,3 +1,5 @@
+use Rattle.sweep_phase.proofs.Worded.{there_in, word_at}
+use Rattle.store_model.specs.declared.view.Place.TheVariants.{RootCount}
 use Rattle.std.proofs.Common.{ap, arith}
 use Rattle.store_model.specs.declared.view.Sizes.{Sizes}
 use Rattle.sweep_phase.proofs.Gathering.{root_words_few}
@@ -14,5 +16,10 @@ returns c = record {
   few = let s = c.args.seat.now in let e = c.reload.ensures.value in let f = root_words_few c.args.sweep.now s.seat s.number s.seats c.requires.at c.args.j c.requires.below in omega arith;
 }
 
-pub reload-requires-clause-loaded : goal.reload-requires-clause-loaded
-reload-requires-clause-loaded c = c.requires.at.all.root_counts c.args.j c.requires.below
+pub reload-requires : goal.reload-requires
+reload-requires c = record {
+  at = c.requires.at;
+  loaded = c.requires.at.all.root_counts c.args.j c.requires.below;
+  there = there_in c.args.sweep.now (RootCount c.args.j) c.root_count_word-word.ensures.there;
+  word = word_at c.args.sweep.now (RootCount c.args.j) c.root_count_word-word.result c.root_count_word-word.ensures.word;
+}

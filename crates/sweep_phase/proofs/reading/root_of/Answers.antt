@@ -1,3 +1,4 @@
+use Rattle.sweep_phase.proofs.Worded.{there_as, word_as}
 use Rattle.std.proofs.Common.{ap, arith}
 use Rattle.store_model.specs.declared.view.Sizes.{Sizes}
 use Rattle.store_model.specs.declared.view.Place.TheVariants.{Root}
@@ -16,8 +17,13 @@ root_word-word-requires c =
     let l = c.requires.below in
     let m = c.requires.within in (c.args.sweep.now.at.small, omega arith, omega arith)
 
-pub reload-requires-clause-loaded : goal.reload-requires-clause-loaded
-reload-requires-clause-loaded c = let s = c.args.seat.now in protected_loaded c.args.sweep.now s.seat s.number s.seats c.requires.at c.args.j c.args.k c.requires.within
+pub reload-requires : goal.reload-requires
+reload-requires c = record {
+  at = c.requires.at;
+  loaded = let s = c.args.seat.now in protected_loaded c.args.sweep.now s.seat s.number s.seats c.requires.at c.args.j c.args.k c.requires.within;
+  there = there_as c.args.sweep.now (Root c.args.j) c.from.result c.args.k c.from.ensures c.root_word-word.ensures.there;
+  word = word_as c.args.sweep.now (Root c.args.j) c.from.result c.args.k c.from.ensures c.root_word-word.result c.root_word-word.ensures.word;
+}
 
 pub overflow_cast-result : goal.overflow_cast-result
 overflow_cast-result c =

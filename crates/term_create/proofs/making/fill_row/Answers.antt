@@ -1,4 +1,4 @@
-use Rattle.std.proofs.Common.{◌≡◌, ℕ, suc, ◌+◌, ap, ◌∙◌, subst, arith}
+use Rattle.std.proofs.Common.{◌≡◌, ℕ, suc, ◌+◌, ap, ◌∙◌, arith}
 use Rattle.store_model.specs.declared.view.Call.TheVariants.{Linking}
 use Rattle.store_model.specs.Machine.{filled}
 use Rattle.term_create.specs.Stage.{content, at_call, storing}
