@@ -1,11 +1,18 @@
 -- What the steps on protected rows leave of a view.
-use Rattle.std.proofs.Common.{◌≡◌, ◌⊎◌, inl, inr, ℕ, zero, suc, ◌+◌, ◌<◌, ◌≤◌, Bool, true, false, cond, List, [], ◌∷◌, ◌++◌, length, get_or, set, take, drop, refl, sym, ap, ◌∙◌, subst, arith}
+use Rattle.std.proofs.Common.{◌≡◌, inr, ℕ, zero, suc, ◌<◌, Bool, true, false, cond, List, [], ◌∷◌, ◌++◌, length, get_or, drop, refl, sym, ap, ◌∙◌, subst, arith}
 use Rattle.std.specs.Prelude.{nat_lt}
-use Rattle.store_model.specs.declared.view.View.{View}
+use Rattle.store_model.specs.declared.view.Sizes.{Sizes}
 use Rattle.store_model.specs.Machine.{In, Each, with_got, rooted, root_counted, protected_in}
 use Rattle.store_model.proofs.Basics.{each_map}
 use Rattle.node_rows.specs.declared.view.NodeView.{NodeView}
-use Rattle.node_rows.specs.Steps.{with_store}
+use Rattle.node_rows.specs.Steps.{with_store, Known}
+use Rattle.node_rows.specs.declared.store.Store.{Store}
+use Rattle.node_rows.specs.declared.store.Pass.{Pass}
+use Rattle.node_rows.specs.Belonging.{IsSamePass}
+use Rattle.node_rows.specs.Inside.{IsInside}
+use Rattle.node_rows.specs.Passes.{IsReady}
+use Rattle.node_rows.specs.Told.{IsTold, view_of}
+use Rattle.node_rows.proofs.Tellings.{told_on}
 use Rattle.root_sets.specs.Protected.{Keeps}
 
 in_after : (r : ℕ) (xs ys : List ℕ) → In r ys → In r (xs ++ ys)
@@ -34,6 +41,32 @@ keeps_on u v w a b = record {
   only = b.only ∙ ap (λ (q : NodeView). with_store q (record q.store { roots = w.store.roots; root_count = w.store.root_count; got = w.store.got })) a.only;
   uses = λ r h. b.uses r (a.uses r h);
 }
+
+-- the same pass, as it is and after two calls
+pub same_pass : (p : Pass) → IsSamePass p p
+same_pass p = (record { table = refl; id = refl; slots = refl }, refl)
+
+pub same_twice : (p q r : Pass) → IsSamePass p q → IsSamePass q r → IsSamePass p r
+same_twice p q r a b = (record { table = b.0.table ∙ a.0.table; id = b.0.id ∙ a.0.id; slots = b.0.slots ∙ a.0.slots }, b.1 ∙ a.1)
+
+-- a pass is inside after a step on its protected rows, which leaves its plain data as they are
+pub inside_after : (s : Store) (p q : Pass) → IsInside s p → IsReady s.sizes (view_of p).store q.base q.in_use → IsTold (view_of p).store q.rows q.seen q.last q.marks → IsSamePass p q → q.seat.seats ≡ p.seat.seats
+    → Known s.table.shared.key (view_of q).store → Keeps (view_of p) (view_of q) → IsInside s q
+inside_after s p q i ready told same seats known keeps =
+    let e = keeps.only in
+    let v = (view_of p).store in
+    let w = (view_of q).store in
+    record {
+      store = i.store;
+      pass = record { table = same.0.table ∙ i.pass.table; sizes = ap (λ (u : NodeView). u.sizes) e ∙ i.pass.sizes; count = seats ∙ i.pass.count; none = same.0.slots ∙ i.pass.none };
+      ready = record {
+        rest = record { call = ap (λ (u : NodeView). u.store.call) e ∙ ready.rest.call; stay = ap (λ (u : NodeView). u.store.stay) e ∙ ready.rest.stay };
+        has_base = ready.has_base ∙ sym (ap (λ (u : NodeView). u.store.base) e);
+        has_in_use = ready.has_in_use ∙ sym (ap (λ (u : NodeView). u.store.in_use) e);
+        known = subst (λ (z : Sizes). Known z w) i.store.told known;
+      };
+      told = told_on v w q.rows q.seen q.last q.marks (ap (λ (u : NodeView). u.store.entries) e) (ap (λ (u : NodeView). u.store.seen) e) told;
+    }
 
 pub each_kept : (v w : NodeView) (rs : List ℕ) → Keeps v w → Each (λ r. In r v.store.got) rs → Each (λ r. In r w.store.got) rs
 each_kept v w rs k h = each_map (λ r. In r v.store.got) (λ r. In r w.store.got) rs (λ r i. k.uses r i) h

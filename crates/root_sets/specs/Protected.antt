@@ -1,7 +1,6 @@
 -- The rows that a pass protects, and what a call on them leaves.
 use Rattle.std.specs.Prelude.{◌≡◌, ◌⊎◌, ℕ, ◌+◌, ◌-◌, ◌<◌, ◌≤◌, List, ◌++◌, length, get_or, take, drop}
-use Rattle.store_model.specs.declared.view.View.{View}
-use Rattle.store_model.specs.Machine.{In, protected_in}
+use Rattle.store_model.specs.Machine.{In}
 use Rattle.node_rows.specs.declared.view.NodeView.{NodeView}
 use Rattle.node_rows.specs.Steps.{with_store}
 

@@ -1,12 +1,12 @@
-use Rattle.std.proofs.Common.{◌≡◌, ◌∙◌, ◌+◌, ◌-◌, ◌<◌, length, refl, arith}
-use Rattle.root_sets.proofs.Keeping.{keeps_all, keeps_on}
+use Rattle.std.proofs.Common.{◌∙◌, ◌-◌, refl, arith}
+use Rattle.root_sets.proofs.Keeping.{keeps_all, keeps_on, same_pass, same_twice}
 use Rattle.root_sets.proofs.Ends.{moved_none, moved_more}
 use Rattle.root_sets.proofs.sets.copy_roots.Goals as goal
 
 pub loop-k-init : goal.loop-k-init
 loop-k-init c = let v = c.args.pass.now.seat.seat.me.0 in record {
   inside = c.requires.inside;
-  same = (record { table = refl; id = refl; slots = refl }, refl);
+  same = same_pass c.args.pass.now;
   count = refl;
   moved = moved_none v.store.roots (c.args.pass.now.root_count - c.args.top) c.args.from;
   keeps = keeps_all v;
@@ -21,7 +21,7 @@ loop-k-preserved c =
     let e = c.copy_root.ensures in
     record {
       inside = e.inside;
-      same = (record { table = e.same.0.table ∙ i.same.0.table; id = e.same.0.id ∙ i.same.0.id; slots = e.same.0.slots ∙ i.same.0.slots }, e.same.1 ∙ i.same.1);
+      same = same_twice c.args.pass.now c.loop-k.pass c.copy_root.new.pass i.same e.same;
       count = e.count ∙ i.count;
       moved = moved_more v.store.roots u.store.roots w.store.roots (c.args.pass.now.root_count - c.args.top) c.args.from c.loop-k.k i.moved (let f = c.requires.below in omega arith)
           (let a = c.requires.inside.ready.known.roots in let b = c.requires.inside.ready.known.root_count in let d = c.args.pass.now.counted in let f = c.requires.below in omega arith) e.roots;

@@ -1,7 +1,7 @@
-use Rattle.std.proofs.Common.{◌≡◌, ◌∙◌, ◌<◌, ◌≤◌, ℕ, length, set, refl, sym, ap, subst, arith}
+use Rattle.std.proofs.Common.{◌∙◌, ℕ, set, refl, sym, ap, subst, arith}
 use Rattle.store_model.specs.Machine.{In}
 use Rattle.node_rows.specs.Rows.{names}
-use Rattle.root_sets.proofs.Keeping.{keeps_all, keeps_on, each_kept, each_got}
+use Rattle.root_sets.proofs.Keeping.{keeps_all, keeps_on, each_kept, each_got, same_pass, same_twice}
 use Rattle.root_sets.proofs.Ends.{put_more}
 use Rattle.root_sets.proofs.Numbers.{name_at, names_long}
 use Rattle.root_sets.proofs.storing.put_roots.Goals as goal
@@ -9,20 +9,24 @@ use Rattle.root_sets.proofs.storing.put_roots.Goals as goal
 pub loop-k-init : goal.loop-k-init
 loop-k-init c = let v = c.args.pass.now.seat.seat.me.0 in record {
   inside = c.requires.inside;
-  same = (record { table = refl; id = refl; slots = refl }, refl);
+  same = same_pass c.args.pass.now;
   count = refl;
   roots = refl;
   keeps = keeps_all v;
 }
 
-pub put_root-requires-clause-uses : goal.put_root-requires-clause-uses
-put_root-requires-clause-uses c =
+pub put_root-requires : goal.put_root-requires
+put_root-requires c =
     let v = c.args.pass.now.seat.seat.me.0 in
     let u = c.loop-k.pass.seat.seat.me.0 in
     let rows = names c.args.rows.now in
     let long = names_long c.args.rows.now in
-    subst (λ (r : ℕ). In r u.store.got) (sym (name_at c.args.rows.now c.loop-k.k))
-    (each_got u.store.got rows c.loop-k.k (each_kept v u rows c.loop-k.invariant.keeps c.requires.uses) (omega arith))
+    record {
+      inside = c.loop-k.invariant.inside;
+      below = omega arith;
+      uses = subst (λ (r : ℕ). In r u.store.got) (sym (name_at c.args.rows.now c.loop-k.k))
+          (each_got u.store.got rows c.loop-k.k (each_kept v u rows c.loop-k.invariant.keeps c.requires.uses) (omega arith));
+    }
 
 pub loop-k-preserved : goal.loop-k-preserved
 loop-k-preserved c =
@@ -36,7 +40,7 @@ loop-k-preserved c =
     let long = names_long c.args.rows.now in
     record {
       inside = e.inside;
-      same = (record { table = e.same.0.table ∙ i.same.0.table; id = e.same.0.id ∙ i.same.0.id; slots = e.same.0.slots ∙ i.same.0.slots }, e.same.1 ∙ i.same.1);
+      same = same_twice c.args.pass.now c.loop-k.pass c.put_root.new.pass i.same e.same;
       count = e.count ∙ i.count;
       roots = put_more u.store.roots w.store.roots (names c.args.rows.now) c.loop-k.k i.roots (e.roots ∙ ap (λ (r : ℕ). set u.store.roots c.loop-k.k r) (name_at c.args.rows.now c.loop-k.k)) (omega arith) (omega arith);
       keeps = keeps_on v u w i.keeps e.keeps;
