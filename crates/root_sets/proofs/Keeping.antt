@@ -1,11 +1,12 @@
 -- What the steps on protected rows leave of a view.
-use Rattle.std.proofs.Common.{◌≡◌, inr, ℕ, zero, suc, ◌<◌, Bool, true, false, cond, List, [], ◌∷◌, ◌++◌, length, get_or, drop, refl, sym, ap, ◌∙◌, subst, arith}
+use Rattle.std.proofs.Common.{◌≡◌, ◌≤◌, inr, ℕ, zero, suc, ◌<◌, Bool, true, false, cond, List, [], ◌∷◌, ◌++◌, length, get_or, drop, refl, sym, ap, ◌∙◌, subst, arith}
 use Rattle.std.specs.Prelude.{nat_lt}
 use Rattle.store_model.specs.declared.view.Sizes.{Sizes}
-use Rattle.store_model.specs.Machine.{In, Each, with_got, rooted, root_counted, protected_in}
+use Rattle.store_model.specs.Machine.{In, Each, with_got, rooted, root_counted, protected_in, Step}
 use Rattle.store_model.proofs.Basics.{each_map}
+use Rattle.store_model.specs.Shown.{total}
 use Rattle.node_rows.specs.declared.view.NodeView.{NodeView}
-use Rattle.node_rows.specs.Steps.{with_store, Known}
+use Rattle.node_rows.specs.Steps.{with_store, Known, IsOf, MayStepOn}
 use Rattle.node_rows.specs.declared.store.Store.{Store}
 use Rattle.node_rows.specs.declared.store.Pass.{Pass}
 use Rattle.node_rows.specs.Belonging.{IsSamePass}
@@ -67,6 +68,15 @@ inside_after s p q i ready told same seats known keeps =
       };
       told = told_on v w q.rows q.seen q.last q.marks (ap (λ (u : NodeView). u.store.entries) e) (ap (λ (u : NodeView). u.store.seen) e) told;
     }
+
+-- the words of its table that it may step on
+pub seated : (s : Store) (p : Pass) → IsInside s p → IsOf s.table.shared.table_id s.table.shared.key p.seat.seat
+seated s p i =
+    let e = sym i.store.told in
+    record { table = i.pass.table; sizes = i.pass.sizes ∙ e; wide = subst (λ (z : Sizes). total z ≤ s.table.shared.table_id.words) e i.store.wide }
+
+pub steps_on : (s : Store) (p : Pass) (x : Step) (k : ℕ) → IsInside s p → MayStepOn s.sizes p.seat.number (view_of p) x k → MayStepOn s.table.shared.key p.seat.number (view_of p) x k
+steps_on s p x k i may = subst (λ (z : Sizes). MayStepOn z p.seat.number (view_of p) x k) (sym i.store.told) may
 
 pub each_kept : (v w : NodeView) (rs : List ℕ) → Keeps v w → Each (λ r. In r v.store.got) rs → Each (λ r. In r w.store.got) rs
 each_kept v w rs k h = each_map (λ r. In r v.store.got) (λ r. In r w.store.got) rs (λ r i. k.uses r i) h

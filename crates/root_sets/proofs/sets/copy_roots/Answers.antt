@@ -1,4 +1,5 @@
-use Rattle.std.proofs.Common.{◌∙◌, ◌-◌, refl, arith}
+use Rattle.std.proofs.Common.{◌∙◌, ◌-◌, refl, arith, subst, ◌≡◌}
+use Rattle.root_sets.specs.Protected.{Moved}
 use Rattle.root_sets.proofs.Keeping.{keeps_all, keeps_on, same_pass, same_twice}
 use Rattle.root_sets.proofs.Ends.{moved_none, moved_more}
 use Rattle.root_sets.proofs.sets.copy_roots.Goals as goal
@@ -26,4 +27,20 @@ loop-k-preserved c =
       moved = moved_more v.store.roots u.store.roots w.store.roots (c.args.pass.now.root_count - c.args.top) c.args.from c.loop-k.k i.moved (let f = c.requires.below in omega arith)
           (let a = c.requires.inside.ready.known.roots in let b = c.requires.inside.ready.known.root_count in let d = c.args.pass.now.counted in let f = c.requires.below in omega arith) e.roots;
       keeps = keeps_on v u w i.keeps e.keeps;
+    }
+
+pub returns : goal.returns
+returns c =
+    let v = c.args.pass.now.seat.seat.me.0.store in
+    let u = c.loop-k.pass.seat.seat.me.0.store in
+    let i = c.loop-k.invariant in
+    let past = c.loop-k-test.false in
+    let last = c.loop-k.auto.k-end in
+    let e : c.loop-k.k ≡ c.args.top = omega (arith, past, last) in
+    record {
+      inside = i.inside;
+      same = i.same;
+      count = i.count;
+      moved = subst (Moved v.roots u.roots (c.args.pass.now.root_count - c.args.top) c.args.from) e i.moved;
+      keeps = i.keeps;
     }

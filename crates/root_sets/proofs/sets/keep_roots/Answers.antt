@@ -1,4 +1,4 @@
-use Rattle.std.proofs.Common.{◌≡◌, ◌∙◌, ◌+◌, ◌-◌, ◌<◌, length, ap, arith}
+use Rattle.std.proofs.Common.{◌≡◌, ◌∙◌, ◌+◌, ◌-◌, ◌<◌, length, ap, arith, inl}
 use Rattle.std.proofs.lemmas.Bool.Decides.{nat_tests}
 use Rattle.node_rows.specs.declared.view.NodeView.{NodeView}
 use Rattle.store_model.specs.Machine.{protected_in}
@@ -20,6 +20,30 @@ returns-then-from-top c =
       same = same_pass c.args.pass.now;
       rows = ends_all (protected_in v.store) c.args.from c.args.top e;
       keeps = keeps_all v;
+    }
+
+pub copy_roots-requires : goal.copy_roots-requires
+copy_roots-requires c =
+    let n = counted c.args.store.now.sizes c.args.pass.now.seat.seat.me.0.store c.requires.inside.ready.known in
+    let a = c.args.pass.now.counted in
+    let b = c.requires.within in
+    let f = c.if-from-top.false in
+    record { inside = c.requires.inside; below = grind (arith, nat_tests) }
+
+pub set_count-requires : goal.set_count-requires
+set_count-requires c =
+    let known = c.requires.inside.ready.known in
+    let n = counted c.args.store.now.sizes c.args.pass.now.seat.seat.me.0.store known in
+    let b = c.requires.within in
+    let r = known.root_count in
+    let e = c.copy_roots.ensures in
+    let same = e.count in
+    let a = c.args.pass.now.counted in
+    let d = c.copy_roots.new.pass.counted in
+    record {
+      inside = e.inside;
+      few = omega (arith, n, b, r);
+      uses = λ k l. inl (omega (arith, l, n, b, a, d, same));
     }
 
 pub returns : goal.returns

@@ -1,4 +1,5 @@
-use Rattle.std.proofs.Common.{◌∙◌, ℕ, set, refl, sym, ap, subst, arith}
+use Rattle.std.proofs.Common.{◌∙◌, ℕ, set, refl, sym, ap, subst, arith, take, ◌≡◌, length}
+use Rattle.std.proofs.Math.Seq.{take-length}
 use Rattle.store_model.specs.Machine.{In}
 use Rattle.node_rows.specs.Rows.{names}
 use Rattle.root_sets.proofs.Keeping.{keeps_all, keeps_on, each_kept, each_got, same_pass, same_twice}
@@ -44,4 +45,21 @@ loop-k-preserved c =
       count = e.count ∙ i.count;
       roots = put_more u.store.roots w.store.roots (names c.args.rows.now) c.loop-k.k i.roots (e.roots ∙ ap (λ (r : ℕ). set u.store.roots c.loop-k.k r) (name_at c.args.rows.now c.loop-k.k)) (omega arith) (omega arith);
       keeps = keeps_on v u w i.keeps e.keeps;
+    }
+
+pub returns : goal.returns
+returns c =
+    let u = c.loop-k.pass.seat.seat.me.0 in
+    let i = c.loop-k.invariant in
+    let rows = names c.args.rows.now in
+    let past = c.loop-k-test.false in
+    let end = c.count_rows-k-end.ensures in
+    let last = c.loop-k.auto.k-end in
+    let e : c.loop-k.k ≡ length c.args.rows.now = omega (arith, past, end, last) in
+    record {
+      inside = i.inside;
+      same = i.same;
+      count = i.count;
+      roots = subst (λ (n : ℕ). take n u.store.roots ≡ take n rows) e i.roots ∙ (ap (λ (n : ℕ). take n rows) (sym (names_long c.args.rows.now)) ∙ take-length rows);
+      keeps = i.keeps;
     }

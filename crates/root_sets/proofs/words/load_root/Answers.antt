@@ -1,6 +1,31 @@
-use Rattle.std.proofs.Common.{refl}
-use Rattle.root_sets.proofs.Keeping.{keeps_got, inside_after}
+use Rattle.std.proofs.Common.{◌∙◌, ◌<◌, ◌≤◌, ℕ, refl, ap, sym, subst}
+use Rattle.std.specs.Prelude.{vec_capacity}
+use Rattle.store_model.specs.Machine.{LoadRoot}
+use Rattle.node_rows.specs.declared.view.NodeView.{NodeView}
+use Rattle.root_sets.proofs.Keeping.{keeps_got, inside_after, seated, steps_on}
 use Rattle.root_sets.proofs.words.load_root.Goals as goal
+
+pub load_root-requires : goal.load_root-requires
+load_root-requires c =
+    let s = c.args.store.now in
+    let p = c.args.pass.now in
+    let i = c.requires.inside in
+    let w = c.root_word-word.ensures in
+    record {
+      of = seated s p i;
+      may = steps_on s p (LoadRoot c.args.k) c.root_word-word.result i record { acts = tt; shown = (i.ready.rest, subst (λ (n : ℕ). c.args.k < n) p.counted c.requires.below); there = w.there; word = w.word };
+    }
+
+pub invariant_of-pass : goal.invariant_of-pass
+invariant_of-pass c =
+    let p = c.args.pass.now in
+    let e = c.load_root.ensures.view in
+    record {
+      counted = p.counted ∙ sym (ap (λ (u : NodeView). u.store.root_count) e);
+      sized = p.sized ∙ sym (ap (λ (u : NodeView). u.sizes.rows) e);
+      nexts_fit = p.nexts_fit;
+      heads_fit = subst (λ (n : ℕ). n ≤ vec_capacity p.heads) (sym (ap (λ (u : NodeView). u.sizes.buckets) e)) p.heads_fit;
+    }
 
 pub returns : goal.returns
 returns c =
