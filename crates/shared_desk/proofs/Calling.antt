@@ -1,6 +1,6 @@
 -- What each call in an access leaves of a pass, as its desk sees it.
 use Rattle.std.proofs.Common.{◌≡◌, ◌⊎◌, inl, inr, ℕ, suc, ◌+◌, ◌<◌, ◌≤◌, ◌&&◌, Bool, true, false, not, List, [], ◌∷◌, ◌++◌, length, take, map, true≢false, refl, sym, ap, ap₂, ◌∙◌, subst, ⊎_elim, arith}
-use Rattle.std.specs.Prelude.{Contains, Result, Ok, Err, IfOk, IfErr, OnOk, OnErr}
+use Rattle.std.specs.Prelude.{All, Contains, Result, Ok, Err, IfOk, IfErr, OnOk, OnErr}
 use Rattle.std.proofs.lemmas.List.{length-map}
 use Rattle.term_model.specs.declared.Row.{Row}
 use Rattle.term_model.specs.declared.Head.{Head}
@@ -19,6 +19,7 @@ use Rattle.store_model.specs.declared.view.View.{View}
 use Rattle.store_model.specs.Machine.{Each, In, protected_in}
 use Rattle.store_model.specs.Steps.{AreLastRoots}
 use Rattle.store_model.proofs.Basics.{each_map, each_in}
+use Rattle.terms_api.specs.Terms.{IsHeld}
 use Rattle.node_rows.specs.declared.view.NodeView.{NodeView}
 use Rattle.node_rows.specs.declared.store.Store.{Store}
 use Rattle.node_rows.specs.declared.store.Pass.{Pass}
@@ -46,6 +47,7 @@ use Rattle.shared_desk.proofs.Wholes.{Gives, IsMade, whole_grows, whole_given}
 use Rattle.shared_desk.proofs.Losing.{Comes, whole_comes, swept_seen, collect_tree}
 use Rattle.shared_desk.proofs.Remembering.{collected_forgets}
 use Rattle.shared_desk.proofs.Gaining.{over_is, noted_told, second_known, over_trees, formed_over, held_each, made_of, got_seen, same_seen, read_named, numbers}
+use Rattle.shared_desk.proofs.Views.{each_held}
 use Rattle.shared_desk.proofs.Standing.{is_in_shared, is_in_exclusive, pass_same}
 
 -- in an access p has come to q, which is in the same access with nothing under way
@@ -307,6 +309,11 @@ may_create s p h f rs range may =
 pub rows_named : (rows : List Row) → rows_of (node.names rows) ≡ rows
 rows_named [] = refl
 rows_named (r ∷ rows) = ap (λ (xs : List Row). r ∷ xs) (rows_named rows)
+
+-- rows of the own list, by their numbers
+pub has_each : (s : Store) (p : Pass) → IsStanding s p → (rows : List Row) → All (IsHeld (own (seen_of s p))) rows → Each (Has (view_of p).store) (node.names rows)
+has_each s p h rows held =
+    each_held (store_of s) (pass_of p) (in_shared (view_of p)) (in_exclusive (view_of p)) (view_of p).crowd (view_of p).store h.whole (node.names rows) (subst (All (IsHeld (own (seen_of s p)))) (sym (rows_named rows)) held)
 
 -- what may be asked over rows may be asked over those of their numbers
 pub may_named : (v : PassView) (f : Head) (rows : List Row) → desk.MayCreate v f rows → desk.MayCreate v f (rows_of (node.names rows))

@@ -6,11 +6,11 @@ use Rattle.std.specs.List.{flat_map}
 use Rattle.term_model.specs.declared.Row.{Row}
 use Rattle.term_model.specs.declared.Head.{Head}
 use Rattle.term_model.specs.Tree.{Tree, distinct, subtrees}
-use Rattle.terms_api.specs.Terms.{Store, trees, asked, IsSound, Breathed, Built, NotBuilt, IsCrowded, Loses}
+use Rattle.terms_api.specs.Terms.{Store, trees, asked, IsSound, Entered, Left, Breathed, Built, NotBuilt, IsCrowded, Loses}
 use Rattle.shared_desk.specs.Pass as pass
 use Rattle.shared_desk.specs.Pass.{PassView, shown, store, own, IsWorn, Arrived, left}
 use Rattle.shared_desk.specs.Code.{Contents}
-use Rattle.shared_desk.specs.Desk.{store_of, IsSame, IsRight, Passed, Placed}
+use Rattle.shared_desk.specs.Desk.{store_of, IsSame, IsRight, Passed, Placed, same_itself}
 use Rattle.std.proofs.lemmas.List.Elements.{Contains-append_left}
 use Rattle.term_model.proofs.Members.{distinct_of_part}
 use Rattle.row_stack.specs.Places.{Places}
@@ -27,6 +27,10 @@ sound_shown v xs k s so =
 
 pub sound_desk : (c : Contents) → IsSound (store c.pass c.stack) → IsSound (store_of c)
 sound_desk c so = sound_shown c.pass c.stack c.refusals c.spent so
+
+-- what its callers see is sound
+pub sound_seen : (v : PassView) (xs : List Row) (k : ℕ) (s : Bool) (l : Option (List ℕ)) (c : Contents) → desk_of v xs k s l ≡ c → IsSound (store v xs) → IsSound (store_of c)
+sound_seen v xs k s l c is so = subst (λ (x : Contents). IsSound (store_of x)) is (sound_shown v xs k s so)
 
 pub loses_shown : (v w : PassView) (xs ys : List Row) (k m : ℕ) (s t : Bool) → Loses (store v xs) (store w ys) → Loses (shown v xs k s) (shown w ys m t)
 loses_shown v w xs ys k m s t l = record { reachable = l.reachable; epoch = l.epoch }
@@ -116,3 +120,35 @@ same_told v w xs ys k m s l n same = record { pass = same; worn = λ e. inl e }
 -- and one for want of numbers
 pub same_worn : (v w : PassView) (xs ys : List Row) (k m : ℕ) (s : Bool) (l n : Option (List ℕ)) → pass.IsSame v w → IsWorn w → IsSame (desk_of v xs k s l) (desk_of w ys m true n)
 same_worn v w xs ys k m s l n same worn = record { pass = same; worn = λ e. inr worn }
+
+-- the desk is as it was, where its pass is
+module _ (v w : PassView) (xs : List Row) (k : ℕ) (s : Bool) (l m : Option (List ℕ)) (c : Contents) (is : desk_of v xs k s l ≡ c) (same : w ≡ v) where
+  pub still_seen : store_of (desk_of w xs k s m) ≡ store_of c
+  still_seen = ap (λ (x : PassView). shown x xs k s) same ∙ ap store_of is
+
+  pub still_sound : IsSound (store v xs) → IsSound (shown w xs k s)
+  still_sound so = subst (λ (x : PassView). IsSound (shown x xs k s)) (sym same) (sound_shown v xs k s so)
+
+  pub still_same : IsSame c (desk_of w xs k s m)
+  still_same =
+      subst (λ (x : Contents). IsSame x (desk_of w xs k s m)) is
+      (same_told v w xs xs k k s l m (subst (pass.IsSame v) (sym same) (same_itself (desk_of v xs k s l)).pass))
+
+pub still_right : (v w : PassView) (p : Places) → w ≡ v → IsRight v p → IsRight w p
+still_right v w p same i = subst (λ (x : PassView). IsRight x p) (sym same) i
+
+-- an entry of its pass, by callers
+pub entered : (v w : PassView) (xs : List Row) (k : ℕ) (s : Bool) → Arrived v w → Passed 0 v w xs → w.shared ≡ true → Entered (shown v xs k s) (shown w xs k s)
+entered v w xs k s a p sh =
+    let to : Store = record (shown v xs k s) { held = (shown w xs k s).held; epoch = Some w.base } in
+    record {
+      rest = ap (λ (x : PassView). shown x xs k s) a.rest ∙ ap (λ b. record to { inside = b }) sh;
+      none = p.none;
+      rows = loses_shown v w xs xs k k s s p.rows;
+    }
+
+-- and a leave
+pub gone : (v : PassView) (xs : List Row) (k : ℕ) (s : Bool) → IsSound (store v xs) → Left (shown v xs k s) (shown (left (rooted v xs)) xs k s)
+gone v xs k s so =
+    let p = ended v xs so in
+    record { rest = refl; load = record { least = p.load.least; most = p.load.most } }

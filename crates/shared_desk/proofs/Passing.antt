@@ -8,7 +8,7 @@ use Rattle.terms_api.specs.Terms.{trees, reachable, IsSound, Loses}
 use Rattle.terms_api.proofs.Staying.{trees-lost}
 use Rattle.row_stack.specs.Places.{Places}
 use Rattle.shared_desk.specs.Pass.{PassView, store, own, Arrived, left}
-use Rattle.shared_desk.specs.Desk.{IsIn, IsAlone, IsReady, Passed, pass_in_turn}
+use Rattle.shared_desk.specs.Desk.{IsRight, IsIn, IsAlone, IsReady, Passed, pass_in_turn}
 
 some_same : (m n : ℕ) → Some m ≡ Some n → m ≡ n
 some_same m n e = cc
@@ -121,14 +121,15 @@ ready v w p i a sound out alone =
       rooted = ap (λ (x : PassView). x.rooted) a.rest ∙ sym (trees_same 0 (left (rooted v xs)) w xs (ended v xs i.right.sound).sound passed);
     }
 
+-- inside again
+pub right_in : (k : ℕ) (v w : PassView) (p : Places) → v.depth ≤ p.room → Passed k v w p.items → w.shared ≡ true → w.alone ≡ false → IsRight w p
+right_in k v w p room passed in_it alone =
+    record { sound = passed.sound; roots = λ e. absurd (let x : true ≡ false = sym in_it ∙ e in cc); alone = alone; room = omega (arith, passed.same.depth, room) }
+
 -- outside and back
 pub round_in : (v w : PassView) (p : Places) → IsIn v p → Arrived (left (rooted v p.items)) w → IsSound (own w) → w.shared ≡ true → w.alone ≡ false → IsIn w p
 round_in v w p i a sound in_it alone =
-    let passed = crossed v w p.items i.right.sound a sound in
-    record {
-      right = record { sound = passed.sound; roots = λ e. absurd (let x : true ≡ false = sym in_it ∙ e in cc); alone = alone; room = omega (arith, passed.same.depth, i.right.room) };
-      shared = in_it;
-    }
+    record { right = right_in 0 v w p i.right.room (crossed v w p.items i.right.sound a sound) in_it alone; shared = in_it }
 
 rooted_same : (v : PassView) (xs : List Row) → v.roots ≡ xs → v ≡ rooted v xs
 rooted_same v xs e = subst (λ ys. v ≡ rooted v ys) e refl
@@ -139,8 +140,4 @@ back v w p i a sound = crossed v w p.items i.sound (subst (λ x. Arrived (left x
 
 pub back_in : (v w : PassView) (p : Places) → IsAlone v p → Arrived (left v) w → IsSound (own w) → w.shared ≡ true → w.alone ≡ false → IsIn w p
 back_in v w p i a sound in_it alone =
-    let passed = back v w p i a sound in
-    record {
-      right = record { sound = passed.sound; roots = λ e. absurd (let x : true ≡ false = sym in_it ∙ e in cc); alone = alone; room = omega (arith, passed.same.depth, i.room) };
-      shared = in_it;
-    }
+    record { right = right_in 0 v w p i.room (back v w p i a sound) in_it alone; shared = in_it }

@@ -36,8 +36,11 @@ depth_fits len zero room h k never =
     elim (eqb_tells len room) [ inl e ↦ absurd (never (refl, e.1)) | inr ne ↦ (let d : len ≢ room = ne.1 in omega arith) ]
 depth_fits len (suc n) room h k never = omega arith
 
+pub place_alone : (v : PassView) (p : Places) (n : ℕ) (h : Head) → length p.items ≤ v.depth → v.depth ≤ p.room → MayBuild (store v p.items) h n → (NeedsPlace (store v p.items) n → ⊥) → length p.items - n < p.room
+place_alone v p n h few room may place = omega (arith, depth_fits (length p.items) n v.depth may.depth few place, room)
+
 pub place_there : (v : PassView) (p : Places) (n : ℕ) (h : Head) → IsIn v p → MayBuild (store v p.items) h n → (NeedsPlace (store v p.items) n → ⊥) → length p.items - n < p.room
-place_there v p n h i may place = omega (arith, depth_fits (length p.items) n v.depth may.depth i.right.sound.depth place, i.right.room)
+place_there v p n h i may place = place_alone v p n h i.right.sound.depth i.right.room may place
 
 pub may_create : (v : PassView) (xs : List Row) (h : Head) (n : ℕ) → IsSound (store v xs) → MayBuild (store v xs) h n → MayCreate v h (last n xs)
 may_create v xs h n s may =

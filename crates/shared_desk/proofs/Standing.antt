@@ -1,5 +1,5 @@
 -- What each call of the store leaves of a pass, as its desk sees it.
-use Rattle.std.proofs.Common.{◌≡◌, inl, inr, ℕ, ◌≤◌, ◌&&◌, eqb, Bool, true, false, not, List, refl, sym, ap, ap₂, ◌∙◌, subst, arith, true≢false}
+use Rattle.std.proofs.Common.{◌≡◌, ◌⊎◌, inl, inr, ℕ, ◌≤◌, ◌&&◌, eqb, Bool, true, false, not, List, refl, sym, ap, ap₂, ◌∙◌, subst, ⊎_elim, arith, true≢false}
 use mathlib.Core.Logic.{dite}
 use native.Mathlib.Decide.{ℕ_discrete}
 use Rattle.term_model.specs.Tree.{Tree}
@@ -85,6 +85,9 @@ module _ (s : Store) (p : Pass) (h : IsStanding s p) where
 
   pub inside_of : IsReady s.sizes (view_of p).store p.base p.in_use → IsInside s p
   inside_of r = record { store = h.of.store; pass = h.of.pass; ready = r; told = h.told }
+
+  pub inside_at : (in_shared (view_of p) ≡ true) ⊎ (in_exclusive (view_of p) ≡ true) → IsInside s p
+  inside_at access = inside_of (⊎_elim (λ a. (is_in_shared a).1) (λ a. (is_in_exclusive a).1) access)
 
 -- an entry was granted: what the load of the base leaves of what the pass knows
 pub came_comes : (v : View) (n u : ℕ) → Forgets v (based v n) → v.base ≤ n → Comes v (ready (based v n) u)

@@ -26,6 +26,16 @@ may_after k v w xs h n s p may =
 pub place_after : (k : ℕ) (v w : PassView) (xs : List Row) (n : ℕ) → Passed k v w xs → (NeedsPlace (store v xs) n → ⊥) → NeedsPlace (store w xs) n → ⊥
 place_after k v w xs n p place x = place (x.0, x.1 ∙ p.same.depth)
 
+-- the same where nothing has changed
+pub may_still : (v x : PassView) (p q : Places) (h : Head) (n : ℕ) → x ≡ v → q ≡ p → MayBuild (store v p.items) h n → MayBuild (store x q.items) h n
+may_still v x p q h n e same may = subst (λ (z : PassView). MayBuild (store z q.items) h n) (sym e) (subst (λ (z : Places). MayBuild (store v z.items) h n) (sym same) may)
+
+pub place_still : (v x : PassView) (p q : Places) (n : ℕ) → x ≡ v → q ≡ p → (NeedsPlace (store v p.items) n → ⊥) → NeedsPlace (store x q.items) n → ⊥
+place_still v x p q n e same place = subst (λ (z : PassView). NeedsPlace (store z q.items) n → ⊥) (sym e) (subst (λ (z : Places). NeedsPlace (store v z.items) n → ⊥) (sym same) place)
+
+pub outcome_still : (v x w : PassView) (p q : Places) (ys : List Row) (h : Head) (n : ℕ) (r : Result (Unit {0}) BuildFault) → x ≡ v → q ≡ p → Outcome x w q.items ys h n r → Outcome v w p.items ys h n r
+outcome_still v x w p q ys h n r e same o = subst (λ (z : Places). Outcome v w z.items ys h n r) same (subst (λ (z : PassView). Outcome z w q.items ys h n r) e o)
+
 -- the collection
 pub swept : (v m : PassView) (p : Places) → IsAlone v p → Swept v m → IsSound (own m) → Passed 1 v m p.items
 swept v m p i a sound =

@@ -1,4 +1,4 @@
-use Rattle.std.proofs.Common.{List, length, sym, subst}
+use Rattle.std.proofs.Common.{List, length, sym, subst, arith}
 use Rattle.term_model.specs.declared.Row.{Row}
 use Rattle.terms_api.specs.Terms.{MayBuild, NeedsPlace}
 use Rattle.shared_desk.specs.Pass.{store}
@@ -6,21 +6,31 @@ use Rattle.shared_desk.specs.Desk.{Outcome}
 use Rattle.shared_desk.proofs.Pushing.{pushed_in}
 use Rattle.shared_desk.proofs.building.build_pushed.Goals as goal
 
-pub build_late-requires-clause-inside : goal.build_late-requires-clause-inside
-build_late-requires-clause-inside g c =
+pub put_all-requires : goal.put_all-requires
+put_all-requires g c =
+    let a = c.requires.room in
+    let b = c.requires.inside.right.room in
+    omega arith
+
+pub build_late-requires : goal.build_late-requires
+build_late-requires g c =
+    let v = g.S.SharedPass.view c.args.pass.now in
     let r = c.requires in
-    pushed_in (g.S.SharedPass.view c.args.pass.now) c.args.places.now c.put_all.new.self c.args.rows.now r.inside r.held r.room c.put_all.ensures.items c.put_all.ensures.room
+    let n = length c.args.rows.now in
+    let d = c.put_all.ensures in
+    let e = sym d.items in
+    record {
+      inside = pushed_in v c.args.places.now c.put_all.new.self c.args.rows.now r.inside r.held r.room d.items d.room;
+      may = subst (λ (zs : List Row). MayBuild (store v zs) c.args.head n) e r.may;
+      place = subst (λ (zs : List Row). NeedsPlace (store v zs) n → ⊥) e r.place;
+    }
 
-pub build_late-requires-clause-may : goal.build_late-requires-clause-may
-build_late-requires-clause-may g c =
-    subst (λ (zs : List Row). MayBuild (store (g.S.SharedPass.view c.args.pass.now) zs) c.args.head (length c.args.rows.now)) (sym c.put_all.ensures.items) c.requires.may
-
-pub build_late-requires-clause-place : goal.build_late-requires-clause-place
-build_late-requires-clause-place g c =
-    subst (λ (zs : List Row). NeedsPlace (store (g.S.SharedPass.view c.args.pass.now) zs) (length c.args.rows.now) → ⊥) (sym c.put_all.ensures.items) c.requires.place
-
-pub returns-clause-outcome : goal.returns-clause-outcome
-returns-clause-outcome g c =
+pub returns : goal.returns
+returns g c =
     let v = g.S.SharedPass.view c.args.pass.now in
     let w = g.S.SharedPass.view c.build_late.new.pass in
-    subst (λ (zs : List Row). Outcome v w zs c.build_late.new.places.items c.args.head (length c.args.rows.now) c.build_late.result) c.put_all.ensures.items c.build_late.ensures.outcome
+    let b = c.build_late.ensures in
+    record {
+      outcome = subst (λ (zs : List Row). Outcome v w zs c.build_late.new.places.items c.args.head (length c.args.rows.now) c.build_late.result) c.put_all.ensures.items b.outcome;
+      inside = b.inside;
+    }

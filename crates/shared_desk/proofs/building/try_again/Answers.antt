@@ -3,28 +3,48 @@ use Rattle.row_stack.specs.Places.{Places}
 use Rattle.shared_desk.specs.Desk.{Passed}
 use Rattle.shared_desk.proofs.Passing.{passed_twice}
 use Rattle.shared_desk.proofs.Following.{placed_after}
-use Rattle.shared_desk.proofs.Sweeping.{may_after}
+use Rattle.shared_desk.proofs.Sweeping.{may_after, place_after}
 use Rattle.shared_desk.proofs.building.try_again.Goals as goal
 
-pub try_create-requires-clause-may : goal.try_create-requires-clause-may
-try_create-requires-clause-may g c =
+pub try_create-requires : goal.try_create-requires
+try_create-requires g c =
     let v = g.S.SharedPass.view c.args.pass.now in
     let m = g.S.SharedPass.view c.come_back.new.pass in
-    may_after 0 v m c.args.places.now.items c.args.head c.args.n c.requires.ready.alone.sound c.come_back.ensures.passed c.requires.may
+    let xs = c.args.places.now.items in
+    let e = c.come_back.ensures in
+    record {
+      inside = e.inside;
+      may = may_after 0 v m xs c.args.head c.args.n c.requires.ready.alone.sound e.passed c.requires.may;
+      place = place_after 0 v m xs c.args.n e.passed c.requires.place;
+    }
 
-pub returns-in-Ok-clause-placed : goal.returns-in-Ok-clause-placed
-returns-in-Ok-clause-placed g c =
+pub returns-in-Ok : goal.returns-in-Ok
+returns-in-Ok g c =
     let v = g.S.SharedPass.view c.args.pass.now in
     let m = g.S.SharedPass.view c.come_back.new.pass in
     let w = g.S.SharedPass.view c.try_create.new.pass in
-    placed_after 0 0 v m w c.args.places.now.items c.try_create.new.places.items c.args.head c.args.n c.requires.ready.alone.sound c.come_back.ensures.passed c.in-Ok.ensures.placed
+    record {
+      placed = placed_after 0 0 v m w c.args.places.now.items c.try_create.new.places.items c.args.head c.args.n c.requires.ready.alone.sound c.come_back.ensures.passed c.in-Ok.ensures.placed;
+      inside = c.try_create.ensures.inside;
+      passed = tt;
+      stack = tt;
+      ready = tt;
+    }
 
-pub returns-in-Err-clause-passed : goal.returns-in-Err-clause-passed
-returns-in-Err-clause-passed g c =
+pub returns-in-Err : goal.returns-in-Err
+returns-in-Err g c =
     let v = g.S.SharedPass.view c.args.pass.now in
     let m = g.S.SharedPass.view c.come_back.new.pass in
     let x = g.S.SharedPass.view c.try_create.new.pass in
     let w = g.S.SharedPass.view c.go_alone.new.pass in
     let xs = c.args.places.now.items in
-    let passed = subst (λ z. Passed 0 z w xs) c.in-Err.ensures.unchanged (subst (λ (q : Places). Passed 0 x w q.items) c.in-Err.ensures.stack c.go_alone.ensures.passed) in
-    passed_twice 0 0 v m w xs c.requires.ready.alone.sound c.come_back.ensures.passed passed
+    let e = c.in-Err.ensures in
+    let b = c.go_alone.ensures in
+    record {
+      placed = tt;
+      inside = tt;
+      passed = passed_twice 0 0 v m w xs c.requires.ready.alone.sound c.come_back.ensures.passed
+          (subst (λ z. Passed 0 z w xs) e.unchanged (subst (λ (q : Places). Passed 0 x w q.items) e.stack b.passed));
+      stack = e.stack;
+      ready = b.ready;
+    }

@@ -1,28 +1,31 @@
+use Rattle.shared_desk.proofs.Standing.{is_in_shared, inside_of}
 use Rattle.shared_desk.proofs.Looking.{own_used, own_argument, own_child, after_child}
 use Rattle.shared_desk.proofs.own_reads.child_from.Goals as goal
 
-pub child_at-requires-clause-uses : goal.child_at-requires-clause-uses
-child_at-requires-clause-uses c = own_used c.args.store.now c.args.pass.now c.requires.standing c.args.row c.requires.held
+pub child_at-requires : goal.child_at-requires
+child_at-requires c =
+    let s = c.args.store.now in
+    let p = c.args.pass.now in
+    let r = c.requires in
+    record {
+      inside = inside_of s p r.standing (is_in_shared s p r.standing r.shared).1;
+      uses = own_used s p r.standing c.args.row r.held;
+      start = r.start;
+      argument = own_argument s p r.standing c.args.row r.held c.args.j r.below;
+    }
 
-pub child_at-requires-clause-argument : goal.child_at-requires-clause-argument
-child_at-requires-clause-argument c = own_argument c.args.store.now c.args.pass.now c.requires.standing c.args.row c.requires.held c.args.j c.requires.below
-
-pub returns-clause-standing : goal.returns-clause-standing
-returns-clause-standing c =
+pub returns : goal.returns
+returns c =
+    let s = c.args.store.now in
+    let p = c.args.pass.now in
+    let r = c.requires in
+    let q = c.child_at.new.pass in
     let e = c.child_at.ensures in
-    (after_child c.args.store.now c.args.pass.now c.requires.standing c.args.row c.requires.held c.child_at.new.pass c.requires.shared e.inside e.same c.args.j c.child_at.result.0 e.reads).0
-
-pub returns-clause-unchanged : goal.returns-clause-unchanged
-returns-clause-unchanged c =
-    let e = c.child_at.ensures in
-    (after_child c.args.store.now c.args.pass.now c.requires.standing c.args.row c.requires.held c.child_at.new.pass c.requires.shared e.inside e.same c.args.j c.child_at.result.0 e.reads).1
-
-pub returns-clause-held : goal.returns-clause-held
-returns-clause-held c =
-    let e = c.child_at.ensures in
-    (own_child c.args.store.now c.args.pass.now c.requires.standing c.args.row c.requires.held c.child_at.new.pass c.requires.shared e.inside e.same c.args.j c.child_at.result.0 e.reads c.requires.below e.tree).0
-
-pub returns-clause-tree : goal.returns-clause-tree
-returns-clause-tree c =
-    let e = c.child_at.ensures in
-    (own_child c.args.store.now c.args.pass.now c.requires.standing c.args.row c.requires.held c.child_at.new.pass c.requires.shared e.inside e.same c.args.j c.child_at.result.0 e.reads c.requires.below e.tree).1
+    let a = after_child s p r.standing c.args.row r.held q r.shared e.inside e.same c.args.j c.child_at.result.0 e.reads in
+    let b = own_child s p r.standing c.args.row r.held q r.shared e.inside e.same c.args.j c.child_at.result.0 e.reads r.below e.tree in
+    record {
+      standing = a.0;
+      unchanged = a.1;
+      held = b.0;
+      tree = b.1;
+    }

@@ -1,18 +1,27 @@
+use Rattle.shared_desk.proofs.Standing.{is_in_shared, inside_of}
 use Rattle.shared_desk.proofs.Looking.{own_used, own_many, after_count}
 use Rattle.shared_desk.proofs.own_reads.count_from.Goals as goal
 
-pub count_at-requires-clause-uses : goal.count_at-requires-clause-uses
-count_at-requires-clause-uses c = own_used c.args.store.now c.args.pass.now c.requires.standing c.args.row c.requires.held
+pub count_at-requires : goal.count_at-requires
+count_at-requires c =
+    let s = c.args.store.now in
+    let p = c.args.pass.now in
+    let r = c.requires in
+    record {
+      inside = inside_of s p r.standing (is_in_shared s p r.standing r.shared).1;
+      uses = own_used s p r.standing c.args.row r.held;
+      start = r.start;
+    }
 
-pub returns-clause-standing : goal.returns-clause-standing
-returns-clause-standing c =
+pub returns : goal.returns
+returns c =
+    let s = c.args.store.now in
+    let p = c.args.pass.now in
+    let r = c.requires in
     let e = c.count_at.ensures in
-    (after_count c.args.store.now c.args.pass.now c.requires.standing c.args.row c.requires.held c.count_at.new.pass c.requires.shared e.inside e.same c.count_at.result e.reads).0
-
-pub returns-clause-unchanged : goal.returns-clause-unchanged
-returns-clause-unchanged c =
-    let e = c.count_at.ensures in
-    (after_count c.args.store.now c.args.pass.now c.requires.standing c.args.row c.requires.held c.count_at.new.pass c.requires.shared e.inside e.same c.count_at.result e.reads).1
-
-pub returns-clause-count : goal.returns-clause-count
-returns-clause-count c = own_many c.args.store.now c.args.pass.now c.requires.standing c.args.row c.requires.held c.count_at.result c.count_at.ensures.tree
+    let a = after_count s p r.standing c.args.row r.held c.count_at.new.pass r.shared e.inside e.same c.count_at.result e.reads in
+    record {
+      standing = a.0;
+      unchanged = a.1;
+      count = own_many s p r.standing c.args.row r.held c.count_at.result e.tree;
+    }

@@ -1,18 +1,27 @@
+use Rattle.shared_desk.proofs.Standing.{is_in_shared, inside_of}
 use Rattle.shared_desk.proofs.Looking.{own_used, own_root, after_head}
 use Rattle.shared_desk.proofs.own_reads.head_from.Goals as goal
 
-pub head_at-requires-clause-uses : goal.head_at-requires-clause-uses
-head_at-requires-clause-uses c = own_used c.args.store.now c.args.pass.now c.requires.standing c.args.row c.requires.held
+pub head_at-requires : goal.head_at-requires
+head_at-requires c =
+    let s = c.args.store.now in
+    let p = c.args.pass.now in
+    let r = c.requires in
+    record {
+      inside = inside_of s p r.standing (is_in_shared s p r.standing r.shared).1;
+      uses = own_used s p r.standing c.args.row r.held;
+      start = r.start;
+    }
 
-pub returns-clause-standing : goal.returns-clause-standing
-returns-clause-standing c =
+pub returns : goal.returns
+returns c =
+    let s = c.args.store.now in
+    let p = c.args.pass.now in
+    let r = c.requires in
     let e = c.head_at.ensures in
-    (after_head c.args.store.now c.args.pass.now c.requires.standing c.args.row c.requires.held c.head_at.new.pass c.requires.shared e.inside e.same c.head_at.result e.reads).0
-
-pub returns-clause-unchanged : goal.returns-clause-unchanged
-returns-clause-unchanged c =
-    let e = c.head_at.ensures in
-    (after_head c.args.store.now c.args.pass.now c.requires.standing c.args.row c.requires.held c.head_at.new.pass c.requires.shared e.inside e.same c.head_at.result e.reads).1
-
-pub returns-clause-head : goal.returns-clause-head
-returns-clause-head c = own_root c.args.store.now c.args.pass.now c.requires.standing c.args.row c.requires.held c.head_at.result c.head_at.ensures.tree
+    let a = after_head s p r.standing c.args.row r.held c.head_at.new.pass r.shared e.inside e.same c.head_at.result e.reads in
+    record {
+      standing = a.0;
+      unchanged = a.1;
+      head = own_root s p r.standing c.args.row r.held c.head_at.result e.tree;
+    }

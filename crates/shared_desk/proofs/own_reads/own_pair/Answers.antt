@@ -5,22 +5,37 @@ use Rattle.terms_api.specs.Terms.{IsHeld, tree_at}
 use Rattle.shared_desk.specs.Pass.{PassView, own}
 use Rattle.shared_desk.proofs.own_reads.own_pair.Goals as goal
 
-pub child_from-second-requires-clause-shared : goal.child_from-second-requires-clause-shared
-child_from-second-requires-clause-shared c = ap (λ (x : PassView). x.shared) c.child_from-first.ensures.unchanged ∙ c.requires.shared
-
-pub child_from-second-requires-clause-held : goal.child_from-second-requires-clause-held
-child_from-second-requires-clause-held c = subst (λ (x : PassView). IsHeld (own x) c.args.row) (sym c.child_from-first.ensures.unchanged) c.requires.held
-
-pub child_from-second-requires-clause-below : goal.child_from-second-requires-clause-below
-child_from-second-requires-clause-below c =
+pub child_from-first-requires : goal.child_from-first-requires
+child_from-first-requires c =
     let two = c.requires.two in
-    subst (λ (x : PassView). 1 < length (arguments (tree_at (own x) c.args.row))) (sym c.child_from-first.ensures.unchanged) (omega (arith, two))
+    record {
+      standing = c.requires.standing;
+      shared = c.requires.shared;
+      held = c.requires.held;
+      start = c.start-start.ensures;
+      below = omega (arith, two);
+    }
 
-pub returns-clause-unchanged : goal.returns-clause-unchanged
-returns-clause-unchanged c = c.child_from-second.ensures.unchanged ∙ c.child_from-first.ensures.unchanged
+pub child_from-second-requires : goal.child_from-second-requires
+child_from-second-requires c =
+    let two = c.requires.two in
+    let e = c.child_from-first.ensures in
+    record {
+      standing = e.standing;
+      shared = ap (λ (x : PassView). x.shared) e.unchanged ∙ c.requires.shared;
+      held = subst (λ (x : PassView). IsHeld (own x) c.args.row) (sym e.unchanged) c.requires.held;
+      start = c.start-start.ensures;
+      below = subst (λ (x : PassView). 1 < length (arguments (tree_at (own x) c.args.row))) (sym e.unchanged) (omega (arith, two));
+    }
 
-pub returns-clause-held : goal.returns-clause-held
-returns-clause-held c = (c.child_from-first.ensures.held, subst (λ (x : PassView). IsHeld (own x) c.child_from-second.result) c.child_from-first.ensures.unchanged c.child_from-second.ensures.held)
-
-pub returns-clause-second : goal.returns-clause-second
-returns-clause-second c = subst (λ (x : PassView). slice_get (arguments (tree_at (own x) c.args.row)) 1 ≡ Some (tree_at (own x) c.child_from-second.result)) c.child_from-first.ensures.unchanged c.child_from-second.ensures.tree
+pub returns : goal.returns
+returns c =
+    let d = c.child_from-first.ensures in
+    let e = c.child_from-second.ensures in
+    record {
+      standing = e.standing;
+      unchanged = e.unchanged ∙ d.unchanged;
+      held = (d.held, subst (λ (x : PassView). IsHeld (own x) c.child_from-second.result) d.unchanged e.held);
+      first = d.tree;
+      second = subst (λ (x : PassView). slice_get (arguments (tree_at (own x) c.args.row)) 1 ≡ Some (tree_at (own x) c.child_from-second.result)) d.unchanged e.tree;
+    }

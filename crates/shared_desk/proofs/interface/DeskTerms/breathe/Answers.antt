@@ -1,53 +1,81 @@
-use Rattle.std.proofs.Common.{◌∙◌, length, ap, sym, subst}
-use Rattle.terms_api.specs.Terms.{IsSound, Breathed, trees}
-use Rattle.shared_desk.specs.Pass.{PassView, shown, Arrived, left}
+use Rattle.std.proofs.Common.{◌∙◌, ◌≤◌, inl, List, length, refl, ap, sym, subst}
+use Rattle.std.specs.Prelude.{All}
+use Rattle.term_model.specs.declared.Row.{Row}
+use Rattle.terms_api.specs.Terms.{IsHeld, Breathed, trees}
+use Rattle.shared_desk.specs.Pass.{PassView, own, shown, Arrived, left}
 use Rattle.shared_desk.specs.Code.{Contents}
-use Rattle.shared_desk.specs.Desk.{store_of, IsSame}
-use Rattle.shared_desk.proofs.Passing.{rooted, crossed, trees_same}
-use Rattle.shared_desk.proofs.Desks.{desk_of, sound_shown, same_told, breathed}
+use Rattle.shared_desk.specs.Desk.{store_of, IsSame, same_itself}
+use Rattle.shared_desk.proofs.Passing.{rooted, crossed, right_in, trees_same}
+use Rattle.shared_desk.proofs.Desks.{desk_of, sound_seen, sound_shown, same_told, breathed, breathed_not}
 use Rattle.shared_desk.proofs.interface.DeskTerms.breathe.Goals as goal
 
-pub returns-clause-was_sound : goal.returns-clause-was_sound
-returns-clause-was_sound g c = subst (λ (x : Contents). IsSound (store_of x)) c.self.view_is (sound_shown (g.S.SharedPass.view c.self.inside.pass) c.self.inside.places.items _ _ c.self.invariant.sound)
+pub returns-then-not-is_asked : goal.returns-then-not-is_asked
+returns-then-not-is_asked g c =
+    let so = sound_seen (g.S.SharedPass.view c.self.inside.pass) c.self.inside.places.items _ _ _ c.args.self.now c.self.view_is c.self.invariant.sound in
+    record {
+      breathed = breathed_not (store_of c.args.self.now);
+      trees = refl;
+      was_sound = so;
+      sound = so;
+      same = same_itself c.args.self.now;
+    }
 
-pub returns-clause-trees : goal.returns-clause-trees
-returns-clause-trees g c =
+pub store_roots-requires : goal.store_roots-requires
+store_roots-requires g c =
+    let v = g.S.SharedPass.view c.self.inside.pass in
+    let so = c.self.invariant.sound in
+    let e = sym c.rows-rows.ensures in
+    record {
+      access = inl (ap (λ (x : Contents). x.pass.shared) c.self.view_is ∙ c.requires);
+      held = subst (All (IsHeld (own v))) e so.stack;
+      room = subst (λ (ys : List Row). length ys ≤ v.depth) e so.depth;
+    }
+
+pub leave_shared-requires : goal.leave_shared-requires
+leave_shared-requires g c =
+    let e = c.store_roots.ensures in
+    record {
+      shared = ap (λ (x : PassView). x.shared) e ∙ ap (λ (x : Contents). x.pass.shared) c.self.view_is ∙ c.requires;
+      roots = ap (λ (x : PassView). x.roots) e;
+    }
+
+pub enter_shared-requires : goal.enter_shared-requires
+enter_shared-requires g c =
+    let e = c.leave_shared.ensures in
+    record {
+      shared = ap (λ (x : PassView). x.shared) e;
+      alone = ap (λ (x : PassView). x.alone) e;
+    }
+
+pub invariant_of-self : goal.invariant_of-self
+invariant_of-self g c =
     let v = g.S.SharedPass.view c.self.inside.pass in
     let w = g.S.SharedPass.view c.enter_shared.new.self in
-    let xs = c.self.inside.places.items in
-    let e = c.leave_shared.ensures ∙ ap left c.store_roots.ensures ∙ ap (λ ys. left (rooted v ys)) c.rows-rows.ensures in
-    let a = subst (λ x. Arrived x w) e c.enter_shared.ensures.arrived in
-    trees_same 0 v w xs c.self.invariant.sound (crossed v w xs c.self.invariant.sound a c.enter_shared.ensures.sound)
-    ∙ ap (λ (x : Contents). trees (store_of x)) c.self.view_is
+    let i = c.self.invariant in
+    let d = c.enter_shared.ensures in
+    let e = c.leave_shared.ensures ∙ ap left c.store_roots.ensures ∙ ap (λ (ys : List Row). left (rooted v ys)) c.rows-rows.ensures in
+    right_in 0 v w c.self.inside.places i.room (crossed v w c.self.inside.places.items i.sound (subst (λ x. Arrived x w) e d.arrived) d.sound) d.shared d.alone
 
-pub returns-clause-breathed : goal.returns-clause-breathed
-returns-clause-breathed g c =
+pub returns : goal.returns
+returns g c =
     let v = g.S.SharedPass.view c.self.inside.pass in
-    let w = g.S.SharedPass.view c.enter_shared.new.self in
-    let xs = c.self.inside.places.items in
-    let e = c.leave_shared.ensures ∙ ap left c.store_roots.ensures ∙ ap (λ ys. left (rooted v ys)) c.rows-rows.ensures in
-    let a = subst (λ x. Arrived x w) e c.enter_shared.ensures.arrived in
-    let inside = ap (λ (x : Contents). x.pass.shared) c.self.view_is ∙ c.requires in
-    subst (λ (x : Contents). Breathed (store_of x) (shown w xs (length c.self.inside.refused.items) c.self.inside.spent)) c.self.view_is
-    (breathed v w xs _ _ c.self.invariant.sound a c.enter_shared.ensures.sound (c.enter_shared.ensures.shared ∙ sym inside))
-
-pub returns-clause-same : goal.returns-clause-same
-returns-clause-same g c =
-    let v = g.S.SharedPass.view c.self.inside.pass in
-    let w = g.S.SharedPass.view c.enter_shared.new.self in
     let xs = c.self.inside.places.items in
     let k = length c.self.inside.refused.items in
     let s = c.self.inside.spent in
-    let e = c.leave_shared.ensures ∙ ap left c.store_roots.ensures ∙ ap (λ ys. left (rooted v ys)) c.rows-rows.ensures in
-    let a = subst (λ x. Arrived x w) e c.enter_shared.ensures.arrived in
-    let p = crossed v w xs c.self.invariant.sound a c.enter_shared.ensures.sound in
-    subst (λ (x : Contents). IsSame x (desk_of w xs k s (g.S.SharedPass.log c.enter_shared.new.self))) c.self.view_is (same_told v w xs xs k k s (g.S.SharedPass.log c.self.inside.pass) (g.S.SharedPass.log c.enter_shared.new.self) p.same)
-
-pub returns-then-not-is_asked-clause-was_sound : goal.returns-then-not-is_asked-clause-was_sound
-returns-then-not-is_asked-clause-was_sound g c = subst (λ (x : Contents). IsSound (store_of x)) c.self.view_is (sound_shown (g.S.SharedPass.view c.self.inside.pass) c.self.inside.places.items _ _ c.self.invariant.sound)
-
-pub returns-then-not-is_asked-clause-sound : goal.returns-then-not-is_asked-clause-sound
-returns-then-not-is_asked-clause-sound g c = subst (λ (x : Contents). IsSound (store_of x)) c.self.view_is (sound_shown (g.S.SharedPass.view c.self.inside.pass) c.self.inside.places.items _ _ c.self.invariant.sound)
-
-pub leave_shared-requires-clause-roots : goal.leave_shared-requires-clause-roots
-leave_shared-requires-clause-roots g c = ap (λ (x : PassView). x.roots) c.store_roots.ensures
+    let l = g.S.SharedPass.log c.self.inside.pass in
+    let w = g.S.SharedPass.view c.enter_shared.new.self in
+    let m = g.S.SharedPass.log c.enter_shared.new.self in
+    let so = c.self.invariant.sound in
+    let d = c.enter_shared.ensures in
+    let is = c.self.view_is in
+    let e = c.leave_shared.ensures ∙ ap left c.store_roots.ensures ∙ ap (λ (ys : List Row). left (rooted v ys)) c.rows-rows.ensures in
+    let a = subst (λ x. Arrived x w) e d.arrived in
+    let p = crossed v w xs so a d.sound in
+    record {
+      breathed = subst (λ (x : Contents). Breathed (store_of x) (shown w xs k s)) is
+          (breathed v w xs k s so a d.sound (d.shared ∙ sym (ap (λ (x : Contents). x.pass.shared) is ∙ c.requires)));
+      trees = trees_same 0 v w xs so p ∙ ap (λ (x : Contents). trees (store_of x)) is;
+      was_sound = sound_seen v xs k s l c.args.self.now is so;
+      sound = sound_shown w xs k s p.sound;
+      same = subst (λ (x : Contents). IsSame x (desk_of w xs k s m)) is (same_told v w xs xs k k s l m p.same);
+    }

@@ -1,9 +1,10 @@
-use Rattle.std.proofs.Common.{subst}
-use Rattle.terms_api.specs.Terms.{IsSound}
+use Rattle.std.proofs.Common.{◌∙◌, length, ap}
 use Rattle.shared_desk.specs.Code.{Contents}
-use Rattle.shared_desk.specs.Desk.{store_of}
-use Rattle.shared_desk.proofs.Desks.{sound_shown}
+use Rattle.shared_desk.proofs.Desks.{sound_seen}
 use Rattle.shared_desk.proofs.interface.DeskTerms.depth.Goals as goal
 
-pub returns-clause-sound : goal.returns-clause-sound
-returns-clause-sound g c = subst (λ (x : Contents). IsSound (store_of x)) c.self.view_is (sound_shown (g.S.SharedPass.view c.self.inside.pass) c.self.inside.places.items _ _ c.self.invariant.sound)
+pub returns : goal.returns
+returns g c = record {
+  depth = c.len.ensures.length ∙ ap (λ (x : Contents). length x.stack) c.self.view_is;
+  sound = sound_seen (g.S.SharedPass.view c.self.inside.pass) c.self.inside.places.items _ _ _ c.args.self.now c.self.view_is c.self.invariant.sound;
+}

@@ -1,39 +1,57 @@
-use Rattle.std.proofs.Common.{◌∙◌, length, ap, sym, subst}
-use Rattle.terms_api.specs.Terms.{IsSound}
+use Rattle.std.proofs.Common.{◌≡◌, ◌∙◌, ◌≤◌, inl, refl, List, length, ap, sym, subst}
+use Rattle.std.specs.Prelude.{All}
+use Rattle.term_model.specs.declared.Row.{Row}
+use Rattle.terms_api.specs.Terms.{IsHeld, IsSound, Left, trees}
 use Rattle.shared_desk.specs.Pass as pass
-use Rattle.shared_desk.specs.Pass.{PassView, store, left}
+use Rattle.shared_desk.specs.Pass.{PassView, own, shown, left}
 use Rattle.shared_desk.specs.Code.{Contents}
 use Rattle.shared_desk.specs.Desk.{store_of, IsSame, IsRight}
 use Rattle.shared_desk.proofs.Passing.{rooted, ended}
-use Rattle.shared_desk.proofs.Desks.{desk_of, sound_shown, same_told, right_left}
+use Rattle.shared_desk.proofs.Desks.{desk_of, gone, sound_seen, sound_shown, same_told, right_left}
 use Rattle.shared_desk.proofs.interface.DeskTerms.leave.Goals as goal
 
-pub returns-clause-was_sound : goal.returns-clause-was_sound
-returns-clause-was_sound g c = subst (λ (x : Contents). IsSound (store_of x)) c.self.view_is (sound_shown (g.S.SharedPass.view c.self.inside.pass) c.self.inside.places.items _ _ c.self.invariant.sound)
+pub store_roots-requires : goal.store_roots-requires
+store_roots-requires g c =
+    let v = g.S.SharedPass.view c.self.inside.pass in
+    let so = c.self.invariant.sound in
+    let e = sym c.rows-rows.ensures in
+    record {
+      access = inl (ap (λ (x : Contents). x.pass.shared) c.self.view_is ∙ c.requires);
+      held = subst (All (IsHeld (own v))) e so.stack;
+      room = subst (λ (ys : List Row). length ys ≤ v.depth) e so.depth;
+    }
+
+pub leave_shared-requires : goal.leave_shared-requires
+leave_shared-requires g c =
+    let e = c.store_roots.ensures in
+    record {
+      shared = ap (λ (x : PassView). x.shared) e ∙ ap (λ (x : Contents). x.pass.shared) c.self.view_is ∙ c.requires;
+      roots = ap (λ (x : PassView). x.roots) e;
+    }
 
 pub invariant_of-self : goal.invariant_of-self
 invariant_of-self g c =
     let v = g.S.SharedPass.view c.self.inside.pass in
-    let e = c.leave_shared.ensures ∙ ap left c.store_roots.ensures ∙ ap (λ ys. left (rooted v ys)) c.rows-rows.ensures in
+    let e = c.leave_shared.ensures ∙ ap left c.store_roots.ensures ∙ ap (λ (ys : List Row). left (rooted v ys)) c.rows-rows.ensures in
     subst (λ x. IsRight x c.self.inside.places) (sym e) (right_left v c.self.inside.places c.self.invariant)
 
-pub returns-clause-sound : goal.returns-clause-sound
-returns-clause-sound g c =
+pub returns : goal.returns
+returns g c =
     let v = g.S.SharedPass.view c.self.inside.pass in
-    let p = c.self.inside.places in
-    let e = c.leave_shared.ensures ∙ ap left c.store_roots.ensures ∙ ap (λ ys. left (rooted v ys)) c.rows-rows.ensures in
-    sound_shown (g.S.SharedPass.view c.leave_shared.new.self) p.items _ _ (subst (λ x. IsSound (store x p.items)) (sym e) (right_left v p c.self.invariant).sound)
-
-pub returns-clause-same : goal.returns-clause-same
-returns-clause-same g c =
-    let v = g.S.SharedPass.view c.self.inside.pass in
-    let w = g.S.SharedPass.view c.leave_shared.new.self in
     let xs = c.self.inside.places.items in
     let k = length c.self.inside.refused.items in
     let s = c.self.inside.spent in
-    let e = c.leave_shared.ensures ∙ ap left c.store_roots.ensures ∙ ap (λ ys. left (rooted v ys)) c.rows-rows.ensures in
-    let same = subst (λ x. pass.IsSame v x) (sym e) (ended v xs c.self.invariant.sound).same in
-    subst (λ (x : Contents). IsSame x (desk_of w xs k s (g.S.SharedPass.log c.leave_shared.new.self))) c.self.view_is (same_told v w xs xs k k s (g.S.SharedPass.log c.self.inside.pass) (g.S.SharedPass.log c.leave_shared.new.self) same)
-
-pub leave_shared-requires-clause-roots : goal.leave_shared-requires-clause-roots
-leave_shared-requires-clause-roots g c = ap (λ (x : PassView). x.roots) c.store_roots.ensures
+    let l = g.S.SharedPass.log c.self.inside.pass in
+    let w = g.S.SharedPass.view c.leave_shared.new.self in
+    let m = g.S.SharedPass.log c.leave_shared.new.self in
+    let so = c.self.invariant.sound in
+    let is = c.self.view_is in
+    let e = sym (c.leave_shared.ensures ∙ ap left c.store_roots.ensures ∙ ap (λ (ys : List Row). left (rooted v ys)) c.rows-rows.ensures) in
+    let p = ended v xs so in
+    record {
+      left = subst (λ (x : Contents). Left (store_of x) (shown w xs k s)) is (subst (λ x. Left (shown v xs k s) (shown x xs k s)) e (gone v xs k s so));
+      trees = subst (λ x. trees (shown x xs k s) ≡ trees (shown v xs k s)) e refl ∙ ap (λ (x : Contents). trees (store_of x)) is;
+      was_sound = sound_seen v xs k s l c.args.self.now is so;
+      sound = subst (λ x. IsSound (shown x xs k s)) e (sound_shown (left (rooted v xs)) xs k s p.sound);
+      same = subst (λ (x : Contents). IsSame x (desk_of w xs k s m)) is (same_told v w xs xs k k s l m (subst (pass.IsSame v) e p.same));
+    }

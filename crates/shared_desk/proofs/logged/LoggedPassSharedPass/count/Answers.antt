@@ -6,14 +6,23 @@ use Rattle.shared_desk.specs.Pass.{PassView, own}
 use Rattle.shared_desk.specs.Logged.{AreTold}
 use Rattle.shared_desk.proofs.logged.LoggedPassSharedPass.count.Goals as goal
 
-pub count-requires-clause-held : goal.count-requires-clause-held
-count-requires-clause-held g c = subst (λ (l : LoggedView). IsHeld (own l.pass) c.args.row) (sym c.self.view_is) c.requires.held
+pub count-requires : goal.count-requires
+count-requires g c =
+    let e = c.self.view_is in
+    record {
+      shared = ap (λ (l : LoggedView). l.pass.shared) e ∙ c.requires.shared;
+      held = subst (λ (l : LoggedView). IsHeld (own l.pass) c.args.row) (sym e) c.requires.held;
+    }
 
 pub invariant_of-self : goal.invariant_of-self
 invariant_of-self g c = subst (λ (x : PassView). AreTold c.self.inside.log x.entries) (sym c.count.ensures.unchanged) c.self.invariant
 
-pub returns-clause-unchanged : goal.returns-clause-unchanged
-returns-clause-unchanged g c = c.count.ensures.unchanged ∙ ap (λ (l : LoggedView). l.pass) c.self.view_is
-
-pub returns-clause-count : goal.returns-clause-count
-returns-clause-count g c = subst (λ (l : LoggedView). c.count.result ≡ length (arguments (tree_at (own l.pass) c.args.row))) c.self.view_is c.count.ensures.count
+pub returns : goal.returns
+returns g c =
+    let e = c.self.view_is in
+    let r = c.count.result in
+    let d = c.count.ensures in
+    record {
+      count = subst (λ (l : LoggedView). r ≡ length (arguments (tree_at (own l.pass) c.args.row))) e d.count;
+      unchanged = d.unchanged ∙ ap (λ (l : LoggedView). l.pass) e;
+    }

@@ -6,14 +6,23 @@ use Rattle.shared_desk.specs.Pass.{PassView, own}
 use Rattle.shared_desk.specs.Logged.{AreTold}
 use Rattle.shared_desk.proofs.logged.LoggedPassSharedPass.head.Goals as goal
 
-pub head-requires-clause-held : goal.head-requires-clause-held
-head-requires-clause-held g c = subst (λ (l : LoggedView). IsHeld (own l.pass) c.args.row) (sym c.self.view_is) c.requires.held
+pub head-requires : goal.head-requires
+head-requires g c =
+    let e = c.self.view_is in
+    record {
+      shared = ap (λ (l : LoggedView). l.pass.shared) e ∙ c.requires.shared;
+      held = subst (λ (l : LoggedView). IsHeld (own l.pass) c.args.row) (sym e) c.requires.held;
+    }
 
 pub invariant_of-self : goal.invariant_of-self
 invariant_of-self g c = subst (λ (x : PassView). AreTold c.self.inside.log x.entries) (sym c.head.ensures.unchanged) c.self.invariant
 
-pub returns-clause-unchanged : goal.returns-clause-unchanged
-returns-clause-unchanged g c = c.head.ensures.unchanged ∙ ap (λ (l : LoggedView). l.pass) c.self.view_is
-
-pub returns-clause-head : goal.returns-clause-head
-returns-clause-head g c = subst (λ (l : LoggedView). root (tree_at (own l.pass) c.args.row) ≡ Some c.head.result) c.self.view_is c.head.ensures.head
+pub returns : goal.returns
+returns g c =
+    let e = c.self.view_is in
+    let r = c.head.result in
+    let d = c.head.ensures in
+    record {
+      head = subst (λ (l : LoggedView). root (tree_at (own l.pass) c.args.row) ≡ Some r) e d.head;
+      unchanged = d.unchanged ∙ ap (λ (l : LoggedView). l.pass) e;
+    }

@@ -7,6 +7,14 @@ use Rattle.shared_desk.specs.Pass.{PassView, left}
 use Rattle.shared_desk.proofs.Logging.{told_entry}
 use Rattle.shared_desk.proofs.logged.LoggedPassSharedPass.leave_exclusive.Goals as goal
 
+pub leave_exclusive-requires : goal.leave_exclusive-requires
+leave_exclusive-requires g c =
+    let e = c.self.view_is in
+    record {
+      alone = ap (λ (l : LoggedView). l.pass.alone) e ∙ c.requires.alone;
+      roots = ap (λ (l : LoggedView). l.pass.roots) e ∙ c.requires.roots;
+    }
+
 pub invariant_of-self : goal.invariant_of-self
 invariant_of-self g c =
     let v = g.S.SharedPass.view c.self.inside.pass in

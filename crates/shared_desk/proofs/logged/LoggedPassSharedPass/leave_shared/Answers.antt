@@ -7,6 +7,14 @@ use Rattle.shared_desk.specs.Pass.{PassView, left}
 use Rattle.shared_desk.proofs.Logging.{told_entry}
 use Rattle.shared_desk.proofs.logged.LoggedPassSharedPass.leave_shared.Goals as goal
 
+pub leave_shared-requires : goal.leave_shared-requires
+leave_shared-requires g c =
+    let e = c.self.view_is in
+    record {
+      shared = ap (λ (l : LoggedView). l.pass.shared) e ∙ c.requires.shared;
+      roots = ap (λ (l : LoggedView). l.pass.roots) e ∙ c.requires.roots;
+    }
+
 pub invariant_of-self : goal.invariant_of-self
 invariant_of-self g c =
     let v = g.S.SharedPass.view c.self.inside.pass in

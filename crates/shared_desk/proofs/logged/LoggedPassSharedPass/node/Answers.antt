@@ -6,17 +6,24 @@ use Rattle.shared_desk.specs.Pass.{PassView, own}
 use Rattle.shared_desk.specs.Logged.{AreTold}
 use Rattle.shared_desk.proofs.logged.LoggedPassSharedPass.node.Goals as goal
 
-pub node-requires-clause-held : goal.node-requires-clause-held
-node-requires-clause-held g c = subst (λ (l : LoggedView). IsHeld (own l.pass) c.args.row) (sym c.self.view_is) c.requires.held
+pub node-requires : goal.node-requires
+node-requires g c =
+    let e = c.self.view_is in
+    record {
+      shared = ap (λ (l : LoggedView). l.pass.shared) e ∙ c.requires.shared;
+      held = subst (λ (l : LoggedView). IsHeld (own l.pass) c.args.row) (sym e) c.requires.held;
+    }
 
 pub invariant_of-self : goal.invariant_of-self
 invariant_of-self g c = subst (λ (x : PassView). AreTold c.self.inside.log x.entries) (sym c.node.ensures.unchanged) c.self.invariant
 
-pub returns-clause-unchanged : goal.returns-clause-unchanged
-returns-clause-unchanged g c = c.node.ensures.unchanged ∙ ap (λ (l : LoggedView). l.pass) c.self.view_is
-
-pub returns-clause-head : goal.returns-clause-head
-returns-clause-head g c = subst (λ (l : LoggedView). root (tree_at (own l.pass) c.args.row) ≡ Some c.node.result.0) c.self.view_is c.node.ensures.head
-
-pub returns-clause-count : goal.returns-clause-count
-returns-clause-count g c = subst (λ (l : LoggedView). c.node.result.1 ≡ length (arguments (tree_at (own l.pass) c.args.row))) c.self.view_is c.node.ensures.count
+pub returns : goal.returns
+returns g c =
+    let e = c.self.view_is in
+    let r = c.node.result in
+    let d = c.node.ensures in
+    record {
+      head = subst (λ (l : LoggedView). root (tree_at (own l.pass) c.args.row) ≡ Some r.0) e d.head;
+      count = subst (λ (l : LoggedView). r.1 ≡ length (arguments (tree_at (own l.pass) c.args.row))) e d.count;
+      unchanged = d.unchanged ∙ ap (λ (l : LoggedView). l.pass) e;
+    }

@@ -1,32 +1,34 @@
-use Rattle.std.proofs.Common.{inr, subst}
-use Rattle.shared_desk.specs.Pass.{Arrived}
+use Rattle.std.proofs.Common.{◌∙◌, inr, ap, subst}
+use Rattle.node_rows.specs.Told.{view_of}
+use Rattle.shared_desk.specs.Pass.{PassView, Arrived}
 use Rattle.shared_desk.specs.Passes.{seen_of}
-use Rattle.shared_desk.proofs.Standing.{entered, sound_standing}
+use Rattle.shared_desk.proofs.Standing.{entered, is_out, ready_exclusive, sound_standing}
 use Rattle.shared_desk.proofs.own_pass.OwnPassSharedPass.enter_exclusive.Goals as goal
+
+pub enter_exclusive-requires : goal.enter_exclusive-requires
+enter_exclusive-requires g c =
+    let h = c.self.invariant in
+    let e = c.self.view_is in
+    record {
+      of = h.of;
+      out = is_out c.self.inside.store.now c.self.inside.pass h (ap (λ (x : PassView). x.shared) e ∙ c.requires.shared) (ap (λ (x : PassView). x.alone) e ∙ c.requires.alone);
+    }
 
 pub invariant_of-self : goal.invariant_of-self
 invariant_of-self g c =
-    let s = c.self.inside.store.now in
-    let p = c.self.inside.pass in
-    let q = c.enter_exclusive.new.pass in
     let e = c.enter_exclusive.ensures in
-    let r = entered s p q c.self.invariant e.pass e.same e.told e.crowd e.came (inr (inr (e.granted, e.ready))) in
-    r.0
+    (entered c.self.inside.store.now c.self.inside.pass c.enter_exclusive.new.pass c.self.invariant e.pass e.same e.told e.crowd e.came (inr (inr (e.granted, e.ready)))).0
 
-pub returns-clause-arrived : goal.returns-clause-arrived
-returns-clause-arrived g c =
+pub returns : goal.returns
+returns g c =
     let s = c.self.inside.store.now in
-    let p = c.self.inside.pass in
     let q = c.enter_exclusive.new.pass in
     let e = c.enter_exclusive.ensures in
-    let r = entered s p q c.self.invariant e.pass e.same e.told e.crowd e.came (inr (inr (e.granted, e.ready))) in
-    subst (λ x. Arrived x (seen_of s q)) c.self.view_is r.1
-
-pub returns-clause-sound : goal.returns-clause-sound
-returns-clause-sound g c =
-    let s = c.self.inside.store.now in
-    let p = c.self.inside.pass in
-    let q = c.enter_exclusive.new.pass in
-    let e = c.enter_exclusive.ensures in
-    let r = entered s p q c.self.invariant e.pass e.same e.told e.crowd e.came (inr (inr (e.granted, e.ready))) in
-    sound_standing s q r.0
+    let r = entered s c.self.inside.pass q c.self.invariant e.pass e.same e.told e.crowd e.came (inr (inr (e.granted, e.ready))) in
+    let a = ready_exclusive (view_of q) e.ready.rest.stay e.granted.holder in
+    record {
+      arrived = subst (λ x. Arrived x (seen_of s q)) c.self.view_is r.1;
+      shared = a.0;
+      alone = a.1;
+      sound = sound_standing s q r.0;
+    }
