@@ -88,6 +88,19 @@ arrived v w xs e a sound =
       sound = subst (λ ys. IsSound (store w ys)) roots sound;
     }
 
+-- no step was made
+pub passed_none : (v : PassView) (xs : List Row) → IsSound (store v xs) → Passed 0 v v xs
+passed_none v xs s =
+    record {
+      none = λ r t h. h;
+      rows = record { reachable = λ r t h k. h; epoch = inl (refl, λ r t h. h) };
+      built = refl;
+      sweeps = omega arith;
+      load = record { least = omega arith; most = omega arith };
+      same = record { rows = refl; arity = refl; depth = refl; store = refl; seat = refl; base = omega arith };
+      sound = s;
+    }
+
 abbrev pub rooted : PassView → List Row → PassView
 rooted v xs = record v { roots = xs }
 

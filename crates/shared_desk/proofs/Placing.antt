@@ -19,7 +19,7 @@ last_map f n xs = ap (λ m. drop (m - n) (map f xs)) (length-map xs f) ∙ drop-
 pub over_asked : (v : PassView) (h : Head) (n : ℕ) (xs : List Row) → over v h (last n xs) ≡ asked (store v xs) h n
 over_asked v h n xs = ap (λ ts. Node h (trees_of ts)) (sym (last_map (tree_at (store v xs)) n xs))
 
-all_drop : {A : Type 0} (P : A → Type 0) (n : ℕ) (xs : List A) → All P xs → All P (drop n xs)
+pub all_drop : {A : Type 0} (P : A → Type 0) (n : ℕ) (xs : List A) → All P xs → All P (drop n xs)
 all_drop P zero xs all = all
 all_drop P (suc n) [] all = all
 all_drop P (suc n) (x ∷ xs) all = all_drop P n xs (λ k d lt. all (suc k) d (omega arith))
@@ -27,7 +27,7 @@ all_drop P (suc n) (x ∷ xs) all = all_drop P n xs (λ k d lt. all (suc k) d (o
 all_map : {A : Type 0} (P Q : A → Type 0) (xs : List A) → ((x : A) → P x → Q x) → All P xs → All Q xs
 all_map P Q xs f all = λ k d lt. f (get_or xs k d) (all k d lt)
 
-one_held : (P : Row → Type 0) (r : Row) (k : ℕ) (d : Row) → k < length (r ∷ []) → P r → P (get_or (r ∷ []) k d)
+pub one_held : (P : Row → Type 0) (r : Row) (k : ℕ) (d : Row) → k < length (r ∷ []) → P r → P (get_or (r ∷ []) k d)
 one_held P r zero d lt h = h
 one_held P r (suc k) d lt h = absurd (omega arith)
 

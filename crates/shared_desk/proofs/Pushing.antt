@@ -1,16 +1,16 @@
 -- A creation over rows that aren't on the stack yet.
-use Rattle.std.proofs.Common.{◌≡◌, ◌+◌, ◌<◌, ◌≤◌, true, false, List, [], ◌∷◌, ◌++◌, length, map, refl, ap, sym, ◌∙◌, subst, arith}
+use Rattle.std.proofs.Common.{◌≡◌, ℕ, ◌+◌, ◌-◌, ◌<◌, ◌≤◌, true, false, List, take, [], ◌∷◌, ◌++◌, length, map, refl, ap, sym, ◌∙◌, subst, arith}
 use Rattle.std.specs.Prelude.{All}
-use Rattle.std.proofs.lemmas.List.{length-append, length-map, map-append}
-use Rattle.std.proofs.lemmas.List.Elements.{All-append}
+use Rattle.std.proofs.lemmas.List.{length-append, length-drop, length-map, length-take, map-append}
+use Rattle.std.proofs.lemmas.List.Elements.{All-append, All-take}
 use Rattle.term_model.specs.declared.Row.{Row}
 use Rattle.term_model.specs.declared.Head.{Head}
-use Rattle.terms_api.specs.Terms.{IsHeld, IsSound, MayBuild, NeedsPlace, but_last, asked, tree_at, trees}
+use Rattle.terms_api.specs.Terms.{IsHeld, IsSound, MayBuild, NeedsPlace, last, but_last, asked, tree_at, trees}
 use Rattle.terms_api.proofs.Callers.{last-append, but_last-append, but_last-none}
 use Rattle.row_stack.specs.Places.{Places}
 use Rattle.shared_desk.specs.Pass.{PassView, store, own, MayCreate, Got}
 use Rattle.shared_desk.specs.Desk.{IsIn, Placed}
-use Rattle.shared_desk.proofs.Placing.{may_create, placed, place_there}
+use Rattle.shared_desk.proofs.Placing.{all_drop, one_held, may_create, placed, place_there}
 
 -- held rows may be put on the stack
 pub pushed_sound : (v : PassView) (xs rs : List Row) → IsSound (store v xs) → All (IsHeld (store v xs)) rs → length xs + length rs ≤ v.depth → IsSound (store v (xs ++ rs))
@@ -31,6 +31,36 @@ pushed_in v p q rs i held fits items room =
     record {
       right = record {
         sound = subst (λ (zs : List Row). IsSound (store v zs)) (sym items) (pushed_sound v p.items rs i.right.sound held fits);
+        roots = λ e. absurd (let x : true ≡ false = sym i.shared ∙ e in cc);
+        alone = i.right.alone;
+        room = omega (arith, i.right.room, room);
+      };
+      shared = i.shared;
+    }
+
+-- one held row more
+pub pushed_one : (v : PassView) (p q : Places) (r : Row) → IsIn v p → IsHeld (store v p.items) r → length p.items < v.depth → q.items ≡ p.items ++ r ∷ [] → q.room ≡ p.room → IsIn v q
+pushed_one v p q r i held below items room = pushed_in v p q (r ∷ []) i (λ k d lt. one_held (IsHeld (store v p.items)) r k d lt held) (omega (arith, below)) items room
+
+-- the lowest and the last places alone
+pub kept_in : (v : PassView) (p q : Places) (from top : ℕ) → IsIn v p → from + top ≤ length p.items → q.items ≡ take from p.items ++ last top p.items → q.room ≡ p.room → IsIn v q
+kept_in v p q from top i fits items room =
+    let xs = p.items in
+    let s = i.right.sound in
+    let P = IsHeld (store v xs) in
+    let sound : IsSound (store v (take from xs ++ last top xs)) = record {
+      stack = All-append P (take from xs) (last top xs) (All-take P from xs s.stack) (all_drop P (length xs - top) xs s.stack);
+      depth = omega (arith, length-append (take from xs) (last top xs), length-take from xs, length-drop (length xs - top) xs, s.depth, fits);
+      room = s.room;
+      below = s.below;
+      one_row = s.one_row;
+      arguments = s.arguments;
+      well_formed = s.well_formed;
+      ground = s.ground;
+    } in
+    record {
+      right = record {
+        sound = subst (λ (zs : List Row). IsSound (store v zs)) (sym items) sound;
         roots = λ e. absurd (let x : true ≡ false = sym i.shared ∙ e in cc);
         alone = i.right.alone;
         room = omega (arith, i.right.room, room);

@@ -1,7 +1,5 @@
 // A desk.
 ghost use Rattle.std.specs.Prelude.{◌≡◌, IfOk, [], false};
-ghost use Rattle.terms_api.specs.Terms.{IsSound};
-ghost use Rattle.shared_desk.specs.Pass.{own};
 
 use crate::own_pass::OwnPass;
 use crate::pass::SharedPass;
@@ -39,28 +37,8 @@ impl<S: SharedPass> Model for Desk<S> {
     ghost invariant = { λ d. IsRight (S.view d.pass) d.places };
 }
 
-impl<S: SharedPass + Drop> Desk<S> {
-    /// A desk at this pass, which is out and protects nothing.
-    pub(crate) fn over(alloc: Global, pass: S) -> Result<Desk<S>, Memory>
-        requires shared { (S.view pass).shared ≡ false }
-        requires alone { (S.view pass).alone ≡ false }
-        requires roots { (S.view pass).roots ≡ [] }
-        requires sound { IsSound (own (S.view pass)) }
-        ensures pass { IfOk result (λ desk. desk.pass ≡ S.view pass) }
-        ensures stack { IfOk result (λ desk. desk.stack ≡ []) }
-        ensures unspent { IfOk result (λ desk. desk.spent ≡ false) }
-        ensures log { IfOk result (λ desk. desk.log ≡ S.log pass) }
-    {
-        let places = Stack::new(alloc, pass.depth())?;
-        Ok(Desk {
-            pass,
-            places,
-            spent: false,
-            refused: History::new(),
-            apart: [0; 16],
-        })
-    }
-}
+/// Lets go of a pass that gets no desk.
+pub(crate) fn let_go(_pass: Pass) {}
 
 impl<'a, R: Wait> Desk<OwnPass<'a, R>> {
     ghost use Rattle.shared_desk.specs.Desk.{store_of};
@@ -89,7 +67,19 @@ impl<'a, R: Wait> Desk<OwnPass<'a, R>> {
         ensures unspent { IfOk result (λ desk. desk.spent ≡ false) }
         ensures outside { IfOk result (λ desk. (store_of desk).inside ≡ false) }
     {
-        Desk::over(alloc, OwnPass::new(rt, store, pass))
+        match Stack::new(alloc, store.sizes.depth) {
+            Ok(places) => Ok(Desk {
+                pass: OwnPass::new(rt, store, pass),
+                places,
+                spent: false,
+                refused: History::new(),
+                apart: [0; 16],
+            }),
+            Err(memory) => {
+                let_go(pass);
+                Err(memory)
+            }
+        }
     }
 
     /// The pass of a desk that isn't inside.

@@ -9,11 +9,12 @@ ghost use Rattle.node_rows.specs.Belonging.{IsPassOf};
 ghost use Rattle.node_rows.specs.Passes.{IsOut};
 ghost use Rattle.node_rows.specs.Told.{Tells, view_of};
 
-use crate::desk::Desk;
+use crate::desk::{Desk, let_go};
 use crate::logged::LoggedPass;
 use crate::own_pass::OwnPass;
 use faults::Memory;
 use node_rows::{Pass, Store};
+use row_stack::{History, Stack};
 use std::alloc::Global;
 use std::sync::Wait;
 
@@ -42,10 +43,19 @@ impl<'a, R: Wait> Desk<LoggedPass<OwnPass<'a, R>>> {
         ensures outside { IfOk result (λ desk. (store_of desk).inside ≡ false) }
         ensures log { IfOk result (λ desk. desk.log ≡ Some []) }
     {
-        Desk::over(
-            alloc,
-            LoggedPass::over(alloc, OwnPass::new(rt, store, pass)),
-        )
+        match Stack::new(alloc, store.sizes.depth) {
+            Ok(places) => Ok(Desk {
+                pass: LoggedPass::over(alloc, OwnPass::new(rt, store, pass)),
+                places,
+                spent: false,
+                refused: History::new(),
+                apart: [0; 16],
+            }),
+            Err(memory) => {
+                let_go(pass);
+                Err(memory)
+            }
+        }
     }
 
     /// Whether memory has lacked for the log.

@@ -36,7 +36,7 @@ impl<S: SharedPass> Model for LoggedPass<S> {
     ghost invariant = { λ l. AreTold l.log (S.view l.pass).entries };
 }
 
-impl<S: SharedPass + Drop> LoggedPass<S> {
+impl<S: SharedPass> LoggedPass<S> {
     /// A pass without entries, with an empty log.
     pub(crate) fn over(alloc: Global, pass: S) -> LoggedPass<S>
         requires { (S.view pass).entries ≡ [] }

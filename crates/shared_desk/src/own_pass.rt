@@ -6,14 +6,14 @@ ghost use Rattle.shared_desk.specs.Passes.{IsSymbolNumber};
 ghost use Rattle.node_rows.specs.Passes.{IsOut};
 ghost use Rattle.node_rows.specs.Told.{view_of};
 
-use crate::own_reads::{own_child, own_count, own_head, own_node, own_pair};
+use crate::own_reads::{own_node, own_pair};
 use crate::pass::SharedPass;
 use crossbeam_utils::Backoff;
 use node_rows::{Last, Pass, Store, free_count_word};
 use std::marker::Model;
 use std::sync::Wait;
 use sweep_phase::{Kept, Worn, collect, create_exclusive};
-use term_create::{Full, create};
+use term_create::{Full, child_of, count_of, create, head_of};
 use term_model::{Head, Row};
 
 // A symbol is a number of 32 bits.
@@ -159,15 +159,15 @@ impl<'a, R: Wait> SharedPass for OwnPass<'a, R> {
     }
 
     fn head(&mut self, row: Row) -> Head {
-        own_head(self.store, &mut self.pass, row)
+        head_of(self.store, &mut self.pass, row)
     }
 
     fn count(&mut self, row: Row) -> u32 {
-        own_count(self.store, &mut self.pass, row)
+        count_of(self.store, &mut self.pass, row)
     }
 
     fn child(&mut self, row: Row, j: u32) -> Row {
-        own_child(self.store, &mut self.pass, row, j)
+        child_of(self.store, &mut self.pass, row, j)
     }
 
     fn node(&mut self, row: Row) -> (Head, u32) {

@@ -63,48 +63,6 @@ fn child_from(store: &Store, pass: &mut Pass, row: Row, start: usize, j: u32) ->
     child_at(store, pass, row, start, j)
 }
 
-/// The head of a row.
-pub(crate) fn own_head(store: &Store, pass: &mut Pass, row: Row) -> Head
-    requires standing { IsStanding store.now pass.old }
-    requires shared { (seen_of store.now pass.old).shared ≡ true }
-    requires held { IsHeld (own (seen_of store.now pass.old)) row }
-    ensures standing { IsStanding store.now pass.new }
-    ensures unchanged { seen_of store.now pass.new ≡ seen_of store.now pass.old }
-    ensures head { root (tree_at (own (seen_of store.now pass.old)) row) ≡ Some result }
-{
-    let start = start(store, pass, row);
-    head_from(store, pass, row, start)
-}
-
-/// How many arguments a row has.
-pub(crate) fn own_count(store: &Store, pass: &mut Pass, row: Row) -> u32
-    requires standing { IsStanding store.now pass.old }
-    requires shared { (seen_of store.now pass.old).shared ≡ true }
-    requires held { IsHeld (own (seen_of store.now pass.old)) row }
-    ensures standing { IsStanding store.now pass.new }
-    ensures unchanged { seen_of store.now pass.new ≡ seen_of store.now pass.old }
-    ensures count { result ≡ length (arguments (tree_at (own (seen_of store.now pass.old)) row)) }
-{
-    let start = start(store, pass, row);
-    count_from(store, pass, row, start)
-}
-
-/// The row of argument `j` of a row.
-pub(crate) fn own_child(store: &Store, pass: &mut Pass, row: Row, j: u32) -> Row
-    requires standing { IsStanding store.now pass.old }
-    requires shared { (seen_of store.now pass.old).shared ≡ true }
-    requires held { IsHeld (own (seen_of store.now pass.old)) row }
-    requires below { j < length (arguments (tree_at (own (seen_of store.now pass.old)) row)) }
-    ensures standing { IsStanding store.now pass.new }
-    ensures unchanged { seen_of store.now pass.new ≡ seen_of store.now pass.old }
-    ensures held { IsHeld (own (seen_of store.now pass.old)) result }
-    ensures tree { slice_get (arguments (tree_at (own (seen_of store.now pass.old)) row)) j
-        ≡ Some (tree_at (own (seen_of store.now pass.old)) result) }
-{
-    let start = start(store, pass, row);
-    child_from(store, pass, row, start, j)
-}
-
 /// The head of a row, and how many arguments it has. Where the row begins is worked out once.
 pub(crate) fn own_node(store: &Store, pass: &mut Pass, row: Row) -> (Head, u32)
     requires standing { IsStanding store.now pass.old }

@@ -2,6 +2,9 @@ use Rattle.std.proofs.Common.{arith}
 use Rattle.shared_desk.proofs.Sweeping.{may_still, place_still, outcome_still}
 use Rattle.shared_desk.proofs.building.build_row.Goals as goal
 
+pub try_create-requires : goal.try_create-requires
+try_create-requires g c = record { inside = c.requires.inside; may = c.requires.may; place = c.requires.place }
+
 pub build_late-requires : goal.build_late-requires
 build_late-requires g c =
     let v = g.S.SharedPass.view c.args.pass.now in

@@ -1,10 +1,19 @@
-use Rattle.std.proofs.Common.{subst}
+use Rattle.std.proofs.Common.{refl, subst}
 use Rattle.row_stack.specs.Places.{Places}
 use Rattle.shared_desk.specs.Desk.{Passed}
-use Rattle.shared_desk.proofs.Passing.{passed_twice}
+use Rattle.shared_desk.proofs.Passing.{passed_none, passed_twice}
 use Rattle.shared_desk.proofs.Following.{placed_after}
 use Rattle.shared_desk.proofs.Sweeping.{may_after, place_after}
 use Rattle.shared_desk.proofs.building.try_again.Goals as goal
+
+pub returns-then-base-before : goal.returns-then-base-before
+returns-then-base-before g c = record {
+  placed = tt;
+  inside = tt;
+  passed = passed_none (g.S.SharedPass.view c.args.pass.now) c.args.places.now.items c.requires.ready.alone.sound;
+  stack = refl;
+  ready = c.requires.ready;
+}
 
 pub try_create-requires : goal.try_create-requires
 try_create-requires g c =

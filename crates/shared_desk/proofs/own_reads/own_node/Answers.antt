@@ -4,6 +4,9 @@ use Rattle.terms_api.specs.Terms.{IsHeld, tree_at}
 use Rattle.shared_desk.specs.Pass.{PassView, own}
 use Rattle.shared_desk.proofs.own_reads.own_node.Goals as goal
 
+pub start-start-requires : goal.start-start-requires
+start-start-requires c = record { standing = c.requires.standing; shared = c.requires.shared; held = c.requires.held }
+
 pub head_from-head-requires : goal.head_from-head-requires
 head_from-head-requires c = record { standing = c.requires.standing; shared = c.requires.shared; held = c.requires.held; start = c.start-start.ensures }
 

@@ -5,6 +5,9 @@ use Rattle.terms_api.specs.Terms.{IsHeld, tree_at}
 use Rattle.shared_desk.specs.Pass.{PassView, own}
 use Rattle.shared_desk.proofs.own_reads.own_pair.Goals as goal
 
+pub start-start-requires : goal.start-start-requires
+start-start-requires c = record { standing = c.requires.standing; shared = c.requires.shared; held = c.requires.held }
+
 pub child_from-first-requires : goal.child_from-first-requires
 child_from-first-requires c =
     let two = c.requires.two in

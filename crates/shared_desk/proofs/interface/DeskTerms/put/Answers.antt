@@ -1,9 +1,51 @@
-use Rattle.std.proofs.Common.{subst}
-use Rattle.terms_api.specs.Terms.{IsSound}
+use Rattle.std.proofs.Common.{◌≡◌, ◌∙◌, ◌++◌, ◌∷◌, [], ◌<◌, List, length, sym, ap, subst, arith}
+use Rattle.term_model.specs.declared.Row.{Row}
+use Rattle.terms_api.specs.Terms.{IsHeld, pushed}
+use Rattle.terms_api.proofs.Callers.{but_last-none}
+use Rattle.shared_desk.specs.Pass.{shown, store}
 use Rattle.shared_desk.specs.Code.{Contents}
-use Rattle.shared_desk.specs.Desk.{store_of}
-use Rattle.shared_desk.proofs.Desks.{sound_shown}
+use Rattle.shared_desk.specs.Desk.{store_of, IsIn, IsSame, same_itself}
+use Rattle.shared_desk.proofs.Desks.{desk_of, sound_seen, sound_shown, same_told}
+use Rattle.shared_desk.proofs.Pushing.{pushed_one}
 use Rattle.shared_desk.proofs.interface.DeskTerms.put.Goals as goal
 
-pub returns-clause-was_sound : goal.returns-clause-was_sound
-returns-clause-was_sound g c = subst (λ (x : Contents). IsSound (store_of x)) c.self.view_is (sound_shown (g.S.SharedPass.view c.self.inside.pass) c.self.inside.places.items _ _ c.self.invariant.sound)
+pub put-requires : goal.put-requires
+put-requires g c =
+    let below = subst (λ (x : Contents). length x.stack < x.pass.depth) (sym c.self.view_is) c.requires.place in
+    let room = c.self.invariant.room in
+    record { some = omega arith; room = omega (arith, below, room) }
+
+pub invariant_of-self : goal.invariant_of-self
+invariant_of-self g c =
+    let v = g.S.SharedPass.view c.self.inside.pass in
+    let p = c.self.inside.places in
+    let xs = p.items in
+    let is = c.self.view_is in
+    let inside : IsIn v p = record { right = c.self.invariant; shared = ap (λ (x : Contents). x.pass.shared) is ∙ c.requires.inside } in
+    let held : IsHeld (store v xs) c.args.row = subst (λ (x : Contents). IsHeld (store_of x) c.args.row) (sym is) c.requires.held in
+    let q = c.put.new.self in
+    let items : q.items ≡ xs ++ c.args.row ∷ [] = c.put.ensures.items ∙ ap (λ (zs : List Row). zs ++ c.args.row ∷ []) (but_last-none xs) in
+    let below : length xs < v.depth = subst (λ (x : Contents). length x.stack < x.pass.depth) (sym is) c.requires.place in
+    (pushed_one v p q c.args.row inside held below items c.put.ensures.room).right
+
+pub returns : goal.returns
+returns g c =
+    let v = g.S.SharedPass.view c.self.inside.pass in
+    let p = c.self.inside.places in
+    let xs = p.items in
+    let k = length c.self.inside.refused.items in
+    let s = c.self.inside.spent in
+    let l = g.S.SharedPass.log c.self.inside.pass in
+    let is = c.self.view_is in
+    let inside : IsIn v p = record { right = c.self.invariant; shared = ap (λ (x : Contents). x.pass.shared) is ∙ c.requires.inside } in
+    let held : IsHeld (store v xs) c.args.row = subst (λ (x : Contents). IsHeld (store_of x) c.args.row) (sym is) c.requires.held in
+    let q = c.put.new.self in
+    let items : q.items ≡ xs ++ c.args.row ∷ [] = c.put.ensures.items ∙ ap (λ (zs : List Row). zs ++ c.args.row ∷ []) (but_last-none xs) in
+    let below : length xs < v.depth = subst (λ (x : Contents). length x.stack < x.pass.depth) (sym is) c.requires.place in
+    let one = pushed_one v p q c.args.row inside held below items c.put.ensures.room in
+    record {
+      pushed = ap (λ (zs : List Row). shown v zs k s) items ∙ ap (λ (x : Contents). pushed (store_of x) c.args.row) is;
+      was_sound = sound_seen v xs k s l c.args.self.now is c.self.invariant.sound;
+      sound = sound_shown v q.items k s one.right.sound;
+      same = subst (λ (x : Contents). IsSame x (desk_of v q.items k s l)) is (same_told v v xs q.items k k s l l (same_itself (desk_of v xs k s l)).pass);
+    }
