@@ -26,7 +26,7 @@ use Rattle.rewrite_workers.specs.Works.{need_of, IsInnermost, remembers_results}
 use Rattle.shared_desk.specs.Desk.{store_of}
 use Rattle.shared_desk.specs.Telling.{protected_by}
 use Rattle.shared_desk.proofs.Telling.{crowd_is_last, crowd_is_of_its_names, hand_is_protected, load_is_most}
-use Rattle.shared_work.specs.Running.{HasRun, WantsMemory}
+use Rattle.shared_work.specs.Running.{HasRun}
 use Rattle.shared_work.specs.Numbers.{TellsNeed}
 use Rattle.shared_work.proofs.Closing.{Worker, worker, all_got}
 use Rattle.shared_work.proofs.Needing.{below, asked_in_hand, point_needs, drawn_needs, crowd_needs}

@@ -8,15 +8,16 @@ use Rattle.shared_work.proofs.Keyed.{are_told}
 use Rattle.shared_work.proofs.Outcome.{closed, nothing}
 use Rattle.shared_work.proofs.sharing.rewrite_at.Goals as goal
 
-pub close-chronicle-requires-clause-passes : goal.close-chronicle-requires-clause-passes
-close-chronicle-requires-clause-passes g c =
+pub close-chronicle-requires : goal.close-chronicle-requires
+close-chronicle-requires g c =
     let work = c.args.work.now in
-    are_out work.settings work.plan.now.rules work.terms.now c.args.store c.in-Ok.left.lines c.in-Ok.left.passes.items c.in-Ok.ensures.run
-
-pub close-chronicle-requires-clause-all : goal.close-chronicle-requires-clause-all
-close-chronicle-requires-clause-all g c =
-    let work = c.args.work.now in
-    are_all work.settings work.plan.now.rules work.terms.now c.args.store c.in-Ok.left.lines c.in-Ok.left.passes.items c.in-Ok.ensures.run
+    let left = c.in-Ok.left in
+    let run = c.in-Ok.ensures.run in
+    record {
+      store = c.requires.store;
+      passes = are_out work.settings work.plan.now.rules work.terms.now c.args.store left.lines left.passes.items run;
+      all = are_all work.settings work.plan.now.rules work.terms.now c.args.store left.lines left.passes.items run;
+    }
 
 pub with_keys-log-requires : goal.with_keys-log-requires
 with_keys-log-requires g c =

@@ -1,6 +1,9 @@
 use Rattle.shared_work.proofs.Outcome.{nothing}
 use Rattle.shared_work.proofs.sharing.rewrite_new.Goals as goal
 
+pub returns-in-Ok : goal.returns-in-Ok
+returns-in-Ok g c = c.rewrite_at.ensures
+
 pub returns-in-Err : goal.returns-in-Err
 returns-in-Err g c =
     let none = c.nothing in
