@@ -37,7 +37,7 @@ sound_at_first rows room widest small =
       ground = λ r t e. absurd (some_at rows r.0 t e);
     }
 
-contents_at_first : (s : Inside) (rows widest : ℕ) → s.nodes ≡ free_slots rows widest → s.places.items ≡ [] → s.history.items ≡ [] → s.inside ≡ false → s.raised ≡ 0 → s.widest ≡ widest → contents_of s ≡ empty rows s.room widest
+pub contents_at_first : (s : Inside) (rows widest : ℕ) → s.nodes ≡ free_slots rows widest → s.places.items ≡ [] → s.history.items ≡ [] → s.inside ≡ false → s.raised ≡ 0 → s.widest ≡ widest → contents_of s ≡ empty rows s.room widest
 contents_at_first s rows widest nodes places history inside raised wide =
     let long : length s.nodes.slots ≡ rows = ap (λ (x : Slots). length x.slots) nodes ∙ length-replicate {A = Slot} rows None in
     let past : past_of s.history.items (λ v. v.items) (at_first (length s.nodes.slots)) ≡ at_first rows = ap (λ es. past_of es (λ v. v.items) (at_first (length s.nodes.slots))) history ∙ ap at_first long in
