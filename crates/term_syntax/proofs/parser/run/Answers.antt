@@ -3,7 +3,7 @@ use Rattle.std.proofs.lemmas.Result.{err_from_is_err_and}
 use Rattle.term_syntax.specs.declared.scanner.Cut.{Cut}
 use Rattle.term_syntax.specs.Shown.{piece_in, token_in, machine_in}
 use Rattle.term_syntax.specs.Tokens.{next_of, piece_at}
-use Rattle.term_syntax.proofs.Passing.{Passed, passed_none, passed_blank, passed_whole, stopped_token}
+use Rattle.term_syntax.proofs.Passing.{Passed, passed_none, passed_blank, passed_whole, passed_all, few_before, stopped_piece, stopped_token}
 use Rattle.term_syntax.proofs.parser.run.Goals as goal
 
 -- the piece that was cut, and the place after it
@@ -40,12 +40,36 @@ loop-at-preserved c =
       passed = passed_whole bytes l.at c.in-Whole.next (token_in bytes c.in-Whole.token) (machine_in bytes l.machine) (machine_in bytes c.take.new.machine) c.loop-at-test.true after fits piece c.in_ok-take-in-Whole.ensures.taken l.invariant.passed;
     }
 
-pub returns-in_err-take-in-Whole-clause-stopped : goal.returns-in_err-take-in-Whole-clause-stopped
-returns-in_err-take-in-Whole-clause-stopped c =
+pub take-requires : goal.take-requires
+take-requires c = few_before c.args.bytes.now c.loop-at.at (machine_in c.args.bytes.now c.loop-at.machine) c.loop-at-test.true c.requires c.loop-at.invariant.passed
+
+pub returns-in_err-piece_at : goal.returns-in_err-piece_at
+returns-in_err-piece_at c =
+    let p = err_from_is_err_and c.from_residual.result c.from_residual.ensures.1 in
+    let l = c.loop-at in
+    let bytes = c.args.bytes.now in
+    record {
+      ran = rw p.1 tt;
+      stopped = rw (p.1, p.2) (stopped_piece bytes l.at (machine_in bytes l.machine) c.in_err-piece_at.field-0.0 c.loop-at-test.true c.in_err-piece_at.ensures.refused l.invariant.passed);
+    }
+
+pub returns-in_err-take-in-Whole : goal.returns-in_err-take-in-Whole
+returns-in_err-take-in-Whole c =
     let p = err_from_is_err_and c.from_residual-in_err-take-in-Whole.result c.from_residual-in_err-take-in-Whole.ensures.1 in
     let l = c.loop-at in
     let bytes = c.args.bytes.now in
     let after = later bytes l.at _ _ c.in_ok-piece_at.ensures.after c.in-Whole.is in
     let fits = fits_in bytes l.at _ _ c.in_ok-piece_at.ensures.fits c.in-Whole.is in
     let piece = shown bytes l.at _ _ c.in_ok-piece_at.ensures.piece c.in-Whole.is in
-    rw (p.1, p.2) (stopped_token bytes l.at c.in-Whole.next (token_in bytes c.in-Whole.token) (machine_in bytes l.machine) c.in_err-take-in-Whole.field-0.0 c.loop-at-test.true after fits piece c.in_err-take-in-Whole.ensures.untaken l.invariant.passed)
+    record {
+      ran = rw p.1 tt;
+      stopped = rw (p.1, p.2) (stopped_token bytes l.at c.in-Whole.next (token_in bytes c.in-Whole.token) (machine_in bytes l.machine) c.in_err-take-in-Whole.field-0.0 c.loop-at-test.true after fits piece c.in_err-take-in-Whole.ensures.untaken l.invariant.passed);
+    }
+
+pub returns : goal.returns
+returns c =
+    let l = c.loop-at in
+    record {
+      ran = passed_all c.args.bytes.now l.at (machine_in c.args.bytes.now l.machine) c.loop-at-test.false l.invariant.within c.requires l.invariant.passed;
+      stopped = tt;
+    }
