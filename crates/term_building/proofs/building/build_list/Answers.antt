@@ -31,3 +31,15 @@ loop-cell-preserved g c =
           c.in_ok-build_cell.ensures.built (next_of ts now c.args.count c.loop-cell._cell c.requires.there c.loop-cell-test.true i.rolled)
           ∙ next_rolled ts now c.args.count c.loop-cell._cell c.requires.there c.loop-cell-test.true i.rolled;
     }
+
+pub returns : goal.returns
+returns g c =
+    let i = c.loop-cell.invariant in
+    let ts = trees (g.T.Terms.store c.args.store.now) in
+    let none : c.args.count - c.loop-cell._cell ≡ 0 = omega (arith, c.loop-cell-test.false) in
+    record {
+      built = i.rolled ∙ ap (rolled ts c.args.count) none;
+      inside = i.inside;
+      wide = i.wide;
+      same = i.same;
+    }

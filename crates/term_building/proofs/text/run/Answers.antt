@@ -38,10 +38,14 @@ loop-at-preserved g c =
       passed = taken.passes.passed l.invariant.passed;
     }
 
-pub returns-clause-passed : goal.returns-clause-passed
-returns-clause-passed g c =
+pub returns : goal.returns
+returns g c =
     let l = c.loop-at in
     let past = c.loop-at-test.false in
     let within = l.invariant.within in
     let all : l.at ≡ length c.args.text.now = omega (arith, past, within) in
-    subst (λ k. HasPassed c.args.text.now k (state_in l.builder (g.T.Terms.store l.store))) all l.invariant.passed
+    record {
+      passed = subst (λ k. HasPassed c.args.text.now k (state_in l.builder (g.T.Terms.store l.store))) all l.invariant.passed;
+      ready = c.loop-at.invariant.ready;
+      same = c.loop-at.invariant.same;
+    }

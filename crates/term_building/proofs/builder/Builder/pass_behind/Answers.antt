@@ -28,25 +28,27 @@ loop-next-preserved g c =
       stage = behind.1;
     }
 
-pub returns-in-Comma-clause-reaches : goal.returns-in-Comma-clause-reaches
-returns-in-Comma-clause-reaches g c =
+pub returns-in-Comma : goal.returns-in-Comma
+returns-in-Comma g c =
     let text = c.args.text.now in
     let l = c.loop-next in
     let mid = state_in l.self (g.T.Terms.store l.store) in
     let new = state_in c.on_mark.new.self (g.T.Terms.store c.on_mark.new.store) in
-    reaches_on text c.args.at l.next (l.next + 1) _ mid new l.invariant.reaches (subst (λ b. IsBehind b text l.next mid new) c.in-Comma.is c.in_ok-on_mark.ensures.behind)
+    record {
+      reaches = reaches_on text c.args.at l.next (l.next + 1) _ mid new l.invariant.reaches (subst (λ b. IsBehind b text l.next mid new) c.in-Comma.is c.in_ok-on_mark.ensures.behind);
+      ready = c.in_ok-on_mark.ensures.ready;
+      same = g.met.T.Terms.same_in_turn _ _ _ c.loop-next.invariant.same c.in_ok-on_mark.ensures.same;
+    }
 
-pub returns-in-Comma-clause-same : goal.returns-in-Comma-clause-same
-returns-in-Comma-clause-same g c = g.met.T.Terms.same_in_turn _ _ _ c.loop-next.invariant.same c.in_ok-on_mark.ensures.same
-
-pub returns-in-Other-clause-reaches : goal.returns-in-Other-clause-reaches
-returns-in-Other-clause-reaches g c =
+pub returns-in-Other : goal.returns-in-Other
+returns-in-Other g c =
     let text = c.args.text.now in
     let l = c.loop-next in
     let old = state_in c.args.self.now (g.T.Terms.store c.args.store.now) in
     let mid = state_in l.self (g.T.Terms.store l.store) in
     let new = state_in c.on_mark.new.self (g.T.Terms.store c.on_mark.new.store) in
-    subst (λ s. Reaches text c.args.at old l.next s) (sym (subst (λ b. IsBehind b text l.next mid new) c.in-Other.is c.in_ok-on_mark.ensures.behind)) l.invariant.reaches
-
-pub returns-in-Other-clause-same : goal.returns-in-Other-clause-same
-returns-in-Other-clause-same g c = g.met.T.Terms.same_in_turn _ _ _ c.loop-next.invariant.same c.in_ok-on_mark.ensures.same
+    record {
+      reaches = subst (λ s. Reaches text c.args.at old l.next s) (sym (subst (λ b. IsBehind b text l.next mid new) c.in-Other.is c.in_ok-on_mark.ensures.behind)) l.invariant.reaches;
+      ready = c.in_ok-on_mark.ensures.ready;
+      same = g.met.T.Terms.same_in_turn _ _ _ c.loop-next.invariant.same c.in_ok-on_mark.ensures.same;
+    }
