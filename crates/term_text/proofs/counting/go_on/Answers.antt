@@ -1,9 +1,10 @@
-use Rattle.std.proofs.Common.{ℕ, ◌++◌, ◌∷◌, [], List, length, ap, sym, ◌∙◌, subst, arith}
+use Rattle.std.proofs.Common.{◌≡◌, ◌≤◌, ℕ, true, ◌++◌, ◌∷◌, [], List, length, ap, sym, ◌∙◌, subst, arith}
 use Rattle.std.proofs.Math.ListN.{set}
 use Rattle.term_model.specs.declared.Row.{Row}
-use Rattle.term_text.specs.Tally.{IsVisit, IsHalfway, Continues, IsNext, CountedBefore}
-use Rattle.term_model.specs.Tree.{arguments}
-use Rattle.terms_api.specs.Terms.{tree_at}
+use Rattle.term_text.specs.Sizes.{saturated}
+use Rattle.term_text.specs.Tally.{count_at, IsCounted, IsVisit, IsHalfway, Continues, IsNext, CountedBefore}
+use Rattle.term_model.specs.Tree.{arguments, nodes}
+use Rattle.terms_api.specs.Terms.{Store, tree_at}
 use Rattle.term_text.specs.declared.counting.Visit.{Visit}
 use Rattle.term_text.proofs.Rows.{held_there}
 use Rattle.term_text.proofs.Paths.{all_last}
@@ -28,12 +29,38 @@ push_reserved-requires-in-Some g c =
     let fits = two_fit s t.counts.items t.rows.items t.path.items _ _ c.requires.sound half in
     omega (arith, fits, c.requires.room.path, c.push_reserved.ensures.len, c.push_reserved.ensures.capacity)
 
-pub nodes_over-nodes-requires-clause-held : goal.nodes_over-nodes-requires-clause-held
-nodes_over-nodes-requires-clause-held g c =
+pub nodes_over-nodes-requires : goal.nodes_over-nodes-requires
+nodes_over-nodes-requires g c =
     let s = g.T.Terms.store c.args.terms.now in
     let t = c.args.tally.now in
+    let row = c.args.visit.row in
+    let now = c.deref-in-None.result.now in
+    let same = sym c.first_uncounted.ensures.unchanged in
+    let e = sym c.deref-in-None.ensures.value in
+    let tally = c.requires.halfway.tally in
     let is = all_last (IsVisit s t.counts.items) t.path.items c.args.visit c.requires.halfway.visits in
-    held_there _ s c.args.visit.row (sym c.first_uncounted.ensures.unchanged) is.held
+    record {
+      inside = subst (λ (x : Store). x.inside ≡ true) same c.requires.inside;
+      room = subst (λ (x : Store). x.rows ≤ length now) same (subst (λ (xs : List ℕ). s.rows ≤ length xs) e tally.room);
+      held = held_there _ s row same is.held;
+      exact = subst (λ (x : Store). (r : Row) → IsCounted now r → count_at now r ≡ saturated (nodes (tree_at x r))) same
+          (subst (λ (xs : List ℕ). (r : Row) → IsCounted xs r → count_at xs r ≡ saturated (nodes (tree_at s r))) e tally.exact);
+      all = subst (λ (x : Store). CountedBefore x now row (length (arguments (tree_at x row)))) same
+          (subst (λ (xs : List ℕ). CountedBefore s xs row (length (arguments (tree_at s row)))) (c.deref.ensures.value ∙ e) c.in-None.ensures.all);
+    }
+
+pub first_uncounted-requires : goal.first_uncounted-requires
+first_uncounted-requires g c =
+    let s = g.T.Terms.store c.args.terms.now in
+    let t = c.args.tally.now in
+    let e = sym c.deref.ensures.value in
+    let is = all_last (IsVisit s t.counts.items) t.path.items c.args.visit c.requires.halfway.visits in
+    record {
+      inside = c.requires.inside;
+      room = subst (λ (xs : List ℕ). s.rows ≤ length xs) e c.requires.halfway.tally.room;
+      held = is.held;
+      before = subst (λ (xs : List ℕ). CountedBefore s xs c.args.visit.row c.args.visit.next) e is.before;
+    }
 
 pub push_reserved-requires-in-None : goal.push_reserved-requires-in-None
 push_reserved-requires-in-None g c =
@@ -42,25 +69,21 @@ push_reserved-requires-in-None g c =
     let fits = one_fits s t.counts.items t.rows.items t.path.items c.args.visit c.requires.sound c.requires.halfway in
     omega (arith, fits, c.requires.room.rows)
 
-pub returns-in-Some-clause-halfway : goal.returns-in-Some-clause-halfway
-returns-in-Some-clause-halfway g c =
+pub returns-in-Some : goal.returns-in-Some
+returns-in-Some g c =
     let s = g.T.Terms.store c.args.terms.now in
     let t = c.args.tally.now in
     let n = subst (λ (counts : List ℕ). IsNext s counts c.args.visit.row c.in-Some.next) c.deref.ensures.value c.in-Some.ensures.next in
     let w : Visit = record { row = c.in-Some.next.row; next = 0 } in
     let half = visited s t.counts.items t.rows.items t.path.items c.args.visit c.in-Some.next.next c.in-Some.next.row c.requires.halfway n.held n.uncounted n.tree n.before in
     let e = c.push_reserved-in-Some.ensures.items ∙ ap (λ vs. vs ++ w ∷ []) c.push_reserved.ensures.items in
-    subst (IsHalfway s t.counts.items t.rows.items) (sym e) half
-
-pub returns-in-Some-clause-continues : goal.returns-in-Some-clause-continues
-returns-in-Some-clause-continues g c =
-    let s = g.T.Terms.store c.args.terms.now in
-    let t = c.args.tally.now in
-    let n = subst (λ (counts : List ℕ). IsNext s counts c.args.visit.row c.in-Some.next) c.deref.ensures.value c.in-Some.ensures.next in
-    let w : Visit = record { row = c.in-Some.next.row; next = 0 } in
-    let half = visited s t.counts.items t.rows.items t.path.items c.args.visit c.in-Some.next.next c.in-Some.next.row c.requires.halfway n.held n.uncounted n.tree n.before in
-    let e = c.push_reserved-in-Some.ensures.items ∙ ap (λ vs. vs ++ w ∷ []) c.push_reserved.ensures.items in
-    visited_on s t.counts.items t.rows.items t.path.items c.args.visit c.in-Some.next.next c.in-Some.next.row c.requires.sound n.tree _ e (subst (IsHalfway s t.counts.items t.rows.items) (sym e) half)
+    record {
+      halfway = subst (IsHalfway s t.counts.items t.rows.items) (sym e) half;
+      continues = visited_on s t.counts.items t.rows.items t.path.items c.args.visit c.in-Some.next.next c.in-Some.next.row c.requires.sound n.tree _ e (subst (IsHalfway s t.counts.items t.rows.items) (sym e) half);
+      room = record { rows = c.requires.room.rows; path = omega (arith, c.requires.room.path, c.push_reserved.ensures.capacity, c.push_reserved-in-Some.ensures.capacity) };
+      unchanged = c.first_uncounted.ensures.unchanged;
+      same = c.first_uncounted.ensures.same;
+    }
 
 pub returns-in-None-clause-halfway : goal.returns-in-None-clause-halfway
 returns-in-None-clause-halfway g c =
