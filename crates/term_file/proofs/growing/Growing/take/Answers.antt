@@ -18,9 +18,13 @@ returns-in_err-number-clause-full_only_where c =
     takes_too_many c.args.names.now c.args.item (contents_so_far c.args.self.now) c.requires.writable (head_of c.in_ok-kind.kind) c.kind_of.new.self c.in_ok-kind.ensures.numbered c.take_last.new.stack.items c.in_ok-arguments.arguments.items cut
     c.args.rows c.requires.pool (c.in_err-number.ensures.full_only_where (same_fault c.in_err-number.field-0.0 StoreFull e)) (c.in_err-number.ensures.full_for_new (same_fault c.in_err-number.field-0.0 StoreFull e)))
 
-pub returns-clause-taken : goal.returns-clause-taken
-returns-clause-taken c =
+pub returns : goal.returns
+returns c =
     let cut = subst (λ (n : ℕ). IsCutInto c.args.self.now.stack.items c.take_last.new.stack.items c.in_ok-arguments.arguments.items n) c.arity.ensures c.in_ok-arguments.ensures in
-    subst (λ (st : List ℕ). Takes c.args.names.now c.args.item (contents_so_far c.args.self.now) (record { symbols = c.kind_of.new.self; records = c.number_of.new.table; roots = st })) (sym c.in_ok-push.ensures.items)
-    (takes c.args.names.now c.args.item (contents_so_far c.args.self.now) c.requires.writable (head_of c.in_ok-kind.kind) c.kind_of.new.self c.in_ok-kind.ensures.numbered c.take_last.new.stack.items c.in_ok-arguments.arguments.items cut
-    c.number_of.new.table c.in_ok-number.number c.in_ok-number.ensures.placed)
+    record {
+      taken = subst (λ (st : List ℕ). Takes c.args.names.now c.args.item (contents_so_far c.args.self.now) (record { symbols = c.kind_of.new.self; records = c.number_of.new.table; roots = st })) (sym c.in_ok-push.ensures.items)
+          (takes c.args.names.now c.args.item (contents_so_far c.args.self.now) c.requires.writable (head_of c.in_ok-kind.kind) c.kind_of.new.self c.in_ok-kind.ensures.numbered c.take_last.new.stack.items c.in_ok-arguments.arguments.items cut
+          c.number_of.new.table c.in_ok-number.number c.in_ok-number.ensures.placed);
+      few = c.in_ok-number.ensures.few;
+      full_only_where = λ e. absurd (cc);
+    }

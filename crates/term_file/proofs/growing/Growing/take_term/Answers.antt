@@ -30,6 +30,10 @@ loop-item-preserved c = record {
   few = c.in_ok-take.ensures.few;
 }
 
-pub returns-clause-taken : goal.returns-clause-taken
-returns-clause-taken c = λ ts s.
-    all_reached c.args.names.now c.args.term.now c.items-item-items.result.now c.loop-item.item-index ts (contents_so_far c.loop-item.self) c.items-item-items.ensures.well_formed c.items-item-items.ensures.items c.loop-item-test.false (c.loop-item.invariant.reached ts s)
+pub returns : goal.returns
+returns c = record {
+  taken = λ ts s.
+      all_reached c.args.names.now c.args.term.now c.items-item-items.result.now c.loop-item.item-index ts (contents_so_far c.loop-item.self) c.items-item-items.ensures.well_formed c.items-item-items.ensures.items c.loop-item-test.false (c.loop-item.invariant.reached ts s);
+  few = c.loop-item.invariant.few;
+  full_only_where = λ e. absurd (cc);
+}
