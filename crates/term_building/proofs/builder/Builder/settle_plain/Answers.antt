@@ -1,5 +1,15 @@
+use Rattle.std.proofs.Common.{◌∙◌, ap, Some}
+use Rattle.std.specs.Prelude.{option_and_then}
+use Rattle.term_building.specs.State.{ended}
 use Rattle.term_building.proofs.Results.{on_ok}
 use Rattle.term_building.proofs.builder.Builder.settle_plain.Goals as goal
 
-pub returns-clause-same : goal.returns-clause-same
-returns-clause-same g c = on_ok c.end.result (g.met.T.Terms.same_in_turn _ _ _ c.in_ok-call_name.ensures.same) c.end.ensures.same
+pub returns : goal.returns
+returns g c =
+    let named = c.in_ok-call_name.ensures in
+    let e = c.end.ensures in
+    record {
+      built = on_ok c.end.result (λ r. ap (option_and_then (λ k. Some (ended c.args.text.now c.args.end k))) named.built ∙ r) e.built;
+      ready = e.ready;
+      same = on_ok c.end.result (g.met.T.Terms.same_in_turn _ _ _ named.same) e.same;
+    }
