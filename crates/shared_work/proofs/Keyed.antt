@@ -1,7 +1,7 @@
 -- The keys of the chronicle are those of a log where those of each pass are.
-use Rattle.std.proofs.Common.{◌≡◌, ◌∙◌, ℕ, zero, suc, List, [], ◌∷◌, get_or, map, sym, subst, arith}
-use Rattle.std.specs.Prelude.{All, Some, None, Option, IfSome, Result, slice_get}
-use Rattle.std.specs.List.{AllByRecursion}
+use Rattle.std.proofs.Common.{◌≡◌, ◌∙◌, ℕ, zero, suc, List, [], ◌∷◌, get_or, map, refl, sym, subst, arith}
+use Rattle.std.specs.Prelude.{All, Some, None, Option, IfSome, Result, Bool, true, false, if◌then◌else◌, slice_get}
+use Rattle.std.specs.List.{AllByRecursion, list_all}
 use Rattle.std.proofs.lemmas.Option.{same_Some, slice_get-get_or}
 use Rattle.std.proofs.lemmas.List.Elements.{All-tail}
 use Rattle.term_model.specs.Tree.{Tree}
@@ -15,7 +15,7 @@ use Rattle.node_rows.specs.declared.store.Pass.{Pass}
 use Rattle.node_rows.specs.Told.{Tells, view_of}
 use Rattle.worker_crew.specs.declared.fault.AllFault.{AllFault}
 use Rattle.worker_crew.specs.declared.lines.Lines.{Lines}
-use Rattle.work_desks.specs.Keys.{HasKeys}
+use Rattle.work_desks.specs.Keys.{HasKeys, is_told, told_log}
 use Rattle.work_desks.proofs.Logging.{entries_of_pass}
 use Rattle.shared_work.specs.Running.{HasRun}
 use Rattle.shared_work.specs.Sharing.{EachRises}
@@ -55,3 +55,12 @@ log_keys (Some text) ps lists same rises h = each_list lists (λ caller. lists_t
 pub still_told : (P : List ℕ → Type 0) (old new : Option (List ℕ)) → IfSome new (λ text. old ≡ Some text) → IfSome old P → IfSome new P
 still_told P old None same h = tt
 still_told P old (Some text) same h = subst (λ o. IfSome o P) same h
+
+-- a log that is told was there before
+pub told_before : {A : Type 0} (log new : Option A) (ps : List Pass) → new ≡ told_log log ps → IfSome new (λ text. log ≡ Some text)
+told_before {A} log new ps e = subst (λ o. IfSome o (λ text. log ≡ Some text)) (sym e) (by (list_all is_told ps) log)
+  where
+    by : (b : Bool) (log : Option A) → IfSome (if b then log else None) (λ text. log ≡ Some text)
+    by true None = tt
+    by true (Some text) = refl
+    by false log = tt

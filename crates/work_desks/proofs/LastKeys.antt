@@ -1,13 +1,17 @@
 -- Keys that rise are those of a log where the last one is.
-use Rattle.std.proofs.Common.{◌≡◌, ◌∙◌, ℕ, ◌<◌, ◌≤◌, ◌^◌, List, [], ◌∷◌, refl, ap, subst, arith}
+use Rattle.std.proofs.Common.{◌≡◌, ℕ, get_or, ◌<◌, ◌≤◌, ◌^◌, List, [], ◌∷◌, true, refl, subst, arith}
+use Rattle.std.specs.Prelude.{All, IfSome, Option, None, Some}
+use Rattle.std.specs.List.{list_all}
+use Rattle.std.proofs.lemmas.Bool.{ltb-true}
+use Rattle.std.proofs.lemmas.List.Sums.{AllPass-from_list_all}
 use Rattle.history_core.specs.declared.entry.Entry.{Entry}
 use Rattle.history_core.specs.declared.entry.Entry.TheVariants as entry
 use Rattle.history_core.specs.Entry.{key}
 use Rattle.history_core.specs.Chronicle.{KeysRise}
 use Rattle.log_text.specs.Keys.{HaveKeys}
-use Rattle.node_rows.specs.declared.store.Last.{Last}
-use Rattle.node_rows.specs.Told.{told_by, last_from, last_in}
-use Rattle.work_desks.specs.Keys.{number_of, HasKeys}
+use Rattle.node_rows.specs.declared.store.Pass.{Pass}
+use Rattle.node_rows.specs.Told.{told_by, last_from, last_in, view_of}
+use Rattle.work_desks.specs.Keys.{number_of, HasKeys, is_told}
 
 own_key : (e : Entry) → number_of (told_by e) ≡ key e
 own_key (entry.Make number head args row) = refl
@@ -23,9 +27,16 @@ from_last e (d ∷ es) rise low =
     let next : key d < 2 ^ 62 = rest.0 in
     (omega (arith, under, next), rest)
 
-pub keys_by_last : (es : List Entry) → number_of (last_in es) < 2 ^ 62 → HasKeys es
+keys_by_last : (es : List Entry) → number_of (last_in es) < 2 ^ 62 → HasKeys es
 keys_by_last [] low rise = tt
 keys_by_last (e ∷ es) low rise = from_last e es rise low
 
-pub by_last : (told : Last) (es : List Entry) (n : ℕ) → told ≡ last_in es → n ≡ number_of told → n < 2 ^ 62 → HasKeys es
-by_last told es n is same low = keys_by_last es (subst (λ (k : ℕ). k < 2 ^ 62) (same ∙ ap number_of is) low)
+-- so are those of all passes whose last keys a log may tell
+all_keys : (passes : List Pass) → list_all is_told passes ≡ true → All (λ p. HasKeys (view_of p).store.entries) passes
+all_keys passes e k d lt =
+    let told : is_told (get_or passes k d) ≡ true = AllPass-from_list_all is_told passes e k d lt in
+    keys_by_last (view_of (get_or passes k d)).store.entries (ltb-true (number_of (last_in (view_of (get_or passes k d)).store.entries)) (2 ^ 62) told)
+
+pub keys_told : {A : Type 0} (log : Option A) (passes : List Pass) → list_all is_told passes ≡ true → IfSome log (λ _. All (λ p. HasKeys (view_of p).store.entries) passes)
+keys_told None passes e = tt
+keys_told (Some text) passes e = all_keys passes e

@@ -1,7 +1,8 @@
 // Whether the keys of what passes noted are those of a log.
-ghost use Rattle.std.specs.Prelude.{◌≡◌, ◌<◌, All, IsTrue, IfSome, Some};
+ghost use Rattle.std.specs.Prelude.{◌≡◌, All, IfSome};
+ghost use Rattle.std.specs.List.{list_all};
 ghost use Rattle.node_rows.specs.Told.{Tells, view_of};
-ghost use Rattle.work_desks.specs.Keys.{number_of, HasKeys};
+ghost use Rattle.work_desks.specs.Keys.{number_of, HasKeys, is_told, told_log};
 
 use log_text::LogText;
 use node_rows::{Last, Pass, last};
@@ -20,32 +21,33 @@ fn number_of(told: Last) -> u64
     }
 }
 
-// Whether the keys of a pass's entries are below it: the last one is the greatest.
-fn has_keys(pass: &Pass) -> bool
+// Whether a log may tell a pass's last key.
+fn is_told(pass: &Pass) -> bool
     requires told { Tells pass.now }
-    ensures { IsTrue result → HasKeys (view_of pass.now).store.entries }
+    ensures { result ≡ is_told pass.now }
 {
     number_of(last(pass)) < KEYS
 }
 
-// Whether those of each pass are.
-fn have_keys(passes: &[Pass]) -> bool
+// Whether it may tell that of each pass.
+fn are_told(passes: &[Pass]) -> bool
     requires told { All Tells passes.now }
-    ensures { IsTrue result → All (λ p. HasKeys (view_of p).store.entries) passes.now }
+    ensures { result ≡ list_all is_told passes.now }
 {
     for pass in passes {
-        if !has_keys(pass) {
+        if !is_told(pass) {
             return false;
         }
     }
     true
 }
 
-/// The log, where the keys of all entries of the passes are below 2^62, and else None.
+/// The log, where the last key of each pass is below 2^62, and else None. With a log the keys of
+/// all their entries are.
 pub fn with_keys(log: Option<LogText>, passes: &[Pass]) -> Option<LogText>
     requires told { All Tells passes.now }
-    ensures same { IfSome result (λ text. log ≡ Some text) }
+    ensures result { result ≡ told_log log passes.now }
     ensures keys { IfSome result (λ _. All (λ p. HasKeys (view_of p).store.entries) passes.now) }
 {
-    if have_keys(passes) { log } else { None }
+    if are_told(passes) { log } else { None }
 }

@@ -4,7 +4,7 @@ use Rattle.node_rows.specs.declared.store.Pass.{Pass}
 use Rattle.node_rows.specs.Told.{Tells, view_of}
 use Rattle.work_desks.specs.Keys.{HasKeys}
 use Rattle.shared_work.proofs.Closing.{are_out, are_all}
-use Rattle.shared_work.proofs.Keyed.{are_told}
+use Rattle.shared_work.proofs.Keyed.{are_told, told_before}
 use Rattle.shared_work.proofs.Outcome.{closed, nothing}
 use Rattle.shared_work.proofs.sharing.rewrite_at.Goals as goal
 
@@ -43,7 +43,7 @@ returns-in-Ok g c =
       numbers = told.numbers;
       bases = told.bases;
     })
-    c.with_keys-log.ensures.same
+    (told_before left.log c.with_keys-log.result c.deref.result.now c.with_keys-log.ensures.result)
     (subst (λ (ps : List Pass). IfSome c.with_keys-log.result (λ _. All (λ p. HasKeys (view_of p).store.entries) ps)) c.deref.ensures.value c.with_keys-log.ensures.keys)
 
 pub returns-in-Err : goal.returns-in-Err
