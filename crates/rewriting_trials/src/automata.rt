@@ -5,7 +5,7 @@ mod by_chance;
 ghost use Rattle.std.specs.Prelude.{◌≡◌, ◌<◌, ◌≤◌, IfSome, Some, length, true};
 ghost use Rattle.term_model.specs.declared.Head.{Head};
 ghost use Rattle.rule_match.specs.Groups.{head_at};
-ghost use Rattle.rule_match.specs.Planned.{HasRoom};
+ghost use Rattle.row_match.specs.Binding.{HasRoom};
 ghost use Rattle.rule_automaton.specs.Automata.{IsAutomaton};
 ghost use Rattle.rule_automaton.specs.Running.{made};
 

@@ -1,7 +1,7 @@
 //! Matching left sides against rows of a store.
 
 ghost use Rattle.std.specs.Prelude.{◌≡◌, ◌≤◌, true};
-ghost use Rattle.rule_match.specs.Planned.{HasRoom};
+ghost use Rattle.row_match.specs.Binding.{HasRoom};
 
 use crate::building::build_terms;
 use crate::writing::{A, B, EQ, F, PLUS, WIDEST, Written, X, Y, plan_of};

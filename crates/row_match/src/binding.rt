@@ -1,7 +1,7 @@
 //! The rows of a rule's variables.
 
 ghost use Rattle.std.specs.Prelude.{◌≡◌, ◌<◌, ◌≤◌, [], IfOk};
-ghost use Rattle.rule_match.specs.Planned.{HasRoom};
+ghost use Rattle.row_match.specs.Binding.{HasRoom};
 
 use faults::Memory;
 use rule_match::Plan;

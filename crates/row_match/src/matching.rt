@@ -6,7 +6,8 @@ ghost use Rattle.term_model.specs.Tree.{nodes, arguments};
 ghost use Rattle.term_model.specs.declared.Head.TheVariants.{App};
 ghost use Rattle.terms_api.specs.Terms.{IsHeld, IsSound, tree_at};
 ghost use Rattle.rewrite_model.specs.Matching.{match_of, bind as bind_of};
-ghost use Rattle.rule_match.specs.Planned.{match_at, HasRoom};
+ghost use Rattle.rule_match.specs.Planned.{match_at};
+ghost use Rattle.row_match.specs.Binding.{HasRoom};
 ghost use Rattle.rule_match.specs.Preorder.{left_at};
 ghost use Rattle.rule_match.specs.Stands.{stands};
 

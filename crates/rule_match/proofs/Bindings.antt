@@ -1,14 +1,9 @@
 -- Binding a variable to a row, by its place among the bound rows.
-use Rattle.std.proofs.Common.{◌≡◌, ℕ, zero, suc, ◌<◌, List, [], ◌∷◌, ◌++◌, length, get_or, map, Option, Some, None, Bool, true, false, refl, sym, ◌∙◌, ap, arith, subst, eqb-true, eq-eqb}
-use Rattle.std.specs.Prelude.{◌==◌, if◌then◌else◌, All}
+use Rattle.std.proofs.Common.{◌≡◌, ℕ, zero, suc, ◌<◌, List, [], ◌∷◌, ◌++◌, length, get_or, Option, Some, None, Bool, true, false, refl, ◌∙◌, ap, arith, eqb-true}
+use Rattle.std.specs.Prelude.{◌==◌, if◌then◌else◌}
 use Rattle.std.specs.Option.{option_map}
-use Rattle.std.proofs.lemmas.List.{map_push, length-map, get_or-map}
-use Rattle.std.proofs.lemmas.List.Elements.{All-get_or}
-use Rattle.term_model.specs.Tree.{Tree, Leaf, tree_eq}
+use Rattle.term_model.specs.Tree.{Tree, tree_eq}
 use Rattle.term_model.specs.declared.Row.{Row}
-use Rattle.term_model.proofs.Equality.{tree_eq_sound, tree_eq_same}
-use Rattle.terms_api.specs.Terms.{Store, IsHeld, IsSound, tree_at}
-use Rattle.terms_api.proofs.Callers.{same_row}
 use Rattle.rewrite_model.specs.Matching.{bind}
 
 -- a test of the tree at a place
@@ -35,45 +30,6 @@ bind_next (suc x) t [] e = cc
 bind_next zero t (u ∷ us) e = cc
 bind_next (suc x) t (u ∷ us) e = ap (λ o. option_map (λ vs. u ∷ vs) o) (bind_next x t us (omega arith))
 
--- the tree at a place of some rows
-tree_there : (s : Store) (rows : List Row) (x : ℕ) (q : Row) (d : Tree) → x < length rows → q ≡ get_or rows x q → get_or (map (tree_at s) rows) x d ≡ tree_at s q
-tree_there s rows x q d l e = get_or-map (tree_at s) rows x q d l ∙ ap (tree_at s) (sym e)
-
-bound_there : (s : Store) (rows : List Row) (x : ℕ) (q : Row) (t : Tree) → x < length rows → q ≡ get_or rows x q → bind x t (map (tree_at s) rows) ≡ tested (tree_eq (tree_at s q) t) (map (tree_at s) rows)
-bound_there s rows x q t l e =
-    bind_bound x t (Leaf x) (map (tree_at s) rows) (omega (arith, length-map rows (tree_at s)))
-    ∙ ap (λ u. tested (tree_eq u t) (map (tree_at s) rows)) (tree_there s rows x q (Leaf x) l e)
-
--- a variable that is bound to the same row
-pub bound_same : (s : Store) (rows : List Row) (x : ℕ) (q r : Row) → x < length rows → q ≡ get_or rows x q → q ≡ r → bind x (tree_at s r) (map (tree_at s) rows) ≡ Some (map (tree_at s) rows)
-bound_same s rows x q r l e i =
-    bound_there s rows x q (tree_at s r) l e
-    ∙ ap (λ b. tested b (map (tree_at s) rows)) (tree_eq_same (tree_at s q) (tree_at s r) (ap (tree_at s) i))
-
--- a variable that is bound to another row
-pub bound_other : (s : Store) (rows : List Row) (x : ℕ) (q r : Row) → IsSound s → All (IsHeld s) rows → IsHeld s r → x < length rows → q ≡ get_or rows x q → (q ≡ r → ⊥) → bind x (tree_at s r) (map (tree_at s) rows) ≡ None
-bound_other s rows x q r sound all held l e n =
-    bound_there s rows x q (tree_at s r) l e ∙ go (tree_eq (tree_at s q) (tree_at s r)) refl
-  where
-    q_held : IsHeld s q
-    q_held = subst (IsHeld s) (sym e) (All-get_or (IsHeld s) rows x q l all)
-
-    go : (b : Bool) → tree_eq (tree_at s q) (tree_at s r) ≡ b → tested b (map (tree_at s) rows) ≡ None
-    go true f = absurd (n (same_row s q r sound q_held held (tree_eq_sound (tree_at s q) (tree_at s r) f)))
-    go false f = refl
-
-pub not_yet : (s : Store) (rows : List Row) (x : ℕ) (r : Row) → length rows < x → bind x (tree_at s r) (map (tree_at s) rows) ≡ None
-not_yet s rows x r l = bind_beyond x (tree_at s r) (map (tree_at s) rows) (omega (arith, length-map rows (tree_at s)))
-
-pub newly : (s : Store) (rows new : List Row) (x : ℕ) (r : Row) → x ≡ length rows → new ≡ rows ++ r ∷ [] → bind x (tree_at s r) (map (tree_at s) rows) ≡ Some (map (tree_at s) new)
-newly s rows new x r l e =
-    bind_next x (tree_at s r) (map (tree_at s) rows) (l ∙ sym (length-map rows (tree_at s)))
-    ∙ ap Some (sym (map_push (tree_at s) rows r))
-    ∙ ap (λ rs. Some (map (tree_at s) rs)) (sym e)
-
 -- rows are told apart by their numbers
 pub same_number : (q r : Row) → (q.0 == r.0) ≡ true → q ≡ r
 same_number q r e = let f : ℕ → Row = λ n. record { 0 = n } in ap f (eqb-true q.0 r.0 e)
-
-pub other_number : (q r : Row) → (q.0 == r.0) ≡ false → q ≡ r → ⊥
-other_number q r e i = let f : (q.0 == r.0) ≡ true = eq-eqb q.0 r.0 (ap (λ v. v.0) i) in let z : true ≡ false = sym f ∙ e in absurd (cc)

@@ -1,14 +1,14 @@
 -- The left sides of rules, one after another.
-use Rattle.std.proofs.Common.{◌≡◌, ℕ, zero, suc, ◌+◌, ◌-◌, ◌≤◌, ◌<◌, List, [], ◌∷◌, ◌++◌, length, refl, sym, ◌∙◌, ap, arith, subst, get_or, take, drop}
-use Rattle.std.proofs.lemmas.List.{append_assoc, append-nil, length-append, take_more, take_all}
+use Rattle.std.proofs.Common.{◌≡◌, ℕ, zero, suc, ◌+◌, ◌-◌, ◌≤◌, ◌<◌, List, [], ◌∷◌, ◌++◌, length, refl, sym, ◌∙◌, ap, arith, get_or, take, drop}
+use Rattle.std.proofs.lemmas.List.{append_assoc, append-nil, length-append, take_more}
 use Rattle.std.proofs.Math.Seq.{take-append_seam, drop-append_seam}
 use Rattle.std.specs.Prelude.{All}
-use Rattle.std.proofs.lemmas.List.Elements.{All-head, All-tail, All-push}
-use Rattle.term_model.specs.Tree.{Tree, nodes}
+use Rattle.std.proofs.lemmas.List.Elements.{All-head, All-tail}
+use Rattle.term_model.specs.Tree.{Tree}
 use Rattle.term_model.specs.declared.Item.{Item}
 use Rattle.rewrite_model.specs.Rule.{Rule}
 use Rattle.rewrite_model.specs.Matching.{match_of}
-use Rattle.rule_match.specs.Planned.{IsPlain, HasSymbolsAlone, HasRoom, match_at}
+use Rattle.rule_match.specs.Planned.{IsPlain, HasSymbolsAlone, match_at}
 use Rattle.rule_match.specs.Preorder.{preorder, left_at, left_items, left_starts, IsCompiled}
 
 items_push : (rules : List Rule) (r : Rule) → left_items (rules ++ r ∷ []) ≡ left_items rules ++ preorder r.left
@@ -102,22 +102,7 @@ match_at-left [] k t l = absurd (omega arith)
 match_at-left (r ∷ rs) zero t l = refl
 match_at-left (r ∷ rs) (suc k) t l = match_at-left rs k t (omega arith)
 
-pub room_at : (room : ℕ) (rules : List Rule) (k : ℕ) → k < length rules → HasRoom room rules → nodes (left_at rules k) ≤ room
-room_at room [] k l all = absurd (omega arith)
-room_at room (r ∷ rs) zero l all = All-head (λ (q : Rule). nodes q.left ≤ room) r rs all
-room_at room (r ∷ rs) (suc k) l all = room_at room rs k (omega arith) (All-tail (λ (q : Rule). nodes q.left ≤ room) r rs all)
-
 pub plain_at : (w : ℕ) (rules : List Rule) (k : ℕ) → k < length rules → All (HasSymbolsAlone w) rules → IsPlain w (left_at rules k)
 plain_at w [] k l all = absurd (omega arith)
 plain_at w (r ∷ rs) zero l all = (All-head (HasSymbolsAlone w) r rs all).left
 plain_at w (r ∷ rs) (suc k) l all = plain_at w rs k (omega arith) (All-tail (HasSymbolsAlone w) r rs all)
-
--- room for the left sides of one rule more
-pub room_more : (rules : List Rule) (k : ℕ) (r : Rule) (room more : ℕ) → k < length rules → r ≡ get_or rules k r → room ≤ more → nodes r.left ≤ more → HasRoom room (take k rules) → HasRoom more (take (k + 1) rules)
-room_more rules k r room more l e kept past all =
-    let one = take_more rules k r l ∙ ap (λ q. take k rules ++ q ∷ []) (sym e) in
-    subst (HasRoom more) (sym one)
-    (All-push (λ (q : Rule). nodes q.left ≤ more) (take k rules) r (λ i d h. let b : nodes (get_or (take k rules) i d).left ≤ room = all i d h in omega arith) past)
-
-pub room_of_all : (rules given : List Rule) (k room : ℕ) → given ≡ rules → length given ≤ k → HasRoom room (take k given) → HasRoom room rules
-room_of_all rules given k room e l all = subst (HasRoom room) (take_all k given l ∙ e) all

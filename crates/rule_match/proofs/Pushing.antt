@@ -1,13 +1,11 @@
 -- Arguments of a row's tree, put on a stack.
-use Rattle.std.proofs.Common.{◌≡◌, ℕ, ◌+◌, List, [], ◌∷◌, ◌++◌, length, map, drop, Some, Bool, true, refl, sym, ◌∙◌, ap, arith, subst}
-use Rattle.std.specs.Prelude.{All, slice_get, reverse, ◌&&◌, ◌==◌}
-use Rattle.std.proofs.lemmas.Option.{same_Some, slice_get_within, get_or_from_slice_get}
-use Rattle.std.proofs.lemmas.List.{map_push, drop_more, append_assoc, reverse-append}
-use Rattle.std.proofs.lemmas.List.Elements.{All-push}
+use Rattle.std.proofs.Common.{◌≡◌, ℕ, ◌+◌, [], ◌∷◌, ◌++◌, length, Some, Bool, true, refl, sym, ◌∙◌, ap, arith, subst}
+use Rattle.std.specs.Prelude.{◌&&◌, ◌==◌}
+use Rattle.std.proofs.lemmas.Option.{same_Some}
 use Rattle.term_model.specs.Tree.{Tree, Leaf, Node, Trees, End, More, arguments, root, list_of, count_of, head_eq}
 use Rattle.term_model.specs.declared.Row.{Row}
 use Rattle.term_model.specs.declared.Head.{Head}
-use Rattle.terms_api.specs.Terms.{Store, IsHeld, tree_at}
+use Rattle.terms_api.specs.Terms.{Store, tree_at}
 use Rattle.rule_match.specs.Stands.{stands}
 
 length-list_of : (ts : Trees) → length (list_of ts) ≡ count_of ts
@@ -26,23 +24,6 @@ pub stands_over : (h : Head) (n : ℕ) (t : Tree) → stands h n t ≡ true → 
 stands_over h n (Leaf y) e = cc
 stands_over h n (Node f us) e = grind (arith, length-list_of)
 
-pub argument_pushed : (s now : Store) (row r : Row) (place : ℕ) (old stack new : List Row) → now ≡ s → map (tree_at s) stack ≡ map (tree_at s) old ++ reverse (drop (place + 1) (arguments (tree_at s row))) → slice_get (arguments (tree_at now row)) place ≡ Some (tree_at now r) → new ≡ stack ++ r ∷ [] → map (tree_at s) new ≡ map (tree_at s) old ++ reverse (drop place (arguments (tree_at s row)))
-argument_pushed s now row r place old stack new same before there is =
-    let f = tree_at s in
-    let args = arguments (tree_at s row) in
-    let at : slice_get args place ≡ Some (f r) = subst (λ (v : Store). slice_get (arguments (tree_at v row)) place ≡ Some (tree_at v r)) same there in
-    let within = slice_get_within args place (f r) at in
-    let more : drop place args ≡ f r ∷ drop (place + 1) args = drop_more args place (f r) within ∙ ap (λ t. t ∷ drop (place + 1) args) (get_or_from_slice_get args place (f r) (f r) at) in
-    ap (map f) is
-    ∙ map_push f stack r
-    ∙ ap (λ ts. ts ++ f r ∷ []) before
-    ∙ append_assoc (map f old) (reverse (drop (place + 1) args)) (f r ∷ [])
-    ∙ ap (λ ts. map f old ++ ts) (sym (ap reverse more ∙ reverse-append (f r ∷ []) (drop (place + 1) args)))
-
-pub held_pushed : (s now : Store) (r : Row) (stack new : List Row) → now ≡ s → All (IsHeld s) stack → IsHeld now r → new ≡ stack ++ r ∷ [] → All (IsHeld s) new
-held_pushed s now r stack new same all held is =
-    subst (All (IsHeld s)) (sym is) (All-push (IsHeld s) stack r all (subst (λ (v : Store). IsHeld v r) same held))
-
 pub stands_as : (s now : Store) (row : Row) (h g : Head) (n m : ℕ) → now ≡ s → root (tree_at s row) ≡ Some g → m ≡ length (arguments (tree_at now row)) → head_eq h g ≡ true → (m == n) ≡ stands h n (tree_at s row)
 stands_as s now row h g n m same is count e =
     let k : m ≡ length (arguments (tree_at s row)) = count ∙ ap (λ (v : Store). length (arguments (tree_at v row))) same in
@@ -56,6 +37,3 @@ pub as_many : (now late : Store) (h : Head) (n : ℕ) (row : Row) (b : Bool) →
 as_many now late h n row b same is was =
     let P : Store → Type 0 = λ w. n ≡ length (arguments (tree_at w row)) in
     subst P (sym same) (stands_over h n (tree_at now row) (sym is ∙ was))
-
-pub held_late : (s late : Store) (rows : List Row) → late ≡ s → All (IsHeld late) rows → All (IsHeld s) rows
-held_late s late rows e all = subst (λ (v : Store). All (IsHeld v) rows) e all

@@ -22,7 +22,8 @@ pub record IsNext (rules : List Rule) (head : Head) (from : ℕ) (next : Option 
 -- going over the rules of one head is the same as going over all.
 abbrev pub MatchNone : List Rule → Head → ℕ → Option ℕ → Type 0
 MatchNone rules head from next =
-    (k : ℕ) → from ≤ k → k < unwrap_or next (length rules) → (t : Tree) → root t ≡ Some head → match_at rules k t ≡ None
+    (k : ℕ) → from ≤ k → k < unwrap_or next (length rules) → (t : Tree) → root t ≡ Some head
+    → match_at rules k t ≡ None
 
 -- the symbol of a head that is one
 abbrev pub symbol_of : Option Head → Option Symbol
@@ -51,13 +52,16 @@ HaveSymbols rules = (k : ℕ) → k < length rules → IsSome (symbol_of (head_a
 abbrev pub entry : List (Option ℕ) → ℕ → Option ℕ
 entry table k = slice_index_or table k None
 
--- For the rules from a place on: the first of each symbol, and after each rule the next of its head.
+-- For the rules from a place on: the first of each symbol, and after each rule the next of its
+-- head.
 pub record IsLinked (rules : List Rule) (from : ℕ) (firsts nexts : List (Option ℕ)) : Type 0 where
   pub first : (f : Symbol) → f.0 < length firsts → IsNext rules (App f) from (entry firsts f.0)
-  pub next : (k : ℕ) → from ≤ k → (h : Head) → head_at rules k ≡ Some h → IsNext rules h (k + 1) (entry nexts k)
+  pub next : (k : ℕ) → from ≤ k → (h : Head) → head_at rules k ≡ Some h
+      → IsNext rules h (k + 1) (entry nexts k)
 
 -- a plan whose rules are linked
-pub record IsIndexed (rules : List Rule) (widest : ℕ) (firsts nexts : List (Option ℕ)) : Type 0 where
+pub record IsIndexed (rules : List Rule) (widest : ℕ)
+    (firsts nexts : List (Option ℕ)) : Type 0 where
   pub plan : IsPlan (planned rules widest)
   pub size : length nexts ≡ length rules
   pub heads : HeadsAreBelow (length firsts) rules

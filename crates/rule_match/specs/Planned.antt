@@ -2,7 +2,7 @@
 use Rattle.std.specs.Prelude.{◌≡◌, ℕ, zero, suc, ◌<◌, ◌≤◌, ◌^◌, List, [], ◌∷◌, length, Option, None, Bool, true, false, nat_le, nat_lt, All, refl}
 use Rattle.std.specs.List.{list_all}
 use Rattle.std.specs.Coded.{Coded, code_by, coded×, coded_ℕ, coded_list}
-use Rattle.term_model.specs.Tree.{Tree, nodes}
+use Rattle.term_model.specs.Tree.{Tree}
 use Rattle.term_model.specs.Postorder.{postorder}
 use Rattle.term_model.specs.declared.Item.{Item}
 use Rattle.term_model.specs.declared.Item.TheVariants.{Var, App, Int, Nil, Cons}
@@ -16,7 +16,8 @@ pub record Planned : Type 0 where
 
 abbrev pub planned_code : Coded Planned
 planned_code =
-    code_by (List Rule × ℕ) (coded× (coded_list rule_code) coded_ℕ) (λ p. (p.rules, p.widest)) (λ p. record { rules = p.0; widest = p.1 }) (λ _. refl)
+    code_by (List Rule × ℕ) (coded× (coded_list rule_code) coded_ℕ) (λ p. (p.rules, p.widest))
+        (λ p. record { rules = p.0; widest = p.1 }) (λ _. refl)
 
 abbrev pub planned : List Rule → ℕ → Planned
 planned rules widest = record { rules = rules; widest = widest }
@@ -71,7 +72,3 @@ abbrev pub match_at : List Rule → ℕ → Tree → Option (List Tree)
 match_at [] k t = None
 match_at (r ∷ rs) zero t = match_of r.left t
 match_at (r ∷ rs) (suc k) t = match_at rs k t
-
--- room for the nodes of each left side
-abbrev pub HasRoom : ℕ → List Rule → Type 0
-HasRoom room rules = All (λ (r : Rule). nodes r.left ≤ room) rules

@@ -1,6 +1,7 @@
 use Rattle.std.proofs.Common.{sym, ◌∙◌, arith}
 use Rattle.std.proofs.lemmas.Bool.{OnTrue_from, OnFalse_from}
-use Rattle.rule_match.proofs.Bindings.{bound_same, bound_other, not_yet, newly, same_number, other_number}
+use Rattle.rule_match.proofs.Bindings.{same_number}
+use Rattle.row_match.proofs.Bound.{bound_same, bound_other, not_yet, newly, other_number}
 use Rattle.row_match.proofs.matching.bind.Goals as goal
 
 pub returns-then-at-len-clause-bound : goal.returns-then-at-len-clause-bound

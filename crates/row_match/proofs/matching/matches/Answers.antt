@@ -2,7 +2,8 @@ use Rattle.std.proofs.Common.{◌∙◌, ap, arith}
 use Rattle.std.proofs.lemmas.Bool.{OnTrue_at, OnFalse_at, OnTrue_from, OnFalse_from}
 use Rattle.terms_api.specs.Terms.{tree_at}
 use Rattle.row_match.specs.Binding.{Bound}
-use Rattle.rule_match.proofs.Compiled.{match_at-left, room_at}
+use Rattle.rule_match.proofs.Compiled.{match_at-left}
+use Rattle.row_match.proofs.Room.{room_at}
 use Rattle.row_match.proofs.matching.matches.Goals as goal
 
 pub run-matched-requires-clause-stack_room : goal.run-matched-requires-clause-stack_room

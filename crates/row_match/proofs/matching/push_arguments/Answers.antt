@@ -2,7 +2,7 @@ use Rattle.std.proofs.Common.{◌≡◌, ◌+◌, ◌-◌, ◌++◌, map, drop, 
 use Rattle.std.specs.Prelude.{reverse}
 use Rattle.term_model.specs.Tree.{arguments}
 use Rattle.terms_api.specs.Terms.{tree_at}
-use Rattle.rule_match.proofs.Pushing.{argument_pushed, held_pushed}
+use Rattle.row_match.proofs.Pushed.{argument_pushed, held_pushed}
 use Rattle.row_match.proofs.matching.push_arguments.Goals as goal
 
 pub places-preserved : goal.places-preserved

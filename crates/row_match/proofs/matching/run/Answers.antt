@@ -9,8 +9,9 @@ use Rattle.rewrite_model.specs.Matching.{bind}
 use Rattle.rule_match.specs.Preorder.{left_at}
 use Rattle.rule_match.specs.Stands.{stands}
 use Rattle.rule_match.proofs.Compiled.{plain_at}
-use Rattle.rule_match.proofs.Pending.{nodes_are_items, first_left, stack_left, variable_left, variable_apart, symbol_left, symbol_apart, arguments_left, item_left, none_left}
-use Rattle.rule_match.proofs.Pushing.{stood, as_many, held_late}
+use Rattle.row_match.proofs.Left.{nodes_are_items, first_left, stack_left, variable_left, variable_apart, symbol_left, symbol_apart, arguments_left, item_left, none_left}
+use Rattle.rule_match.proofs.Pushing.{stood, as_many}
+use Rattle.row_match.proofs.Pushed.{held_late}
 use Rattle.row_match.proofs.matching.run.Goals.{in-Var+else-not-bind, in-App+else-not-stands_at}
 use Rattle.row_match.proofs.matching.run.Goals as goal
 

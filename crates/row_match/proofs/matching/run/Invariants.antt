@@ -2,7 +2,7 @@ use Rattle.std.proofs.Common.{◌≡◌, ◌≤◌}
 use Rattle.std.specs.Prelude.{All, vec_len, vec_capacity}
 use Rattle.terms_api.specs.Terms.{IsHeld, tree_at}
 use Rattle.rule_match.specs.Preorder.{left_at}
-use Rattle.rule_match.proofs.Pending.{Left}
+use Rattle.row_match.proofs.Left.{Left}
 use Rattle.row_match.proofs.matching.run.Given as goal
 
 -- the items from a place on are to be matched by the trees that wait on the stack

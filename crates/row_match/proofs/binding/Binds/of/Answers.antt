@@ -1,6 +1,6 @@
 use Rattle.std.proofs.Common.{◌≤◌, ap, arith, rules}
 use Rattle.term_model.specs.Tree.{nodes}
-use Rattle.rule_match.proofs.Compiled.{room_more, room_of_all}
+use Rattle.row_match.proofs.Room.{room_more, room_of_all}
 use Rattle.row_match.proofs.binding.Binds.of.Goals as goal
 
 pub loop-rule-init : goal.loop-rule-init

@@ -1,5 +1,5 @@
 use Rattle.std.proofs.Common.{take}
-use Rattle.rule_match.specs.Planned.{HasRoom}
+use Rattle.row_match.specs.Binding.{HasRoom}
 use Rattle.row_match.proofs.binding.Binds.of.Given as goal
 
 -- there is room for the rules before a place

@@ -1,0 +1,4 @@
+pub mod Bound
+pub mod Left
+pub mod Pushed
+pub mod Room
