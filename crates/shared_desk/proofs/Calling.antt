@@ -30,9 +30,9 @@ use Rattle.node_rows.specs.Told.{view_of}
 use Rattle.node_rows.specs.Crowding.{IsSwept, ends_in_collect}
 use Rattle.node_rows.specs.CrowdFull.{IsCrowded}
 use Rattle.node_rows.specs.Steps.{over as node_over}
-use Rattle.sweep_phase.specs.Collected.{Collects}
-use Rattle.sweep_phase.specs.Gathered.{IsWorn}
-use Rattle.sweep_phase.specs.declared.sweep.Kept.{Kept}
+use Rattle.row_sweep.specs.Collected.{Collects}
+use Rattle.row_sweep.specs.Gathered.{IsWorn}
+use Rattle.row_sweep.specs.declared.sweep.Kept.{Kept}
 use Rattle.term_create.specs.Created.{MayCreate, NotesOne, Gets, GetsNone, KeepsRest}
 use Rattle.term_create.specs.Read.{Reads, ReadsChild, head_words, word}
 use Rattle.root_sets.specs.Protected.{Keeps}

@@ -11,10 +11,10 @@ use Rattle.node_rows.specs.Collecting.{IsKept}
 use Rattle.node_rows.specs.Crowding.{kept_in}
 use Rattle.node_rows.specs.CrowdsKept.{kept_snoc}
 use Rattle.node_rows.specs.Passes.{Came, Left}
-use Rattle.sweep_phase.specs.declared.sweep.Kept.{Kept}
-use Rattle.sweep_phase.specs.declared.sweep.Worn.{Worn}
-use Rattle.sweep_phase.specs.Gathered.{IsWorn}
-use Rattle.sweep_phase.specs.Collected.{Collects, HasKept}
+use Rattle.row_sweep.specs.declared.sweep.Kept.{Kept}
+use Rattle.row_sweep.specs.declared.sweep.Worn.{Worn}
+use Rattle.row_sweep.specs.Gathered.{IsWorn}
+use Rattle.row_sweep.specs.Collected.{Collects, HasKept}
 use Rattle.sweep_phase.specs.Now.{Leaves, Enters}
 
 pub leaves_by : (z : Sizes) (i j : ℕ) (v m w : NodeView) (r : Result Kept Worn) → j ≡ i → IfOk r (λ kept. Collects z i v.store m.store kept.live kept.buckets) → IfErr r (λ _. IsWorn z i v.store) → IfErr r (λ _. m ≡ v) → Left m w → Leaves z j v.store w.store r

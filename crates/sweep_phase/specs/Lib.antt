@@ -1,10 +1,1 @@
-pub mod Loaded
-pub mod Gathered
-pub mod Marked
-pub mod Read
-pub mod Chained
-pub mod Turns
-pub mod Stored
-pub mod Collected
-pub mod Compared
 pub mod Now

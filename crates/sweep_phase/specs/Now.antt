@@ -6,12 +6,12 @@ use Rattle.store_model.specs.Machine.{based, ready, left, protected_in}
 use Rattle.busy_forbidden.specs.Exclusive.{ShowsExclusive}
 use Rattle.node_rows.specs.declared.view.NodeView.{NodeView}
 use Rattle.node_rows.specs.Passes.{Stayed}
-use Rattle.sweep_phase.specs.declared.sweep.Kept.{Kept}
-use Rattle.sweep_phase.specs.declared.sweep.Worn.{Worn}
-use Rattle.sweep_phase.specs.declared.sweep.TryCollect.{TryCollect}
-use Rattle.sweep_phase.specs.declared.sweep.TryCollect.TheVariants as try
-use Rattle.sweep_phase.specs.Gathered.{IsWorn}
-use Rattle.sweep_phase.specs.Collected.{Collects}
+use Rattle.row_sweep.specs.declared.sweep.Kept.{Kept}
+use Rattle.row_sweep.specs.declared.sweep.Worn.{Worn}
+use Rattle.sweep_phase.specs.declared.now.TryCollect.{TryCollect}
+use Rattle.sweep_phase.specs.declared.now.TryCollect.TheVariants as try
+use Rattle.row_sweep.specs.Gathered.{IsWorn}
+use Rattle.row_sweep.specs.Collected.{Collects}
 
 -- A collection was noted, and then Roots, with the rows that the pass protects.
 pub record CollectsNow (z : Sizes) (i : ℕ) (v w : View) (live buckets : ℕ) : Type 0 where

@@ -1,22 +1,10 @@
-//! Collections on a running store: the rows that no pass protects are free again.
+//! Collections on a running store: in an access that a pass has, after which it may create, and in
+//! one of its own.
 #![tactic(auto)]
 
-mod beginning;
-mod chaining;
-mod collecting;
-mod comparing;
-mod counting;
 mod creating;
-mod loading;
-mod marking;
 mod now;
-mod places;
-mod reading;
-mod storing;
-mod sweep;
-mod turns;
 
-pub use collecting::collect;
 pub use creating::create_exclusive;
-pub use now::collect_now;
-pub use sweep::{Kept, TryCollect, Worn};
+pub use now::{TryCollect, collect_now};
+pub use row_sweep::{Kept, Worn, collect};

@@ -5,12 +5,20 @@ ghost use Rattle.node_rows.specs.Belonging.{IsPassOf, IsExclusive, IsSamePass, I
 ghost use Rattle.node_rows.specs.Inside.{IsInside};
 ghost use Rattle.node_rows.specs.Passes.{IsOut};
 ghost use Rattle.node_rows.specs.Told.{Tells, view_of};
-ghost use Rattle.sweep_phase.specs.Collected.{HasKept};
+ghost use Rattle.row_sweep.specs.Collected.{HasKept};
 ghost use Rattle.sweep_phase.specs.Now.{Answers, Leaves};
 
-use crate::collecting::collect;
-use crate::sweep::{Kept, TryCollect, Worn};
+use busy_forbidden::Busy;
 use node_rows::{Pass, Store};
+use row_sweep::{Kept, Worn, collect};
+
+/// Why a collection in an access of its own wasn't made: the entry was refused, or the collection
+/// was worn.
+#[derive(Clone, Copy, Debug, PartialEq, Eq)]
+pub enum TryCollect {
+    Busy(Busy),
+    Worn,
+}
 
 // Collects in exclusive access, and ends it.
 fn collect_and_leave(store: &Store, pass: &mut Pass) -> Result<Kept, Worn>

@@ -1,0 +1,10 @@
+use Rattle.row_sweep.specs.Gathered.{sizes_of, words_of, HasGathered, LoadsAgain}
+use Rattle.row_sweep.specs.Marked.{MarksTo}
+use Rattle.row_sweep.proofs.marking.mark_seat.Given as goal
+
+abbrev pub invariant-loop-k : goal.invariant-loop-k
+invariant-loop-k l = record {
+  at : HasGathered l.sweep l.seat.seat l.seat.number l.seat.seats;
+  again : LoadsAgain l.sweep l.fn.seat.seat l.fn.seat.number l.fn.seat.seats l.seat.seat l.seat.number l.seat.seats;
+  marks : MarksTo (words_of l.fn.seat.seat) (sizes_of l.sweep).rows l.j l.k l.marks;
+}

@@ -1,9 +1,0 @@
-use Rattle.std.specs.Prelude.{◌≡◌, ◌≤◌}
-use Rattle.sweep_phase.specs.Marked.{marked_below}
-use Rattle.sweep_phase.proofs.counting.count_marked.Given as goal
-
-abbrev pub invariant-loop-row : goal.invariant-loop-row
-invariant-loop-row l = record {
-  count : l.count ≡ marked_below l.marks l.row;
-  few : l.count ≤ l.row;
-}

@@ -1,8 +1,0 @@
-use Rattle.sweep_phase.proofs.storing.put_next.Goals as goal
-
-pub returns : goal.returns
-returns c = record {
-  at = c.put_cell.ensures.at;
-  more = c.put_cell.ensures.more;
-  words = c.put_cell.ensures.words;
-}
