@@ -30,8 +30,8 @@ use Rattle.line_ends.specs.declared.kind.LineKind.TheVariants as kind
 use Rattle.term_lines.specs.Strategies.{ended}
 use Rattle.term_lines.specs.Tracing.{tells, events_of}
 use Rattle.term_lines.specs.declared.strategy.Strategy.{Strategy}
-use Rattle.rewrite_workers.specs.Works.{IsInnermost, strategy_of, are_unconditional, tells_events, term_at}
-use Rattle.rewrite_workers.specs.Lined.{end_of, trace_of}
+use Rattle.work_order.specs.Works.{IsInnermost, strategy_of, are_unconditional, tells_events, term_at}
+use Rattle.work_order.specs.Lined.{end_of, trace_of}
 use Rattle.run_checks.specs.Specification as checked
 use Rattle.run_checks.specs.Endings as ending
 use Rattle.run_checks.specs.Endings.{Ending, Value, TooLarge, Leads, checked_text, output_text, traces_from, ending_text, trace_line}

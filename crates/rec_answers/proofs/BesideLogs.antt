@@ -26,8 +26,8 @@ use Rattle.run_checks.proofs.ClearTexts.{text_clear}
 use Rattle.settings.specs.declared.parts.Command.{Command}
 use Rattle.settings.specs.declared.parts.Command.TheVariants as command
 use Rattle.settings.specs.declared.parts.Settings.{Settings}
-use Rattle.rewrite_workers.specs.Works.{strategy_of}
-use Rattle.rewrite_workers.specs.Lined.{end_of}
+use Rattle.work_order.specs.Works.{strategy_of}
+use Rattle.work_order.specs.Lined.{end_of}
 use Rattle.rec_answers.specs.Drilled.{IsDrilled}
 use Rattle.rec_answers.specs.Run.{Rewrites}
 use Rattle.rec_answers.specs.Output.{IsOutputOf}

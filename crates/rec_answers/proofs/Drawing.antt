@@ -8,11 +8,10 @@ use Rattle.std.proofs.lemmas.List.Elements.{All-nil, All-cons, All-weaker}
 use Rattle.std.proofs.lemmas.List.Concat.{flat_map-cons}
 use Rattle.term_model.specs.Tree.{Tree, Leaf}
 use Rattle.worker_crew.specs.Dealt.{times}
-use Rattle.rewrite_workers.specs.Lined.{drawn_by}
-use Rattle.rewrite_workers.specs.Works.{term_at}
-use Rattle.rewrite_workers.specs.Ends.{AreApart, Rises, numbered}
-use Rattle.worker_crew.proofs.Dealing.{hit, times_cons, times_append, hit_same, hit_other}
-use Rattle.rewrite_workers.proofs.Dividing.{times_none}
+use Rattle.work_order.specs.Lined.{drawn_by}
+use Rattle.work_order.specs.Works.{term_at}
+use Rattle.work_order.specs.Drawn.{AreApart, Rises, numbered}
+use Rattle.worker_crew.proofs.Dealing.{hit, times_cons, times_append, hit_same, hit_other, times_none}
 
 -- ---- one worker
 -- the places, counted from o, at which these workers have worker k

@@ -14,7 +14,7 @@ use Rattle.rec_check.specs.Spelled.{Specified}
 use Rattle.worker_crew.specs.declared.fault.AllFault.{AllFault}
 use Rattle.worker_crew.specs.declared.lines.Line.{Line}
 use Rattle.worker_crew.specs.declared.lines.Lines.{Lines}
-use Rattle.rewrite_workers.specs.Lined.{Said, said, line_of, trace_of, worker_of}
+use Rattle.work_order.specs.Lined.{Said, said, line_of, trace_of, worker_of}
 use Rattle.rec_answers.specs.Lines.{line}
 use Rattle.rec_answers.specs.Sequence.{AreLinesOf, IsSplit}
 

@@ -3,9 +3,9 @@ use Rattle.std.proofs.Common.{◌⊎◌, inl, inr, ℕ, ◌*◌, ◌≤◌, List
 use Rattle.std.specs.Prelude.{Result, Ok, Err, IfOk, IfErr}
 use Rattle.term_model.specs.Tree.{distinct}
 use Rattle.rewrite_model.specs.Built.{need_of_all}
-use Rattle.rewrite_workers.specs.Works.{built_of, IsInnermost}
-use Rattle.rewrite_workers.specs.Lacking.{LacksRows}
-use Rattle.rewrite_workers.specs.Wearing.{WearsOut}
+use Rattle.work_order.specs.Works.{built_of, IsInnermost}
+use Rattle.work_order.specs.Lacking.{LacksRows}
+use Rattle.work_order.specs.Wearing.{WearsOut}
 use Rattle.rec_check.specs.Spelled.{Specified}
 use Rattle.settings.specs.declared.parts.Settings.{Settings}
 use Rattle.rec_answers.specs.Rewritten.{Spells, RowsSuffice, NumbersSuffice}

@@ -11,7 +11,7 @@ use Rattle.log_laws.proofs.BuiltOutermost.{outermost_told}
 use Rattle.term_lines.specs.Strategies.{built_by, built_by_all}
 use Rattle.term_lines.specs.declared.strategy.Strategy.{Strategy}
 use Rattle.term_lines.specs.declared.strategy.Strategy.TheVariants.{Innermost, Outermost}
-use Rattle.rewrite_workers.specs.Lined.{drawn_by}
+use Rattle.work_order.specs.Lined.{drawn_by}
 use Rattle.rec_answers.proofs.ToldHeads.{told_symbol, tree_may_be_told}
 
 abbrev pub Told : Tree → Type 0

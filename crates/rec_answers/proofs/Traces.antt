@@ -9,8 +9,8 @@ use Rattle.term_model.specs.Tree.{Tree, Leaf}
 use Rattle.rewrite_model.specs.declared.event.Event.{Event}
 use Rattle.settings.specs.declared.parts.Settings.{Settings}
 use Rattle.term_lines.specs.Line.{is_value, is_value_kind}
-use Rattle.rewrite_workers.specs.Works.{term_at}
-use Rattle.rewrite_workers.specs.Lined.{Said, said, line_of, trace_of, end_of}
+use Rattle.work_order.specs.Works.{term_at}
+use Rattle.work_order.specs.Lined.{Said, said, line_of, trace_of, end_of}
 use Rattle.worker_crew.specs.declared.lines.Line.{Line}
 use Rattle.worker_crew.specs.declared.lines.Lines.{Lines}
 use Rattle.rec_check.specs.Spelled.{Specified}

@@ -9,7 +9,7 @@ use Rattle.rec_check.specs.Conditional.{first_if}
 use Rattle.rec_check.specs.Spelled.{Specified}
 use Rattle.rec_check.specs.Run.{spelled_in}
 use Rattle.rec_check.proofs.WithoutIf.{unconditional_rules as have_no_conditions}
-use Rattle.rewrite_workers.specs.Works.{are_unconditional}
+use Rattle.work_order.specs.Works.{are_unconditional}
 
 pub none_has : (rules : List Rule) → All IsUnconditional rules → are_unconditional rules ≡ true
 none_has [] a = refl

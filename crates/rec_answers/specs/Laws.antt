@@ -3,7 +3,7 @@ use Rattle.std.specs.Prelude.{◌≡◌, ℕ, ◌<◌, ◌≤◌, ◌^◌, List,
 use Rattle.rec_check.specs.Spelled.{Specified}
 use Rattle.settings.specs.declared.parts.Command.TheVariants.{Rewrite, CheckTrace}
 use Rattle.settings.specs.declared.parts.Settings.{Settings}
-use Rattle.rewrite_workers.specs.Works.{IsInnermost}
+use Rattle.work_order.specs.Works.{IsInnermost}
 use Rattle.run_checks.specs.Endings.{checked_text}
 use Rattle.run_checks.specs.Verdict.{IsChecked}
 use Rattle.run_checks.specs.declared.checking.TraceVerdict.TheVariants.{Derived}

@@ -15,7 +15,7 @@ use Rattle.rec_check.specs.Conditional.{first_if}
 use Rattle.rewrite_model.specs.Built.{need_of_all}
 use Rattle.term_model.specs.Tree.{distinct}
 use Rattle.settings.specs.declared.parts.Settings.{Settings}
-use Rattle.rewrite_workers.specs.Works.{built_of, IsInnermost}
+use Rattle.work_order.specs.Works.{built_of, IsInnermost}
 use Rattle.rec_answers.specs.Traced.{traces_of}
 use Rattle.rec_answers.specs.Sequence.{WriteNames, lines_of, all_values}
 use Rattle.term_text.specs.Text.{HasNames}

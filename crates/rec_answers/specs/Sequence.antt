@@ -7,10 +7,10 @@ use Rattle.rewrite_model.specs.Rule.{Rule}
 use Rattle.settings.specs.declared.parts.Settings.{Settings}
 use Rattle.term_lines.specs.Laws.{WritesNames}
 use Rattle.term_lines.specs.Line.{line_text, is_value, is_value_kind, spent_of}
-use Rattle.rewrite_workers.specs.Lined.{said, line_of, trace_of, end_of}
+use Rattle.work_order.specs.Lined.{said, line_of, trace_of, end_of}
 use Rattle.worker_crew.specs.declared.lines.Lines.{Lines}
-use Rattle.rewrite_workers.specs.Lacking.{LacksRows}
-use Rattle.rewrite_workers.specs.Wearing.{WearsOut}
+use Rattle.work_order.specs.Lacking.{LacksRows}
+use Rattle.work_order.specs.Wearing.{WearsOut}
 use Rattle.rec_check.specs.Spelled.{Specified}
 use Rattle.rec_answers.specs.Lines.{line}
 use Rattle.rec_answers.specs.Traced.{told_before}

@@ -7,8 +7,8 @@ use Rattle.rewrite_model.specs.declared.event.Event.{Event}
 use Rattle.rewrite_model.specs.declared.event.Event.TheVariants.{Down, Up, Rule as Use}
 use Rattle.settings.specs.declared.parts.Settings.{Settings}
 use Rattle.term_lines.specs.Line.{is_value, is_value_kind}
-use Rattle.rewrite_workers.specs.Works.{term_at}
-use Rattle.rewrite_workers.specs.Lined.{end_of, trace_of}
+use Rattle.work_order.specs.Works.{term_at}
+use Rattle.work_order.specs.Lined.{end_of, trace_of}
 use Rattle.worker_crew.specs.declared.lines.Line.{Line}
 use Rattle.rec_check.specs.Spelled.{Specified}
 use Rattle.rec_answers.specs.Lines.{line}

@@ -1,6 +1,6 @@
 // From the lines of a drill to an answer.
 ghost use Rattle.std.specs.Prelude.{◌≡◌, IfOk, IfErr, OnOk, map};
-ghost use Rattle.rewrite_workers.specs.Lined.{worker_of};
+ghost use Rattle.work_order.specs.Lined.{worker_of};
 ghost use Rattle.rec_answers.specs.Logged.{IsThere};
 ghost use Rattle.rec_answers.specs.Drilled.{drill_output};
 ghost use Rattle.rec_answers.specs.Sequence.{AreLinesOf};
@@ -11,7 +11,7 @@ ghost use Rattle.rec_check.specs.Spelled.{Specified};
 use crate::answers::Answer;
 use crate::joining::{are_values, count_values, counts, total_spent, workers_of};
 use crate::stops::Stop;
-use rewrite_workers::Lines;
+use worker_crew::Lines;
 use settings::Settings;
 use std::alloc::Global;
 

@@ -9,7 +9,7 @@ use crate::joining::is_value;
 use faults::Memory;
 use itoa::Buffer;
 use rewrite_model::Event;
-use rewrite_workers::Line;
+use worker_crew::Line;
 
 // Appends a word and a number.
 fn push_numbered(text: &mut Vec<u8>, word: &[u8], number: u64) -> Result<(), Memory>

@@ -8,7 +8,7 @@ ghost use Rattle.rec_answers.specs.Drilled.{count_line, counts_text};
 use crate::results::Workers;
 use faults::Memory;
 use itoa::Buffer;
-use rewrite_workers::Line;
+use worker_crew::Line;
 use std::alloc::Global;
 use term_lines::LineKind;
 

@@ -1,6 +1,6 @@
 // From the lines of terms to an answer.
 ghost use Rattle.std.specs.Prelude.{◌≡◌, IfOk, IfErr, OnOk, length, map};
-ghost use Rattle.rewrite_workers.specs.Lined.{worker_of};
+ghost use Rattle.work_order.specs.Lined.{worker_of};
 ghost use Rattle.rec_answers.specs.Logged.{IsThere};
 ghost use Rattle.rec_answers.specs.Rewritten.{output_of};
 ghost use Rattle.rec_answers.specs.Sequence.{AreLinesOf, text_told};
@@ -13,7 +13,7 @@ use crate::events::push_traces;
 use crate::joining::{are_values, joined, workers_of};
 use crate::stops::Stop;
 use faults::Memory;
-use rewrite_workers::Lines;
+use worker_crew::Lines;
 use settings::Settings;
 use std::alloc::Global;
 

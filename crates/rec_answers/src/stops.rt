@@ -12,7 +12,7 @@ use itoa::Buffer;
 use lock_core::LineFault;
 use node_rows::Chronicle;
 use rec_reader::ReadFail;
-use rewrite_workers::{AllFault, Lines};
+use worker_crew::{AllFault, Lines};
 use settings::WordsFault;
 use std::alloc::{AllocError, Global};
 use term_commands::TermsFault;

@@ -6,7 +6,7 @@ use Rattle.rec_check.specs.Spelled.{Specified}
 use Rattle.rec_drill.specs.Drill.{drill_bytes}
 use Rattle.settings.specs.declared.parts.Settings.{Settings}
 use Rattle.worker_crew.specs.declared.lines.Lines.{Lines}
-use Rattle.rewrite_workers.specs.Lined.{worker_of}
+use Rattle.work_order.specs.Lined.{worker_of}
 use Rattle.rec_answers.specs.Written.{Output}
 use Rattle.rec_answers.specs.Drilled.{IsDrilled, drill_output}
 use Rattle.rec_answers.specs.Stops.{stop_of_drill}

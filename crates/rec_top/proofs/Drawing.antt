@@ -4,13 +4,13 @@ use Rattle.term_model.specs.Tree.{Tree}
 use Rattle.history_core.specs.declared.entry.Entry.{Entry}
 use Rattle.rewrite_model.specs.Rule.{Rule}
 use Rattle.settings.specs.declared.parts.Settings.{Settings}
-use Rattle.rewrite_workers.specs.Lined.{drawn_by}
-use Rattle.rewrite_workers.specs.Works.{term_at, AreBuilt}
-use Rattle.rewrite_workers.specs.Ends.{numbered}
+use Rattle.work_order.specs.Lined.{drawn_by}
+use Rattle.work_order.specs.Works.{term_at, AreBuilt}
+use Rattle.work_order.specs.Drawn.{numbered}
 use Rattle.shared_work.specs.Sharing.{NamesWhatItBuilt, named_by}
 use Rattle.shared_work.specs.Fronts.{NamesFronts}
 use Rattle.worker_crew.specs.declared.lines.Lines.{Lines}
-use Rattle.rewrite_workers.specs.Lined.{worker_of}
+use Rattle.work_order.specs.Lined.{worker_of}
 use Rattle.rec_check.specs.Spelled.{Specified}
 use Rattle.rec_answers.specs.Rewritten.{Spells}
 use Rattle.rec_answers.specs.Sequence.{AreLinesOf, IsSplit}

@@ -17,8 +17,8 @@ use Rattle.log_laws.proofs.Whole.{logs_read_back, good_are_legal}
 use Rattle.settings.specs.Words.{settings_of, AreInRange}
 use Rattle.settings.specs.declared.parts.Settings.{Settings}
 use Rattle.term_lines.proofs.Lists.{within}
-use Rattle.rewrite_workers.specs.Lined.{drawn_by}
-use Rattle.rewrite_workers.specs.Works.{strategy_of, built_of, remembers_results}
+use Rattle.work_order.specs.Lined.{drawn_by}
+use Rattle.work_order.specs.Works.{strategy_of, built_of, remembers_results}
 use Rattle.shared_work.specs.Sharing.{EachRises, named_by}
 use Rattle.rec_check.specs.Spelled.{Specified}
 use Rattle.rec_answers.specs.GoodLog.{IsGoodLogOf, HasGoodLog}

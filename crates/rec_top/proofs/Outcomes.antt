@@ -5,7 +5,7 @@ use Rattle.history_core.specs.declared.entry.Entry.{Entry}
 use Rattle.history_core.specs.Chronicle.{chronicle, IsLegal}
 use Rattle.settings.specs.declared.parts.Settings.{Settings}
 use Rattle.worker_crew.specs.declared.lines.Lines.{Lines}
-use Rattle.rewrite_workers.specs.Lined.{worker_of}
+use Rattle.work_order.specs.Lined.{worker_of}
 use Rattle.shared_work.specs.Sharing.{CollectsFew, EachRises}
 use Rattle.rec_check.specs.Spelled.{Specified}
 use Rattle.rec_answers.specs.Rewritten.{Spells}

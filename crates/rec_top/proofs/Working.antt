@@ -17,9 +17,9 @@ use Rattle.settings.specs.declared.parts.Settings.{Settings}
 use Rattle.worker_crew.specs.declared.fault.AllFault.{AllFault}
 use Rattle.worker_crew.specs.declared.fault.AllFault.TheVariants as workers
 use Rattle.worker_crew.specs.declared.lines.Lines.{Lines}
-use Rattle.rewrite_workers.specs.Lacking.{LacksRows}
-use Rattle.rewrite_workers.specs.Wearing.{WearsOut}
-use Rattle.rewrite_workers.specs.Lined.{said, line_of, trace_of, worker_of}
+use Rattle.work_order.specs.Lacking.{LacksRows}
+use Rattle.work_order.specs.Wearing.{WearsOut}
+use Rattle.work_order.specs.Lined.{said, line_of, trace_of, worker_of}
 use Rattle.shared_work.specs.Sharing.{CollectsFew, EachRises, NamesWhatItBuilt}
 use Rattle.shared_work.specs.Filling.{FillsRows, TellsFull}
 use Rattle.shared_work.specs.Numbers.{TellsFew}

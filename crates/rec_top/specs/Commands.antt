@@ -12,7 +12,7 @@ use Rattle.rec_drill.specs.Drill.{drill_bytes}
 use Rattle.settings.specs.declared.parts.Command.TheVariants.{Drill}
 use Rattle.settings.specs.declared.parts.Settings.{Settings}
 use Rattle.worker_crew.specs.declared.lines.Lines.{Lines}
-use Rattle.rewrite_workers.specs.Lined.{worker_of}
+use Rattle.work_order.specs.Lined.{worker_of}
 use Rattle.shared_work.specs.Sharing.{CollectsFew, EachRises}
 use Rattle.rec_answers.specs.Written.{Output}
 use Rattle.rec_answers.specs.Input.{ReadsSource, HasInput}

@@ -9,7 +9,7 @@ use Rattle.rewrite_model.specs.declared.event.Event.{Event}
 use Rattle.settings.specs.declared.parts.Settings.{Settings}
 use Rattle.worker_crew.specs.declared.lines.Line.{Line}
 use Rattle.worker_crew.specs.declared.lines.Traced.{Traced}
-use Rattle.rewrite_workers.specs.Lined.{said, worker_of, line_of, trace_of, Told, told, told_of, maker_of}
+use Rattle.work_order.specs.Lined.{said, worker_of, line_of, trace_of, Told, told, told_of, maker_of}
 
 map_twice : {A B C : Type 0} (f : A → B) (g : B → C) (xs : List A) → map g (map f xs) ≡ map (λ x. g (f x)) xs
 map_twice f g [] = refl

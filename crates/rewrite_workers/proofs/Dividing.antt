@@ -8,20 +8,11 @@ use Rattle.std.proofs.lemmas.List.Elements.{All-nil, All-head, All-tail, All-con
 use Rattle.std.proofs.lemmas.List.Concat.{flat_map-cons}
 use Rattle.term_model.specs.Tree.{Tree, Leaf}
 use Rattle.worker_crew.specs.Dealt.{times}
-use Rattle.rewrite_workers.specs.Lined.{drawn_by}
-use Rattle.rewrite_workers.specs.Works.{term_at}
-use Rattle.rewrite_workers.specs.Ends.{Rises, numbered}
+use Rattle.work_order.specs.Lined.{drawn_by}
+use Rattle.work_order.specs.Works.{term_at}
+use Rattle.work_order.specs.Drawn.{Rises, numbered}
 use Rattle.rewrite_workers.specs.Worked.{of_terms}
-use Rattle.worker_crew.proofs.Dealing.{hit, times_cons, times_append, hit_same, hit_other, sum_cons}
-
--- what is above isn't there
-pub times_none : (n : ℕ) (xs : List ℕ) → All (λ x. n < x) xs → times n xs ≡ 0
-times_none n [] h = refl
-times_none n (x ∷ xs) h =
-    let a : n < x = All-head (λ y. n < y) x xs h in
-    let b = times_none n xs (All-tail (λ y. n < y) x xs h) in
-    let c = hit_other n x (λ e. omega arith) in
-    let d = times_cons n x xs in omega arith
+use Rattle.worker_crew.proofs.Dealing.{hit, times_cons, times_append, hit_same, hit_other, sum_cons, times_none}
 
 -- all that is no less than a number that isn't there is above it
 pub all_next : (n : ℕ) (xs : List ℕ) → All (λ x. n ≤ x) xs → times n xs ≡ 0 → All (λ x. n + 1 ≤ x) xs

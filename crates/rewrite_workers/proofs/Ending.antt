@@ -11,8 +11,9 @@ use Rattle.innermost.specs.declared.normal.RunFault.{RunFault}
 use Rattle.line_ends.specs.declared.stop.LineStop.{LineStop}
 use Rattle.line_ends.specs.declared.stop.LineStop.TheVariants as stop
 use Rattle.rewrite_workers.specs.Desks.{KeepsDesk}
-use Rattle.rewrite_workers.specs.Ends.{BuiltAll, BuiltFront, RefusedLast, Ended, numbered}
-use Rattle.rewrite_workers.specs.Works.{term_at, strategy_of, remembers_results, AreBuilt, need_at, need_of}
+use Rattle.rewrite_workers.specs.Ends.{BuiltAll, BuiltFront, RefusedLast, Ended}
+use Rattle.work_order.specs.Drawn.{numbered}
+use Rattle.work_order.specs.Works.{term_at, strategy_of, remembers_results, AreBuilt, need_at, need_of}
 use Rattle.rewrite_workers.specs.Working.{WorksOn, more_sweeps}
 
 pub numbered-append : (terms : List Tree) (xs ys : List ℕ) → numbered terms (xs ++ ys) ≡ numbered terms xs ++ numbered terms ys

@@ -20,10 +20,11 @@ use Rattle.worker_crew.specs.declared.lines.Traced.{Traced}
 use Rattle.worker_crew.specs.declared.share.Numbered.{Numbered}
 use Rattle.worker_crew.specs.declared.share.Share.{Share}
 use Rattle.worker_crew.specs.Dealt.{times, once_below}
-use Rattle.rewrite_workers.specs.Works.{term_at, need_of}
-use Rattle.rewrite_workers.specs.Lined.{told, maker_of, told_of, drawn_by}
+use Rattle.work_order.specs.Works.{term_at, need_of}
+use Rattle.work_order.specs.Lined.{told, maker_of, told_of, drawn_by}
 use Rattle.rewrite_workers.specs.Desks.{IsReady, EachDesk, KeepsDesk}
-use Rattle.rewrite_workers.specs.Ends.{AreApart, BuiltAll, Ended, Rises, Stopped, numbered}
+use Rattle.rewrite_workers.specs.Ends.{BuiltAll, Ended, Stopped}
+use Rattle.work_order.specs.Drawn.{AreApart, Rises, numbered}
 use Rattle.rewrite_workers.specs.Worked.{of_terms, IsLineAt, HasLines, HasLinesWhere}
 use Rattle.rewrite_workers.specs.Shares.{EachShare, Works}
 use Rattle.worker_crew.specs.Gathered.{end_of_share, HasOneShare, HasPlaces, PlacesAll, IsWorst}

@@ -16,9 +16,10 @@ use Rattle.worker_crew.specs.declared.draws.Drawn.{Drawn}
 use Rattle.worker_crew.specs.declared.share.Numbered.{Numbered}
 use Rattle.worker_crew.specs.declared.share.Share.{Share}
 use Rattle.worker_crew.specs.Dealt.{IsIn, drew, times}
-use Rattle.rewrite_workers.specs.Works.{term_at, need_at, need_of}
-use Rattle.rewrite_workers.specs.Lined.{told_of}
-use Rattle.rewrite_workers.specs.Ends.{BuiltAll, Ended, Rises, numbered}
+use Rattle.work_order.specs.Works.{term_at, need_at, need_of}
+use Rattle.work_order.specs.Lined.{told_of}
+use Rattle.rewrite_workers.specs.Ends.{BuiltAll, Ended}
+use Rattle.work_order.specs.Drawn.{Rises, numbered}
 use Rattle.rewrite_workers.specs.Working.{WorksOn}
 use Rattle.rewrite_workers.specs.Worked.{of_terms, KeepsSeat, AddsLine, Drew, IsLineAt, HasLinesWhere, Worked}
 use Rattle.worker_crew.specs.Crews.{drawn_of, number_of, IsFresh}

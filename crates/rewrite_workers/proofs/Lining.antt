@@ -26,7 +26,7 @@ use Rattle.line_ends.specs.declared.stop.LineStop.TheVariants as stop
 use Rattle.rewrite_workers.specs.Desks.{IsReady}
 use Rattle.rewrite_workers.specs.Ends.{BuiltAll, BuiltFront, RefusedLast, Ended}
 use Rattle.rewrite_workers.specs.Working.{WorksOn, more_sweeps}
-use Rattle.rewrite_workers.specs.Works.{strategy_of, tells_events, remembers_results, AreBuilt, IsInnermost}
+use Rattle.work_order.specs.Works.{strategy_of, tells_events, remembers_results, AreBuilt, IsInnermost}
 
 module _ (s : Settings) (plan : Planned) (term : Tree) (a b c d : Store) (ready : IsReady s plan a) (entered : Entered a b) (numbers : KeepsNumbers b c) (empty : c.stack ≡ []) (left : Left c d) where
   abbrev strategy : Strategy

@@ -13,8 +13,8 @@ use Rattle.worker_crew.specs.declared.lines.Lines.{Lines}
 use Rattle.worker_crew.specs.declared.lines.Traced.{Traced}
 use Rattle.worker_crew.specs.declared.share.Share.{Share}
 use Rattle.worker_crew.specs.Gathered.{end_of_share, IsCollected, IsWorst}
-use Rattle.rewrite_workers.specs.Works.{need_of}
-use Rattle.rewrite_workers.specs.Lined.{drawn_by}
+use Rattle.work_order.specs.Works.{need_of}
+use Rattle.work_order.specs.Lined.{drawn_by}
 use Rattle.rewrite_workers.specs.Desks.{IsReady, EachDesk}
 use Rattle.rewrite_workers.specs.Ends.{BuiltAll}
 use Rattle.rewrite_workers.specs.Outcome.{Leaves, Traces, Rewrites}

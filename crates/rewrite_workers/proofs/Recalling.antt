@@ -25,8 +25,8 @@ use Rattle.term_lines.specs.declared.rewriter.Rewriter.{Rewriter}
 use Rattle.line_ends.specs.declared.stop.LineStop.{LineStop}
 use Rattle.term_lines.proofs.Recalling.{may_still}
 use Rattle.innermost.proofs.Memories.{none_right}
-use Rattle.rewrite_workers.specs.Lined.{Told, told_of}
-use Rattle.rewrite_workers.specs.Works.{strategy_of, is_traced, are_unconditional, tells_events, remembers_results}
+use Rattle.work_order.specs.Lined.{Told, told_of}
+use Rattle.work_order.specs.Works.{strategy_of, is_traced, are_unconditional, tells_events, remembers_results}
 use Rattle.rewrite_workers.specs.Working.{IsRewriterOf, Recalls}
 
 -- ---- the epoch of the desk

@@ -12,7 +12,7 @@ use Rattle.rule_match.specs.Planned.{Planned, IsPlain}
 use Rattle.term_text.specs.Text.{HasNames}
 use Rattle.term_lines.specs.Laws.{WritesNames}
 use Rattle.rewrite_workers.specs.Desks.{IsReady}
-use Rattle.rewrite_workers.specs.Works.{MayWork}
+use Rattle.work_order.specs.Works.{MayWork}
 use Rattle.rewrite_workers.specs.Trials.{IsEmptyDesk}
 
 pub may_work : (plan : Planned) (names : List Named) (terms : List Tree) → length terms < 2 ^ 32 → plan.rules ≡ [] → plan.widest ≡ 2 →

@@ -12,7 +12,8 @@ use Rattle.line_ends.specs.declared.stop.LineStop.{LineStop}
 use Rattle.worker_crew.specs.declared.fault.AllFault.TheVariants.{Memory}
 use Rattle.worker_crew.specs.Dealt.{times}
 use Rattle.rewrite_workers.specs.Desks.{EachDesk, KeepsDesk}
-use Rattle.rewrite_workers.specs.Ends.{Ended, Rises, Stopped, numbered}
+use Rattle.rewrite_workers.specs.Ends.{Ended, Stopped}
+use Rattle.work_order.specs.Drawn.{Rises, numbered}
 use Rattle.worker_crew.proofs.Dealing.{sum_none}
 use Rattle.rewrite_workers.proofs.Dividing.{times_flat}
 use Rattle.rewrite_workers.proofs.Eachwise.{each_unchanged}

@@ -3,7 +3,7 @@ use Rattle.std.specs.Prelude.{◌≡◌, ℕ, ◌+◌, ◌≤◌, List, [], Some
 use Rattle.terms_api.specs.Terms.{Store}
 use Rattle.rule_match.specs.Planned.{Planned}
 use Rattle.settings.specs.declared.parts.Settings.{Settings}
-use Rattle.rewrite_workers.specs.Works.{IsInnermost}
+use Rattle.work_order.specs.Works.{IsInnermost}
 
 -- Nobody is inside, the stack is empty, and there are the places of the settings, no more rows than they have, and the plan's width.
 pub record IsReady (s : Settings) (plan : Planned) (desk : Store) : Type 0 where

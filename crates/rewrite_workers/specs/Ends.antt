@@ -1,4 +1,4 @@
--- How workers end, and which terms each drew.
+-- How workers end.
 use Rattle.std.specs.Prelude.{◌≡◌, ℕ, ◌<◌, ◌≤◌, ◌⊎◌, List, [], ◌∷◌, ◌++◌, Some, Result, Ok, Err, All, false, length, slice_get}
 use Rattle.std.specs.List.{flat_map}
 use Rattle.term_model.specs.Tree.{Tree}
@@ -15,24 +15,8 @@ use Rattle.worker_crew.specs.declared.fault.AllFault.TheVariants.{Memory}
 use Rattle.worker_crew.specs.Dealt.{times}
 use Rattle.worker_crew.specs.Gathered.{IsWorst}
 use Rattle.rewrite_workers.specs.Desks.{EachDesk}
-use Rattle.rewrite_workers.specs.Works.{term_at, strategy_of, tells_events, remembers_results, AreBuilt}
-
--- the terms with these numbers, in their order
-abbrev pub numbered : List Tree → List ℕ → List Tree
-numbered terms [] = []
-numbered terms (i ∷ is) = term_at terms i ∷ numbered terms is
-
--- a list that rises
-abbrev pub Rises : List ℕ → Type 0
-Rises [] = Unit {0}
-Rises (i ∷ is) = All (λ j. i < j) is × Rises is
-
--- What each worker drew: numbers of terms, upwards, none of them twice.
-pub record AreApart (count workers : ℕ) (hands : List (List ℕ)) : Type 0 where
-  pub one_each : length hands ≡ workers
-  pub below : All (λ hand. All (λ i. i < count) hand) hands
-  pub upwards : All Rises hands
-  pub once : (i : ℕ) → times i (flat_map (λ hand. hand) hands) ≤ 1
+use Rattle.work_order.specs.Drawn.{numbered, AreApart}
+use Rattle.work_order.specs.Works.{term_at, strategy_of, tells_events, remembers_results, AreBuilt}
 
 -- the desk built what these terms build, in order, and nothing else
 abbrev pub BuiltAll : Settings → List Rule → List Tree → Store → Store → Type 0

@@ -1,7 +1,3 @@
-pub mod Works
-pub mod Lacking
-pub mod Wearing
-pub mod Lined
 pub mod Desks
 pub mod Ends
 pub mod Working

@@ -10,8 +10,8 @@ use Rattle.worker_crew.specs.declared.fault.AllFault.{AllFault}
 use Rattle.worker_crew.specs.declared.fault.AllFault.TheVariants as all
 use Rattle.worker_crew.specs.declared.lines.Lines.{Lines}
 use Rattle.worker_crew.specs.declared.lines.Traced.{Traced}
-use Rattle.rewrite_workers.specs.Works.{need_of}
-use Rattle.rewrite_workers.specs.Lined.{said, worker_of, line_of, trace_of, drawn_by, told, told_of, maker_of}
+use Rattle.work_order.specs.Works.{need_of}
+use Rattle.work_order.specs.Lined.{said, worker_of, line_of, trace_of, drawn_by, told, told_of, maker_of}
 use Rattle.rewrite_workers.specs.Desks.{IsReady, EachDesk, KeepsDesk}
 use Rattle.rewrite_workers.specs.Ends.{Stopped, BuiltAll}
 

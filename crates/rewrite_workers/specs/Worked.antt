@@ -12,9 +12,10 @@ use Rattle.worker_crew.specs.declared.share.Numbered.{Numbered}
 use Rattle.worker_crew.specs.declared.share.Share.{Share}
 use Rattle.worker_crew.specs.Dealt.{IsIn, times}
 use Rattle.worker_crew.specs.Crews.{drawn_of, number_of}
-use Rattle.rewrite_workers.specs.Works.{term_at, need_of}
-use Rattle.rewrite_workers.specs.Lined.{Told, told, told_of}
-use Rattle.rewrite_workers.specs.Ends.{Ended, Rises, numbered}
+use Rattle.work_order.specs.Works.{term_at, need_of}
+use Rattle.work_order.specs.Lined.{Told, told, told_of}
+use Rattle.rewrite_workers.specs.Ends.{Ended}
+use Rattle.work_order.specs.Drawn.{Rises, numbered}
 use Rattle.rewrite_workers.specs.Working.{WorksOn}
 
 -- the numbers that are those of terms

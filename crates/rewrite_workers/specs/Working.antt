@@ -9,7 +9,7 @@ use Rattle.settings.specs.declared.parts.Settings.{Settings}
 use Rattle.term_lines.specs.Written.{MayRecall, SweepsMore}
 use Rattle.term_lines.specs.declared.rewriter.Rewriter.{Rewriter}
 use Rattle.line_ends.specs.declared.stop.LineStop.{LineStop}
-use Rattle.rewrite_workers.specs.Works.{strategy_of, is_traced, IsInnermost, remembers_results}
+use Rattle.work_order.specs.Works.{strategy_of, is_traced, IsInnermost, remembers_results}
 use Rattle.line_ends.specs.declared.stop.LineStop.TheVariants as stop
 
 -- a rewriter of a plan, with the strategy of the settings' command, their fuel, depth and rows, and what they ask to be told

@@ -1,11 +1,11 @@
 // All terms, by all workers.
 ghost use Rattle.std.specs.Prelude.{◌≡◌, ◌<◌, ◌^◌, All, IfOk, IfErr, OnOk, length, map};
-ghost use Rattle.rewrite_workers.specs.Lined.{said, worker_of, line_of, trace_of, drawn_by};
+ghost use Rattle.work_order.specs.Lined.{said, worker_of, line_of, trace_of, drawn_by};
 ghost use Rattle.rewrite_workers.specs.Desks.{IsReady, EachDesk, KeepsDesk};
 ghost use Rattle.rewrite_workers.specs.Ends.{Stopped, BuiltAll};
 ghost use Rattle.worker_crew.specs.Crews.{IsCrew};
 ghost use Rattle.rewrite_workers.specs.Outcome.{Traces, Rewrites};
-ghost use Rattle.rewrite_workers.specs.Works.{MayWork, need_of};
+ghost use Rattle.work_order.specs.Works.{MayWork, need_of};
 
 use crate::threads::work_all;
 use crate::worker::Job;

@@ -4,9 +4,8 @@
 mod all;
 mod remembered;
 mod threads;
-mod work;
 mod worker;
 
 pub use all::rewrite_all;
-pub use work::Work;
+pub use work_order::Work;
 pub use worker_crew::{AllFault, Line, Lines};

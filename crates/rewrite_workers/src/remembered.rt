@@ -5,7 +5,7 @@ ghost use Rattle.rewrite_model.specs.Rule.{Rule};
 ghost use Rattle.settings.specs.declared.parts.Settings.{Settings};
 ghost use Rattle.term_lines.specs.Written.{MayRecall};
 ghost use Rattle.rewrite_workers.specs.Working.{Recalls};
-ghost use Rattle.rewrite_workers.specs.Works.{remembers_results};
+ghost use Rattle.work_order.specs.Works.{remembers_results};
 
 use innermost::Memo;
 use terms_api::Terms;

@@ -1,7 +1,7 @@
 // One thread for each worker.
 ghost use Rattle.std.specs.Thread.{IsSync, IsSend};
 ghost use Rattle.std.specs.Prelude.{◌≡◌, All, length};
-ghost use Rattle.rewrite_workers.specs.Works.{MayWork};
+ghost use Rattle.work_order.specs.Works.{MayWork};
 ghost use Rattle.rewrite_workers.specs.Desks.{IsReady};
 ghost use Rattle.worker_crew.specs.Crews.{IsFresh};
 ghost use Rattle.rewrite_workers.specs.Shares.{EachShare, Works};

@@ -1,8 +1,8 @@
 // What one worker does: it draws terms until none is left, and makes the line of each.
 ghost use Rattle.std.specs.Prelude.{◌≡◌, ◌<◌, [], ◌∷◌, None, IfOk, OnErr, OnOk, length};
 ghost use Rattle.term_model.specs.declared.Row.{Row};
-ghost use Rattle.rewrite_workers.specs.Works.{MayWork, term_at, need_at};
-ghost use Rattle.rewrite_workers.specs.Lined.{told, told_of};
+ghost use Rattle.work_order.specs.Works.{MayWork, term_at, need_at};
+ghost use Rattle.work_order.specs.Lined.{told, told_of};
 ghost use Rattle.rewrite_workers.specs.Desks.{IsReady};
 ghost use Rattle.rewrite_workers.specs.Ends.{Ended};
 ghost use Rattle.rewrite_workers.specs.Working.{IsRewriterOf, Recalls, WorksOn};

@@ -15,8 +15,8 @@ use Rattle.node_rows.specs.Passes.{IsPass, IsOut}
 use Rattle.node_rows.specs.Told.{HasEntries, KeepsOrder, HasRisingKeys, TellsTrees}
 use Rattle.worker_crew.specs.declared.fault.AllFault.{AllFault}
 use Rattle.worker_crew.specs.declared.lines.Lines.{Lines}
-use Rattle.rewrite_workers.specs.Lined.{worker_of, drawn_by}
-use Rattle.rewrite_workers.specs.Works.{AreBuilt}
+use Rattle.work_order.specs.Lined.{worker_of, drawn_by}
+use Rattle.work_order.specs.Works.{AreBuilt}
 use Rattle.shared_desk.specs.Code.{Contents}
 use Rattle.shared_desk.specs.Pass.{PassView, WhichStore, WhichPass}
 use Rattle.shared_desk.specs.Passes.{IsBack}

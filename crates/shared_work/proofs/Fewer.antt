@@ -8,8 +8,8 @@ use Rattle.term_model.proofs.Members.{distinct_of_part}
 use Rattle.rewrite_model.specs.Rule.{Rule}
 use Rattle.settings.specs.declared.parts.Settings.{Settings}
 use Rattle.history_core.specs.declared.entry.Entry.{Entry}
-use Rattle.rewrite_workers.specs.Ends.{numbered}
-use Rattle.rewrite_workers.specs.Works.{built_of}
+use Rattle.work_order.specs.Drawn.{numbered}
+use Rattle.work_order.specs.Works.{built_of}
 use Rattle.worker_crew.specs.declared.fault.AllFault.{AllFault}
 use Rattle.worker_crew.specs.declared.lines.Lines.{Lines}
 use Rattle.shared_work.specs.Filling.{IsMade, FillsRows, TellsFull}

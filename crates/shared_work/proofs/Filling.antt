@@ -20,8 +20,8 @@ use Rattle.node_rows.proofs.Crowding.{told_none_by}
 use Rattle.worker_crew.specs.declared.fault.AllFault.{AllFault}
 use Rattle.worker_crew.specs.declared.fault.AllFault.TheVariants.{StoreFull}
 use Rattle.worker_crew.specs.declared.lines.Lines.{Lines}
-use Rattle.rewrite_workers.specs.Ends.{numbered, AreApart}
-use Rattle.rewrite_workers.specs.Works.{strategy_of, remembers_results}
+use Rattle.work_order.specs.Drawn.{numbered, AreApart}
+use Rattle.work_order.specs.Works.{strategy_of, remembers_results}
 use Rattle.shared_desk.specs.Desk.{store_of}
 use Rattle.shared_desk.proofs.Telling.{crowd_is_last, crowd_is_of_its_names}
 use Rattle.shared_work.specs.Running.{HasRun, WantsMemory}

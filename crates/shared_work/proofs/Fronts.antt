@@ -21,9 +21,10 @@ use Rattle.line_ends.specs.declared.stop.LineStop.TheVariants as stop
 use Rattle.worker_crew.specs.declared.fault.AllFault.{AllFault}
 use Rattle.worker_crew.specs.declared.lines.Lines.{Lines}
 use Rattle.worker_crew.specs.Dealt.{times}
-use Rattle.rewrite_workers.specs.Ends.{numbered, Rises, AreApart, BuiltAll, BuiltFront, RefusedLast, Ended}
-use Rattle.rewrite_workers.specs.Lined.{worker_of, drawn_by}
-use Rattle.rewrite_workers.specs.Works.{strategy_of, remembers_results, AreBuilt}
+use Rattle.rewrite_workers.specs.Ends.{BuiltAll, BuiltFront, RefusedLast, Ended}
+use Rattle.work_order.specs.Drawn.{numbered, Rises, AreApart}
+use Rattle.work_order.specs.Lined.{worker_of, drawn_by}
+use Rattle.work_order.specs.Works.{strategy_of, remembers_results, AreBuilt}
 use Rattle.shared_desk.specs.Desk.{store_of}
 use Rattle.shared_work.specs.Running.{HasRun, WantsMemory}
 use Rattle.shared_work.specs.Sharing.{named_by, NamesWhatItBuilt}

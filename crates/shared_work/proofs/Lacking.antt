@@ -22,7 +22,7 @@ use Rattle.node_rows.proofs.Crowding.{told_none_by}
 use Rattle.worker_crew.specs.declared.fault.AllFault.{AllFault}
 use Rattle.worker_crew.specs.declared.fault.AllFault.TheVariants.{StoreFull}
 use Rattle.worker_crew.specs.declared.lines.Lines.{Lines}
-use Rattle.rewrite_workers.specs.Works.{need_of, IsInnermost, remembers_results}
+use Rattle.work_order.specs.Works.{need_of, IsInnermost, remembers_results}
 use Rattle.shared_desk.specs.Desk.{store_of}
 use Rattle.shared_desk.specs.Telling.{protected_by}
 use Rattle.shared_desk.proofs.Telling.{crowd_is_last, crowd_is_of_its_names, hand_is_protected, load_is_most}

@@ -8,9 +8,9 @@ use Rattle.rewrite_model.specs.Rule.{Rule}
 use Rattle.term_lines.specs.Strategies.{built_by}
 use Rattle.term_lines.proofs.Lists.{within}
 use Rattle.settings.specs.declared.parts.Settings.{Settings}
-use Rattle.rewrite_workers.specs.Ends.{numbered}
-use Rattle.rewrite_workers.specs.Lined.{drawn_by}
-use Rattle.rewrite_workers.specs.Works.{term_at, strategy_of, remembers_results, built_of, AreBuilt}
+use Rattle.work_order.specs.Drawn.{numbered}
+use Rattle.work_order.specs.Lined.{drawn_by}
+use Rattle.work_order.specs.Works.{term_at, strategy_of, remembers_results, built_of, AreBuilt}
 
 one_of_none : {A : Type 0} (x : A) → Contains [] x → ⊥
 one_of_none x (k, l, e) = omega (arith, l)

@@ -19,8 +19,8 @@ use Rattle.rewrite_model.specs.Built.{trees_in_hand, greatest, need}
 use Rattle.innermost.specs.Normalized.{IsPartOf}
 use Rattle.settings.specs.declared.parts.Settings.{Settings}
 use Rattle.term_lines.specs.Strategies.{points_of}
-use Rattle.rewrite_workers.specs.Ends.{numbered}
-use Rattle.rewrite_workers.specs.Works.{term_at, need_of}
+use Rattle.work_order.specs.Drawn.{numbered}
+use Rattle.work_order.specs.Works.{term_at, need_of}
 
 -- the subtrees of all these trees
 abbrev pub below : List Tree → List Tree

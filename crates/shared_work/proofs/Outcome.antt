@@ -12,8 +12,8 @@ use Rattle.node_rows.specs.Joining.{HasBase}
 use Rattle.node_rows.specs.Told.{HasEntries, HasRisingKeys, KeepsOrder, TellsCrowd, TellsTrees, view_of}
 use Rattle.worker_crew.specs.declared.fault.AllFault.{AllFault}
 use Rattle.worker_crew.specs.declared.lines.Lines.{Lines}
-use Rattle.rewrite_workers.specs.Lined.{said, worker_of, line_of, trace_of}
-use Rattle.rewrite_workers.specs.declared.work.Work.{Work}
+use Rattle.work_order.specs.Lined.{said, worker_of, line_of, trace_of}
+use Rattle.work_order.specs.declared.work.Work.{Work}
 use Rattle.work_desks.specs.Keys.{HasKeys}
 use Rattle.work_desks.proofs.Making.{has_rows}
 use Rattle.shared_work.specs.Fronts.{NamesFronts}

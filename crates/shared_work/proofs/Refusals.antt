@@ -19,7 +19,7 @@ use Rattle.term_lines.specs.declared.strategy.Strategy.TheVariants.{Innermost, O
 use Rattle.term_lines.specs.Strategies.{points_of, IsBuiltBy, RefusedBy}
 use Rattle.term_lines.proofs.Lists.{one_built}
 use Rattle.rewrite_workers.specs.Ends.{RefusedLast}
-use Rattle.rewrite_workers.specs.Works.{strategy_of, remembers_results, AreBuilt}
+use Rattle.work_order.specs.Works.{strategy_of, remembers_results, AreBuilt}
 use Rattle.rewrite_workers.proofs.Ending.{built_over}
 
 -- What was built is the first of such trees, and this is the next one.

@@ -11,7 +11,8 @@ use Rattle.node_rows.specs.declared.store.Pass.{Pass}
 use Rattle.line_ends.specs.declared.stop.LineStop.{LineStop}
 use Rattle.line_ends.specs.declared.stop.LineStop.TheVariants as stop
 use Rattle.worker_crew.specs.declared.fault.AllFault.TheVariants.{StoreFull, Memory}
-use Rattle.rewrite_workers.specs.Ends.{numbered, Ended, RefusedLast}
+use Rattle.rewrite_workers.specs.Ends.{Ended, RefusedLast}
+use Rattle.work_order.specs.Drawn.{numbered}
 use Rattle.worker_crew.specs.Gathered.{IsWorst}
 use Rattle.shared_desk.specs.Desk.{store_of}
 use Rattle.shared_work.specs.Running.{HasRun}

@@ -31,9 +31,10 @@ use Rattle.worker_crew.specs.declared.fault.AllFault.{AllFault}
 use Rattle.worker_crew.specs.declared.fault.AllFault.TheVariants.{Worn, Memory}
 use Rattle.worker_crew.specs.declared.lines.Lines.{Lines}
 use Rattle.worker_crew.specs.Dealt.{times}
-use Rattle.rewrite_workers.specs.Ends.{numbered, BuiltAll, BuiltFront, Ended, RefusedLast}
+use Rattle.rewrite_workers.specs.Ends.{BuiltAll, BuiltFront, Ended, RefusedLast}
+use Rattle.work_order.specs.Drawn.{numbered}
 use Rattle.worker_crew.specs.Gathered.{IsWorst}
-use Rattle.rewrite_workers.specs.Works.{term_at, strategy_of, remembers_results, built_of, AreBuilt}
+use Rattle.work_order.specs.Works.{term_at, strategy_of, remembers_results, built_of, AreBuilt}
 use Rattle.worker_crew.proofs.Dealing.{hit, times_cons, times_append}
 use Rattle.shared_desk.specs.Desk.{store_of}
 use Rattle.shared_desk.specs.Pass.{PassView, WhichStore, IsWorn}
@@ -41,7 +42,7 @@ use Rattle.shared_desk.specs.Passes as passes
 use Rattle.shared_desk.specs.Telling.{collects_by}
 use Rattle.shared_work.specs.Running.{HasRun, WantsMemory}
 use Rattle.shared_work.specs.Sharing.{named_by}
-use Rattle.rewrite_workers.specs.Wearing.{WearsOut}
+use Rattle.work_order.specs.Wearing.{WearsOut}
 use Rattle.shared_work.specs.Wearing.{TellsWorn}
 use Rattle.shared_work.proofs.Closing.{Worker, worker, names_built, collects_few, all_got}
 use Rattle.shared_work.proofs.Refusals.{StopsAt, last_refused, first, drawn_builds, was_built}

@@ -7,8 +7,8 @@ use Rattle.history_core.specs.TermSet.{trees_at}
 use Rattle.rewrite_model.specs.Rule.{Rule}
 use Rattle.settings.specs.declared.parts.Settings.{Settings}
 use Rattle.node_rows.specs.Crowding.{IsLastCollect}
-use Rattle.rewrite_workers.specs.Ends.{numbered, AreApart}
-use Rattle.rewrite_workers.specs.Works.{AreBuilt}
+use Rattle.work_order.specs.Drawn.{numbered, AreApart}
+use Rattle.work_order.specs.Works.{AreBuilt}
 use Rattle.worker_crew.specs.declared.fault.AllFault.{AllFault}
 use Rattle.worker_crew.specs.declared.fault.AllFault.TheVariants.{StoreFull}
 use Rattle.shared_work.specs.Sharing.{named_by}

@@ -4,8 +4,8 @@ use Rattle.term_model.specs.Tree.{Tree}
 use Rattle.history_core.specs.declared.entry.Entry.{Entry}
 use Rattle.rewrite_model.specs.Rule.{Rule}
 use Rattle.settings.specs.declared.parts.Settings.{Settings}
-use Rattle.rewrite_workers.specs.Ends.{numbered, AreApart}
-use Rattle.rewrite_workers.specs.Works.{built_of, AreBuilt}
+use Rattle.work_order.specs.Drawn.{numbered, AreApart}
+use Rattle.work_order.specs.Works.{built_of, AreBuilt}
 use Rattle.worker_crew.specs.declared.fault.AllFault.{AllFault}
 use Rattle.worker_crew.specs.declared.lines.Lines.{Lines}
 use Rattle.shared_work.specs.Running.{WantsMemory}

@@ -8,8 +8,8 @@ use Rattle.node_rows.specs.declared.store.Store.{Store}
 use Rattle.node_rows.specs.declared.store.Pass.{Pass}
 use Rattle.worker_crew.specs.declared.fault.AllFault.{AllFault}
 use Rattle.worker_crew.specs.declared.lines.Lines.{Lines}
-use Rattle.rewrite_workers.specs.Lined.{said, worker_of, line_of, trace_of}
-use Rattle.rewrite_workers.specs.declared.work.Work.{Work}
+use Rattle.work_order.specs.Lined.{said, worker_of, line_of, trace_of}
+use Rattle.work_order.specs.declared.work.Work.{Work}
 use Rattle.shared_work.specs.Filling.{TellsFull}
 use Rattle.shared_work.specs.Fronts.{NamesFronts, NamesOnlyBuilt, TellsEach}
 use Rattle.shared_work.specs.Numbers.{TellsFew}

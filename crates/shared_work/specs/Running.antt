@@ -11,9 +11,9 @@ use Rattle.worker_crew.specs.declared.fault.AllFault.TheVariants.{Memory}
 use Rattle.worker_crew.specs.declared.lines.Lines.{Lines}
 use Rattle.rewrite_workers.specs.Desks.{EachDesk, KeepsDesk}
 use Rattle.rewrite_workers.specs.Ends.{BuiltAll, Stopped}
-use Rattle.rewrite_workers.specs.declared.work.Work.{Work}
-use Rattle.rewrite_workers.specs.Lined.{said, line_of, trace_of, worker_of, drawn_by}
-use Rattle.rewrite_workers.specs.Works.{MayWork, need_of}
+use Rattle.work_order.specs.declared.work.Work.{Work}
+use Rattle.work_order.specs.Lined.{said, line_of, trace_of, worker_of, drawn_by}
+use Rattle.work_order.specs.Works.{MayWork, need_of}
 use Rattle.node_rows.specs.declared.store.Store.{Store}
 use Rattle.node_rows.specs.declared.store.Pass.{Pass}
 use Rattle.node_rows.specs.Told.{view_of}

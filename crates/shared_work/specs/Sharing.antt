@@ -7,8 +7,8 @@ use Rattle.history_core.specs.TermSet.{empty}
 use Rattle.history_core.specs.Told.{told, named}
 use Rattle.rewrite_model.specs.Rule.{Rule}
 use Rattle.settings.specs.declared.parts.Settings.{Settings}
-use Rattle.rewrite_workers.specs.Lined.{drawn_by}
-use Rattle.rewrite_workers.specs.Works.{AreBuilt}
+use Rattle.work_order.specs.Lined.{drawn_by}
+use Rattle.work_order.specs.Works.{AreBuilt}
 use Rattle.shared_desk.specs.Telling.{collects_by}
 
 -- the trees that the Make and Find entries of worker k name, in order, each at its place in the chronicle

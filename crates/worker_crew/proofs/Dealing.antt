@@ -6,7 +6,7 @@ use native.Mathlib.Decide.{ℕ_discrete}
 use lib.ListN.{get_elem?}
 use native.Mathlib.Nat.{mod-eq_of_lt}
 use Rattle.std.proofs.lemmas.Bool.{lt-ltb, le-ltb, cases_lt}
-use Rattle.std.proofs.lemmas.List.Elements.{All-from_get_or}
+use Rattle.std.proofs.lemmas.List.Elements.{All-head, All-tail, All-from_get_or}
 use Rattle.std.proofs.lemmas.List.Sums.{sum_by-append, sum_by-set}
 use Rattle.atomic_table.specs.Table.{State, Me, keeps, step, stepped, Allows, Splits, Joins, opening}
 use Rattle.atomic_table.proofs.Lists.{at_set, at_snoc, set_again, set_else}
@@ -328,3 +328,12 @@ pub in_one : (about : Extent) (s : State (Unit {0}) Drawn) → IsDealt about s �
 in_one about s holds x below =
     let found = sum_one (λ (v : Drawn). times x v.numbers) s.views (holds.once x ∙ below_yes (get_or s.words 0 0) x below) in
     record { place = found.0; view = found.1; at = found.2; once = found.3; others = found.4 }
+
+-- what is above isn't there
+pub times_none : (n : ℕ) (xs : List ℕ) → All (λ x. n < x) xs → times n xs ≡ 0
+times_none n [] h = refl
+times_none n (x ∷ xs) h =
+    let a : n < x = All-head (λ y. n < y) x xs h in
+    let b = times_none n xs (All-tail (λ y. n < y) x xs h) in
+    let c = hit_other n x (λ e. omega arith) in
+    let d = times_cons n x xs in omega arith

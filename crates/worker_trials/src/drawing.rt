@@ -1,7 +1,7 @@
 //! Workers on one desk and on two, by stores that tell when they build and gates that wait.
 ghost use Rattle.std.specs.Prelude.{◌≡◌, ◌<◌, ◌^◌, All, IfOk, length};
 ghost use Rattle.plain_store.specs.Contents.{store_of};
-ghost use Rattle.rewrite_workers.specs.Works.{MayWork};
+ghost use Rattle.work_order.specs.Works.{MayWork};
 ghost use Rattle.rewrite_workers.specs.Trials.{IsEmptyDesk};
 
 use crate::told::{Hears, Told};

@@ -1,7 +1,7 @@
 //! Terms on one shared store, by one worker and by several, with values worked out by hand.
 ghost use Rattle.std.specs.Prelude.{◌≡◌, ◌≤◌, IfOk};
 ghost use Rattle.settings.specs.Words.{AreInRange};
-ghost use Rattle.rewrite_workers.specs.Works.{MayWork};
+ghost use Rattle.work_order.specs.Works.{MayWork};
 
 use ends::OpenGate;
 use rule_fitness::may_be_normalized;

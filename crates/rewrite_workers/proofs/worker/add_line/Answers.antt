@@ -3,8 +3,8 @@ use Rattle.std.specs.Prelude.{OnOk, is_ok, Result}
 use Rattle.line_ends.specs.declared.stop.LineStop.{LineStop}
 use Rattle.rewrite_workers.specs.Ends.{Ended}
 use Rattle.rewrite_workers.proofs.Ending.{all_front}
-use Rattle.rewrite_workers.specs.Works.{term_at}
-use Rattle.rewrite_workers.specs.Lined.{told_of}
+use Rattle.work_order.specs.Works.{term_at}
+use Rattle.work_order.specs.Lined.{told_of}
 use Rattle.rewrite_workers.specs.Worked.{AddsLine}
 use Rattle.worker_crew.specs.declared.share.Numbered.{Numbered}
 use Rattle.worker_crew.specs.declared.share.Share.{Share}

@@ -7,7 +7,7 @@ use Rattle.worker_crew.specs.declared.lines.Traced.{Traced}
 use Rattle.term_lines.specs.Line.{line_text}
 use Rattle.term_lines.specs.Strategies.{ended}
 use Rattle.term_lines.specs.Written.{MayRecall}
-use Rattle.rewrite_workers.specs.Works.{term_at, remembers_results}
+use Rattle.work_order.specs.Works.{term_at, remembers_results}
 use Rattle.rewrite_workers.proofs.Ending.{ended_stop}
 use Rattle.rewrite_workers.proofs.Lining.{line_ended}
 use Rattle.rewrite_workers.proofs.Recalling.{as_asked, recalls_asked, recalls_told, left_with, line_told}

@@ -1,6 +1,6 @@
-// What is to be rewritten, and how.
+//! What is to be rewritten, and how.
 ghost use Rattle.std.specs.Prelude.{◌≡◌};
-ghost use Rattle.rewrite_workers.specs.Works.{strategy_of, is_traced, are_unconditional};
+ghost use Rattle.work_order.specs.Works.{strategy_of, is_traced, are_unconditional};
 
 use rewrite_model::Rule;
 use rule_match::Plan;
@@ -33,14 +33,14 @@ fn are_unconditional(rules: &[Rule]) -> bool
 
 impl Work<'_> {
     /// Whether events are asked, of rules without conditions. Of others they would say nothing.
-    pub(crate) fn traced(&self) -> bool
+    pub fn traced(&self) -> bool
         ensures { result ≡ is_traced self.now.settings self.now.plan.now.rules }
     {
         self.settings.trace && are_unconditional(self.plan.rules())
     }
 
     /// How the terms are rewritten: innermost, but for the command that asks for the other.
-    pub(crate) fn strategy(&self) -> Strategy
+    pub fn strategy(&self) -> Strategy
         ensures { result ≡ strategy_of self.now.settings.command }
     {
         match self.settings.command {

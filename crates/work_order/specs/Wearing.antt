@@ -3,7 +3,7 @@ use Rattle.std.specs.Prelude.{◌+◌, ◌*◌, ◌^◌, ◌≤◌, List, length
 use Rattle.term_model.specs.Tree.{Tree}
 use Rattle.rewrite_model.specs.Rule.{Rule}
 use Rattle.settings.specs.declared.parts.Settings.{Settings}
-use Rattle.rewrite_workers.specs.Works.{built_of}
+use Rattle.work_order.specs.Works.{built_of}
 
 -- The numbers end at 2^62, and there may be so many collections that those don't suffice: one for
 -- each tree that the terms build, and for each worker one more; each, and two more, may use as many

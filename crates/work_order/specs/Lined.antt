@@ -12,7 +12,7 @@ use Rattle.term_lines.specs.Strategies.{ended}
 use Rattle.line_ends.specs.declared.kind.LineKind.{LineKind}
 use Rattle.worker_crew.specs.declared.lines.Line.{Line}
 use Rattle.worker_crew.specs.declared.lines.Traced.{Traced}
-use Rattle.rewrite_workers.specs.Works.{strategy_of, tells_events}
+use Rattle.work_order.specs.Works.{strategy_of, tells_events}
 
 -- what a line says of its term
 pub record Said : Type 0 where

@@ -4,7 +4,7 @@ use Rattle.term_model.specs.Tree.{Tree, distinct}
 use Rattle.rewrite_model.specs.Rule.{Rule}
 use Rattle.rewrite_model.specs.Built.{need_of_all}
 use Rattle.settings.specs.declared.parts.Settings.{Settings}
-use Rattle.rewrite_workers.specs.Works.{built_of, IsInnermost}
+use Rattle.work_order.specs.Works.{built_of, IsInnermost}
 
 -- all workers at once may need more rows than there are; of outermost rewriting no need is told
 abbrev pub NeedsMore : Settings → List Rule → List Tree → Type 0
