@@ -15,7 +15,7 @@ use Rattle.store_model.specs.declared.view.Content.{Content}
 use Rattle.store_model.specs.declared.view.Call.{Call}
 use Rattle.store_model.specs.declared.view.Call.TheVariants.{Idle, Comparing, Passing, Finding, Ended, Counting, Drawing, Placing, Filling, Numbering, Linking, Publishing, Loading, Storing}
 use Rattle.store_model.specs.Machine as core
-use Rattle.store_model.specs.Machine.{IsCreation, Go, action}
+use Rattle.store_model.specs.Machine.{Go, action}
 use Rattle.store_model.specs.Seats.{HasRead}
 use Rattle.store_model.specs.Invariant.{listed, names_of}
 use Rattle.store_model.specs.Runs.{Inductive}

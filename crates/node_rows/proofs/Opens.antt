@@ -17,7 +17,7 @@ use Rattle.store_model.specs.Words.{write}
 use Rattle.store_model.specs.Shown.{shown, total, in_table, index_of}
 use Rattle.store_model.specs.Steps as core
 use Rattle.store_model.specs.Runs as runs
-use Rattle.store_model.specs.Runs.{AreSizes, StartsWith}
+use Rattle.store_model.specs.Runs.{AreSizes}
 use Rattle.store_model.specs.Recalls.{Recalls}
 use Rattle.store_model.specs.StoreHolds.{StoreHolds}
 use Rattle.store_model.specs.NewStore.{MaySize}

@@ -30,7 +30,7 @@ use Rattle.store_model.specs.declared.view.Stay.{Stay}
 use Rattle.store_model.specs.declared.view.Stay.TheVariants.{Away, Based, Ready, Leaving}
 use Rattle.store_model.specs.Words as words
 use Rattle.store_model.specs.Machine as core
-use Rattle.store_model.specs.Machine.{LockAlone, LowerShared, UnaskSeat, GiveGranted, left, leaving, protected_in}
+use Rattle.store_model.specs.Machine.{UnaskSeat, GiveGranted, left, leaving, protected_in}
 use Rattle.store_model.specs.Shown.{shown}
 use Rattle.store_model.specs.Recalls.{Recalls}
 use Rattle.store_model.specs.StoreHolds.{StoreHolds}

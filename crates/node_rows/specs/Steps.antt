@@ -17,7 +17,7 @@ use Rattle.store_model.specs.declared.view.Place.{Place}
 use Rattle.store_model.specs.declared.view.Place.TheVariants.{Base, InUse, Bucket, RowWord, RootCount, Root}
 use Rattle.store_model.specs.declared.view.Stay.TheVariants.{Away, Ready}
 use Rattle.store_model.specs.Machine as core
-use Rattle.store_model.specs.Machine.{Action, based, ready, begins, action, with_got, rooted, root_counted, knowing, protected_in, LoadBase, LoadInUse, Begin, Go, LoadRoot, StoreRoot, StoreCount, ReadWord, ReadArgument, IsCreation, Each, In, widest}
+use Rattle.store_model.specs.Machine.{Action, based, ready, begins, action, with_got, rooted, root_counted, knowing, protected_in, LoadBase, LoadInUse, Begin, Go, LoadRoot, StoreRoot, StoreCount, ReadWord, ReadArgument, IsCreation, Each, widest}
 use Rattle.store_model.specs.Calls.{bucket}
 use Rattle.store_model.specs.Shown.{total, in_table, index_of}
 use Rattle.store_model.specs.Seats.{Where, looked, index, drawn}

@@ -1,6 +1,5 @@
 -- How workers end.
-use Rattle.std.specs.Prelude.{◌≡◌, ℕ, ◌<◌, ◌≤◌, ◌⊎◌, List, [], ◌∷◌, ◌++◌, Some, Result, Ok, Err, All, false, length, slice_get}
-use Rattle.std.specs.List.{flat_map}
+use Rattle.std.specs.Prelude.{◌≡◌, ℕ, ◌<◌, ◌≤◌, ◌⊎◌, List, [], ◌∷◌, ◌++◌, Some, Result, Ok, Err, false, length, slice_get}
 use Rattle.term_model.specs.Tree.{Tree}
 use Rattle.terms_api.specs.Terms.{Store}
 use Rattle.rewrite_model.specs.Rule.{Rule}
@@ -12,11 +11,10 @@ use Rattle.line_ends.specs.declared.stop.LineStop.{LineStop}
 use Rattle.line_ends.specs.declared.stop.LineStop.TheVariants as stop
 use Rattle.worker_crew.specs.declared.fault.AllFault.{AllFault}
 use Rattle.worker_crew.specs.declared.fault.AllFault.TheVariants.{Memory}
-use Rattle.worker_crew.specs.Dealt.{times}
 use Rattle.worker_crew.specs.Gathered.{IsWorst}
 use Rattle.rewrite_workers.specs.Desks.{EachDesk}
 use Rattle.work_order.specs.Drawn.{numbered, AreApart}
-use Rattle.work_order.specs.Works.{term_at, strategy_of, tells_events, remembers_results, AreBuilt}
+use Rattle.work_order.specs.Works.{strategy_of, tells_events, remembers_results, AreBuilt}
 
 -- the desk built what these terms build, in order, and nothing else
 abbrev pub BuiltAll : Settings → List Rule → List Tree → Store → Store → Type 0

@@ -1,9 +1,9 @@
 -- The lines that are values, and their traces, one after another.
 use Rattle.std.proofs.Common.{◌≡◌, ℕ, zero, suc, ◌+◌, ◌<◌, ◌≤◌, Bool, true, false, cond, eqb, List, [], ◌∷◌, ◌++◌, length, take, drop, get_or, Some, None, Bor, refl, sym, ap, ◌∙◌, arith, append_assoc, append-nil}
-use Rattle.std.specs.Prelude.{map, is_some, nat_lt}
-use Rattle.std.proofs.lemmas.List.{map-append, drop_more, drop_all, length-append}
+use Rattle.std.specs.Prelude.{map, is_some}
+use Rattle.std.proofs.lemmas.List.{map-append, drop_more, drop_all}
 use Rattle.log_check.specs.Words.{lines, before_first}
-use Rattle.run_checks.specs.Form.{trace_in, is_no_value, values_from, is_end, wrong_from, wrong_after, wrong_line}
+use Rattle.run_checks.specs.Form.{trace_in, is_no_value, values_from, is_end, wrong_from}
 use Rattle.run_checks.specs.Refusing.{IsCut}
 
 values_by : (i : ℕ) (l : List ℕ) (ls : List (List ℕ)) (c : Bool) → is_no_value l ≡ c → values_from i (l ∷ ls) ≡ cond c (values_from (i + 1) ls) (i ∷ values_from (i + 1) ls)

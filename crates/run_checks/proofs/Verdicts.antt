@@ -1,5 +1,5 @@
 -- What a replay and a text tell of a trace, and what the parts of an input tell of its verdict.
-use Rattle.std.proofs.Common.{◌≡◌, ℕ, ◌≤◌, Bool, false, List, [], length, Option, Some, None, Result, Ok, Err, inl, inr, Bor, refl, sym, ap, subst, ◌∙◌, arith}
+use Rattle.std.proofs.Common.{◌≡◌, ℕ, ◌≤◌, Bool, false, List, [], length, Option, Some, None, Result, Ok, Err, inl, inr, Bor, refl, sym, ap, subst, ◌∙◌}
 use Rattle.std.specs.Prelude.{IfOk, IfErr, IsTrue, option_and_then}
 use Rattle.std.specs.Option.{option_map, option_map_or}
 use Rattle.std.specs.Str.{bytes_eq}
@@ -16,16 +16,16 @@ use Rattle.rewrite_model.specs.declared.event.Event.{Event}
 use Rattle.rec_check.specs.Spelled.{Specified}
 use Rattle.term_text.specs.Text.{text}
 use Rattle.log_check.specs.Words.{lines}
-use Rattle.run_checks.specs.Form.{values_from, wrong_after, wrong_line}
+use Rattle.run_checks.specs.Form.{values_from, wrong_line}
 use Rattle.run_checks.specs.Held.{Held, IsPut, IsReplayed, term_at}
 use Rattle.run_checks.specs.Parts.{parts}
-use Rattle.run_checks.specs.Refusing.{IsCut, IsCutOff, IsWrongAt}
+use Rattle.run_checks.specs.Refusing.{IsCut, IsWrongAt}
 use Rattle.run_checks.specs.Specification.{Spells, IsFaulty}
 use Rattle.run_checks.specs.Verdict.{leads_to, first_underived, told, verdict, term_lines, trace_lines, HasParts, IsChecked, IsRefused}
 use Rattle.run_checks.specs.declared.checking.TraceVerdict.{TraceVerdict}
 use Rattle.run_checks.specs.Reached.{IsSound}
 use Rattle.run_checks.proofs.Soundness.{is_sound}
-use Rattle.run_checks.proofs.Values.{seen_lines, count_taken, cut_take, cut_drop}
+use Rattle.run_checks.proofs.Values.{cut_take, cut_drop}
 
 -- ---- a pattern to which nothing is bound is its own instance
 

@@ -10,7 +10,7 @@ use Rattle.history_core.proofs.Chronicles.{has_the_noted}
 use Rattle.history_core.proofs.Members.{contains_here, contains_there}
 use Rattle.history_core.proofs.Places.{lower_goes_first}
 use Rattle.store_model.specs.Words as words
-use Rattle.store_model.specs.Words.{Place, Base, Claim, write}
+use Rattle.store_model.specs.Words.{Place, Base, write}
 use Rattle.store_model.specs.Calls.{Call, Idle, Comparing, Passing, Finding, Ended, Counting, Drawing, Placing, Filling, Numbering, Linking, Publishing, Loading, Storing, View}
 use Rattle.store_model.specs.Machine.{Sizes, In, action, with_call, refusing, overdrawn, gained, arrived, IsCreation}
 use Rattle.store_model.specs.Invariant.{span, listed, tally, one_if}

@@ -1,12 +1,12 @@
 -- No row counts more arguments than it has room for.
-use Rattle.std.proofs.Common.{◌≡◌, ℕ, suc, pred, ◌≤◌, max, eqb, Bool, true, false, cond, Option, None, Some, List, [], ◌∷◌, ◌++◌, length, get_or, refl, sym, ap, subst, arith, true≢false}
+use Rattle.std.proofs.Common.{◌≡◌, ℕ, suc, pred, ◌≤◌, eqb, true, false, cond, Option, None, Some, List, [], ◌∷◌, ◌++◌, length, get_or, refl, sym, subst, arith, true≢false}
 use Rattle.std.specs.Prelude.{nat_lt}
 use Rattle.term_model.specs.declared.Head.{Head}
 use Rattle.term_model.specs.declared.Head.TheVariants.{App, Int, Nil, Cons}
 use Rattle.hash_buckets.specs.Spelled.{spelled}
-use Rattle.store_model.specs.Words.{Place, RowWord, same_place, write, put}
+use Rattle.store_model.specs.Words.{Place, RowWord, write, put}
 use Rattle.store_model.specs.Calls.{Content, words_of, Call, Idle, Comparing, Passing, Finding, Ended, Counting, Drawing, Placing, Filling, Numbering, Linking, Publishing, Loading, Storing, View}
-use Rattle.store_model.specs.Machine.{Sizes, State, Step, LockAlone, LowerShared, UnaskSeat, GiveGranted, LoadBase, LoadInUse, Begin, Go, LoadRoot, StoreRoot, StoreCount, ReadWord, ReadArgument, LoadAny, StoreAny, StoreClaim, IsCreation, action, begins, with_call, gained, refusing, overdrawn, arrived, ended, compared, filled, widest}
+use Rattle.store_model.specs.Machine.{Sizes, State, Step, LockAlone, LowerShared, UnaskSeat, GiveGranted, LoadBase, LoadInUse, Begin, Go, LoadRoot, StoreRoot, StoreCount, ReadWord, ReadArgument, LoadAny, StoreAny, StoreClaim, IsCreation, action, begins, with_call, gained, refusing, overdrawn, arrived, ended, compared, widest}
 use Rattle.store_model.specs.Seats.{Where, wanted}
 use Rattle.store_model.specs.Steps.{loads, is_stored, worn_by, InPlace, after}
 use Rattle.store_model.specs.Reads.{FitsRow}

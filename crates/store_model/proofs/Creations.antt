@@ -9,7 +9,7 @@ use Rattle.store_model.specs.Machine.{State, Each, IsCreation, action, with_call
 use Rattle.store_model.specs.Meaning.{Meaning, Matches, IsOlder, grown}
 use Rattle.store_model.specs.Seats.{wanted, IsSeen, IsKnown, MayWant}
 use Rattle.store_model.specs.StoreSteps as steps
-use Rattle.store_model.specs.StoreSteps.{IsInPlace, meant}
+use Rattle.store_model.specs.StoreSteps.{meant}
 use Rattle.store_model.specs.StoreHolds.{StoreHolds}
 use Rattle.store_model.specs.Laws.{made, found, EndsWithRow, EndsFull, CreationEnds, RefusalsHaveCause, HoldsTree, RowIsAsked}
 use Rattle.store_model.proofs.Basics.{choose, where_at, each_map, each_left}

@@ -4,10 +4,10 @@ use Rattle.std.specs.Prelude.{nat_lt}
 use Rattle.store_model.specs.Words.{Place, InUse, Base, FreeCount, Claim}
 use Rattle.store_model.specs.Calls.{Call, Idle, Loading, View}
 use Rattle.store_model.specs.Machine as machine
-use Rattle.store_model.specs.Machine.{Sizes, State, Step, LockAlone, LowerShared, UnaskSeat, GiveGranted, Begin, Go, StoreCount, ReadWord, ReadArgument, StoreAny, with_call}
+use Rattle.store_model.specs.Machine.{Sizes, State, Step, LockAlone, LowerShared, with_call}
 use Rattle.store_model.specs.Invariant.{span}
 use Rattle.store_model.specs.Steps as steps
-use Rattle.store_model.specs.Steps.{loads, grown_use, value_at, is_worn, worn_by, loading, names_left, ReachesByWords}
+use Rattle.store_model.specs.Steps.{loads, grown_use, value_at, is_worn, worn_by, loading, names_left}
 use Rattle.store_model.specs.StoreSteps.{meant}
 use Rattle.store_model.specs.Laws.{CollectionGrowsUse, OthersStay, IsWorn, WornChangesNothing, CollectionKeepsReached}
 use Rattle.store_model.proofs.Basics.{choose, put_same, put_other, write_same}

@@ -23,7 +23,6 @@ use Rattle.store_model.proofs.Locks.{is_in}
 use Rattle.store_model.proofs.Wrapped.{words_kept, stores_collects, creation_calm, creation_busy}
 use Rattle.store_model.proofs.Chains.{linked_once}
 use Rattle.store_model.proofs.Eight.{in_places}
-use Rattle.store_model.specs.StoreHolds.{StoreHolds}
 use Rattle.store_model.specs.Reads.{is_make, is_made, IsUndisturbed, Remembers}
 
 -- where the chain from the present head was walked and lacks c, no live row has its tree

@@ -15,7 +15,7 @@ use Rattle.store_model.specs.Calls.{Content, IsOver, View}
 use Rattle.hash_buckets.specs.Spelled.{spelled}
 use Rattle.store_model.specs.Machine.{Sizes, Each}
 use Rattle.store_model.specs.Meaning as meaning
-use Rattle.store_model.specs.Meaning.{Meaning, Matches, grown}
+use Rattle.store_model.specs.Meaning.{Meaning, Matches}
 use Rattle.store_model.specs.Invariant.{names_of, listed, HistoryFits}
 use Rattle.store_model.proofs.Basics.{choose, put_case, put_same, put_other}
 use Rattle.store_model.proofs.Chains.{some_words}

@@ -6,7 +6,6 @@ use native.Mathlib.Decide.{ℕ_discrete}
 use Rattle.lock_core.specs.declared.parts.LockStep.{LockStep}
 use Rattle.lock_core.specs.declared.parts.LockStep.TheVariants.{Unask}
 use Rattle.lock_core.specs.Lock as lock
-use Rattle.lock_core.specs.Lock.{seat_of}
 use Rattle.lock_core.proofs.Kept.{kept}
 use Rattle.history_core.specs.declared.entry.Entry.{Entry}
 use Rattle.history_core.specs.declared.entry.Entry.TheVariants.{Roots}

@@ -17,7 +17,7 @@ use Rattle.term_model.specs.declared.Head.TheVariants.{App, Int}
 use Rattle.store_model.specs.Words.{Place, same_place, Base, FreeCount, Claim, InUse, FreePlace, Bucket, RowWord, Birth, Next, RootCount, Root}
 use Rattle.store_model.specs.Calls.{IsOver, bucket, Call, Idle, Loading, Storing, Stay, Away, Based, Ready, Leaving, View}
 use Rattle.store_model.specs.Machine as machine
-use Rattle.store_model.specs.Machine.{Sizes, State, In, Each, Step, LockAlone, LowerShared, UnaskSeat, GiveGranted, LoadBase, LoadInUse, Begin, Go, LoadAny, StoreAny, MayName, has_got, MayBegin, SecondIsList, InAccess, IsCreation, protected_in, widest}
+use Rattle.store_model.specs.Machine.{Sizes, State, In, Each, Step, LockAlone, LowerShared, UnaskSeat, GiveGranted, LoadBase, LoadInUse, Begin, Go, LoadAny, StoreAny, MayName, has_got, SecondIsList, IsCreation, protected_in, widest}
 use Rattle.store_model.specs.Steps.{loads, value_at, is_stored, IsNextLoad, IsWhole, IsAtRest, IsLoading, MayStore, Permits}
 use Rattle.store_model.specs.Shown.{in_table}
 use Rattle.store_model.specs.StoreSteps.{row_place, Act, Loads, Stores, Draws, Exchanges, act, meant, Fits, RowFits, IsInPlace, after, Leads}

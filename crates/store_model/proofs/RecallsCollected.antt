@@ -5,7 +5,7 @@ use Rattle.std.proofs.lemmas.Bool.{cond_both}
 use Rattle.term_model.specs.Tree.{Tree}
 use Rattle.history_core.specs.declared.entry.Entry.{Entry}
 use Rattle.history_core.specs.declared.entry.Entry.TheVariants.{Collect}
-use Rattle.history_core.specs.Entry.{IsStep, place}
+use Rattle.history_core.specs.Entry.{place}
 use Rattle.history_core.specs.Entry as entry
 use Rattle.history_core.specs.TermSet.{Names, TermSet, empty}
 use Rattle.history_core.specs.Chronicle.{chronicle, noted, IsLegal, set_of, IsNoted, MayCollect}

@@ -6,7 +6,7 @@ use Rattle.history_core.specs.declared.entry.Entry.{Entry}
 use Rattle.history_core.specs.declared.entry.Entry.TheVariants.{Make, Find, Roots}
 use Rattle.history_core.specs.Entry.{IsStep, is_collect, needed, place}
 use Rattle.history_core.specs.TermSet as term_set
-use Rattle.history_core.specs.TermSet.{Names, TermSet, Holds, IsHeld, empty}
+use Rattle.history_core.specs.TermSet.{Names, TermSet, Holds}
 use Rattle.history_core.specs.Chronicle.{chronicle, noted, set_of, MayNote}
 use Rattle.history_core.specs.Recording.{present}
 use Rattle.history_core.proofs.Members.{contains_cases}

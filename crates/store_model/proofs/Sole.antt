@@ -9,9 +9,9 @@ use Rattle.history_core.specs.Entry.{is_collect}
 use Rattle.lock_core.specs.declared.parts.Phase.TheVariants as phase
 use Rattle.lock_core.specs.Lock.{Lock, idle}
 use Rattle.lock_core.specs.Exclusion.{IsExclusive}
-use Rattle.store_model.specs.Words.{Place, Base, FreeCount, Claim, InUse, FreePlace, Bucket, Root, RowWord, write, put}
-use Rattle.store_model.specs.Calls.{Content, bucket, Call, Idle, Publishing, Loading, Storing, Away, Ready, View}
-use Rattle.store_model.specs.Machine.{Sizes, State, Step, LockAlone, LowerShared, UnaskSeat, GiveGranted, LoadBase, LoadInUse, Begin, Go, LoadRoot, StoreRoot, StoreCount, ReadWord, ReadArgument, LoadAny, StoreAny, StoreClaim, IsCreation, action, begins, with_call, gained, arrived}
+use Rattle.store_model.specs.Words.{Place, Base, FreeCount, Claim, InUse, FreePlace, Bucket, write, put}
+use Rattle.store_model.specs.Calls.{Content, bucket, Call, Idle, Publishing, Loading, Away, Ready, View}
+use Rattle.store_model.specs.Machine.{Sizes, State, Step, LockAlone, LowerShared, UnaskSeat, GiveGranted, LoadBase, LoadInUse, Begin, Go, LoadRoot, StoreRoot, StoreCount, ReadWord, ReadArgument, LoadAny, StoreAny, StoreClaim, IsCreation, action, with_call, gained, arrived}
 use Rattle.store_model.specs.Seats.{Where, index, HasRead, RowDrawn}
 use Rattle.store_model.specs.Steps.{loads, worn_by, is_storing, is_collecting, IsLoading, head_read, IsFirst, ReadNow, IsFresh, InPlace, after, CoreHolds}
 use Rattle.store_model.specs.Reads.{is_make, is_made, IsUndisturbed}

@@ -14,7 +14,7 @@ use Rattle.history_core.proofs.Members.{contains_here, contains_there}
 use Rattle.history_core.proofs.Places.{lower_goes_first}
 use Rattle.history_core.proofs.Sound.{one_of, of_one}
 use Rattle.store_model.specs.Words as words
-use Rattle.store_model.specs.Words.{Place, Base, Claim, InUse}
+use Rattle.store_model.specs.Words.{Base, Claim, InUse}
 use Rattle.store_model.specs.Calls.{View}
 use Rattle.store_model.specs.Invariant.{listed}
 use Rattle.store_model.specs.Collection.{collected}

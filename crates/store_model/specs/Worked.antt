@@ -5,7 +5,7 @@ use Rattle.term_model.specs.declared.Head.TheVariants.{App, Int}
 use Rattle.lock_core.specs.declared.parts.LockStep.TheVariants.{Raise, Look, Lower, Take, Ask, Peek, Unask, Give}
 use Rattle.history_core.specs.declared.entry.Entry.{Entry}
 use Rattle.history_core.specs.declared.entry.Entry.TheVariants.{Make, Find, Roots, Collect}
-use Rattle.store_model.specs.Words.{Place, Base, FreeCount, Claim, InUse, FreePlace, Bucket, RowWord, Birth, Next, RootCount, Root}
+use Rattle.store_model.specs.Words.{Base, FreeCount, Claim, InUse, FreePlace, Bucket, RowWord, Birth, Next, RootCount, Root}
 use Rattle.store_model.specs.Calls.{Content, Idle}
 use Rattle.store_model.specs.declared.view.KnownWord.{KnownWord}
 use Rattle.store_model.specs.Machine.{Sizes, State, based}

@@ -1,8 +1,8 @@
 -- Symbols of a pool, and pools with more symbols.
-use Rattle.std.proofs.Common.{◌≡◌, ◌≤◌, ◌<◌, ◌∙◌, ℕ, zero, suc, ◌+◌, List, [], ◌∷◌, ◌++◌, length, length-append, slice_get, nat_eq, ltb, Bool, true, false, not, ◌&&◌, ◌||◌, cond, refl, ap, sym, arith, append_assoc, append-nil, Some}
+use Rattle.std.proofs.Common.{◌≡◌, ◌≤◌, ◌<◌, ◌∙◌, ℕ, zero, suc, ◌+◌, List, [], ◌∷◌, ◌++◌, length, length-append, slice_get, nat_eq, Bool, true, false, not, ◌&&◌, ◌||◌, cond, refl, ap, sym, arith, append_assoc, append-nil, Some}
 use Rattle.std.specs.Cmp.Lexicographic.{bytes_decides, pointwise}
 use Rattle.std.specs.Cmp.{first_so, second_so}
-use Rattle.std.proofs.lemmas.Bool.{eqb-true, eq-eqb, ltb-true, lt-ltb, le-ltb}
+use Rattle.std.proofs.lemmas.Bool.{eqb-true, eq-eqb, ltb-true, lt-ltb}
 use Rattle.std.proofs.lemmas.Option.{slice_get_within}
 use Rattle.symbol_pool.specs.Pool.{Named, named, most_symbols, Lacks, Has, IsFullFor, IsPool, Holds}
 use Rattle.term_model.specs.declared.Symbol.{Symbol}

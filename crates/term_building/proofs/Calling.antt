@@ -5,7 +5,7 @@ use Rattle.std.specs.Prelude.{if◌then◌else◌}
 use Rattle.std.proofs.lemmas.Bool.{leb-true, eq-eqb}
 use Rattle.term_model.proofs.Order.{both_hold}
 use Rattle.term_model.specs.Tree as tree
-use Rattle.term_model.specs.Tree.{Tree, Trees, Node, trees_of}
+use Rattle.term_model.specs.Tree.{Tree, Node, trees_of}
 use Rattle.term_model.specs.declared.Head.TheVariants.{App}
 use Rattle.symbol_pool.specs.Pool.{Named, named, IsPool, most_symbols}
 use Rattle.symbol_pool.specs.Taking.{number_of, has, with_symbol, is_full_for, GrowsPool}

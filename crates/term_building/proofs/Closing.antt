@@ -18,9 +18,9 @@ use Rattle.term_building.specs.Stages as stage
 use Rattle.term_building.specs.declared.groups.Group.{Group}
 use Rattle.term_building.specs.declared.groups.Heading.{Heading}
 use Rattle.term_building.specs.Progress as read
-use Rattle.term_building.specs.Progress.{Progress, Settled, Bracketed, Expected, Headed, Opening, Called, Bracket, Open, joined, whole}
+use Rattle.term_building.specs.Progress.{Expected, Opening, Called, Bracket, Open, joined, whole}
 use Rattle.term_building.specs.State as build
-use Rattle.term_building.specs.State.{State, name_in}
+use Rattle.term_building.specs.State.{State}
 use Rattle.term_building.specs.Text.{text_of, with_commas, opening_text, text_before, text_behind}
 use Rattle.term_building.specs.Trees.{trees_so_far, list_tree}
 use Rattle.term_building.specs.Shows.{ShowsOpening, ShowsGroups, count_so_far, HasSome, Holds, Shows}

@@ -15,9 +15,9 @@ use Rattle.term_building.specs.Stages as stage
 use Rattle.term_building.specs.declared.groups.Group.{Group}
 use Rattle.term_building.specs.Copying.{copied}
 use Rattle.term_building.specs.Progress as read
-use Rattle.term_building.specs.Progress.{Progress, Settled, Bracketed, Expected, Headed, Opening, Called, Bracket, Open, joined, whole}
+use Rattle.term_building.specs.Progress.{Progress, Settled, Bracketed, Headed, Bracket, Open, whole}
 use Rattle.term_building.specs.State as build
-use Rattle.term_building.specs.State.{State, name_in}
+use Rattle.term_building.specs.State.{State}
 use Rattle.term_building.specs.Text.{text_before}
 use Rattle.term_building.specs.Trees.{trees_so_far}
 use Rattle.term_building.specs.Shows.{count_so_far, Holds, Shows}

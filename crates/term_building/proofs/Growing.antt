@@ -1,7 +1,7 @@
 -- Terms stay good, and keep their trees, in a pool with more symbols.
 use Rattle.std.proofs.Common.{◌≡◌, List, [], ◌∷◌, ◌++◌, map, refl}
 use Rattle.term_model.specs.Tree as tree
-use Rattle.term_model.specs.Tree.{Tree, Trees, Node}
+use Rattle.term_model.specs.Tree.{Node}
 use Rattle.term_model.specs.declared.Head.TheVariants.{App, Cons}
 use Rattle.symbol_pool.specs.Pool.{Named, named}
 use Rattle.symbol_pool.specs.Taking.{GrowsPool}

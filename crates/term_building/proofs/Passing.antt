@@ -31,7 +31,7 @@ use Rattle.term_building.specs.Built.{IsBuilt}
 use Rattle.term_building.specs.Copying.{copied}
 use Rattle.term_building.specs.Reached.{HasPassed, Passes, Reaches, before}
 use Rattle.term_building.specs.Progress as read
-use Rattle.term_building.specs.Progress.{Progress, Settled, Bracketed, Expected, Headed, Open, step, run, start, whole, settled_if, all_read}
+use Rattle.term_building.specs.Progress.{Progress, Settled, Bracketed, Expected, Headed, Open, step, run, start, settled_if, all_read}
 use Rattle.term_building.specs.Shows.{Shows}
 use Rattle.term_building.specs.State as build
 use Rattle.term_building.specs.State.{State}

@@ -14,7 +14,7 @@ use Rattle.term_building.specs.Stages as stage
 use Rattle.term_building.specs.declared.groups.Group.{Group}
 use Rattle.term_building.specs.declared.groups.Heading.{Heading}
 use Rattle.term_building.specs.Progress as read
-use Rattle.term_building.specs.Progress.{Progress, Settled, Bracketed, Expected, Headed, Opening, Called, Bracket, Open, joined, whole}
+use Rattle.term_building.specs.Progress.{Progress, Settled, Bracketed, Expected, Headed, Called, Open, whole}
 use Rattle.term_building.specs.State as build
 use Rattle.term_building.specs.State.{State, name_in}
 use Rattle.term_building.specs.Text.{text_before, text_behind}

@@ -3,7 +3,7 @@ use Rattle.std.proofs.Common.{◌≡◌, ◌∙◌, ℕ, ◌+◌, List, [], ◌�
 use Rattle.std.specs.Prelude.{unwrap_or}
 use Rattle.std.proofs.lemmas.List.{map-append, replicate_more, length-map}
 use Rattle.term_model.specs.Tree as tree
-use Rattle.term_model.specs.Tree.{Tree, Trees, IsWellFormed, is_well_formed, all_well_formed}
+use Rattle.term_model.specs.Tree.{IsWellFormed, is_well_formed, all_well_formed}
 use Rattle.term_model.specs.Postorder.{postorder, postorder_all, tree_of}
 use Rattle.term_model.specs.declared.Item.{Item}
 use Rattle.term_model.specs.declared.Item.TheVariants.{App, Int, Nil, Cons}

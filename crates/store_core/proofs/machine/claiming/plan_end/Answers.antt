@@ -3,7 +3,6 @@ use Rattle.std.proofs.lemmas.Grind.{common_steps}
 use Rattle.store_model.specs.declared.view.Place.TheVariants.{Base, InUse, Claim}
 use Rattle.store_model.specs.declared.view.View.{View}
 use Rattle.store_model.specs.Machine as machine
-use Rattle.store_model.specs.Machine.{action, begins, based, ready, with_got, knowing, with_call}
 use Rattle.store_core.specs.Planning.{state_seen}
 use Rattle.store_core.proofs.Made.{made_word}
 use Rattle.std.specs.Prelude.{IsTrue, pred}

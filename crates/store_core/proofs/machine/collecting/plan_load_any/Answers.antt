@@ -1,7 +1,7 @@
 use Rattle.std.proofs.Common.{ℕ, refl, ap, ◌∙◌, rules, arith}
 use Rattle.std.proofs.lemmas.Grind.{common_steps}
 use Rattle.store_model.specs.Machine as machine
-use Rattle.store_model.specs.Machine.{action, begins, based, ready, with_got, knowing, with_call}
+use Rattle.store_model.specs.Machine.{with_call}
 use Rattle.store_model.specs.declared.view.View.{View}
 use Rattle.store_core.specs.Planning.{state_seen}
 use Rattle.store_model.proofs.Basics.{write_same}

@@ -2,7 +2,7 @@ use Rattle.std.proofs.Common.{◌≡◌, ℕ, suc, ◌-◌, refl, sym, subst, �
 use Rattle.std.proofs.lemmas.Grind.{common_steps}
 use Rattle.store_model.specs.declared.view.Place.TheVariants.{RowWord}
 use Rattle.store_model.specs.Machine as machine
-use Rattle.store_model.specs.Machine.{action, begins, based, ready, with_got, knowing, with_call}
+use Rattle.store_model.specs.Machine.{with_got, knowing}
 use Rattle.store_core.specs.Planning.{state_seen}
 use Rattle.store_model.proofs.Basics.{write_same}
 use Rattle.store_core.proofs.Made.{two, made_view}
