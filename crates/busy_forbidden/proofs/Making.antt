@@ -1,4 +1,5 @@
--- The steps of each call may be made: each is in place by the own view, and meets the rule's condition.
+-- The steps of each call may be made: each is in place by the own view, and meets the rule's
+-- condition.
 use Rattle.std.proofs.Common.{◌≡◌, ◌≢◌, ℕ, zero, suc, ◌+◌, ◌-◌, ◌<◌, ◌≤◌, eqb, true, false, cond, List, [], ◌∷◌, ◌++◌, length, refl, sym, ap, ◌∙◌, subst, arith, ne_eqb, add-one, inr}
 use Rattle.std.specs.Prelude.{All}
 use Rattle.lock_core.specs.declared.parts.Phase.TheVariants.{Out, Raised, Shared, Blocked, Holder}

@@ -1,10 +1,12 @@
--- The hash of a head over rows, and its bucket: Fowler, Noll and Vo's hash FNV-1a on words of 64 bits.
+-- The hash of a head over rows, and its bucket: Fowler, Noll and Vo's hash FNV-1a on words of 64
+-- bits.
 use Rattle.std.specs.Prelude.{ℕ, ◌*◌, ◌%◌, ◌^◌, bit_xor, List, [], ◌∷◌}
 use Rattle.term_model.specs.declared.Head.{Head}
 use Rattle.term_model.specs.declared.Head.TheVariants.{Int}
 use Rattle.hash_buckets.specs.Spelled.{symbol_word}
 
--- the words that are hashed: the symbol word, and then an integer's value, or the row number of each argument
+-- the words that are hashed: the symbol word, and then an integer's value, or the row number of
+-- each argument
 abbrev pub hashed_words : Head → List ℕ → List ℕ
 hashed_words (Int value) rows = symbol_word (Int value) ∷ value ∷ []
 hashed_words head rows = symbol_word head ∷ rows

@@ -10,7 +10,8 @@ symbol_word (Int value) = 4294967296
 symbol_word Nil = 4294967297
 symbol_word Cons = 4294967298
 
--- The symbol word, the count of arguments, and the arguments. An integer has no arguments, and its value in the place of the first.
+-- The symbol word, the count of arguments, and the arguments. An integer has no arguments, and its
+-- value in the place of the first.
 abbrev pub spelled : Head → List ℕ → List ℕ
 spelled (App symbol) rows = symbol.0 ∷ length rows ∷ rows
 spelled (Int value) rows = 4294967296 ∷ 0 ∷ value ∷ []

@@ -16,7 +16,8 @@ use Rattle.history_core.proofs.Growing.{Adds, step_grows, history_grows}
 abbrev pub paired : TermSet → ℕ → Tree → TermSet
 paired s n t = record { held = with_pair s.held n t; roots = s.roots }
 
--- A step is still one with a pair more, whose name and tree are not there in the end, and the pair may be added before or after it.
+-- A step is still one with a pair more, whose name and tree are not there in the end, and the pair
+-- may be added before or after it.
 pub step_beside_pair : (rows : ℕ) (s : TermSet) (end : Names) (n : ℕ) (t : Tree) (caller : ℕ) (e : Entry) → IsStep rows s e → is_collect e ≡ false
     → Grows s.held (after s caller e).held → Grows (after s caller e).held end → IsFree end n → Lacks end t
     → IsStep rows (paired s n t) e × (after (paired s n t) caller e ≡ paired (after s caller e) n t)
@@ -106,7 +107,8 @@ choice_again false x y z = refl
 abbrev pub left_with : TermSet → ℕ → List ℕ → TermSet
 left_with s caller names = rooted s (with_roots s.roots caller names)
 
--- Roots of a caller may be noted before or after an entry that isn't Roots of that caller; where it is, only the second count.
+-- Roots of a caller may be noted before or after an entry that isn't Roots of that caller; where it
+-- is, only the second count.
 after_roots : (s : TermSet) (caller : ℕ) (names : List ℕ) (other : ℕ) (e : Entry) → (other ≡ caller → is_roots e ≡ false)
     → after (left_with s caller names) other e ≡ left_with (after s other e) caller names
 after_roots s caller names other (Make number head args row) apart = refl

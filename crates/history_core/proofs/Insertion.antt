@@ -78,7 +78,8 @@ names_before s l (n ∷ ns) adds old held = (
   names_before s l ns adds old.1 held.1,
 )
 
--- A step of the set left is a step of the set before, where no Make between them gave a name that it needs.
+-- A step of the set left is a step of the set before, where no Make between them gave a name that
+-- it needs.
 pub step_before : (rows : ℕ) (s : TermSet) (e : Entry) (l : History) → Legal rows s l → Adds l → is_collect e ≡ false → AllByRecursion (λ n. NotMade n l) (needed e)
     → IsStep rows (left_by s l) e → IsStep rows s e × IsNew s.held (left_by s l).held e
 step_before rows s (Make number head args row) l legal adds kind old step =
@@ -96,7 +97,8 @@ step_before rows s (Find seen head args row) l legal adds kind old step =
 step_before rows s (Roots seen names) l legal adds kind old step = (names_before s l names adds old step, tt)
 step_before rows s (Collect number kept) l legal adds kind old step = cc
 
--- An entry that is a step of the set left may be put in, where no Make after its place gave a name that it needs.
+-- An entry that is a step of the set left may be put in, where no Make after its place gave a name
+-- that it needs.
 pub inserted : (rows : ℕ) (l : History) (x : ℕ × Entry) → IsLegal rows l → is_collect x.1 ≡ false → NoCollect (later x l)
     → ((n : ℕ) → Contains (needed x.1) n → NotMade n (later x l)) → IsStep rows (set_of l) x.1 → (is_roots x.1 ≡ true → NoRoots x.0 (later x l))
     → IsLegal rows (put x l) × (set_of (put x l) ≡ after (set_of l) x.0 x.1)
@@ -107,7 +109,8 @@ inserted rows l x legal kind none old step apart =
     let new = subst (λ z. IsNew (set_of (earlier x l)).held z.held x.1) (left_whole l x) there.1 in
     (insertion rows l x legal kind none there.0 new, insertion_leaves rows l x legal kind none there.0 new apart)
 
--- what stands after the place of an entry that may be noted: no Collect, no Make of a name that it needs, and no entry of its caller
+-- what stands after the place of an entry that may be noted: no Collect, no Make of a name that it
+-- needs, and no entry of its caller
 pub no_collect_later : (rows : ℕ) (lists : List (List Entry)) (caller : ℕ) (e : Entry) → MayNote rows lists caller e → NoCollect (later (caller, e) (chronicle lists))
 no_collect_later rows lists caller e may y c =
     false_from_ne_true (is_collect y.1) (λ h. both_ways (precedes (caller, e) y)

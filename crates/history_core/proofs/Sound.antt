@@ -1,4 +1,5 @@
--- The set that a legal history leaves has pairs of different names and trees, with all their subtrees.
+-- The set that a legal history leaves has pairs of different names and trees, with all their
+-- subtrees.
 use Rattle.std.proofs.Common.{◌≡◌, ℕ, ◌<◌, Bool, true, false, Option, Some, None, List, [], ◌∷◌, refl, sym, ap, ◌∙◌, subst, ◌⊎◌, inl, inr}
 use Rattle.std.specs.Prelude.{Contains, if◌then◌else◌, ◌==◌, unwrap_or}
 use Rattle.std.specs.List.{AllByRecursion}

@@ -1,4 +1,5 @@
--- A worked history: two callers, a Find and Roots at the key of a Make, and a Collect that drops one of three pairs.
+-- A worked history: two callers, a Find and Roots at the key of a Make, and a Collect that drops
+-- one of three pairs.
 use Rattle.std.proofs.Common.{◌≡◌, ℕ, Bool, true, false, Some, None, List, [], ◌∷◌, refl, sym, ap, ◌∙◌, subst, arith, ◌⊎◌, inl, inr}
 use Rattle.std.specs.Prelude.{Contains, if◌then◌else◌, ◌==◌}
 use Rattle.term_model.specs.Tree.{Tree, Node, End, More, subtrees}

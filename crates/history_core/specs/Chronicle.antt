@@ -63,7 +63,8 @@ left_by s (x ∷ xs) = left_by (after s x.0 x.1) xs
 abbrev pub set_of : History → TermSet
 set_of l = left_by empty l
 
--- no collection is among the entries, none adds a pair with this name, and none is Roots of this caller
+-- no collection is among the entries, none adds a pair with this name, and none is Roots of this
+-- caller
 abbrev pub NoCollect : History → Type 0
 NoCollect l = (y : ℕ × Entry) → Contains l y → is_collect y.1 ≡ false
 
@@ -78,14 +79,17 @@ pub record IsNoted (lists : List (List Entry)) (y : ℕ × Entry) : Type 0 where
   pub present : y.0 < length lists
   pub own : Contains (entries_of lists y.0) y.1
 
--- What the callers' lists give for one entry more, which is no Collect: its caller's keys don't fall, no Collect goes after it, nor does a
--- Make of a name that it needs, and it is a step of the set as it is now.
+-- What the callers' lists give for one entry more, which is no Collect: its caller's keys don't
+-- fall, no Collect goes after it, nor does a Make of a name that it needs, and it is a step of the
+-- set as it is now.
 pub record MayNote (rows : ℕ) (lists : List (List Entry)) (caller : ℕ) (e : Entry) : Type 0 where
   pub present : caller < length lists
   pub kind : is_collect e ≡ false
   pub own : (d : Entry) → Contains (entries_of lists caller) d → place d ≤ place e
-  pub collects : (y : ℕ × Entry) → IsNoted lists y → is_collect y.1 ≡ true → precedes (caller, e) y ≡ false
-  pub names : (n : ℕ) (y : ℕ × Entry) → Contains (needed e) n → IsNoted lists y → Made y.1 n → precedes (caller, e) y ≡ false
+  pub collects : (y : ℕ × Entry) → IsNoted lists y → is_collect y.1 ≡ true
+      → precedes (caller, e) y ≡ false
+  pub names : (n : ℕ) (y : ℕ × Entry) → Contains (needed e) n → IsNoted lists y → Made y.1 n
+      → precedes (caller, e) y ≡ false
   pub step : IsStep rows (set_of (chronicle lists)) e
 
 -- the same for a Collect: nothing goes after it
@@ -123,7 +127,8 @@ InOrder (y ∷ ys) = AllByRecursion (λ z. precedes z y ≡ false) ys × InOrder
 -- the keys of the entries never fall, and those of Make and Collect are above the earlier ones
 abbrev pub KeysRise : List Entry → Type 0
 KeysRise [] = Unit {0}
-KeysRise (e ∷ es) = AllByRecursion (λ d. (key e ≤ key d) × (is_numbered d ≡ true → key e < key d)) es × KeysRise es
+KeysRise (e ∷ es) =
+    AllByRecursion (λ d. (key e ≤ key d) × (is_numbered d ≡ true → key e < key d)) es × KeysRise es
 
 -- each caller's keys rise so, and the chronicle is legal
 pub record IsGood (rows : ℕ) (lists : List (List Entry)) : Type 0 where

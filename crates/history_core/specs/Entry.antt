@@ -5,8 +5,9 @@ pub use Rattle.history_core.specs.declared.entry.Entry.{Entry}
 pub use Rattle.history_core.specs.declared.entry.Entry.TheVariants.{Make, Find, Roots, Collect}
 use Rattle.history_core.specs.TermSet.{TermSet, Holds, IsHeld, IsFree, Lacks, MayCreate, tree_over, with_pair, with_roots, with_only, IsReached}
 
--- An entry is Make number head args row: a creation added a pair; Find after head args row: a creation found one; Roots after names: a
--- leave; or Collect number kept: a collection, and the names that stay.
+-- An entry is Make number head args row: a creation added a pair; Find after head args row: a
+-- creation found one; Roots after names: a leave; or Collect number kept: a collection, and the
+-- names that stay.
 abbrev pub is_collect : Entry → Bool
 is_collect (Make number head args row) = false
 is_collect (Find seen head args row) = false
@@ -58,17 +59,22 @@ abbrev pub IsAscending : List ℕ → Type 0
 IsAscending [] = Unit {0}
 IsAscending (n ∷ ns) = AllByRecursion (λ m. n < m) ns × IsAscending ns
 
--- An entry is a step of the set, whose names are below rows: a Make adds a pair of a name and a tree that no pair has, a Find
--- finds one and adds nothing, the names of Roots are held, and a Collect keeps exactly the pairs whose tree is inside some root's.
+-- An entry is a step of the set, whose names are below rows: a Make adds a pair of a name and a
+-- tree that no pair has, a Find finds one and adds nothing, the names of Roots are held, and a
+-- Collect keeps exactly the pairs whose tree is inside some root's.
 abbrev pub IsStep : ℕ → TermSet → Entry → Type 0
-IsStep rows s (Make number head args row) = MayCreate s.held head args × (row < rows) × IsFree s.held row × Lacks s.held (tree_over s.held head args)
-IsStep rows s (Find seen head args row) = MayCreate s.held head args × Holds s.held row (tree_over s.held head args)
+IsStep rows s (Make number head args row) = MayCreate s.held head args × (row < rows)
+    × IsFree s.held row × Lacks s.held (tree_over s.held head args)
+IsStep rows s (Find seen head args row) =
+    MayCreate s.held head args × Holds s.held row (tree_over s.held head args)
 IsStep rows s (Roots seen names) = AllByRecursion (IsHeld s.held) names
 IsStep rows s (Collect number kept) = IsAscending kept × ((n : ℕ) → Contains kept n ↔ IsReached s n)
 
 -- the set after an entry of this caller
 abbrev pub after : TermSet → ℕ → Entry → TermSet
-after s caller (Make number head args row) = record { held = with_pair s.held row (tree_over s.held head args); roots = s.roots }
+after s caller (Make number head args row) =
+    record { held = with_pair s.held row (tree_over s.held head args); roots = s.roots }
 after s caller (Find seen head args row) = s
-after s caller (Roots seen names) = record { held = s.held; roots = with_roots s.roots caller names }
+after s caller (Roots seen names) =
+    record { held = s.held; roots = with_roots s.roots caller names }
 after s caller (Collect number kept) = record { held = with_only s.held kept; roots = s.roots }

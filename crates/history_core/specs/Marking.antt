@@ -14,7 +14,8 @@ pub record AddsAll (children : Row → List Row) (names : List ℕ) (old new : L
   pub rows : length new ≡ length old
   pub kept : (r : Row) → IsMarked old r → IsMarked new r
   pub reached : (n : ℕ) (r : Row) → Contains names n → Reaches children (row n) r → IsMarked new r
-  pub only : (r : Row) → IsMarked new r → IsMarked old r ⊎ ((n : ℕ) × Contains names n × Reaches children (row n) r)
+  pub only : (r : Row) → IsMarked new r → IsMarked old r
+      ⊎ ((n : ℕ) × Contains names n × Reaches children (row n) r)
   pub closed : IsClosed children old → IsClosed children new
 
 -- the names of arguments are below the bound

@@ -24,7 +24,8 @@ term_eq a b = root_eq a.root b.root && pointwise (λ x y. x == y) a.args b.args
 
 -- the map has the name of each slot's term, and no others
 pub record Agree (slots : Slots) (names : Names) : Type 0 where
-  pub each : (term : Term) (n : ℕ) → (get term_eq names term ≡ Some n) ↔ (slot_at slots n ≡ Some term)
+  pub each : (term : Term) (n : ℕ) → (get term_eq names term ≡ Some n)
+      ↔ (slot_at slots n ≡ Some term)
 
 -- The map agrees, no term has too many arguments, and no name is past the greatest.
 pub record IsKept (slots : Slots) (names : Names) : Type 0 where

@@ -1,5 +1,6 @@
--- What a store records so that its callers' entries stay a legal history: the trees of its live names, their birth numbers, the base, each
--- caller's entries, and the greatest number that each caller has seen.
+-- What a store records so that its callers' entries stay a legal history: the trees of its live
+-- names, their birth numbers, the base, each caller's entries, and the greatest number that each
+-- caller has seen.
 use Rattle.std.specs.Prelude.{◌≡◌, ◌⊎◌, ℕ, ◌+◌, ◌*◌, ◌<◌, ◌≤◌, ◌==◌, true, if◌then◌else◌, max, List, [], length, Contains, replicate}
 use Rattle.term_model.specs.declared.Head.{Head}
 use Rattle.history_core.specs.TermSet.{Names, TermSet, empty, IsHeld, tree_over, with_pair, with_only}
@@ -31,8 +32,10 @@ pub record IsFaithful (rows : ℕ) (st : Recording) : Type 0 where
   -- a Collect is before the base
   pub collects : (y : ℕ × Entry) → IsNoted st.lists y → is_collect y.1 ≡ true → key y.1 < st.base
   -- the last Make of a live name is its birth, and what was made since the base is live
-  pub births : (n : ℕ) (y : ℕ × Entry) → IsNoted st.lists y → Made y.1 n → IsHeld st.names n → key y.1 ≤ st.birth n
-  pub recent : (n : ℕ) (y : ℕ × Entry) → IsNoted st.lists y → Made y.1 n → (key y.1 < st.base) ⊎ IsHeld st.names n
+  pub births : (n : ℕ) (y : ℕ × Entry) → IsNoted st.lists y → Made y.1 n → IsHeld st.names n
+      → key y.1 ≤ st.birth n
+  pub recent : (n : ℕ) (y : ℕ × Entry) → IsNoted st.lists y → Made y.1 n → (key y.1 < st.base)
+      ⊎ IsHeld st.names n
 
 -- caller i is in: no collection is younger than what it has seen
 pub record IsIn (st : Recording) (i : ℕ) : Type 0 where
@@ -42,12 +45,22 @@ pub record IsIn (st : Recording) (i : ℕ) : Type 0 where
 -- A store without names and entries is faithful.
 abbrev pub StartIsFaithful : Type 0
 StartIsFaithful = (rows callers base : ℕ) (birth seen : ℕ → ℕ) →
-    IsFaithful rows (record { names = empty.held; birth = birth; base = base; lists = replicate callers []; seen = seen })
+    IsFaithful rows
+    (record {
+      names = empty.held;
+      birth = birth;
+      base = base;
+      lists = replicate callers [];
+      seen = seen;
+    })
 
--- A caller that is in adds a name by a number above all that it has seen, over names whose birth numbers it has seen.
+-- A caller that is in adds a name by a number above all that it has seen, over names whose birth
+-- numbers it has seen.
 abbrev pub MakeKeeps : Type 0
-MakeKeeps = (rows : ℕ) (st : Recording) (i number : ℕ) (head : Head) (args : List ℕ) (row : ℕ) → IsFaithful rows st → IsIn st i →
-    st.seen i < number → ((n : ℕ) → Contains args n → st.birth n ≤ st.seen i) → IsStep rows (present st) (Make number head args row) →
+MakeKeeps = (rows : ℕ) (st : Recording) (i number : ℕ) (head : Head) (args : List ℕ) (row : ℕ)
+    → IsFaithful rows st → IsIn st i →
+    st.seen i < number → ((n : ℕ) → Contains args n → st.birth n ≤ st.seen i)
+    → IsStep rows (present st) (Make number head args row) →
     IsFaithful rows (record {
       names = with_pair st.names row (tree_over st.names head args);
       birth = changed st.birth row number;
@@ -58,8 +71,10 @@ MakeKeeps = (rows : ℕ) (st : Recording) (i number : ℕ) (head : Head) (args :
 
 -- A caller that is in finds a name, and has then seen that name's birth number.
 abbrev pub FindKeeps : Type 0
-FindKeeps = (rows : ℕ) (st : Recording) (i : ℕ) (head : Head) (args : List ℕ) (row : ℕ) → IsFaithful rows st → IsIn st i →
-    ((n : ℕ) → Contains args n → st.birth n ≤ st.seen i) → IsStep rows (present st) (Find (max (st.seen i) (st.birth row)) head args row) →
+FindKeeps = (rows : ℕ) (st : Recording) (i : ℕ) (head : Head) (args : List ℕ) (row : ℕ)
+    → IsFaithful rows st → IsIn st i →
+    ((n : ℕ) → Contains args n → st.birth n ≤ st.seen i)
+    → IsStep rows (present st) (Find (max (st.seen i) (st.birth row)) head args row) →
     IsFaithful rows (record {
       names = st.names;
       birth = st.birth;
@@ -71,12 +86,22 @@ FindKeeps = (rows : ℕ) (st : Recording) (i : ℕ) (head : Head) (args : List �
 -- A caller that is in leaves with names whose birth numbers it has seen.
 abbrev pub RootsKeep : Type 0
 RootsKeep = (rows : ℕ) (st : Recording) (i : ℕ) (names : List ℕ) → IsFaithful rows st → IsIn st i →
-    ((n : ℕ) → Contains names n → st.birth n ≤ st.seen i) → IsStep rows (present st) (Roots (st.seen i) names) →
-    IsFaithful rows (record { names = st.names; birth = st.birth; base = st.base; lists = noted st.lists i (Roots (st.seen i) names); seen = st.seen })
+    ((n : ℕ) → Contains names n → st.birth n ≤ st.seen i)
+    → IsStep rows (present st) (Roots (st.seen i) names) →
+    IsFaithful rows
+    (record {
+      names = st.names;
+      birth = st.birth;
+      base = st.base;
+      lists = noted st.lists i (Roots (st.seen i) names);
+      seen = st.seen;
+    })
 
--- A caller collects by a number of at least the base that is above all that any caller has seen; the base is then one more.
+-- A caller collects by a number of at least the base that is above all that any caller has seen;
+-- the base is then one more.
 abbrev pub CollectKeeps : Type 0
-CollectKeeps = (rows : ℕ) (st : Recording) (i number : ℕ) (kept : List ℕ) → IsFaithful rows st → i < length st.lists → st.base ≤ number →
+CollectKeeps = (rows : ℕ) (st : Recording) (i number : ℕ) (kept : List ℕ) → IsFaithful rows st
+    → i < length st.lists → st.base ≤ number →
     ((j : ℕ) → st.seen j < number) → IsStep rows (present st) (Collect number kept) →
     IsFaithful rows (record {
       names = with_only st.names kept;

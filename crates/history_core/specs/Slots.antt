@@ -1,4 +1,5 @@
--- Names with the terms that they stand for, as a program keeps them: each name below a bound is free, or has a root over names.
+-- Names with the terms that they stand for, as a program keeps them: each name below a bound is
+-- free, or has a root over names.
 use Rattle.std.specs.Prelude.{ℕ, Bool, true, false, List, [], ◌∷◌, Option, Some, None, is_some, slice_index_or, map}
 use Rattle.std.specs.List.{list_all}
 use Rattle.term_model.specs.declared.Head.{Head}

@@ -19,18 +19,21 @@ pub record IsTermOf (h : Names) (n : ℕ) (term : Term) : Type 0 where
   pub args : AllByRecursion (IsHeld h) term.args
   pub tree : Holds h n (tree_over h (head_of term.root) term.args)
 
--- The table has the set: a free name has no pair, the term of a taken one spells its tree, and the root names are the same.
+-- The table has the set: a free name has no pair, the term of a taken one spells its tree, and the
+-- root names are the same.
 pub record Shows (t : Table) (s : TermSet) : Type 0 where
   pub sound : IsSound (length t.slots) s
   pub free : (n : ℕ) → slot_at t.slots n ≡ None → IsFree s.held n
   pub taken : (n : ℕ) (term : Term) → slot_at t.slots n ≡ Some term → IsTermOf s.held n term
   pub roots : (caller : ℕ) → s.roots caller ≡ slice_index_or t.roots caller []
 
--- Where the entry is a step of the set that the table shows, the answer is true, and the table then shows the set after it. Where it is
--- none, the answer is false, and the table stays as it was.
+-- Where the entry is a step of the set that the table shows, the answer is true, and the table then
+-- shows the set after it. Where it is none, the answer is false, and the table stays as it was.
 abbrev pub Decides : Table → Table → ℕ → Entry → Bool → Type 0
-Decides old new caller e true = (s : TermSet) → Shows old s → IsStep (length old.slots) s e × Shows new (after s caller e)
-Decides old new caller e false = (new ≡ old) × ((s : TermSet) → Shows old s → IsStep (length old.slots) s e → ⊥)
+Decides old new caller e true =
+    (s : TermSet) → Shows old s → IsStep (length old.slots) s e × Shows new (after s caller e)
+Decides old new caller e false =
+    (new ≡ old) × ((s : TermSet) → Shows old s → IsStep (length old.slots) s e → ⊥)
 
 -- as many names and callers
 pub record IsAsLarge (old new : Table) : Type 0 where
@@ -48,17 +51,23 @@ pub record MayPut (slots : Slots) (row : ℕ) (term : Term) : Type 0 where
   pub absent : (n : ℕ) → slot_at slots n ≡ Some term → ⊥
 
 abbrev pub Makes : Slots → Slots → Head → List ℕ → ℕ → Bool → Type 0
-Makes old new head args row true = MayCreateIn old head args × MayPut old row (term_of head args) × (new ≡ slice_set old row (Some (term_of head args)))
-Makes old new head args row false = (new ≡ old) × (MayCreateIn old head args → MayPut old row (term_of head args) → ⊥)
+Makes old new head args row true = MayCreateIn old head args × MayPut old row (term_of head args)
+    × (new ≡ slice_set old row (Some (term_of head args)))
+Makes old new head args row false =
+    (new ≡ old) × (MayCreateIn old head args → MayPut old row (term_of head args) → ⊥)
 
 -- What is marked from the roots decides which names a collection keeps.
 pub record MarksRoots (t : Table) (marks : List Bool) : Type 0 where
   pub adds : AddsAll (children t.slots) (joined t.roots) (replicate (length t.slots) false) marks
 
 abbrev pub Collects : Table → Table → List ℕ → Bool → Type 0
-Collects old new kept true = (marks : List Bool) × MarksRoots old marks × (kept ≡ marked_names 0 marks)
-    × (length new.slots ≡ length old.slots) × ((n : ℕ) → slot_at new.slots n ≡ kept_if (is_marked marks n) (slot_at old.slots n)) × (new.roots ≡ old.roots)
-Collects old new kept false = (marks : List Bool) × MarksRoots old marks × (new ≡ old) × (kept ≡ marked_names 0 marks → ⊥)
+Collects old new kept true =
+    (marks : List Bool) × MarksRoots old marks × (kept ≡ marked_names 0 marks)
+    × (length new.slots ≡ length old.slots)
+    × ((n : ℕ) → slot_at new.slots n ≡ kept_if (is_marked marks n) (slot_at old.slots n))
+    × (new.roots ≡ old.roots)
+Collects old new kept false =
+    (marks : List Bool) × MarksRoots old marks × (new ≡ old) × (kept ≡ marked_names 0 marks → ⊥)
 
 -- What holds of the fields of a table: a mark for each name, and all names are below the bound.
 pub record IsTable (slots : Slots) (roots : List (List ℕ)) (marks : List Bool) : Type 0 where

@@ -1,4 +1,5 @@
--- What the entries of a caller tell of trees, each at its place: as the trees that its creations name.
+-- What the entries of a caller tell of trees, each at its place: as the trees that its creations
+-- name.
 use Rattle.std.specs.Prelude.{◌≡◌, ℕ, false, ◌==◌, if◌then◌else◌, List, [], ◌∷◌, ◌++◌}
 use Rattle.std.specs.List.{AllByRecursion}
 use Rattle.term_model.specs.Tree.{Tree, list_of}
@@ -9,11 +10,14 @@ use Rattle.history_core.specs.Chronicle.{History}
 -- f tells some trees of an entry by the pairs that it finds
 abbrev pub told : (Names → Entry → List Tree) → ℕ → TermSet → History → List Tree
 told f caller s [] = []
-told f caller s (x ∷ xs) = (if x.0 == caller then f s.held x.1 else []) ++ told f caller (after s x.0 x.1) xs
+told f caller s (x ∷ xs) =
+    (if x.0 == caller then f s.held x.1 else []) ++ told f caller (after s x.0 x.1) xs
 
 -- what f tells of an entry that is no Collect depends on the trees of the names that it needs alone
 abbrev pub TellsNeeded : (Names → Entry → List Tree) → Type 0
-TellsNeeded f = (h k : Names) (e : Entry) → is_collect e ≡ false → ((n : ℕ) (t : Tree) → Holds h n t → Holds k n t) → AllByRecursion (IsHeld h) (needed e) → f k e ≡ f h e
+TellsNeeded f = (h k : Names) (e : Entry) → is_collect e ≡ false
+    → ((n : ℕ) (t : Tree) → Holds h n t → Holds k n t) → AllByRecursion (IsHeld h) (needed e)
+    → f k e ≡ f h e
 
 -- the tree that a creation names
 abbrev pub named : Names → Entry → List Tree

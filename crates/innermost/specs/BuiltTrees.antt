@@ -15,7 +15,8 @@ pub record StoppedBefore (trees : List Tree) (old new : Store) (t : Tree) : Type
   pub built : new.built ≡ old.built ++ front
 
 abbrev pub TreeWasRefused : List Tree → Store → Store → RunFault → Type 0
-TreeWasRefused trees old new StoreFull = (t : Tree) × StoppedBefore trees old new t × IsFullWithout new t
+TreeWasRefused trees old new StoreFull =
+    (t : Tree) × StoppedBefore trees old new t × IsFullWithout new t
 TreeWasRefused trees old new Worn = (t : Tree) × StoppedBefore trees old new t × (new.spent ≡ true)
 
 -- what was built: all these trees, or those before the refused one

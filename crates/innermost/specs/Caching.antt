@@ -39,7 +39,8 @@ pub record Stood (start now : Store) (points : List Point) (since above : List T
   pub sweeps : now.sweeps + length start.built ≤ start.sweeps + length now.built
   pub load : start.stack ≡ [] → now.load ≤ max start.load (greatest (map trees_in_hand points))
 
-pub record WasStopped (start now : Store) (points : List Point) (since : List Tree) (p : Point) (fault : RunFault) : Type 0 where
+pub record WasStopped (start now : Store) (points : List Point) (since : List Tree) (p : Point)
+    (fault : RunFault) : Type 0 where
   pub above : List Tree
   pub lower : take (length start.stack) now.stack ≡ start.stack
   pub upper : trees now ≡ trees start ++ above
@@ -49,11 +50,13 @@ pub record WasStopped (start now : Store) (points : List Point) (since : List Tr
   pub built : now.built ≡ start.built ++ since
   pub refusals : start.refusals < now.refusals
   pub sweeps : now.sweeps + length start.built ≤ start.sweeps + length now.built + 1
-  pub load : start.stack ≡ [] → now.load ≤ max start.load (greatest (map trees_in_hand (points ++ p ∷ [])))
+  pub load : start.stack ≡ []
+      → now.load ≤ max start.load (greatest (map trees_in_hand (points ++ p ∷ [])))
   pub why : Why start now p fault
 
 -- The memory was right when the epoch was this one, of trees that were built by then.
-pub record WasRight (rules : List Rule) (built : List Tree) (map' : Map) (number : Option ℕ) (now : Store) : Type 0 where
+pub record WasRight (rules : List Rule) (built : List Tree) (map' : Map) (number : Option ℕ)
+    (now : Store) : Type 0 where
   pub then : Store
   pub epoch : number ≡ then.epoch
   pub ages : Ages then now
@@ -67,7 +70,8 @@ pub record IsSteady (epoch : Option ℕ) (now : Store) : Type 0 where
 
 -- The tree of a row, which it had when the epoch was this one, has its value on top now, which it
 -- comes to with this fuel, and `room` is the least in which it does.
-pub record IsResult (rules : List Rule) (built : List Tree) (number : Option ℕ) (now : Store) (place : Row) (fuel room : ℕ) : Type 0 where
+pub record IsResult (rules : List Rule) (built : List Tree) (number : Option ℕ) (now : Store)
+    (place : Row) (fuel room : ℕ) : Type 0 where
   pub then : Store
   pub epoch : number ≡ then.epoch
   pub ages : Ages then now
@@ -91,22 +95,32 @@ module _ (plan : Planned) (codes : Code) (start : Store) (term : Tree) (fuel : �
     pub stood : Stood start now points since values
     pub cached : IsCached plan.rules start.built points since
     pub memory : WasRight plan.rules (start.built ++ since) map' epoch' now
-    pub run : onto [] (evaluation plan.rules term fuel codes.depth) ≡ with_notes points (comes_to plan.rules (at_steps (whole term codes.depth) (drop at (code term 0)) ∷ []) values left)
+    pub run : onto [] (evaluation plan.rules term fuel codes.depth)
+        ≡ with_notes points
+        (comes_to plan.rules
+        (at_steps (whole term codes.depth) (drop at (code term 0)) ∷ []) values left)
     pub fits : Fits 0 0 plan.widest false (length values) (drop at (code term 0))
-    pub told : All IsUnconditional plan.rules → AreNormal plan.rules values × AreArguments (drop at (code term 0))
+    pub told : All IsUnconditional plan.rules → AreNormal plan.rules values
+        × AreArguments (drop at (code term 0))
 
-  -- The node at the place was built, and its tree on top is tried by the rules. The memory is of what
-  -- was built before it.
+  -- The node at the place was built, and its tree on top is tried by the rules. The memory is of
+  -- what was built before it.
   pub record IsOnNode (at left : ℕ) (now : Store) (next : Option ℕ) (room : ℕ) : Type 0 where
     pub ready : IsReady plan codes start
     pub points : List Point
     pub since : List Tree
     pub below : List Tree
     pub tree : Tree
-    pub stood : Stood start now (points ++ point_of [] below tree room ∷ []) (since ++ tree ∷ []) (below ++ tree ∷ [])
+    pub stood : Stood start now (points ++ point_of [] below tree room ∷ []) (since ++ tree ∷ [])
+        (below ++ tree ∷ [])
     pub cached : IsCached plan.rules start.built points since
     pub memory : WasRight plan.rules (start.built ++ since) map' epoch' now
-    pub run : onto [] (evaluation plan.rules term fuel codes.depth) ≡ with_notes points (noting (point_of [] below tree room) (reduces_to plan.rules (at_steps (whole term codes.depth) (drop (at + 1) (code term 0)) ∷ []) plan.rules below tree left room))
+    pub run : onto [] (evaluation plan.rules term fuel codes.depth)
+        ≡ with_notes points
+        (noting (point_of [] below tree room)
+        (reduces_to plan.rules
+        (at_steps (whole term codes.depth) (drop (at + 1) (code term 0)) ∷ []) plan.rules
+        below tree left room))
     pub tried : IsTried plan codes term at left below tree next room
 
   -- fuel or room ended
@@ -128,7 +142,8 @@ module _ (plan : Planned) (codes : Code) (start : Store) (term : Tree) (fuel : �
     pub stopped : WasStopped start now points since point fault
     pub cached : IsCached plan.rules start.built points since
     pub memory : WasRight plan.rules (start.built ++ since) map' epoch' now
-    pub run : onto [] (evaluation plan.rules term fuel codes.depth) ≡ with_notes points (noting point rest)
+    pub run : onto [] (evaluation plan.rules term fuel codes.depth)
+        ≡ with_notes points (noting point rest)
 
   -- one more node is evaluated, or fuel or room ended
   abbrev pub CachesNext : ℕ → Store → Normal → Type 0
@@ -143,7 +158,8 @@ module _ (plan : Planned) (codes : Code) (start : Store) (term : Tree) (fuel : �
   CachingEnds now normal.TooDeep = EndsCaching now (ends TooDeep)
 
 -- What is known of the row on top was taken in its place.
-pub record IsTaken (rules : List Rule) (built : List Tree) (old new : Store) (place : Row) (wide left rest : ℕ) : Type 0 where
+pub record IsTaken (rules : List Rule) (built : List Tree) (old new : Store) (place : Row)
+    (wide left rest : ℕ) : Type 0 where
   pub known : Known
   pub right : IsRight rules built old place known
   pub fuel : known.fuel + rest ≡ left
@@ -152,7 +168,16 @@ pub record IsTaken (rules : List Rule) (built : List Tree) (old new : Store) (pl
   pub replaced : new ≡ pushed (kept old (length old.stack - 1) 0) known.value
   pub sound : IsSound new
 
--- A tree that was just built, after these trees, is reduced by itself, over the stack of the start. The
--- sweep that building it may have taken is counted there.
+-- A tree that was just built, after these trees, is reduced by itself, over the stack of the start.
+-- The sweep that building it may have taken is counted there.
 abbrev pub itself : List Rule → Store → List Tree → Store → List Tree → Tree → ℕ → ℕ → Job
-itself rules start before now below tree left room = record { start = record now { stack = start.stack; built = before; sweeps = max start.sweeps (now.sweeps - 1) }; whole = with_notes (point_of [] below tree room ∷ []) (reduces_to rules [] rules below tree left room); bottom = []; floor = below; origin = alone tree left }
+itself rules start before now below tree left room =
+    record {
+      start = record now
+          { stack = start.stack; built = before; sweeps = max start.sweeps (now.sweeps - 1) };
+      whole = with_notes (point_of [] below tree room ∷ [])
+          (reduces_to rules [] rules below tree left room);
+      bottom = [];
+      floor = below;
+      origin = alone tree left;
+    }

@@ -1,4 +1,5 @@
--- A store in the middle of an outermost evaluation: what was built since the start, and what is left.
+-- A store in the middle of an outermost evaluation: what was built since the start, and what is
+-- left.
 use Rattle.std.specs.Prelude.{◌≡◌, ℕ, List, [], ◌∷◌, ◌++◌, true}
 use Rattle.term_model.specs.Tree.{Tree, subtrees, among}
 use Rattle.term_model.specs.declared.Row.{Row}
@@ -18,7 +19,8 @@ after_trees ts run = record { notes = ts ++ run.notes; end = run.end }
 
 -- The whole run comes to what was built since the start and what is left of it; these trees lie on
 -- the stack of the start.
-pub record Goes (start now : Store) (whole : Building Tree) (above : List Tree) (left : Building Tree) : Type 0 where
+pub record Goes (start now : Store) (whole : Building Tree) (above : List Tree)
+    (left : Building Tree) : Type 0 where
   pub points : List Point
   pub stands : Stands start now points above
   pub run : whole ≡ after_trees (trees_at points) left
@@ -48,4 +50,5 @@ pub record WasGivenUp (start now : Store) (whole : Building Tree) (fault : RunFa
 
 -- the parts of a tree keep their rows
 abbrev pub KeepsParts : Tree → Store → Store → Type 0
-KeepsParts root old new = (r : Row) (t : Tree) → among t (subtrees root) ≡ true → HasTree old r t → HasTree new r t
+KeepsParts root old new = (r : Row) (t : Tree) → among t (subtrees root) ≡ true → HasTree old r t
+    → HasTree new r t

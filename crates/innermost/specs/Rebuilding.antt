@@ -17,8 +17,8 @@ pub record Pushes (old new : Store) (ts : List Tree) : Type 0 where
   pub is : new ≡ record old { stack = old.stack ++ rows }
   pub trees : map (tree_at old) rows ≡ ts
 
--- Where a tree is changed: the store at the start, the whole run, the rules, the greatest arity, the
--- room, the tree that is rewritten, the fuel that is left, and what comes after the step.
+-- Where a tree is changed: the store at the start, the whole run, the rules, the greatest arity,
+-- the room, the tree that is rewritten, the fuel that is left, and what comes after the step.
 pub record Change : Type 0 where
   pub start : Store
   pub whole : Building Tree
@@ -29,9 +29,12 @@ pub record Change : Type 0 where
   pub left : ℕ
   pub go : Stepped Tree → ℕ → Building Tree
 
--- A changed tree lies on the tree that is rewritten, and the trees on the way over it have their rows.
-pub record IsChanged (change : Change) (way : List Crumb) (tree : Tree) (now : Store) (spots : List Spot) : Type 0 where
-  pub goes : Goes change.start now change.whole (change.root ∷ tree ∷ []) (onward change.rules way (Changed tree) change.left >>= change.go)
+-- A changed tree lies on the tree that is rewritten, and the trees on the way over it have their
+-- rows.
+pub record IsChanged (change : Change) (way : List Crumb) (tree : Tree) (now : Store)
+    (spots : List Spot) : Type 0 where
+  pub goes : Goes change.start now change.whole (change.root ∷ tree ∷ [])
+      (onward change.rules way (Changed tree) change.left >>= change.go)
   pub on_way : AreSpots change.depth change.root now (reverse spots) way
   pub begun : AreBegun way
   pub root_narrow : IsNarrow change.widest change.root
@@ -47,7 +50,8 @@ IsRebuilt change way now spots false = Stops change.start now change.whole TooDe
 -- All of them are.
 pub record HasChanged (change : Change) (now : Store) : Type 0 where
   pub tree : Tree
-  pub goes : Goes change.start now change.whole (change.root ∷ tree ∷ []) (change.go (Changed tree) change.left)
+  pub goes : Goes change.start now change.whole (change.root ∷ tree ∷ [])
+      (change.go (Changed tree) change.left)
   pub narrow : IsNarrow change.widest tree
 
 abbrev pub IsRebuiltAll : Change → Store → Bool → Type 0

@@ -31,7 +31,8 @@ pub record IsOn (run : Run) (plan : Planned) (depth left : ℕ) (now : Store) : 
   pub goes : Goes run.start now run.whole (tree ∷ []) (steps plan.rules left tree depth)
 
 -- A rule is used on a part of the tree on top.
-pub record IsReplacing (run : Run) (plan : Planned) (depth left : ℕ) (now : Store) (spots : List Spot) (rows : List Row) (rule room : ℕ) : Type 0 where
+pub record IsReplacing (run : Run) (plan : Planned) (depth left : ℕ) (now : Store)
+    (spots : List Spot) (rows : List Row) (rule room : ℕ) : Type 0 where
   pub on : IsOn run plan depth left now
   pub found : IsFound plan depth on.tree now spots rows rule room
 

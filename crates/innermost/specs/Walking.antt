@@ -42,7 +42,8 @@ module _ (rules : List Rule) where
 
   abbrev pub after_argument : Crumb → Stepped Tree → ℕ → Building (Stepped Tree)
   after_argument c Same left = from_rest c left
-  after_argument c (Changed u) left = rebuild (count_of (onto c.front c.rest)) (λ us. Node c.head us) (Changed (with_last c u)) left c.room
+  after_argument c (Changed u) left = rebuild (count_of (onto c.front c.rest))
+      (λ us. Node c.head us) (Changed (with_last c u)) left c.room
 
   abbrev pub onward : List Crumb → Stepped Tree → ℕ → Building (Stepped Tree)
   onward [] s left = done s left
@@ -92,7 +93,9 @@ module _ (plan : Planned) (depth : ℕ) (root : Tree) (now : Store) where
     pub has : HasTree now row tree
     pub under : IsUnder root tree
     pub places : length spots + room ≤ depth
-    pub run : (fuel : ℕ) → step plan.rules root fuel depth ≡ (step plan.rules tree fuel room >>= onward plan.rules crumbs)
+    pub run : (fuel : ℕ)
+        → step plan.rules root fuel depth
+        ≡ (step plan.rules tree fuel room >>= onward plan.rules crumbs)
 
   -- The walk goes on with the next argument of the last spot.
   pub record IsWalking (spots : List Spot) : Type 0 where
@@ -112,7 +115,9 @@ module _ (plan : Planned) (depth : ℕ) (root : Tree) (now : Store) where
     pub vars : (r : Rule) → r ≡ slice_index_or plan.rules rule r → length bound ≡ r.vars
     pub most : room ≤ depth
     pub some : 0 < room
-    pub run : (r : Rule) → r ≡ slice_index_or plan.rules rule r → (fuel : ℕ) → step plan.rules root fuel depth ≡ (use_right r.right bound fuel room >>= onward plan.rules crumbs)
+    pub run : (r : Rule) → r ≡ slice_index_or plan.rules rule r → (fuel : ℕ)
+        → step plan.rules root fuel depth
+        ≡ (use_right r.right bound fuel room >>= onward plan.rules crumbs)
 
   abbrev pub IsWalk : List Spot → List Row → Walk → Type 0
   IsWalk spots rows walk.On = IsWalking spots

@@ -29,7 +29,8 @@ BusyMatchesPhase l = (j : ℕ) → (seat_of l j).busy ≡ busy_in (seat_of l j).
 abbrev pub OneHolder : Lock → Type 0
 OneHolder l = (j : ℕ) → ((seat_of l j).phase ≡ Holder) ↔ (l.mutex ≡ Some j)
 
--- forbidden is set exactly where a seat stands as asked, seen or held; without a holder all stand free, and the holder does
+-- forbidden is set exactly where a seat stands as asked, seen or held; without a holder all stand
+-- free, and the holder does
 pub record ForbiddenMatchesStanding (l : Lock) : Type 0 where
   pub flags : (j : ℕ) → (seat_of l j).forbidden ≡ forbidden_in (seat_of l j).standing
   pub nobody : l.mutex ≡ None → (j : ℕ) → (seat_of l j).standing ≡ Free
@@ -55,4 +56,5 @@ pub record IsExclusive (l : Lock) (i : ℕ) : Type 0 where
 -- beside an exclusive seat no seat is shared and no other is exclusive
 abbrev pub Exclusion : Lock → Type 0
 Exclusion l =
-    (i j : ℕ) → IsExclusive l i → j < length l.seats → j ≢ i → ((seat_of l j).phase ≢ Shared) × (IsExclusive l j → ⊥)
+    (i j : ℕ) → IsExclusive l i → j < length l.seats → j ≢ i → ((seat_of l j).phase ≢ Shared)
+    × (IsExclusive l j → ⊥)

@@ -1,4 +1,5 @@
--- The busy-forbidden lock of Groote, Laveaux and van Spaendonck (2022) as plain data: what each step needs, and what it does.
+-- The busy-forbidden lock of Groote, Laveaux and van Spaendonck (2022) as plain data: what each
+-- step needs, and what it does.
 use Rattle.std.specs.Prelude.{◌≡◌, ◌≢◌, ◌⊎◌, ℕ, ◌<◌, true, false, if◌then◌else◌, Option, Some, None, MatchOption, List, [], ◌∷◌, length, get_or, set, replicate}
 use Rattle.lock_core.specs.declared.parts.Phase.TheVariants.{Out, Raised, Shared, Blocked, Holder}
 use Rattle.lock_core.specs.declared.parts.Standing.{Standing}
@@ -42,8 +43,10 @@ Permits l i Lower = ((seat_of l i).phase ≡ Shared) ⊎ ((seat_of l i).phase �
 Permits l i Take = (seat_of l i).phase ≡ Out
 Permits l i (Ask j) = ((seat_of l i).phase ≡ Holder) × Stands l i j Free
 Permits l i (Peek j) = ((seat_of l i).phase ≡ Holder) × Stands l i j Asked
-Permits l i (Unask j) = ((seat_of l i).phase ≡ Holder) × (j < length l.seats) × (j ≢ i) × ((seat_of l j).standing ≢ Free)
-Permits l i Give = ((seat_of l i).phase ≡ Holder) × ((j : ℕ) → j < length l.seats → j ≢ i → (seat_of l j).standing ≡ Free)
+Permits l i (Unask j) = ((seat_of l i).phase ≡ Holder) × (j < length l.seats) × (j ≢ i)
+    × ((seat_of l j).standing ≢ Free)
+Permits l i Give = ((seat_of l i).phase ≡ Holder)
+    × ((j : ℕ) → j < length l.seats → j ≢ i → (seat_of l j).standing ≡ Free)
 
 -- a step is in place where its seat is there and the table permits it
 pub record InPlace (l : Lock) (i : ℕ) (x : LockStep) : Type 0 where
@@ -52,19 +55,24 @@ pub record InPlace (l : Lock) (i : ℕ) (x : LockStep) : Type 0 where
 
 -- a free mutex goes to seat i, which is then the holder; where it is held nothing changes
 abbrev pub taken : Lock → ℕ → Option ℕ → Lock
-taken l i None = record { mutex = Some i; seats = set l.seats i (record (seat_of l i) { phase = Holder }) }
+taken l i None =
+    record { mutex = Some i; seats = set l.seats i (record (seat_of l i) { phase = Holder }) }
 taken l i (Some h) = l
 
 -- the lock after a step of seat i
 abbrev pub after : Lock → ℕ → LockStep → Lock
 after l i Raise = with_seat l i (record (seat_of l i) { phase = Raised; busy = true })
-after l i Look = with_seat l i (record (seat_of l i) { phase = if (seat_of l i).forbidden then Blocked else Shared })
+after l i Look =
+    with_seat l i
+    (record (seat_of l i) { phase = if (seat_of l i).forbidden then Blocked else Shared })
 after l i Lower = with_seat l i (record (seat_of l i) { phase = Out; busy = false })
 after l i Take = taken l i l.mutex
 after l i (Ask j) = with_seat l j (record (seat_of l j) { forbidden = true; standing = Asked })
-after l i (Peek j) = with_seat l j (record (seat_of l j) { standing = if (seat_of l j).busy then Seen else Held })
+after l i (Peek j) =
+    with_seat l j (record (seat_of l j) { standing = if (seat_of l j).busy then Seen else Held })
 after l i (Unask j) = with_seat l j (record (seat_of l j) { forbidden = false; standing = Free })
-after l i Give = record { mutex = None; seats = set l.seats i (record (seat_of l i) { phase = Out }) }
+after l i Give =
+    record { mutex = None; seats = set l.seats i (record (seat_of l i) { phase = Out }) }
 
 -- what one step answers: none exactly where it is out of place, and else the lock after it
 abbrev pub Answers : Lock → ℕ → LockStep → Option Lock → Type 0

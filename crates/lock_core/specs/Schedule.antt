@@ -44,8 +44,9 @@ pub record IsLine (n : ℕ) (line : List ℕ) (seat : ℕ) (x : LockStep) : Type
 abbrev pub IsBadLine : ℕ → List ℕ → Type 0
 IsBadLine n line = (seat : ℕ) (x : LockStep) → IsLine n line seat x → ⊥
 
--- What lines come to from a lock, the first having this number. Each line is read, and then its step is tried: the
--- first of a wrong form is BadLine, 15, and the first whose step is out of place is OutOfPlace, 16.
+-- What lines come to from a lock, the first having this number. Each line is read, and then its
+-- step is tried: the first of a wrong form is BadLine, 15, and the first whose step is out of place
+-- is OutOfPlace, 16.
 abbrev pub ComesTo : ℕ → Lock → ℕ → List (List ℕ) → Result Lock LineFault → Type 0
 ComesTo n l number [] r = r ≡ Ok l
 ComesTo n l number (line ∷ rest) r =

@@ -19,7 +19,8 @@ is_marked _ = false
 
 -- the number below a bound that a word is
 abbrev pub number_below : ℕ → List ℕ → Option ℕ
-number_below bound word = option_and_then (λ n. if nat_lt n bound then Some n else None) (number_in word)
+number_below bound word =
+    option_and_then (λ n. if nat_lt n bound then Some n else None) (number_in word)
 
 -- keys are below 2^62, and names below 2^32
 abbrev pub key_in : List ℕ → Option ℕ
@@ -32,7 +33,8 @@ abbrev pub names_in : List (List ℕ) → Option (List ℕ)
 names_in [] = Some []
 names_in (w ∷ ws) = option_and_then (λ n. option_map (λ ns. n ∷ ns) (names_in ws)) (name_in w)
 
--- a head: `s` and the number of a symbol, `i` and an integer, `e` for the empty list, or `c` for a cell
+-- a head: `s` and the number of a symbol, `i` and an integer, `e` for the empty list, or `c` for a
+-- cell
 abbrev pub head_in : List ℕ → Option Head
 head_in [] = None
 head_in (b ∷ bs) =
@@ -41,7 +43,8 @@ head_in (b ∷ bs) =
     else if bytes_eq (b ∷ bs) (codes "e") then Some Nil
     else if bytes_eq (b ∷ bs) (codes "c") then Some Cons else None
 
--- whether a head takes so many arguments: at most 16, none of an integer and the empty list, two of a cell
+-- whether a head takes so many arguments: at most 16, none of an integer and the empty list, two of
+-- a cell
 abbrev pub takes : Head → ℕ → Bool
 takes (App f) n = nat_le n 16
 takes (Int v) n = n == 0
@@ -52,14 +55,16 @@ takes Cons n = n == 2
 abbrev pub creation_in : List (List ℕ) → Option Creation
 creation_in (number ∷ row ∷ head ∷ args) =
     option_and_then (λ k. option_and_then (λ n. option_and_then (λ h. option_and_then (λ names.
-    if takes h (length names) then Some (record { key = k; row = n; head = h; args = names }) else None)
+    if takes h (length names)
+    then Some (record { key = k; row = n; head = h; args = names }) else None)
     (names_in args)) (head_in head)) (name_in row)) (key_in number)
 creation_in _ = None
 
 -- what other steps note: a key and names
 abbrev pub listing_in : List (List ℕ) → Option Listing
 listing_in [] = None
-listing_in (number ∷ names) = option_and_then (λ k. option_map (λ ns. record { key = k; names = ns }) (names_in names)) (key_in number)
+listing_in (number ∷ names) = option_and_then
+    (λ k. option_map (λ ns. record { key = k; names = ns }) (names_in names)) (key_in number)
 
 abbrev pub make_of : Creation → Entry
 make_of c = Make c.key c.head c.args c.row
@@ -83,11 +88,13 @@ entry_in word ws =
 
 -- the rows, 1 to 262,144, and the callers, 1 to 16
 abbrev pub header_of : ℕ → ℕ → Option LogLine
-header_of rows callers = if nat_lt 0 rows && nat_lt 0 callers then Some (line.Header rows callers) else None
+header_of rows callers =
+    if nat_lt 0 rows && nat_lt 0 callers then Some (line.Header rows callers) else None
 
 abbrev pub header_in : List (List ℕ) → Option LogLine
 header_in (rows ∷ callers ∷ []) =
-    option_and_then (λ r. option_and_then (λ c. header_of r c) (number_below 17 callers)) (number_below 262145 rows)
+    option_and_then (λ r. option_and_then (λ c. header_of r c) (number_below 17 callers))
+    (number_below 262145 rows)
 header_in _ = None
 
 abbrev pub caller_in : List (List ℕ) → Option LogLine

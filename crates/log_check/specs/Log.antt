@@ -8,7 +8,8 @@ use Rattle.log_check.specs.declared.log.Stage.TheVariants.{Before, Inside, After
 use Rattle.log_check.specs.Words.{lines, words_after}
 use Rattle.log_check.specs.Form.{is_marked, line_in}
 
--- what has been read: the rows and callers of the header, how many callers have their line, and the entries
+-- what has been read: the rows and callers of the header, how many callers have their line, and the
+-- entries
 pub record Log : Type 0 where
   pub stage : Stage
   pub rows : ℕ
@@ -34,14 +35,27 @@ is_after Before = false
 is_after Inside = false
 is_after After = true
 
--- The log with a line that has this number, where the line may stand: the header first, then each caller from 0 in order, each
--- before its entries, and the end after all callers.
+-- The log with a line that has this number, where the line may stand: the header first, then each
+-- caller from 0 in order, each before its entries, and the end after all callers.
 abbrev pub placed : ℕ → Log → LogLine → Option Log
 placed n log (line.Header rows callers) =
-    if is_before log.stage then Some (record { stage = Inside; rows = rows; callers = callers; begun = 0; noted = [] }) else None
+    if is_before log.stage
+    then Some (record {
+      stage = Inside;
+      rows = rows;
+      callers = callers;
+      begun = 0;
+      noted = [];
+    }) else None
 placed n log (line.Caller j) =
     if is_inside log.stage && (j == log.begun && nat_lt j log.callers)
-    then Some (record { stage = log.stage; rows = log.rows; callers = log.callers; begun = j + 1; noted = log.noted }) else None
+    then Some (record {
+      stage = log.stage;
+      rows = log.rows;
+      callers = log.callers;
+      begun = j + 1;
+      noted = log.noted;
+    }) else None
 placed n log (line.Step e) =
     if is_inside log.stage && nat_lt 0 log.begun
     then Some (record {
@@ -53,17 +67,26 @@ placed n log (line.Step e) =
     }) else None
 placed n log line.End =
     if is_inside log.stage && (log.begun == log.callers)
-    then Some (record { stage = After; rows = log.rows; callers = log.callers; begun = log.begun; noted = log.noted }) else None
+    then Some (record {
+      stage = After;
+      rows = log.rows;
+      callers = log.callers;
+      begun = log.begun;
+      noted = log.noted;
+    }) else None
 
--- the log with a line of the input, which is passed over where it has no mark; None for a line of a wrong form
+-- the log with a line of the input, which is passed over where it has no mark; None for a line of a
+-- wrong form
 abbrev pub taken : ℕ → Log → List ℕ → Option Log
-taken n log text = if is_marked text then option_and_then (placed n log) (line_in (words_after (drop 1 text))) else Some log
+taken n log text = if is_marked text
+    then option_and_then (placed n log) (line_in (words_after (drop 1 text))) else Some log
 
 abbrev pub go_on : ℕ → (Log → Result Log ℕ) → Option Log → Result Log ℕ
 go_on n rest None = Err n
 go_on n rest (Some log) = rest log
 
--- what lines, numbered from n on, come to: a log, or the number of the first line of a wrong form, that after the last where no end came
+-- what lines, numbered from n on, come to: a log, or the number of the first line of a wrong form,
+-- that after the last where no end came
 abbrev pub come : ℕ → Log → List (List ℕ) → Result Log ℕ
 come n log [] = if is_after log.stage then Ok log else Err n
 come n log (text ∷ texts) = go_on n (λ next. come (n + 1) next texts) (taken n log text)

@@ -58,18 +58,20 @@ pub record IsFirstNoStep (rows : ℕ) (noted : List Noted) (n : ℕ) : Type 0 wh
   pub legal : IsLegalUpTo rows (history order) place
   pub line : get_or (map line_of order) place 0 ≡ n
 
--- A log is legal, with so many entries, where it is good; else its line is the first whose key breaks the rise of its caller's, and
--- where none does the first that is no step.
+-- A log is legal, with so many entries, where it is good; else its line is the first whose key
+-- breaks the rise of its caller's, and where none does the first that is no step.
 abbrev pub IsVerdict : Log → LogVerdict → Type 0
 IsVerdict log (Legal m) = IsGood log.rows (lists_of log) × (m ≡ length log.noted)
-IsVerdict log (Illegal n) = IsFirstFall log.noted n ⊎ (Rises log.noted × IsFirstNoStep log.rows log.noted n)
+IsVerdict log (Illegal n) =
+    IsFirstFall log.noted n ⊎ (Rises log.noted × IsFirstNoStep log.rows log.noted n)
 
 -- the verdict on an input that is a log
 abbrev pub IsFound : Result Log ℕ → LogVerdict → Type 0
 IsFound (Ok log) verdict = IsVerdict log verdict
 IsFound (Err n) verdict = ⊥
 
--- an input that is none is refused with kind 15 at its first line of a wrong form; memory may lack for each
+-- an input that is none is refused with kind 15 at its first line of a wrong form; memory may lack
+-- for each
 abbrev pub IsRefused : Result Log ℕ → ReadFail → Type 0
 IsRefused (Ok log) (Refused kind place) = ⊥
 IsRefused (Err n) (Refused kind place) = (kind ≡ 15) × (place ≡ n)

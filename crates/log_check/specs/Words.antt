@@ -42,7 +42,8 @@ with_digits n (d ∷ ds) = with_digits (n * 10 + (d - 48)) ds
 
 -- the number that a word is, in decimal without leading zeros
 abbrev pub number_in : List ℕ → Option ℕ
-number_in word = if has_no_leading_zero word && list_all is_digit word then Some (with_digits 0 word) else None
+number_in word =
+    if has_no_leading_zero word && list_all is_digit word then Some (with_digits 0 word) else None
 
 -- a number, or 2^64 where it is greater
 abbrev pub capped : ℕ → ℕ

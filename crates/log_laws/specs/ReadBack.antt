@@ -31,9 +31,10 @@ MayTell (Find n h args row) = (n < 2 ^ 62) × IsTerm row h args
 MayTell (Roots n ns) = (n < 2 ^ 62) × AreNames ns
 MayTell (Collect n ns) = (n < 2 ^ 62) × AreNames ns
 
--- Before any other text, the line of an entry is cut off as one line, which has the mark of a log, and whose words after it are read as
--- the entry.
+-- Before any other text, the line of an entry is cut off as one line, which has the mark of a log,
+-- and whose words after it are read as the entry.
 abbrev pub LinesAreReadBack : Type 0
 LinesAreReadBack = (e : Entry) → MayTell e → (rest : List ℕ)
-    → (text : List ℕ) × (word : List ℕ) × (words : List (List ℕ)) × (lines (line_of e ++ rest) ≡ text ∷ lines rest) × (is_marked text ≡ true)
+    → (text : List ℕ) × (word : List ℕ) × (words : List (List ℕ))
+    × (lines (line_of e ++ rest) ≡ text ∷ lines rest) × (is_marked text ≡ true)
     × (words_after (drop 1 text) ≡ word ∷ words) × (entry_in word words ≡ Some e)

@@ -31,14 +31,18 @@ pub record WritesHeads (ok : OfHeads) (r : Rule) : Type 0 where
   pub conditions : AllByRecursion (λ c. AllHeads ok c.first × AllHeads ok c.second) r.conditions
 
 -- Then so does each head of the trees that are built, by either strategy, and of the value.
-pub record BuildsHeads (ok : OfHeads) (rules : List Rule) (term : Tree) (fuel room : ℕ) : Type 0 where
+pub record BuildsHeads (ok : OfHeads) (rules : List Rule) (term : Tree)
+    (fuel room : ℕ) : Type 0 where
   pub inside : AllByRecursion (AllHeads ok) (built_list rules term fuel room)
   pub outside : AllByRecursion (AllHeads ok) (outermost_built rules term fuel room)
-  pub inside_value : (value : Tree) (left : ℕ) → (evaluation rules term fuel room).end ≡ Done value left → AllHeads ok value
-  pub outside_value : (value : Tree) (left : ℕ) → (outermost rules term fuel room).end ≡ Done value left → AllHeads ok value
+  pub inside_value : (value : Tree) (left : ℕ) → (evaluation rules term fuel room).end
+      ≡ Done value left → AllHeads ok value
+  pub outside_value : (value : Tree) (left : ℕ) → (outermost rules term fuel room).end
+      ≡ Done value left → AllHeads ok value
 
 abbrev pub HeadsStay : Type 0
-HeadsStay = (ok : OfHeads) (rules : List Rule) (term : Tree) (fuel room : ℕ) → AllByRecursion (WritesHeads ok) rules → AllHeads ok term → BuildsHeads ok rules term fuel room
+HeadsStay = (ok : OfHeads) (rules : List Rule) (term : Tree) (fuel room : ℕ)
+    → AllByRecursion (WritesHeads ok) rules → AllHeads ok term → BuildsHeads ok rules term fuel room
 
 -- a head that a log may tell: a symbol has a number below 65,535, and an integer is below 2^64
 abbrev pub is_told : Head → Bool

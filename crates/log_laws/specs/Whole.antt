@@ -1,4 +1,5 @@
--- A whole log that is written is read as a log of the same entries, and found legal where they are good.
+-- A whole log that is written is read as a log of the same entries, and found legal where they are
+-- good.
 use Rattle.std.specs.Prelude.{◌≡◌, ℕ, ◌+◌, ◌≤◌, ◌==◌, List, [], ◌∷◌, ◌++◌, length, false, Ok}
 use Rattle.std.specs.List.{AllByRecursion}
 use Rattle.history_core.specs.declared.entry.Entry.{Entry}
@@ -41,10 +42,15 @@ pub record IsLogOf (rows : ℕ) (lists : List (List Entry)) (bytes : List ℕ) :
 
 -- Behind any lines that may stand beside it, a log that is written is read as a log of those lists.
 abbrev pub LogsAreReadBack : Type 0
-LogsAreReadBack = (rows : ℕ) (lists : List (List Entry)) → MayTellAll rows lists → (beside : List (List ℕ)) → AllByRecursion StandsBeside beside
+LogsAreReadBack = (rows : ℕ) (lists : List (List Entry)) → MayTellAll rows lists
+    → (beside : List (List ℕ)) → AllByRecursion StandsBeside beside
     → IsLogOf rows lists (lined beside ++ log_of rows lists)
 
--- and where the lists are good it is found legal, with the number of their entries, and nothing else is found of it
+-- and where the lists are good it is found legal, with the number of their entries, and nothing
+-- else is found of it
 abbrev pub GoodLogsAreLegal : Type 0
-GoodLogsAreLegal = (rows : ℕ) (lists : List (List Entry)) → MayTellAll rows lists → (beside : List (List ℕ)) → AllByRecursion StandsBeside beside
-    → IsGood rows lists → (verdict : LogVerdict) → IsFound (log_in (lined beside ++ log_of rows lists)) verdict → verdict ≡ Legal (entries_in lists)
+GoodLogsAreLegal = (rows : ℕ) (lists : List (List Entry)) → MayTellAll rows lists
+    → (beside : List (List ℕ)) → AllByRecursion StandsBeside beside
+    → IsGood rows lists → (verdict : LogVerdict)
+    → IsFound (log_in (lined beside ++ log_of rows lists)) verdict
+    → verdict ≡ Legal (entries_in lists)

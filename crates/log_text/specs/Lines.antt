@@ -11,7 +11,8 @@ use Rattle.history_core.specs.declared.entry.Entry.TheVariants.{Make, Find, Root
 abbrev pub names : List Row → List ℕ
 names rows = map (λ r. r.0) rows
 
--- A head: `s` and the number of a symbol, `i` and an integer, `e` for the empty list, or `c` for a cell.
+-- A head: `s` and the number of a symbol, `i` and an integer, `e` for the empty list, or `c` for a
+-- cell.
 abbrev pub head_text : Head → List ℕ
 head_text (App f) = codes "s" ++ decimal f.0
 head_text (Int v) = codes "i" ++ decimal v
@@ -62,7 +63,8 @@ caller_text caller = codes "# caller " ++ decimal caller ++ codes "\n"
 -- the steps of callers, numbered from this one on, each caller's behind its line
 abbrev pub callers_from : ℕ → List (List Entry) → List ℕ
 callers_from caller [] = []
-callers_from caller (entries ∷ rest) = (caller_text caller ++ lines_of entries) ++ callers_from (suc caller) rest
+callers_from caller (entries ∷ rest) =
+    (caller_text caller ++ lines_of entries) ++ callers_from (suc caller) rest
 
 -- the last line
 abbrev pub end_text : List ℕ

@@ -12,7 +12,8 @@ IsMarked marks r = slice_index_or marks r.0 false ≡ true
 
 -- the children of a marked row are marked
 abbrev pub IsClosed : (Row → List Row) → List Bool → Type 0
-IsClosed children marks = (r q : Row) → IsMarked marks r → Contains (children r) q → IsMarked marks q
+IsClosed children marks = (r q : Row) → IsMarked marks r → Contains (children r) q
+    → IsMarked marks q
 
 -- what is reached from the root is marked too, and nothing else
 pub record AddsReached (children : Row → List Row) (root : Row) (old new : List Bool) : Type 0 where

@@ -16,7 +16,8 @@ with_waiting false r rows = rows ++ r ∷ []
 
 -- Every marked row has its children marked, or it waits, or it is the current row and
 -- the child is one of those left.
-pub record Halfway (children : Row → List Row) (root : Row) (old marks : List Bool) (pending : List Row) (current : Row) (left : List Row) : Type 0 where
+pub record Halfway (children : Row → List Row) (root : Row) (old marks : List Bool)
+    (pending : List Row) (current : Row) (left : List Row) : Type 0 where
   pub rows : length marks ≡ length old
   pub kept : (r : Row) → IsMarked old r → IsMarked marks r
   pub only : (r : Row) → IsMarked marks r → IsMarked old r ⊎ Reaches children root r
@@ -24,4 +25,5 @@ pub record Halfway (children : Row → List Row) (root : Row) (old marks : List 
   pub row : Reaches children root current
   pub ahead : (q : Row) → Contains left q → Reaches children root q
   pub begun : IsMarked marks root ⊎ Contains left root
-  pub closed : (r q : Row) → IsMarked marks r → Contains (children r) q → IsMarked marks q ⊎ (Contains pending r ⊎ ((r ≡ current) × Contains left q))
+  pub closed : (r q : Row) → IsMarked marks r → Contains (children r) q → IsMarked marks q
+      ⊎ (Contains pending r ⊎ ((r ≡ current) × Contains left q))

@@ -1,4 +1,5 @@
--- What the entries of a legal history name, and that what a pass knows of trees is in the set that all entries leave.
+-- What the entries of a legal history name, and that what a pass knows of trees is in the set that
+-- all entries leave.
 use Rattle.std.proofs.Common.{ℕ, Bool, cond, Some, [], ◌∷◌, ◌++◌, refl, ap, ◌∙◌, eq-eqb}
 use Rattle.term_model.specs.Tree.{Tree}
 use Rattle.history_core.specs.declared.entry.Entry.{Entry}

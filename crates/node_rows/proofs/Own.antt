@@ -266,8 +266,8 @@ module _ (z : Sizes) (s : State (Unit {0}) NodeView) (i : ℕ) (v : NodeView) (r
       step_recalls z s.words s.views rule.lock.state i x (set s.words k y) (set s.views i w) rule.lock.state rule.holds
       record { in_place = record { present = below z s i v rule at; permitted = ok }; after = action_after y is_y } all
 
--- What a caller owes for a step of the store on the word k, which is this action: that it is in place by the own view, whatever
--- the words are, and that what it writes is what the step writes.
+-- What a caller owes for a step of the store on the word k, which is this action: that it is in
+-- place by the own view, whatever the words are, and that what it writes is what the step writes.
 pub record OwesAction (z : Sizes) (v : NodeView) (i : ℕ) (x : core.Step) (a : View → Action) (k : ℕ) (f : ℕ → ℕ) : Type 0 where
   pub acts : (s : State (Unit {0}) NodeView) (rule : Shows z s) → get_elem? s.views i ≡ some v → IsAction z (state_of z s.words s.views rule.lock.state) i x a
   pub there : in_table z (a v.store).place ≡ true
@@ -285,7 +285,8 @@ crowd_stays z v i x is = record {
   kept = λ t holds ok crowds own was. subst (Crowds z (after z t i x).view) (sym (crowd_again crowds i v.crowd own)) (crowds_stay z t i (inductive z t holds) ok.present crowds was x is ok);
 }
 
--- What such a step tells: the new view with some crowd, and that there is a store in which the seat has this view and this crowd.
+-- What such a step tells: the new view with some crowd, and that there is a store in which the seat
+-- has this view and this crowd.
 abbrev pub TellsCrowd : (View → Action) → Me (Unit {0}) NodeView → ℕ → Me (Unit {0}) NodeView → Type 0
 TellsCrowd a me n me' = (me' ≡ (swept me.0 ((a me.0.store).moved n) me'.0.crowd, me.1)) × Known me.0.sizes me'.0.store × ((j : ℕ) → me.0.lock.number ≡ Some j → HasCrowd me.0.sizes j me'.0)
 
@@ -374,8 +375,8 @@ pub action_allows : (z : Sizes) (slots id : ℕ) (me : Me (Unit {0}) NodeView) (
 action_allows z slots id me i x a k f is o no_end = crowd_allows z slots id me i x a k f is o (λ _. me.0.crowd) (crowd_stays z me.0 i x no_end) (TellsAction a me)
     (λ n t tells. (tells.0, tells.1, λ j e. store_stands me.0.sizes j (with_store me.0 ((a me.0.store).moved n)) (tells.2 j e)))
 
--- What a caller owes for a step on the word k: that it is in place by the own view, whatever the words are, and that what it
--- writes is what the step writes.
+-- What a caller owes for a step on the word k: that it is in place by the own view, whatever the
+-- words are, and that what it writes is what the step writes.
 pub record Owes (z : Sizes) (v : NodeView) (i : ℕ) (x : core.Step) (k : ℕ) (f : ℕ → ℕ) : Type 0 where
   pub is : Acts x
   pub there : in_table z (place_of i x v.store) ≡ true

@@ -1,5 +1,5 @@
--- After a collection in its exclusive access a pass that finds no row free has a store in which each row has a tree, and lacks the
--- tree that it asks for.
+-- After a collection in its exclusive access a pass that finds no row free has a store in which
+-- each row has a tree, and lacks the tree that it asks for.
 use Rattle.std.proofs.Common.{◌≡◌, ℕ, ◌<◌, ◌≤◌, get_or, true, false, None, Some, refl, sym, ap, ◌∙◌, subst, ⊎_elim, inl, inr, arith}
 use mathlib.Core.Option.{some}
 use lib.ListN.{get_elem?}
@@ -41,13 +41,15 @@ use Rattle.node_rows.specs.Full.{FullAfter}
 use Rattle.node_rows.proofs.Own.{shown_at}
 use Rattle.node_rows.proofs.Knowing.{names_lack, tree_is}
 
--- where each place below the claim has a live row, and the claim is at least the free count, all rows are live
+-- where each place below the claim has a live row, and the claim is at least the free count, all
+-- rows are live
 all_live : (z : Sizes) (w : Place → ℕ) (m : Meaning) → RowsHold z w m → w FreeCount ≤ w Claim → ((k : ℕ) → k < w Claim → k < w FreeCount → m.live (w (FreePlace k)) ≡ true) → (r : ℕ) → r < z.rows → m.live r ≡ true
 all_live z w m h past full r l = ⊎_elim
     (λ (t : (i : ℕ) × (i < w FreeCount) × (w (FreePlace i) ≡ r)). subst (λ (q : ℕ). m.live q ≡ true) t.2 (full t.0 (let a = t.1 in omega arith) t.1))
     (λ none. h.others r l none) (in_places (λ i. w (FreePlace i)) r (w FreeCount))
 
--- seat i has collected in its access, and creates: it has drawn nothing, and has read the chain from this head to its end
+-- seat i has collected in its access, and creates: it has drawn nothing, and has read the chain
+-- from this head to its end
 module _ (z : Sizes) (t : core.State) (i : ℕ) (k : Inductive z t) (fresh : (t.view i).fresh ≡ true) (x : Call) (e : (t.view i).call ≡ x) (is : IsCreation x) where
   own : IsFresh t.lock k.core.kept k.core.meaning.live i (t.view i)
   own = k.core.fresh i fresh

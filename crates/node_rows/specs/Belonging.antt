@@ -7,7 +7,8 @@ use Rattle.node_rows.specs.declared.store.Pass.{Pass}
 use Rattle.node_rows.specs.Passes.{IsStore, IsPass, IsReady}
 use Rattle.node_rows.specs.Told.{view_of}
 
--- a store: its sizes are within their limits, its table was told them, and the table has room for all its words
+-- a store: its sizes are within their limits, its table was told them, and the table has room for
+-- all its words
 abbrev pub IsOpen : Store → Type 0
 IsOpen s = IsStore s.table.shared.table_id s.table.shared.key s.sizes
 

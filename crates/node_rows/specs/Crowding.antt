@@ -55,21 +55,25 @@ pub record EndsWith (trees last : List Tree) : Type 0 where
   pub before : List Tree
   pub is : trees ≡ before ++ last
 
--- Of the entries of all passes, and of pass i with its own: the names that its last Collect kept ascend, and are those that its last one
--- in the chronicle kept; the crowd has a tree for each of them, all different; and of the trees that its Collects kept in the
--- chronicle, each at its place, they are the last.
-pub record IsCrowd (lists : List (List Entry)) (i : ℕ) (es : List Entry) (crowd : List Tree) : Type 0 where
+-- Of the entries of all passes, and of pass i with its own: the names that its last Collect kept
+-- ascend, and are those that its last one in the chronicle kept; the crowd has a tree for each of
+-- them, all different; and of the trees that its Collects kept in the chronicle, each at its place,
+-- they are the last.
+pub record IsCrowd (lists : List (List Entry)) (i : ℕ) (es : List Entry)
+    (crowd : List Tree) : Type 0 where
   pub noted : kept_in (part_of i (chronicle lists)) ≡ kept_in es
   pub names : IsAscending (kept_in es)
   pub many : length crowd ≡ length (kept_in es)
   pub differ : distinct crowd ≡ length crowd
   pub told : EndsWith (told kept_trees i empty (chronicle lists)) crowd
 
--- Each pass has its crowd; and where it has noted nothing since its collection, in the same access, the set that all entries leave is
--- that of the names kept, with the trees of the crowd.
+-- Each pass has its crowd; and where it has noted nothing since its collection, in the same access,
+-- the set that all entries leave is that of the names kept, with the trees of the crowd.
 pub record Crowds (z : Sizes) (view : ℕ → View) (crowd : ℕ → List Tree) : Type 0 where
-  pub each : (i : ℕ) → i < z.seats → IsCrowd (listed z.seats (λ j. (view j).entries)) i (view i).entries (crowd i)
-  pub held : (i : ℕ) → i < z.seats → IsSwept (view i) → held_by z view ≡ pairs_of (kept_in (view i).entries) (crowd i)
+  pub each : (i : ℕ) → i < z.seats
+      → IsCrowd (listed z.seats (λ j. (view j).entries)) i (view i).entries (crowd i)
+  pub held : (i : ℕ) → i < z.seats → IsSwept (view i)
+      → held_by z view ≡ pairs_of (kept_in (view i).entries) (crowd i)
 
 -- the trees of the names that a collection keeps which ends now
 abbrev pub crowd_now : Sizes → core.State → List Tree
@@ -85,7 +89,8 @@ crowd_at (v ∷ vs) (suc j) = crowd_at vs j
 abbrev pub swept : NodeView → View → List Tree → NodeView
 swept v x crowd = record v { store = x; crowd = crowd }
 
--- There is a store in which the facts hold, in which seat i has this view, and for which its crowd is as the rule says.
+-- There is a store in which the facts hold, in which seat i has this view, and for which its crowd
+-- is as the rule says.
 pub record HasCrowd (z : Sizes) (i : ℕ) (v : NodeView) : Type 0 where
   pub store : core.State
   pub holds : StoreHolds z store
@@ -93,19 +98,23 @@ pub record HasCrowd (z : Sizes) (i : ℕ) (v : NodeView) : Type 0 where
   pub crowd : IsCrowd (listed z.seats (λ j. (store.view j).entries)) i v.store.entries v.crowd
   pub held : IsSwept v.store → held_by z store.view ≡ pairs_of (kept_in v.store.entries) v.crowd
 
--- Where then each row has a tree in the set that all entries leave, the crowd has as many different trees as there are rows.
+-- Where then each row has a tree in the set that all entries leave, the crowd has as many different
+-- trees as there are rows.
 abbrev pub FullIsCrowded : Sizes → Type 0
-FullIsCrowded z = (i : ℕ) (v : NodeView) (h : HasCrowd z i v) → IsSwept v.store → ((r : ℕ) → r < z.rows → IsHeld (held_by z h.store.view) r)
+FullIsCrowded z = (i : ℕ) (v : NodeView) (h : HasCrowd z i v) → IsSwept v.store
+    → ((r : ℕ) → r < z.rows → IsHeld (held_by z h.store.view) r)
     → distinct v.crowd ≡ z.rows
 
 -- And a tree that the set lacks isn't in the crowd.
 abbrev pub AbsentIsNotCrowded : Sizes → Type 0
-AbsentIsNotCrowded z = (i : ℕ) (v : NodeView) (h : HasCrowd z i v) → IsSwept v.store → (t : Tree) → Lacks (held_by z h.store.view) t
+AbsentIsNotCrowded z = (i : ℕ) (v : NodeView) (h : HasCrowd z i v) → IsSwept v.store → (t : Tree)
+    → Lacks (held_by z h.store.view) t
     → Contains v.crowd t → ⊥
 
 -- A pair of names and trees has both.
 abbrev pub PairsAreKept : Type 0
-PairsAreKept = (names : List ℕ) (trees : List Tree) (r : ℕ) (t : Tree) → Holds (pairs_of names trees) r t → Contains names r × Contains trees t
+PairsAreKept = (names : List ℕ) (trees : List Tree) (r : ℕ) (t : Tree)
+    → Holds (pairs_of names trees) r t → Contains names r × Contains trees t
 
 -- where the last Collect of a caller stands in a history, with what is before it and after it
 pub record IsLastCollect (l : History) (i : ℕ) : Type 0 where
@@ -118,5 +127,6 @@ pub record IsLastCollect (l : History) (i : ℕ) : Type 0 where
 
 -- The crowd of a pass is the trees of the names that its last Collect kept, at that entry's place.
 abbrev pub CrowdAtItsPlace : Type 0
-CrowdAtItsPlace = (lists : List (List Entry)) (i : ℕ) (es : List Entry) (crowd : List Tree) → IsCrowd lists i es crowd → (p : IsLastCollect (chronicle lists) i)
+CrowdAtItsPlace = (lists : List (List Entry)) (i : ℕ) (es : List Entry) (crowd : List Tree)
+    → IsCrowd lists i es crowd → (p : IsLastCollect (chronicle lists) i)
     → crowd ≡ list_of (trees_at (set_of p.before).held p.kept)

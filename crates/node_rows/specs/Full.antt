@@ -1,4 +1,5 @@
--- What a pass knows where it finds no row free: the only one of a store, and one after a collection in its exclusive access.
+-- What a pass knows where it finds no row free: the only one of a store, and one after a collection
+-- in its exclusive access.
 use Rattle.std.specs.Prelude.{◌≡◌, ℕ, ◌<◌, ◌≤◌, true, Some, List}
 use mathlib.Core.Option.{some}
 use lib.ListN.{get_elem?}
@@ -22,8 +23,8 @@ use Rattle.node_rows.specs.Steps.{goes_on}
 abbrev pub HoldsAll : ℕ → List Entry → Type 0
 HoldsAll n es = (r : ℕ) → r < n → IsHeld (held_alone es) r
 
--- A creation of the only pass loads a free count n that is at most the claim, or draws a number n that is at least the free count:
--- then each row has a tree.
+-- A creation of the only pass loads a free count n that is at most the claim, or draws a number n
+-- that is at least the free count: then each row has a tree.
 abbrev pub FullAlone : Sizes → List Entry → Call → ℕ → Type 0
 FullAlone z es (Counting c from claim) n = z.seats ≡ 1 → n ≤ claim → HoldsAll z.rows es
 FullAlone z es (Drawing c from count) n = z.seats ≡ 1 → count ≤ n → HoldsAll z.rows es
@@ -39,16 +40,18 @@ pub record Moment (z : Sizes) (i : ℕ) (v : NodeView) : Type 0 where
 abbrev pub held_then : (z : Sizes) (i : ℕ) (v : NodeView) → Moment z i v → Names
 held_then z i v m = held_by z (store_at z m.rule.known)
 
--- At a moment at which seat i has this view each row has a tree, and none has the head of c over the trees of its rows. What the
--- pass knows of trees is so then.
+-- At a moment at which seat i has this view each row has a tree, and none has the head of c over
+-- the trees of its rows. What the pass knows of trees is so then.
 pub record IsFilled (z : Sizes) (i : ℕ) (v : NodeView) (c : Content) : Type 0 where
   pub moment : Moment z i v
   pub all : (r : ℕ) → r < z.rows → IsHeld (held_then z i v moment) r
-  pub absent : Lacks (held_then z i v moment) (tree_over (held_then z i v moment) c.head c.arguments)
+  pub absent : Lacks (held_then z i v moment)
+      (tree_over (held_then z i v moment) c.head c.arguments)
   pub knows : (r : ℕ) (t : Tree) → KnowsTree v.store.knows r t → Holds (held_then z i v moment) r t
 
--- A creation after a collection in its exclusive access loads a free count n that is at most the claim, or draws a number n that is
--- at least the free count: then the store is filled, and lacks the tree.
+-- A creation after a collection in its exclusive access loads a free count n that is at most the
+-- claim, or draws a number n that is at least the free count: then the store is filled, and lacks
+-- the tree.
 abbrev pub FullAfter : Sizes → ℕ → NodeView → Call → ℕ → Type 0
 FullAfter z i v (Counting c from claim) n = v.store.fresh ≡ true → n ≤ claim → IsFilled z i v c
 FullAfter z i v (Drawing c from count) n = v.store.fresh ≡ true → count ≤ n → IsFilled z i v c

@@ -23,7 +23,14 @@ no_sizes = record { rows = 0; buckets = 0; start = 0; seats = 0; depth = 0; arit
 
 -- the view of a seat that was joined into another
 abbrev pub spent_view : NodeView
-spent_view = record { lock = nobody; made = 0; sizes = no_sizes; store = newcomer no_sizes; crowd = []; joined = [] }
+spent_view = record {
+  lock = nobody;
+  made = 0;
+  sizes = no_sizes;
+  store = newcomer no_sizes;
+  crowd = [];
+  joined = [];
+}
 
 abbrev pub number_in : Option ℕ → ℕ
 number_in None = 0
@@ -53,19 +60,23 @@ pub record IsSpent (known views : List NodeView) (x : JoinedSeat) : Type 0 where
   pub crowd : view.crowd ≡ x.crowd
   pub spent : get_elem? views x.seat ≡ some spent_view
 
--- Each seat has its own view, or is spent; and a view has of each seat that was joined into its own what that seat knew.
+-- Each seat has its own view, or is spent; and a view has of each seat that was joined into its own
+-- what that seat knew.
 pub record Gathers (known views : List NodeView) : Type 0 where
   pub long : length views ≡ length known
-  pub own : (j : ℕ) (v : NodeView) → get_elem? views j ≡ some v → (v ≡ spent_view) ⊎ (get_elem? known j ≡ some v)
-  pub held : (j : ℕ) (v : NodeView) → get_elem? views j ≡ some v → Each (IsSpent known views) v.joined
+  pub own : (j : ℕ) (v : NodeView) → get_elem? views j ≡ some v → (v ≡ spent_view)
+      ⊎ (get_elem? known j ≡ some v)
+  pub held : (j : ℕ) (v : NodeView) → get_elem? views j ≡ some v
+      → Each (IsSpent known views) v.joined
   pub apart : (j : ℕ) (v : NodeView) → get_elem? views j ≡ some v → AreApart (seats_in v.joined)
 
 -- the table with these views
 abbrev pub with_views : State (Unit {0}) NodeView → List NodeView → State (Unit {0}) NodeView
 with_views s views = record { words = s.words; homes = s.homes; views = views }
 
--- The rule. The table shows a lock, and with what all seats know, those too that were joined into others, it shows a store, in which
--- the trees that each seat's own entries tell are so, and each seat has its crowd.
+-- The rule. The table shows a lock, and with what all seats know, those too that were joined into
+-- others, it shows a store, in which the trees that each seat's own entries tell are so, and each
+-- seat has its crowd.
 pub record ShowsJoined (z : Sizes) (s : State (Unit {0}) NodeView) : Type 0 where
   pub known : List NodeView
   pub joins : Gathers known s.views
@@ -92,13 +103,15 @@ all_views v (w ∷ ws) = both_views (all_views v ws) w
 abbrev pub lists_in : ℕ → NodeView → List (List Entry)
 lists_in n v = listed n (λ j. entries_at j (gathered v))
 
--- a base that a seat has loaded or stored, 0 where it has none: the first base, or one more than the number of a collection in the lists
+-- a base that a seat has loaded or stored, 0 where it has none: the first base, or one more than
+-- the number of a collection in the lists
 abbrev pub HasBase : Sizes → List (List Entry) → ℕ → Type 0
 HasBase z lists b = (b ≡ 0) ⊎ IsBase z.first (collect_numbers (chronicle lists)) b
 
--- Of the entries of all seats: they are a legal history of one thread; the number of its c-th collection is below `first` and c times
--- what an epoch may use; bases come from collections; the keys of a seat's entries rise; the trees that they name are those that they
--- tell; and each seat's crowd is as the lists tell.
+-- Of the entries of all seats: they are a legal history of one thread; the number of its c-th
+-- collection is below `first` and c times what an epoch may use; bases come from collections; the
+-- keys of a seat's entries rise; the trees that they name are those that they tell; and each seat's
+-- crowd is as the lists tell.
 pub record AllTold (z : Sizes) (lists : List (List Entry)) (xs : List JoinedSeat) : Type 0 where
   pub legal : IsLegal z.rows (chronicle lists)
   pub numbers : StaysBelow z.first (span z) 1 (collect_numbers (chronicle lists))
@@ -107,7 +120,8 @@ pub record AllTold (z : Sizes) (lists : List (List Entry)) (xs : List JoinedSeat
   pub trees : Each (λ x. EntriesRecalled lists x.seat x.store.entries) xs
   pub crowds : Each (λ x. IsCrowd lists x.seat x.store.entries x.crowd) xs
 
--- Each seat of them has its own entries in the lists; and where they are all seats, all of this is told.
+-- Each seat of them has its own entries in the lists; and where they are all seats, all of this is
+-- told.
 pub record TellsAll (z : Sizes) (v : NodeView) : Type 0 where
   pub own : Each (λ x. entries_at x.seat (gathered v) ≡ x.store.entries) (gathered v)
   pub below : Each (λ x. x.seat < z.seats) (gathered v)

@@ -1,5 +1,5 @@
--- What a pass knows of the rows that it may use, by the words that it has read or stored of them; and, where it is the only one,
--- what its entries tell of all rows.
+-- What a pass knows of the rows that it may use, by the words that it has read or stored of them;
+-- and, where it is the only one, what its entries tell of all rows.
 use Rattle.std.specs.Prelude.{ℕ, ◌<◌, List, [], ◌∷◌, length, get_or}
 use Rattle.term_model.specs.Tree.{Tree, Leaf, Node, Trees, End, More}
 use Rattle.term_model.specs.declared.Head.{Head}

@@ -23,7 +23,8 @@ pub record UpTo (z : Sizes) (words : List ℕ) (k : ℕ) : Type 0 where
   pub roots : (j i : ℕ) → shown z words (Root j i) ≡ 0
 
 -- seat j of a new store
-pub record IsNew (t : TableId) (z : Sizes) (j : ℕ) (seat : Seat (Unit {0}) NodeView) (number seats : ℕ) : Type 0 where
+pub record IsNew (t : TableId) (z : Sizes) (j : ℕ) (seat : Seat (Unit {0}) NodeView)
+    (number seats : ℕ) : Type 0 where
   pub table : seat.table_id ≡ t
   pub place : number ≡ j
   pub count : seats ≡ z.seats

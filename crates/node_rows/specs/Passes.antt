@@ -21,7 +21,8 @@ pub record IsStore (t : TableId) (key z : Sizes) : Type 0 where
   pub may : MaySize z
 
 -- a pass of this store, which holds no slot
-pub record IsPass (t : TableId) (z : Sizes) (seat : Seat (Unit {0}) NodeView) (seats : ℕ) : Type 0 where
+pub record IsPass (t : TableId) (z : Sizes) (seat : Seat (Unit {0}) NodeView)
+    (seats : ℕ) : Type 0 where
   pub table : seat.table_id ≡ t
   pub sizes : seat.me.0.sizes ≡ z
   pub count : seats ≡ z.seats
@@ -33,15 +34,16 @@ pub record IsOut (v : NodeView) : Type 0 where
   pub away : IsAway v.store
   pub roots : AreLastRoots v.store
 
--- it is in an access, has loaded the base and the number of buckets in use, and has nothing under way
+-- it is in an access, has loaded the base and the number of buckets in use, and has nothing under
+-- way
 pub record IsReady (z : Sizes) (v : View) (base in_use : ℕ) : Type 0 where
   pub rest : IsAtRest v
   pub has_base : base ≡ v.base
   pub has_in_use : in_use ≡ v.in_use
   pub known : Known z v
 
--- A granted entry has loaded the base, which is at least the last one, and the number of buckets in use. Another base begins an
--- epoch.
+-- A granted entry has loaded the base, which is at least the last one, and the number of buckets in
+-- use. Another base begins an epoch.
 pub record Came (v w : NodeView) (base in_use : ℕ) : Type 0 where
   pub store : w.store ≡ ready (based v.store base) in_use
   pub later : v.store.base ≤ base

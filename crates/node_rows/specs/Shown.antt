@@ -42,8 +42,8 @@ store_at z (v ∷ vs) (suc j) = store_at z vs j
 abbrev pub state_of : Sizes → List ℕ → List NodeView → Lock → core.State
 state_of z words views l = record { lock = l; words = shown z words; view = store_at z views }
 
--- The table shows a lock, and with it a store in which the facts of the store hold; each seat knows the sizes, and the first one
--- how many seats were split off.
+-- The table shows a lock, and with it a store in which the facts of the store hold; each seat knows
+-- the sizes, and the first one how many seats were split off.
 pub record Shows (z : Sizes) (s : State (Unit {0}) NodeView) : Type 0 where
   pub lock : ShowsLock lock_of z.seats s
   pub wide : total z ≤ length s.words
@@ -54,7 +54,14 @@ pub record Shows (z : Sizes) (s : State (Unit {0}) NodeView) : Type 0 where
 
 -- seat j of a new store
 abbrev pub seat_view : Sizes → ℕ → ℕ → NodeView
-seat_view z j made = record { lock = lock.newcomer j; made = made; sizes = z; store = newcomer z; crowd = []; joined = [] }
+seat_view z j made = record {
+  lock = lock.newcomer j;
+  made = made;
+  sizes = z;
+  store = newcomer z;
+  crowd = [];
+  joined = [];
+}
 
 abbrev pub first_view : Sizes → NodeView
 first_view z = seat_view z 0 1
@@ -83,7 +90,8 @@ IsClosed v = (k : ℕ) → (lock.standing v k ≡ Free) ⊎ (lock.standing v k �
 abbrev pub node_can : LockStep → NodeView → Type 0
 node_can Raise v = IsAway v.store
 node_can Look v = IsAway v.store
-node_can Lower v = (IsAway v.store × (v.lock.phase ≡ Blocked)) ⊎ (IsAtRest v.store × (v.lock.phase ≡ Shared))
+node_can Lower v =
+    (IsAway v.store × (v.lock.phase ≡ Blocked)) ⊎ (IsAtRest v.store × (v.lock.phase ≡ Shared))
 node_can Take v = IsAway v.store
 node_can (Ask j) v = IsAway v.store
 node_can (Peek j) v = IsAway v.store
@@ -125,8 +133,10 @@ rest_of v = (v.sizes, v.store, v.crowd)
 abbrev pub is_out : NodeView → Type 0
 is_out v = IsAway v.store
 
--- The step y of seat i is the store's: it is in place in the store that the table shows, and the table then shows the store after
--- it. Before it the table has these words and views, and after it those, with the lock m.
-pub record IsStoreStep (z : Sizes) (words : List ℕ) (views : List NodeView) (l : Lock) (i : ℕ) (y : core.Step) (words' : List ℕ) (views' : List NodeView) (m : Lock) : Type 0 where
+-- The step y of seat i is the store's: it is in place in the store that the table shows, and the
+-- table then shows the store after it. Before it the table has these words and views, and after it
+-- those, with the lock m.
+pub record IsStoreStep (z : Sizes) (words : List ℕ) (views : List NodeView) (l : Lock) (i : ℕ)
+    (y : core.Step) (words' : List ℕ) (views' : List NodeView) (m : Lock) : Type 0 where
   pub in_place : InPlace z (state_of z words views l) i y
   pub after : state_of z words' views' m ≡ steps.after z (state_of z words views l) i y

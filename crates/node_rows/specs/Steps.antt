@@ -125,26 +125,31 @@ pub record Known (z : Sizes) (v : View) : Type 0 where
   pub words : IsAtRest v → (r k m n : ℕ) → KnowsWord r k m v.knows → KnowsWord r k n v.knows → m ≡ n
   pub counts : IsAtRest v → (r n : ℕ) → KnowsWord r 1 n v.knows → n ≤ widest z
   pub heads : IsAtRest v → (r n : ℕ) → KnowsWord r 0 n v.knows → n ≤ 4294967298
-  pub trees : IsAtRest v → (r q : ℕ) (t : Tree) → KnowsTree v.knows r t → KnowsTree v.knows q t → r ≡ q
+  pub trees : IsAtRest v → (r q : ℕ) (t : Tree) → KnowsTree v.knows r t
+      → KnowsTree v.knows q t → r ≡ q
   -- the only pass finds its chain without the row exactly where no row has its tree
   pub absent : z.seats ≡ 1 → EndsAbsent v.entries v.call
 
 -- what a step tells: the own view that its action leaves, and what is then known
-abbrev pub goes_on : core.Step → Step (Unit {0}) → Me (Unit {0}) NodeView → ℕ → Me (Unit {0}) NodeView → Type 0
-goes_on x st me n me' = (me' ≡ (with_store me.0 (moved_by x me.0.store n), me.1)) × Known me.0.sizes me'.0.store
+abbrev pub goes_on : core.Step → Step (Unit {0}) → Me (Unit {0}) NodeView → ℕ
+    → Me (Unit {0}) NodeView → Type 0
+goes_on x st me n me' =
+    (me' ≡ (with_store me.0 (moved_by x me.0.store n), me.1)) × Known me.0.sizes me'.0.store
 
 -- the load of the base tells besides that it is at least the own base
 abbrev pub bases_on : Step (Unit {0}) → Me (Unit {0}) NodeView → ℕ → Me (Unit {0}) NodeView → Type 0
 bases_on st me n me' = goes_on LoadBase st me n me' × (me.0.store.base ≤ n)
 
 -- the load of a protected row tells besides that it is the one that the view has
-abbrev pub root_on : ℕ → Step (Unit {0}) → Me (Unit {0}) NodeView → ℕ → Me (Unit {0}) NodeView → Type 0
+abbrev pub root_on : ℕ → Step (Unit {0}) → Me (Unit {0}) NodeView → ℕ
+    → Me (Unit {0}) NodeView → Type 0
 root_on k st me n me' = goes_on (LoadRoot k) st me n me' × (n ≡ get_or me.0.store.roots k 0)
 
 abbrev pub over : Head → List ℕ → Content
 over f rs = record { head = f; arguments = rs }
 
-abbrev pub begins_with : Head → List ℕ → Step (Unit {0}) → Me (Unit {0}) NodeView → ℕ → Me (Unit {0}) NodeView → Type 0
+abbrev pub begins_with : Head → List ℕ → Step (Unit {0}) → Me (Unit {0}) NodeView → ℕ
+    → Me (Unit {0}) NodeView → Type 0
 begins_with f rs = goes_on (Begin (over f rs))
 
 -- the seat is one of this table, which has room for all words
@@ -199,8 +204,8 @@ pub record MayMake (z : Sizes) (v : NodeView) (f : Head) (rs : List ℕ) (k : �
 abbrev pub begun : View → Head → List ℕ → ℕ → View
 begun v f rs n = (begins v (over f rs)).moved n
 
--- Seat i may make this step on the word k, as its own view shows, and needs no more of the lock: a step on its protected rows, or a
--- read of a row.
+-- Seat i may make this step on the word k, as its own view shows, and needs no more of the lock: a
+-- step on its protected rows, or a read of a row.
 pub record MayStepOn (z : Sizes) (i : ℕ) (v : NodeView) (x : core.Step) (k : ℕ) : Type 0 where
   pub acts : IsOwnRead x
   pub shown : by_view.Shows z v.store x

@@ -30,7 +30,8 @@ last_from x (e ∷ es) = last_from (told_by e) es
 abbrev pub last_in : List Entry → Last
 last_in es = last_from Nothing es
 
--- The plain data of a pass tell the greatest number that it has seen, its last entry, and the names that its last Collect kept.
+-- The plain data of a pass tell the greatest number that it has seen, its last entry, and the names
+-- that its last Collect kept.
 pub record IsTold (v : View) (rows seen : ℕ) (last : Last) (marks : List Bool) : Type 0 where
   pub seen_is : seen ≡ v.seen
   pub last_is : last ≡ last_in v.entries
@@ -57,13 +58,13 @@ HasEntries lists p = slice_index_or lists p.seat.number [] ≡ p.seat.seat.me.0.
 abbrev pub KeepsOrder : List (List Entry) → Pass → Type 0
 KeepsOrder lists p = part_of p.seat.number (chronicle lists) ≡ (view_of p).store.entries
 
--- The keys of the entries that it has in the lists rise: none is below an earlier one, and those of Make and Collect are above all
--- earlier ones.
+-- The keys of the entries that it has in the lists rise: none is below an earlier one, and those of
+-- Make and Collect are above all earlier ones.
 abbrev pub HasRisingKeys : List (List Entry) → Pass → Type 0
 HasRisingKeys lists p = KeysRise (entries_of lists p.seat.number)
 
--- The trees that a pass's Make and Find entries name in the chronicle of these lists are, in order, those that its own entries tell; and
--- so are those of its Roots.
+-- The trees that a pass's Make and Find entries name in the chronicle of these lists are, in order,
+-- those that its own entries tell; and so are those of its Roots.
 abbrev pub TellsTrees : List (List Entry) → Pass → Type 0
 TellsTrees lists p = EntriesRecalled lists p.seat.number (view_of p).store.entries
 

@@ -1,5 +1,5 @@
--- Why the plain program's evaluation ends: fuel times the width of the rules, and what is left of the
--- patterns and rules at hand.
+-- Why the plain program's evaluation ends: fuel times the width of the rules, and what is left of
+-- the patterns and rules at hand.
 use Rattle.std.proofs.Common.{◌≡◌, ℕ, zero, suc, ◌+◌, ◌*◌, ◌<◌, ◌≤◌, List, [], ◌∷◌, length, get_or, drop, sym, ◌∙◌, ap, arith}
 use Rattle.std.proofs.Math.Seq.{drop-cons}
 use Rattle.std.proofs.Math.Nat.{mul-le-mul_right}

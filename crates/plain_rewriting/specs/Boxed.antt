@@ -28,13 +28,17 @@ argument_lists args = map trees_in args
 -- A stack is a list with its top first. What is taken from it, or stands on it after an item, is
 -- what the items of a tree say.
 abbrev pub IsTaken : ℕ → Trees → Trees → Trees → Trees → Type 0
-IsTaken count stack taken args rest = (want : Trees) (left : List Tree) → take_trees count (list_of stack) taken ≡ Some (want, left) → (args ≡ want) × (list_of rest ≡ left)
+IsTaken count stack taken args rest = (want : Trees) (left : List Tree)
+    → take_trees count (list_of stack) taken ≡ Some (want, left) → (args ≡ want)
+    × (list_of rest ≡ left)
 
 abbrev pub IsOver : Head → ℕ → Trees → Trees → Type 0
-IsOver h count stack after = (want : List Tree) → push_over h (take_trees count (list_of stack) End) ≡ Some want → list_of after ≡ want
+IsOver h count stack after = (want : List Tree) → push_over h (take_trees count (list_of stack) End)
+    ≡ Some want → list_of after ≡ want
 
 abbrev pub IsPushed : Item → Trees → Trees → Type 0
-IsPushed item stack after = (want : List Tree) → push_item item (list_of stack) ≡ Some want → list_of after ≡ want
+IsPushed item stack after = (want : List Tree) → push_item item (list_of stack) ≡ Some want
+    → list_of after ≡ want
 
 -- what was found, as trees
 abbrev pub found : Option (Vec Term Global) → Option (List Tree)

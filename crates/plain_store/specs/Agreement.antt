@@ -10,5 +10,7 @@ use Rattle.plain_store.specs.Contents.{trees_on}
 pub record Agree (slots : Slots) (trees : List (Option Tree)) : Type 0 where
   pub size : length slots.slots ≡ length trees
   pub free : (r : Row) → slot_at slots r ≡ None → slice_index_or trees r.0 None ≡ None
-  pub node : (r : Row) (h : Head) (rows : List Row) → slot_at slots r ≡ Some (h, rows) → slice_index_or trees r.0 None ≡ Some (Node h (trees_of (trees_on trees rows)))
-  pub held : (r : Row) (h : Head) (rows : List Row) → slot_at slots r ≡ Some (h, rows) → (q : Row) → Contains rows q → IsSome (slice_index_or trees q.0 None)
+  pub node : (r : Row) (h : Head) (rows : List Row) → slot_at slots r ≡ Some (h, rows)
+      → slice_index_or trees r.0 None ≡ Some (Node h (trees_of (trees_on trees rows)))
+  pub held : (r : Row) (h : Head) (rows : List Row) → slot_at slots r ≡ Some (h, rows) → (q : Row)
+      → Contains rows q → IsSome (slice_index_or trees q.0 None)

@@ -38,7 +38,8 @@ abbrev pub after : Past → List Row → Event → Past
 after p stack (Built h n r) =
     let t = Node h (trees_of (last n (trees_on p.trees stack))) in
     record p { trees = slice_set p.trees r.0 (Some t); built = p.built ++ t ∷ [] }
-after p stack Swept = record p { trees = map (kept_among (flat_map subtrees (trees_on p.trees stack))) p.trees }
+after p stack Swept =
+    record p { trees = map (kept_among (flat_map subtrees (trees_on p.trees stack))) p.trees }
 after p stack Refused = record p { hand = trees_on p.trees stack; refusals = p.refusals + 1 }
 
 -- what contracts see of the store
@@ -80,13 +81,27 @@ store_of c =
 -- a store at first
 abbrev pub empty : ℕ → ℕ → ℕ → Contents
 empty rows room widest =
-    record { stack = []; trees = replicate rows None; inside = false; built = []; hand = []; refusals = 0; widest = widest; room = room; raised = 0 }
+    record {
+      stack = [];
+      trees = replicate rows None;
+      inside = false;
+      built = [];
+      hand = [];
+      refusals = 0;
+      widest = widest;
+      room = room;
+      raised = 0;
+    }
 
 -- with the tree of the head over the last n places at row r, and that row in their place
 abbrev pub placed : Contents → Head → ℕ → Row → Contents
 placed c h n r =
     let t = asked (store_of c) h n in
-    record c { stack = but_last n c.stack ++ r ∷ []; trees = slice_set c.trees r.0 (Some t); built = c.built ++ t ∷ [] }
+    record c {
+      stack = but_last n c.stack ++ r ∷ [];
+      trees = slice_set c.trees r.0 (Some t);
+      built = c.built ++ t ∷ [];
+    }
 
 -- no row has the tree
 abbrev pub IsAbsent : Contents → Tree → Type 0
@@ -131,7 +146,9 @@ pub record IsUsedUp (c : Contents) (h : Head) (n : ℕ) : Type 0 where
 -- after a collection: no row was lost, or one was, and the epoch was raised once
 pub record Collected (old new : Contents) : Type 0 where
   pub new_is : new ≡ collected old new.raised
-  pub raises : ((new.raised ≡ old.raised) × (new.trees ≡ old.trees)) ⊎ ((new.raised ≡ once_more old.raised) × LosesRow (store_of old) (store_of (collected old new.raised)))
+  pub raises : ((new.raised ≡ old.raised) × (new.trees ≡ old.trees))
+      ⊎ ((new.raised ≡ once_more old.raised)
+      × LosesRow (store_of old) (store_of (collected old new.raised)))
 
 abbrev pub refused : Contents → Contents
 refused c = record c { hand = trees (store_of c); refusals = c.refusals + 1 }
@@ -143,7 +160,8 @@ pub record IsFilled (s : Store) (h : Head) (n : ℕ) : Type 0 where
 
 -- a store of one thread is the same while its rows, room and width are
 abbrev pub IsSame : Contents → Contents → Type 0
-IsSame old new = (length new.trees ≡ length old.trees) × (new.room ≡ old.room) × (new.widest ≡ old.widest)
+IsSame old new =
+    (length new.trees ≡ length old.trees) × (new.room ≡ old.room) × (new.widest ≡ old.widest)
 
 pub same_itself : (c : Contents) → IsSame c c
 same_itself c = (refl, refl, refl)

@@ -15,14 +15,28 @@ Parts = (List Row × List (Option Tree)) × ((List Tree × List Tree) × ((Bool 
 abbrev pub parts_code : Coded Parts
 parts_code =
     coded× (coded× (coded_list row_code) (coded_list (coded_option tree_code)))
-    (coded× (coded× (coded_list tree_code) (coded_list tree_code)) (coded× (coded× coded_bool coded_ℕ) (coded× (coded× coded_ℕ coded_ℕ) coded_ℕ)))
+    (coded× (coded× (coded_list tree_code) (coded_list tree_code))
+    (coded× (coded× coded_bool coded_ℕ) (coded× (coded× coded_ℕ coded_ℕ) coded_ℕ)))
 
 abbrev pub parts : Contents → Parts
-parts c = ((c.stack, c.trees), ((c.built, c.hand), ((c.inside, c.refusals), ((c.widest, c.room), c.raised))))
+parts c = (
+  (c.stack, c.trees),
+  ((c.built, c.hand), ((c.inside, c.refusals), ((c.widest, c.room), c.raised))),
+)
 
 abbrev pub whole : Parts → Contents
 whole p =
-    record { stack = p.0.0; trees = p.0.1; built = p.1.0.0; hand = p.1.0.1; inside = p.1.1.0.0; refusals = p.1.1.0.1; widest = p.1.1.1.0.0; room = p.1.1.1.0.1; raised = p.1.1.1.1 }
+    record {
+      stack = p.0.0;
+      trees = p.0.1;
+      built = p.1.0.0;
+      hand = p.1.0.1;
+      inside = p.1.1.0.0;
+      refusals = p.1.1.0.1;
+      widest = p.1.1.1.0.0;
+      room = p.1.1.1.0.1;
+      raised = p.1.1.1.1;
+    }
 
 abbrev pub contents_code : Coded Contents
 contents_code = code_by Parts parts_code parts whole (λ _. refl)

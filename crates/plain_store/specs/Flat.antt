@@ -22,11 +22,13 @@ slot_of e places = slot_if e.used e.head (rows_of e places)
 
 abbrev pub slots_of : ℕ → List Entry → List Row → List Slot
 slots_of widest [] places = []
-slots_of widest (e ∷ entries) places = slot_of e places ∷ slots_of widest entries (drop widest places)
+slots_of widest (e ∷ entries) places =
+    slot_of e places ∷ slots_of widest entries (drop widest places)
 
 -- so many rows, of which those behind the entries are free
 abbrev pub all_slots : ℕ → ℕ → List Entry → List Row → List Slot
-all_slots widest rows entries places = slots_of widest entries places ++ replicate (rows - length entries) None
+all_slots widest rows entries places =
+    slots_of widest entries places ++ replicate (rows - length entries) None
 
 -- The entry of the row at k: if it has more than two arguments, there are places for them; the rest
 -- of a pair is filled up; and a free row has no arguments, and its pair isn't that of no arguments.
@@ -40,7 +42,8 @@ pub record IsEntry (widest size k : ℕ) (e : Entry) : Type 0 where
 
 -- the entry of each row is so
 abbrev pub HasEntries : ℕ → ℕ → List Entry → Type 0
-HasEntries widest size entries = (k : ℕ) (d : Entry) → k < length entries → IsEntry widest size k (slice_index_or entries k d)
+HasEntries widest size entries =
+    (k : ℕ) (d : Entry) → k < length entries → IsEntry widest size k (slice_index_or entries k d)
 
 -- what stands in the pair of a free row
 abbrev pub other_row : Row

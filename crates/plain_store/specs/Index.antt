@@ -11,7 +11,8 @@ use Rattle.plain_store.specs.Hash.{hash}
 pub record Index : Type 0 where
   pub words : List ℕ
   pub free : List Row
-  -- of a hash's high half, the bits that are the place looked at first, and those that a word may have beside the row
+  -- of a hash's high half, the bits that are the place looked at first, and those that a word may
+  -- have beside the row
   pub homes : ℕ
   pub tags : ℕ
 
@@ -63,7 +64,8 @@ pub record IsLinked (old new : Index) (hashed : ℕ) (r : Row) : Type 0 where
   pub none : word_at old (place_of old hashed steps) ≡ vacant
   pub fits : r.0 + tag_of old hashed < vacant
   pub filled : HasNoneVacant old hashed steps
-  pub is : new ≡ record old { words = slice_set old.words (place_of old hashed steps) (r.0 + tag_of old hashed) }
+  pub is : new ≡ record old
+      { words = slice_set old.words (place_of old hashed steps) (r.0 + tag_of old hashed) }
 
 abbrev pub freed : Index → Row → Index
 freed x r = record x { free = x.free ++ r ∷ [] }
@@ -77,10 +79,14 @@ taken x = record x { free = take (length x.free - 1) x.free }
 pub record IsIndexed (slots : List Slot) (x : Index) : Type 0 where
   pub fits : length x.free ≤ length slots
   pub filled : filled_count x.words + length x.free ≤ length slots
-  pub reached : (r : Row) (n : Head × List Row) → slice_index_or slots r.0 None ≡ Some n → IsReached x (hash n.0 n.1) r
-  pub free : (r : Row) → r.0 < length slots → slice_index_or slots r.0 None ≡ None → Contains x.free r
-  pub only_free : (r : Row) → Contains x.free r → (r.0 < length slots) × (slice_index_or slots r.0 None ≡ None)
-  pub once : (i j : ℕ) (d : Row) → i < j → j < length x.free → (slice_index_or x.free i d).0 < (slice_index_or x.free j d).0
+  pub reached : (r : Row) (n : Head × List Row) → slice_index_or slots r.0 None ≡ Some n
+      → IsReached x (hash n.0 n.1) r
+  pub free : (r : Row) → r.0 < length slots → slice_index_or slots r.0 None ≡ None
+      → Contains x.free r
+  pub only_free : (r : Row) → Contains x.free r → (r.0 < length slots)
+      × (slice_index_or slots r.0 None ≡ None)
+  pub once : (i j : ℕ) (d : Row) → i < j → j < length x.free
+      → (slice_index_or x.free i d).0 < (slice_index_or x.free j d).0
 
 -- The rows from this one on were never in use.
 pub record IsFront (fresh : ℕ) (slots : List Slot) : Type 0 where

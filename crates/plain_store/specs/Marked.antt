@@ -6,7 +6,8 @@ use Rattle.mark_phase.specs.Reachable.{Reaches, IsMarked, IsClosed}
 
 -- what is reached from these rows is among the rows
 abbrev pub ReachesWithin : Slots → List Row → Type 0
-ReachesWithin s rows = (p : Row) → Contains rows p → (r : Row) → Reaches (children s) p r → r.0 < length s.slots
+ReachesWithin s rows = (p : Row) → Contains rows p → (r : Row) → Reaches (children s) p r
+    → r.0 < length s.slots
 
 -- the marks are those of what is reached from these rows
 pub record MarksFrom (c : Row → List Row) (rows : List Row) (marks : List Bool) : Type 0 where

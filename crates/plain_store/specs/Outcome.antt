@@ -11,11 +11,13 @@ use Rattle.plain_store.specs.Contents.{Contents, store_of, IsSame, IsFilled, Los
 
 -- every tree that can be reached from the stack has a row
 abbrev pub HoldsReachable : Contents → Type 0
-HoldsReachable c = (t : Tree) → Contains (reachable (store_of c)) t → (q : Row) × HasTree (store_of c) q t
+HoldsReachable c =
+    (t : Tree) → Contains (reachable (store_of c)) t → (q : Row) × HasTree (store_of c) q t
 
 pub record IsBuilt (old new : Contents) (h : Head) (n : ℕ) : Type 0 where
   pub built : Built (store_of old) (store_of new) h n
-  pub trees : trees (store_of new) ≡ but_last n (trees (store_of old)) ++ asked (store_of old) h n ∷ []
+  pub trees : trees (store_of new) ≡ but_last n (trees (store_of old))
+      ++ asked (store_of old) h n ∷ []
   pub refusals : new.refusals ≡ old.refusals
   pub losses : CountsLosses old new
   pub only_used_up : LosesRow (store_of old) (store_of new) → IsUsedUp old h n

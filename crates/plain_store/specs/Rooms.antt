@@ -20,7 +20,10 @@ pub record IsIndex (s : IndexInside) : Type 0 where
   pub room : s.most ≤ vec_capacity s.words
 
 abbrev pub slots_in : TableInside → Slots
-slots_in s = record { slots = all_slots s.widest s.rows s.entries.items s.places.items; widest = s.widest }
+slots_in s = record {
+  slots = all_slots s.widest s.rows s.entries.items s.places.items;
+  widest = s.widest;
+}
 
 -- There is room for the entry of each row, and for as many places of each as the widest.
 pub record IsTable (s : TableInside) : Type 0 where

@@ -28,7 +28,8 @@ count_by-map p f xs = fold-map (λ n d. n + cond (p d) 1 0) f 0 xs
 sum_by-map : {A : Type 0} (g : Said → ℕ) (f : A → Said) (xs : List A) → sum_by g (map f xs) ≡ sum_by (λ x. g (f x)) xs
 sum_by-map g f xs = fold-map (λ n d. n + g d) f 0 xs
 
--- lines that say what the definition says are the lines of the terms, and events beside them those that lead to their values
+-- lines that say what the definition says are the lines of the terms, and events beside them those
+-- that lead to their values
 pub are_lines : (s : Settings) (spec : Specified) (all : Lines) (workers : ℕ) → map said all.list.items ≡ map (line_of s spec.symbols spec.rules) spec.terms
     → map (λ (t : Vec Event Global). t.items) all.traces.items ≡ map (trace_of s spec.rules) spec.terms → All (λ w. w < workers) (map worker_of all.list.items) → workers ≡ s.workers
     → AreLinesOf s spec all

@@ -1,4 +1,5 @@
--- Where rows and numbers suffice every line is made; where one doesn't, that is why the command stops.
+-- Where rows and numbers suffice every line is made; where one doesn't, that is why the command
+-- stops.
 use Rattle.std.proofs.Common.{◌⊎◌, inl, inr, ℕ, ◌*◌, ◌≤◌, List, refl, subst, arith}
 use Rattle.std.specs.Prelude.{Result, Ok, Err, IfOk, IfErr}
 use Rattle.term_model.specs.Tree.{distinct}

@@ -29,9 +29,11 @@ pub record IsAnswer (count : ℕ) (answer : Answer) (output : Output) : Type 0 w
   pub workers : IsSplit count answer.workers output.terms
 
 -- why reading the whole input, of at most so many bytes, may stop
-abbrev pub StopsReading : {S : Type 0} (limit : ℕ) (left : S → Option (List ℕ)) (faults : S → ℕ) (old new : S) → Stop → Type 0
+abbrev pub StopsReading : {S : Type 0} (limit : ℕ) (left : S → Option (List ℕ)) (faults : S → ℕ)
+    (old new : S) → Stop → Type 0
 StopsReading limit left faults old new Usage = ⊥
-StopsReading limit left faults old new (Refused fault) = (fault ≡ too_long limit) × GaveMoreThan (left old) (left new) limit
+StopsReading limit left faults old new (Refused fault) =
+    (fault ≡ too_long limit) × GaveMoreThan (left old) (left new) limit
 StopsReading limit left faults old new StoreFull = ⊥
 StopsReading limit left faults old new ReadFault = Rose (faults old) (faults new)
 StopsReading limit left faults old new WriteFault = ⊥
@@ -50,7 +52,8 @@ StopsMaking settings input Worn = LacksNumbers settings input
 
 -- why reading a specification may fail, and why a command stops then
 abbrev pub FailsSpelling : Conditions → List ℕ → ReadFail → Type 0
-FailsSpelling conditions input (fail.Refused kind offset) = IsInputFault conditions input (record { kind = kind; place = offset })
+FailsSpelling conditions input (fail.Refused kind offset) =
+    IsInputFault conditions input (record { kind = kind; place = offset })
 FailsSpelling conditions input fail.Memory = Unit {0}
 
 abbrev pub StopsSpelling : Conditions → List ℕ → Stop → Type 0
@@ -133,11 +136,13 @@ StopsTracing input Memory = Unit {0}
 StopsTracing input Worn = ⊥
 
 -- why a command may stop before it writes
-abbrev pub StopsAnswering : {S : Type 0} (settings : Settings) (left : S → Option (List ℕ)) (faults : S → ℕ) (old new : S) → Stop → Type 0
+abbrev pub StopsAnswering : {S : Type 0} (settings : Settings) (left : S → Option (List ℕ))
+    (faults : S → ℕ) (old new : S) → Stop → Type 0
 StopsAnswering settings left faults old new Usage = ⊥
 StopsAnswering settings left faults old new (Refused fault) = GaveFault settings left old new fault
 StopsAnswering settings left faults old new StoreFull = GaveTooMuch settings left old new
-StopsAnswering settings left faults old new ReadFault = ReadsSource settings.command × Rose (faults old) (faults new)
+StopsAnswering settings left faults old new ReadFault =
+    ReadsSource settings.command × Rose (faults old) (faults new)
 StopsAnswering settings left faults old new WriteFault = ⊥
 StopsAnswering settings left faults old new Memory = Unit {0}
 StopsAnswering settings left faults old new Worn = GaveTooMany settings left old new

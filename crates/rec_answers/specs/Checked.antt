@@ -25,7 +25,12 @@ is_illegal (Illegal n) = true
 
 abbrev pub verdict_output : LogVerdict → Output
 verdict_output verdict =
-    record { bytes = line (verdict_text verdict); values = true; refuted = is_illegal verdict; terms = 0 }
+    record {
+      bytes = line (verdict_text verdict);
+      values = true;
+      refuted = is_illegal verdict;
+      terms = 0;
+    }
 
 -- the input is a log, and this is what is found of it
 pub record IsLogChecked (input : List ℕ) (output : Output) : Type 0 where
@@ -33,7 +38,8 @@ pub record IsLogChecked (input : List ℕ) (output : Output) : Type 0 where
   pub found : IsFound (log_in input) verdict
   pub output_is : output ≡ verdict_output verdict
 
--- the input is no log, and this is its first line of a wrong form, or the line after the last where it has no end
+-- the input is no log, and this is its first line of a wrong form, or the line after the last where
+-- it has no end
 pub record IsLogFault (input : List ℕ) (fault : Refusal) : Type 0 where
   pub at : ℕ
   pub none : log_in input ≡ Err at
@@ -51,7 +57,8 @@ pub record IsBadLog (input : List ℕ) : Type 0 where
   pub log_is : log_in input ≡ Ok log
   pub bad : IsGood log.rows (lists_of log) → ⊥
 
--- derived V, where the output has V values, or underived I, where I is the first term whose trace doesn't lead to its line
+-- derived V, where the output has V values, or underived I, where I is the first term whose trace
+-- doesn't lead to its line
 abbrev pub trace_text : TraceVerdict → List ℕ
 trace_text (Derived v) = codes "derived " ++ decimal v
 trace_text (Underived i) = codes "underived " ++ decimal i
@@ -62,17 +69,25 @@ is_underived (Underived i) = true
 
 abbrev pub trace_output : TraceVerdict → Output
 trace_output verdict =
-    record { bytes = line (trace_text verdict); values = true; refuted = is_underived verdict; terms = 0 }
+    record {
+      bytes = line (trace_text verdict);
+      values = true;
+      refuted = is_underived verdict;
+      terms = 0;
+    }
 
--- the input has a specification and a well-formed output of it with traces, and this is what is found of them
+-- the input has a specification and a well-formed output of it with traces, and this is what is
+-- found of them
 pub record IsTraceChecked (input : List ℕ) (output : Output) : Type 0 where
   pub verdict : TraceVerdict
   pub checked : IsChecked input verdict
   pub output_is : output ≡ trace_output verdict
 
--- the input begins with no specification's line, its specification has a fault, or a line after that has a wrong form
+-- the input begins with no specification's line, its specification has a fault, or a line after
+-- that has a wrong form
 abbrev pub IsTraceFault : List ℕ → Refusal → Type 0
-IsTraceFault input fault = IsBadHeading input fault ⊎ (IsBadSpecification input fault ⊎ IsBadLine input fault)
+IsTraceFault input fault =
+    IsBadHeading input fault ⊎ (IsBadSpecification input fault ⊎ IsBadLine input fault)
 
 -- each trace leads from its term to its line, whose value single steps reach from the term
 pub record IsDerived (input : List ℕ) : Type 0 where

@@ -1,4 +1,5 @@
--- A drill: the terms of a text that is made from a number are rewritten, and what came of them is counted.
+-- A drill: the terms of a text that is made from a number are rewritten, and what came of them is
+-- counted.
 use Rattle.std.specs.Prelude.{◌≡◌, ℕ, List, ◌++◌, false, length, codes, decimal}
 use Rattle.rec_check.specs.Spelled.{Specified}
 use Rattle.settings.specs.declared.parts.Settings.{Settings}
@@ -18,7 +19,8 @@ counts_text terms values spent =
 
 abbrev pub drill_output : Settings → Specified → Output
 drill_output s spec = record {
-  bytes = counts_text s.count (values_among s spec.rules spec.terms) (spent_among s spec.rules spec.terms);
+  bytes = counts_text s.count (values_among s spec.rules spec.terms)
+      (spent_among s spec.rules spec.terms);
   values = all_values s spec.rules spec.terms;
   refuted = false;
   terms = length spec.terms;

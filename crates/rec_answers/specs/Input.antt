@@ -1,4 +1,5 @@
--- The input of a command: what the source had left, or the text of a drill's number, for which nothing is read.
+-- The input of a command: what the source had left, or the text of a drill's number, for which
+-- nothing is read.
 use Rattle.std.specs.Prelude.{◌≡◌, ℕ, List, Option, Some}
 use Rattle.ends.specs.Bytes.{GaveAll}
 use Rattle.rec_drill.specs.Drill.{drill_bytes}
@@ -18,8 +19,10 @@ ReadsSource CheckLog = Unit {0}
 ReadsSource CheckTrace = Unit {0}
 ReadsSource Outermost = Unit {0}
 
--- the source was read to its end, and gave this input; for a drill, the input is its text, and the source is as before
-abbrev pub GaveInputTo : {S : Type 0} → Command → (count : ℕ) (left : S → Option (List ℕ)) (old new : S) → List ℕ → Type 0
+-- the source was read to its end, and gave this input; for a drill, the input is its text, and the
+-- source is as before
+abbrev pub GaveInputTo : {S : Type 0} → Command
+    → (count : ℕ) (left : S → Option (List ℕ)) (old new : S) → List ℕ → Type 0
 GaveInputTo Rewrite count left old new input = GaveAll (left old) (left new) input
 GaveInputTo Drill count left old new input = (new ≡ old) × (input ≡ drill_bytes count)
 GaveInputTo Schedule count left old new input = GaveAll (left old) (left new) input
@@ -30,11 +33,13 @@ GaveInputTo CheckLog count left old new input = GaveAll (left old) (left new) in
 GaveInputTo CheckTrace count left old new input = GaveAll (left old) (left new) input
 GaveInputTo Outermost count left old new input = GaveAll (left old) (left new) input
 
-abbrev pub GaveInput : {S : Type 0} (s : Settings) (left : S → Option (List ℕ)) (old new : S) → List ℕ → Type 0
+abbrev pub GaveInput : {S : Type 0} (s : Settings) (left : S → Option (List ℕ)) (old new : S)
+    → List ℕ → Type 0
 GaveInput s left old new input = GaveInputTo s.command s.count left old new input
 
 -- the source has this input left; for a drill, the input is its text
-abbrev pub HasInputFor : {S : Type 0} → Command → (count : ℕ) (left : S → Option (List ℕ)) (source : S) → List ℕ → Type 0
+abbrev pub HasInputFor : {S : Type 0} → Command
+    → (count : ℕ) (left : S → Option (List ℕ)) (source : S) → List ℕ → Type 0
 HasInputFor Rewrite count left source input = left source ≡ Some input
 HasInputFor Drill count left source input = input ≡ drill_bytes count
 HasInputFor Schedule count left source input = left source ≡ Some input
@@ -45,5 +50,6 @@ HasInputFor CheckLog count left source input = left source ≡ Some input
 HasInputFor CheckTrace count left source input = left source ≡ Some input
 HasInputFor Outermost count left source input = left source ≡ Some input
 
-abbrev pub HasInput : {S : Type 0} (s : Settings) (left : S → Option (List ℕ)) (source : S) → List ℕ → Type 0
+abbrev pub HasInput : {S : Type 0} (s : Settings) (left : S → Option (List ℕ)) (source : S)
+    → List ℕ → Type 0
 HasInput s left source input = HasInputFor s.command s.count left source input

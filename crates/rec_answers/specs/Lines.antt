@@ -48,6 +48,7 @@ status_line status =
 
 -- A front of the line was taken, and all of it where the sink's count of faults didn't rise. What a
 -- sink took and its count are read of it by two functions.
-pub record TookLine {E : Type 0} (taken : E → Option (List ℕ)) (faults : E → ℕ) (old new : E) (whole_line : List ℕ) : Type 0 where
+pub record TookLine {E : Type 0} (taken : E → Option (List ℕ)) (faults : E → ℕ) (old new : E)
+    (whole_line : List ℕ) : Type 0 where
   pub front : TookFront (taken old) (taken new) whole_line
   pub whole : Rose (faults old) (faults new) ⊎ Appends (taken old) (taken new) whole_line

@@ -1,5 +1,5 @@
--- What a command writes for an input, and why it refuses one. Each command has a case of its own. The input of a
--- drill is its own text, which is never refused.
+-- What a command writes for an input, and why it refuses one. Each command has a case of its own.
+-- The input of a drill is its own text, which is never refused.
 use Rattle.std.specs.Prelude.{◌≡◌, ◌⊎◌, ℕ, ◌≤◌, ◌<◌, List, length, true, false, Ok, Err}
 use Rattle.lock_core.specs.Lock.{Lock, at_start}
 use Rattle.lock_core.specs.Schedule.{ComesTo, lines}
@@ -29,7 +29,8 @@ limit_of CheckLog = 134217728
 limit_of CheckTrace = 134217728
 limit_of Outermost = 16777216
 
--- the input spells terms with no more different subtrees than there are rows, and this is told of them
+-- the input spells terms with no more different subtrees than there are rows, and this is told of
+-- them
 pub record IsTold (rows : ℕ) (input : List ℕ) (output : Output) : Type 0 where
   pub listed : IsListed rows input output.bytes
   pub values : output.values ≡ true
@@ -43,7 +44,8 @@ pub record IsFiled (rows : ℕ) (input : List ℕ) (output : Output) : Type 0 wh
   pub refuted : output.refuted ≡ false
   pub terms : output.terms ≡ 0
 
--- the input is a file of terms, and these are their lines; a term that is too large has no line of its own
+-- the input is a file of terms, and these are their lines; a term that is too large has no line of
+-- its own
 pub record IsUnfiled (input : List ℕ) (output : Output) : Type 0 where
   pub unpacked : IsUnpacked input output.bytes output.values
   pub refuted : output.refuted ≡ false
@@ -65,7 +67,8 @@ pub record IsScheduleFault (seats : ℕ) (input : List ℕ) (fault : Refusal) : 
   pub fault_is : fault ≡ record { kind = at.kind; place = at.line }
 
 abbrev pub IsOutputOf : Command → Settings → List ℕ → Output → Type 0
-IsOutputOf Rewrite s input output = IsRewritten s input output × MeetsConditions (conditions_of s) input
+IsOutputOf Rewrite s input output =
+    IsRewritten s input output × MeetsConditions (conditions_of s) input
 IsOutputOf Drill s input output = IsDrilled s input output
 IsOutputOf Schedule s input output = IsScheduled s.seats input output
 IsOutputOf Terms s input output = IsTold s.rows input output
@@ -146,8 +149,8 @@ LacksRowsFor Outermost s input = RowsAreFew s input
 abbrev pub LacksRows : Settings → List ℕ → Type 0
 LacksRows s input = LacksRowsFor s.command s input
 
--- The rows suffice for what the command builds of the input. Where they don't, terms that are told or packed have no
--- output.
+-- The rows suffice for what the command builds of the input. Where they don't, terms that are told
+-- or packed have no output.
 abbrev pub HasRowsFor : Command → Settings → List ℕ → Type 0
 HasRowsFor Rewrite s input = RowsSuffice s input
 HasRowsFor Drill s input = RowsSuffice s input

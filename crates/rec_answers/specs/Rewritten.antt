@@ -1,5 +1,5 @@
--- Rewriting the terms of a specification: what is written, how many rows and numbers it needs, and what is wrong with an
--- input.
+-- Rewriting the terms of a specification: what is written, how many rows and numbers it needs, and
+-- what is wrong with an input.
 use Rattle.std.specs.Prelude.{◌≡◌, ◌⊎◌, ℕ, ◌+◌, ◌*◌, ◌^◌, ◌≤◌, ◌<◌, ◌++◌, if◌then◌else◌, List, length, false, Some, None, Ok, Err, All}
 use Rattle.rec_reader.specs.declared.token.Token.{Token}
 use Rattle.rec_reader.specs.Parsed.{Parsed}
@@ -71,7 +71,8 @@ pub record IsByteFault (input : List ℕ) (fault : Refusal) : Type 0 where
 pub record IsTokenFault (input : List ℕ) (fault : Refusal) : Type 0 where
   pub tokens : List Token
   pub cut : tokens_of input ≡ Ok tokens
-  pub refusal : IsRefusal (record { bytes = input; tokens = tokens }) (Refused fault.kind fault.place)
+  pub refusal : IsRefusal (record { bytes = input; tokens = tokens })
+      (Refused fault.kind fault.place)
 
 -- a sentence with an offence, of which this is the first
 pub record IsOffenceFault (input : List ℕ) (fault : Refusal) : Type 0 where
@@ -81,7 +82,8 @@ pub record IsOffenceFault (input : List ℕ) (fault : Refusal) : Type 0 where
 
 -- the input spells no specification, or one with an offence, and this is its fault
 abbrev pub IsSpecificationFault : List ℕ → Refusal → Type 0
-IsSpecificationFault input fault = IsByteFault input fault ⊎ IsTokenFault input fault ⊎ IsOffenceFault input fault
+IsSpecificationFault input fault =
+    IsByteFault input fault ⊎ IsTokenFault input fault ⊎ IsOffenceFault input fault
 
 -- the rules that are run have no conditions
 abbrev pub HasNoConditions : List ℕ → Type 0
@@ -95,7 +97,8 @@ abbrev pub MeetsConditions : Conditions → List ℕ → Type 0
 MeetsConditions conditions.Accepted input = Unit {0}
 MeetsConditions conditions.Refused input = HasNoConditions input
 
--- The input spells a specification without an offence; but its rules may have no conditions, and this is the first one.
+-- The input spells a specification without an offence; but its rules may have no conditions, and
+-- this is the first one.
 pub record IsConditionFault (input : List ℕ) (fault : Refusal) : Type 0 where
   pub syntax : Parsed
   pub read : IsRead input syntax
@@ -106,28 +109,31 @@ pub record IsConditionFault (input : List ℕ) (fault : Refusal) : Type 0 where
 -- the fault of an input, where conditions are accepted or not
 abbrev pub IsInputFault : Conditions → List ℕ → Refusal → Type 0
 IsInputFault conditions.Accepted input fault = IsSpecificationFault input fault
-IsInputFault conditions.Refused input fault = IsSpecificationFault input fault ⊎ IsConditionFault input fault
+IsInputFault conditions.Refused input fault =
+    IsSpecificationFault input fault ⊎ IsConditionFault input fault
 
--- Both the different trees that the terms build, and the most that the workers may have in hand at once, are more
--- than the rows. A worker has at most as many in hand as the term that needs most. Of outermost rewriting no need is
--- known, and the trees that are built decide alone.
+-- Both the different trees that the terms build, and the most that the workers may have in hand at
+-- once, are more than the rows. A worker has at most as many in hand as the term that needs most.
+-- Of outermost rewriting no need is known, and the trees that are built decide alone.
 pub record RowsAreFew (s : Settings) (input : List ℕ) : Type 0 where
   pub spec : Specified
   pub spelled : Spells input spec
   pub built : s.rows < distinct (built_of s spec.rules spec.terms)
   pub need : IsInnermost s → s.rows < s.workers * need_of_all spec.rules spec.terms s.fuel s.depth
 
--- the different trees that the terms build, or the most that the workers may have in hand at once, where that is known,
--- aren't more than the rows
+-- the different trees that the terms build, or the most that the workers may have in hand at once,
+-- where that is known, aren't more than the rows
 abbrev pub RowsSuffice : Settings → List ℕ → Type 0
 RowsSuffice s input = (spec : Specified) → Spells input spec →
     (distinct (built_of s spec.rules spec.terms) ≤ s.rows)
     ⊎ (IsInnermost s × (s.workers * need_of_all spec.rules spec.terms s.fuel s.depth ≤ s.rows))
 
--- How far the numbers of the store's entries may go. There are at most as many collections as trees are built, and one more
--- for each worker. Each uses up at most as many numbers as there are rows and workers, and one, and wants two such lots.
+-- How far the numbers of the store's entries may go. There are at most as many collections as trees
+-- are built, and one more for each worker. Each uses up at most as many numbers as there are rows
+-- and workers, and one, and wants two such lots.
 abbrev pub most_numbers : Settings → Specified → ℕ
-most_numbers s spec = (length (built_of s spec.rules spec.terms) + s.workers + 2) * (s.rows + s.workers + 1)
+most_numbers s spec =
+    (length (built_of s spec.rules spec.terms) + s.workers + 2) * (s.rows + s.workers + 1)
 
 -- the numbers of the store may end
 pub record NumbersMayEnd (s : Settings) (input : List ℕ) : Type 0 where

@@ -23,7 +23,8 @@ WriteNames symbols rules = All (WritesNames symbols) rules
 
 -- the lines of terms in order
 abbrev pub lines_of : Settings → List Named → List Rule → List Tree → List ℕ
-lines_of s symbols rules terms = flat_map (λ t. line (line_text s.sizes symbols (end_of s rules t))) terms
+lines_of s symbols rules terms =
+    flat_map (λ t. line (line_text s.sizes symbols (end_of s rules t))) terms
 
 -- whether each line is a value
 abbrev pub all_values : Settings → List Rule → List Tree → Bool
@@ -42,14 +43,17 @@ pub record IsSplit (count : ℕ) (workers : List ℕ) (terms : ℕ) : Type 0 whe
   pub each : length workers ≡ terms
   pub below : All (λ w. w < count) workers
 
--- The lines are those of the terms in order, with their values and the fuel of these, and each was made by one of the
--- workers. The events beside them lead to the values, where these are asked.
+-- The lines are those of the terms in order, with their values and the fuel of these, and each was
+-- made by one of the workers. The events beside them lead to the values, where these are asked.
 pub record AreLinesOf (s : Settings) (spec : Specified) (lines : Lines) : Type 0 where
   pub each : map said lines.list.items ≡ map (line_of s spec.symbols spec.rules) spec.terms
   pub traces : map (λ t. t.items) lines.traces.items ≡ map (trace_of s spec.rules) spec.terms
-  pub text : flat_map (λ l. line l.text.items) lines.list.items ≡ lines_of s spec.symbols spec.rules spec.terms
-  pub values : list_all (λ l. is_value_kind l.kind) lines.list.items ≡ all_values s spec.rules spec.terms
-  pub count : count_by (λ l. is_value_kind l.kind) lines.list.items ≡ values_among s spec.rules spec.terms
+  pub text : flat_map (λ l. line l.text.items) lines.list.items
+      ≡ lines_of s spec.symbols spec.rules spec.terms
+  pub values : list_all (λ l. is_value_kind l.kind) lines.list.items
+      ≡ all_values s spec.rules spec.terms
+  pub count : count_by (λ l. is_value_kind l.kind) lines.list.items
+      ≡ values_among s spec.rules spec.terms
   pub spent : sum_by (λ l. l.spent) lines.list.items ≡ spent_among s spec.rules spec.terms
   pub workers : IsSplit s.workers (map (λ l. l.worker) lines.list.items) (length spec.terms)
 

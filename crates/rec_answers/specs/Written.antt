@@ -1,8 +1,8 @@
 -- What a run writes.
 use Rattle.std.specs.Prelude.{ℕ, List, Bool, if◌then◌else◌}
 
--- The bytes, whether the line of each term is its value or its text, whether the input was checked and isn't right, and
--- how many terms were rewritten.
+-- The bytes, whether the line of each term is its value or its text, whether the input was checked
+-- and isn't right, and how many terms were rewritten.
 pub record Output : Type 0 where
   pub bytes : List ℕ
   pub values : Bool

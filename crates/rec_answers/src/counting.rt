@@ -11,9 +11,9 @@ ghost use Rattle.rec_check.specs.Spelled.{Specified};
 use crate::answers::Answer;
 use crate::joining::{are_values, count_values, counts, total_spent, workers_of};
 use crate::stops::Stop;
-use worker_crew::Lines;
 use settings::Settings;
 use std::alloc::Global;
+use worker_crew::Lines;
 
 /// What is told of the lines of a drill, before the log. `logged` tells whether the log is there:
 /// where one is asked and isn't, memory lacked for it, and that is the answer.

@@ -8,9 +8,9 @@ ghost use Rattle.rec_answers.specs.Drilled.{count_line, counts_text};
 use crate::results::Workers;
 use faults::Memory;
 use itoa::Buffer;
-use worker_crew::Line;
 use std::alloc::Global;
 use term_lines::LineKind;
+use worker_crew::Line;
 
 /// Whether a line is a value.
 pub fn is_value(line: &Line) -> bool

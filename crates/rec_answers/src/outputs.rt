@@ -13,9 +13,9 @@ use crate::events::push_traces;
 use crate::joining::{are_values, joined, workers_of};
 use crate::stops::Stop;
 use faults::Memory;
-use worker_crew::Lines;
 use settings::Settings;
 use std::alloc::Global;
+use worker_crew::Lines;
 
 // The lines, each with its end, and the traces behind them, where they are asked.
 fn text_of(alloc: Global, lines: &Lines, traced: bool) -> Result<Vec<u8>, Memory>

@@ -12,10 +12,10 @@ use itoa::Buffer;
 use lock_core::LineFault;
 use node_rows::Chronicle;
 use rec_reader::ReadFail;
-use worker_crew::{AllFault, Lines};
 use settings::WordsFault;
 use std::alloc::{AllocError, Global};
 use term_commands::TermsFault;
+use worker_crew::{AllFault, Lines};
 
 // `fault `, a kind of 3 digits, ` at `, a place of 20, and the end of the line fit.
 const LONGEST_LINE: usize = 34;

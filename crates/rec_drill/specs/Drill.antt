@@ -1,4 +1,5 @@
--- The drill's text: a specification of sums and products, and n products of unary numbers to be rewritten.
+-- The drill's text: a specification of sums and products, and n products of unary numbers to be
+-- rewritten.
 use Rattle.std.specs.Prelude.{ℕ, zero, suc, ◌+◌, ◌*◌, ◌%◌, codes, List, [], ◌∷◌, ◌++◌}
 use Rattle.std.specs.List.{flat_map}
 

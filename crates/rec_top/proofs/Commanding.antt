@@ -1,4 +1,5 @@
--- What a command answers, told of the lines of its terms, of its input, and of the source that gave it.
+-- What a command answers, told of the lines of its terms, of its input, and of the source that gave
+-- it.
 use Rattle.std.proofs.Common.{◌≡◌, inl, inr, ℕ, List, [], Bool, Option, None, length, map, refl, sym, ap, subst}
 use Rattle.std.specs.Prelude.{Result, Ok, Err, IfOk, IfErr, OnOk, is_some}
 use Rattle.history_core.specs.declared.entry.Entry.{Entry}

@@ -1,4 +1,5 @@
--- All that the terms build that workers drew is a front of itself, where a list tells the worker of each term.
+-- All that the terms build that workers drew is a front of itself, where a list tells the worker of
+-- each term.
 use Rattle.std.proofs.Common.{◌≡◌, ℕ, List, [], ◌++◌, length, sym, ap, subst, ◌∙◌, zero-add, append-nil, map}
 use Rattle.term_model.specs.Tree.{Tree}
 use Rattle.history_core.specs.declared.entry.Entry.{Entry}

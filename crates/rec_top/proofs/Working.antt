@@ -1,4 +1,5 @@
--- The lines of terms that workers made on one store, told of a specification and of the input that spells it.
+-- The lines of terms that workers made on one store, told of a specification and of the input that
+-- spells it.
 use Rattle.std.proofs.Common.{◌≡◌, ◌⊎◌, inl, inr, ℕ, ◌<◌, List, [], Option, None, map, Vec, Global, refl, sym, subst}
 use Rattle.std.specs.Prelude.{Result, Ok, Err, IfOk, IfErr, IfSome, OnOk, All}
 use Rattle.std.specs.List.{AllByRecursion}

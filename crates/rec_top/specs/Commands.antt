@@ -30,8 +30,10 @@ use Rattle.rec_answers.specs.declared.stops.Stop.TheVariants.{ReadFault}
 use Rattle.rec_top.specs.Logged.{MayHaveLog}
 use Rattle.rec_top.specs.Histories.{CountsWorkers, GaveSuch, NamesAll, SpellsSuch, TellsHistory, TellsStop, TellsTerms}
 
--- the lines of the terms of a specification, or why there are none, the history of the workers, and its log, where there is one
-pub record WorksSpec (s : Settings) (spec : Spec) (r : Result Lines Stop) (lists : List (List Entry)) (text : Option (List ℕ)) : Type 0 where
+-- the lines of the terms of a specification, or why there are none, the history of the workers, and
+-- its log, where there is one
+pub record WorksSpec (s : Settings) (spec : Spec) (r : Result Lines Stop)
+    (lists : List (List Entry)) (text : Option (List ℕ)) : Type 0 where
   pub made : IfOk r (λ lines. AreLinesOf s (specified spec) lines)
   pub stopped : IfErr r (StopsTerms s spec.rules.items spec.terms.items)
   pub legal : IsLegal s.rows (chronicle lists)
@@ -44,7 +46,8 @@ pub record WorksSpec (s : Settings) (spec : Spec) (r : Result Lines Stop) (lists
   pub keys : IfSome text (λ bytes. AllByRecursion HaveKeys lists)
 
 -- those of the terms of an input
-pub record WorksInput (conditions : Conditions) (s : Settings) (input : List ℕ) (r : Result Lines Stop) (lists : List (List Entry)) (text : Option (List ℕ)) : Type 0 where
+pub record WorksInput (conditions : Conditions) (s : Settings) (input : List ℕ)
+    (r : Result Lines Stop) (lists : List (List Entry)) (text : Option (List ℕ)) : Type 0 where
   pub made : IfOk r (λ lines. (spec : Specified) × Spells input spec × AreLinesOf s spec lines)
   pub meets : OnOk r (MeetsConditions conditions input)
   pub stopped : IfErr r (StopsRewriting conditions s input)
@@ -62,8 +65,10 @@ pub record WorksInput (conditions : Conditions) (s : Settings) (input : List ℕ
   pub keys : IfSome text (λ bytes. AllByRecursion HaveKeys lists)
 
 -- what `rewrite` and `outermost` answer for an input
-pub record RewritesInput (conditions : Conditions) (s : Settings) (input : List ℕ) (r : Result Answer Stop) (lists : List (List Entry)) (text : Option (List ℕ)) : Type 0 where
-  pub made : IfOk r (λ answer. (output : Output) × IsRewritten s input output × IsAnswer s.workers answer output)
+pub record RewritesInput (conditions : Conditions) (s : Settings) (input : List ℕ)
+    (r : Result Answer Stop) (lists : List (List Entry)) (text : Option (List ℕ)) : Type 0 where
+  pub made : IfOk r (λ answer. (output : Output) × IsRewritten s input output
+      × IsAnswer s.workers answer output)
   pub meets : OnOk r (MeetsConditions conditions input)
   pub stopped : IfErr r (StopsRewriting conditions s input)
   pub accepted : (output : Output) → IsRewritten s input output → MeetsConditions conditions input
@@ -75,8 +80,10 @@ pub record RewritesInput (conditions : Conditions) (s : Settings) (input : List 
   pub keys : OnOk r (HaveLogKeys s lists)
 
 -- what `drill` answers
-pub record Drills (s : Settings) (r : Result Answer Stop) (lists : List (List Entry)) (text : Option (List ℕ)) : Type 0 where
-  pub made : IfOk r (λ answer. (output : Output) × IsDrilled s (drill_bytes s.count) output × IsAnswer s.workers answer output)
+pub record Drills (s : Settings) (r : Result Answer Stop) (lists : List (List Entry))
+    (text : Option (List ℕ)) : Type 0 where
+  pub made : IfOk r (λ answer. (output : Output) × IsDrilled s (drill_bytes s.count) output
+      × IsAnswer s.workers answer output)
   pub stopped : IfErr r (StopsDrilling s)
   pub accepted : (output : Output) → IsDrilled s (drill_bytes s.count) output
       → RowsSuffice s (drill_bytes s.count) → NumbersSuffice s (drill_bytes s.count)
@@ -86,8 +93,10 @@ pub record Drills (s : Settings) (r : Result Answer Stop) (lists : List (List En
   pub keys : OnOk r (HaveLogKeys s lists)
 
 -- what a command that reads the source answers for an input
-pub record AnswersInput (s : Settings) (input : List ℕ) (r : Result Answer Stop) (lists : List (List Entry)) (text : Option (List ℕ)) : Type 0 where
-  pub made : IfOk r (λ answer. (output : Output) × IsOutput s input output × IsAnswer s.workers answer output)
+pub record AnswersInput (s : Settings) (input : List ℕ) (r : Result Answer Stop)
+    (lists : List (List Entry)) (text : Option (List ℕ)) : Type 0 where
+  pub made : IfOk r
+      (λ answer. (output : Output) × IsOutput s input output × IsAnswer s.workers answer output)
   pub stopped : IfErr r (StopsMaking s input)
   pub accepted : (output : Output) → IsOutput s input output → HasRows s input → HasNumbers s input
       → Answers r (λ answer. IsAnswer s.workers answer output)
@@ -97,11 +106,15 @@ pub record AnswersInput (s : Settings) (input : List ℕ) (r : Result Answer Sto
   pub keys : OnOk r (HaveLogKeys s lists)
 
 -- what a command answers for a source, before and after
-pub record AnswersSource {S : Type 0} (s : Settings) (left : S → Option (List ℕ)) (faults : S → ℕ) (old new : S) (r : Result Answer Stop) (lists : List (List Entry)) (text : Option (List ℕ)) : Type 0 where
-  pub made : IfOk r (λ answer. (output : Output) × GaveOutput s left old new output × IsAnswer s.workers answer output)
+pub record AnswersSource {S : Type 0} (s : Settings) (left : S → Option (List ℕ)) (faults : S → ℕ)
+    (old new : S) (r : Result Answer Stop) (lists : List (List Entry))
+    (text : Option (List ℕ)) : Type 0 where
+  pub made : IfOk r (λ answer. (output : Output) × GaveOutput s left old new output
+      × IsAnswer s.workers answer output)
   pub stopped : IfErr r (StopsAnswering s left faults old new)
   pub unfailed : IsErrOf r ReadFault ⊎ (faults new ≡ faults old)
-  pub accepted : (input : List ℕ) (output : Output) → HasInput s left old input → IsOutput s input output
+  pub accepted : (input : List ℕ) (output : Output) → HasInput s left old input
+      → IsOutput s input output
       → HasRows s input → HasNumbers s input → HasNoFault faults old new
       → Answers r (λ answer. IsAnswer s.workers answer output)
   pub refused : (input : List ℕ) (fault : Refusal) → ReadsSource s.command → left old ≡ Some input

@@ -12,9 +12,13 @@ use Rattle.rec_answers.specs.GoodLog.{HasGoodLog}
 use Rattle.rec_answers.specs.declared.results.Outcome.{Outcome}
 use Rattle.rec_top.specs.Histories.{HasLegalHistory, StandInTurn, HasFewCollects, HasEach, HasSuch, NamesAll, NamesAllFronts, Fills}
 
--- The words; the source, with what it has left and its count of faults, before and after; the output and the error output, each with
--- what it took and its count of faults, before and after; and the outcome. What each clause says is told at `run`, under the same name.
-pub record IsPromised {S O E : Type 0} (words : List (List ℕ)) (left : S → Option (List ℕ)) (faults : S → ℕ) (old new : S) (taken : O → Option (List ℕ)) (lost : O → ℕ) (out_old out_new : O) (told : E → Option (List ℕ)) (missed : E → ℕ) (err_old err_new : E) (r : Outcome) : Type 0 where
+-- The words; the source, with what it has left and its count of faults, before and after; the
+-- output and the error output, each with what it took and its count of faults, before and after;
+-- and the outcome. What each clause says is told at `run`, under the same name.
+pub record IsPromised {S O E : Type 0} (words : List (List ℕ)) (left : S → Option (List ℕ))
+    (faults : S → ℕ) (old new : S) (taken : O → Option (List ℕ)) (lost : O → ℕ)
+    (out_old out_new : O) (told : E → Option (List ℕ)) (missed : E → ℕ) (err_old err_new : E)
+    (r : Outcome) : Type 0 where
   pub usage_only_where_refused : r.status ≡ 2 → settings_of words ≡ None
   pub refused_words : settings_of words ≡ None → (r.status ≡ 2) ⊎ (r.status ≡ 7)
   pub unread : settings_of words ≡ None → new ≡ old
@@ -45,8 +49,10 @@ pub record IsPromised {S O E : Type 0} (words : List (List ℕ)) (left : S → O
   pub silent : (IsMade r.status → ⊥) → out_new ≡ out_old
   pub complete : (output : Output) → Accepts words left old output
       → HasNoFault faults old new → HasNoFault lost out_old out_new
-      → IsWritten taken out_old out_new (with_log words r.chronicle output) r.status ⊎ (r.status ≡ 7)
-  pub complete_for_refused : (fault : Refusal) → Refuses words left old fault → HasNoFault faults old new
+      → IsWritten taken out_old out_new (with_log words r.chronicle output) r.status
+      ⊎ (r.status ≡ 7)
+  pub complete_for_refused : (fault : Refusal) → Refuses words left old fault
+      → HasNoFault faults old new
       → ((r.status ≡ 3) × TookLine told missed err_old err_new (fault_line fault)) ⊎ (r.status ≡ 7)
   pub source_later : faults old ≤ faults new
   pub out_later : lost out_old ≤ lost out_new
@@ -56,7 +62,8 @@ pub record IsPromised {S O E : Type 0} (words : List (List ℕ)) (left : S → O
   pub rises : StandInTurn r.chronicle
   pub collects : HasFewCollects words r.chronicle
   pub no_history : (AsksRewriting words → ⊥) → r.chronicle ≡ []
-  pub no_history_of_the_refused : (r.status ≡ 2) ⊎ (r.status ≡ 3) ⊎ (r.status ≡ 5) → r.chronicle ≡ []
+  pub no_history_of_the_refused : (r.status ≡ 2) ⊎ (r.status ≡ 3) ⊎ (r.status ≡ 5)
+      → r.chronicle ≡ []
   pub each : AsksRewriting words → HasEach words r.status r.chronicle
   pub built : IsMade r.status → AsksRewriting words
       → HasSuch words left old new (NamesAll r.workers r.chronicle)

@@ -19,11 +19,15 @@ HasRoom memo = (length memo.entries ≤ memo.cap) × (0 < memo.cap)
 abbrev pub others : LruCache ℕ Known → Row → List (ℕ × Known)
 others memo row = remove_entry (nat_eq row.0) memo.entries
 
--- The row comes first with this result. The others follow in their order, as many as there is room for: where a new row meets a full
--- memory, all but the last one.
+-- The row comes first with this result. The others follow in their order, as many as there is room
+-- for: where a new row meets a full memory, all but the last one.
 abbrev pub with_first : LruCache ℕ Known → Row → Known → LruCache ℕ Known
-with_first memo row known = lru_cache ((row.0, known) ∷ take (memo.cap - 1) (others memo row)) memo.cap
+with_first memo row known =
+    lru_cache ((row.0, known) ∷ take (memo.cap - 1) (others memo row)) memo.cap
 
--- where the row has a result, it comes first with it, and the others follow in their order; else all stay as they are
+-- where the row has a result, it comes first with it, and the others follow in their order; else
+-- all stay as they are
 abbrev pub with_used : LruCache ℕ Known → Row → LruCache ℕ Known
-with_used memo row = lru_cache (option_map_or (λ known. (row.0, known) ∷ others memo row) (map_of memo row) memo.entries) memo.cap
+with_used memo row =
+    lru_cache (option_map_or (λ known. (row.0, known) ∷ others memo row) (map_of memo row)
+    memo.entries) memo.cap

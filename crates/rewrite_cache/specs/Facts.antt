@@ -12,7 +12,8 @@ four_terms = one_and_one ∷ one_and_one ∷ one_and_one ∷ one_and_one ∷ []
 
 -- four times 1 + 1 builds 28 trees, and one of its cached lists has 22
 abbrev pub FourTermsRemembered : Type 0
-FourTermsRemembered = (total_built sums four_terms 1000 1000 ≡ 28) × ((trees : List Tree) × (length trees ≡ 22) × IsCachedOfAll sums four_terms 1000 1000 trees)
+FourTermsRemembered = (total_built sums four_terms 1000 1000 ≡ 28)
+    × ((trees : List Tree) × (length trees ≡ 22) × IsCachedOfAll sums four_terms 1000 1000 trees)
 
 -- f(X) -> g(X), g(X) -> b
 abbrev chain : List Rule
@@ -20,7 +21,8 @@ chain = rule (f x) (g x) 1 ∷ rule (g x) b 1 ∷ []
 
 -- f(a) builds each of its trees for the first time, so that its one cached list is the whole
 abbrev pub FirstTimeIsWhole : Type 0
-FirstTimeIsWhole = (trees : List Tree) → IsCachedOfAll chain (f a ∷ []) 9 99 trees → trees ≡ a ∷ f a ∷ g a ∷ b ∷ []
+FirstTimeIsWhole = (trees : List Tree) → IsCachedOfAll chain (f a ∷ []) 9 99 trees
+    → trees ≡ a ∷ f a ∷ g a ∷ b ∷ []
 
 -- a second time the two trees inside may be left out
 abbrev pub SecondTimeIsShorter : Type 0

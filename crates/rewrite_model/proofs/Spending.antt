@@ -1,4 +1,5 @@
--- Each replacement that an evaluation makes takes one unit of its fuel. By rules without conditions.
+-- Each replacement that an evaluation makes takes one unit of its fuel. By rules without
+-- conditions.
 use Rattle.std.proofs.Common.{◌≡◌, ℕ, zero, suc, ◌+◌, ◌-◌, ◌≤◌, List, [], ◌∷◌, ◌++◌, length, Option, Some, None, refl, sym, subst, arith, Bool, true, false}
 use Rattle.std.specs.Prelude.{if◌then◌else◌, nat_lt, All}
 use Rattle.std.proofs.lemmas.List.Elements.{All-head, All-tail}

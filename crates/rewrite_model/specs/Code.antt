@@ -7,9 +7,13 @@ use Rattle.rewrite_model.specs.Rule.{Condition, Rule}
 
 abbrev pub condition_code : Coded Condition
 condition_code =
-    code_by (Tree × (Tree × Bool)) (coded× tree_code (coded× tree_code coded_bool)) (λ c. (c.first, (c.second, c.equal))) (λ p. record { first = p.0; second = p.1.0; equal = p.1.1 }) (λ _. refl)
+    code_by (Tree × (Tree × Bool)) (coded× tree_code (coded× tree_code coded_bool))
+    (λ c. (c.first, (c.second, c.equal)))
+    (λ p. record { first = p.0; second = p.1.0; equal = p.1.1 }) (λ _. refl)
 
 abbrev pub rule_code : Coded Rule
 rule_code =
-    code_by (Tree × (Tree × (List Condition × ℕ))) (coded× tree_code (coded× tree_code (coded× (coded_list condition_code) coded_ℕ)))
-    (λ r. (r.left, (r.right, (r.conditions, r.vars)))) (λ p. record { left = p.0; right = p.1.0; conditions = p.1.1.0; vars = p.1.1.1 }) (λ _. refl)
+    code_by (Tree × (Tree × (List Condition × ℕ)))
+    (coded× tree_code (coded× tree_code (coded× (coded_list condition_code) coded_ℕ)))
+    (λ r. (r.left, (r.right, (r.conditions, r.vars))))
+    (λ p. record { left = p.0; right = p.1.0; conditions = p.1.1.0; vars = p.1.1.1 }) (λ _. refl)

@@ -1,5 +1,5 @@
--- A replacement is a step of rewriting that says its position and its rule. A derivation is a list of
--- replacements, one after another, from a term to a term.
+-- A replacement is a step of rewriting that says its position and its rule. A derivation is a list
+-- of replacements, one after another, from a term to a term.
 use Rattle.std.specs.Prelude.{ℕ, zero, suc, List, [], ◌∷◌, Option, Some, None, option_and_then}
 use Rattle.std.specs.Option.{option_map}
 use Rattle.term_model.specs.Tree.{Tree, Leaf, Node, Trees, End, More}
@@ -15,7 +15,8 @@ pub record Replacement : Type 0 where
 -- what the rule with this number makes of a tree that its left side matches
 abbrev pub by_rule : List Rule → ℕ → Tree → Option Tree
 by_rule [] k t = None
-by_rule (r ∷ rs) zero t = if_matched (match_of r.left t) None (λ bound. Some (instance r.right bound))
+by_rule (r ∷ rs) zero t =
+    if_matched (match_of r.left t) None (λ bound. Some (instance r.right bound))
 by_rule (r ∷ rs) (suc k) t = by_rule rs k t
 
 -- The tree with what a rule makes of it at a position; none where there is no such position, or the
@@ -31,7 +32,8 @@ module _ (rules : List Rule) where
     replace_in j js k End = None
     replace_in zero js k (More t ts) = None
     replace_in (suc zero) js k (More t ts) = option_map (λ u. More u ts) (replace_at js k t)
-    replace_in (suc (suc j)) js k (More t ts) = option_map (λ us. More t us) (replace_in (suc j) js k ts)
+    replace_in (suc (suc j)) js k (More t ts) =
+        option_map (λ us. More t us) (replace_in (suc j) js k ts)
 
   abbrev pub replaced : Replacement → Tree → Option Tree
   replaced s t = replace_at s.position s.rule t

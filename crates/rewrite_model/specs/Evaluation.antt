@@ -1,15 +1,15 @@
--- Leftmost innermost evaluation: arguments first, from left to right, then the first rule that fits.
--- Each use of a rule costs one unit of fuel; room says how deep evaluation may still go, and a
--- difference of rooms below 0 is 0.
+-- Leftmost innermost evaluation: arguments first, from left to right, then the first rule that
+-- fits. Each use of a rule costs one unit of fuel; room says how deep evaluation may still go, and
+-- a difference of rooms below 0 is 0.
 use Rattle.std.specs.Prelude.{ℕ, zero, suc, ◌+◌, ◌-◌, List, [], ◌∷◌, ◌++◌, length, if◌then◌else◌, nat_lt, Bool, true, false, not}
 use Rattle.term_model.specs.Tree.{Tree, Leaf, Node, Trees, End, More, arguments, tree_eq}
 use Rattle.rewrite_model.specs.Rule.{Rule, Condition}
 use Rattle.rewrite_model.specs.Matching.{match_of, if_matched, tree_at}
 use Rattle.rewrite_model.specs.Run.{Run, OutOfFuel, TooDeep, done, ends, noting, ◌>>=◌, in_room}
 
--- A point is where reducing a tree by all rules begins, and in which room. Its hand is the trees that
--- are kept there: the arguments of the tree, the trees bound by the rule whose right side gave it, and
--- what is kept for the evaluations round it.
+-- A point is where reducing a tree by all rules begins, and in which room. Its hand is the trees
+-- that are kept there: the arguments of the tree, the trees bound by the rule whose right side gave
+-- it, and what is kept for the evaluations round it.
 pub record Point : Type 0 where
   pub tree : Tree
   pub hand : List Tree
@@ -33,7 +33,9 @@ module _ (reduce : Reducer) (bound : List Tree) where
   abbrev mutual
     pub evaluate : Tree → List Tree → ℕ → ℕ → Evaluated Tree
     evaluate (Leaf x) kept fuel room = in_room room (done (tree_at x bound) fuel)
-    evaluate (Node h ps) kept fuel room = in_room room (evaluate_all ps kept fuel room >>= (λ ts left. reduce [] kept (Node h ts) left room))
+    evaluate (Node h ps) kept fuel room =
+        in_room room (evaluate_all ps kept fuel room >>=
+        (λ ts left. reduce [] kept (Node h ts) left room))
 
     -- From left to right, the i-th in room - i; the values of the earlier ones are kept.
     pub evaluate_all : Trees → List Tree → ℕ → ℕ → Evaluated Trees
@@ -57,11 +59,14 @@ module _ (reduce : Reducer) (bound : List Tree) where
   abbrev pub replace : Tree → List Tree → ℕ → ℕ → Evaluated Tree
   replace (Leaf x) kept fuel room = done (tree_at x bound) fuel
   replace (Node h ps) kept fuel room =
-      evaluate_all ps (bound ++ kept) fuel (room - length bound) >>= (λ ts left. reduce bound kept (Node h ts) left room)
+      evaluate_all ps (bound ++ kept) fuel (room - length bound) >>=
+      (λ ts left. reduce bound kept (Node h ts) left room)
 
--- A rule that matches costs one unit of fuel, whether or not its conditions hold, and needs room for
--- its variables and one more. While a condition is evaluated the tree and the bound trees are kept.
-abbrev pub apply : Reducer → Rule → List Tree → List Tree → Tree → ℕ → ℕ → (ℕ → Evaluated Tree) → Evaluated Tree
+-- A rule that matches costs one unit of fuel, whether or not its conditions hold, and needs room
+-- for its variables and one more. While a condition is evaluated the tree and the bound trees are
+-- kept.
+abbrev pub apply : Reducer → Rule → List Tree → List Tree → Tree → ℕ → ℕ → (ℕ → Evaluated Tree)
+    → Evaluated Tree
 apply reduce r bound kept t zero room otherwise = ends OutOfFuel
 apply reduce r bound kept t (suc fuel) room otherwise =
     if nat_lt room (1 + length bound) then ends TooDeep else
@@ -79,9 +84,11 @@ reduce_by reduce (r ∷ rs) kept t fuel room =
 -- Reducing by all rules begins with a point.
 abbrev pub begin : Reducer → List Rule → Reducer
 begin reduce rules given kept t fuel room =
-    noting (record { tree = t; hand = arguments t ++ given ++ kept; room = room }) (reduce_by reduce rules kept t fuel room)
+    noting (record { tree = t; hand = arguments t ++ given ++ kept; room = room })
+    (reduce_by reduce rules kept t fuel room)
 
--- The reductions inside a reduction have less fuel, so that a bound on the fuel carries the recursion.
+-- The reductions inside a reduction have less fuel, so that a bound on the fuel carries the
+-- recursion.
 abbrev pub reduce_within : ℕ → List Rule → Reducer
 reduce_within zero rules = begin (λ given kept t fuel room. ends OutOfFuel) rules
 reduce_within (suc n) rules = begin (reduce_within n rules) rules

@@ -22,7 +22,8 @@ abbrev mutual
   match_all End End bound = Some bound
   match_all End (More t ts) bound = None
   match_all (More p ps) End bound = None
-  match_all (More p ps) (More t ts) bound = option_and_then (λ more. match_all ps ts more) (match_from p t bound)
+  match_all (More p ps) (More t ts) bound =
+      option_and_then (λ more. match_all ps ts more) (match_from p t bound)
 
 -- one tree per variable in order of first occurrence, or none
 abbrev pub match_of : Tree → Tree → Option (List Tree)

@@ -26,8 +26,8 @@ above [] = None
 above (j ∷ []) = Some []
 above (j ∷ i ∷ is) = option_and_then (λ ks. Some (j ∷ ks)) (above (i ∷ is))
 
--- The cursor stands at a position. Down goes to an argument that is there, Up to the position above,
--- and Rule replaces where it stands; none where an event isn't possible.
+-- The cursor stands at a position. Down goes to an argument that is there, Up to the position
+-- above, and Rule replaces where it stands; none where an event isn't possible.
 module _ (rules : List Rule) where
   abbrev pub replayed : List Event → List ℕ → Tree → Option Tree
   replayed [] at t = Some t
@@ -35,9 +35,12 @@ module _ (rules : List Rule) where
   replayed (Up ∷ es) at t = option_and_then (λ up. replayed es up t) (above at)
   replayed (Use k ∷ es) at t = option_and_then (λ u. replayed es at u) (replace_at rules at k t)
 
--- What events replace, with the cursor at a position before them; none where they go above the root.
+-- What events replace, with the cursor at a position before them; none where they go above the
+-- root.
 abbrev pub made_by : List Event → List ℕ → Option (List Replacement)
 made_by [] at = Some []
 made_by (Down j ∷ es) at = made_by es (at ++ j ∷ [])
 made_by (Up ∷ es) at = option_and_then (λ up. made_by es up) (above at)
-made_by (Use k ∷ es) at = option_map (λ ss. (let s : Replacement = record { position = at; rule = k } in s) ∷ ss) (made_by es at)
+made_by (Use k ∷ es) at =
+    option_map (λ ss. (let s : Replacement = record { position = at; rule = k } in s) ∷ ss)
+    (made_by es at)

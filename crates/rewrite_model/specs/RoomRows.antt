@@ -1,5 +1,5 @@
--- Worked rows: the least room that serves, and the fuel, each beside the room or the fuel that is one
--- too little.
+-- Worked rows: the least room that serves, and the fuel, each beside the room or the fuel that is
+-- one too little.
 use Rattle.std.specs.Prelude.{◌≡◌, List, [], ◌∷◌}
 use Rattle.rewrite_model.specs.Rule.{Rule}
 use Rattle.rewrite_model.specs.Run.{Done, OutOfFuel, TooDeep}
@@ -13,12 +13,14 @@ LeastRoom = (value [] a 0 1 ≡ Done a 0) × (value [] a 0 0 ≡ TooDeep)
 -- A variable as right side needs no room of its own: by f(X) -> X, f(b) is b in room 2, where b has
 -- room 1 and the rule of one variable room 2.
 abbrev pub VariableOnTheRight : Type 0
-VariableOnTheRight = (value (rule (f x) x 1 ∷ []) (f b) 1 2 ≡ Done b 0) × (value (rule (f x) x 1 ∷ []) (f b) 1 1 ≡ TooDeep)
+VariableOnTheRight = (value (rule (f x) x 1 ∷ []) (f b) 1 2 ≡ Done b 0)
+    × (value (rule (f x) x 1 ∷ []) (f b) 1 1 ≡ TooDeep)
 
 -- A variable in no room is too deep. By f(X) -> g(X), X has the room less 1 for the rule's variable
 -- and less 1 for the first argument: room 1 in room 3, room 0 in room 2.
 abbrev pub VariableInNoRoom : Type 0
-VariableInNoRoom = (value (rule (f x) (g x) 1 ∷ []) (f b) 1 3 ≡ Done (g b) 0) × (value (rule (f x) (g x) 1 ∷ []) (f b) 1 2 ≡ TooDeep)
+VariableInNoRoom = (value (rule (f x) (g x) 1 ∷ []) (f b) 1 3 ≡ Done (g b) 0)
+    × (value (rule (f x) (g x) 1 ∷ []) (f b) 1 2 ≡ TooDeep)
 
 -- The same of a rule of two variables: by pair(X, Y) -> f(X), X has room 1 in room 4, and none in
 -- room 3.
@@ -41,7 +43,8 @@ abbrev deeper : List Rule
 deeper = rule (f x) (s (g x)) 1 ∷ rule (g (pair x y)) a 2 ∷ []
 
 abbrev pub RoomForVariables : Type 0
-RoomForVariables = (value deeper (f (pair a b)) 2 5 ≡ Done (s a) 0) × (value deeper (f (pair a b)) 2 4 ≡ TooDeep)
+RoomForVariables =
+    (value deeper (f (pair a b)) 2 5 ≡ Done (s a) 0) × (value deeper (f (pair a b)) 2 4 ≡ TooDeep)
 
 -- A rule that lacks both fuel and room is out of fuel: the same in room 4 with fuel for one use.
 abbrev pub FuelBeforeRoom : Type 0
@@ -61,11 +64,13 @@ abbrev second_deep : List Rule
 second_deep = rule_if (f x) a (differ c b ∷ []) 1 ∷ []
 
 abbrev pub RoomOfSecondSide : Type 0
-RoomOfSecondSide = (value second_deep (f a) 1 5 ≡ Done a 0) × (value second_deep (f a) 1 4 ≡ TooDeep)
+RoomOfSecondSide =
+    (value second_deep (f a) 1 5 ≡ Done a 0) × (value second_deep (f a) 1 4 ≡ TooDeep)
 
 -- The same of a rule of two variables, pair(X, Y) -> a with these conditions: one room more each.
 abbrev pub RoomOfSidesOfTwo : Type 0
-RoomOfSidesOfTwo = (value (rule_if (pair x y) a (differ (g (g b)) b ∷ []) 2 ∷ []) (pair a b) 1 7 ≡ Done a 0)
+RoomOfSidesOfTwo =
+    (value (rule_if (pair x y) a (differ (g (g b)) b ∷ []) 2 ∷ []) (pair a b) 1 7 ≡ Done a 0)
     × (value (rule_if (pair x y) a (differ (g (g b)) b ∷ []) 2 ∷ []) (pair a b) 1 6 ≡ TooDeep)
     × (value (rule_if (pair x y) a (differ c b ∷ []) 2 ∷ []) (pair a b) 1 6 ≡ Done a 0)
     × (value (rule_if (pair x y) a (differ c b ∷ []) 2 ∷ []) (pair a b) 1 5 ≡ TooDeep)

@@ -18,7 +18,8 @@ abbrev pub sums : List Rule
 sums = rule (plus x z) x 1 ∷ rule (plus x (s y)) (s (plus x y)) 2 ∷ []
 
 abbrev pub products : List Rule
-products = rule (plus x z) x 1 ∷ rule (plus x (s y)) (s (plus x y)) 2 ∷ rule (mult x z) z 1 ∷ rule (mult x (s y)) (plus (mult x y) x) 2 ∷ []
+products = rule (plus x z) x 1 ∷ rule (plus x (s y)) (s (plus x y)) 2 ∷ rule (mult x z) z 1
+    ∷ rule (mult x (s y)) (plus (mult x y) x) 2 ∷ []
 
 abbrev pub one_and_one : Tree
 one_and_one = plus (s z) (s z)
@@ -38,7 +39,8 @@ RoomFive = value sums one_and_one 1000 5 ≡ TooDeep
 
 -- what it builds, 5 different trees, of which at most 3 are in hand
 abbrev pub OneAndOneBuilds : Type 0
-OneAndOneBuilds = built_list sums one_and_one 1000 1000 ≡ z ∷ s z ∷ z ∷ s z ∷ plus (s z) (s z) ∷ plus (s z) z ∷ s (s z) ∷ []
+OneAndOneBuilds = built_list sums one_and_one 1000 1000 ≡ z ∷ s z ∷ z ∷ s z ∷ plus (s z) (s z)
+    ∷ plus (s z) z ∷ s (s z) ∷ []
 
 abbrev pub OneAndOneNeeds : Type 0
 OneAndOneNeeds = need sums one_and_one 1000 1000 ≡ 3
@@ -47,7 +49,8 @@ abbrev four_terms : List Tree
 four_terms = one_and_one ∷ one_and_one ∷ one_and_one ∷ one_and_one ∷ []
 
 abbrev pub FourTermsBuild : Type 0
-FourTermsBuild = (total_built sums four_terms 1000 1000 ≡ 28) × (distinct_built sums four_terms 1000 1000 ≡ 5)
+FourTermsBuild =
+    (total_built sums four_terms 1000 1000 ≡ 28) × (distinct_built sums four_terms 1000 1000 ≡ 5)
 
 -- a variable that occurs twice needs equal trees: eq(X, X) -> t
 abbrev t : Tree
@@ -57,7 +60,8 @@ abbrev eq : Tree → Tree → Tree
 eq u v = node 6 (u ∷ v ∷ [])
 
 abbrev pub Twice : Type 0
-Twice = (value (rule (eq x x) t 1 ∷ []) (eq (s z) (s z)) 9 99 ≡ Done t 8) × (value (rule (eq x x) t 1 ∷ []) (eq (s z) z) 9 99 ≡ Done (eq (s z) z) 9)
+Twice = (value (rule (eq x x) t 1 ∷ []) (eq (s z) (s z)) 9 99 ≡ Done t 8)
+    × (value (rule (eq x x) t 1 ∷ []) (eq (s z) z) 9 99 ≡ Done (eq (s z) z) 9)
 
 -- a constant e
 abbrev e : Tree
@@ -68,7 +72,8 @@ abbrev guarded : List Rule
 guarded = rule (g x) b 1 ∷ rule_if (f x) a (same (g x) b ∷ differ x c ∷ []) 1 ∷ rule (f x) e 1 ∷ []
 
 abbrev pub Guarded : Type 0
-Guarded = (value guarded (f c) 3 99 ≡ Done e 0) × (value guarded (f c) 2 99 ≡ OutOfFuel) × (value guarded (f a) 2 99 ≡ Done a 0)
+Guarded = (value guarded (f c) 3 99 ≡ Done e 0) × (value guarded (f c) 2 99 ≡ OutOfFuel)
+    × (value guarded (f a) 2 99 ≡ Done a 0)
 
 -- a condition that asks for itself: f(X) -> a if f(X) = b
 abbrev pub AsksForItself : Type 0
@@ -91,10 +96,13 @@ abbrev loops : List Rule
 loops = rule (f x) a 1 ∷ rule l l 0 ∷ []
 
 abbrev pub OutermostEnds : Type 0
-OutermostEnds = (outermost_value loops (f l) 1 2 ≡ Done a 0) × (value loops (f l) 5 99 ≡ OutOfFuel) × (outermost_value loops (f l) 1 1 ≡ TooDeep)
+OutermostEnds = (outermost_value loops (f l) 1 2 ≡ Done a 0) × (value loops (f l) 5 99 ≡ OutOfFuel)
+    × (outermost_value loops (f l) 1 1 ≡ TooDeep)
 
 abbrev pub OutermostSums : Type 0
-OutermostSums = (outermost_value sums one_and_one 2 1000 ≡ Done (s (s z)) 0) × (outermost_value sums one_and_one 1 1000 ≡ OutOfFuel)
+OutermostSums = (outermost_value sums one_and_one 2 1000 ≡ Done (s (s z)) 0)
+    × (outermost_value sums one_and_one 1 1000 ≡ OutOfFuel)
 
 abbrev pub OutermostBuilds : Type 0
-OutermostBuilds = outermost_built sums one_and_one 2 1000 ≡ z ∷ s z ∷ z ∷ s z ∷ plus (s z) (s z) ∷ plus (s z) z ∷ s (plus (s z) z) ∷ s (s z) ∷ []
+OutermostBuilds = outermost_built sums one_and_one 2 1000 ≡ z ∷ s z ∷ z ∷ s z ∷ plus (s z) (s z)
+    ∷ plus (s z) z ∷ s (plus (s z) z) ∷ s (s z) ∷ []

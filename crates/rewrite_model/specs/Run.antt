@@ -28,7 +28,8 @@ after notes OutOfFuel go = record { notes = notes; end = OutOfFuel }
 after notes TooDeep go = record { notes = notes; end = TooDeep }
 
 infixl 10 ◌>>=◌
--- goes on with the value and the fuel that is left; the first end that is no value is the end of all
+-- goes on with the value and the fuel that is left; the first end that is no value is the end of
+-- all
 abbrev pub ◌>>=◌ : {N A B : Type 0} → Run N A → (A → ℕ → Run N B) → Run N B
 r >>= go = after r.notes r.end go
 

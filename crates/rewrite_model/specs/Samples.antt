@@ -69,7 +69,8 @@ abbrev pub rule : Tree → Tree → ℕ → Rule
 rule left right k = record { left = left; right = right; conditions = []; vars = k }
 
 abbrev pub rule_if : Tree → Tree → List Condition → ℕ → Rule
-rule_if left right conditions k = record { left = left; right = right; conditions = conditions; vars = k }
+rule_if left right conditions k =
+    record { left = left; right = right; conditions = conditions; vars = k }
 
 abbrev pub same : Tree → Tree → Condition
 same t u = record { first = t; second = u; equal = true }

@@ -8,7 +8,8 @@ use Rattle.rewrite_model.specs.Matching.{match_of, instance}
 -- The instance of a left side is replaced by that of the right side, at the root or in an argument.
 mutual
   pub data Step (rules : List Rule) : Tree → Tree → Type 0 where
-    at_root : {t : Tree} {bound : List Tree} (r : Rule) → Contains rules r → match_of r.left t ≡ Some bound → Step rules t (instance r.right bound)
+    at_root : {t : Tree} {bound : List Tree} (r : Rule) → Contains rules r
+        → match_of r.left t ≡ Some bound → Step rules t (instance r.right bound)
     inside : {h : Head} {ts us : Trees} → StepIn rules ts us → Step rules (Node h ts) (Node h us)
 
   pub data StepIn (rules : List Rule) : Trees → Trees → Type 0 where

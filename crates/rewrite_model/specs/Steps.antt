@@ -1,6 +1,6 @@
 -- All trees to which one step by rules without conditions leads: first those of a step at the root,
--- a tree for each rule that matches, in written order; then those of a step in an argument, from left
--- to right.
+-- a tree for each rule that matches, in written order; then those of a step in an argument, from
+-- left to right.
 use Rattle.std.specs.Prelude.{List, [], ◌∷◌, ◌++◌, map}
 use Rattle.term_model.specs.Tree.{Tree, Leaf, Node, Trees, End, More}
 use Rattle.rewrite_model.specs.Rule.{Rule}

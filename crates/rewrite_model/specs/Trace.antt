@@ -1,5 +1,5 @@
--- The derivation that leftmost innermost evaluation makes, and its events: moves of a cursor, and uses
--- of rules where it stands.
+-- The derivation that leftmost innermost evaluation makes, and its events: moves of a cursor, and
+-- uses of rules where it stands.
 use Rattle.std.specs.Prelude.{ℕ, zero, suc, List, [], ◌∷◌, ◌++◌, length, replicate, map, Option, Some, None, if◌then◌else◌, ◌==◌}
 use Rattle.std.specs.Option.{option_map}
 use Rattle.term_model.specs.Tree.{Tree, Leaf, Node, Trees, End, More}
@@ -12,7 +12,8 @@ use Rattle.rewrite_model.specs.declared.event.Event.TheVariants as event
 -- the number of the first rule that matches
 abbrev pub first_match : List Rule → Tree → Option ℕ
 first_match [] t = None
-first_match (r ∷ rs) t = if_matched (match_of r.left t) (option_map (λ k. suc k) (first_match rs t)) (λ bound. Some 0)
+first_match (r ∷ rs) t =
+    if_matched (match_of r.left t) (option_map (λ k. suc k) (first_match rs t)) (λ bound. Some 0)
 
 abbrev pub at_root_by : ℕ → Replacement
 at_root_by k = record { position = []; rule = k }
@@ -39,11 +40,13 @@ module _ (rules : List Rule) where
   abbrev mutual
     pub innermost : Tree → Option Replacement
     innermost (Leaf x) = option_map at_root_by (first_match rules (Leaf x))
-    innermost (Node h ts) = or_else (innermost_in ts) (option_map at_root_by (first_match rules (Node h ts)))
+    innermost (Node h ts) =
+        or_else (innermost_in ts) (option_map at_root_by (first_match rules (Node h ts)))
 
     pub innermost_in : Trees → Option Replacement
     innermost_in End = None
-    innermost_in (More t ts) = or_else (option_map in_first (innermost t)) (option_map in_next (innermost_in ts))
+    innermost_in (More t ts) =
+        or_else (option_map in_first (innermost t)) (option_map in_next (innermost_in ts))
 
   -- one after another, no more than so many
   abbrev pub goes_on : (Tree → List Replacement) → Replacement → Option Tree → List Replacement
@@ -58,7 +61,8 @@ module _ (rules : List Rule) where
   replacements zero t = []
   replacements (suc n) t = replaces (replacements n) t (innermost t)
 
--- The fewest moves from a position to another: up to the last that both have in common, and then down.
+-- The fewest moves from a position to another: up to the last that both have in common, and then
+-- down.
 abbrev pub downs : List ℕ → List Event
 downs js = map (λ j. event.Down j) js
 

@@ -22,7 +22,8 @@ FewestMoves = trace (rule (f x) c 1 ∷ []) (pair (pair (f a) (f b)) (f a)) 3
 -- Arguments go before the tree over them, and at a position the first rule that matches is used: by
 -- f(X) -> c, g(X) -> b, g(X) -> a the tree g(f(a)) becomes g(c), and that becomes b by rule 1.
 abbrev pub ArgumentsFirst : Type 0
-ArgumentsFirst = trace (rule (f x) c 1 ∷ rule (g x) b 1 ∷ rule (g x) a 1 ∷ []) (g (f a)) 9 ≡ Down 1 ∷ Use 0 ∷ Up ∷ Use 1 ∷ []
+ArgumentsFirst = trace (rule (f x) c 1 ∷ rule (g x) b 1 ∷ rule (g x) a 1 ∷ []) (g (f a)) 9
+    ≡ Down 1 ∷ Use 0 ∷ Up ∷ Use 1 ∷ []
 
 -- Rule 0 doesn't match plus(s(z), s(z)), so that no term is reached by it.
 abbrev pub OnlyWhereItMatches : Type 0
@@ -31,21 +32,27 @@ OnlyWhereItMatches = (replayed sums (Use 1 ∷ Down 1 ∷ Use 0 ∷ []) [] one_a
 
 -- No move leads off the term: there is nothing above the root, and f(a) has one argument.
 abbrev pub StaysOnTheTerm : Type 0
-StaysOnTheTerm = (replayed [] (Down 1 ∷ Up ∷ []) [] (f a) ≡ Some (f a)) × (replayed [] (Up ∷ []) [] (f a) ≡ None)
+StaysOnTheTerm = (replayed [] (Down 1 ∷ Up ∷ []) [] (f a) ≡ Some (f a))
+    × (replayed [] (Up ∷ []) [] (f a) ≡ None)
     × (replayed [] (Down 2 ∷ []) [] (f a) ≡ None) × (replayed [] (Down 0 ∷ []) [] (f a) ≡ None)
 
--- A rule without room for the trees that it binds, and one more, replaces nothing. By f(X) -> s(g(X)),
--- g(pair(X, Y)) -> a, in room 4, f(pair(a, b)) is replaced, and g(pair(a, b)), in room 2, isn't: the
--- rule of two variables needs room 3. In room 5 both are.
+-- A rule without room for the trees that it binds, and one more, replaces nothing. By f(X) ->
+-- s(g(X)), g(pair(X, Y)) -> a, in room 4, f(pair(a, b)) is replaced, and g(pair(a, b)), in room 2,
+-- isn't: the rule of two variables needs room 3. In room 5 both are.
 abbrev without_room : List Rule
 without_room = rule (f x) (s (g x)) 1 ∷ rule (g (pair x y)) a 2 ∷ []
 
 abbrev pub NoRoomForTheRule : Type 0
-NoRoomForTheRule = (value without_room (f (pair a b)) 9 4 ≡ TooDeep) × (replaced_in_room without_room (f (pair a b)) 9 4 ≡ 1)
-    × (value without_room (f (pair a b)) 9 5 ≡ Done (s a) 7) × (replaced_in_room without_room (f (pair a b)) 9 5 ≡ 2)
+NoRoomForTheRule = (value without_room (f (pair a b)) 9 4 ≡ TooDeep)
+    × (replaced_in_room without_room (f (pair a b)) 9 4 ≡ 1)
+    × (value without_room (f (pair a b)) 9 5 ≡ Done (s a) 7)
+    × (replaced_in_room without_room (f (pair a b)) 9 5 ≡ 2)
 
--- A rule with that room replaces its tree, though its right side may find none. By f(X) -> g(X), f(b) in
--- room 2 is replaced by g(b), whose argument finds none; in room 1 b finds none, and nothing is replaced.
+-- A rule with that room replaces its tree, though its right side may find none. By f(X) -> g(X),
+-- f(b) in room 2 is replaced by g(b), whose argument finds none; in room 1 b finds none, and
+-- nothing is replaced.
 abbrev pub NoRoomOnTheRight : Type 0
-NoRoomOnTheRight = (value (rule (f x) (g x) 1 ∷ []) (f b) 9 2 ≡ TooDeep) × (replaced_in_room (rule (f x) (g x) 1 ∷ []) (f b) 9 2 ≡ 1)
-    × (value (rule (f x) (g x) 1 ∷ []) (f b) 9 1 ≡ TooDeep) × (replaced_in_room (rule (f x) (g x) 1 ∷ []) (f b) 9 1 ≡ 0)
+NoRoomOnTheRight = (value (rule (f x) (g x) 1 ∷ []) (f b) 9 2 ≡ TooDeep)
+    × (replaced_in_room (rule (f x) (g x) 1 ∷ []) (f b) 9 2 ≡ 1)
+    × (value (rule (f x) (g x) 1 ∷ []) (f b) 9 1 ≡ TooDeep)
+    × (replaced_in_room (rule (f x) (g x) 1 ∷ []) (f b) 9 1 ≡ 0)

@@ -5,11 +5,12 @@ use Rattle.rewrite_model.specs.Rule.{Rule}
 use Rattle.rewrite_model.specs.Matching.{match_of, if_matched}
 use Rattle.rewrite_model.specs.Evaluation.{Point, evaluation}
 
--- The first rule that matches a tree replaces it where there is room for the trees that it binds and
--- one more. Where there isn't, no rule does.
+-- The first rule that matches a tree replaces it where there is room for the trees that it binds
+-- and one more. Where there isn't, no rule does.
 abbrev pub replaces_in_room : List Rule → Tree → ℕ → ℕ
 replaces_in_room [] t room = 0
-replaces_in_room (r ∷ rs) t room = if_matched (match_of r.left t) (replaces_in_room rs t room) (λ bound. if nat_lt room (1 + length bound) then 0 else 1)
+replaces_in_room (r ∷ rs) t room = if_matched (match_of r.left t) (replaces_in_room rs t room)
+    (λ bound. if nat_lt room (1 + length bound) then 0 else 1)
 
 -- one at each point whose tree is replaced in the room of the point
 abbrev pub replaced_at : List Rule → List Point → ℕ

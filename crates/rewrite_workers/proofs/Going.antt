@@ -61,7 +61,8 @@ next_most (x ∷ xs) n h =
     let a : x < n = All-head (λ y. y < n) x xs h in
     let b = next_most xs n (All-tail (λ y. y < n) x xs h) in omega arith
 
--- So far the seat drew the numbers of the lines, upwards, and the desk built all that these terms build.
+-- So far the seat drew the numbers of the lines, upwards, and the desk built all that these terms
+-- build.
 pub record Going (table : TableId) (s : Settings) (symbols : List Named) (rules : List Rule) (terms : List Tree) (old now : Store) (begun share : Share) : Type 0 where
   pub seat : IsIn table share.seat.table_id share.seat.me share.seat.me.0
   pub shares : share.seat.me.0.shares ≡ 1

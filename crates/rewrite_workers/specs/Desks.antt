@@ -5,7 +5,8 @@ use Rattle.rule_match.specs.Planned.{Planned}
 use Rattle.settings.specs.declared.parts.Settings.{Settings}
 use Rattle.work_order.specs.Works.{IsInnermost}
 
--- Nobody is inside, the stack is empty, and there are the places of the settings, no more rows than they have, and the plan's width.
+-- Nobody is inside, the stack is empty, and there are the places of the settings, no more rows than
+-- they have, and the plan's width.
 pub record IsReady (s : Settings) (plan : Planned) (desk : Store) : Type 0 where
   pub outside : desk.inside ≡ false
   pub empty : desk.stack ≡ []
@@ -16,10 +17,12 @@ pub record IsReady (s : Settings) (plan : Planned) (desk : Store) : Type 0 where
 -- of as many desks as before, each keeps this to what it was
 abbrev pub EachDesk : {D : Type 0} → (ℕ → D → D → Type 0) → List D → List D → Type 0
 EachDesk {D} P olds news = (length news ≡ length olds)
-    × ((k : ℕ) (old new : D) → slice_get olds k ≡ Some old → slice_get news k ≡ Some new → P k old new)
+    × ((k : ℕ) (old new : D) → slice_get olds k ≡ Some old → slice_get news k ≡ Some new
+    → P k old new)
 
--- What a desk keeps, whatever the answer is: its numbers. It collected at most once more than it built trees, and where terms are
--- rewritten innermost no more was protected at once than a term needs.
+-- What a desk keeps, whatever the answer is: its numbers. It collected at most once more than it
+-- built trees, and where terms are rewritten innermost no more was protected at once than a term
+-- needs.
 pub record KeepsDesk (s : Settings) (needed : ℕ) (old new : Store) : Type 0 where
   pub rows : new.rows ≡ old.rows
   pub widest : new.widest ≡ old.widest

@@ -21,35 +21,42 @@ abbrev pub BuiltAll : Settings → List Rule → List Tree → Store → Store �
 BuiltAll s rules drawn old new = Adds (AreBuilt s rules drawn) old.built new.built
 
 -- The desk refused a tree of the last of these terms, and built all that they build before it.
-pub record RefusedLast (s : Settings) (rules : List Rule) (drawn : List Tree) (old new : Store) (fault : RunFault) : Type 0 where
+pub record RefusedLast (s : Settings) (rules : List Rule) (drawn : List Tree) (old new : Store)
+    (fault : RunFault) : Type 0 where
   pub before : List Tree
   pub term : Tree
   pub drawn_is : drawn ≡ before ++ term ∷ []
   pub begun : Store
   pub built : BuiltAll s rules before old begun
   pub empty : begun.stack ≡ []
-  pub refused : RefusedBy (strategy_of s.command) (remembers_results s rules) rules term s.fuel s.depth begun new fault
+  pub refused : RefusedBy (strategy_of s.command) (remembers_results s rules) rules term s.fuel
+      s.depth begun new fault
   pub refusals : old.refusals < new.refusals
 
--- The desk built the first of what these terms build, in order; all of it where no events are told, since only they want memory
--- before a term's line.
-pub record BuiltFront (s : Settings) (rules : List Rule) (drawn : List Tree) (old new : Store) : Type 0 where
+-- The desk built the first of what these terms build, in order; all of it where no events are told,
+-- since only they want memory before a term's line.
+pub record BuiltFront (s : Settings) (rules : List Rule) (drawn : List Tree)
+    (old new : Store) : Type 0 where
   pub front : List Tree
   pub rest : List Tree
   pub split : AreBuilt s rules drawn old.built (front ++ rest)
   pub built : new.built ≡ old.built ++ front
   pub whole : tells_events s rules ≡ false → BuiltAll s rules drawn old new
 
--- How a worker ended that drew these terms: none was left to draw, or it stopped at the last one, or before it drew any.
-abbrev pub Ended : {A : Type 0} → Settings → List Rule → List Tree → Store → Store → Result A LineStop → Type 0
+-- How a worker ended that drew these terms: none was left to draw, or it stopped at the last one,
+-- or before it drew any.
+abbrev pub Ended : {A : Type 0} → Settings → List Rule → List Tree → Store → Store
+    → Result A LineStop → Type 0
 Ended s rules drawn old new (Ok _) = BuiltAll s rules drawn old new × (new.refusals ≡ old.refusals)
 Ended s rules drawn old new (Err stop.StoreFull) = RefusedLast s rules drawn old new fault.StoreFull
 Ended s rules drawn old new (Err stop.Worn) = RefusedLast s rules drawn old new fault.Worn
-Ended s rules drawn old new (Err stop.Memory) = BuiltFront s rules drawn old new × (new.refusals ≡ old.refusals)
+Ended s rules drawn old new (Err stop.Memory) =
+    BuiltFront s rules drawn old new × (new.refusals ≡ old.refusals)
 
--- Each worker drew some of the terms and ended so, with its desk. The fault is the worst of their ends, or there was no memory to begin
--- or to end with.
-pub record Stopped {D : Type 0} (store : D → Store) (s : Settings) (rules : List Rule) (terms : List Tree) (olds news : List D) (fault : AllFault) : Type 0 where
+-- Each worker drew some of the terms and ended so, with its desk. The fault is the worst of their
+-- ends, or there was no memory to begin or to end with.
+pub record Stopped {D : Type 0} (store : D → Store) (s : Settings) (rules : List Rule)
+    (terms : List Tree) (olds news : List D) (fault : AllFault) : Type 0 where
   pub hands : List (List ℕ)
   pub ends : List (Result (Unit {0}) LineStop)
   pub apart : AreApart (length terms) (length olds) hands

@@ -42,24 +42,28 @@ pub record Drew (table : TableId) (old new : Share) : Type 0 where
   pub worker : new.worker ≡ old.worker
 
 -- the line is that of the term with its number, by this worker
-pub record IsLineAt (s : Settings) (symbols : List Named) (rules : List Rule) (terms : List Tree) (worker : ℕ) (x : Numbered) : Type 0 where
+pub record IsLineAt (s : Settings) (symbols : List Named) (rules : List Rule) (terms : List Tree)
+    (worker : ℕ) (x : Numbered) : Type 0 where
   pub told_is : told x.line ≡ told_of s symbols rules (term_at terms x.number)
   pub drawn_by : x.line.line.worker ≡ worker
 
 -- the lines of all terms that were drawn, and that no term was left to draw
-pub record HasLines (s : Settings) (symbols : List Named) (rules : List Rule) (terms : List Tree) (share : Share) : Type 0 where
+pub record HasLines (s : Settings) (symbols : List Named) (rules : List Rule) (terms : List Tree)
+    (share : Share) : Type 0 where
   pub numbers : map number_of share.lines.items ≡ of_terms (length terms) (drawn_of share)
   pub lines : All (IsLineAt s symbols rules terms share.worker) share.lines.items
   pub last : ℕ
   pub past : length terms ≤ last
   pub drawn : 0 < times last (drawn_of share)
 
-abbrev pub HasLinesWhere : Settings → List Named → List Rule → List Tree → Share → Result (Unit {0}) LineStop → Type 0
+abbrev pub HasLinesWhere : Settings → List Named → List Rule → List Tree → Share
+    → Result (Unit {0}) LineStop → Type 0
 HasLinesWhere s symbols rules terms share (Ok _) = HasLines s symbols rules terms share
 HasLinesWhere s symbols rules terms share (Err stop) = Unit {0}
 
 -- What a worker leaves: the lines of the terms that it drew, or why it stopped, and its desk.
-pub record Worked (s : Settings) (symbols : List Named) (rules : List Rule) (terms : List Tree) (old new : Store) (share : Share) (end : Result (Unit {0}) LineStop) : Type 0 where
+pub record Worked (s : Settings) (symbols : List Named) (rules : List Rule) (terms : List Tree)
+    (old new : Store) (share : Share) (end : Result (Unit {0}) LineStop) : Type 0 where
   pub ended : Ended s rules (numbered terms (of_terms (length terms) (drawn_of share))) old new end
   pub works : WorksOn s (need_of s rules terms) old new end
   pub places : All (λ x. x.number < length terms) share.lines.items

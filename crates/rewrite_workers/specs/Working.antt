@@ -12,7 +12,8 @@ use Rattle.line_ends.specs.declared.stop.LineStop.{LineStop}
 use Rattle.work_order.specs.Works.{strategy_of, is_traced, IsInnermost, remembers_results}
 use Rattle.line_ends.specs.declared.stop.LineStop.TheVariants as stop
 
--- a rewriter of a plan, with the strategy of the settings' command, their fuel, depth and rows, and what they ask to be told
+-- a rewriter of a plan, with the strategy of the settings' command, their fuel, depth and rows, and
+-- what they ask to be told
 pub record IsRewriterOf (s : Settings) (plan : Planned) (rewriter : Rewriter) : Type 0 where
   pub machine : IsFor plan rewriter.machine
   pub strategy : rewriter.strategy ≡ strategy_of s.command
@@ -23,9 +24,10 @@ pub record IsRewriterOf (s : Settings) (plan : Planned) (rewriter : Rewriter) : 
   pub traced : rewriter.traced ≡ is_traced s plan.rules
   pub remembers : rewriter.remembers ≡ nat_lt 0 s.cache
 
--- What a worker remembers of a desk that nobody is inside: where results are remembered each is right, and where the epoch is known it is
--- that of the desk.
-pub record Recalls (s : Settings) (rules : List Rule) (desk : Store) (map : Map) (epoch : Option ℕ) : Type 0 where
+-- What a worker remembers of a desk that nobody is inside: where results are remembered each is
+-- right, and where the epoch is known it is that of the desk.
+pub record Recalls (s : Settings) (rules : List Rule) (desk : Store) (map : Map)
+    (epoch : Option ℕ) : Type 0 where
   pub right : MayRecall (remembers_results s rules) rules desk map
   pub epoch_is : (n : ℕ) → epoch ≡ Some n → desk.epoch ≡ Some n
 
@@ -36,9 +38,10 @@ more_sweeps (Err stop.StoreFull) = 1
 more_sweeps (Err stop.Worn) = 1
 more_sweeps (Err stop.Memory) = 0
 
--- The numbers of a desk stay. It collected so often, and where terms are rewritten innermost no more was protected at once than
--- a term needs.
-pub record WorksOn {A : Type 0} (s : Settings) (needed : ℕ) (old new : Store) (result : Result A LineStop) : Type 0 where
+-- The numbers of a desk stay. It collected so often, and where terms are rewritten innermost no
+-- more was protected at once than a term needs.
+pub record WorksOn {A : Type 0} (s : Settings) (needed : ℕ) (old new : Store)
+    (result : Result A LineStop) : Type 0 where
   pub rows : new.rows ≡ old.rows
   pub widest : new.widest ≡ old.widest
   pub room : new.room ≡ old.room

@@ -1,4 +1,5 @@
--- What is left of a match by rows: the items from a place on, and the rows that wait for them on a stack.
+-- What is left of a match by rows: the items from a place on, and the rows that wait for them on a
+-- stack.
 use Rattle.std.proofs.Common.{◌≡◌, ℕ, ◌+◌, ◌≤◌, ◌<◌, List, [], ◌∷◌, ◌++◌, Some, None, length, true, false, refl, sym, ◌∙◌, ap, arith, subst, map, drop, get_or, length-drop}
 use Rattle.std.specs.Prelude.{reverse}
 use Rattle.std.proofs.lemmas.List.{length-append, length-map, map_push, drop_more, drop_all}

@@ -6,7 +6,8 @@ use Rattle.row_sweep.specs.declared.turns.Order.{Order}
 use Rattle.row_sweep.specs.declared.turns.Order.TheVariants.{Ascending, Apart}
 use Rattle.row_sweep.specs.Turns.{in_blocks, row_in_turn}
 
--- of a block of 64 rows, the one whose two digits to the base of 8 are those of k in the other order
+-- of a block of 64 rows, the one whose two digits to the base of 8 are those of k in the other
+-- order
 abbrev swapped : ℕ → ℕ
 swapped k = 64 * (k / 64) + (8 * (k % 8) + k / 8 % 8)
 

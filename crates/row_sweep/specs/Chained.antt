@@ -31,7 +31,8 @@ pub record Belongs (w : Place → ℕ) (marks : List Bool) (u n b r : ℕ) : Typ
   pub stands : StandsIn w u b r
 
 -- the chains of u buckets hold the marked rows among the first n, each in the chain of its bucket
-pub record ChainsTo (w : Place → ℕ) (marks : List Bool) (u n : ℕ) (heads nexts : List ℕ) : Type 0 where
+pub record ChainsTo (w : Place → ℕ) (marks : List Bool) (u n : ℕ)
+    (heads nexts : List ℕ) : Type 0 where
   pub rows : ℕ → List ℕ
   pub leads : (b : ℕ) → b < u → LeadsTo (λ r. get_or nexts r 0) (get_or heads b 0) (rows b)
   pub belong : (b : ℕ) → b < u → Each (Belongs w marks u n b) (rows b)

@@ -32,7 +32,8 @@ loads_of seat = loads seat.me.0.store.call
 abbrev pub words_of : Seat (Unit {0}) NodeView → Place → ℕ
 words_of seat = found (loads_of seat)
 
--- seat i, one of n, is in exclusive access of the store, and its protected rows are those of its last Roots
+-- seat i, one of n, is in exclusive access of the store, and its protected rows are those of its
+-- last Roots
 pub record IsAlone (s : Store) (seat : Seat (Unit {0}) NodeView) (i n : ℕ) : Type 0 where
   pub of : IsOf s.table.shared.table_id s.table.shared.key seat
   pub seats : n ≡ s.table.shared.key.seats
@@ -48,7 +49,8 @@ pub record Gathers (c : Sweep) (seat : Seat (Unit {0}) NodeView) (i n : ℕ) : T
   pub stands : HasStore (sizes_of c) i seat.me.0.store
   pub known : Known (sizes_of c) seat.me.0.store
 
--- The collection of seat i, which knows v, has loaded its base and this claim: they are the words of a store in which the facts hold.
+-- The collection of seat i, which knows v, has loaded its base and this claim: they are the words
+-- of a store in which the facts hold.
 pub record LoadsClaim (z : Sizes) (i : ℕ) (v : View) (claim : ℕ) : Type 0 where
   pub loaded : HasStore z i (with_call v (Loading ((Base, v.base) ∷ (Claim, claim) ∷ [])))
   pub base_is : loaded.store.words Base ≡ v.base
@@ -66,14 +68,16 @@ abbrev pub OnlyCalls : NodeView → NodeView → Type 0
 OnlyCalls v w = w ≡ with_store v (with_call v.store w.store.call)
 
 -- the same seat, number i of n, whose view is as it was but for the call under way
-pub record StaysSeat (a : Seat (Unit {0}) NodeView) (i n : ℕ) (b : Seat (Unit {0}) NodeView) (j m : ℕ) : Type 0 where
+pub record StaysSeat (a : Seat (Unit {0}) NodeView) (i n : ℕ) (b : Seat (Unit {0}) NodeView)
+    (j m : ℕ) : Type 0 where
   pub same : IsSame a b
   pub number : j ≡ i
   pub seats : m ≡ n
   pub only : OnlyCalls a.me.0 b.me.0
 
 -- and which has loaded more
-pub record LoadsMore (a : Seat (Unit {0}) NodeView) (i n : ℕ) (b : Seat (Unit {0}) NodeView) (j m : ℕ) : Type 0 where
+pub record LoadsMore (a : Seat (Unit {0}) NodeView) (i n : ℕ) (b : Seat (Unit {0}) NodeView)
+    (j m : ℕ) : Type 0 where
   pub stays : StaysSeat a i n b j m
   pub extends : Extends (loads_of a) (loads_of b)
 
@@ -83,7 +87,8 @@ pub record HasGathered (c : Sweep) (seat : Seat (Unit {0}) NodeView) (i n : ℕ)
   pub all : HasAll (sizes_of c) (loads_of seat)
 
 -- The same seat, which has loaded words again: they are as they were.
-pub record LoadsAgain (c : Sweep) (a : Seat (Unit {0}) NodeView) (i n : ℕ) (b : Seat (Unit {0}) NodeView) (j m : ℕ) : Type 0 where
+pub record LoadsAgain (c : Sweep) (a : Seat (Unit {0}) NodeView) (i n : ℕ)
+    (b : Seat (Unit {0}) NodeView) (j m : ℕ) : Type 0 where
   pub stays : StaysSeat a i n b j m
   pub words : words_of b ≡ words_of a
   pub all : HasGathered c a i n → HasGathered c b j m

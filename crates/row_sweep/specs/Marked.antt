@@ -18,14 +18,15 @@ arguments_of w r (suc n) = arguments_of w r n ++ row_of (w (RowWord r (suc (suc 
 abbrev pub children_of : (Place → ℕ) → Row → List Row
 children_of w r = arguments_of w r.0 (w (RowWord r.0 1))
 
--- Only rows that are reached are marked: among them the protected rows of the first j seats, and the first k of seat j; and with a
--- row its arguments.
+-- Only rows that are reached are marked: among them the protected rows of the first j seats, and
+-- the first k of seat j; and with a row its arguments.
 pub record MarksTo (w : Place → ℕ) (rows j k : ℕ) (marks : List Bool) : Type 0 where
   pub size : length marks ≡ rows
   pub only : (r : ℕ) → IsMarked marks r → ReachesByWords w r
   pub before : (i q : ℕ) → i < j → q < w (RootCount i) → IsMarked marks (w (Root i q))
   pub here : (q : ℕ) → q < k → IsMarked marks (w (Root j q))
-  pub closed : (r q : ℕ) → IsMarked marks r → q < w (RowWord r 1) → IsMarked marks (w (RowWord r (suc (suc q))))
+  pub closed : (r q : ℕ) → IsMarked marks r → q < w (RowWord r 1)
+      → IsMarked marks (w (RowWord r (suc (suc q))))
 
 -- how many of the first n rows are marked
 abbrev pub marked_below : List Bool → ℕ → ℕ

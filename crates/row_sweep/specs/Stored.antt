@@ -26,7 +26,8 @@ pub record Stores (c : Sweep) (seat : Seat (Unit {0}) NodeView) (i n : ℕ) : Ty
   pub inside : Each (λ x. in_table (sizes_of c) x.0 ≡ true) (stores seat.me.0.store.call)
 
 -- the same seat, which has stored more
-pub record StoresMore (a : Seat (Unit {0}) NodeView) (i n : ℕ) (b : Seat (Unit {0}) NodeView) (j m : ℕ) : Type 0 where
+pub record StoresMore (a : Seat (Unit {0}) NodeView) (i n : ℕ) (b : Seat (Unit {0}) NodeView)
+    (j m : ℕ) : Type 0 where
   pub stays : StaysSeat a i n b j m
   pub loads : loads_of b ≡ loads_of a
   pub seen : (p : Place) → HasSeen a.me.0.store p → HasSeen b.me.0.store p
@@ -51,10 +52,13 @@ is_number FreeCount = true
 is_number InUse = true
 is_number p = false
 
--- the first k free places hold, each once, the rows that aren't marked, of those that come in the first n turns
-pub record ArePlaced (place : ℕ → ℕ) (marks : List Bool) (z : Sizes) (o : Order) (n k : ℕ) : Type 0 where
+-- the first k free places hold, each once, the rows that aren't marked, of those that come in the
+-- first n turns
+pub record ArePlaced (place : ℕ → ℕ) (marks : List Bool) (z : Sizes) (o : Order)
+    (n k : ℕ) : Type 0 where
   pub below : (i : ℕ) → i < k → place i < z.rows
   pub turn : (i : ℕ) → i < k → row_in_turn z o (place i) < n
   pub free : (i : ℕ) → i < k → get_or marks (place i) false ≡ false
   pub differ : (i j : ℕ) → i < j → j < k → place i ≢ place j
-  pub all : (r : ℕ) → r < z.rows → row_in_turn z o r < n → get_or marks r false ≡ false → (i : ℕ) × (i < k) × (place i ≡ r)
+  pub all : (r : ℕ) → r < z.rows → row_in_turn z o r < n → get_or marks r false ≡ false
+      → (i : ℕ) × (i < k) × (place i ≡ r)

@@ -112,7 +112,8 @@ at_of [] i l = absurd (omega arith)
 at_of (x ∷ xs) zero l = record { one = x; there = λ d. refl }
 at_of (x ∷ xs) (suc i) l = let r = at_of xs i (omega arith) in record { one = r.one; there = r.there }
 
--- with the root's row at place 0 it begins, and stands at the state of the rule from which on it searches
+-- with the root's row at place 0 it begins, and stands at the state of the rule from which on it
+-- searches
 module _ (a : Made) (s : Store) (rows : List Row) (rules : List Rule) (row : Row) (from : ℕ) (au : HasStarts rules a) (held : IsHeld s row) (size : a.places ≤ length rows) where
   pub root_fits : 0 < length rows
   root_fits = let p = au.places in let q = au.readable.some in omega (arith, p, q, size)

@@ -82,8 +82,8 @@ chain rules t c to l low high is passed =
 abbrev rest_from : List Rule → Option ℕ → List ℕ
 rest_from rules o = numbers (unwrap_or o (length rules)) (length rules - unwrap_or o (length rules))
 
--- Rules were added up to the next one, so that from each of them on they and the rest have the first
--- match.
+-- Rules were added up to the next one, so that from each of them on they and the rest have the
+-- first match.
 pub record Adding (rules : List Rule) (old now : List ℕ) (first : ℕ) (next : Option ℕ) : Type 0 where
   pub more : List ℕ
   pub added : now ≡ old ++ more

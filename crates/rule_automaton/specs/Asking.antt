@@ -35,6 +35,9 @@ pub record ArePicked (all first words : List Test) : Type 0 where
   pub order : IsNonDecreasingBy word_key all → IsNonDecreasingBy word_key words
 
 -- the symbols that rules ask for at a place
-pub record AreWords (shapes : List Shape) (rules : List ℕ) (place : ℕ) (words : List Test) : Type 0 where
-  pub only : (w : Test) → Contains words w → (r : ℕ) × Contains rules r × Contains (tests_at shapes r) w × (w.place ≡ place)
-  pub all : (r : ℕ) (t : Test) → Contains rules r → Contains (tests_at shapes r) t → t.place ≡ place → HasWord words t
+pub record AreWords (shapes : List Shape) (rules : List ℕ) (place : ℕ)
+    (words : List Test) : Type 0 where
+  pub only : (w : Test) → Contains words w → (r : ℕ) × Contains rules r
+      × Contains (tests_at shapes r) w × (w.place ≡ place)
+  pub all : (r : ℕ) (t : Test) → Contains rules r → Contains (tests_at shapes r) t → t.place ≡ place
+      → HasWord words t

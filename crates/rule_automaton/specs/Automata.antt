@@ -20,7 +20,8 @@ use Rattle.rule_automaton.specs.declared.states.Op.TheVariants.{Found, Compare, 
 -- the first of some rules whose left side matches a tree
 abbrev pub first_match : List Rule → Tree → List ℕ → Option ℕ
 first_match rules t [] = None
-first_match rules t (r ∷ rs) = if is_some (match_at rules r t) then Some r else first_match rules t rs
+first_match rules t (r ∷ rs) =
+    if is_some (match_at rules r t) then Some r else first_match rules t rs
 
 -- The shapes of the rules in order, the rules of all states in one list, the states and their ways,
 -- how many places there are, and for each rule where it goes on from the root.
@@ -50,11 +51,13 @@ is_allowed place f n t = not (t.place == place) || asks_for f n t
 
 -- the rules that don't ask for another symbol at a place
 abbrev pub kept : List Shape → ℕ → Symbol → ℕ → List ℕ → List ℕ
-kept shapes place f n rules = filter (λ r. list_all (λ (t : Test). is_allowed place f n t) (tests_at shapes r)) rules
+kept shapes place f n rules =
+    filter (λ r. list_all (λ (t : Test). is_allowed place f n t) (tests_at shapes r)) rules
 
 -- the rules that ask for no symbol at a place
 abbrev pub passing : List Shape → ℕ → List ℕ → List ℕ
-passing shapes place rules = filter (λ r. list_all (λ (t : Test). not (t.place == place)) (tests_at shapes r)) rules
+passing shapes place rules =
+    filter (λ r. list_all (λ (t : Test). not (t.place == place)) (tests_at shapes r)) rules
 
 -- At a later state these are the rules, and tests of the places below a bound hold.
 pub record GoesOn (a : Made) (at to bound : ℕ) (rules : List ℕ) : Type 0 where
@@ -71,7 +74,8 @@ pub record IsTested (a : Made) (s : State) (rule : ℕ) (rest : List ℕ) : Type
   pub tested : list_all (λ (t : Test). nat_lt t.place s.bound) (tests_at a.shapes rule) ≡ true
 
 -- a way leads to the rules that don't ask for another symbol
-pub record IsWay (table : Tabled) (a : Made) (at : ℕ) (s : State) (place : ℕ) (w : Way) : Type 0 where
+pub record IsWay (table : Tabled) (a : Made) (at : ℕ) (s : State) (place : ℕ)
+    (w : Way) : Type 0 where
   pub base : table.base_of place w.count ≡ Some w.base
   pub goes : GoesOn a at w.to (place + 1) (kept a.shapes place w.symbol w.count (rules_of a s))
 
@@ -88,24 +92,31 @@ AreInOrder ways = IsNonDecreasingBy way_key ways
 
 -- Some rule of the state asks for the symbol at the place, none for one at a place between the
 -- bound and this one, and each symbol that is asked for has its way.
-pub record IsReading (table : Tabled) (a : Made) (at : ℕ) (s : State) (place first last other : ℕ) : Type 0 where
+pub record IsReading (table : Tabled) (a : Made) (at : ℕ) (s : State)
+    (place first last other : ℕ) : Type 0 where
   pub rule : ℕ
   pub rule_in : Contains (rules_of a s) rule
   pub test : Test
   pub test_in : Contains (tests_at a.shapes rule) test
   pub asks : test.place ≡ place
-  pub least : All (λ r. list_all (λ (t : Test). nat_lt t.place s.bound || nat_le place t.place) (tests_at a.shapes r) ≡ true) (rules_of a s)
+  pub least : All
+      (λ r. list_all (λ (t : Test). nat_lt t.place s.bound || nat_le place t.place)
+      (tests_at a.shapes r) ≡ true) (rules_of a s)
   pub order : first ≤ last
   pub within : last ≤ length a.ways
   pub sorted : AreInOrder (part a.ways first last)
   pub ways : All (IsWay table a at s place) (part a.ways first last)
-  pub covered : (r : ℕ) (t : Test) → Contains (rules_of a s) r → Contains (tests_at a.shapes r) t → t.place ≡ place → (w : Way) × Contains (part a.ways first last) w × (asks_for w.symbol w.count t ≡ true)
+  pub covered : (r : ℕ) (t : Test) → Contains (rules_of a s) r → Contains (tests_at a.shapes r) t
+      → t.place ≡ place → (w : Way) × Contains (part a.ways first last) w
+      × (asks_for w.symbol w.count t ≡ true)
   pub none : GoesOn a at other (place + 1) (passing a.shapes place (rules_of a s))
 
 -- what is done at a state is right
 abbrev pub IsRight : Tabled → Made → ℕ → State → Op → Type 0
-IsRight table a at s Found = (rule : ℕ) × (rest : List ℕ) × IsTested a s rule rest × (pairs_at a.shapes rule ≡ [])
-IsRight table a at s (Compare other) = (rule : ℕ) × (rest : List ℕ) × IsTested a s rule rest × GoesOn a at other s.bound rest
+IsRight table a at s Found =
+    (rule : ℕ) × (rest : List ℕ) × IsTested a s rule rest × (pairs_at a.shapes rule ≡ [])
+IsRight table a at s (Compare other) =
+    (rule : ℕ) × (rest : List ℕ) × IsTested a s rule rest × GoesOn a at other s.bound rest
 IsRight table a at s (Read n) = IsReading table a at s n.place n.first n.last n.other
 IsRight table a at s Turn = Unit {0}
 
@@ -117,22 +128,26 @@ pub record IsState (table : Tabled) (a : Made) (at : ℕ) (s : State) : Type 0 w
 
 pub record AreStates (table : Tabled) (a : Made) : Type 0 where
   pub rules : All (λ r. r < length a.shapes) a.rules
-  pub states : (at : ℕ) (d : State) → at < length a.states → IsState table a at (slice_index_or a.states at d)
+  pub states : (at : ℕ) (d : State) → at < length a.states
+      → IsState table a at (slice_index_or a.states at d)
 
--- At this state nothing is known of a tree, and its rules have the first match of all from one on, in
--- each tree that has the head of that one.
+-- At this state nothing is known of a tree, and its rules have the first match of all from one on,
+-- in each tree that has the head of that one.
 pub record IsStart (rules : List Rule) (list : List ℕ) (from : ℕ) (s : State) : Type 0 where
   pub bound : s.bound ≡ 0
-  pub same : (t : Tree) → root t ≡ head_at rules from → first_match rules t (part list s.from s.to) ≡ first_match rules t (numbers from (length rules - from))
+  pub same : (t : Tree) → root t ≡ head_at rules from → first_match rules t (part list s.from s.to)
+      ≡ first_match rules t (numbers from (length rules - from))
 
--- The shapes are those of the rules, and each rule has a state at which the search from it on begins.
+-- The shapes are those of the rules, and each rule has a state at which the search from it on
+-- begins.
 pub record HasStarts (rules : List Rule) (a : Made) : Type 0 where
   pub table : Tabled
   pub readable : IsTable table
   pub places : table.places ≤ a.places
   pub shapes : HaveShapes table rules a.shapes
   pub count : length rules ≤ length a.states
-  pub starts : (k : ℕ) (d : State) → k < length rules → IsStart rules a.rules k (slice_index_or a.states k d)
+  pub starts : (k : ℕ) (d : State) → k < length rules
+      → IsStart rules a.rules k (slice_index_or a.states k d)
   pub states : AreStates table a
 
 -- The search from a rule on begins by reading the root, and this is a way of the rule's head.
@@ -140,14 +155,16 @@ pub record IsRoot (rules : List Rule) (a : Made) (rule : ℕ) (w : Way) : Type 0
   pub first : ℕ
   pub last : ℕ
   pub other : ℕ
-  pub reads : (d : State) → (slice_index_or a.states rule d).op ≡ Read (record { place = 0; first = first; last = last; other = other })
+  pub reads : (d : State) → (slice_index_or a.states rule d).op
+      ≡ Read (record { place = 0; first = first; last = last; other = other })
   pub way : Contains (part a.ways first last) w
   pub head : head_at rules rule ≡ Some (App w.symbol)
 
 -- for each rule a way of its head from the root, or none
 pub record AreRoots (rules : List Rule) (a : Made) (roots : List (Option Way)) : Type 0 where
   pub count : length roots ≡ length rules
-  pub each : (k : ℕ) (d : Option Way) → k < length rules → IfSome (slice_index_or roots k d) (IsRoot rules a k)
+  pub each : (k : ℕ) (d : Option Way) → k < length rules
+      → IfSome (slice_index_or roots k d) (IsRoot rules a k)
 
 -- It finds the first rule from each one on that matches a tree with that one's head.
 pub record IsAutomaton (rules : List Rule) (a : Made) : Type 0 where

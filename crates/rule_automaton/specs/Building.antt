@@ -17,7 +17,12 @@ abbrev pub with_state : Made → List ℕ → ℕ → Made
 with_state a rules bound =
     record a {
       rules = a.rules ++ rules;
-      states = a.states ++ record { from = length a.rules; to = length (a.rules ++ rules); bound = bound; op = Turn } ∷ [];
+      states = a.states ++ record {
+        from = length a.rules;
+        to = length (a.rules ++ rules);
+        bound = bound;
+        op = Turn;
+      } ∷ [];
     }
 
 abbrev pub with_way : Made → Way → Made
@@ -25,7 +30,8 @@ with_way a w = record a { ways = a.ways ++ w ∷ [] }
 
 -- the table has the bases of all tests
 abbrev pub AreBased : Tabled → List Shape → Type 0
-AreBased table shapes = (r : ℕ) → r < length shapes → All (λ (t : Test). table.base_of t.place t.count ≡ Some t.base) (tests_at shapes r)
+AreBased table shapes = (r : ℕ) → r < length shapes
+    → All (λ (t : Test). table.base_of t.place t.count ≡ Some t.base) (tests_at shapes r)
 
 -- States were added, and all are right.
 pub record Continues (table : Tabled) (a b : Made) : Type 0 where
@@ -34,16 +40,20 @@ pub record Continues (table : Tabled) (a b : Made) : Type 0 where
   pub are : AreStates table b
   pub count : length a.states ≤ length b.states
   pub longer : length a.rules ≤ length b.rules
-  pub states : (k : ℕ) (d : State) → k < length a.states → slice_index_or b.states k d ≡ slice_index_or a.states k d
+  pub states : (k : ℕ) (d : State) → k < length a.states
+      → slice_index_or b.states k d ≡ slice_index_or a.states k d
   pub same : (st : State) → st.from ≤ st.to → st.to ≤ length a.rules → rules_of b st ≡ rules_of a st
 
 -- Ways were added from one on for some symbols at a place, whatever state has these rules.
-pub record Partway (table : Tabled) (a b : Made) (rules : List ℕ) (place first : ℕ) (words : List Test) : Type 0 where
+pub record Partway (table : Tabled) (a b : Made) (rules : List ℕ) (place first : ℕ)
+    (words : List Test) : Type 0 where
   pub continues : Continues table a b
   pub start : first ≤ length b.ways
-  pub ways : (at : ℕ) (st : State) → at < length a.states → st.from ≤ st.to → st.to ≤ length a.rules → rules_of a st ≡ rules → All (IsWay table b at st place) (drop first b.ways)
+  pub ways : (at : ℕ) (st : State) → at < length a.states → st.from ≤ st.to → st.to ≤ length a.rules
+      → rules_of a st ≡ rules → All (IsWay table b at st place) (drop first b.ways)
   pub keys : map way_key (drop first b.ways) ≡ map word_key words
-  pub all : (t : Test) → Contains words t → (w : Way) × Contains (drop first b.ways) w × (asks_for w.symbol w.count t ≡ true)
+  pub all : (t : Test) → Contains words t → (w : Way) × Contains (drop first b.ways) w
+      × (asks_for w.symbol w.count t ≡ true)
 
 abbrev pub way_to : Test → ℕ → Way
 way_to word to = record { symbol = word.symbol; count = word.count; base = word.base; to = to }
@@ -55,12 +65,17 @@ pub record IsLeast (shapes : List Shape) (rules : List ℕ) (bound place : ℕ) 
   pub test : Test
   pub test_in : Contains (tests_at shapes rule) test
   pub asks : test.place ≡ place
-  pub least : All (λ r. list_all (λ (t : Test). nat_lt t.place bound || nat_le place t.place) (tests_at shapes r) ≡ true) rules
+  pub least : All
+      (λ r. list_all (λ (t : Test). nat_lt t.place bound || nat_le place t.place)
+      (tests_at shapes r) ≡ true) rules
 
 -- Reading the place is right at every state with these rules.
-pub record ReadsOn (table : Tabled) (a b : Made) (rules : List ℕ) (place : ℕ) (op : Op) : Type 0 where
+pub record ReadsOn (table : Tabled) (a b : Made) (rules : List ℕ) (place : ℕ)
+    (op : Op) : Type 0 where
   pub continues : Continues table a b
-  pub right : (at : ℕ) (st : State) → at < length a.states → st.from ≤ st.to → st.to ≤ length a.rules → rules_of a st ≡ rules → IsLeast a.shapes rules st.bound place → IsRight table b at st op
+  pub right : (at : ℕ) (st : State) → at < length a.states → st.from ≤ st.to
+      → st.to ≤ length a.rules → rules_of a st ≡ rules → IsLeast a.shapes rules st.bound place
+      → IsRight table b at st op
 
 -- an automaton under construction: its states are right, and its tests are of places of the table
 pub record IsBuilt (table : Tabled) (a : Made) : Type 0 where
@@ -69,14 +84,17 @@ pub record IsBuilt (table : Tabled) (a : Made) : Type 0 where
   pub based : AreBased table a.shapes
 
 -- The operation is right at every state with these rules and this bound.
-pub record Serves (table : Tabled) (a b : Made) (rules : List ℕ) (bound : ℕ) (op : Op) : Type 0 where
+pub record Serves (table : Tabled) (a b : Made) (rules : List ℕ) (bound : ℕ)
+    (op : Op) : Type 0 where
   pub continues : Continues table a b
-  pub right : (at : ℕ) (st : State) → at < length a.states → st.from ≤ st.to → st.to ≤ length a.rules → rules_of a st ≡ rules → st.bound ≡ bound → IsRight table b at st op
+  pub right : (at : ℕ) (st : State) → at < length a.states → st.from ≤ st.to
+      → st.to ≤ length a.rules → rules_of a st ≡ rules → st.bound ≡ bound → IsRight table b at st op
 
 -- the operation is right at a state
 pub record Decides (table : Tabled) (a b : Made) (at : ℕ) (op : Op) : Type 0 where
   pub continues : Continues table a b
-  pub right : (st : State) → ((d : State) → slice_index_or a.states at d ≡ st) → IsRight table b at st op
+  pub right : (st : State) → ((d : State) → slice_index_or a.states at d ≡ st)
+      → IsRight table b at st op
 
 -- It is under construction as before, and its states have the same rules and the same bounds.
 pub record IsGrown (table : Tabled) (a b : Made) : Type 0 where
@@ -84,7 +102,9 @@ pub record IsGrown (table : Tabled) (a b : Made) : Type 0 where
   pub shapes : b.shapes ≡ a.shapes
   pub places : b.places ≡ a.places
   pub count : length a.states ≤ length b.states
-  pub same : (k : ℕ) (d : State) → k < length a.states → (rules_of b (slice_index_or b.states k d) ≡ rules_of a (slice_index_or a.states k d)) × ((slice_index_or b.states k d).bound ≡ (slice_index_or a.states k d).bound)
+  pub same : (k : ℕ) (d : State) → k < length a.states
+      → (rules_of b (slice_index_or b.states k d) ≡ rules_of a (slice_index_or a.states k d))
+      × ((slice_index_or b.states k d).bound ≡ (slice_index_or a.states k d).bound)
 
 -- The states that were added were taken from those that were left.
 abbrev pub ArePaid : Made → ℕ → Made → ℕ → Type 0

@@ -28,10 +28,12 @@ pub record Reading (base_of : ℕ → ℕ → Option ℕ) (t : Tree) : Type 0 wh
 pub record IsTable (t : Tabled) : Type 0 where
   pub some : 0 < t.places
   pub small : t.places < 2 ^ 32
-  pub within : (place count base : ℕ) → t.base_of place count ≡ Some base → (place < base) × (base + count ≤ t.places)
+  pub within : (place count base : ℕ) → t.base_of place count ≡ Some base → (place < base)
+      × (base + count ≤ t.places)
   pub read : (tree : Tree) → Reading t.base_of tree
 
 -- No place is lost.
 pub record Keeps (old new : Tabled) : Type 0 where
-  pub bases : (place count base : ℕ) → old.base_of place count ≡ Some base → new.base_of place count ≡ Some base
+  pub bases : (place count base : ℕ) → old.base_of place count ≡ Some base
+      → new.base_of place count ≡ Some base
   pub places : old.places ≤ new.places

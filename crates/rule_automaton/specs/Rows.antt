@@ -18,7 +18,9 @@ pub record IsFull (s : Store) (at : ℕ → Tree) (rows : List Row) (place : ℕ
   pub held : IsHeld s (row_at rows place)
   pub tree : tree_at s (row_at rows place) ≡ at place
 
--- So many arguments of a row's tree are put at the places from a base on, and no other place changes.
+-- So many arguments of a row's tree are put at the places from a base on, and no other place
+-- changes.
 pub record Fills (s : Store) (row : Row) (base count : ℕ) (old new : List Row) : Type 0 where
-  pub full : (at : ℕ → Tree) (place : ℕ) → HasKids at place count base → at place ≡ tree_at s row → (q : ℕ) → IsFull s at old q ⊎ ((base ≤ q) × (q < base + count)) → IsFull s at new q
+  pub full : (at : ℕ → Tree) (place : ℕ) → HasKids at place count base → at place ≡ tree_at s row
+      → (q : ℕ) → IsFull s at old q ⊎ ((base ≤ q) × (q < base + count)) → IsFull s at new q
   pub size : length new ≡ length old

@@ -23,7 +23,14 @@ use Rattle.rule_automaton.specs.declared.finding.Next.TheVariants.{End, On}
 
 -- what an automaton has
 abbrev pub made : Automaton → Made
-made a = record { shapes = a.shapes.items; rules = a.rules.items; states = a.states.items; ways = a.ways.items; places = a.places; roots = a.roots.items }
+made a = record {
+  shapes = a.shapes.items;
+  rules = a.rules.items;
+  states = a.states.items;
+  ways = a.ways.items;
+  places = a.places;
+  roots = a.roots.items;
+}
 
 -- A test at a place below a bound holds, and the places of the arguments below it are full.
 pub record Known (at : ℕ → Tree) (full : ℕ → Type 0) (bound : ℕ) (t : Test) : Type 0 where
@@ -57,7 +64,8 @@ pub record IsRun (a : Made) (s : Store) (rows : List Row) (m : Asked) (k : ℕ) 
   pub state : State
   pub there : (d : State) → slice_index_or a.states k d ≡ state
   pub same : first_match m.rules m.tree (rules_of a state) ≡ first_asked m
-  pub known : AreKnown a.shapes begun.reading.at (IsFull s begun.reading.at rows) state.bound (rules_of a state)
+  pub known : AreKnown a.shapes begun.reading.at (IsFull s begun.reading.at rows)
+      state.bound (rules_of a state)
 
 -- It stands at the state of a rule whose head the tree has.
 pub record IsRooted (a : Made) (s : Store) (rows : List Row) (m : Asked) (first : ℕ) : Type 0 where
@@ -69,7 +77,8 @@ pub record IsRooted (a : Made) (s : Store) (rows : List Row) (m : Asked) (first 
 -- the rule matches, and the rows at the places of its variables have the bound trees
 pub record IsMatch (a : Made) (s : Store) (rows : List Row) (m : Asked) (r : ℕ) : Type 0 where
   pub rule : r < length m.rules
-  pub bound : match_at m.rules r m.tree ≡ Some (map (tree_at s) (rows_at rows (variables_at a.shapes r)))
+  pub bound : match_at m.rules r m.tree
+      ≡ Some (map (tree_at s) (rows_at rows (variables_at a.shapes r)))
   pub held : All (IsHeld s) (rows_at rows (variables_at a.shapes r))
 
 -- the first rule that matches is this one, with its rows; none where no rule does
@@ -94,17 +103,21 @@ asked rules t from = record { rules = rules; tree = t; from = from }
 pub record IsReady (s : Store) (at : ℕ → Tree) (rows : List Row) (tests : List Test) : Type 0 where
   pub root : IsFull s at rows 0
   pub follow : Follow at tests
-  pub order : (k : ℕ) (d : Test) → k < length tests → IsUnder (take k tests) (slice_index_or tests k d).place
+  pub order : (k : ℕ) (d : Test) → k < length tests
+      → IsUnder (take k tests) (slice_index_or tests k d).place
   pub fits : All (λ (t : Test). t.base + t.count ≤ length rows) tests
 
 -- All tests hold, and the places under them are full, or one doesn't hold.
-pub record AreTested (s : Store) (at : ℕ → Tree) (rows : List Row) (tests : List Test) (result : Bool) : Type 0 where
+pub record AreTested (s : Store) (at : ℕ → Tree) (rows : List Row) (tests : List Test)
+    (result : Bool) : Type 0 where
   pub root : IsFull s at rows 0
-  pub yes : result ≡ true → (all_hold at tests ≡ true) × ((q : ℕ) → IsUnder tests q → IsFull s at rows q)
+  pub yes : result ≡ true → (all_hold at tests ≡ true)
+      × ((q : ℕ) → IsUnder tests q → IsFull s at rows q)
   pub no : result ≡ false → all_hold at tests ≡ false
 
 -- a rule was tried by its own tests
-pub record IsTried (a : Made) (s : Store) (old rows : List Row) (m : Asked) (b : IsBegun a s old m) (rule : ℕ) (result : Bool) : Type 0 where
+pub record IsTried (a : Made) (s : Store) (old rows : List Row) (m : Asked) (b : IsBegun a s old m)
+    (rule : ℕ) (result : Bool) : Type 0 where
   pub root : IsFull s b.reading.at rows 0
   pub yes : result ≡ true → IsMatch a s rows m rule
   pub no : result ≡ false → match_at m.rules rule m.tree ≡ None

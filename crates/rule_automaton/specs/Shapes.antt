@@ -33,7 +33,8 @@ all_agree at pairs = list_all (λ (p : Pair). agrees at p) pairs
 
 -- what is bound in the trees at the places: those at the places of the variables
 abbrev pub bound_by : (ℕ → Tree) → List Test → List Pair → List ℕ → Option (List Tree)
-bound_by at tests pairs variables = if all_hold at tests && all_agree at pairs then Some (map at variables) else None
+bound_by at tests pairs variables =
+    if all_hold at tests && all_agree at pairs then Some (map at variables) else None
 
 -- the arguments of each tested place have the places from the test's base on
 abbrev pub Follow : (ℕ → Tree) → List Test → Type 0
@@ -48,10 +49,13 @@ abbrev pub IsUnder : List Test → ℕ → Type 0
 IsUnder tests place = (place ≡ 0) ⊎ ((t : Test) × Contains tests t × IsKid t place)
 
 -- Tests, pairs and variables match as a left side does, and a node is read before its arguments.
-pub record IsShape (table : Tabled) (left : Tree) (tests : List Test) (pairs : List Pair) (variables : List ℕ) : Type 0 where
-  pub means : (at : ℕ → Tree) → Follow at tests → match_of left (at 0) ≡ bound_by at tests pairs variables
+pub record IsShape (table : Tabled) (left : Tree) (tests : List Test) (pairs : List Pair)
+    (variables : List ℕ) : Type 0 where
+  pub means : (at : ℕ → Tree) → Follow at tests
+      → match_of left (at 0) ≡ bound_by at tests pairs variables
   pub bases : All (λ (t : Test). table.base_of t.place t.count ≡ Some t.base) tests
-  pub order : (k : ℕ) (d : Test) → k < length tests → IsUnder (take k tests) (slice_index_or tests k d).place
+  pub order : (k : ℕ) (d : Test) → k < length tests
+      → IsUnder (take k tests) (slice_index_or tests k d).place
   pub variables_under : All (IsUnder tests) variables
   pub pairs_under : All (λ (p : Pair). IsUnder tests p.first × IsUnder tests p.second) pairs
 
@@ -62,8 +66,11 @@ HasShape table left s = IsShape table left s.tests.items s.pairs.items s.variabl
 abbrev pub IsNoted : ℕ → ℕ → Shape → Shape → Type 0
 IsNoted variable place old new = ((variable < length old.variables.items)
     × (new.variables.items ≡ old.variables.items)
-    × (new.pairs.items ≡ old.pairs.items ++ record { first = slice_index_or old.variables.items variable 0; second = place } ∷ []))
-    ⊎ ((length old.variables.items ≤ variable) × (new.variables.items ≡ old.variables.items ++ place ∷ []) × (new.pairs.items ≡ old.pairs.items))
+    × (new.pairs.items ≡ old.pairs.items
+    ++ record { first = slice_index_or old.variables.items variable 0; second = place } ∷ []))
+    ⊎ ((length old.variables.items ≤ variable)
+    × (new.variables.items ≡ old.variables.items ++ place ∷ [])
+    × (new.pairs.items ≡ old.pairs.items))
 
 -- the tests of a rule's shape
 abbrev pub tests_at : List Shape → ℕ → List Test
@@ -85,4 +92,6 @@ variables_at (s ∷ ss) (suc r) = variables_at ss r
 -- as many shapes as rules, each that of its rule's left side
 pub record HaveShapes (table : Tabled) (rules : List Rule) (shapes : List Shape) : Type 0 where
   pub count : length shapes ≡ length rules
-  pub each : (r : ℕ) → r < length shapes → IsShape table (left_at rules r) (tests_at shapes r) (pairs_at shapes r) (variables_at shapes r)
+  pub each : (r : ℕ) → r < length shapes
+      → IsShape table (left_at rules r) (tests_at shapes r) (pairs_at shapes r)
+      (variables_at shapes r)

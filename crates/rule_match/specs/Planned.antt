@@ -17,7 +17,7 @@ pub record Planned : Type 0 where
 abbrev pub planned_code : Coded Planned
 planned_code =
     code_by (List Rule × ℕ) (coded× (coded_list rule_code) coded_ℕ) (λ p. (p.rules, p.widest))
-        (λ p. record { rules = p.0; widest = p.1 }) (λ _. refl)
+    (λ p. record { rules = p.0; widest = p.1 }) (λ _. refl)
 
 abbrev pub planned : List Rule → ℕ → Planned
 planned rules widest = record { rules = rules; widest = widest }

@@ -1,4 +1,5 @@
--- A table's records by their numbers: what is before them, their trees, and that different ones have different trees.
+-- A table's records by their numbers: what is before them, their trees, and that different ones
+-- have different trees.
 use Rattle.std.proofs.Common.{◌≡◌, ℕ, zero, suc, ◌<◌, ◌≤◌, Bool, true, false, not, ◌&&◌, cond, List, [], ◌∷◌, ◌++◌, length, get_or, slice_get, Some, refl, sym, ap, subst, ◌∙◌, arith, All, true≢false}
 use Rattle.std.specs.Prelude.{map, nat_lt, unwrap_or}
 use Rattle.std.specs.List.{list_any, list_all, AllByRecursion}

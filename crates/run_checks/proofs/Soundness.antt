@@ -1,4 +1,5 @@
--- Where no trace fails, each line that is a value is the text of a tree that is reached from its term.
+-- Where no trace fails, each line that is a value is the text of a tree that is reached from its
+-- term.
 use Rattle.std.proofs.Common.{◌≡◌, ℕ, zero, suc, ◌+◌, ◌<◌, ◌≤◌, Bool, true, false, cond, List, [], ◌∷◌, length, get_or, take, drop, Option, Some, None, All, refl, arith}
 use Rattle.std.specs.Prelude.{is_some, nat_lt}
 use Rattle.std.specs.List.{AllByRecursion}

@@ -1,5 +1,5 @@
--- A term as a path of frames from the root, each a node and the number of its argument below, and what stands at its
--- end: moves and steps there are moves and steps of the whole.
+-- A term as a path of frames from the root, each a node and the number of its argument below, and
+-- what stands at its end: moves and steps there are moves and steps of the whole.
 use Rattle.std.proofs.Common.{◌≡◌, ℕ, zero, suc, ◌<◌, ◌≤◌, true, false, List, [], ◌∷◌, ◌++◌, length, slice_get, Option, Some, None, refl, sym, ap, ◌∙◌, arith}
 use Rattle.std.specs.Prelude.{option_and_then, slice_set}
 use Rattle.std.specs.Option.{option_map}

@@ -1,4 +1,5 @@
--- The form of an output with traces: a line for each term, then the trace of each line that is a value, and the end.
+-- The form of an output with traces: a line for each term, then the trace of each line that is a
+-- value, and the end.
 use Rattle.std.specs.Prelude.{ℕ, ◌+◌, List, [], ◌∷◌, length, codes, Option, Some, None, Bool, false, ◌&&◌, ◌||◌, ◌==◌, nat_lt, is_some, if◌then◌else◌, option_and_then, take, drop}
 use Rattle.std.specs.Option.{option_map, option_map_or}
 use Rattle.std.specs.Str.{bytes_eq}
@@ -8,7 +9,8 @@ use Rattle.rewrite_model.specs.declared.event.Event.TheVariants.{Down, Up, Rule 
 
 -- ---- events
 
--- the event that a word spells: `d` and the number of an argument, `r` and the number of a rule, or `u`
+-- the event that a word spells: `d` and the number of an argument, `r` and the number of a rule, or
+-- `u`
 abbrev pub event_in : List ℕ → Option Event
 event_in [] = None
 event_in (b ∷ bs) =
@@ -43,13 +45,14 @@ is_no_value line =
 -- the numbers, from one on, of the lines that are values
 abbrev pub values_from : ℕ → List (List ℕ) → List ℕ
 values_from i [] = []
-values_from i (l ∷ ls) = if is_no_value l then values_from (i + 1) ls else i ∷ values_from (i + 1) ls
+values_from i (l ∷ ls) =
+    if is_no_value l then values_from (i + 1) ls else i ∷ values_from (i + 1) ls
 
 abbrev pub is_end : List ℕ → Bool
 is_end line = bytes_eq line (codes "# end")
 
--- The first line, numbered from n on, that isn't one of these traces, the end after them, or the last: the line after
--- the last where one is missing. None where all are there.
+-- The first line, numbered from n on, that isn't one of these traces, the end after them, or the
+-- last: the line after the last where one is missing. None where all are there.
 abbrev pub wrong_from : ℕ → List ℕ → List (List ℕ) → Option ℕ
 wrong_from n [] [] = Some n
 wrong_from n [] (l ∷ []) = if is_end l then None else Some n

@@ -1,5 +1,5 @@
--- Putting the instance of a pattern item by item: on a stack stand the numbers of the instances of the patterns that
--- the items so far spell.
+-- Putting the instance of a pattern item by item: on a stack stand the numbers of the instances of
+-- the patterns that the items so far spell.
 use Rattle.std.specs.Prelude.{◌≡◌, ℕ, List, [], ◌∷◌, ◌++◌, length, map, All, Bool, true, false, nat_lt}
 use Rattle.std.specs.List.{list_all}
 use Rattle.symbol_pool.specs.Pool.{Named}
@@ -41,7 +41,8 @@ pub record ComesOn (h : Held) (bound : List ℕ) (i : Item) (stack : List ℕ) :
 -- whatever patterns a stack has, it has then those after the item
 pub record Comes (old new : Held) (bound : List ℕ) (i : Item) (stack after : List ℕ) : Type 0 where
   pub grows : Grows old new
-  pub stands : (ps us : List Tree) → Stands old bound ps stack → Pushes i ps us → Stands new bound us after
+  pub stands : (ps us : List Tree) → Stands old bound ps stack → Pushes i ps us
+      → Stands new bound us after
 
 -- a symbol over the last terms of a stack, in their place
 pub record PutsOver (old new : Held) (f : Symbol) (count : ℕ) (stack after : List ℕ) : Type 0 where

@@ -49,7 +49,8 @@ weight_of h (Byte b) = 1
 abbrev pub left : Held → List Piece → ℕ
 left h pieces = sum_by (weight_of h) pieces
 
--- the beginning of some bytes is the beginning of the text of the pieces, and the rest of both is still to be read
+-- the beginning of some bytes is the beginning of the text of the pieces, and the rest of both is
+-- still to be read
 pub record Reads (h : Held) (before after : List Piece) (bytes rest : List ℕ) : Type 0 where
   pub begin : List ℕ
   pub bytes_are : bytes ≡ begin ++ rest

@@ -10,7 +10,8 @@ use Rattle.run_checks.specs.declared.checking.TraceVerdict.TheVariants.{Derived,
 use Rattle.run_checks.specs.Form.{values_from}
 use Rattle.run_checks.specs.Verdict.{HasParts, term_lines}
 
--- the line of the term with a number, of these, is the text of a tree that steps of the rules reach from the term
+-- the line of the term with a number, of these, is the text of a tree that steps of the rules reach
+-- from the term
 pub record IsReached (s : Specified) (ls : List (List ℕ)) (i : ℕ) : Type 0 where
   pub term : Tree
   pub term_is : slice_get s.terms i ≡ Some term
@@ -26,7 +27,8 @@ pub record AreReached (bytes : List ℕ) (values : ℕ) : Type 0 where
   pub in_parts : HasParts bytes spec all_lines
   pub unconditional : All IsUnconditional spec.rules
   pub count : length (values_from 0 (term_lines spec all_lines)) ≡ values
-  pub each : All (IsReached spec (term_lines spec all_lines)) (values_from 0 (term_lines spec all_lines))
+  pub each : All (IsReached spec (term_lines spec all_lines))
+      (values_from 0 (term_lines spec all_lines))
 
 abbrev pub IsSound : List ℕ → TraceVerdict → Type 0
 IsSound bytes (Derived values) = AreReached bytes values

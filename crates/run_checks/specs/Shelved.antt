@@ -16,7 +16,8 @@ is_symbol_of names Nil = false
 is_symbol_of names Cons = false
 
 abbrev pub is_shelved : List Named → List Record → Record → Bool
-is_shelved names before r = is_symbol_of names r.head && (has_lesser before r && is_new_record before r)
+is_shelved names before r =
+    is_symbol_of names r.head && (has_lesser before r && is_new_record before r)
 
 pub record AreShelved (names : List Named) (records : List Record) : Type 0 where
   pub each : all_after (is_shelved names) [] records ≡ true

@@ -1,4 +1,5 @@
--- The specification that a text spells, without conditions, and what is wrong with a text that spells none.
+-- The specification that a text spells, without conditions, and what is wrong with a text that
+-- spells none.
 use Rattle.std.specs.Prelude.{◌≡◌, ◌⊎◌, ℕ, List, Some, None, Ok, Err}
 use Rattle.faults.specs.declared.refusal.Refusal.{Refusal}
 use Rattle.rec_reader.specs.declared.token.Token.{Token}
@@ -20,7 +21,8 @@ pub record IsRead (text : List ℕ) (syntax : Parsed) : Type 0 where
   pub cut : tokens_of text ≡ Ok tokens
   pub sentence : IsInput tokens syntax.specifications
 
--- the text spells this specification, there is no offence in it, and none of the rules that run has a condition
+-- the text spells this specification, there is no offence in it, and none of the rules that run has
+-- a condition
 pub record Spells (text : List ℕ) (spec : Specified) : Type 0 where
   pub syntax : Parsed
   pub read : IsRead text syntax
@@ -37,7 +39,8 @@ pub record IsByteFault (text : List ℕ) (fault : Refusal) : Type 0 where
 pub record IsTokenFault (text : List ℕ) (fault : Refusal) : Type 0 where
   pub tokens : List Token
   pub cut : tokens_of text ≡ Ok tokens
-  pub refusal : IsRefusal (record { bytes = text; tokens = tokens }) (Refused fault.kind fault.place)
+  pub refusal : IsRefusal (record { bytes = text; tokens = tokens })
+      (Refused fault.kind fault.place)
 
 -- a sentence with an offence, of which this is the first
 pub record IsOffenceFault (text : List ℕ) (fault : Refusal) : Type 0 where
@@ -55,7 +58,8 @@ pub record IsConditionFault (text : List ℕ) (fault : Refusal) : Type 0 where
 
 abbrev pub IsFault : List ℕ → Refusal → Type 0
 IsFault text fault =
-    IsByteFault text fault ⊎ (IsTokenFault text fault ⊎ (IsOffenceFault text fault ⊎ IsConditionFault text fault))
+    IsByteFault text fault
+    ⊎ (IsTokenFault text fault ⊎ (IsOffenceFault text fault ⊎ IsConditionFault text fault))
 
 -- the fault of a text; want of memory has none
 abbrev pub IsFaulty : List ℕ → ReadFail → Type 0

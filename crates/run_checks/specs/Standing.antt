@@ -1,5 +1,5 @@
--- Where a replay stands: frames from the root on, each a node and the number of its argument below, and what stands
--- at their end.
+-- Where a replay stands: frames from the root on, each a node and the number of its argument below,
+-- and what stands at their end.
 use Rattle.std.specs.Prelude.{◌≡◌, ℕ, zero, suc, ◌<◌, List, [], ◌∷◌, ◌++◌, length, map, Option, Some, None, All, Bool, true, false, option_and_then, if◌then◌else◌}
 use Rattle.std.specs.Option.{option_map}
 use Rattle.term_model.specs.Tree.{Tree, Leaf, Node, Trees, End, More, arguments}
@@ -51,13 +51,15 @@ at_root t = record { term = t; position = [] }
 
 -- to an argument, counted from 1, where it is there
 abbrev pub down : ℕ → Place → Option Place
-down n s = if has (s.position ++ n ∷ []) s.term then Some (record { term = s.term; position = s.position ++ n ∷ [] }) else None
+down n s = if has (s.position ++ n ∷ []) s.term
+    then Some (record { term = s.term; position = s.position ++ n ∷ [] }) else None
 
 abbrev pub up : Place → Option Place
 up s = option_map (λ p. record { term = s.term; position = p }) (above s.position)
 
 abbrev pub used : List Rule → ℕ → Place → Option Place
-used rules k s = option_map (λ t. record { term = t; position = s.position }) (replace_at rules s.position k s.term)
+used rules k s = option_map (λ t. record { term = t; position = s.position })
+    (replace_at rules s.position k s.term)
 
 -- where an event leads to; none where it isn't possible
 abbrev pub after : List Rule → Event → Place → Option Place

@@ -24,12 +24,14 @@ use Rattle.run_checks.specs.Specification.{Spells, IsFault}
 -- whether events, with the cursor at the root of a term, lead to a tree whose text is this line
 abbrev pub leads_to : List Named → List Rule → Option (List Event) → Tree → List ℕ → Bool
 leads_to names rules es t line =
-    option_map_or (λ u. bytes_eq line (text names u)) (option_and_then (λ events. replayed rules events [] t) es) false
+    option_map_or (λ u. bytes_eq line (text names u))
+    (option_and_then (λ events. replayed rules events [] t) es) false
 
 -- whether a trace leads from the term with a number to its line
 abbrev pub is_derived : Specified → List (List ℕ) → ℕ → List ℕ → Bool
 is_derived s ls i trace =
-    leads_to s.symbols s.rules (trace_in i trace) (slice_index_or s.terms i (Leaf 0)) (slice_index_or ls i [])
+    leads_to s.symbols s.rules (trace_in i trace) (slice_index_or s.terms i (Leaf 0))
+    (slice_index_or ls i [])
 
 -- the first of these terms whose trace doesn't lead to its line; the traces stand in the same order
 abbrev pub first_underived : Specified → List (List ℕ) → List ℕ → List (List ℕ) → Option ℕ
@@ -44,7 +46,8 @@ told (Some i) values = Underived i
 
 -- the verdict on the lines of the terms and on the lines after them
 abbrev pub verdict : Specified → List (List ℕ) → List (List ℕ) → TraceVerdict
-verdict s ls traces = told (first_underived s ls (values_from 0 ls) traces) (length (values_from 0 ls))
+verdict s ls traces =
+    told (first_underived s ls (values_from 0 ls) traces) (length (values_from 0 ls))
 
 -- ---- an input with a specification
 
@@ -94,7 +97,8 @@ pub record IsBadLine (bytes : List ℕ) (fault : Refusal) : Type 0 where
   pub kind : fault.kind ≡ 15
   pub line : wrong_line (length spec.terms) all_lines ≡ Some fault.place
 
--- first the line `spec N` and its bytes, then the specification, then the lines; want of memory has no cause
+-- first the line `spec N` and its bytes, then the specification, then the lines; want of memory has
+-- no cause
 abbrev pub IsRefused : List ℕ → ReadFail → Type 0
 IsRefused bytes (Refused kind offset) =
     let fault : Refusal = record { kind = kind; place = offset } in

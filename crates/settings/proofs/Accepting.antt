@@ -1,4 +1,5 @@
--- Uses that are judged one after another, each by those before it, come to uses that are accepted as a whole.
+-- Uses that are judged one after another, each by those before it, come to uses that are accepted
+-- as a whole.
 use Rattle.std.proofs.Common.{◌≡◌, Bool, true, false, cond, not, ◌&&◌, ◌||◌, List, [], ◌∷◌, ◌++◌, Option, Some, None, refl, sym, ap, ap₂, ◌∙◌, append-nil, append_assoc}
 use Rattle.clap.specs.Walk.{Row, Text}
 use Rattle.settings.specs.declared.options.OptionName.{OptionName}

@@ -40,10 +40,12 @@ HasFlag found o false = (one_text found (name_of o) ≡ None) ⊎ (one_text foun
 -- the matches have the uses
 pub record Shows (found : Found) (uses : Uses) : Type 0 where
   pub values : are_values uses ≡ true
-  pub texts : (o : OptionName) → takes_value o ≡ true → one_text found (name_of o) ≡ text_given o uses
+  pub texts : (o : OptionName) → takes_value o ≡ true
+      → one_text found (name_of o) ≡ text_given o uses
   pub flags : (o : OptionName) → takes_value o ≡ false → HasFlag found o (is_given o uses)
 
 -- the words use options in a way that is accepted, and the matches have these uses
 abbrev pub ShowsWords : List OptionName → List Text → Found → Type 0
 ShowsWords options words found =
-    (uses : Uses) × (uses_of options None words ≡ Some uses) × (are_accepted options uses ≡ true) × Shows found uses
+    (uses : Uses) × (uses_of options None words ≡ Some uses) × (are_accepted options uses ≡ true)
+    × Shows found uses

@@ -1,9 +1,11 @@
 -- The command line: which words are accepted, and the settings that they give.
 --
--- The words are the program's name, a command, and options of that command in any order, with a drill's number among
--- them. `check` is a command with the word after it, and has no options. An option is `--name value` or `--name=value`,
--- and stands at most once; `--sizes`, `--log` and `--trace` have no value, and `--trace` isn't given with another of them, or with a `--cache` above 0. A number is an optional `+`
--- and one or more digits, within the option's range. Nothing else is accepted.
+-- The words are the program's name, a command, and options of that command in any order, with a
+-- drill's number among them. `check` is a command with the word after it, and has no options. An
+-- option is `--name value` or `--name=value`, and stands at most once; `--sizes`, `--log` and
+-- `--trace` have no value, and `--trace` isn't given with another of them, or with a `--cache`
+-- above 0. A number is an optional `+` and one or more digits, within the option's range. Nothing
+-- else is accepted.
 use Rattle.std.specs.Prelude.{◌≡◌, ℕ, ◌==◌, ◌&&◌, ◌||◌, Bool, true, false, not, List, [], ◌∷◌, length, map, codes, find, Option, Some, None, option_and_then, option_map, if◌then◌else◌, nat_lt, nat_le, String}
 use Rattle.std.specs.Global.{Global}
 use Rattle.std.specs.String.{string_bytes}
@@ -158,8 +160,8 @@ Uses = List (OptionName × Text)
 abbrev pub in_front : OptionName → Text → Option Uses → Option Uses
 in_front o text following = option_map (λ uses. (o, text) ∷ uses) following
 
--- An option without a value has nothing attached. The value of another is attached by `=`, or it is the next word, for
--- which the option waits.
+-- An option without a value has nothing attached. The value of another is attached by `=`, or it is
+-- the next word, for which the option waits.
 abbrev pub begun : OptionName → Bool → Option Text → Option Uses → Option Uses → Option Uses
 begun o false None following waiting = in_front o [] following
 begun o false (Some text) following waiting = None
@@ -167,13 +169,15 @@ begun o true None following waiting = waiting
 begun o true (Some text) following waiting = in_front o text following
 
 -- a word that names an option begins it; any other is the further word, where there is one
-abbrev pub read_word : List OptionName → Option OptionName → Text → Option Uses → Option Uses → Option Uses
+abbrev pub read_word : List OptionName → Option OptionName → Text → Option Uses → Option Uses
+    → Option Uses
 read_word options None word following waiting =
     if list_any stands_alone options then in_front Count word following else None
 read_word options (Some o) word following waiting =
     begun o (takes_value o) (after_equals_sign word) following waiting
 
--- the options that the words after a command use, where the first word is the value of an option that waits for one
+-- the options that the words after a command use, where the first word is the value of an option
+-- that waits for one
 abbrev pub uses_of : List OptionName → Option OptionName → List Text → Option Uses
 uses_of options None [] = Some []
 uses_of options (Some o) [] = None
@@ -230,14 +234,15 @@ settings_with c uses = record {
 
 -- the settings of a command whose words use these options
 abbrev pub settings_using : Command → Uses → Option Settings
-settings_using c uses = if are_accepted (options_of c) uses then Some (settings_with c uses) else None
+settings_using c uses =
+    if are_accepted (options_of c) uses then Some (settings_with c uses) else None
 
 -- the settings that the words after a command give, each option by itself
 abbrev pub settings_told : Command → List Text → Option Settings
 settings_told c words = option_and_then (settings_using c) (uses_of (options_of c) None words)
 
--- Sizes stand in the place of the texts that traces lead to, and a log where traces stand; of a result that is remembered no steps
--- are known.
+-- Sizes stand in the place of the texts that traces lead to, and a log where traces stand; of a
+-- result that is remembered no steps are known.
 abbrev pub agree : Settings → Bool
 agree s = not (s.trace && (s.sizes || s.log || nat_lt 0 s.cache))
 
@@ -261,7 +266,8 @@ settings_of (program ∷ command ∷ rest) =
     if bytes_eq command (codes "check") then settings_of_check rest
     else option_and_then (λ c. settings_after c rest) (command_named command)
 
--- the numbers of settings are in the ranges of their options, the count of a drill in that of its word
+-- the numbers of settings are in the ranges of their options, the count of a drill in that of its
+-- word
 pub record AreInRange (s : Settings) : Type 0 where
   pub workers : is_in_range Workers s.workers ≡ true
   pub fuel : is_in_range Fuel s.fuel ≡ true

@@ -1,4 +1,5 @@
--- What a creation gives is seen as a row gained; and what a leave, protected rows and reads are seen as.
+-- What a creation gives is seen as a row gained; and what a leave, protected rows and reads are
+-- seen as.
 use Rattle.std.proofs.Common.{◌≡◌, ◌⊎◌, ◌&&◌, inl, inr, ℕ, ◌<◌, Bool, true, false, Option, Some, None, List, [], ◌∷◌, ◌++◌, length, get_or, map, cond, refl, sym, ap, ap₂, ◌∙◌, subst, ⊎_elim, arith}
 use Rattle.std.specs.Prelude.{max, slice_get}
 use mathlib.Core.Path.{fun_ext}

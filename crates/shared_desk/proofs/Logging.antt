@@ -1,4 +1,5 @@
--- That the log of a pass is the lines of its entries, after each call; and the names that a collection kept, listed.
+-- That the log of a pass is the lines of its entries, after each call; and the names that a
+-- collection kept, listed.
 use Rattle.std.proofs.Common.{◌≡◌, ◌∙◌, ℕ, ◌+◌, ◌<◌, ◌≤◌, Option, Some, None, List, [], ◌∷◌, ◌++◌, append_assoc, append-nil, refl, sym, ap, subst, ⊎_elim, arith}
 use Rattle.std.specs.Prelude.{Contains, IfSome, nat_lt, unwrap_or, Vec}
 use Rattle.std.specs.Global.{Global}

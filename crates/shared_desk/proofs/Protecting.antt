@@ -1,4 +1,5 @@
--- The trees that a caller protects at a place of a legal history are those that its own entries before it tell.
+-- The trees that a caller protects at a place of a legal history are those that its own entries
+-- before it tell.
 use Rattle.std.proofs.Common.{◌≡◌, ◌⊎◌, inl, inr, ⊎_elim, ℕ, ◌≤◌, ◌==◌, Bool, true, false, List, [], ◌∷◌, ◌++◌, map, length, take, drop, eq-eqb, true≢false, refl, sym, ap, ◌∙◌, arith}
 use Rattle.std.specs.Prelude.{Contains, unwrap_or, if◌then◌else◌}
 use Rattle.std.specs.List.{AllByRecursion}

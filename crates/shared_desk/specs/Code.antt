@@ -41,7 +41,9 @@ abbrev pub Notes : Type 0
 Notes = List Entry × ℕ
 
 abbrev pub Parts : Type 0
-Parts = ((Bool × Bool) × (Bool × ℕ)) × ((List (Option Tree) × Rows) × ((Trees × Trees) × ((Numbers × Numbers) × ((ℕ × Notes) × (WhichStore × WhichPass)))))
+Parts = ((Bool × Bool) × (Bool × ℕ))
+    × ((List (Option Tree) × Rows)
+    × ((Trees × Trees) × ((Numbers × Numbers) × ((ℕ × Notes) × (WhichStore × WhichPass)))))
 
 abbrev pub trees_code : Coded Trees
 trees_code = coded× (coded_list tree_code) (coded_list tree_code)
@@ -85,33 +87,70 @@ entry_back (Roots n rows) = refl
 entry_back (Collect n kept) = refl
 
 abbrev pub entry_code : Coded Entry
-entry_code = code_by EntryParts (coded× (coded× numbers_code numbers_code) (coded× (coded_list coded_ℕ) coded_ℕ)) entry_parts entry_from entry_back
+entry_code = code_by EntryParts
+    (coded× (coded× numbers_code numbers_code) (coded× (coded_list coded_ℕ) coded_ℕ)) entry_parts
+    entry_from entry_back
 
 abbrev pub table_code : Coded TableId
-table_code = code_by ((Numbers × Numbers) × (Numbers × List ℕ)) (coded× (coded× numbers_code numbers_code) (coded× numbers_code (coded_list coded_ℕ)))
+table_code = code_by ((Numbers × Numbers) × (Numbers × List ℕ))
+    (coded× (coded× numbers_code numbers_code) (coded× numbers_code (coded_list coded_ℕ)))
     (λ t. (((t.words, t.slots), (t.views_name, t.atom)), ((t.block, t.offset), t.slot_names)))
-    (λ p. record { words = p.0.0.0; slots = p.0.0.1; views_name = p.0.1.0; atom = p.0.1.1; block = p.1.0.0; offset = p.1.0.1; slot_names = p.1.1 }) (λ _. refl)
+    (λ p. record {
+      words = p.0.0.0;
+      slots = p.0.0.1;
+      views_name = p.0.1.0;
+      atom = p.0.1.1;
+      block = p.1.0.0;
+      offset = p.1.0.1;
+      slot_names = p.1.1;
+    }) (λ _. refl)
 
 abbrev pub sizes_code : Coded Sizes
-sizes_code = code_by ((Numbers × Numbers) × (Numbers × ℕ)) (coded× (coded× numbers_code numbers_code) (coded× numbers_code coded_ℕ))
+sizes_code = code_by ((Numbers × Numbers) × (Numbers × ℕ))
+    (coded× (coded× numbers_code numbers_code) (coded× numbers_code coded_ℕ))
     (λ z. (((z.rows, z.buckets), (z.start, z.seats)), ((z.depth, z.arity), z.first)))
-    (λ p. record { rows = p.0.0.0; buckets = p.0.0.1; start = p.0.1.0; seats = p.0.1.1; depth = p.1.0.0; arity = p.1.0.1; first = p.1.1 }) (λ _. refl)
+    (λ p. record {
+      rows = p.0.0.0;
+      buckets = p.0.0.1;
+      start = p.0.1.0;
+      seats = p.0.1.1;
+      depth = p.1.0.0;
+      arity = p.1.0.1;
+      first = p.1.1;
+    }) (λ _. refl)
 
 abbrev pub store_code : Coded WhichStore
-store_code = code_by (TableId × Sizes) (coded× table_code sizes_code) (λ s. (s.table, s.sizes)) (λ p. record { table = p.0; sizes = p.1 }) (λ _. refl)
+store_code = code_by (TableId × Sizes) (coded× table_code sizes_code) (λ s. (s.table, s.sizes))
+    (λ p. record { table = p.0; sizes = p.1 }) (λ _. refl)
 
 abbrev pub seat_code : Coded WhichPass
-seat_code = code_by Numbers numbers_code (λ s. (s.id, s.number)) (λ p. record { id = p.0; number = p.1 }) (λ _. refl)
+seat_code = code_by Numbers numbers_code (λ s. (s.id, s.number))
+    (λ p. record { id = p.0; number = p.1 }) (λ _. refl)
 
 abbrev pub parts_code : Coded Parts
 parts_code =
     coded× (coded× (coded× coded_bool coded_bool) (coded× coded_bool coded_ℕ))
-    (coded× (coded× (coded_list (coded_option tree_code)) (coded× (coded_list row_code) (coded_list row_code)))
-    (coded× (coded× trees_code trees_code) (coded× (coded× numbers_code numbers_code) (coded× (coded× coded_ℕ (coded× (coded_list entry_code) coded_ℕ)) (coded× store_code seat_code)))))
+    (coded× (coded× (coded_list (coded_option tree_code))
+    (coded× (coded_list row_code) (coded_list row_code)))
+    (coded× (coded× trees_code trees_code)
+    (coded× (coded× numbers_code numbers_code)
+    (coded× (coded× coded_ℕ (coded× (coded_list entry_code) coded_ℕ))
+    (coded× store_code seat_code)))))
 
 abbrev pub parts : PassView → Parts
-parts v =
-    (((v.shared, v.alone), (v.fresh, v.base)), ((v.held, (v.roots, v.noted)), (((v.built, v.rooted), (v.crowd, v.hand)), (((v.load, v.sweeps), (v.rows, v.arity)), ((v.depth, (v.entries, v.greatest)), (v.store, v.seat))))))
+parts v = (
+  ((v.shared, v.alone), (v.fresh, v.base)),
+  (
+    (v.held, (v.roots, v.noted)),
+    (
+      ((v.built, v.rooted), (v.crowd, v.hand)),
+      (
+        ((v.load, v.sweeps), (v.rows, v.arity)),
+        ((v.depth, (v.entries, v.greatest)), (v.store, v.seat)),
+      ),
+    ),
+  ),
+)
 
 abbrev pub whole : Parts → PassView
 whole p =
@@ -146,7 +185,16 @@ All = (PassView × List Row) × ((ℕ × Bool) × Option (List ℕ))
 
 abbrev pub contents_code : Coded Contents
 contents_code =
-    code_by All (coded× (coded× pass_code (coded_list row_code)) (coded× (coded× coded_ℕ coded_bool) (coded_option (coded_list coded_ℕ)))) (λ c. ((c.pass, c.stack), ((c.refusals, c.spent), c.log))) (λ p. record { pass = p.0.0; stack = p.0.1; refusals = p.1.0.0; spent = p.1.0.1; log = p.1.1 }) (λ _. refl)
+    code_by All (coded× (coded× pass_code (coded_list row_code))
+    (coded× (coded× coded_ℕ coded_bool) (coded_option (coded_list coded_ℕ))))
+    (λ c. ((c.pass, c.stack), ((c.refusals, c.spent), c.log)))
+    (λ p. record {
+      pass = p.0.0;
+      stack = p.0.1;
+      refusals = p.1.0.0;
+      spent = p.1.0.1;
+      log = p.1.1;
+    }) (λ _. refl)
 
 -- a pass with its log
 pub record LoggedView : Type 0 where
@@ -154,4 +202,6 @@ pub record LoggedView : Type 0 where
   pub log : Option (List ℕ)
 
 abbrev pub logged_code : Coded LoggedView
-logged_code = code_by (PassView × Option (List ℕ)) (coded× pass_code (coded_option (coded_list coded_ℕ))) (λ l. (l.pass, l.log)) (λ p. record { pass = p.0; log = p.1 }) (λ _. refl)
+logged_code = code_by (PassView × Option (List ℕ))
+    (coded× pass_code (coded_option (coded_list coded_ℕ))) (λ l. (l.pass, l.log))
+    (λ p. record { pass = p.0; log = p.1 }) (λ _. refl)

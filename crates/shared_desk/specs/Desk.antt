@@ -17,14 +17,22 @@ use Rattle.shared_desk.specs.Code.{Contents}
 abbrev pub store_of : Contents → Store
 store_of c = shown c.pass c.stack c.refusals c.spent
 
--- The same store and the same seat. The numbers were told since to be used up only where the pass is worn.
+-- The same store and the same seat. The numbers were told since to be used up only where the pass
+-- is worn.
 pub record IsSame (c d : Contents) : Type 0 where
   pub pass : pass.IsSame c.pass d.pass
   pub worn : d.spent ≡ true → (c.spent ≡ true) ⊎ IsWorn d.pass
 
 pub same_itself : (c : Contents) → IsSame c c
 same_itself c = record {
-  pass = record { rows = refl; arity = refl; depth = refl; store = refl; seat = refl; base = le_refl c.pass.base };
+  pass = record {
+    rows = refl;
+    arity = refl;
+    depth = refl;
+    store = refl;
+    seat = refl;
+    base = le_refl c.pass.base;
+  };
   worn = λ spent. inl spent;
 }
 
@@ -42,13 +50,17 @@ pass_in_turn v w x f g = record {
 pub worn_still : (v w : PassView) → pass.IsSame v w → IsWorn v → IsWorn w
 worn_still v w same worn =
     let more = 2 * span w.store.sizes in
-    let here : 2 ^ 62 < v.base + more = subst (λ (s : WhichStore). 2 ^ 62 < v.base + 2 * span s.sizes) (sym same.store) worn in
+    let here : 2 ^ 62 < v.base + more =
+    subst (λ (s : WhichStore). 2 ^ 62 < v.base + 2 * span s.sizes) (sym same.store) worn in
     lt_of_lt_of_le here ((add-le-add_iff_right more).1 same.base)
 
 pub same_turn : (c d e : Contents) → IsSame c d → IsSame d e → IsSame c e
 same_turn c d e f g = record {
   pass = pass_in_turn c.pass d.pass e.pass f.pass g.pass;
-  worn = λ spent. ⊎_elim (λ before. ⊎_elim (λ (first : c.spent ≡ true). inl first) (λ (worn : IsWorn d.pass). inr (worn_still d.pass e.pass g.pass worn)) (f.worn before)) (λ (worn : IsWorn e.pass). inr worn) (g.worn spent);
+  worn = λ spent. ⊎_elim
+      (λ before. ⊎_elim (λ (first : c.spent ≡ true). inl first)
+      (λ (worn : IsWorn d.pass). inr (worn_still d.pass e.pass g.pass worn)) (f.worn before))
+      (λ (worn : IsWorn e.pass). inr worn) (g.worn spent);
 }
 
 -- Between calls no exclusive access is held, and outside the protected rows are the stack.
@@ -104,10 +116,12 @@ abbrev pub Creates : PassView → PassView → List Row → List Row → Head �
 Creates v w xs ys h n = Placed 0 v w xs ys n (asked (store v xs) h n)
 
 -- what building leaves, by its answer
-abbrev pub Outcome : PassView → PassView → List Row → List Row → Head → ℕ → Result (Unit {0}) BuildFault → Type 0
+abbrev pub Outcome : PassView → PassView → List Row → List Row → Head → ℕ
+    → Result (Unit {0}) BuildFault → Type 0
 Outcome v w xs ys h n (Ok u) = (k : ℕ) × (k ≤ 1) × Placed k v w xs ys n (asked (store v xs) h n)
 Outcome v w xs ys h n (Err Deep) = ⊥
-Outcome v w xs ys h n (Err StoreFull) = (ys ≡ xs) × Passed 1 v w xs × IsCrowded (store v xs) (store w xs) h n
+Outcome v w xs ys h n (Err StoreFull) =
+    (ys ≡ xs) × Passed 1 v w xs × IsCrowded (store v xs) (store w xs) h n
 Outcome v w xs ys h n (Err Worn) = (ys ≡ xs) × Passed 0 v w xs × IsWorn w
 
 -- how many refusals are counted after a build came to this, where there were so many before

@@ -1,4 +1,5 @@
--- The own list of a pass: the rows of which it knows words, each with the tree that its entries tell.
+-- The own list of a pass: the rows of which it knows words, each with the tree that its entries
+-- tell.
 use Rattle.std.specs.Prelude.{◌≡◌, ℕ, ◌<◌, ◌≤◌, ◌==◌, Bool, true, false, if◌then◌else◌, Option, Some, None, List, [], ◌∷◌, length}
 use Rattle.term_model.specs.Tree.{Tree, arguments, IsWellFormed}
 use Rattle.store_model.specs.declared.view.Sizes.{Sizes}
@@ -26,8 +27,8 @@ held_in v r = if names r v.knows then Some (tree_in v r) else None
 abbrev pub Has : View → ℕ → Type 0
 Has v r = names r v.knows ≡ true
 
--- The pass may use row r, knows all its words and those of the rows under it, and its entries tell the same tree, which a row has
--- room for.
+-- The pass may use row r, knows all its words and those of the rows under it, and its entries tell
+-- the same tree, which a row has room for.
 pub record IsOwn (z : Sizes) (v : View) (r : ℕ) : Type 0 where
   pub known : KnowsTree v.knows r (tree_in v r)
   pub uses : In r v.got
@@ -43,7 +44,8 @@ IsOnce ks = (r k m n : ℕ) → KnowsWord r k m ks → KnowsWord r k n ks → m 
 abbrev pub HasOneRow : List KnownWord → Type 0
 HasOneRow ks = (r q : ℕ) (t : Tree) → KnowsTree ks r t → KnowsTree ks q t → r ≡ q
 
--- The own list is whole: it has no row of which less is known, and it has the rows that the pass protects.
+-- The own list is whole: it has no row of which less is known, and it has the rows that the pass
+-- protects.
 pub record IsWhole (z : Sizes) (v : View) : Type 0 where
   pub rows : (r : ℕ) → Has v r → IsOwn z v r
   pub once : IsOnce v.knows
@@ -51,8 +53,8 @@ pub record IsWhole (z : Sizes) (v : View) : Type 0 where
   pub protects : Each (Has v) (protected_in v)
   pub few : length (protected_in v) ≤ z.depth
 
--- From v to w the pass has forgotten rows, and not those that it protects: of a row of which it knows a word still, it knows still
--- all that it knew.
+-- From v to w the pass has forgotten rows, and not those that it protects: of a row of which it
+-- knows a word still, it knows still all that it knew.
 pub record Forgets (v w : View) : Type 0 where
   pub knows : (r k n : ℕ) → KnowsWord r k n w.knows → KnowsWord r k n v.knows
   pub trees : (r : ℕ) (t : Tree) → Has w r → KnowsTree v.knows r t → KnowsTree w.knows r t

@@ -23,7 +23,8 @@ pub record WhichPass : Type 0 where
   pub number : ℕ
 
 pub record PassView : Type 0 where
-  -- in shared access, in exclusive access, and there with a collection after which nothing was created
+  -- in shared access, in exclusive access, and there with a collection after which nothing was
+  -- created
   pub shared : Bool
   pub alone : Bool
   pub fresh : Bool
@@ -38,8 +39,8 @@ pub record PassView : Type 0 where
   pub entries : List Entry
   pub greatest : ℕ
   -- what its entries told: the trees of its Make and Find entries, the trees of its last Roots, the
-  -- trees that its last Collect kept, the trees of the last Roots before that, the greatest count of
-  -- different subtrees in one Roots, and how many Collects
+  -- trees that its last Collect kept, the trees of the last Roots before that, the greatest count
+  -- of different subtrees in one Roots, and how many Collects
   pub built : List Tree
   pub rooted : List Tree
   pub crowd : List Tree
@@ -97,17 +98,32 @@ pub record IsSame (v w : PassView) : Type 0 where
 abbrev pub IsWorn : PassView → Type 0
 IsWorn v = 2 ^ 62 < v.base + 2 * span v.store.sizes
 
--- An access was granted, and the base was loaded: rows may be lost that the protected ones don't reach,
--- but only where the base is a later one.
+-- An access was granted, and the base was loaded: rows may be lost that the protected ones don't
+-- reach, but only where the base is a later one.
 pub record Arrived (v w : PassView) : Type 0 where
-  pub rest : w ≡ record v { shared = w.shared; alone = w.alone; fresh = w.fresh; held = w.held; base = w.base; greatest = w.greatest }
+  pub rest : w ≡ record v {
+    shared = w.shared;
+    alone = w.alone;
+    fresh = w.fresh;
+    held = w.held;
+    base = w.base;
+    greatest = w.greatest;
+  }
   pub none : GainsNone (own v) (own w)
   pub rows : Loses (own v) (own w)
 
 -- an access has ended, and Roots were noted
 abbrev pub left : PassView → PassView
 left v =
-    record v { shared = false; alone = false; fresh = false; entries = v.entries ++ Roots v.greatest (names v.roots) ∷ []; noted = v.roots; rooted = trees (own v); load = max v.load (distinct (flat_map subtrees (trees (own v)))) }
+    record v {
+      shared = false;
+      alone = false;
+      fresh = false;
+      entries = v.entries ++ Roots v.greatest (names v.roots) ∷ [];
+      noted = v.roots;
+      rooted = trees (own v);
+      load = max v.load (distinct (flat_map subtrees (trees (own v))));
+    }
 
 -- the tree of a head over rows
 abbrev pub over : PassView → Head → List Row → Tree
@@ -121,16 +137,24 @@ pub record MayCreate (v : PassView) (h : Head) (rows : List Row) : Type 0 where
 -- one entry more: a Make of this row by a head over rows, or a Find
 abbrev pub NotesCreation : List Entry → List Entry → Head → List Row → Row → Type 0
 NotesCreation old new h rows row =
-    (n : ℕ) × ((new ≡ old ++ Make n h (names rows) row.0 ∷ []) ⊎ (new ≡ old ++ Find n h (names rows) row.0 ∷ []))
+    (n : ℕ) × ((new ≡ old ++ Make n h (names rows) row.0 ∷ [])
+    ⊎ (new ≡ old ++ Find n h (names rows) row.0 ∷ []))
 
 -- one entry more: a Collect, whose names ascend and are below the rows
 abbrev pub NotesCollect : ℕ → List Entry → List Entry → Type 0
 NotesCollect rows old new =
-    (n : ℕ) × (kept : List ℕ) × (new ≡ old ++ Collect n kept ∷ []) × IsAscending kept × ((r : ℕ) → Contains kept r → r < rows)
+    (n : ℕ) × (kept : List ℕ) × (new ≡ old ++ Collect n kept ∷ []) × IsAscending kept
+    × ((r : ℕ) → Contains kept r → r < rows)
 
 -- one Make or one Find was noted, and its row is on the own list with the tree asked
 pub record Got (v w : PassView) (h : Head) (rows : List Row) (row : Row) : Type 0 where
-  pub rest : w ≡ record v { fresh = w.fresh; held = w.held; entries = w.entries; greatest = w.greatest; built = v.built ++ over v h rows ∷ [] }
+  pub rest : w ≡ record v {
+    fresh = w.fresh;
+    held = w.held;
+    entries = w.entries;
+    greatest = w.greatest;
+    built = v.built ++ over v h rows ∷ [];
+  }
   pub notes : NotesCreation v.entries w.entries h rows row
   pub tree : HasTree (own w) row (over v h rows)
   pub all : KeepsAll (own v) (own w)
@@ -138,7 +162,16 @@ pub record Got (v w : PassView) (h : Head) (rows : List Row) (row : Row) : Type 
 
 -- one Collect was noted
 pub record Swept (v w : PassView) : Type 0 where
-  pub rest : w ≡ record v { fresh = true; held = w.held; base = w.base; entries = w.entries; greatest = w.greatest; crowd = w.crowd; hand = v.rooted; sweeps = v.sweeps + 1 }
+  pub rest : w ≡ record v {
+    fresh = true;
+    held = w.held;
+    base = w.base;
+    entries = w.entries;
+    greatest = w.greatest;
+    crowd = w.crowd;
+    hand = v.rooted;
+    sweeps = v.sweeps + 1;
+  }
   pub notes : NotesCollect v.rows v.entries w.entries
   pub none : GainsNone (own v) (own w)
   pub rows : Loses (own v) (own w)

@@ -52,14 +52,16 @@ pass_of p = record { id = p.seat.seat.id; number = p.seat.number }
 
 -- what a desk sees of this pass
 abbrev pub seen_of : Store → Pass → PassView
-seen_of s p = seen (store_of s) (pass_of p) (in_shared (view_of p)) (in_exclusive (view_of p)) (view_of p).crowd (view_of p).store
+seen_of s p = seen (store_of s) (pass_of p) (in_shared (view_of p)) (in_exclusive (view_of p))
+    (view_of p).crowd (view_of p).store
 
 -- it is out, or in shared or exclusive access with nothing under way
 abbrev pub IsPlaced : Store → Pass → Type 0
 IsPlaced s p =
     IsOut (view_of p)
     ⊎ (((view_of p).lock.phase ≡ Shared) × IsReady s.sizes (view_of p).store p.base p.in_use)
-    ⊎ (IsGranted (view_of p).lock p.seat.number p.seat.seats × IsReady s.sizes (view_of p).store p.base p.in_use)
+    ⊎ (IsGranted (view_of p).lock p.seat.number p.seat.seats
+    × IsReady s.sizes (view_of p).store p.base p.in_use)
 
 -- It is a pass of the store, between two calls, whose own list is whole.
 pub record IsStanding (s : Store) (p : Pass) : Type 0 where
@@ -70,7 +72,8 @@ pub record IsStanding (s : Store) (p : Pass) : Type 0 where
   -- protected rows are counted in 32 bits
   pub small : s.sizes.depth < 2 ^ 32
 
--- What a desk saw of a pass is what it sees of this one, which is of the same store, out, and may have a desk again.
+-- What a desk saw of a pass is what it sees of this one, which is of the same store, out, and may
+-- have a desk again.
 pub record IsBack (v : PassView) (p : Pass) : Type 0 where
   pub pass : IsPass v.store.table v.store.sizes p.seat.seat p.seat.seats
   pub out : IsOut (view_of p)

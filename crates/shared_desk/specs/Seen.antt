@@ -17,9 +17,11 @@ row_of r = record { 0 = r }
 abbrev pub rows_of : List ℕ → List Row
 rows_of rs = map row_of rs
 
--- a pass in shared access, alone, or out; with this base, own list, and protected rows, whose entries told so much, and with these
--- trees kept by its last Collect; its entries themselves are left out
-abbrev pub telling : WhichStore → WhichPass → (shared alone fresh : Bool) → ℕ → (ℕ → Option Tree) → List ℕ → Told → List Tree → PassView
+-- a pass in shared access, alone, or out; with this base, own list, and protected rows, whose
+-- entries told so much, and with these trees kept by its last Collect; its entries themselves are
+-- left out
+abbrev pub telling : WhichStore → WhichPass → (shared alone fresh : Bool) → ℕ → (ℕ → Option Tree)
+    → List ℕ → Told → List Tree → PassView
 telling store seat shared alone fresh base held roots told crowd =
     record {
       shared = shared;
@@ -54,4 +56,6 @@ noting x v = record x { entries = v.entries; greatest = v.seen }
 
 -- the pass with this view, whose last Collect kept these trees
 abbrev pub seen : WhichStore → WhichPass → (shared alone : Bool) → List Tree → View → PassView
-seen store seat shared alone crowd v = noting (telling store seat shared alone (is_swept v) v.base (held_in v) (protected_in v) (told v.entries) crowd) v
+seen store seat shared alone crowd v =
+    noting (telling store seat shared alone (is_swept v) v.base (held_in v) (protected_in v)
+    (told v.entries) crowd) v

@@ -19,7 +19,8 @@ use Rattle.work_desks.proofs.Logging.{entries_of_desk, entries_of_pass, same_lis
 use Rattle.shared_work.specs.Running.{HasRun, IsAskedLog, entries_of}
 use Rattle.shared_work.proofs.Closing.{worker, all_got}
 
--- where desks give a log, behind the first line and before the last one it is that of the passes that they gave back
+-- where desks give a log, behind the first line and before the last one it is that of the passes
+-- that they gave back
 pub logged : (s : Settings) (old new : Option (List ℕ)) (head : List ℕ) (callers : ℕ) (desks : List Contents) (passes : List Pass) → s.log ≡ true → head ≡ header_text s.rows callers
     → callers ≡ length desks → AreBack desks passes → IfSome old (λ text. text ≡ head ++ callers_from 0 (map entries_of_desk desks)) → AddsText old new end_text
     → IfSome new (λ text. IsAskedLog s (entries_of passes) text)

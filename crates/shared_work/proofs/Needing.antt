@@ -126,8 +126,8 @@ in_together (suc n) f j t l c = dite (ℕ_discrete j n)
     (λ same. Contains-append_right (together n f) (f n) t (subst (λ i. Contains (f i) t) same c))
     (λ ne. Contains-append_left (together n f) (f n) t (in_together n f j t (omega (arith, l, ne)) c))
 
--- A crowd of trees below what n callers protect, where no other protects more than this, nor caller k with one tree that isn't in the
--- crowd.
+-- A crowd of trees below what n callers protect, where no other protects more than this, nor caller
+-- k with one tree that isn't in the crowd.
 module _ (n k most : ℕ) (within : k < n) (next : Tree) (crowd : List Tree) (held : ℕ → List Tree)
     (others : (j : ℕ) → j < n → j ≢ k → distinct (below (held j)) ≤ most) (own : distinct (next ∷ below (held k)) ≤ most)
     (inside : (t : Tree) → Contains crowd t → (j : ℕ) × (j < n) × Contains (below (held j)) t) (absent : Contains crowd next → ⊥) where

@@ -19,7 +19,8 @@ use Rattle.shared_work.specs.Running.{HasRun}
 use Rattle.shared_work.proofs.Closing.{Worker, worker, all_got}
 
 module _ (s : Settings) (rules : List Rule) (terms : List Tree) (store : Store) (ps : List Pass) (run : HasRun s rules terms store (Err StoreFull) ps) where
-  -- its number, its desk before and after, the terms that it drew, and its refusal at the last of them
+  -- its number, its desk before and after, the terms that it drew, and its refusal at the last of
+  -- them
   pub record Refused : Type 0 where
     pub number : ℕ
     pub below : number < store.sizes.seats

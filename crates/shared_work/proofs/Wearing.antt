@@ -133,7 +133,8 @@ below_hands n (h ∷ hs) all x lt = elim (one_of (times x h) (times x (flat_map 
 more_spans : (a c : ℕ) → (a + 2) * c ≡ a * c + 2 * c
 more_spans a c = grind arith
 
--- The base that was loaded last came from one of so many collections, and leaves no room for two epochs more.
+-- The base that was loaded last came from one of so many collections, and leaves no room for two
+-- epochs more.
 used_up : (count most wide base : ℕ) → base ≤ 1 + count * wide → count ≤ most → 2 ^ 62 < base + 2 * wide → 2 ^ 62 ≤ (most + 2) * wide
 used_up count most wide base from few far =
     let a = mul-le-mul_right wide few in

@@ -19,10 +19,12 @@ pub record IsMade (s : Settings) (lists : List (List Entry)) (t : Tree) : Type 0
   pub below : worker < s.workers
   pub named : Contains (named_by lists worker) t
 
--- The last Collect of some worker kept as many different trees as there are rows, those of its names at its place in the chronicle, all
--- of them made or found by workers; and the tree that the worker was to build next isn't among them, at the terms that it drew, where
--- each worker drew terms upwards, and none was drawn twice.
-pub record FillsRows (s : Settings) (rules : List Rule) (terms : List Tree) (lists : List (List Entry)) : Type 0 where
+-- The last Collect of some worker kept as many different trees as there are rows, those of its
+-- names at its place in the chronicle, all of them made or found by workers; and the tree that the
+-- worker was to build next isn't among them, at the terms that it drew, where each worker drew
+-- terms upwards, and none was drawn twice.
+pub record FillsRows (s : Settings) (rules : List Rule) (terms : List Tree)
+    (lists : List (List Entry)) : Type 0 where
   pub worker : ℕ
   pub below : worker < s.workers
   pub hands : List (List ℕ)

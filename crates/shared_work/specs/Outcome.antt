@@ -17,27 +17,37 @@ use Rattle.shared_work.specs.Running.{AreLines, HasRun, IsAskedLog, entries_of}
 use Rattle.shared_work.specs.Sharing.{NamesWhatItBuilt, CollectsFew, KeepsOrders, EachRises}
 use Rattle.shared_work.specs.Wearing.{TellsWorn}
 
--- Where all is well the lines are those of the work. The desks of a new store have run, and gave back these passes; where there is a log it was asked, and is that of their entries.
-pub record Ran (work : Work) (store : Store) (made : Result Lines AllFault) (passes : List Pass) (text : Option (List ℕ)) : Type 0 where
+-- Where all is well the lines are those of the work. The desks of a new store have run, and gave
+-- back these passes; where there is a log it was asked, and is that of their entries.
+pub record Ran (work : Work) (store : Store) (made : Result Lines AllFault) (passes : List Pass)
+    (text : Option (List ℕ)) : Type 0 where
   pub lines : IfOk made (AreLines work)
   pub run : HasRun work.settings work.plan.now.rules work.terms.now store made passes
   pub log : IfSome text (IsAskedLog work.settings (entries_of passes))
 
 -- What `rewrite_shared` says of the lines, the chronicle and its log.
-pub record Tells (work : Work) (made : Result Lines AllFault) (lists : List (List Entry)) (text : Option (List ℕ)) : Type 0 where
-  pub lines : IfOk made (λ l. map said l.list.items ≡ map (line_of work.settings work.symbols.now work.plan.now.rules) work.terms.now)
-  pub traces : IfOk made (λ l. map (λ t. t.items) l.traces.items ≡ map (trace_of work.settings work.plan.now.rules) work.terms.now)
+pub record Tells (work : Work) (made : Result Lines AllFault) (lists : List (List Entry))
+    (text : Option (List ℕ)) : Type 0 where
+  pub lines : IfOk made
+      (λ l. map said l.list.items
+      ≡ map (line_of work.settings work.symbols.now work.plan.now.rules) work.terms.now)
+  pub traces : IfOk made
+      (λ l. map (λ t. t.items) l.traces.items
+      ≡ map (trace_of work.settings work.plan.now.rules) work.terms.now)
   pub workers : IfOk made (λ l. All (λ w. w < work.settings.workers) (map worker_of l.list.items))
   pub legal : IsLegal work.settings.rows (chronicle lists)
   pub order : KeepsOrders work.settings lists
   pub rises : EachRises lists
-  pub built : IfOk made (λ l. NamesWhatItBuilt work.settings work.plan.now.rules work.terms.now (map worker_of l.list.items) lists)
+  pub built : IfOk made
+      (λ l. NamesWhatItBuilt work.settings work.plan.now.rules work.terms.now
+      (map worker_of l.list.items) lists)
   pub collects : CollectsFew work.settings lists
   pub full : IfErr made (TellsFull work.settings work.plan.now.rules work.terms.now lists)
   pub few : IfErr made (TellsFew work.settings work.plan.now.rules work.terms.now)
   pub worn : IfErr made (TellsWorn work.settings work.plan.now.rules work.terms.now)
   pub each : TellsEach work.settings made lists
-  pub front : IfErr made (λ fault. NamesFronts work.settings work.plan.now.rules work.terms.now lists)
+  pub front : IfErr made
+      (λ fault. NamesFronts work.settings work.plan.now.rules work.terms.now lists)
   pub only : NamesOnlyBuilt work.settings work.plan.now.rules work.terms.now lists
   pub log : IfSome text (IsAskedLog work.settings lists)
   pub keys : IfSome text (λ _. AllByRecursion HaveKeys lists)

@@ -31,11 +31,13 @@ pub record MayBegin (work : Work) (store : Store) (given : List Pass) : Type 0 w
   pub passes : All (MayHaveDesk store) given
   pub new : EachPlace (IsNewPass store) store.sizes.seats given
 
--- The lines are those of the terms, in their order, each by one of the workers; beside them are the events that lead to their
--- values, where these are told.
+-- The lines are those of the terms, in their order, each by one of the workers; beside them are the
+-- events that lead to their values, where these are told.
 pub record AreLines (work : Work) (l : Lines) : Type 0 where
-  pub lines : map said l.list.items ≡ map (line_of work.settings work.symbols.now work.plan.now.rules) work.terms.now
-  pub traces : map (λ t. t.items) l.traces.items ≡ map (trace_of work.settings work.plan.now.rules) work.terms.now
+  pub lines : map said l.list.items
+      ≡ map (line_of work.settings work.symbols.now work.plan.now.rules) work.terms.now
+  pub traces : map (λ t. t.items) l.traces.items
+      ≡ map (trace_of work.settings work.plan.now.rules) work.terms.now
   pub workers : All (λ w. w < work.settings.workers) (map worker_of l.list.items)
 
 -- there was no memory
@@ -50,13 +52,19 @@ IsAskedLog s lists text = (s.log ≡ true) × (text ≡ log_of s.rows lists)
 abbrev pub entries_of : List Pass → List (List Entry)
 entries_of passes = map (λ p. (view_of p).store.entries) passes
 
--- The desks were new; what each has built is as `rewrite_all` says; and these passes are those that they gave back.
-pub record HasRun (s : Settings) (rules : List Rule) (terms : List Tree) (store : Store) (lines : Result Lines AllFault) (passes : List Pass) : Type 0 where
+-- The desks were new; what each has built is as `rewrite_all` says; and these passes are those that
+-- they gave back.
+pub record HasRun (s : Settings) (rules : List Rule) (terms : List Tree) (store : Store)
+    (lines : Result Lines AllFault) (passes : List Pass) : Type 0 where
   pub olds : List Contents
   pub news : List Contents
   pub new : EachPlace (IsNewDesk store) store.sizes.seats olds
   pub back : AreBack news passes
   pub same : EachDesk (λ k old new. IsSame old new) olds news
-  pub kept : EachDesk (λ k old new. KeepsDesk s (need_of s rules terms) (store_of old) (store_of new)) olds news
-  pub built : IfOk lines (λ l. EachDesk (λ k old new. BuiltAll s rules (drawn_by k (map worker_of l.list.items) terms) (store_of old) (store_of new)) olds news)
+  pub kept : EachDesk
+      (λ k old new. KeepsDesk s (need_of s rules terms) (store_of old) (store_of new)) olds news
+  pub built : IfOk lines
+      (λ l. EachDesk
+      (λ k old new. BuiltAll s rules (drawn_by k (map worker_of l.list.items) terms)
+      (store_of old) (store_of new)) olds news)
   pub stopped : IfErr lines (Stopped store_of s rules terms olds news)

@@ -18,13 +18,17 @@ unmarked (false ∷ marks) = suc (unmarked marks)
 abbrev pub AreMarked : (Place → ℕ) → List Bool → ℕ → ℕ → Type 0
 AreMarked w marks r n = (k : ℕ) → k < n → IsMarked marks (w (RowWord r (suc (suc k))))
 
--- Marked rows may be named. The arguments of a marked row are marked, but of those that wait, and of those that are looked at.
-pub record Halfway (w : Place → ℕ) (i : ℕ) (v : View) (marks : List Bool) (waiting here : List ℕ) : Type 0 where
+-- Marked rows may be named. The arguments of a marked row are marked, but of those that wait, and
+-- of those that are looked at.
+pub record Halfway (w : Place → ℕ) (i : ℕ) (v : View) (marks : List Bool)
+    (waiting here : List ℕ) : Type 0 where
   pub sound : (r : ℕ) → IsMarked marks r → MayName w i v r
   pub waits : (r : ℕ) → In r waiting → IsMarked marks r
-  pub closed : (r : ℕ) → IsMarked marks r → (In r waiting ⊎ In r here) ⊎ AreMarked w marks r (w (RowWord r 1))
+  pub closed : (r : ℕ) → IsMarked marks r → (In r waiting ⊎ In r here)
+      ⊎ AreMarked w marks r (w (RowWord r 1))
 
--- more rows are marked; each that is new waits, and with two for each row that isn't marked there are no more
+-- more rows are marked; each that is new waits, and with two for each row that isn't marked there
+-- are no more
 pub record Visits (had has : List Bool) (waited waits : List ℕ) : Type 0 where
   pub kept : (r : ℕ) → IsMarked had r → IsMarked has r
   pub less : length waits + 2 * unmarked has ≤ length waited + 2 * unmarked had

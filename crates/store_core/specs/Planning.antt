@@ -1,4 +1,5 @@
--- What one seat sees of a store, whether a step of it is in place by that, and what the step changes.
+-- What one seat sees of a store, whether a step of it is in place by that, and what the step
+-- changes.
 use Rattle.std.specs.Prelude.{◌≡◌, ℕ, suc, pred, true, Option, Some, None, Result, List, [], ◌∷◌, ◌++◌, get_or, IfOk, MatchOption}
 use Rattle.faults.specs.declared.Memory.{Memory}
 use Rattle.lock_core.specs.Lock.{Lock}
@@ -24,7 +25,11 @@ use Rattle.store_core.specs.declared.machine.change.Sight.{Sight}
 
 -- the state as one seat sees it: it looks at no other view than its own
 abbrev pub state_seen : Sight → State
-state_seen s = record { lock = s.lock.now; words = shown s.table.now.sizes s.table.now.words.items; view = λ _. s.view.now }
+state_seen s = record {
+  lock = s.lock.now;
+  words = shown s.table.now.sizes s.table.now.words.items;
+  view = λ _. s.view.now;
+}
 
 abbrev pub sizes_seen : Sight → Sizes
 sizes_seen s = s.table.now.sizes
@@ -43,7 +48,8 @@ view_after z w i v (LoadRoot k) = with_got v (w (Root i k))
 view_after z w i v (StoreRoot k r) = rooted v k r
 view_after z w i v (StoreCount n) = root_counted v n
 view_after z w i v (ReadWord r k) = knowing v r k (w (RowWord r k))
-view_after z w i v (ReadArgument r j) = with_got (knowing v r (suc (suc j)) (w (RowWord r (suc (suc j))))) (w (RowWord r (suc (suc j))))
+view_after z w i v (ReadArgument r j) =
+    with_got (knowing v r (suc (suc j)) (w (RowWord r (suc (suc j))))) (w (RowWord r (suc (suc j))))
 view_after z w i v (LoadAny p) = with_call v (loading z (loads v.call ++ (p, w p) ∷ []))
 view_after z w i v (StoreAny p n) = with_call v (Storing (loads v.call) ((p, n) ∷ stores v.call))
 view_after z w i v StoreClaim = collected v (w Base) (pred (w Base)) (w InUse) (names_left z w)
@@ -59,21 +65,28 @@ words_with w (Some q) = write w q.0 q.1
 
 -- the state with a change by seat i, which then knows this
 abbrev pub changed : State → ℕ → Change → View → State
-changed s i c v = record { lock = lock_with s.lock c.lock; words = words_with s.words c.stored; view = put s.view i v }
+changed s i c v = record {
+  lock = lock_with s.lock c.lock;
+  words = words_with s.words c.stored;
+  view = put s.view i v;
+}
 
 -- what the step does to the lock, the words and the own view
 pub record Makes (s : Sight) (x : Step) (c : Change) (v : View) : Type 0 where
   pub lock : lock_with s.lock.now c.lock ≡ (after (sizes_seen s) (state_seen s) s.seat x).lock
-  pub words : words_with (state_seen s).words c.stored ≡ (after (sizes_seen s) (state_seen s) s.seat x).words
+  pub words : words_with (state_seen s).words c.stored
+      ≡ (after (sizes_seen s) (state_seen s) s.seat x).words
   pub view : v ≡ view_after (sizes_seen s) (state_seen s).words s.seat s.view.now x
 
 -- the step is permitted by what the seat sees
 abbrev pub Allows : Sight → Step → Type 0
 Allows s x = Permits (sizes_seen s) (state_seen s) s.seat x
 
--- a plan of a step: none exactly where it isn't permitted or F doesn't hold, and else what it does, with the own view then
+-- a plan of a step: none exactly where it isn't permitted or F doesn't hold, and else what it does,
+-- with the own view then
 abbrev pub PlansIf : Sight → Step → Type 0 → View → Result (Option Change) Memory → Type 0
-PlansIf s x F v r = IfOk r (λ o. MatchOption o (Allows s x × F → ⊥) (λ c. Allows s x × F × Makes s x c v))
+PlansIf s x F v r =
+    IfOk r (λ o. MatchOption o (Allows s x × F → ⊥) (λ c. Allows s x × F × Makes s x c v))
 
 abbrev pub Plans : Sight → Step → View → Result (Option Change) Memory → Type 0
 Plans s x v r = PlansIf s x (Unit {0}) v r
@@ -83,7 +96,8 @@ PlansStep s x v r = PlansIf s (meant (state_seen s) s.seat x) (Fits (sizes_seen 
 
 -- the state with this lock, the words of this table and these views
 abbrev pub state_by : Sizes → Lock → List ℕ → List View → State
-state_by z l words views = record { lock = l; words = shown z words; view = λ j. get_or views j (newcomer z) }
+state_by z l words views =
+    record { lock = l; words = shown z words; view = λ j. get_or views j (newcomer z) }
 
 -- a change stores at a place that the table has
 abbrev pub IsInside : Sizes → Option (Place × ℕ) → Type 0
@@ -94,7 +108,8 @@ HasPlace z o = Where o (λ c. IsInside z c.stored)
 
 -- what a whole plan answers
 abbrev pub IsPlanOf : Sizes → State → ℕ → StoreStep → View → Option Change → Type 0
-IsPlanOf z s i x v o = MatchOption o (steps.IsInPlace z s i x → ⊥) (λ c. steps.IsInPlace z s i x × (steps.after z s i x ≡ changed s i c v))
+IsPlanOf z s i x v o = MatchOption o (steps.IsInPlace z s i x → ⊥)
+    (λ c. steps.IsInPlace z s i x × (steps.after z s i x ≡ changed s i c v))
 
 abbrev pub Planned : Sizes → State → ℕ → StoreStep → View → Result (Option Change) Memory → Type 0
 Planned z s i x v r = IfOk r (λ o. IsPlanOf z s i x v o × HasPlace z o)
@@ -107,12 +122,15 @@ pub record IsSeen (g : Sight) (s : State) : Type 0 where
 
 -- The end of a collection that has loaded ls, of a state of which the facts hold
 abbrev pub PlansEnd : Sight → List (Place × ℕ) → ℕ → View → Result (Option Change) Memory → Type 0
-PlansEnd g ls n v r = IfOk r (λ o. (s : State) → IsEnding (sizes_seen g) (state_seen g).words ls s g.seat →
-    MatchOption o (MayEnd (sizes_seen g) s g.seat × (n ≡ 0) → ⊥) (λ c. MayEnd (sizes_seen g) s g.seat × (n ≡ 0) × Makes g StoreClaim c v))
+PlansEnd g ls n v r =
+    IfOk r (λ o. (s : State) → IsEnding (sizes_seen g) (state_seen g).words ls s g.seat →
+    MatchOption o (MayEnd (sizes_seen g) s g.seat × (n ≡ 0) → ⊥)
+    (λ c. MayEnd (sizes_seen g) s g.seat × (n ≡ 0) × Makes g StoreClaim c v))
 
 abbrev pub PlansClaim : Sight → ℕ → View → Result (Option Change) Memory → Type 0
 PlansClaim g n v r = IfOk r (λ o. (s : State) → StoreHolds (sizes_seen g) s → IsSeen g s →
-    MatchOption o (Permits (sizes_seen g) s g.seat StoreClaim × (n ≡ 0) → ⊥) (λ c. Permits (sizes_seen g) s g.seat StoreClaim × (n ≡ 0) × Makes g StoreClaim c v))
+    MatchOption o (Permits (sizes_seen g) s g.seat StoreClaim × (n ≡ 0) → ⊥)
+    (λ c. Permits (sizes_seen g) s g.seat StoreClaim × (n ≡ 0) × Makes g StoreClaim c v))
 
 -- a plan of any step
 abbrev pub Serves : Sight → StoreStep → View → Result (Option Change) Memory → Type 0

@@ -5,7 +5,12 @@ use Rattle.store_core.specs.StoreValue.{StoreValue, state_of}
 use Rattle.store_core.specs.declared.state.StoreState.TheInside.{Inside}
 
 abbrev pub value_of : Inside → StoreValue
-value_of s = record { sizes = s.table.sizes; lock = s.lock; words = s.table.words.items; views = s.views.items }
+value_of s = record {
+  sizes = s.table.sizes;
+  lock = s.lock;
+  words = s.table.words.items;
+  views = s.views.items;
+}
 
 -- each seat has its view, and the facts hold that every step keeps
 pub record IsHeld (s : Inside) : Type 0 where

@@ -19,7 +19,11 @@ pub record StoreValue : Type 0 where
 
 -- the state of the machine that it is
 abbrev pub state_of : StoreValue → State
-state_of t = record { lock = t.lock; words = shown t.sizes t.words; view = λ j. get_or t.views j (newcomer t.sizes) }
+state_of t = record {
+  lock = t.lock;
+  words = shown t.sizes t.words;
+  view = λ j. get_or t.views j (newcomer t.sizes);
+}
 
 -- it is new
 pub record IsNew (z : Sizes) (t : StoreValue) : Type 0 where
@@ -36,6 +40,8 @@ pub record Stayed (i : ℕ) (x : StoreStep) (old new : StoreValue) : Type 0 wher
   pub place : IsInPlace old.sizes (state_of old) i x → ⊥
   pub same : new ≡ old
 
--- The list of steps leads from a new store to this one, each in place where it is made; none where it leads to no state.
+-- The list of steps leads from a new store to this one, each in place where it is made; none where
+-- it leads to no state.
 abbrev pub Replays : Sizes → List (ℕ × StoreStep) → Option StoreValue → Type 0
-Replays z steps t = MatchOption t ((s : State) → Leads z (start_of z) steps s → ⊥) (λ u. (u.sizes ≡ z) × Leads z (start_of z) steps (state_of u))
+Replays z steps t = MatchOption t ((s : State) → Leads z (start_of z) steps s → ⊥)
+    (λ u. (u.sizes ≡ z) × Leads z (start_of z) steps (state_of u))

@@ -18,7 +18,8 @@ use Rattle.store_model.specs.Bases.{collect_numbers, StaysBelow, IsBase, collect
 use Rattle.store_model.proofs.Basics.{choose, put_case}
 use Rattle.store_model.proofs.Histories.{listed_same, listed_length, lists_noted}
 
--- what a step does to its seat's entries and base: nothing, or one more entry that is no Collect; nothing, or the base
+-- what a step does to its seat's entries and base: nothing, or one more entry that is no Collect;
+-- nothing, or the base
 pub record NotesOne (now : ℕ) (v u : View) : Type 0 where
   pub entries : (u.entries ≡ v.entries) ⊎ ((e : Entry) × (is_collect e ≡ false) × (u.entries ≡ v.entries ++ e ∷ []))
   pub base : (u.base ≡ v.base) ⊎ (u.base ≡ now)

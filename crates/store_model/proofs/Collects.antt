@@ -89,7 +89,8 @@ module _ (z : Sizes) (s : State) (m : Meaning) (h : Holds z s m) where
         let q : trees_at m.tree rs ≡ ts = cc in
         ⊎_elim (λ c. sub_tree t r k.0.reached p x c) (λ c. sub_trees ts rs k.1 q x c) (Contains-append_cases (subtrees t) (subtrees_all ts) x c)
 
-  -- the roots in the set of the history are the protected rows, of a seat that is away or has just come
+  -- the roots in the set of the history are the protected rows, of a seat that is away or has just
+  -- come
   roots_known : (j : ℕ) → (j < z.seats → last_roots [] (s.view j).entries ≡ roots_of s.words j (s.words (RootCount j))) → (set_of (chronicle (listed z.seats (λ i. (s.view i).entries)))).roots j ≡ roots_of s.words j (s.words (RootCount j))
   roots_known j same =
       let lists = listed z.seats (λ i. (s.view i).entries) in

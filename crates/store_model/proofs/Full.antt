@@ -88,7 +88,8 @@ made_live z w m view i there h r made =
     } in
     ⊎_elim (λ (l : t.0 < w Base). absurd (let b = t.3 in omega arith)) (λ held. held_live m r held) (h.recent r (i, e) noted refl)
 
--- The only seat creates, and has drawn nothing in this call: where the claim is at least the free count all rows are live.
+-- The only seat creates, and has drawn nothing in this call: where the claim is at least the free
+-- count all rows are live.
 module _ (z : Sizes) (s : State) (i : ℕ) (k : CoreHolds z s) (rem : Remembers z s) (one : z.seats ≡ 1) (there : i < z.seats) (x : Call) (e : (s.view i).call ≡ x) (is : IsCreation x) (none : index x ≡ None) where
   stay : (s.view i).stay ≡ Ready
   stay = (k.holds.seats i).numbers.calls (λ f. creation_busy x is (sym e ∙ f))

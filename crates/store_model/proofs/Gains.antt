@@ -130,7 +130,8 @@ key_after (Find after head args row) seen l = (omega arith, λ e. absurd (cc))
 key_after (Roots after names) seen l = (omega arith, λ e. absurd (cc))
 key_after (Collect number kept) seen l = (omega arith, λ _. omega arith)
 
--- the entries with one more, whose key is above theirs where it is a number, and not below them else
+-- the entries with one more, whose key is above theirs where it is a number, and not below them
+-- else
 rises_end : (es : List Entry) (e : Entry) → KeysRise es → Each (λ d. (key d ≤ key e) × (is_numbered e ≡ true → key d < key e)) es → KeysRise (es ++ e ∷ [])
 rises_end [] e n a = (tt, tt)
 rises_end (d ∷ es) e n a = (each_join (λ x. (key d ≤ key x) × (is_numbered x ≡ true → key d < key x)) es (e ∷ []) n.0 (a.0, tt), rises_end es e n.1 a.1)

@@ -15,7 +15,8 @@ use Rattle.std.proofs.lemmas.Bool.{cases_lt}
 use Rattle.store_model.specs.Calls.{Stay, Away, Based, Ready, Leaving}
 use Rattle.store_model.specs.Machine.{InAccess, Granted}
 
--- the seats of a lock with another seat k: what a seat j knows of its access is kept, where k's phase is, and its standing
+-- the seats of a lock with another seat k: what a seat j knows of its access is kept, where k's
+-- phase is, and its standing
 stays_in : (l : Lock) (m : Option ℕ) (k : ℕ) (t : SeatState) (j : ℕ) → k < length l.seats → (j ≡ k → t.phase ≡ (seat_of l k).phase) → (IsExclusive l j → t.standing ≡ (seat_of l k).standing)
     → InAccess l j → InAccess (record { mutex = m; seats = set l.seats k t }) j
 stays_in l m k t j there same stands access =

@@ -1,4 +1,5 @@
--- The end of a collection keeps what is recalled: the protected rows of each seat stay, and what they lead to.
+-- The end of a collection keeps what is recalled: the protected rows of each seat stay, and what
+-- they lead to.
 use Rattle.std.proofs.Common.{◌≡◌, ◌≢◌, ℕ, suc, pred, ◌+◌, ◌*◌, ◌<◌, false, Option, None, Some, List, [], ◌∷◌, ◌++◌, append-nil, length, inl, refl, sym, ap, ◌∙◌, subst, arith}
 use Rattle.std.specs.Prelude.{Contains, ◌==◌}
 use Rattle.std.proofs.lemmas.Bool.{cond_both}

@@ -43,7 +43,8 @@ module _ (z : Sizes) (s : State) (m : Meaning) (h : StateHolds z s m) (i : ℕ) 
   abbrev v : View
   v = s.view i
 
-  -- an entry above what the seat has seen, of names that it has seen, and which is a step of the present set
+  -- an entry above what the seat has seen, of names that it has seen, and which is a step of the
+  -- present set
   may_note : v.stay ≢ Away → (e : Entry) → is_collect e ≡ false → 2 * v.seen + 1 ≤ place e → ((n : ℕ) → Contains (needed e) n → m.live n ≡ true)
       → ((n : ℕ) → Contains (needed e) n → 2 * s.words (Birth n) < place e) → IsStep z.rows (present (store_of z s.words m s.view)) e → MayNote z.rows lists i e
   may_note inside e kind above live born step = record {

@@ -1,4 +1,5 @@
--- What one seat may do to the words that another seat's view speaks of, and that such steps keep what holds of it.
+-- What one seat may do to the words that another seat's view speaks of, and that such steps keep
+-- what holds of it.
 use Rattle.std.proofs.Common.{Option, ◌≡◌, ℕ, zero, suc, ◌≤◌, true, false, Some, List, [], ◌∷◌, ◌++◌, refl, sym, ap, ◌∙◌, subst, ap₂, arith, append_assoc}
 use Rattle.store_model.specs.Words.{Place, Base, FreeCount, Claim, InUse, FreePlace, RootCount, Root, RowWords, row_at}
 use Rattle.store_model.specs.Calls.{Content, bucket, Call, Idle, Comparing, Passing, Finding, Ended, Counting, Drawing, Placing, Filling, Numbering, Linking, Publishing, Loading, Storing, KnownWord, View}

@@ -9,7 +9,8 @@ use Rattle.store_model.specs.Invariant.{span, listed}
 -- the numbers of the collections, in order
 abbrev pub collect_numbers : History → List ℕ
 collect_numbers [] = []
-collect_numbers (x ∷ xs) = if is_collect x.1 then key x.1 ∷ collect_numbers xs else collect_numbers xs
+collect_numbers (x ∷ xs) =
+    if is_collect x.1 then key x.1 ∷ collect_numbers xs else collect_numbers xs
 
 -- each is below first + c * wide, the first of them being the c-th
 abbrev pub StaysBelow : (first wide c : ℕ) → List ℕ → Type 0

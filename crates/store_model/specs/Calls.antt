@@ -15,7 +15,8 @@ pub use Rattle.store_model.specs.declared.view.Passed.{Passed}
 pub use Rattle.store_model.specs.declared.view.Refusal.{Refusal}
 pub use Rattle.store_model.specs.declared.view.View.{View}
 
--- the words that it has in a row: the symbol word, the count of arguments, and the arguments, or an integer's value
+-- the words that it has in a row: the symbol word, the count of arguments, and the arguments, or an
+-- integer's value
 abbrev pub words_of : Content → List ℕ
 words_of c = spelled c.head c.arguments
 

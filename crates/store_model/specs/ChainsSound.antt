@@ -19,12 +19,17 @@ pub record ChainsSound (z : Sizes) (w : Place → ℕ) (m : Meaning) : Type 0 wh
   pub used : 0 < w InUse
   pub within : w InUse ≤ z.buckets
   pub beyond : (b : ℕ) → w InUse ≤ b → w (Bucket b) ≡ 0
-  -- a live row's words are those of its content, its arguments are live and have lesser birth numbers, so it has a tree
+  -- a live row's words are those of its content, its arguments are live and have lesser birth
+  -- numbers, so it has a tree
   pub below : (r : ℕ) → m.live r ≡ true → r < z.rows
   pub words : (r : ℕ) → m.live r ≡ true → Matches (row_at w r) (m.content r)
-  pub arguments : (r : ℕ) → m.live r ≡ true → Each (IsOlder m.live (row_at w) (row_at w r).birth) (m.content r).arguments
-  pub trees : (r : ℕ) → m.live r ≡ true → m.tree r ≡ Node (m.content r).head (trees_at m.tree (m.content r).arguments)
-  -- an integer and the empty list have no arguments, a cell has two, of which the second has a list as its tree
-  pub formed : (r : ℕ) → m.live r ≡ true → may_stand_over (m.content r).head (trees_at m.tree (m.content r).arguments) ≡ true
+  pub arguments : (r : ℕ) → m.live r ≡ true
+      → Each (IsOlder m.live (row_at w) (row_at w r).birth) (m.content r).arguments
+  pub trees : (r : ℕ) → m.live r ≡ true
+      → m.tree r ≡ Node (m.content r).head (trees_at m.tree (m.content r).arguments)
+  -- an integer and the empty list have no arguments, a cell has two, of which the second has a list
+  -- as its tree
+  pub formed : (r : ℕ) → m.live r ≡ true
+      → may_stand_over (m.content r).head (trees_at m.tree (m.content r).arguments) ≡ true
   -- different live rows have different trees
   pub differ : (r q : ℕ) → m.live r ≡ true → m.live q ≡ true → m.tree r ≡ m.tree q → r ≡ q

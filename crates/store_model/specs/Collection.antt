@@ -15,7 +15,8 @@ pub data Reaches (w : Place → ℕ) (m : Meaning) : ℕ → Type 0 where
   protected : (j k : ℕ) → k < w (RootCount j) → Reaches w m (w (Root j k))
   argument : (r a : ℕ) → Reaches w m r → In a (m.content r).arguments → Reaches w m a
 
--- the words u after the last store of a collection that loaded w; n is the meaning m with the chains and the live rows of u
+-- the words u after the last store of a collection that loaded w; n is the meaning m with the
+-- chains and the live rows of u
 pub record IsCollected (z : Sizes) (w u : Place → ℕ) (m n : Meaning) : Type 0 where
   pub rows : RowsHold z u n
   pub chains : ChainsHold z u n
@@ -32,14 +33,17 @@ pub record IsCollected (z : Sizes) (w u : Place → ℕ) (m n : Meaning) : Type 
 
 -- the seats' protected rows are those of their last Roots
 abbrev pub RootsMatch : Sizes → (Place → ℕ) → (ℕ → View) → Type 0
-RootsMatch z w view = (j r : ℕ) → Contains ((set_of (chronicle (listed z.seats (λ i. (view i).entries)))).roots j) r ↔ ((k : ℕ) × (k < w (RootCount j)) × (w (Root j k) ≡ r))
+RootsMatch z w view = (j r : ℕ)
+    → Contains ((set_of (chronicle (listed z.seats (λ i. (view i).entries)))).roots j) r
+    ↔ ((k : ℕ) × (k < w (RootCount j)) × (w (Root j k) ≡ r))
 
 -- the names that stay, in ascending order
 pub record AreKept (n : Meaning) (kept : List ℕ) : Type 0 where
   pub ascending : IsAscending kept
   pub each : (r : ℕ) → Contains kept r ↔ (n.live r ≡ true)
 
--- the view of the seat that collected: its own store of the base begins an epoch, and what it keeps is what its protected rows lead to
+-- the view of the seat that collected: its own store of the base begins an epoch, and what it keeps
+-- is what its protected rows lead to
 abbrev pub collected : View → (base number in_use : ℕ) → List ℕ → View
 collected v base number in_use kept = record v {
   call = Idle;

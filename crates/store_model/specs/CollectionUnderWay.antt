@@ -17,8 +17,11 @@ pub record CollectionUnderWay (z : Sizes) (s : State) (began : Place → ℕ) : 
   -- its last store is the claim
   pub claim : (i : ℕ) → is_storing (s.view i).call ≡ true → s.words Claim ≡ began Claim
   -- the present words are the words as loaded with the stores made so far
-  pub present : (i : ℕ) → is_storing (s.view i).call ≡ true → s.words ≡ stored_over began (stores (s.view i).call)
+  pub present : (i : ℕ) → is_storing (s.view i).call ≡ true
+      → s.words ≡ stored_over began (stores (s.view i).call)
   -- it is exclusive, so no other seat is shared, and none collects
   pub alone : (i : ℕ) → is_collecting (s.view i).call ≡ true → IsExclusive s.lock i
-  pub nobody_shared : (i j : ℕ) → is_collecting (s.view i).call ≡ true → (seat_of s.lock j).phase ≢ phase.Shared
-  pub one : (i j : ℕ) → is_collecting (s.view i).call ≡ true → is_collecting (s.view j).call ≡ true → i ≡ j
+  pub nobody_shared : (i j : ℕ) → is_collecting (s.view i).call ≡ true
+      → (seat_of s.lock j).phase ≢ phase.Shared
+  pub one : (i j : ℕ) → is_collecting (s.view i).call ≡ true
+      → is_collecting (s.view j).call ≡ true → i ≡ j

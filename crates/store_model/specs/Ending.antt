@@ -9,9 +9,10 @@ use Rattle.store_model.specs.Steps.{loads, is_storing, value_at, ReachesByWords,
 use Rattle.store_model.specs.Marks.{MarksReached, MarksFree, AreOpposite}
 use Rattle.store_model.specs.MarkedChains.{ChainsMarked}
 
--- In the state s, of which the facts hold, seat i has a collection that has begun to store: the words are w, and ls is what it has
--- loaded.
-pub record IsEnding (z : Sizes) (w : Place → ℕ) (ls : List (Place × ℕ)) (s : State) (i : ℕ) : Type 0 where
+-- In the state s, of which the facts hold, seat i has a collection that has begun to store: the
+-- words are w, and ls is what it has loaded.
+pub record IsEnding (z : Sizes) (w : Place → ℕ) (ls : List (Place × ℕ)) (s : State)
+    (i : ℕ) : Type 0 where
   pub holds : StoreHolds z s
   pub words : s.words ≡ w
   pub storing : is_storing (s.view i).call ≡ true
@@ -27,7 +28,8 @@ pub record IsWholeAgain (z : Sizes) (w : Place → ℕ) (n : Meaning) : Type 0 w
 abbrev pub IsBroken : Sizes → (Place → ℕ) → Type 0
 IsBroken z w = (n : Meaning) → IsWholeAgain z w n → ⊥
 
--- so many rows are kept: those reached, which are the rows in no free place, each in the chain of its bucket
+-- so many rows are kept: those reached, which are the rows in no free place, each in the chain of
+-- its bucket
 pub record Keeps (z : Sizes) (w : Place → ℕ) (kept : ℕ) : Type 0 where
   pub live : List Bool
   pub free : List Bool

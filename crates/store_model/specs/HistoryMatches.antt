@@ -1,4 +1,5 @@
--- The entries of all seats make one legal history, which leaves what the store has; and each seat's own keys rise.
+-- The entries of all seats make one legal history, which leaves what the store has; and each seat's
+-- own keys rise.
 use Rattle.std.specs.Prelude.{◌≡◌, ℕ, ◌<◌, []}
 use Rattle.history_core.specs.Chronicle.{History, chronicle, IsLegal, KeysRise, set_of, last_roots}
 use Rattle.store_model.specs.Calls.{View}
@@ -15,4 +16,5 @@ pub record HistoryMatches (z : Sizes) (m : Meaning) (view : ℕ → View) : Type
   pub rises : (i : ℕ) → KeysRise (view i).entries
   -- the set that it leaves is exactly the live rows with their trees, with each caller's last Roots
   pub pairs : (set_of (history_of z view)).held ≡ names_of m
-  pub roots : (i : ℕ) → i < z.seats → (set_of (history_of z view)).roots i ≡ last_roots [] (view i).entries
+  pub roots : (i : ℕ) → i < z.seats → (set_of (history_of z view)).roots i
+      ≡ last_roots [] (view i).entries

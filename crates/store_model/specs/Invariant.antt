@@ -31,7 +31,8 @@ pub record LockAllows (z : Sizes) (l : Lock) (view : ℕ → View) : Type 0 wher
   pub seats : length l.seats ≡ z.seats
   pub access : (i : ℕ) → Granted l i (view i).stay
 
-pub record NumbersWithin (z : Sizes) (base count claim : ℕ) (place : ℕ → ℕ) (row : ℕ → RowWords) (live : ℕ → Bool) (overdraw : ℕ → Option ℕ) (root_count : ℕ → ℕ) : Type 0 where
+pub record NumbersWithin (z : Sizes) (base count claim : ℕ) (place : ℕ → ℕ) (row : ℕ → RowWords)
+    (live : ℕ → Bool) (overdraw : ℕ → Option ℕ) (root_count : ℕ → ℕ) : Type 0 where
   pub born : (r : ℕ) → live r ≡ true → IsBorn base count place r (row r).birth
   pub differ : (r q : ℕ) → live r ≡ true → live q ≡ true → (row r).birth ≡ (row q).birth → r ≡ q
   pub drawn : claim ≤ count + tally (λ i. is_at (overdraw i) base) z.seats
@@ -40,7 +41,8 @@ pub record NumbersWithin (z : Sizes) (base count claim : ℕ) (place : ℕ → �
 
 -- the calls of two seats have drawn different places
 abbrev pub DrawnApart : (ℕ → View) → Type 0
-DrawnApart view = (i j : ℕ) → j ≢ i → (a : ℕ) → index (view i).call ≡ Some a → index (view j).call ≢ Some a
+DrawnApart view = (i j : ℕ) → j ≢ i → (a : ℕ) → index (view i).call ≡ Some a
+    → index (view j).call ≢ Some a
 
 -- the pairs of the one-thread set
 abbrev pub names_of : Meaning → Names
@@ -52,7 +54,14 @@ listed zero f = []
 listed (suc n) f = f 0 ∷ listed n (λ j. f (suc j))
 
 abbrev pub store_of : Sizes → (Place → ℕ) → Meaning → (ℕ → View) → Recording
-store_of z w m view = record { names = names_of m; birth = λ r. w (Birth r); base = w Base; lists = listed z.seats (λ j. (view j).entries); seen = λ j. (view j).seen }
+store_of z w m view =
+    record {
+      names = names_of m;
+      birth = λ r. w (Birth r);
+      base = w Base;
+      lists = listed z.seats (λ j. (view j).entries);
+      seen = λ j. (view j).seen;
+    }
 
 -- the entries of all seats are legal, and the set that they leave is the live rows with their trees
 abbrev pub HistoryFits : Sizes → (Place → ℕ) → Meaning → (ℕ → View) → Type 0
@@ -66,7 +75,8 @@ abbrev pub ChainsHold : Sizes → (Place → ℕ) → Meaning → Type 0
 ChainsHold z w m = ChainsLinked z (w InUse) (λ b. w (Bucket b)) (row_at w) m
 
 abbrev pub NumbersHold : Sizes → (Place → ℕ) → Meaning → (ℕ → View) → Type 0
-NumbersHold z w m view = NumbersWithin z (w Base) (w FreeCount) (w Claim) (λ i. w (FreePlace i)) (row_at w) m.live (λ i. (view i).overdraw) (λ j. w (RootCount j))
+NumbersHold z w m view = NumbersWithin z (w Base) (w FreeCount) (w Claim) (λ i. w (FreePlace i))
+    (row_at w) m.live (λ i. (view i).overdraw) (λ j. w (RootCount j))
 
 pub record Holds (z : Sizes) (s : State) (m : Meaning) : Type 0 where
   pub lock : LockAllows z s.lock s.view

@@ -1,4 +1,5 @@
--- The store as a machine: one step is one atomic action of one seat on one word, or a step of the lock.
+-- The store as a machine: one step is one atomic action of one seat on one word, or a step of the
+-- lock.
 use Rattle.std.specs.Prelude.{false, ◌≡◌, ◌⊎◌, ℕ, zero, suc, pred, ◌+◌, ◌<◌, ◌≤◌, ◌==◌, nat_lt, max, if◌then◌else◌, Option, Some, None, List, [], ◌∷◌, ◌++◌, length, get_or, set, take, drop}
 use Rattle.lock_core.specs.declared.parts.Phase.TheVariants as phase
 use Rattle.lock_core.specs.declared.parts.LockStep.{LockStep}
@@ -26,7 +27,12 @@ pub record Action : Type 0 where
   pub moved : ℕ → View
 
 abbrev pub acted : (Place → ℕ) → (ℕ → View) → ℕ → Lock → Action → State
-acted w view i l a = record { lock = l; words = write w a.place (a.written (w a.place)); view = put view i (a.moved (w a.place)) }
+acted w view i l a =
+    record {
+      lock = l;
+      words = write w a.place (a.written (w a.place));
+      view = put view i (a.moved (w a.place));
+    }
 
 abbrev pub with_call : View → Call → View
 with_call v x = record v { call = x }
@@ -52,7 +58,17 @@ gained v c r number e = record v {
 
 -- a creation ended with Full
 abbrev pub refusing : View → Content → (head claim count : ℕ) → View
-refusing v c head claim count = record v { call = Idle; refused = v.refused ++ record { content = c; head = head; path = v.path; claim = claim; count = count } ∷ [] }
+refusing v c head claim count =
+    record v {
+      call = Idle;
+      refused = v.refused ++ record {
+        content = c;
+        head = head;
+        path = v.path;
+        claim = claim;
+        count = count;
+      } ∷ [];
+    }
 
 -- and it has drawn past the free count
 abbrev pub overdrawn : View → Content → (head claim count : ℕ) → View
@@ -69,17 +85,20 @@ arrived c d from old at = if at == old then ended c d from else Comparing c d fr
 
 -- after the first k + 1 words were found the same
 abbrev pub compared : Content → Option (ℕ × ℕ) → ℕ → ℕ → ℕ → ℕ → Call
-compared c d from old at k = if suc k == length (words_of c) then Finding c d (pred at) else Comparing c d from old at (suc k)
+compared c d from old at k = if suc k == length (words_of c) then Finding c d (pred at)
+    else Comparing c d from old at (suc k)
 
 abbrev pub filled : Content → ℕ → ℕ → ℕ → ℕ → Call
-filled c from i r k = if suc k == length (words_of c) then Numbering c from i r else Filling c from i r (suc k)
+filled c from i r k =
+    if suc k == length (words_of c) then Numbering c from i r else Filling c from i r (suc k)
 
 abbrev pub load : Place → (ℕ → View) → Action
 load p moved = record { place = p; written = λ n. n; moved = moved }
 
 -- how a creation begins
 abbrev pub begins : View → Content → Action
-begins v c = load (Bucket (bucket c v.in_use)) (λ n. with_call (with_path v 0 []) (arrived c None n 0 n))
+begins v c = load (Bucket (bucket c v.in_use))
+    (λ n. with_call (with_path v 0 []) (arrived c None n 0 n))
 
 -- the row that a walk at the word `at` passes on to the word n
 abbrev pub passing : ℕ → ℕ × ℕ → ℕ → Passed
@@ -90,20 +109,45 @@ abbrev pub action : View → Call → Action
 action v Idle = load Base (λ n. v)
 action v (Loading ls) = load Base (λ n. v)
 action v (Storing ls ss) = load Base (λ n. v)
-action v (Comparing c d from old at k) = load (RowWord (pred at) k) (λ n. with_call v (if n == get_or (words_of c) k 0 then compared c d from old at k else Passing c d from old at (k, n)))
-action v (Passing c d from old at dif) = load (Next (pred at)) (λ n. with_call (with_path v (suc v.passed) (v.path ++ passing at dif n ∷ [])) (arrived c d from old n))
-action v (Finding c d r) = load (Birth r) (λ n. gained v c r n (Find (max v.seen n) c.head c.arguments r))
+action v (Comparing c d from old at k) = load (RowWord (pred at) k)
+    (λ n. with_call v (if n == get_or (words_of c) k 0 then compared c d from old at k
+    else Passing c d from old at (k, n)))
+action v (Passing c d from old at dif) = load (Next (pred at))
+    (λ n. with_call (with_path v (suc v.passed) (v.path ++ passing at dif n ∷ []))
+    (arrived c d from old n))
+action v (Finding c d r) =
+    load (Birth r) (λ n. gained v c r n (Find (max v.seen n) c.head c.arguments r))
 action v (Ended c from) = load Claim (λ n. with_call v (Counting c from n))
-action v (Counting c from claim) = load FreeCount (λ n. if nat_lt claim n then with_call v (Drawing c from n) else refusing v c from claim n)
-action v (Drawing c from count) = record { place = Claim; written = suc; moved = λ n. if nat_lt n count then with_call v (Placing c from n) else overdrawn v c from n count }
+action v (Counting c from claim) =
+    load FreeCount (λ n. if nat_lt claim n then with_call v (Drawing c from n)
+    else refusing v c from claim n)
+action v (Drawing c from count) =
+    record {
+      place = Claim;
+      written = suc;
+      moved = λ n. if nat_lt n count
+          then with_call v (Placing c from n) else overdrawn v c from n count;
+    }
 action v (Placing c from i) = load (FreePlace i) (λ r. with_call v (Filling c from i r 0))
-action v (Filling c from i r k) = record { place = RowWord r k; written = λ n. get_or (words_of c) k 0; moved = λ n. with_call v (filled c from i r k) }
-action v (Numbering c from i r) = record { place = Birth r; written = λ n. v.base + i; moved = λ n. with_call v (Linking c from i r) }
-action v (Linking c from i r) = record { place = Next r; written = λ n. from; moved = λ n. with_call v (Publishing c from i r) }
+action v (Filling c from i r k) =
+    record {
+      place = RowWord r k;
+      written = λ n. get_or (words_of c) k 0;
+      moved = λ n. with_call v (filled c from i r k);
+    }
+action v (Numbering c from i r) =
+    record {
+      place = Birth r;
+      written = λ n. v.base + i;
+      moved = λ n. with_call v (Linking c from i r);
+    }
+action v (Linking c from i r) =
+    record { place = Next r; written = λ n. from; moved = λ n. with_call v (Publishing c from i r) }
 action v (Publishing c from i r) = record {
   place = Bucket (bucket c v.in_use);
   written = λ n. if n == from then suc r else n;
-  moved = λ n. if n == from then gained v c r (v.base + i) (Make (v.base + i) c.head c.arguments r) else with_call v (arrived c (Some (i, r)) n from n);
+  moved = λ n. if n == from then gained v c r (v.base + i) (Make (v.base + i) c.head c.arguments r)
+      else with_call v (arrived c (Some (i, r)) n from n);
 }
 
 pub data Step : Type 0 where
@@ -120,7 +164,8 @@ pub data Step : Type 0 where
   LoadRoot : ℕ → Step
   StoreRoot : ℕ → ℕ → Step
   StoreCount : ℕ → Step
-  -- of a row that the seat may use: a load of its symbol word, of its count or of an integer's value, and of an argument
+  -- of a row that the seat may use: a load of its symbol word, of its count or of an integer's
+  -- value, and of an argument
   ReadWord : ℕ → ℕ → Step
   ReadArgument : ℕ → ℕ → Step
   -- of a collection: a load, a store before the last one, and the last one, of the claim
@@ -143,7 +188,8 @@ InAccess l i = ((seat_of l i).phase ≡ phase.Shared) ⊎ IsExclusive l i
 abbrev pub protected_in : View → List ℕ
 protected_in v = take v.root_count v.roots
 
--- the rows and the words that a seat keeps where its epoch ends: what its protected rows lead to by the words that it knows
+-- the rows and the words that a seat keeps where its epoch ends: what its protected rows lead to by
+-- the words that it knows
 abbrev pub rows_kept : View → List ℕ
 rows_kept v = led_to v.knows (protected_in v)
 
@@ -211,11 +257,13 @@ abbrev pub SecondIsList : (Place → ℕ) → Head → List ℕ → Type 0
 SecondIsList w Cons (a ∷ b ∷ rs) = IsListRow w b
 SecondIsList w f rs = Unit {0}
 
--- a row that a seat may name: one that it got in its epoch or kept from the one before, a protected one, or an argument of such a row
+-- a row that a seat may name: one that it got in its epoch or kept from the one before, a protected
+-- one, or an argument of such a row
 pub data MayName (w : Place → ℕ) (i : ℕ) (v : View) : ℕ → Type 0 where
   has_got : (r : ℕ) → In r v.got → MayName w i v r
   has_protected : (k : ℕ) → k < w (RootCount i) → MayName w i v (w (Root i k))
-  has_argument : (r k : ℕ) → MayName w i v r → k < w (RowWord r 1) → MayName w i v (w (RowWord r (suc (suc k))))
+  has_argument : (r k : ℕ) → MayName w i v r → k < w (RowWord r 1)
+      → MayName w i v (w (RowWord r (suc (suc k))))
 
 -- how many arguments a row has room for
 abbrev pub widest : Sizes → ℕ

@@ -42,7 +42,8 @@ pub record StandsIn (w : Place → ℕ) (u b r : ℕ) : Type 0 where
 
 -- no content of it is
 abbrev pub Strays : Sizes → (Place → ℕ) → (u b r : ℕ) → Type 0
-Strays z w u b r = (c : Content) → HasContent w r c → Each (λ a. a < z.rows) c.arguments → bucket c u ≡ b → ⊥
+Strays z w u b r = (c : Content) → HasContent w r c → Each (λ a. a < z.rows) c.arguments
+    → bucket c u ≡ b → ⊥
 
 -- one of these rows strays
 pub record OneStrays (z : Sizes) (w : Place → ℕ) (u b : ℕ) (rows : List ℕ) : Type 0 where
@@ -55,15 +56,18 @@ pub record IsChain (z : Sizes) (w : Place → ℕ) (b : ℕ) (rows : List ℕ) :
   pub linked : Linked (row_at w) (w (Bucket b)) rows
   pub below : (k : ℕ) → k < length rows → get_or rows k 0 < z.rows
 
--- A walk from a head has passed these rows, and come to a word: the chains of the head are those of the word after these rows.
+-- A walk from a head has passed these rows, and come to a word: the chains of the head are those of
+-- the word after these rows.
 pub record HasPassed (z : Sizes) (w : Place → ℕ) (head at : ℕ) (rows : List ℕ) : Type 0 where
   pub joins : (rest : List ℕ) → Linked (row_at w) at rest → Linked (row_at w) head (rows ++ rest)
-  pub splits : (chain : List ℕ) → Linked (row_at w) head chain → (rest : List ℕ) × (chain ≡ rows ++ rest) × Linked (row_at w) at rest
+  pub splits : (chain : List ℕ) → Linked (row_at w) head chain → (rest : List ℕ)
+      × (chain ≡ rows ++ rest) × Linked (row_at w) at rest
   pub below : (k : ℕ) → k < length rows → get_or rows k 0 < z.rows
   pub few : length rows ≤ z.rows
 
 -- the chain of bucket b, whose rows are marked and stand in it
-pub record IsSound (z : Sizes) (w : Place → ℕ) (marks : List Bool) (u b : ℕ) (rows : List ℕ) : Type 0 where
+pub record IsSound (z : Sizes) (w : Place → ℕ) (marks : List Bool) (u b : ℕ)
+    (rows : List ℕ) : Type 0 where
   pub chain : IsChain z w b rows
   pub marked : (k : ℕ) → k < length rows → IsMarked marks (get_or rows k 0)
   pub standing : (k : ℕ) → k < length rows → StandsIn w u b (get_or rows k 0)
@@ -85,7 +89,8 @@ pub record IsChained (w : Place → ℕ) (u r : ℕ) : Type 0 where
   pub is : get_or rows at 0 ≡ r
 
 -- the first n chains are sound, and exactly their rows are marked as standing
-pub record StandInFirst (z : Sizes) (w : Place → ℕ) (marks : List Bool) (u n : ℕ) (standing : List Bool) : Type 0 where
+pub record StandInFirst (z : Sizes) (w : Place → ℕ) (marks : List Bool) (u n : ℕ)
+    (standing : List Bool) : Type 0 where
   pub size : length standing ≡ z.rows
   pub chain : (b : ℕ) → b < n → IsNoted z w marks standing u b
   pub only : (r : ℕ) → IsMarked standing r → IsChained w n r

@@ -46,21 +46,24 @@ pub record Marks (f : ℕ → ℕ) (n : ℕ) (had has : List Bool) : Type 0 wher
   pub only : (r : ℕ) → IsMarked has r → IsMarked had r ⊎ ((k : ℕ) × (k < n) × (f k ≡ r))
 
 -- and those that weren't now wait
-pub record Adds (f : ℕ → ℕ) (n : ℕ) (had : List Bool) (waits : List ℕ) (has : List Bool) (now : List ℕ) : Type 0 where
+pub record Adds (f : ℕ → ℕ) (n : ℕ) (had : List Bool) (waits : List ℕ) (has : List Bool)
+    (now : List ℕ) : Type 0 where
   pub marks : Marks f n had has
   pub waiting_on : (r : ℕ) → Contains waits r → Contains now r
   pub waiting : (r : ℕ) → IsMarked has r → IsMarked had r ⊎ Contains now r
   pub from : (r : ℕ) → Contains now r → Contains waits r ⊎ IsMarked has r
   pub left : unmarked has + length now ≡ unmarked had + length waits
 
--- Only rows that are reached are marked, and among them the protected rows of the first seats. The arguments of a marked row are
--- marked, or it waits.
-pub record Halfway (z : Sizes) (w : Place → ℕ) (seats : ℕ) (marks : List Bool) (waiting : List ℕ) : Type 0 where
+-- Only rows that are reached are marked, and among them the protected rows of the first seats. The
+-- arguments of a marked row are marked, or it waits.
+pub record Halfway (z : Sizes) (w : Place → ℕ) (seats : ℕ) (marks : List Bool)
+    (waiting : List ℕ) : Type 0 where
   pub size : length marks ≡ z.rows
   pub only : (r : ℕ) → IsMarked marks r → ReachesByWords w r
   pub waits : (r : ℕ) → Contains waiting r → IsMarked marks r
   pub roots : (j k : ℕ) → j < seats → k < w (RootCount j) → IsMarked marks (w (Root j k))
-  pub closed : (r : ℕ) → IsMarked marks r → Contains waiting r ⊎ ((k : ℕ) → k < w (RowWord r 1) → IsMarked marks (w (RowWord r (suc (suc k)))))
+  pub closed : (r : ℕ) → IsMarked marks r → Contains waiting r
+      ⊎ ((k : ℕ) → k < w (RowWord r 1) → IsMarked marks (w (RowWord r (suc (suc k)))))
 
 -- exactly the rows that are reached are marked
 pub record MarksReached (w : Place → ℕ) (rows : ℕ) (marks : List Bool) : Type 0 where

@@ -31,7 +31,8 @@ abbrev pub Linked : (ℕ → RowWords) → ℕ → List ℕ → Type 0
 Linked row at [] = at ≡ 0
 Linked row at (r ∷ rs) = (at ≡ suc r) × Linked row (row r).next rs
 
--- The first places hold different rows, and a row in none of them is live. Those from the claim on aren't live.
+-- The first places hold different rows, and a row in none of them is live. Those from the claim on
+-- aren't live.
 pub record RowsApart (z : Sizes) (count claim : ℕ) (place : ℕ → ℕ) (live : ℕ → Bool) : Type 0 where
   pub few : count ≤ z.rows
   pub there : (i : ℕ) → i < count → place i < z.rows
@@ -49,8 +50,10 @@ pub record Stands (m : Meaning) (in_use : ℕ) (b : ℕ) (r : ℕ) : Type 0 wher
   pub live : m.live r ≡ true
   pub bucket : bucket (m.content r) in_use ≡ b
 
--- Chains end and hold live rows alone, each in the chain of its bucket. A live row has a content and a tree, its own alone.
-pub record ChainsLinked (z : Sizes) (in_use : ℕ) (head : ℕ → ℕ) (row : ℕ → RowWords) (m : Meaning) : Type 0 where
+-- Chains end and hold live rows alone, each in the chain of its bucket. A live row has a content
+-- and a tree, its own alone.
+pub record ChainsLinked (z : Sizes) (in_use : ℕ) (head : ℕ → ℕ) (row : ℕ → RowWords)
+    (m : Meaning) : Type 0 where
   pub used : 0 < in_use
   pub within : in_use ≤ z.buckets
   pub linked : (b : ℕ) → Linked row (head b) (m.chain b)
@@ -60,10 +63,12 @@ pub record ChainsLinked (z : Sizes) (in_use : ℕ) (head : ℕ → ℕ) (row : �
   pub below : (r : ℕ) → m.live r ≡ true → r < z.rows
   pub over : (r : ℕ) → m.live r ≡ true → IsOver (m.content r).head (m.content r).arguments
   pub words : (r : ℕ) → m.live r ≡ true → Matches (row r) (m.content r)
-  pub arguments : (r : ℕ) → m.live r ≡ true → Each (IsOlder m.live row (row r).birth) (m.content r).arguments
+  pub arguments : (r : ℕ) → m.live r ≡ true
+      → Each (IsOlder m.live row (row r).birth) (m.content r).arguments
   pub trees : (r : ℕ) → m.live r ≡ true → m.tree r ≡ grown m.tree (m.content r)
   pub differ : (r q : ℕ) → m.live r ≡ true → m.live q ≡ true → m.tree r ≡ m.tree q → r ≡ q
 
 -- a live row was born before this base, or its number is the base and the index of its place
 abbrev pub IsBorn : (base count : ℕ) → (ℕ → ℕ) → ℕ → ℕ → Type 0
-IsBorn base count place r birth = (birth < base) ⊎ ((i : ℕ) × (i < count) × (place i ≡ r) × (birth ≡ base + i))
+IsBorn base count place r birth =
+    (birth < base) ⊎ ((i : ℕ) × (i < count) × (place i ≡ r) × (birth ≡ base + i))

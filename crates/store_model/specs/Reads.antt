@@ -13,22 +13,25 @@ pub record Differs (c : Content) (word found : ℕ) : Type 0 where
   pub there : word < length (words_of c)
   pub other : found ≢ get_or (words_of c) word 0
 
--- The rows passed lead from the head `from` to the word `at` of a chain, and each differs from the content in a word.
+-- The rows passed lead from the head `from` to the word `at` of a chain, and each differs from the
+-- content in a word.
 abbrev pub PathTo : Content → ℕ → List Passed → ℕ → Type 0
 PathTo c from [] at = from ≡ at
 PathTo c from (p ∷ ps) at = (from ≡ suc p.row) × Differs c p.word p.found × PathTo c p.next ps at
 
 -- in the first walk of a creation, whose head was loaded: the rows that it has passed
 abbrev pub HasPath : List Passed → Call → Type 0
-HasPath ps (Comparing c None from old at k) = PathTo c from ps at × (old ≡ 0) × (at ≢ 0) × (k < length (words_of c))
-HasPath ps (Passing c None from old at dif) = PathTo c from ps at × (old ≡ 0) × (at ≢ 0) × Differs c dif.0 dif.1
+HasPath ps (Comparing c None from old at k) =
+    PathTo c from ps at × (old ≡ 0) × (at ≢ 0) × (k < length (words_of c))
+HasPath ps (Passing c None from old at dif) =
+    PathTo c from ps at × (old ≡ 0) × (at ≢ 0) × Differs c dif.0 dif.1
 HasPath ps (Ended c from) = PathTo c from ps 0
 HasPath ps (Counting c from n) = PathTo c from ps 0
 HasPath ps (Drawing c from n) = PathTo c from ps 0
 HasPath ps x = Unit {0}
 
--- Why a creation ended with Full: the chain from the head that it had loaded was read to its end, each row in it differed, and the
--- claim was read or drawn as at least the free count.
+-- Why a creation ended with Full: the chain from the head that it had loaded was read to its end,
+-- each row in it differed, and the claim was read or drawn as at least the free count.
 pub record IsRefusal (r : Refusal) : Type 0 where
   pub path : PathTo r.content r.head r.path 0
   pub full : r.count ≤ r.claim
@@ -51,8 +54,9 @@ abbrev pub is_made : ℕ → List Entry → ℕ → Bool
 is_made base [] r = false
 is_made base (e ∷ es) r = if is_make base e r then true else is_made base es r
 
--- Nobody has stepped in between: the head that a call has read is still there, and so is the claim; no exchange was lost; and each
--- drawn place has a row that the seat has made since the base, but for the one that its call has drawn.
+-- Nobody has stepped in between: the head that a call has read is still there, and so is the claim;
+-- no exchange was lost; and each drawn place has a row that the seat has made since the base, but
+-- for the one that its call has drawn.
 pub record IsUndisturbed (w : Place → ℕ) (v : View) : Type 0 where
   pub head : Where (head_read v.call) (λ h. w (Bucket (bucket h.0 (w InUse))) ≡ h.1)
   pub first : IsFirst v.call

@@ -1,4 +1,5 @@
--- What a seat's own entries tell of the rows that it may name is so: the trees that they tell are those of the store.
+-- What a seat's own entries tell of the rows that it may name is so: the trees that they tell are
+-- those of the store.
 use Rattle.std.specs.Prelude.{◌≡◌, ℕ, ◌<◌, true, List}
 use Rattle.term_model.specs.Tree.{Tree}
 use Rattle.term_model.specs.Laws.{IsSubtree}
@@ -20,7 +21,8 @@ use Rattle.store_model.specs.Laws.{held_by}
 use Rattle.store_model.specs.declared.step.StoreStep.{StoreStep}
 use Rattle.store_model.specs.Told.{told, all_roots}
 
--- The row is held under the tree that these trees of rows have for it, and so is each row of a tree inside that.
+-- The row is held under the tree that these trees of rows have for it, and so is each row of a tree
+-- inside that.
 pub record IsRecalled (held : Names) (tree : ℕ → Tree) (r : ℕ) : Type 0 where
   pub own : Holds held r (tree r)
   pub inside : (q : ℕ) (u : Tree) → Holds held q u → IsSubtree u (tree r) → tree q ≡ u
@@ -42,7 +44,8 @@ pub record RowsRecalled (lists : List (List Entry)) (tree : ℕ → Tree) (v : V
   -- the arguments of its creation
   pub wants : Where (wanted v.call) (λ c. Each (IsRecalled (held_in lists) tree) c.arguments)
 
--- The trees that a seat's entries name in the chronicle are, in order, those that they tell; and so are those of its Roots.
+-- The trees that a seat's entries name in the chronicle are, in order, those that they tell; and so
+-- are those of its Roots.
 pub record EntriesRecalled (lists : List (List Entry)) (i : ℕ) (es : List Entry) : Type 0 where
   pub named : history.told history.named i empty (chronicle lists) ≡ (told es).built
   pub rooted : history.told history.rooted_trees i empty (chronicle lists) ≡ all_roots es
@@ -53,19 +56,23 @@ pub record SeatRecalls (lists : List (List Entry)) (i : ℕ) (v : View) : Type 0
 
 -- it is so for each seat
 abbrev pub Recalls : Sizes → (ℕ → View) → Type 0
-Recalls z view = (i : ℕ) → i < z.seats → SeatRecalls (listed z.seats (λ j. (view j).entries)) i (view i)
+Recalls z view =
+    (i : ℕ) → i < z.seats → SeatRecalls (listed z.seats (λ j. (view j).entries)) i (view i)
 
 -- A new store recalls, each step keeps it, and so it is after every list of steps.
 abbrev pub StartRecalls : Type 0
 StartRecalls = (z : Sizes) (w : Place → ℕ) → Recalls z (at_start z w).view
 
 abbrev pub StepsRecall : Type 0
-StepsRecall = (z : Sizes) (s : State) (i : ℕ) (x : StoreStep) → StoreHolds z s → IsInPlace z s i x → Recalls z s.view → Recalls z (after z s i x).view
+StepsRecall = (z : Sizes) (s : State) (i : ℕ) (x : StoreStep) → StoreHolds z s → IsInPlace z s i x
+    → Recalls z s.view → Recalls z (after z s i x).view
 
 abbrev pub RunsRecall : Type 0
-RunsRecall = (z : Sizes) (w : Place → ℕ) (steps : List (ℕ × StoreStep)) (s : State) → AreSizes z → StartsWith z w → Leads z (at_start z w) steps s → Recalls z s.view
+RunsRecall = (z : Sizes) (w : Place → ℕ) (steps : List (ℕ × StoreStep)) (s : State) → AreSizes z
+    → StartsWith z w → Leads z (at_start z w) steps s → Recalls z s.view
 
 -- Each row that a seat at rest may name is held under the tree that its own entries tell.
 abbrev pub NamedAreRecalled : Type 0
-NamedAreRecalled = (z : Sizes) (s : State) (i r : ℕ) → StoreHolds z s → Recalls z s.view → i < z.seats → IsAtRest (s.view i)
+NamedAreRecalled = (z : Sizes) (s : State) (i r : ℕ) → StoreHolds z s → Recalls z s.view
+    → i < z.seats → IsAtRest (s.view i)
     → MayName s.words i (s.view i) r → Holds (held_by z s.view) r ((told (s.view i).entries).tree r)

@@ -36,4 +36,5 @@ at_start z w = record { lock = lock.at_start z.seats; words = w; view = λ _. ne
 
 -- the core of one step's proof
 abbrev pub StepKeeps : Step → Type 0
-StepKeeps x = (z : Sizes) (s : State) (i : ℕ) → Remembers z s → CoreHolds z s → InPlace z s i x → CoreHolds z (after z s i x)
+StepKeeps x = (z : Sizes) (s : State) (i : ℕ) → Remembers z s → CoreHolds z s → InPlace z s i x
+    → CoreHolds z (after z s i x)

@@ -71,9 +71,11 @@ index (Storing ls ss) = None
 abbrev pub Lacks : (ℕ → RowWords) → Content → ℕ → Type 0
 Lacks row c r = Matches (row r) c → ⊥
 
--- A walk in a chain from the head `from`, which has come to the word `at` of a row and is to end at the word `old`. The rows
--- that it has passed lack c, and so do those from `old` on, where an earlier walk was.
-pub record Walks (row : ℕ → RowWords) (chain : List ℕ) (c : Content) (from old at n : ℕ) : Type 0 where
+-- A walk in a chain from the head `from`, which has come to the word `at` of a row and is to end at
+-- the word `old`. The rows that it has passed lack c, and so do those from `old` on, where an
+-- earlier walk was.
+pub record Walks (row : ℕ → RowWords) (chain : List ℕ) (c : Content)
+    (from old at n : ℕ) : Type 0 where
   pub fresh : List ℕ
   pub walked : List ℕ
   pub here : ℕ
@@ -100,8 +102,10 @@ pub record Walked (row : ℕ → RowWords) (chain : List ℕ) (c : Content) (fro
 -- a call's walk, as far as the chains speak of it
 abbrev pub IsWalk : (ℕ → RowWords) → (ℕ → List ℕ) → ℕ → ℕ → Call → Type 0
 IsWalk row chain u passed Idle = Unit {0}
-IsWalk row chain u passed (Comparing c d from old at k) = Walks row (chain (bucket c u)) c from old at passed
-IsWalk row chain u passed (Passing c d from old at dif) = Walks row (chain (bucket c u)) c from old at passed
+IsWalk row chain u passed (Comparing c d from old at k) =
+    Walks row (chain (bucket c u)) c from old at passed
+IsWalk row chain u passed (Passing c d from old at dif) =
+    Walks row (chain (bucket c u)) c from old at passed
 IsWalk row chain u passed (Finding c d r) = Unit {0}
 IsWalk row chain u passed (Ended c from) = Walked row (chain (bucket c u)) c from passed
 IsWalk row chain u passed (Counting c from n) = Walked row (chain (bucket c u)) c from passed
@@ -177,9 +181,11 @@ pub record IsKnown (w : Place → ℕ) (m : Meaning) (k : KnownWord) : Type 0 wh
   pub live : m.live k.row ≡ true
   pub value_is : w (RowWord k.row k.word) ≡ k.value
 
--- what a call has read of the claim and of the free count: a seat that has overdrawn reads the claim as full
+-- what a call has read of the claim and of the free count: a seat that has overdrawn reads the
+-- claim as full
 abbrev pub HasRead : (base count claim : ℕ) → Option ℕ → Call → Type 0
-HasRead base count claim overdraw (Counting c from n) = (overdraw ≡ Some base → count ≤ n) × (n ≤ claim)
+HasRead base count claim overdraw (Counting c from n) =
+    (overdraw ≡ Some base → count ≤ n) × (n ≤ claim)
 HasRead base count claim overdraw (Drawing c from n) = (n ≡ count) × (overdraw ≢ Some base)
 HasRead base count claim overdraw x = Unit {0}
 
@@ -208,8 +214,9 @@ pub record SeatNumbers (w : Place → ℕ) (v : View) : Type 0 where
   pub over : (b : ℕ) → v.overdraw ≡ Some b → b ≤ w Base
   pub read : HasRead (w Base) (w FreeCount) (w Claim) v.overdraw v.call
 
--- The rows that a seat may use are live, and it has seen them; the words that it knows are there. What it got and knows counts while
--- its base is the store's. What its protected rows lead to counts always: collections by others keep it.
+-- The rows that a seat may use are live, and it has seen them; the words that it knows are there.
+-- What it got and knows counts while its base is the store's. What its protected rows lead to
+-- counts always: collections by others keep it.
 pub record SeatRows (w : Place → ℕ) (m : Meaning) (i : ℕ) (v : View) : Type 0 where
   pub roots : (k : ℕ) → k < w (RootCount i) → IsSeen w m v.seen (w (Root i k))
   pub wants : Where (wanted v.call) (MayWant w m v.seen)
@@ -218,7 +225,8 @@ pub record SeatRows (w : Place → ℕ) (m : Meaning) (i : ℕ) (v : View) : Typ
   pub keeps : Each (IsSeen w m v.seen) (rows_kept v)
   pub keeps_words : Each (IsKnown w m) (words_kept v)
 
--- A seat's own keys rise, and it has seen them. While it is away its protected rows are those of its last Roots.
+-- A seat's own keys rise, and it has seen them. While it is away its protected rows are those of
+-- its last Roots.
 pub record NotesMatch (w : Place → ℕ) (i : ℕ) (v : View) : Type 0 where
   pub rises : KeysRise v.entries
   pub keys : Each (λ e. place e ≤ 2 * v.seen + 1) v.entries

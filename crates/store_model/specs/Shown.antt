@@ -66,7 +66,8 @@ last_column z (RowWord r k) = widest z + 2
 last_column z p = columns z (block p)
 
 abbrev pub in_table : Sizes → Place → Bool
-in_table z p = if nat_lt (line p) (lines z (block p)) then nat_lt (column z p) (last_column z p) else false
+in_table z p =
+    if nat_lt (line p) (lines z (block p)) then nat_lt (column z p) (last_column z p) else false
 
 -- the words by their places; a place that the table hasn't got has 0
 abbrev pub shown : Sizes → List ℕ → Place → ℕ

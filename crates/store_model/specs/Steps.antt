@@ -78,8 +78,8 @@ worn_by z ls = is_worn z (value_at Base ls) (value_at Claim ls) (value_at FreeCo
 abbrev pub loading : Sizes → List (Place × ℕ) → Call
 loading z ls = if worn_by z ls then Idle else Loading ls
 
--- A collection has loaded all of these words: the single words, the free places and the protected rows below their counts, the
--- buckets, and the words of the rows.
+-- A collection has loaded all of these words: the single words, the free places and the protected
+-- rows below their counts, the buckets, and the words of the rows.
 pub record IsWhole (z : Sizes) (w : Place → ℕ) (ls : List (Place × ℕ)) : Type 0 where
   pub base : value_at Base ls ≡ Some (w Base)
   pub claim : value_at Claim ls ≡ Some (w Claim)
@@ -87,16 +87,19 @@ pub record IsWhole (z : Sizes) (w : Place → ℕ) (ls : List (Place × ℕ)) : 
   pub in_use : value_at InUse ls ≡ Some (w InUse)
   pub places : (i : ℕ) → i < w FreeCount → value_at (FreePlace i) ls ≡ Some (w (FreePlace i))
   pub buckets : (b : ℕ) → b < z.buckets → value_at (Bucket b) ls ≡ Some (w (Bucket b))
-  pub row_words : (r k : ℕ) → r < z.rows → k < widest z + 2 → value_at (RowWord r k) ls ≡ Some (w (RowWord r k))
+  pub row_words : (r k : ℕ) → r < z.rows → k < widest z + 2
+      → value_at (RowWord r k) ls ≡ Some (w (RowWord r k))
   pub births : (r : ℕ) → r < z.rows → value_at (Birth r) ls ≡ Some (w (Birth r))
   pub nexts : (r : ℕ) → r < z.rows → value_at (Next r) ls ≡ Some (w (Next r))
   pub root_counts : (j : ℕ) → j < z.seats → value_at (RootCount j) ls ≡ Some (w (RootCount j))
-  pub roots : (j k : ℕ) → j < z.seats → k < w (RootCount j) → value_at (Root j k) ls ≡ Some (w (Root j k))
+  pub roots : (j k : ℕ) → j < z.seats → k < w (RootCount j)
+      → value_at (Root j k) ls ≡ Some (w (Root j k))
 
 -- a row that a seat has protected, or an argument of one that is reached, by the words
 pub data ReachesByWords (w : Place → ℕ) : ℕ → Type 0 where
   protected_row : (j k : ℕ) → k < w (RootCount j) → ReachesByWords w (w (Root j k))
-  argument_row : (r k : ℕ) → ReachesByWords w r → k < w (RowWord r 1) → ReachesByWords w (w (RowWord r (suc (suc k))))
+  argument_row : (r k : ℕ) → ReachesByWords w r → k < w (RowWord r 1)
+      → ReachesByWords w (w (RowWord r (suc (suc k))))
 
 -- whether r is among the first n free places
 abbrev pub is_free : (ℕ → ℕ) → ℕ → ℕ → Bool
@@ -106,7 +109,8 @@ is_free place (suc n) r = if place n == r then true else is_free place n r
 -- the rows below n that are in none of the first `count` free places, ascending
 abbrev pub rows_left : (ℕ → ℕ) → ℕ → ℕ → List ℕ
 rows_left place count zero = []
-rows_left place count (suc n) = if is_free place count n then rows_left place count n else rows_left place count n ++ n ∷ []
+rows_left place count (suc n) =
+    if is_free place count n then rows_left place count n else rows_left place count n ++ n ∷ []
 
 -- the names that stay when a collection has stored these words
 abbrev pub names_left : Sizes → (Place → ℕ) → List ℕ
@@ -116,8 +120,9 @@ names_left z w = rows_left (λ i. w (FreePlace i)) (w FreeCount) z.rows
 abbrev pub grown_use : Sizes → ℕ → ℕ → ℕ
 grown_use z in_use live = if nat_lt in_use (2 * live) then min z.buckets (2 * in_use) else in_use
 
--- The claim's store ends a collection: with it the words have free places and chains whose live rows are those that are reached;
--- the base is one more than the collection's number, and the buckets in use have grown where the live rows ask for it.
+-- The claim's store ends a collection: with it the words have free places and chains whose live
+-- rows are those that are reached; the base is one more than the collection's number, and the
+-- buckets in use have grown where the live rows ask for it.
 pub record MayEnd (z : Sizes) (s : State) (i : ℕ) : Type 0 where
   pub meaning : Meaning
   pub rows : RowsHold z (write s.words Claim 0) meaning
@@ -164,10 +169,14 @@ MayStore z w (Storing ls ss) = Unit {0}
 MayStore z w x = ⊥
 
 abbrev pub Permits : Sizes → State → ℕ → Step → Type 0
-Permits z s i (LockAlone x) = ((x ≡ Lower) → (seat_of s.lock i).phase ≡ phase.Blocked) × lock.InPlace s.lock i x × ((s.view i).stay ≡ Away)
-Permits z s i LowerShared = ((seat_of s.lock i).phase ≡ phase.Shared) × lock.InPlace s.lock i Lower × IsAtRest (s.view i)
-Permits z s i (UnaskSeat j) = lock.InPlace s.lock i (Unask j) × ((s.view i).call ≡ Idle) × MayLeave (s.view i)
-Permits z s i GiveGranted = lock.InPlace s.lock i Give × ((s.view i).call ≡ Idle) × MayLeave (s.view i)
+Permits z s i (LockAlone x) = ((x ≡ Lower) → (seat_of s.lock i).phase ≡ phase.Blocked)
+    × lock.InPlace s.lock i x × ((s.view i).stay ≡ Away)
+Permits z s i LowerShared = ((seat_of s.lock i).phase ≡ phase.Shared) × lock.InPlace s.lock i Lower
+    × IsAtRest (s.view i)
+Permits z s i (UnaskSeat j) =
+    lock.InPlace s.lock i (Unask j) × ((s.view i).call ≡ Idle) × MayLeave (s.view i)
+Permits z s i GiveGranted =
+    lock.InPlace s.lock i Give × ((s.view i).call ≡ Idle) × MayLeave (s.view i)
 Permits z s i LoadBase = InAccess s.lock i × ((s.view i).call ≡ Idle) × ((s.view i).stay ≡ Away)
 Permits z s i LoadInUse = ((s.view i).call ≡ Idle) × ((s.view i).stay ≡ Based)
 Permits z s i (Begin c) = IsAtRest (s.view i) × MayCreate s i × MayBegin z s.words i (s.view i) c
@@ -175,13 +184,19 @@ Permits z s i Go = IsCreation (s.view i).call
 Permits z s i (LoadRoot k) = IsAtRest (s.view i) × (k < (s.view i).root_count)
 Permits z s i (StoreRoot k r) = IsAtRest (s.view i) × (k < z.depth) × MayName s.words i (s.view i) r
 Permits z s i (StoreCount n) =
-    IsAtRest (s.view i) × (n ≤ z.depth) × ((k : ℕ) → k < n → (k < (s.view i).root_count) ⊎ MayName s.words i (s.view i) (s.words (Root i k)))
-Permits z s i (ReadWord r k) = IsAtRest (s.view i) × MayRead s.words r k × MayName s.words i (s.view i) r
-Permits z s i (ReadArgument r j) = IsAtRest (s.view i) × (j < s.words (RowWord r 1)) × MayName s.words i (s.view i) r
+    IsAtRest (s.view i) × (n ≤ z.depth)
+    × ((k : ℕ) → k < n → (k < (s.view i).root_count)
+    ⊎ MayName s.words i (s.view i) (s.words (Root i k)))
+Permits z s i (ReadWord r k) =
+    IsAtRest (s.view i) × MayRead s.words r k × MayName s.words i (s.view i) r
+Permits z s i (ReadArgument r j) =
+    IsAtRest (s.view i) × (j < s.words (RowWord r 1)) × MayName s.words i (s.view i) r
 Permits z s i (LoadAny p) =
-    IsLoading (s.view i).call × ((s.view i).stay ≡ Ready) × IsExclusive s.lock i × AreLastRoots (s.view i)
+    IsLoading (s.view i).call × ((s.view i).stay ≡ Ready) × IsExclusive s.lock i
+    × AreLastRoots (s.view i)
     × (in_table z p ≡ true) × IsNextLoad (loads (s.view i).call) p
-Permits z s i (StoreAny p n) = MayStore z s.words (s.view i).call × (in_table z p ≡ true) × (is_stored p ≡ true)
+Permits z s i (StoreAny p n) =
+    MayStore z s.words (s.view i).call × (in_table z p ≡ true) × (is_stored p ≡ true)
 Permits z s i StoreClaim = (is_storing (s.view i).call ≡ true) × MayEnd z s i
 
 pub record InPlace (z : Sizes) (s : State) (i : ℕ) (x : Step) : Type 0 where
@@ -194,33 +209,47 @@ seen_as s i l w v = record { lock = l; words = w; view = put s.view i v }
 
 abbrev pub after : Sizes → State → ℕ → Step → State
 after z s i (LockAlone x) = record { lock = lock.after s.lock i x; words = s.words; view = s.view }
-after z s i LowerShared = seen_as s i (lock.after s.lock i Lower) s.words (left (s.view i) (protected_in (s.view i)))
+after z s i LowerShared =
+    seen_as s i (lock.after s.lock i Lower) s.words (left (s.view i) (protected_in (s.view i)))
 after z s i (UnaskSeat j) = seen_as s i (lock.after s.lock i (Unask j)) s.words (leaving (s.view i))
-after z s i GiveGranted = seen_as s i (lock.after s.lock i Give) s.words (left (s.view i) (protected_in (s.view i)))
+after z s i GiveGranted =
+    seen_as s i (lock.after s.lock i Give) s.words (left (s.view i) (protected_in (s.view i)))
 after z s i LoadBase = acted s.words s.view i s.lock (load Base (based (s.view i)))
 after z s i LoadInUse = acted s.words s.view i s.lock (load InUse (ready (s.view i)))
 after z s i (Begin c) = acted s.words s.view i s.lock (begins (s.view i) c)
 after z s i Go = acted s.words s.view i s.lock (action (s.view i) (s.view i).call)
 after z s i (LoadRoot k) = acted s.words s.view i s.lock (load (Root i k) (with_got (s.view i)))
-after z s i (StoreRoot k r) = seen_as s i s.lock (write s.words (Root i k) r) (rooted (s.view i) k r)
-after z s i (StoreCount n) = seen_as s i s.lock (write s.words (RootCount i) n) (root_counted (s.view i) n)
-after z s i (ReadWord r k) = acted s.words s.view i s.lock (load (RowWord r k) (knowing (s.view i) r k))
-after z s i (ReadArgument r j) = acted s.words s.view i s.lock (load (RowWord r (suc (suc j))) (λ n. with_got (knowing (s.view i) r (suc (suc j)) n) n))
-after z s i (LoadAny p) = acted s.words s.view i s.lock (load p (λ n. with_call (s.view i) (loading z (loads (s.view i).call ++ (p, n) ∷ []))))
-after z s i (StoreAny p n) = seen_as s i s.lock (write s.words p n) (with_call (s.view i) (Storing (loads (s.view i).call) ((p, n) ∷ stores (s.view i).call)))
+after z s i (StoreRoot k r) =
+    seen_as s i s.lock (write s.words (Root i k) r) (rooted (s.view i) k r)
+after z s i (StoreCount n) =
+    seen_as s i s.lock (write s.words (RootCount i) n) (root_counted (s.view i) n)
+after z s i (ReadWord r k) =
+    acted s.words s.view i s.lock (load (RowWord r k) (knowing (s.view i) r k))
+after z s i (ReadArgument r j) = acted s.words s.view i s.lock
+    (load (RowWord r (suc (suc j))) (λ n. with_got (knowing (s.view i) r (suc (suc j)) n) n))
+after z s i (LoadAny p) = acted s.words s.view i s.lock
+    (load p (λ n. with_call (s.view i) (loading z (loads (s.view i).call ++ (p, n) ∷ []))))
+after z s i (StoreAny p n) = seen_as s i s.lock (write s.words p n)
+    (with_call (s.view i) (Storing (loads (s.view i).call) ((p, n) ∷ stores (s.view i).call)))
 after z s i StoreClaim =
-    seen_as s i s.lock (write s.words Claim 0) (collected (s.view i) (s.words Base) (pred (s.words Base)) (s.words InUse) (names_left z s.words))
+    seen_as s i s.lock (write s.words Claim 0)
+    (collected (s.view i) (s.words Base) (pred (s.words Base)) (s.words InUse)
+    (names_left z s.words))
 
--- Without a collection that has begun to store, the words are as the facts say. Such a collection is alone; what it has loaded
--- stands in the words of the facts, and is all of them once it stores; and the present words are those with its stores.
+-- Without a collection that has begun to store, the words are as the facts say. Such a collection
+-- is alone; what it has loaded stands in the words of the facts, and is all of them once it stores;
+-- and the present words are those with its stores.
 pub record Collects (z : Sizes) (s : State) (kept : Place → ℕ) : Type 0 where
   pub calm : ((i : ℕ) → is_storing (s.view i).call ≡ false) → s.words ≡ kept
   pub alone : (i : ℕ) → is_collecting (s.view i).call ≡ true → IsExclusive s.lock i
   pub loaded : (i : ℕ) → HasLoaded kept (s.view i).call
-  pub rooted : (i : ℕ) → is_collecting (s.view i).call ≡ true → last_roots [] (s.view i).entries ≡ roots_of kept i (kept (RootCount i))
+  pub rooted : (i : ℕ) → is_collecting (s.view i).call ≡ true → last_roots [] (s.view i).entries
+      ≡ roots_of kept i (kept (RootCount i))
   pub whole : (i : ℕ) → is_storing (s.view i).call ≡ true → IsWhole z kept (loads (s.view i).call)
-  pub stored : (i : ℕ) → is_storing (s.view i).call ≡ true → (p : Place) → is_stored p ≡ false → s.words p ≡ kept p
-  pub present : (i : ℕ) → is_storing (s.view i).call ≡ true → s.words ≡ stored_over kept (stores (s.view i).call)
+  pub stored : (i : ℕ) → is_storing (s.view i).call ≡ true → (p : Place) → is_stored p ≡ false
+      → s.words p ≡ kept p
+  pub present : (i : ℕ) → is_storing (s.view i).call ≡ true
+      → s.words ≡ stored_over kept (stores (s.view i).call)
 
 -- the head that a walk began at
 abbrev pub head_read : Call → Option (Content × ℕ)
@@ -248,12 +277,14 @@ abbrev pub ReadNow : ℕ → Call → Type 0
 ReadNow claim (Counting c from n) = n ≡ claim
 ReadNow claim x = Unit {0}
 
--- After a collection in its exclusive access a seat is alone: each place below the claim holds a live row, but for the one that its
--- call has drawn, and the head that its call read is still there.
+-- After a collection in its exclusive access a seat is alone: each place below the claim holds a
+-- live row, but for the one that its call has drawn, and the head that its call read is still
+-- there.
 pub record IsFresh (l : Lock) (w : Place → ℕ) (is_live : ℕ → Bool) (i : ℕ) (v : View) : Type 0 where
   pub alone : IsExclusive l i
   pub stays : v.stay ≡ Ready
-  pub full : (k : ℕ) → k < w Claim → k < w FreeCount → (is_live (w (FreePlace k)) ≡ true) ⊎ (index v.call ≡ Some k)
+  pub full : (k : ℕ) → k < w Claim → k < w FreeCount → (is_live (w (FreePlace k)) ≡ true)
+      ⊎ (index v.call ≡ Some k)
   pub head : Where (head_read v.call) (λ h. w (Bucket (bucket h.0 (w InUse))) ≡ h.1)
   pub first : IsFirst v.call
   pub read : ReadNow (w Claim) v.call

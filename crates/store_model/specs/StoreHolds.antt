@@ -16,7 +16,8 @@ use Rattle.store_model.specs.ProtectedLive.{ProtectedLive}
 use Rattle.store_model.specs.HistoryMatches.{HistoryMatches}
 use Rattle.store_model.specs.CollectionUnderWay.{CollectionUnderWay}
 
--- The facts in the form that each step is shown to keep. They say more of the calls under way and of what each seat has seen.
+-- The facts in the form that each step is shown to keep. They say more of the calls under way and
+-- of what each seat has seen.
 pub record Strengthened (z : Sizes) (s : State) (m : Meaning) (began : Place → ℕ) : Type 0 where
   pub holds : Holds z (record { lock = s.lock; words = began; view = s.view }) m
   pub under : Collects z s began

@@ -1,4 +1,5 @@
--- The steps as the outside names them: one atomic action of a seat on one word, its place and value as numbers.
+-- The steps as the outside names them: one atomic action of a seat on one word, its place and value
+-- as numbers.
 use Rattle.std.specs.Prelude.{◌≡◌, ℕ, zero, suc, pred, ◌+◌, ◌==◌, nat_lt, if◌then◌else◌, List, [], ◌∷◌, get_or}
 use Rattle.lock_core.specs.declared.parts.LockStep.{LockStep}
 use Rattle.lock_core.specs.declared.parts.LockStep.TheVariants.{Lower, Unask, Give}
@@ -11,9 +12,11 @@ use Rattle.store_model.specs.Steps.{InPlace}
 use Rattle.store_model.specs.declared.step.StoreStep.{StoreStep}
 use Rattle.store_model.specs.declared.step.StoreStep.TheVariants.{Lock, LoadBase, LoadFreeCount, LoadClaim, LoadInUse, Draw, LoadFreePlace, StoreDrawn, LoadBucket, LoadRow, Publish, StoreRoot, StoreRootCount, LoadRoot, LoadAny, StoreNext, StoreBucket, StoreFreePlace, StoreFreeCount, StoreBase, StoreInUse, StoreClaim}
 
--- the k-th word of row r: its symbol word, count and arguments, then the birth number, then the next in the chain
+-- the k-th word of row r: its symbol word, count and arguments, then the birth number, then the
+-- next in the chain
 abbrev pub row_place : Sizes → ℕ → ℕ → Place
-row_place z r k = if k == widest z + 2 then Birth r else (if k == widest z + 3 then Next r else RowWord r k)
+row_place z r k =
+    if k == widest z + 2 then Birth r else (if k == widest z + 3 then Next r else RowWord r k)
 
 -- what an atomic action does to its word
 pub data Act : Type 0 where
@@ -51,7 +54,8 @@ lock_meant stay x = LockAlone x
 abbrev pub read_meant : (Place → ℕ) → ℕ → ℕ → Step
 read_meant w r zero = ReadWord r 0
 read_meant w r (suc zero) = ReadWord r 1
-read_meant w r (suc (suc j)) = if nat_lt j (w (RowWord r 1)) then ReadArgument r j else ReadWord r (suc (suc j))
+read_meant w r (suc (suc j)) =
+    if nat_lt j (w (RowWord r 1)) then ReadArgument r j else ReadWord r (suc (suc j))
 
 abbrev pub row_meant : (Place → ℕ) → Call → ℕ → ℕ → Step
 row_meant w Idle r k = read_meant w r k
@@ -99,7 +103,8 @@ Fits z v (Publish b old new) = act v v.call ≡ Exchanges (Bucket b) old new
 Fits z v (StoreClaim n) = n ≡ 0
 Fits z v x = Unit {0}
 
--- A step is in place where it begins a call that may be made, or is the next one of the seat's call.
+-- A step is in place where it begins a call that may be made, or is the next one of the seat's
+-- call.
 pub record IsInPlace (z : Sizes) (s : State) (i : ℕ) (x : StoreStep) : Type 0 where
   pub step : InPlace z s i (meant s i x)
   pub fits : Fits z (s.view i) x

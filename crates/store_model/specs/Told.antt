@@ -1,4 +1,5 @@
--- What a seat's own entries tell: the trees of the rows that they name, and those of its creations, roots and collections.
+-- What a seat's own entries tell: the trees of the rows that they name, and those of its creations,
+-- roots and collections.
 use Rattle.std.specs.Prelude.{ℕ, ◌+◌, List, [], ◌∷◌, ◌++◌, map, max}
 use Rattle.std.specs.List.{flat_map}
 use Rattle.term_model.specs.declared.Head.{Head}
@@ -21,7 +22,15 @@ pub record Told : Type 0 where
   pub sweeps : ℕ
 
 abbrev pub nothing : Told
-nothing = record { tree = λ r. Leaf 0; built = []; noted = []; rooted = []; load = 0; hand = []; sweeps = 0 }
+nothing = record {
+  tree = λ r. Leaf 0;
+  built = [];
+  noted = [];
+  rooted = [];
+  load = 0;
+  hand = [];
+  sweeps = 0;
+}
 
 -- the tree of a head over rows that have these trees
 abbrev pub tree_over : (ℕ → Tree) → Head → List ℕ → Tree
@@ -33,12 +42,17 @@ subtrees_in ts = distinct (flat_map subtrees ts)
 
 -- after a creation that gave row r
 abbrev pub created : Told → Head → List ℕ → ℕ → Told
-created t f rs r = record t { tree = put t.tree r (tree_over t.tree f rs); built = t.built ++ tree_over t.tree f rs ∷ [] }
+created t f rs r =
+    record t {
+      tree = put t.tree r (tree_over t.tree f rs);
+      built = t.built ++ tree_over t.tree f rs ∷ [];
+    }
 
 abbrev pub after : Told → Entry → Told
 after t (Make number f rs r) = created t f rs r
 after t (Find seen f rs r) = created t f rs r
-after t (Roots seen rs) = record t { noted = rs; rooted = map t.tree rs; load = max t.load (subtrees_in (map t.tree rs)) }
+after t (Roots seen rs) =
+    record t { noted = rs; rooted = map t.tree rs; load = max t.load (subtrees_in (map t.tree rs)) }
 after t (Collect number kept) = record t { hand = t.rooted; sweeps = t.sweeps + 1 }
 
 abbrev pub told_from : Told → List Entry → Told

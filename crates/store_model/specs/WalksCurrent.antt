@@ -6,9 +6,10 @@ use Rattle.store_model.specs.Calls.{Content, bucket, Call, Idle, Comparing, Pass
 use Rattle.store_model.specs.Machine.{Sizes, Each}
 use Rattle.store_model.specs.Meaning.{Meaning, Linked, grown}
 
--- A walk from the head `from` has come to the word `at`: it has walked these rows, which lack the tree of c, and has the rest
--- before it. Together they are a suffix of the present chain.
-pub record HasWalked (row : ℕ → RowWords) (chain : List ℕ) (tree : ℕ → Tree) (c : Content) (from at : ℕ) : Type 0 where
+-- A walk from the head `from` has come to the word `at`: it has walked these rows, which lack the
+-- tree of c, and has the rest before it. Together they are a suffix of the present chain.
+pub record HasWalked (row : ℕ → RowWords) (chain : List ℕ) (tree : ℕ → Tree) (c : Content)
+    (from at : ℕ) : Type 0 where
   pub newer : List ℕ
   pub walked : List ℕ
   pub rest : List ℕ
@@ -18,7 +19,8 @@ pub record HasWalked (row : ℕ → RowWords) (chain : List ℕ) (tree : ℕ →
   pub lack : Each (λ r. tree r ≢ grown tree c) walked
 
 -- the whole chain from the head `from` lacks the tree of c, and is a suffix of the present chain
-pub record HasEnded (row : ℕ → RowWords) (chain : List ℕ) (tree : ℕ → Tree) (c : Content) (from : ℕ) : Type 0 where
+pub record HasEnded (row : ℕ → RowWords) (chain : List ℕ) (tree : ℕ → Tree) (c : Content)
+    (from : ℕ) : Type 0 where
   pub newer : List ℕ
   pub walked : List ℕ
   pub suffix : chain ≡ newer ++ walked
@@ -47,5 +49,6 @@ IsShort rows n (Storing ls ss) = Unit {0}
 IsShort rows n x = n ≤ rows
 
 pub record WalksCurrent (z : Sizes) (w : Place → ℕ) (m : Meaning) (view : ℕ → View) : Type 0 where
-  pub walks : (i : ℕ) → IsCurrent (row_at w) (λ c. m.chain (bucket c (w InUse))) m.tree (view i).call
+  pub walks : (i : ℕ)
+      → IsCurrent (row_at w) (λ c. m.chain (bucket c (w InUse))) m.tree (view i).call
   pub short : (i : ℕ) → IsShort z.rows (view i).passed (view i).call

@@ -29,7 +29,8 @@ abbrev pub Leaves : Sizes → ℕ → View → View → Result Kept Worn → Typ
 Leaves z i v w (Ok kept) = CollectsNow z i v w kept.live kept.buckets
 Leaves z i v w (Err worn) = IsWornNow z i v w
 
--- The entry was granted: it loaded a base, at least the last one, and the buckets in use, and then P holds.
+-- The entry was granted: it loaded a base, at least the last one, and the buckets in use, and then
+-- P holds.
 pub record Enters (v : View) (P : View → Type 0) : Type 0 where
   pub base : ℕ
   pub in_use : ℕ

@@ -1,4 +1,5 @@
--- A pool as it is kept: different names, and for each symbol the number of its name with its number of arguments.
+-- A pool as it is kept: different names, and for each symbol the number of its name with its number
+-- of arguments.
 use Rattle.std.specs.Prelude.{ℕ, ◌<◌, ◌≤◌, List, length, map, nat_eq, Bool, ◌&&◌, All}
 use Rattle.std.specs.List.{IsDistinct}
 use Rattle.std.specs.Global.{Vec}

@@ -1,4 +1,5 @@
--- A token that was cut stands in the text as canonical text, but for a name in quotes that can be plain.
+-- A token that was cut stands in the text as canonical text, but for a name in quotes that can be
+-- plain.
 use Rattle.std.proofs.Common.{◌≡◌, ◌≤◌, ◌<◌, ◌∙◌, ℕ, ◌+◌, ◌-◌, ◌^◌, List, [], ◌∷◌, ◌++◌, length, take, drop, get_or, Bool, true, false, ◌&&◌, cond, refl, ap, sym, subst, arith, Some, None, Result, Ok, Err, decimal, leb, eqb}
 use Rattle.std.specs.Prelude.{if◌then◌else◌}
 use Rattle.std.specs.Char.{is_ascii_digit}

@@ -18,8 +18,8 @@ data Tail (o : Opening) : List Token → Writtens → List Token → Type 0 wher
   ends : {r : ℕ} {behind : List Token} → Tail o (At (closer o) r ∷ behind) End behind
   goes : {p r : ℕ} {ts behind : List Token} {ws : Writtens} → AreTerms ts ws (At (closer o) r ∷ behind) → Tail o (At mark.Comma p ∷ ts) ws behind
 
--- after a whole term: the tokens that follow close all groups and spell further terms, which makes these terms of all,
--- where these terms come next in the innermost group
+-- after a whole term: the tokens that follow close all groups and spell further terms, which makes
+-- these terms of all, where these terms come next in the innermost group
 abbrev After : List Open → List Written → List Written → List Token → List Written → Type 0
 After [] finished new rest ws = (vs : List Written) × IsInput rest vs × (ws ≡ finished ++ (new ++ vs))
 After (g ∷ gs) finished new rest ws =

@@ -1,4 +1,5 @@
--- The text of written terms is the canonical text of their trees, in each pool that has their symbols.
+-- The text of written terms is the canonical text of their trees, in each pool that has their
+-- symbols.
 use Rattle.std.proofs.Common.{◌≡◌, List, [], ◌∷◌, ◌++◌, map, length, refl, ap, true}
 use Rattle.std.specs.Prelude.{unwrap_or, codes}
 use Rattle.std.specs.Option.{option_map}

@@ -8,8 +8,10 @@ use Rattle.term_syntax.specs.Written.{Written}
 use Rattle.term_building.specs.Text.{lines_of}
 use Rattle.term_building.specs.Trees.{AllGood}
 
--- the text spells these terms, with nothing amiss where these are the symbols, and these are their trees and lines
-pub record IsBuilt (text : List ℕ) (symbols : List Named) (trees : List Tree) (lines : List ℕ) : Type 0 where
+-- the text spells these terms, with nothing amiss where these are the symbols, and these are their
+-- trees and lines
+pub record IsBuilt (text : List ℕ) (symbols : List Named) (trees : List Tree)
+    (lines : List ℕ) : Type 0 where
   pub terms : List Written
   pub spelled : Spells text terms
   pub good : AllGood symbols terms

@@ -4,8 +4,8 @@ use Rattle.term_syntax.specs.Token.{Token, Word, Number, At}
 use Rattle.term_syntax.specs.declared.token.Mark.TheVariants as mark
 use Rattle.term_syntax.specs.Written.{Written, Call, Digits, Listed, Writtens, End, More}
 
--- after a whole term or at the start, behind an opening bracket, where a term must come, or behind a name that stands
--- at a place
+-- after a whole term or at the start, behind an opening bracket, where a term must come, or behind
+-- a name that stands at a place
 pub data Stage : Type 0 where
   Settled : Stage
   Bracketed : Stage
@@ -42,16 +42,26 @@ term_of (Bracket p) ws = Listed p ws
 abbrev pub whole : List Open → List Written → Written → Progress
 whole [] finished w = record { stage = Settled; groups = []; finished = finished ++ w ∷ [] }
 whole (g ∷ gs) finished w =
-    record { stage = Settled; groups = record { opening = g.opening; terms = g.terms ++ w ∷ [] } ∷ gs; finished = finished }
+    record {
+      stage = Settled;
+      groups = record { opening = g.opening; terms = g.terms ++ w ∷ [] }
+          ∷ gs;
+      finished = finished;
+    }
 
 -- a group opens
 abbrev pub opened : Opening → Stage → Progress → Progress
 opened opening stage m =
-    record { stage = stage; groups = record { opening = opening; terms = [] } ∷ m.groups; finished = m.finished }
+    record {
+      stage = stage;
+      groups = record { opening = opening; terms = [] } ∷ m.groups;
+      finished = m.finished;
+    }
 
 -- what may come where a term begins: a name, a number or an opening bracket
 abbrev pub on_term : Progress → Token → Option Progress
-on_term m (Word n p) = Some (record { stage = Headed p n; groups = m.groups; finished = m.finished })
+on_term m (Word n p) =
+    Some (record { stage = Headed p n; groups = m.groups; finished = m.finished })
 on_term m (Number v p) = Some (whole m.groups m.finished (Digits p v))
 on_term m (At mark.OpenList p) = Some (opened (Bracket p) Bracketed m)
 on_term m _ = None
@@ -72,7 +82,8 @@ close_list (Bracket p) terms gs finished = Some (closed (Bracket p) terms gs fin
 
 -- what may come after a whole term, or at the start, under these groups
 abbrev pub after_term_under : List Open → List Written → Token → Option Progress
-after_term_under [] finished t = on_term (record { stage = Settled; groups = []; finished = finished }) t
+after_term_under [] finished t =
+    on_term (record { stage = Settled; groups = []; finished = finished }) t
 after_term_under (g ∷ gs) finished (At mark.Comma p) =
     Some (record { stage = Expected; groups = g ∷ gs; finished = finished })
 after_term_under (g ∷ gs) finished (At mark.Close p) = close_call g.opening g.terms gs finished
@@ -105,7 +116,8 @@ abbrev pub settled_at : Stage → Progress → Progress
 settled_at (Headed p n) m = whole m.groups m.finished (Call p n End)
 settled_at _ m = m
 
--- a name that stands last may be a whole term already: what follows is the same, but that no parenthesis opens
+-- a name that stands last may be a whole term already: what follows is the same, but that no
+-- parenthesis opens
 abbrev pub settled_if : Bool → Progress → Progress
 settled_if true m = settled_at m.stage m
 settled_if false m = m

@@ -12,8 +12,8 @@ abbrev pub before : List Token → Result (List Token) Refusal → Result (List 
 before ts (Ok us) = Ok (ts ++ us)
 before ts (Err f) = Err f
 
--- a step was taken at each token of the text before this place, and the state shows what was read; a name that stands
--- last may be a whole term already
+-- a step was taken at each token of the text before this place, and the state shows what was read;
+-- a name that stands last may be a whole term already
 pub record HasPassed (text : List ℕ) (at : ℕ) (s : State) : Type 0 where
   pub tokens : List Token
   pub progress : Progress

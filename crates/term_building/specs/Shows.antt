@@ -30,11 +30,13 @@ abbrev pub count_so_far : List Open → List Written → ℕ
 count_so_far [] finished = length finished
 count_so_far (o ∷ os) finished = count_so_far os finished + length o.terms
 
--- these groups are open, one for one, and the base of each is how many whole terms stand before those in it
+-- these groups are open, one for one, and the base of each is how many whole terms stand before
+-- those in it
 abbrev pub ShowsGroups : List ℕ → List Group → List Open → List Written → Type 0
 ShowsGroups text [] [] finished = Unit {0}
 ShowsGroups text (g ∷ gs) (o ∷ os) finished =
-    ShowsOpening text g.heading o.opening × (g.base ≡ count_so_far os finished) × ShowsGroups text gs os finished
+    ShowsOpening text g.heading o.opening × (g.base ≡ count_so_far os finished)
+    × ShowsGroups text gs os finished
 ShowsGroups text _ _ finished = ⊥
 
 -- there is a term
@@ -58,7 +60,8 @@ pub record Holds (text : List ℕ) (at : ℕ) (s : State) (os : List Open) (fini
   pub from : s.from ≤ at
   pub is_pool : IsPool s.symbols
 
--- the stage is that of what was read, the innermost group fits it, and groups, trees and text are those so far
+-- the stage is that of what was read, the innermost group fits it, and groups, trees and text are
+-- those so far
 pub record Shows (text : List ℕ) (at : ℕ) (s : State) (m : Progress) : Type 0 where
   pub stage : ShowsStage text s.stage m.stage
   pub fits : FitsStage m.stage m.groups

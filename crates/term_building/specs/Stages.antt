@@ -3,7 +3,8 @@ use Rattle.term_building.specs.declared.builder.Stage as code
 use Rattle.term_building.specs.declared.builder.Stage.TheVariants as variant
 use Rattle.term_building.specs.declared.groups.Heading.{Heading}
 
--- after a whole term or at the start, behind an opening bracket, where a term must come, or behind this name
+-- after a whole term or at the start, behind an opening bracket, where a term must come, or behind
+-- this name
 pub data Stage : Type 0 where
   Settled : Stage
   Bracketed : Stage

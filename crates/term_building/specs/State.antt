@@ -20,8 +20,8 @@ use Rattle.term_building.specs.Groups.{under}
 use Rattle.term_building.specs.Stages.{Stage, Settled, Bracketed, Expected, Headed, stage_of}
 use Rattle.term_building.specs.Trees.{list_tree}
 
--- where reading stands, the open groups, what was written, from where on the text is copied, the symbols, and the
--- trees on the stack
+-- where reading stands, the open groups, what was written, from where on the text is copied, the
+-- symbols, and the trees on the stack
 pub record State : Type 0 where
   pub stage : Stage
   pub groups : List Group
@@ -48,7 +48,10 @@ staged stage s = record s { stage = stage }
 -- a group opens after the trees that are there
 abbrev pub opened : Option Heading → Stage → State → State
 opened heading stage s =
-    record s { stage = stage; groups = record { heading = heading; base = length s.trees } ∷ s.groups }
+    record s {
+      stage = stage;
+      groups = record { heading = heading; base = length s.trees } ∷ s.groups;
+    }
 
 -- so many trees stand in a group
 abbrev pub count_in : Group → State → ℕ
@@ -64,7 +67,10 @@ abbrev pub called : List ℕ → ℕ → State → State
 called name n s =
     let symbols = with_symbol s.symbols (named name n) in
     let head = App (record { 0 = number_of symbols (named name n) }) in
-    record s { symbols = symbols; trees = but_last n s.trees ++ Node head (trees_of (last n s.trees)) ∷ [] }
+    record s {
+      symbols = symbols;
+      trees = but_last n s.trees ++ Node head (trees_of (last n s.trees)) ∷ [];
+    }
 
 -- the plain name between two places
 abbrev pub name_at : ℕ → ℕ → Heading
@@ -72,7 +78,8 @@ name_at place end = record { place = place; end = end; quoted = false }
 
 -- the name that stands in the text
 abbrev pub name_in : List ℕ → Heading → List ℕ
-name_in text h = if h.quoted then quoted_at text h.place else take (h.end - h.place) (drop h.place text)
+name_in text h =
+    if h.quoted then quoted_at text h.place else take (h.end - h.place) (drop h.place text)
 
 -- a tree with a name over the last so many, where it may be a symbol
 abbrev pub call_named : List ℕ → ℕ → State → Option State
@@ -110,13 +117,15 @@ headed place end quoted s =
 
 -- a name in place of the bytes between two places
 abbrev pub replaced : List ℕ → ℕ → List ℕ → ℕ → State → State
-replaced text place name end s = record s { written = copied text place s.written s.from ++ name; from = end }
+replaced text place name end s =
+    record s { written = copied text place s.written s.from ++ name; from = end }
 
 -- a name in quotes comes, which is written plain where it can be
 abbrev pub on_quoted : List ℕ → ℕ → ℕ → State → State
 on_quoted text place end s =
     headed place end true
-    (if is_plain (quoted_at text place) then replaced text place (quoted_at text place) end s else s)
+    (if is_plain (quoted_at text place)
+    then replaced text place (quoted_at text place) end s else s)
 
 -- an integer stands behind the trees
 abbrev pub with_integer : ℕ → State → State
@@ -141,7 +150,8 @@ without s = record s { groups = under s.groups }
 
 -- parentheses close over the last so many trees, if the group has a heading
 abbrev pub close_call : List ℕ → ℕ → Option Heading → ℕ → State → Option State
-close_call text end (Some h) n s = option_and_then (λ k. Some (ended text end (without k))) (call text h n s)
+close_call text end (Some h) n s =
+    option_and_then (λ k. Some (ended text end (without k))) (call text h n s)
 close_call text end None n s = None
 
 -- brackets close over the last so many trees, if the group has no heading

@@ -30,7 +30,8 @@ HasBegun begun.Name text end s r = Reaches text end s end r
 HasBegun begun.Nothing text end s r = ⊥
 
 -- a token was taken, and what was taken behind it
-pub record Takes (b : Begun) (text : List ℕ) (place end : ℕ) (shape : Shape) (s r : State) : Type 0 where
+pub record Takes (b : Begun) (text : List ℕ) (place end : ℕ) (shape : Shape)
+    (s r : State) : Type 0 where
   pub state : State
   pub step_is : step text place end shape s ≡ Some state
   pub begun : HasBegun b text end state r

@@ -43,12 +43,14 @@ opening_text (Bracket p) = codes "["
 -- the text before a term that begins under these groups, after these terms
 abbrev pub text_before : List Open → List Written → List ℕ
 text_before [] finished = lines_of finished
-text_before (g ∷ gs) finished = text_before gs finished ++ opening_text g.opening ++ before_commas g.terms
+text_before (g ∷ gs) finished =
+    text_before gs finished ++ opening_text g.opening ++ before_commas g.terms
 
 -- the text up to the last whole term
 abbrev pub text_behind : List Open → List Written → List ℕ
 text_behind [] finished = lines_of finished
-text_behind (g ∷ gs) finished = text_before gs finished ++ opening_text g.opening ++ with_commas (joined g.terms End)
+text_behind (g ∷ gs) finished =
+    text_before gs finished ++ opening_text g.opening ++ with_commas (joined g.terms End)
 
 -- the text so far
 abbrev pub text_at : Stage → List Open → List Written → List ℕ

@@ -14,12 +14,13 @@ abbrev pub HasValue : Option ℕ → Type 0
 HasValue (Some v) = Unit {0}
 HasValue None = ⊥
 
--- each name with its number of arguments is a symbol of the pool, has at most 255 bytes and at most 16 arguments, and each
--- number has a value
+-- each name with its number of arguments is a symbol of the pool, has at most 255 bytes and at most
+-- 16 arguments, and each number has a value
 abbrev mutual
   pub IsGood : List Named → Written → Type 0
   IsGood pool (Call p n ws) =
-      (has pool (named n (count_of ws)) ≡ true) × (nat_lt 255 (length n) ≡ false) × (count_of ws ≤ 16) × AreGood pool ws
+      (has pool (named n (count_of ws)) ≡ true) × (nat_lt 255 (length n) ≡ false)
+      × (count_of ws ≤ 16) × AreGood pool ws
   IsGood pool (Digits p v) = HasValue v
   IsGood pool (Listed p ws) = AreGood pool ws
 

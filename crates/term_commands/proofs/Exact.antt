@@ -1,4 +1,5 @@
--- The nodes that are built are those of the trees on the stack, and rows have the trees under them alone.
+-- The nodes that are built are those of the trees on the stack, and rows have the trees under them
+-- alone.
 use Rattle.std.proofs.Common.{◌≡◌, ℕ, ◌+◌, ◌-◌, inl, inr, List, [], ◌∷◌, ◌++◌, length, refl, ap, sym, ◌∙◌, subst, arith}
 use Rattle.std.specs.Prelude.{Contains, sum_by}
 use Rattle.std.specs.List.{flat_map}

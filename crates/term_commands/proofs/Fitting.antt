@@ -1,4 +1,5 @@
--- A store holds no more different trees than it has rows, and one that is filled has too few for one more.
+-- A store holds no more different trees than it has rows, and one that is filled has too few for
+-- one more.
 use Rattle.std.proofs.Common.{◌≡◌, ℕ, ◌<◌, ◌≤◌, [], ◌∷◌, ◌++◌, Some, None, length, get_or, ap, arith}
 use Rattle.std.specs.Prelude.{Contains, All}
 use Rattle.std.proofs.lemmas.List.Elements.{All-map, All-weaker, All-contains}

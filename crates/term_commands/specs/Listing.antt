@@ -20,7 +20,8 @@ counts_line different_ones all =
 abbrev pub sizes_line : List Tree → List ℕ
 sizes_line ts = counts_line (different ts) (saturated (sum_by nodes ts))
 
--- the input spells terms with no more different subtrees than there are rows, and this is told of them
+-- the input spells terms with no more different subtrees than there are rows, and this is told of
+-- them
 pub record IsListed (rows : ℕ) (input text : List ℕ) : Type 0 where
   pub symbols : List Named
   pub terms : List Tree

@@ -13,8 +13,9 @@ pub record IsFileOf (symbols : List Named) (terms : List Tree) (file : List ℕ)
   pub is_file : IsFile file held
   pub same : AreSame symbols terms held.symbols held.trees
 
--- The input spells terms with no more different subtrees than there are rows, and this is their one file. In the file
--- the symbols have the numbers of their first use, so its terms are the same with other numbers of their symbols.
+-- The input spells terms with no more different subtrees than there are rows, and this is their one
+-- file. In the file the symbols have the numbers of their first use, so its terms are the same with
+-- other numbers of their symbols.
 pub record IsPacked (rows : ℕ) (input file : List ℕ) : Type 0 where
   pub symbols : List Named
   pub terms : List Tree

@@ -9,12 +9,13 @@ use Rattle.term_file.specs.Reading.{read_file}
 use Rattle.term_commands.specs.declared.fault.TermsFault.{TermsFault}
 use Rattle.term_commands.specs.declared.fault.TermsFault.TheVariants.{Refused, StoreFull, Memory}
 
--- a term has more nodes than are written of one, or more than are left of those that are written of all, where so many
--- were
+-- a term has more nodes than are written of one, or more than are left of those that are written of
+-- all, where so many were
 abbrev pub is_too_large : ℕ → Tree → Bool
 is_too_large written t = nat_lt 1048576 (nodes t) || nat_lt 16777216 (written + nodes t)
 
--- the lines of terms in order: the canonical text of each, or `too large`, where so many nodes were written before
+-- the lines of terms in order: the canonical text of each, or `too large`, where so many nodes were
+-- written before
 abbrev pub lines : ℕ → List Named → List Tree → List ℕ
 lines written names [] = []
 lines written names (t ∷ ts) =

@@ -16,15 +16,16 @@ use Rattle.node_rows.specs.declared.view.NodeView.{NodeView}
 use Rattle.node_rows.specs.Full.{IsFilled}
 use Rattle.node_rows.specs.Steps.{over, with_store}
 
--- A pass may create a head over these rows: there is room for them, the head may stand over so many, the pass got them in its
--- epoch, and it knows of a cell's second argument that it is a list.
+-- A pass may create a head over these rows: there is room for them, the head may stand over so
+-- many, the pass got them in its epoch, and it knows of a cell's second argument that it is a list.
 pub record MayCreate (z : Sizes) (v : View) (f : Head) (rs : List ℕ) : Type 0 where
   pub few : length rs ≤ widest z
   pub over : IsOver f rs
   pub second : KnowsSecond v.knows f rs
   pub got : Each (λ r. In r v.got) rs
 
--- One entry was noted: a Make of this row, whose number is above all that the pass had seen, or a Find, after all that.
+-- One entry was noted: a Make of this row, whose number is above all that the pass had seen, or a
+-- Find, after all that.
 abbrev pub NotesOne : View → View → Head → List ℕ → ℕ → Type 0
 NotesOne v w f rs r =
     ((v.seen < w.seen) × (w.entries ≡ v.entries ++ Make w.seen f rs r ∷ []))
@@ -37,21 +38,22 @@ pub record Gets (v w : View) (f : Head) (rs : List ℕ) (r : ℕ) : Type 0 where
   pub refused : w.refused ≡ v.refused
   pub overdraw : w.overdraw ≡ v.overdraw
 
--- The pass keeps why it was refused: the chain from a head that it loaded was read to its end, each row there differed, and the
--- claim was read or drawn as at least the free count.
+-- The pass keeps why it was refused: the chain from a head that it loaded was read to its end, each
+-- row there differed, and the claim was read or drawn as at least the free count.
 pub record KeepsCause (v w : View) (f : Head) (rs : List ℕ) : Type 0 where
   pub refusal : Refusal
   pub wanted : refusal.content ≡ over f rs
   pub cause : IsRefusal refusal
   pub kept : w.refused ≡ v.refused ++ refusal ∷ []
 
--- At a moment of the creation, when seat i knew what is in the view v but for its call under way, each row had a tree, and none the
--- asked one.
+-- At a moment of the creation, when seat i knew what is in the view v but for its call under way,
+-- each row had a tree, and none the asked one.
 pub record WasFilled (z : Sizes) (i : ℕ) (v : NodeView) (f : Head) (rs : List ℕ) : Type 0 where
   pub passed : ℕ
   pub path : List Passed
   pub call : Call
-  pub filled : IsFilled z i (with_store v (with_call (with_path v.store passed path) call)) (over f rs)
+  pub filled : IsFilled z i
+      (with_store v (with_call (with_path v.store passed path) call)) (over f rs)
 
 -- nothing was noted, and no row was got
 pub record GetsNone (v w : View) : Type 0 where

@@ -40,7 +40,8 @@ pub record IsBased (a : Asked) (v : View) : Type 0 where
 abbrev pub HoldsAllAlone : Asked → NodeView → Type 0
 HoldsAllAlone a v = a.store.now.sizes.seats ≡ 1 → HoldsAll a.store.now.sizes.rows v.store.entries
 
--- where seat i has collected in its access, the store was filled at some moment, without the tree that is asked
+-- where seat i has collected in its access, the store was filled at some moment, without the tree
+-- that is asked
 abbrev pub FillsAfter : Asked → ℕ → NodeView → Type 0
 FillsAfter a i v = v.store.fresh ≡ true → WasFilled a.store.now.sizes i v a.head (names a.args.now)
 
@@ -60,33 +61,40 @@ at_walk v n ps x = with_store v (with_call (with_path v.store n ps) x)
 
 -- the first k words were compared
 abbrev pub stage : Content → Option (ℕ × ℕ) → ℕ → ℕ → ℕ → ℕ → Call
-stage c d from old at k = if k == length (words_of c) then Finding c d (pred at) else Comparing c d from old at k
+stage c d from old at k =
+    if k == length (words_of c) then Finding c d (pred at) else Comparing c d from old at k
 
 -- the first k words of the drawn row were stored
 abbrev pub storing : Content → ℕ → ℕ → ℕ → ℕ → Call
-storing c from i r k = if k == length (words_of c) then Numbering c from i r else Filling c from i r k
+storing c from i r k =
+    if k == length (words_of c) then Numbering c from i r else Filling c from i r k
 
 -- the row that the walk is at differs in a word
-pub record IsOther (v w : NodeView) (c : Content) (d : Option (ℕ × ℕ)) (from old at : ℕ) : Type 0 where
+pub record IsOther (v w : NodeView) (c : Content) (d : Option (ℕ × ℕ))
+    (from old at : ℕ) : Type 0 where
   pub word : ℕ
   pub found : ℕ
   pub differs : Differs c word found
   pub view : w ≡ at_call v (Passing c d from old at (word, found))
 
 -- and the walk has gone on to the next one
-pub record GoesOn (v w : NodeView) (c : Content) (d : Option (ℕ × ℕ)) (from old at next : ℕ) : Type 0 where
+pub record GoesOn (v w : NodeView) (c : Content) (d : Option (ℕ × ℕ))
+    (from old at next : ℕ) : Type 0 where
   pub word : ℕ
   pub found : ℕ
   pub differs : Differs c word found
-  pub view : w ≡ at_walk v (suc v.store.passed) (v.store.path ++ passing at (word, found) next ∷ []) (arrived c d from old next)
+  pub view : w ≡ at_walk v (suc v.store.passed) (v.store.path ++ passing at (word, found) next ∷ [])
+      (arrived c d from old next)
 
 -- a walk from the head `from` has come to the word `at`, past n rows that each differ in a word
-pub record HasWalked (v w : NodeView) (c : Content) (d : Option (ℕ × ℕ)) (from old at n : ℕ) : Type 0 where
+pub record HasWalked (v w : NodeView) (c : Content) (d : Option (ℕ × ℕ))
+    (from old at n : ℕ) : Type 0 where
   pub path : List Passed
   pub leads : PathTo c from path at
   pub view : w ≡ at_walk v (v.store.passed + n) (v.store.path ++ path) (arrived c d from old at)
 
--- The walk has come to its end, the word `old`, without the row. Where it began elsewhere it has passed some.
+-- The walk has come to its end, the word `old`, without the row. Where it began elsewhere it has
+-- passed some.
 pub record HasPassed (v w : NodeView) (c : Content) (x : Call) (from old : ℕ) : Type 0 where
   pub passed : ℕ
   pub path : List Passed
@@ -106,14 +114,17 @@ pub record Relinks (v w : NodeView) (x : Call) : Type 0 where
 pub record Finds (v w : NodeView) (f : Head) (rs : List ℕ) (r birth : ℕ) : Type 0 where
   pub passed : ℕ
   pub path : List Passed
-  pub view : w ≡ with_store v (gained (with_path v.store passed path) (over f rs) r birth (Find (max v.store.seen birth) f rs r))
+  pub view : w ≡ with_store v
+      (gained (with_path v.store passed path) (over f rs) r birth
+      (Find (max v.store.seen birth) f rs r))
 
 -- the row was made, with this number, and that was noted
 pub record Makes (v w : NodeView) (f : Head) (rs : List ℕ) (r number : ℕ) : Type 0 where
   pub passed : ℕ
   pub path : List Passed
   pub later : v.store.seen < number
-  pub view : w ≡ with_store v (gained (with_path v.store passed path) (over f rs) r number (Make number f rs r))
+  pub view : w ≡ with_store v
+      (gained (with_path v.store passed path) (over f rs) r number (Make number f rs r))
 
 -- one of both
 abbrev pub Notes : NodeView → NodeView → Head → List ℕ → Noted → Type 0
@@ -128,12 +139,14 @@ row_of (Found r birth) = r
 abbrev pub NotesRow : NodeView → NodeView → Head → List ℕ → Row → Type 0
 NotesRow v w f rs row = (n : Noted) × (row.0 ≡ row_of n) × Notes v w f rs n
 
--- a step of the call read the claim, or drew a number, of at least the free count, after the whole chain from the head `from`
+-- a step of the call read the claim, or drew a number, of at least the free count, after the whole
+-- chain from the head `from`
 pub record IsFull (v w : NodeView) (c : Content) (from : ℕ) : Type 0 where
   pub claim : ℕ
   pub count : ℕ
   pub full : count ≤ claim
-  pub view : (w ≡ with_store v (refusing v.store c from claim count)) ⊎ (w ≡ with_store v (overdrawn v.store c from claim count))
+  pub view : (w ≡ with_store v (refusing v.store c from claim count))
+      ⊎ (w ≡ with_store v (overdrawn v.store c from claim count))
 
 -- and that chain was walked to its end, by rows that each differ
 pub record IsRefused (v w : NodeView) (c : Content) : Type 0 where

@@ -1,4 +1,5 @@
--- The two laws of reading: what is read is right and is all of the bytes, and each right file is read.
+-- The two laws of reading: what is read is right and is all of the bytes, and each right file is
+-- read.
 use Rattle.std.proofs.Common.{◌≡◌, ℕ, Bool, true, false, ◌&&◌, eqb, leb, List, [], ◌∷◌, ◌++◌, length, Result, Ok, Some, refl, sym, ap, subst, ◌∙◌, arith}
 use Rattle.std.specs.List.{flat_map, list_all}
 use Rattle.std.specs.Cmp.{first_so, second_so}

@@ -18,7 +18,8 @@ use Rattle.term_file.proofs.FieldLaws.{IsBytes, Takes, Takes-then, Takes-none, b
 use Rattle.term_file.proofs.SymbolFields.{both_true}
 use Rattle.term_file.proofs.Ordered.{came_on, some_is}
 
--- the head of a record that was read: no arguments yet, and its symbol is one that was used or the next
+-- the head of a record that was read: no arguments yet, and its symbol is one that was used or the
+-- next
 pub record HeadTaken (symbols : List Named) (used : ℕ) (bytes : List ℕ) (b : Body) : Type 0 where
   pub none : b.arguments ≡ []
   pub takes : Takes bytes (head_bytes b.head) b.rest

@@ -1,4 +1,5 @@
--- The trees of a right file are terms: well-formed, without variables, and of the symbols of the file.
+-- The trees of a right file are terms: well-formed, without variables, and of the symbols of the
+-- file.
 use Rattle.std.proofs.Common.{◌≡◌, ℕ, zero, suc, ◌<◌, true, false, ltb, eqb, List, [], ◌∷◌, ◌++◌, length, slice_get, Option, Some, None, refl, sym, ap, subst, ◌∙◌, arith}
 use Rattle.std.specs.Prelude.{map}
 use Rattle.std.specs.Option.{option_map_or}

@@ -1,4 +1,5 @@
--- What a term file holds: symbols, records and roots. Symbols and records are numbered from 0, in their order.
+-- What a term file holds: symbols, records and roots. Symbols and records are numbered from 0, in
+-- their order.
 use Rattle.std.specs.Prelude.{ℕ, List, [], ◌∷◌, ◌++◌, map, slice_get, unwrap_or}
 use Rattle.std.specs.Option.{option_map_or}
 use Rattle.term_model.specs.declared.Head.{Head}

@@ -9,4 +9,5 @@ abbrev pub records_of : Found → Records
 records_of f = record { records = f.table; used = f.used }
 
 abbrev pub body_of : declared.Record → List ℕ → List ℕ → Body
-body_of r last rest = record { head = head_of r.kind; arguments = r.arguments.items; last = last; rest = rest }
+body_of r last rest =
+    record { head = head_of r.kind; arguments = r.arguments.items; last = last; rest = rest }

@@ -1,14 +1,16 @@
--- Numbers come in order where each one that comes for the first time is the least that hasn't come. So the
--- numbers that have come are always those below some number.
+-- Numbers come in order where each one that comes for the first time is the least that hasn't come.
+-- So the numbers that have come are always those below some number.
 use Rattle.std.specs.Prelude.{ℕ, ◌+◌, List, [], ◌∷◌, ◌++◌, slice_get, length, unwrap_or, Option, Some, None, option_and_then, nat_lt, ◌==◌, if◌then◌else◌}
 use Rattle.std.specs.List.{flat_map}
 use Rattle.term_model.specs.declared.Head.{Head}
 use Rattle.term_model.specs.declared.Head.TheVariants.{App, Int, Nil, Cons}
 use Rattle.term_file.specs.Contents.{Record, Contents, table_of}
 
--- how many numbers have come with this one, where all below `came` had; none where it comes too early
+-- how many numbers have come with this one, where all below `came` had; none where it comes too
+-- early
 abbrev pub came_with : ℕ → ℕ → Option ℕ
-came_with came n = if nat_lt n came then Some came else (if n == came then Some (came + 1) else None)
+came_with came n =
+    if nat_lt n came then Some came else (if n == came then Some (came + 1) else None)
 
 -- how many have come after all of these, one after another
 abbrev pub came_after : ℕ → List ℕ → Option ℕ

@@ -6,8 +6,8 @@ use Rattle.tree_text.specs.Canonical.{canonical_lines}
 use Rattle.term_file.specs.File.{Terms, IsFile}
 use Rattle.term_file.specs.NamedTree.{AreSame}
 
--- A list of terms has one file: right files that hold the same terms, whatever numbers their symbols have, are
--- the same bytes.
+-- A list of terms has one file: right files that hold the same terms, whatever numbers their
+-- symbols have, are the same bytes.
 abbrev pub TermsHaveOneFile : Type 0
 TermsHaveOneFile =
     (file other : List ℕ) (ts us : Terms) → IsFile file ts → IsFile other us →

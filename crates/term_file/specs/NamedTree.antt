@@ -1,4 +1,5 @@
--- A tree with the names of its symbols in place of their numbers. Two terms are the same where these are.
+-- A tree with the names of its symbols in place of their numbers. Two terms are the same where
+-- these are.
 use Rattle.std.specs.Prelude.{◌≡◌, ℕ, List, map, slice_get, Option}
 use Rattle.term_model.specs.Tree.{Tree, Leaf, Node, Trees, End, More}
 use Rattle.term_model.specs.declared.Head.{Head}

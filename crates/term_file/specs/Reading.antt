@@ -1,5 +1,5 @@
--- Reading a file from left to right, up to the first field that breaks a rule. `total` is the length of the
--- file, and the place of a field is told by the bytes from the field on.
+-- Reading a file from left to right, up to the first field that breaks a rule. `total` is the
+-- length of the file, and the place of a field is told by the bytes from the field on.
 use Rattle.std.specs.Prelude.{ℕ, zero, suc, ◌-◌, List, [], ◌∷◌, ◌++◌, length, take, drop, unwrap_or, is_some, Result, Ok, Err, Bool, true, false, ◌&&◌, ◌==◌, nat_lt, nat_le, nat_eq, if◌then◌else◌}
 use Rattle.std.specs.List.{list_all}
 use Rattle.std.specs.Cmp.Lexicographic.{pointwise}
@@ -24,7 +24,8 @@ abbrev pub ◌>>=◌ : {A B : Type 0} → Result A Refusal → (A → Result B R
 abbrev pub checked : {A : Type 0} → ℕ → List ℕ → Bool → A → Result A Refusal
 checked total bytes rule x = if rule then Ok x else Err (fault 18 (total - length bytes))
 
--- a field of so many bytes and the bytes after it; a field that is cut is told at the length of the file
+-- a field of so many bytes and the bytes after it; a field that is cut is told at the length of the
+-- file
 abbrev pub text_at : ℕ → ℕ → List ℕ → Result (List ℕ × List ℕ) Refusal
 text_at total n bytes =
     if nat_lt (length bytes) n then Err (fault 3 total) else Ok (take n bytes, drop n bytes)
@@ -53,7 +54,8 @@ symbols_at total zero before bytes = Ok (before, bytes)
 symbols_at total (suc n) before bytes =
     symbol_at total before bytes >>= λ s. symbols_at total n s.0 s.1
 
--- what was read of a record: the head, the arguments, the bytes from its last field on, the bytes after it
+-- what was read of a record: the head, the arguments, the bytes from its last field on, the bytes
+-- after it
 pub record Body : Type 0 where
   pub head : Head
   pub arguments : List ℕ
@@ -139,8 +141,8 @@ no_records = record { records = []; used = 0 }
 abbrev pub no_roots : Roots
 no_roots = record { roots = []; visited = 0 }
 
--- The roots behind the records, and the contents of the file. An unused symbol is told at the count of the
--- roots; records that no walk visits, and surplus bytes, are told after the last root
+-- The roots behind the records, and the contents of the file. An unused symbol is told at the count
+-- of the roots; records that no walk visits, and surplus bytes, are told after the last root
 unfoldable pub roots_to_end : ℕ → List Named → Records → List ℕ → Result Contents Refusal
 roots_to_end total symbols found bytes = do
   root_count ← number_where total 4 (λ n. found.used == length symbols) bytes

@@ -1,4 +1,5 @@
--- What is right in a file: each symbol and each record, given those before it, and the order of all.
+-- What is right in a file: each symbol and each record, given those before it, and the order of
+-- all.
 use Rattle.std.specs.Prelude.{◌≡◌, ℕ, ◌<◌, ◌≤◌, ◌^◌, zero, suc, List, [], ◌∷◌, ◌++◌, length, slice_get, Some, Bool, true, false, not, ◌&&◌, ◌==◌, nat_lt, nat_le, nat_eq}
 use Rattle.std.specs.Option.{option_map_or}
 use Rattle.std.specs.List.{list_all, list_any}
@@ -17,13 +18,15 @@ abbrev pub all_after : {X : Type 0} → (List X → X → Bool) → List X → L
 all_after passes before [] = true
 all_after passes before (x ∷ xs) = passes before x && all_after passes (before ++ x ∷ []) xs
 
--- a symbol has a name of at most 255 printable bytes and at most 16 arguments, and is none before it
+-- a symbol has a name of at most 255 printable bytes and at most 16 arguments, and is none before
+-- it
 abbrev pub is_new_symbol : List Named → Named → Bool
 is_new_symbol before s = not (list_any (named_eq s) before)
 
 abbrev pub is_right_symbol : List Named → Named → Bool
 is_right_symbol before s =
-    nat_le (length s.name) 255 && (list_all is_printable s.name && (nat_le s.arity 16 && is_new_symbol before s))
+    nat_le (length s.name) 255 &&
+    (list_all is_printable s.name && (nat_le s.arity 16 && is_new_symbol before s))
 
 abbrev pub record_eq : Record → Record → Bool
 record_eq r s = head_eq r.head s.head && pointwise nat_eq r.arguments s.arguments
@@ -41,8 +44,8 @@ is_list Cons = true
 abbrev pub is_list_at : List Record → ℕ → Bool
 is_list_at records i = option_map_or (λ r. is_list r.head) (slice_get records i) false
 
--- whether a record may be an argument, with so many more after it: it has a lesser number, and the last
--- argument of a cell is a list
+-- whether a record may be an argument, with so many more after it: it has a lesser number, and the
+-- last argument of a cell is a list
 abbrev pub may_be_argument : List Record → Head → ℕ → ℕ → Bool
 may_be_argument before Cons zero i = is_list_at before i
 may_be_argument before Cons (suc more) i = nat_lt i (length before)
@@ -52,7 +55,8 @@ may_be_argument before Nil more i = nat_lt i (length before)
 
 abbrev pub may_be_arguments : List Record → Head → List ℕ → Bool
 may_be_arguments before h [] = true
-may_be_arguments before h (i ∷ is) = may_be_argument before h (length is) i && may_be_arguments before h is
+may_be_arguments before h (i ∷ is) =
+    may_be_argument before h (length is) i && may_be_arguments before h is
 
 -- how many arguments a head has
 abbrev pub arity_in : List Named → Head → ℕ
@@ -75,8 +79,8 @@ is_right_record symbols before r =
     && (length r.arguments == arity_in symbols r.head
     && (may_be_arguments before r.head r.arguments && is_new_record before r))
 
--- All symbols are used, and each is used first only after all lesser ones. A walk from the roots visits all
--- records, each first only after all lesser ones.
+-- All symbols are used, and each is used first only after all lesser ones. A walk from the roots
+-- visits all records, each first only after all lesser ones.
 pub record IsRight (c : Contents) : Type 0 where
   pub few_symbols : length c.symbols ≤ 65535
   pub symbols_right : all_after is_right_symbol [] c.symbols ≡ true

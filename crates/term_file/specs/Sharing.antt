@@ -1,5 +1,5 @@
--- Terms that are shared item by item. On a stack stand the records of the trees that no later item has taken:
--- they are the roots of what was shared so far.
+-- Terms that are shared item by item. On a stack stand the records of the trees that no later item
+-- has taken: they are the roots of what was shared so far.
 use Rattle.std.specs.Prelude.{◌≡◌, ℕ, ◌<◌, List, [], ◌∷◌, ◌++◌, length, reverse, slice_get, Some, Bool, true, false, nat_lt, nat_le, if◌then◌else◌}
 use Rattle.std.specs.List.{list_all, flat_map}
 use Rattle.term_model.specs.declared.Item.{Item}
@@ -60,11 +60,13 @@ pub record ComesOn (names : List Named) (i : Item) (c : Contents) : Type 0 where
 
 -- whatever trees the contents are, the new contents are those after the item
 abbrev pub Takes : List Named → Item → Contents → Contents → Type 0
-Takes names i old new = (ts us : List Tree) → Shares names ts old → Pushes i ts us → Shares names us new
+Takes names i old new = (ts us : List Tree) → Shares names ts old → Pushes i ts us
+    → Shares names us new
 
 -- the trees after the item have more different subtrees
 abbrev pub TakesTooMany : List Named → Item → Contents → ℕ → Type 0
-TakesTooMany names i old rows = (ts us : List Tree) → Shares names ts old → Pushes i ts us → rows < different us
+TakesTooMany names i old rows = (ts us : List Tree) → Shares names ts old → Pushes i ts us
+    → rows < different us
 
 -- the same of a whole tree
 pub record HasTrees (names : List Named) (c : Contents) : Type 0 where
@@ -75,7 +77,8 @@ abbrev pub TakesTree : List Named → Tree → Contents → Contents → Type 0
 TakesTree names t old new = (ts : List Tree) → Shares names ts old → Shares names (ts ++ t ∷ []) new
 
 abbrev pub TreeIsTooMany : List Named → Tree → Contents → ℕ → Type 0
-TreeIsTooMany names t old rows = (ts : List Tree) → Shares names ts old → rows < different (ts ++ t ∷ [])
+TreeIsTooMany names t old rows =
+    (ts : List Tree) → Shares names ts old → rows < different (ts ++ t ∷ [])
 
 -- a name with its number among the symbols, which it becomes where it is none of them
 pub record Numbers (names : List Named) (f : ℕ) (old new : List Named) (n : ℕ) : Type 0 where

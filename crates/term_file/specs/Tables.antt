@@ -26,4 +26,5 @@ pub record IsTable (records : List Record) (counts : List ℕ) : Type 0 where
 
 -- the same by numbers
 pub record AreLesser (records : List Record) : Type 0 where
-  pub lesser : (i : ℕ) (r : Record) → slice_get records i ≡ Some r → AllByRecursion (λ k. k < i) r.arguments
+  pub lesser : (i : ℕ) (r : Record) → slice_get records i ≡ Some r
+      → AllByRecursion (λ k. k < i) r.arguments

@@ -8,7 +8,8 @@ use Rattle.term_file.specs.InOrder.{visits_at, visits}
 -- the visits of a record of which some arguments were visited
 abbrev pub left_of : List Record → Frame → List ℕ
 left_of records f =
-    flat_map (visits_at (visits records)) (drop f.done (arguments_at records f.number)) ++ f.number ∷ []
+    flat_map (visits_at (visits records)) (drop f.done (arguments_at records f.number))
+    ++ f.number ∷ []
 
 -- the visits of all records on the stack, of which the last is on top
 abbrev pub left_in : List Record → List Frame → List ℕ

@@ -1,4 +1,5 @@
--- The symbols of the value of an outermost evaluation are those of its term and of the rules' right sides.
+-- The symbols of the value of an outermost evaluation are those of its term and of the rules' right
+-- sides.
 use Rattle.std.proofs.Common.{◌≡◌, ℕ, zero, suc, ◌+◌, ◌-◌, List, [], ◌∷◌, Option, Some, None, refl, true}
 use Rattle.std.specs.Prelude.{nat_lt, All}
 use Rattle.std.proofs.lemmas.List.Elements.{All-head, All-tail}

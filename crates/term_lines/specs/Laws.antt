@@ -12,9 +12,10 @@ use Rattle.term_lines.specs.Strategies.{ended}
 abbrev pub WritesNames : List Named → Rule → Type 0
 WritesNames names r = HasNames names r.right
 
--- Where the symbols of a term and of all right sides have names, so have those of the term's value, by
--- either strategy.
+-- Where the symbols of a term and of all right sides have names, so have those of the term's value,
+-- by either strategy.
 abbrev pub ValuesHaveNames : Type 0
 ValuesHaveNames =
-    (strategy : Strategy) (names : List Named) (rules : List Rule) (term value : Tree) (fuel room left : ℕ) → All (WritesNames names) rules → HasNames names term →
+    (strategy : Strategy) (names : List Named) (rules : List Rule) (term value : Tree)
+    (fuel room left : ℕ) → All (WritesNames names) rules → HasNames names term →
     ended strategy rules term fuel room ≡ Done value left → HasNames names value

@@ -14,7 +14,8 @@ abbrev pub tells : Strategy → Bool → Bool
 tells Innermost traced = traced
 tells Outermost traced = false
 
--- whether results are remembered: where that is asked, of innermost rewriting whose events aren't told
+-- whether results are remembered: where that is asked, of innermost rewriting whose events aren't
+-- told
 abbrev pub remembers : Strategy → (traced asked : Bool) → Bool
 remembers Innermost true asked = false
 remembers Innermost false asked = asked

@@ -34,24 +34,33 @@ Finishes end old new (Ok normal) = Answers end old new (Ok normal)
 Finishes end old new (Err stop) = StackIsBack old new
 
 -- all that a term builds was built, but what is remembered
-abbrev pub BuildsWhole : Strategy → (remembered : Bool) → List Rule → Tree → (fuel room : ℕ) → Store → Store → Type 0
-BuildsWhole strategy remembered rules term fuel room old new = Adds (IsBuiltBy strategy remembered rules term fuel room) old.built new.built
+abbrev pub BuildsWhole : Strategy → (remembered : Bool) → List Rule → Tree → (fuel room : ℕ) → Store
+    → Store → Type 0
+BuildsWhole strategy remembered rules term fuel room old new =
+    Adds (IsBuiltBy strategy remembered rules term fuel room) old.built new.built
 
--- The first of what a term builds was built; all of it where no events are told, since only they want memory before the line.
-pub record BuildsFront (strategy : Strategy) (told remembered : Bool) (rules : List Rule) (term : Tree) (fuel room : ℕ) (old new : Store) : Type 0 where
+-- The first of what a term builds was built; all of it where no events are told, since only they
+-- want memory before the line.
+pub record BuildsFront (strategy : Strategy) (told remembered : Bool) (rules : List Rule)
+    (term : Tree) (fuel room : ℕ) (old new : Store) : Type 0 where
   pub front : List Tree
   pub rest : List Tree
   pub split : IsBuiltBy strategy remembered rules term fuel room old.built (front ++ rest)
   pub built : new.built ≡ old.built ++ front
   pub whole : told ≡ false → BuildsWhole strategy remembered rules term fuel room old new
 
--- What was built: all that the definition builds; where a build was refused, what it builds before that tree; and where there was no
--- memory, the first of it.
-abbrev pub BuildsForLine : {A : Type 0} → Strategy → (told remembered : Bool) → List Rule → Tree → (fuel room : ℕ) → Store → Store → Result A LineStop → Type 0
-BuildsForLine strategy told remembered rules term fuel room old new (Ok _) = BuildsWhole strategy remembered rules term fuel room old new
-BuildsForLine strategy told remembered rules term fuel room old new (Err StoreFull) = RefusedBy strategy remembered rules term fuel room old new fault.StoreFull
-BuildsForLine strategy told remembered rules term fuel room old new (Err Worn) = RefusedBy strategy remembered rules term fuel room old new fault.Worn
-BuildsForLine strategy told remembered rules term fuel room old new (Err Memory) = BuildsFront strategy told remembered rules term fuel room old new
+-- What was built: all that the definition builds; where a build was refused, what it builds before
+-- that tree; and where there was no memory, the first of it.
+abbrev pub BuildsForLine : {A : Type 0} → Strategy → (told remembered : Bool) → List Rule → Tree
+    → (fuel room : ℕ) → Store → Store → Result A LineStop → Type 0
+BuildsForLine strategy told remembered rules term fuel room old new (Ok _) =
+    BuildsWhole strategy remembered rules term fuel room old new
+BuildsForLine strategy told remembered rules term fuel room old new (Err StoreFull) =
+    RefusedBy strategy remembered rules term fuel room old new fault.StoreFull
+BuildsForLine strategy told remembered rules term fuel room old new (Err Worn) =
+    RefusedBy strategy remembered rules term fuel room old new fault.Worn
+BuildsForLine strategy told remembered rules term fuel room old new (Err Memory) =
+    BuildsFront strategy told remembered rules term fuel room old new
 
 -- where results are remembered, each that is known is right
 abbrev pub MayRecall : (remembered : Bool) → List Rule → Store → Map → Type 0
@@ -76,8 +85,8 @@ SweepsForLine old new (Err StoreFull) = SweepsMore old new 1
 SweepsForLine old new (Err Worn) = SweepsMore old new 1
 SweepsForLine old new (Err Memory) = SweepsMore old new 0
 
--- A machine that was made for the plan may rewrite the term on the store: its caller is inside, the term is ground and plain,
--- rows are wide enough, and the stack has places for the machine.
+-- A machine that was made for the plan may rewrite the term on the store: its caller is inside, the
+-- term is ground and plain, rows are wide enough, and the stack has places for the machine.
 pub record MayRewrite (plan : Planned) (made : Made) (term : Tree) (s : Store) : Type 0 where
   pub inside : s.inside ≡ true
   pub machine : IsFor plan made
@@ -87,7 +96,8 @@ pub record MayRewrite (plan : Planned) (made : Made) (term : Tree) (s : Store) :
   pub free : length s.stack + made.depth ≤ s.room
 
 -- A term is rewritten for its line: how that ends, and what it builds and costs.
-pub record IsRewritten (strategy : Strategy) (told remembered : Bool) (rules : List Rule) (term : Tree) (fuel room : ℕ) (old new : Store) (result : Result Normal LineStop) : Type 0 where
+pub record IsRewritten (strategy : Strategy) (told remembered : Bool) (rules : List Rule)
+    (term : Tree) (fuel room : ℕ) (old new : Store) (result : Result Normal LineStop) : Type 0 where
   pub answer : Finishes (ended strategy rules term fuel room) old new result
   pub built : BuildsForLine strategy told remembered rules term fuel room old new result
   pub refusals : CountsRefusals old new result

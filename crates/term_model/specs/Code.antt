@@ -61,33 +61,40 @@ pub join_end : (ts : Trees) → join ts End ≡ ts
 join_end End = refl
 join_end (More t ts) = ap (More t) (join_end ts)
 
-pub take_trees-onto : (ts : Trees) (m n : ℕ) (stack : List Tree) (taken : Trees) → m ≡ count_of ts + n → take_trees m (onto ts stack) taken ≡ take_trees n stack (join ts taken)
-take_trees-onto End m n stack taken e = ap (λ k. take_trees k stack taken) (let h : m ≡ n = omega arith in h)
+pub take_trees-onto : (ts : Trees) (m n : ℕ) (stack : List Tree) (taken : Trees)
+    → m ≡ count_of ts + n → take_trees m (onto ts stack) taken ≡ take_trees n stack (join ts taken)
+take_trees-onto End m n stack taken e =
+    ap (λ k. take_trees k stack taken) (let h : m ≡ n = omega arith in h)
 take_trees-onto (More t ts) m n stack taken e =
     let h : m ≡ count_of ts + suc n = omega arith in
     take_trees-onto ts m (suc n) (t ∷ stack) taken h
 
 -- a node takes exactly its arguments
-pub takes_arguments : (ts : Trees) (stack : List Tree) → take_trees (count_of ts) (onto ts stack) End ≡ Some (ts, stack)
+pub takes_arguments : (ts : Trees) (stack : List Tree)
+    → take_trees (count_of ts) (onto ts stack) End ≡ Some (ts, stack)
 takes_arguments ts stack =
     let e : count_of ts ≡ count_of ts + 0 = omega arith in
     take_trees-onto ts (count_of ts) 0 stack End e ∙ ap (λ us. Some (us, stack)) (join_end ts)
 
-placed_head : (h : Head) (ts : Trees) (stack : List Tree) → let c = head_code h (count_of ts) in placed c.0 c.1.0 c.1.1 (onto ts stack) ≡ Node h ts ∷ stack
+placed_head : (h : Head) (ts : Trees) (stack : List Tree) → let c =
+    head_code h (count_of ts) in placed c.0 c.1.0 c.1.1 (onto ts stack) ≡ Node h ts ∷ stack
 placed_head (App f) ts stack = ap (joined (App f)) (takes_arguments ts stack)
 placed_head (Int v) ts stack = ap (joined (Int v)) (takes_arguments ts stack)
 placed_head Nil ts stack = ap (joined Nil) (takes_arguments ts stack)
 placed_head Cons ts stack = ap (joined Cons) (takes_arguments ts stack)
 
 mutual
-  tree_from : (t : Tree) (cs : Codes) (stack : List Tree) → stack_from (codes t ++ cs) stack ≡ stack_from cs (t ∷ stack)
+  tree_from : (t : Tree) (cs : Codes) (stack : List Tree)
+      → stack_from (codes t ++ cs) stack ≡ stack_from cs (t ∷ stack)
   tree_from (Leaf x) cs stack = refl
   tree_from (Node h ts) cs stack =
-      ap (λ ds. stack_from ds stack) (append_assoc (codes_all ts) (head_code h (count_of ts) ∷ []) cs)
+      ap (λ ds. stack_from ds stack)
+      (append_assoc (codes_all ts) (head_code h (count_of ts) ∷ []) cs)
       ∙ trees_from ts (head_code h (count_of ts) ∷ cs) stack
       ∙ ap (stack_from cs) (placed_head h ts stack)
 
-  trees_from : (ts : Trees) (cs : Codes) (stack : List Tree) → stack_from (codes_all ts ++ cs) stack ≡ stack_from cs (onto ts stack)
+  trees_from : (ts : Trees) (cs : Codes) (stack : List Tree) → stack_from (codes_all ts ++ cs) stack
+      ≡ stack_from cs (onto ts stack)
   trees_from End cs stack = refl
   trees_from (More t ts) cs stack =
       ap (λ ds. stack_from ds stack) (append_assoc (codes t) (codes_all ts) cs)
@@ -95,8 +102,10 @@ mutual
       ∙ trees_from ts cs (t ∷ stack)
 
 pub decoded : (t : Tree) → top (stack_from (codes t) []) ≡ t
-decoded t = ap (λ cs. top (stack_from cs [])) (sym (append-nil (codes t))) ∙ ap top (tree_from t [] [])
+decoded t = ap (λ cs. top (stack_from cs [])) (sym (append-nil (codes t)))
+    ∙ ap top (tree_from t [] [])
 
 abbrev pub tree_code : Coded Tree
 tree_code =
-    code_by Codes (coded_list (coded× coded_ℕ (coded× coded_ℕ coded_ℕ))) codes (λ cs. top (stack_from cs [])) decoded
+    code_by Codes (coded_list (coded× coded_ℕ (coded× coded_ℕ coded_ℕ))) codes
+    (λ cs. top (stack_from cs [])) decoded

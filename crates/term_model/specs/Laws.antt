@@ -12,11 +12,13 @@ abbrev pub TreeOfPostorder : Type 0
 TreeOfPostorder = (t : Tree) → IsWellFormed t → tree_of (postorder t) ≡ Some t
 
 abbrev pub PostorderOfTree : Type 0
-PostorderOfTree = (is : List Item) (t : Tree) → tree_of is ≡ Some t → (is ≡ postorder t) × IsWellFormed t
+PostorderOfTree = (is : List Item) (t : Tree) → tree_of is ≡ Some t → (is ≡ postorder t)
+    × IsWellFormed t
 
 -- The items of a node are those of its arguments in order, and then its own.
 abbrev pub ItemsOfNode : Type 0
-ItemsOfNode = (h : Head) (ts : Trees) → postorder (Node h ts) ≡ flat_map postorder (list_of ts) ++ item_of h (count_of ts) ∷ []
+ItemsOfNode = (h : Head) (ts : Trees) → postorder (Node h ts) ≡ flat_map postorder (list_of ts)
+    ++ item_of h (count_of ts) ∷ []
 
 abbrev pub ItemsAreNodes : Type 0
 ItemsAreNodes = (t : Tree) → length (postorder t) ≡ nodes t
@@ -63,7 +65,8 @@ DistinctWithoutRepetition = (ts : List Tree) → IsWithoutRepetition ts → dist
 
 -- A list that holds no other trees has no more different ones, in whatever order they stand.
 abbrev pub DistinctOfPart : Type 0
-DistinctOfPart = (ts us : List Tree) → ((t : Tree) → Contains ts t → Contains us t) → distinct ts ≤ distinct us
+DistinctOfPart = (ts us : List Tree) → ((t : Tree) → Contains ts t → Contains us t)
+    → distinct ts ≤ distinct us
 
 abbrev pub DistinctInAnyOrder : Type 0
 DistinctInAnyOrder = (ts us : List Tree) → IsPermutation ts us → distinct ts ≡ distinct us
@@ -76,4 +79,5 @@ abbrev pub IsClosed : List Tree → Type 0
 IsClosed ts = (t u : Tree) → Contains ts t → Contains (arguments t) u → Contains ts u
 
 abbrev pub ClosedHoldsSubtrees : Type 0
-ClosedHoldsSubtrees = (ts : List Tree) → IsClosed ts → (t u : Tree) → Contains ts t → IsSubtree u t → Contains ts u
+ClosedHoldsSubtrees = (ts : List Tree) → IsClosed ts → (t u : Tree) → Contains ts t → IsSubtree u t
+    → Contains ts u

@@ -54,7 +54,8 @@ push_over h (Some r) = Some (Node h r.0 ∷ r.1)
 abbrev pub push_cell : List Tree → Option (List Tree)
 push_cell [] = None
 push_cell (u ∷ []) = None
-push_cell (u ∷ t ∷ stack) = if may_be_list u then Some (Node head.Cons (More t (More u End)) ∷ stack) else None
+push_cell (u ∷ t ∷ stack) =
+    if may_be_list u then Some (Node head.Cons (More t (More u End)) ∷ stack) else None
 
 abbrev pub push_item : Item → List Tree → Option (List Tree)
 push_item (Var x) stack = Some (Leaf x ∷ stack)

@@ -28,7 +28,8 @@ start_in from es zero = from
 start_in from [] (suc n) = from
 start_in from (e ∷ es) (suc n) = start_in e es n
 
--- nodes in one list, parted by these ends: what stands behind the last end belongs to the term that is begun
+-- nodes in one list, parted by these ends: what stands behind the last end belongs to the term that
+-- is begun
 abbrev pub nodes_in : List ℕ → List Node → Nodes
 nodes_in ends nodes = record {
   terms = parted 0 ends nodes;

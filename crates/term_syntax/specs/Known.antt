@@ -12,7 +12,8 @@ digits (suc n) k = k % 256 ∷ digits n (k / 256)
 abbrev pub name_of : ℕ → ℕ → List ℕ
 name_of size k =
     if nat_le 4 size then take 4 (digits 8 k) ++ drop (12 - size) (digits 8 k)
-    else (if nat_le 2 size then take 2 (digits 4 k) ++ drop (6 - size) (digits 4 k) else digits size k)
+    else (if nat_le 2 size then take 2 (digits 4 k) ++ drop (6 - size) (digits 4 k)
+    else digits size k)
 
 -- the symbol is there; a name that is short is what the number tells, with this number of arguments
 pub record IsNoted (pool : List Named) (n : Noted) : Type 0 where

@@ -7,7 +7,8 @@ use Rattle.read_faults.specs.Fault.{fault}
 use Rattle.term_syntax.specs.Written.{Written, Call, Digits, Listed, Writtens, End, More, count_of}
 use Rattle.symbol_pool.specs.Taking.{with_symbol, is_full_for}
 
--- the parts of a term, and of terms of which so many came before; of a name's arguments the 17th is marked
+-- the parts of a term, and of terms of which so many came before; of a name's arguments the 17th is
+-- marked
 abbrev mutual
   pub parts_of : Bool → Written → List Part
   parts_of over (Call p n ws) =
@@ -56,7 +57,8 @@ abbrev pub unless_fault : Option Refusal → Result (List Named) Refusal → Res
 unless_fault (Some f) r = Err f
 unless_fault None r = r
 
--- the symbols after parts, taken up in the order of the text, or the fault of the first part that has one
+-- the symbols after parts, taken up in the order of the text, or the fault of the first part that
+-- has one
 abbrev pub taken_up : List Named → List Part → Result (List Named) Refusal
 taken_up pool [] = Ok pool
 taken_up pool (p ∷ ps) =

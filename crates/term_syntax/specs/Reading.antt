@@ -37,7 +37,8 @@ pub record IsPartRefused (bytes : List ℕ) (symbols : List Named) (kind offset 
   pub spelled : Spells bytes terms
   pub refused : take_input terms symbols ≡ Err (fault kind offset)
 
--- first a byte or an open quote is refused, else a token or the end, else a name or a number of the terms
+-- first a byte or an open quote is refused, else a token or the end, else a name or a number of the
+-- terms
 abbrev pub IsRefusal : List ℕ → List Named → ReadFail → Type 0
 IsRefusal bytes symbols (Refused kind offset) =
     (tokens_of bytes ≡ Err (fault kind offset))
@@ -47,4 +48,5 @@ IsRefusal bytes symbols Memory = Unit {0}
 -- no symbol was taken up, or the bytes spell terms, and a front of their symbols was
 abbrev pub TookFrontOf : List ℕ → List Named → List Named → Type 0
 TookFrontOf bytes old new =
-    (new ≡ old) ⊎ ((terms : List Written) × Spells bytes terms × TookFront (symbols_in_input terms) old new)
+    (new ≡ old) ⊎ ((terms : List Written) × Spells bytes terms
+    × TookFront (symbols_in_input terms) old new)

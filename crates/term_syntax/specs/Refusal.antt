@@ -24,8 +24,8 @@ pub record IsUnended (tokens : List Token) : Type 0 where
   pub begins : BeginsInput tokens
   pub unended : IsNoInput tokens
 
--- the tokens are refused with this kind at this place, of an input of so many bytes: at the first unexpected
--- token, or at the end of tokens that go on
+-- the tokens are refused with this kind at this place, of an input of so many bytes: at the first
+-- unexpected token, or at the end of tokens that go on
 abbrev pub AreRefused : ℕ → List Token → ℕ → ℕ → Type 0
 AreRefused size tokens kind offset =
     ((kind ≡ 2) × IsFirstUnexpected tokens offset)

@@ -10,16 +10,16 @@ pub data Kind : Type 0 where
   Integer : Option ℕ → Kind
   Brackets : Kind
 
--- a term of the input, in the order of the text: the place of its first byte, whether it is the 17th argument of
--- a name, and how many terms stand in its parentheses or brackets
+-- a term of the input, in the order of the text: the place of its first byte, whether it is the
+-- 17th argument of a name, and how many terms stand in its parentheses or brackets
 pub record Part : Type 0 where
   pub place : ℕ
   pub over : Bool
   pub kind : Kind
   pub count : ℕ
 
--- the place, and what was read so far: open groups, all parts, and the whole terms as nodes, each after the terms
--- in it; those of the term that is being read, and those of the terms before it
+-- the place, and what was read so far: open groups, all parts, and the whole terms as nodes, each
+-- after the terms in it; those of the term that is being read, and those of the terms before it
 pub record Machine : Type 0 where
   pub place : Place
   pub groups : List Group

@@ -1,4 +1,5 @@
--- How the symbols of terms are taken up, in the order of the text: a name comes before its arguments.
+-- How the symbols of terms are taken up, in the order of the text: a name comes before its
+-- arguments.
 use Rattle.std.specs.Prelude.{◌≡◌, ℕ, ◌+◌, List, [], ◌∷◌, ◌++◌, length, ◌||◌, ◌==◌, nat_lt, if◌then◌else◌, Option, Some, None, Result, Ok, Err}
 use Rattle.term_model.specs.Tree as tree
 use Rattle.term_model.specs.Tree.{Tree, Trees, Node}
@@ -10,11 +11,13 @@ use Rattle.read_faults.specs.Fault.{fault}
 use Rattle.term_syntax.specs.Written.{Written, Call, Digits, Listed, Writtens, End, More, count_of, place_of}
 
 -- first one, and where it isn't refused the next
-abbrev pub and_then : Result (List Named) Refusal → (List Named → Result (List Named) Refusal) → Result (List Named) Refusal
+abbrev pub and_then : Result (List Named) Refusal → (List Named → Result (List Named) Refusal)
+    → Result (List Named) Refusal
 and_then (Ok pool) next = next pool
 and_then (Err f) next = Err f
 
--- a name with its number of arguments: of more than 255 bytes it is refused, and where it is one symbol too many
+-- a name with its number of arguments: of more than 255 bytes it is refused, and where it is one
+-- symbol too many
 abbrev pub take_name : ℕ → List ℕ → ℕ → List Named → Result (List Named) Refusal
 take_name place name count pool =
     if nat_lt 255 (length name) || is_full_for pool (named name count) then Err (fault 13 place)
@@ -25,8 +28,8 @@ abbrev pub take_number : ℕ → Option ℕ → List Named → Result (List Name
 take_number place (Some v) pool = Ok pool
 take_number place None pool = Err (fault 17 place)
 
--- the symbols after a term was taken up, or the first refusal in it; of the arguments of a name so many came
--- before, and the 17th is refused
+-- the symbols after a term was taken up, or the first refusal in it; of the arguments of a name so
+-- many came before, and the 17th is refused
 abbrev mutual
   pub take_term : Written → List Named → Result (List Named) Refusal
   take_term (Call p n ws) pool = and_then (take_name p n (count_of ws) pool) (take_arguments 0 ws)
@@ -74,8 +77,8 @@ abbrev pub value_or_zero : Option ℕ → ℕ
 value_or_zero (Some v) = v
 value_or_zero None = 0
 
--- the tree that a written term is, where a name with its number of arguments is a symbol of the pool, and a list
--- is cells that end in the empty list
+-- the tree that a written term is, where a name with its number of arguments is a symbol of the
+-- pool, and a list is cells that end in the empty list
 abbrev mutual
   pub tree_in : List Named → Written → Tree
   tree_in pool (Call p n ws) =

@@ -1,5 +1,5 @@
--- The grammar of term text, a definition for each production. A production relates tokens, what they spell, and
--- the tokens that follow.
+-- The grammar of term text, a definition for each production. A production relates tokens, what
+-- they spell, and the tokens that follow.
 use Rattle.std.specs.Prelude.{ℕ, List, [], ◌∷◌, ◌++◌, Option}
 use Rattle.term_syntax.specs.Token.{Token, Word, Number, At}
 use Rattle.term_syntax.specs.declared.token.Mark.TheVariants.{Open, Close, OpenList, CloseList, Comma}

@@ -2,8 +2,8 @@
 use Rattle.std.specs.Prelude.{ℕ, List, Option}
 use Rattle.term_syntax.specs.declared.token.Mark.{Mark}
 
--- a name, a number or a mark, each with the place of its first byte. A number has no value where it isn't an
--- integer up to 2^64 - 1 without a leading zero
+-- a name, a number or a mark, each with the place of its first byte. A number has no value where it
+-- isn't an integer up to 2^64 - 1 without a leading zero
 pub data Token : Type 0 where
   Word : List ℕ → ℕ → Token
   Number : Option ℕ → ℕ → Token

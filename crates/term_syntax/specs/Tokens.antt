@@ -15,8 +15,9 @@ use Rattle.read_faults.specs.Fault.{fault}
 abbrev pub is_space : ℕ → Bool
 is_space b = b == 32 || b == 9 || b == 13 || b == 10
 
--- what a byte within quotes does. Behind a backslash a quote or a backslash stands for itself; else a quote closes
--- the name, a backslash escapes the next byte, and a printable byte stands for itself. Every other byte is bad
+-- what a byte within quotes does. Behind a backslash a quote or a backslash stands for itself; else
+-- a quote closes the name, a backslash escapes the next byte, and a printable byte stands for
+-- itself. Every other byte is bad
 abbrev pub role_of : Bool → ℕ → Role
 role_of true b = if b == 34 || b == 92 then Stands else Bad
 role_of false b =
@@ -53,14 +54,16 @@ with_byte b (Ok q) = Ok (b ∷ q.0, q.1)
 with_byte b (Err f) = Err f
 
 -- what a byte at this place and the bytes after it come to
-abbrev pub by_role : Role → ℕ → ℕ → (Bool → Result (List ℕ × ℕ) Refusal) → Result (List ℕ × ℕ) Refusal
+abbrev pub by_role : Role → ℕ → ℕ → (Bool → Result (List ℕ × ℕ) Refusal)
+    → Result (List ℕ × ℕ) Refusal
 by_role Closes at b rest = Ok ([], at + 1)
 by_role Escapes at b rest = rest true
 by_role Stands at b rest = with_byte b (rest false)
 by_role Bad at b rest = Err (fault 1 at)
 
--- the quoted name whose bytes go on at this place, behind a backslash or not, and the place after its closing
--- quote; refused at its first bad byte, or at the end of the input where no quote closes it
+-- the quoted name whose bytes go on at this place, behind a backslash or not, and the place after
+-- its closing quote; refused at its first bad byte, or at the end of the input where no quote
+-- closes it
 abbrev pub quoted : ℕ → Bool → List ℕ → Result (List ℕ × ℕ) Refusal
 quoted at behind [] = Err (fault 3 at)
 quoted at behind (b ∷ bs) = by_role (role_of behind b) at b (λ next. quoted (at + 1) next bs)
@@ -95,8 +98,8 @@ number_piece at (b ∷ bs) =
     Whole (Number (integer_of (b ∷ take (front_length is_ascii_digit bs) bs)) at)
     (at + 1 + front_length is_ascii_digit bs)
 
--- what begins at the front of bytes that stand at this place: white space, a plain name, a quoted name, a
--- number or a mark
+-- what begins at the front of bytes that stand at this place: white space, a plain name, a quoted
+-- name, a number or a mark
 abbrev pub piece_at : ℕ → List ℕ → Result Piece Refusal
 piece_at at [] = Ok Blank
 piece_at at (b ∷ bs) =
@@ -126,8 +129,8 @@ abbrev pub read_piece : ℕ → Result Piece Refusal → (ℕ → Result (List T
 read_piece at (Ok p) after = after_piece p (after (next_of at p))
 read_piece at (Err f) after = Err f
 
--- the tokens of the bytes from a place on, or the first refusal; the first `within` bytes belong to the piece
--- that began before
+-- the tokens of the bytes from a place on, or the first refusal; the first `within` bytes belong to
+-- the piece that began before
 abbrev pub tokens_from : ℕ → ℕ → List ℕ → Result (List Token) Refusal
 tokens_from at within [] = Ok []
 tokens_from at (suc within) (b ∷ bs) = tokens_from (at + 1) within bs

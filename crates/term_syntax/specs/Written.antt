@@ -1,5 +1,6 @@
--- A term as it is written: a name with arguments, a number, or a list in brackets, with the place of its first
--- byte. A number has no value where it isn't an integer up to 2^64 - 1 without a leading zero.
+-- A term as it is written: a name with arguments, a number, or a list in brackets, with the place
+-- of its first byte. A number has no value where it isn't an integer up to 2^64 - 1 without a
+-- leading zero.
 use Rattle.std.specs.Prelude.{ℕ, ◌+◌, List, Option}
 
 mutual

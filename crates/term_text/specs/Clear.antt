@@ -10,7 +10,8 @@ pub record IsClear (tally : Tally) : Type 0 where
   pub path : tally.path.items ≡ []
   pub room : HasRoom tally
 
--- there are places for the counts of so many rows, for the list of them, and for a path through them
+-- there are places for the counts of so many rows, for the list of them, and for a path through
+-- them
 pub record HasPlaces (tally : Tally) (rows : ℕ) : Type 0 where
   pub counts : rows ≤ vec_capacity tally.counts
   pub listed : rows ≤ vec_capacity tally.rows

@@ -20,7 +20,8 @@ HasCount s counts t = (r : Row) × HasTree s r t × IsCounted counts r
 -- the arguments of a row's tree before a place are counted
 abbrev pub CountedBefore : Store → List ℕ → Row → ℕ → Type 0
 CountedBefore s counts r n =
-    (j : ℕ) (t : Tree) → j < n → slice_get (arguments (tree_at s r)) j ≡ Some t → HasCount s counts t
+    (j : ℕ) (t : Tree) → j < n → slice_get (arguments (tree_at s r)) j ≡ Some t
+    → HasCount s counts t
 
 -- how many rows are counted
 abbrev pub counted_rows : List ℕ → ℕ

@@ -71,7 +71,8 @@ pub record IsSound (s : Store) : Type 0 where
   pub room : s.room < 2 ^ 32
   pub below : (r : Row) (t : Tree) → HasTree s r t → r.0 < s.rows
   pub one_row : (r q : Row) (t : Tree) → HasTree s r t → HasTree s q t → r ≡ q
-  pub arguments : (r : Row) (t u : Tree) → HasTree s r t → Contains (arguments t) u → (q : Row) × HasTree s q u
+  pub arguments : (r : Row) (t u : Tree) → HasTree s r t → Contains (arguments t) u
+      → (q : Row) × HasTree s q u
   pub well_formed : (r : Row) (t : Tree) → HasTree s r t → IsWellFormed t
   pub ground : (r : Row) (t : Tree) → HasTree s r t → IsGround t
 
@@ -89,9 +90,11 @@ KeepsAll old new = (r : Row) (t : Tree) → HasTree old r t → HasTree new r t
 abbrev pub GainsNone : Store → Store → Type 0
 GainsNone old new = (r : Row) (t : Tree) → HasTree new r t → HasTree old r t
 
--- Rows may be lost. The reachable trees keep their rows, and when any row is lost the epoch is later.
+-- Rows may be lost. The reachable trees keep their rows, and when any row is lost the epoch is
+-- later.
 pub record Loses (old new : Store) : Type 0 where
-  pub reachable : (r : Row) (t : Tree) → HasTree old r t → Contains (reachable old) t → HasTree new r t
+  pub reachable : (r : Row) (t : Tree) → HasTree old r t → Contains (reachable old) t
+      → HasTree new r t
   pub epoch : ((new.epoch ≡ old.epoch) × KeepsAll old new) ⊎ IsLater old.epoch new.epoch
 
 -- The load rises at most to the different subtrees of these trees.

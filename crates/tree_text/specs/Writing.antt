@@ -1,4 +1,5 @@
--- What writing does at each item of a term, from its last to its first. The text is written from its end.
+-- What writing does at each item of a term, from its last to its first. The text is written from
+-- its end.
 use Rattle.std.specs.Prelude.{ℕ, zero, suc, ◌+◌, ◌-◌, ◌<◌, List, [], ◌∷◌, ◌++◌, length, codes, decimal, nat_lt, if◌then◌else◌, Option, Some, None}
 use Rattle.term_model.specs.declared.Symbol.{Symbol}
 use Rattle.term_model.specs.declared.Item.{Item}
@@ -12,8 +13,8 @@ abbrev pub opening : (Symbol → List ℕ) → Option Symbol → List ℕ
 opening spell (Some f) = spell f ++ codes "("
 opening spell None = codes "["
 
--- a term was written under these groups: a comma comes before it, or the opening of a group of which it is the
--- first, which makes another term
+-- a term was written under these groups: a comma comes before it, or the opening of a group of
+-- which it is the first, which makes another term
 abbrev pub arrive : (Symbol → List ℕ) → List Frame → Writer → Writer
 arrive spell [] w = record w { frames = [] }
 arrive spell (f ∷ fs) w =

@@ -1,4 +1,5 @@
--- The entries of desks are those of the passes that they give back, and a log of their lines is one of all these.
+-- The entries of desks are those of the passes that they give back, and a log of their lines is one
+-- of all these.
 use Rattle.std.proofs.Common.{◌≡◌, ℕ, zero, suc, ◌+◌, List, [], ◌∷◌, ◌++◌, get_or, length, map, append_assoc, append-nil, refl, sym, ap, ◌∙◌, arith}
 use Rattle.std.specs.Prelude.{Some, None, Option, IfSome, slice_get, unwrap_or}
 use Rattle.std.proofs.lemmas.Option.{same_Some}

@@ -11,11 +11,19 @@ use Rattle.node_rows.specs.Opening.{IsNew}
 use Rattle.shared_desk.specs.Code.{Contents}
 use Rattle.shared_desk.specs.Passes.{store_of, IsBack}
 
--- As many rows, and as deep, as the settings say; a bucket for each row, all in use from the start; a seat for each worker; and the
--- plan's width.
+-- As many rows, and as deep, as the settings say; a bucket for each row, all in use from the start;
+-- a seat for each worker; and the plan's width.
 abbrev pub sizes_for : Settings → Planned → Sizes
 sizes_for s plan =
-    record { rows = s.rows; buckets = s.rows; start = s.rows; seats = s.workers; depth = s.depth; arity = plan.widest; first = 1 }
+    record {
+      rows = s.rows;
+      buckets = s.rows;
+      start = s.rows;
+      seats = s.workers;
+      depth = s.depth;
+      arity = plan.widest;
+      first = 1;
+    }
 
 -- pass k of a store that is new
 abbrev pub IsNewPass : Store → ℕ → Pass → Type 0

@@ -8,7 +8,8 @@ use Rattle.work_order.specs.Works.{built_of, IsInnermost}
 
 -- all workers at once may need more rows than there are; of outermost rewriting no need is told
 abbrev pub NeedsMore : Settings → List Rule → List Tree → Type 0
-NeedsMore s rules terms = IsInnermost s → s.rows < s.workers * need_of_all rules terms s.fuel s.depth
+NeedsMore s rules terms =
+    IsInnermost s → s.rows < s.workers * need_of_all rules terms s.fuel s.depth
 
 -- and the terms build more different trees than there are rows
 pub record LacksRows (s : Settings) (rules : List Rule) (terms : List Tree) : Type 0 where

@@ -40,7 +40,8 @@ line_of s symbols rules term = record {
 
 -- the events that lead to the value of a term, where they are told and its line is a value
 abbrev pub trace_of : Settings → List Rule → Tree → List Event
-trace_of s rules term = events_of (tells_events s rules) rules term s.fuel (is_value s.sizes (end_of s rules term))
+trace_of s rules term =
+    events_of (tells_events s rules) rules term s.fuel (is_value s.sizes (end_of s rules term))
 
 -- what is told of a term: its line, and the events
 pub record Told : Type 0 where
@@ -51,7 +52,8 @@ abbrev pub told : Traced → Told
 told t = record { line = said t.line; events = t.events.items }
 
 abbrev pub told_of : Settings → List Named → List Rule → Tree → Told
-told_of s symbols rules term = record { line = line_of s symbols rules term; events = trace_of s rules term }
+told_of s symbols rules term =
+    record { line = line_of s symbols rules term; events = trace_of s rules term }
 
 abbrev pub maker_of : Traced → ℕ
 maker_of t = t.line.worker

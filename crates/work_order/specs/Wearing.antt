@@ -9,4 +9,5 @@ use Rattle.work_order.specs.Works.{built_of}
 -- each tree that the terms build, and for each worker one more; each, and two more, may use as many
 -- numbers as there are rows and workers, and one.
 abbrev pub WearsOut : Settings → List Rule → List Tree → Type 0
-WearsOut s rules terms = 2 ^ 62 ≤ (length (built_of s rules terms) + s.workers + 2) * (s.rows + s.workers + 1)
+WearsOut s rules terms =
+    2 ^ 62 ≤ (length (built_of s rules terms) + s.workers + 2) * (s.rows + s.workers + 1)

@@ -16,7 +16,8 @@ use Rattle.term_lines.specs.Tracing.{tells, remembers}
 use Rattle.term_lines.specs.declared.strategy.Strategy.{Strategy}
 use Rattle.term_lines.specs.declared.strategy.Strategy.TheVariants.{Innermost, Outermost}
 
--- A term without variables, of symbols alone that have names and no more arguments than the plan's width.
+-- A term without variables, of symbols alone that have names and no more arguments than the plan's
+-- width.
 pub record IsTermFor (plan : Planned) (symbols : List Named) (term : Tree) : Type 0 where
   pub free : IsGround term
   pub plain : IsPlain plan.widest term
@@ -58,11 +59,14 @@ built_of s rules terms = built_by_all (strategy_of s.command) rules terms s.fuel
 abbrev pub remembers_results : Settings → List Rule → Bool
 remembers_results s rules = remembers (strategy_of s.command) (is_traced s rules) (nat_lt 0 s.cache)
 
--- Trees that terms build after these: all, in order; where results are remembered, a cached list of the terms' points.
+-- Trees that terms build after these: all, in order; where results are remembered, a cached list of
+-- the terms' points.
 abbrev pub AreBuilt : Settings → List Rule → List Tree → (before trees : List Tree) → Type 0
-AreBuilt s rules terms before trees = AreBuiltBy (strategy_of s.command) (remembers_results s rules) rules terms s.fuel s.depth before trees
+AreBuilt s rules terms before trees = AreBuiltBy (strategy_of s.command) (remembers_results s rules)
+    rules terms s.fuel s.depth before trees
 
--- how many trees innermost rewriting has in hand at once, at the term with a number, and at any term
+-- how many trees innermost rewriting has in hand at once, at the term with a number, and at any
+-- term
 abbrev pub need_at : Settings → List Rule → List Tree → ℕ → ℕ
 need_at s rules terms i = need rules (term_at terms i) s.fuel s.depth
 

@@ -15,11 +15,12 @@ times x xs = count_by (λ y. y == x) xs
 abbrev pub once_below : ℕ → ℕ → ℕ
 once_below n x = if nat_lt x n then 1 else 0
 
--- The numbers below the one word are each in one view's list alone, once. A view without a share has none. Each share draws past
--- the end once at most.
+-- The numbers below the one word are each in one view's list alone, once. A view without a share
+-- has none. Each share draws past the end once at most.
 pub record IsDealt (about : Extent) (s : State (Unit {0}) Drawn) : Type 0 where
   pub one_word : length s.words ≡ 1
-  pub once : (x : ℕ) → sum_by (λ v. times x v.numbers) s.views ≡ once_below (slice_index s.words 0) x
+  pub once : (x : ℕ) → sum_by (λ v. times x v.numbers) s.views
+      ≡ once_below (slice_index s.words 0) x
   pub shares : sum_by (λ v. v.shares) s.views ≡ about.shares
   pub idle : (k : ℕ) (v : Drawn) → get_elem? s.views k ≡ some v → v.shares ≡ 0 → v.numbers ≡ []
   pub end : (k : ℕ) (v : Drawn) → get_elem? s.views k ≡ some v → 0 < v.shares → v.end ≡ about.end
@@ -33,7 +34,12 @@ undrawn about = record { numbers = []; shares = about.shares; end = about.end; p
 
 -- with the number found
 abbrev pub drew : Drawn → ℕ → Drawn
-drew v n = record { numbers = v.numbers ++ n ∷ []; shares = v.shares; end = v.end; past = if nat_lt n v.end then v.past else v.past + 1 }
+drew v n = record {
+  numbers = v.numbers ++ n ∷ [];
+  shares = v.shares;
+  end = v.end;
+  past = if nat_lt n v.end then v.past else v.past + 1;
+}
 
 -- what a draw tells: the number found is drawn, and is above all that were drawn before
 abbrev pub Draws : Step (Unit {0}) → Me (Unit {0}) Drawn → ℕ → Me (Unit {0}) Drawn → Type 0
@@ -52,7 +58,12 @@ one_share v = record { numbers = []; shares = 1; end = v.end; past = 0 }
 
 -- what two drew together; the second is left with nothing
 abbrev pub joined : Drawn → Drawn → Drawn
-joined v w = record { numbers = v.numbers ++ w.numbers; shares = v.shares + w.shares; end = w.end; past = v.past + w.past }
+joined v w = record {
+  numbers = v.numbers ++ w.numbers;
+  shares = v.shares + w.shares;
+  end = w.end;
+  past = v.past + w.past;
+}
 
 abbrev pub spent : Drawn
 spent = record { numbers = []; shares = 0; end = 0; past = 0 }

@@ -11,12 +11,14 @@ use Rattle.worker_crew.specs.declared.share.Share.{Share}
 use Rattle.worker_crew.specs.Dealt.{IsIn, times, once_below}
 use Rattle.worker_crew.specs.Crews.{number_of, drawn_of}
 
--- The fault of several ends: want of memory goes before want of numbers, and that before want of rows.
+-- The fault of several ends: want of memory goes before want of numbers, and that before want of
+-- rows.
 abbrev pub IsWorst : List (Result (Unit {0}) LineStop) → Option AllFault → Type 0
 IsWorst ends None = All (λ end. end ≡ Ok tt) ends
 IsWorst ends (Some Memory) = Contains ends (Err stop.Memory)
 IsWorst ends (Some Worn) = Contains ends (Err stop.Worn) × (Contains ends (Err stop.Memory) → ⊥)
-IsWorst ends (Some StoreFull) = Contains ends (Err stop.StoreFull) × (Contains ends (Err stop.Worn) → ⊥) × (Contains ends (Err stop.Memory) → ⊥)
+IsWorst ends (Some StoreFull) = Contains ends (Err stop.StoreFull)
+    × (Contains ends (Err stop.Worn) → ⊥) × (Contains ends (Err stop.Memory) → ⊥)
 
 abbrev pub end_of_share : Share → Result (Unit {0}) LineStop
 end_of_share share = share.end
@@ -32,7 +34,8 @@ HasPlaces count made = All (λ x. x.number < count) made
 
 -- one of these lines is at the place of its number
 abbrev pub IsPlaced : List Numbered → List Traced → ℕ → Type 0
-IsPlaced made lines i = (line : Traced) × (slice_get lines i ≡ Some line) × Contains made (record { number = i; line = line })
+IsPlaced made lines i = (line : Traced) × (slice_get lines i ≡ Some line)
+    × Contains made (record { number = i; line = line })
 
 -- Each place has one of the lines with its number; where there is none it has what it had.
 abbrev pub Places : List Numbered → List Traced → List Traced → Type 0
@@ -43,7 +46,8 @@ Places made old new = (i : ℕ) → i < length old → IsPlaced made new i
 abbrev pub PlacesAll : List Share → List Traced → List Traced → Type 0
 PlacesAll shares old new = (i : ℕ) → i < length old →
     ((share : Share) × Contains shares share × IsPlaced share.lines.items new i)
-    ⊎ ((slice_get new i ≡ slice_get old i) × All (λ (share : Share). times i (map number_of share.lines.items) ≡ 0) shares)
+    ⊎ ((slice_get new i ≡ slice_get old i)
+    × All (λ (share : Share). times i (map number_of share.lines.items) ≡ 0) shares)
 
 -- some count of numbers was drawn, each of those below it once
 pub record DrawnOnce (shares : List Share) : Type 0 where
