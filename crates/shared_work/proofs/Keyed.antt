@@ -15,7 +15,7 @@ use Rattle.node_rows.specs.declared.store.Pass.{Pass}
 use Rattle.node_rows.specs.Told.{Tells, view_of}
 use Rattle.worker_crew.specs.declared.fault.AllFault.{AllFault}
 use Rattle.worker_crew.specs.declared.lines.Lines.{Lines}
-use Rattle.work_desks.specs.Keys.{HasKeys, is_told, told_log}
+use Rattle.work_desks.specs.Keys.{HasKeys, has_log_key, told_log}
 use Rattle.work_desks.proofs.Logging.{entries_of_pass}
 use Rattle.shared_work.specs.Running.{HasRun}
 use Rattle.shared_work.specs.Sharing.{EachRises}
@@ -58,7 +58,7 @@ still_told P old (Some text) same h = subst (λ o. IfSome o P) same h
 
 -- a log that is told was there before
 pub told_before : {A : Type 0} (log new : Option A) (ps : List Pass) → new ≡ told_log log ps → IfSome new (λ text. log ≡ Some text)
-told_before {A} log new ps e = subst (λ o. IfSome o (λ text. log ≡ Some text)) (sym e) (by (list_all is_told ps) log)
+told_before {A} log new ps e = subst (λ o. IfSome o (λ text. log ≡ Some text)) (sym e) (by (list_all has_log_key ps) log)
   where
     by : (b : Bool) (log : Option A) → IfSome (if b then log else None) (λ text. log ≡ Some text)
     by true None = tt

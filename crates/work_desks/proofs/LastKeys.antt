@@ -11,7 +11,7 @@ use Rattle.history_core.specs.Chronicle.{KeysRise}
 use Rattle.log_text.specs.Keys.{HaveKeys}
 use Rattle.node_rows.specs.declared.store.Pass.{Pass}
 use Rattle.node_rows.specs.Told.{told_by, last_from, last_in, view_of}
-use Rattle.work_desks.specs.Keys.{number_of, HasKeys, is_told}
+use Rattle.work_desks.specs.Keys.{number_of, HasKeys, has_log_key}
 
 own_key : (e : Entry) → number_of (told_by e) ≡ key e
 own_key (entry.Make number head args row) = refl
@@ -32,11 +32,11 @@ keys_by_last [] low rise = tt
 keys_by_last (e ∷ es) low rise = from_last e es rise low
 
 -- so are those of all passes whose last keys a log may tell
-all_keys : (passes : List Pass) → list_all is_told passes ≡ true → All (λ p. HasKeys (view_of p).store.entries) passes
+all_keys : (passes : List Pass) → list_all has_log_key passes ≡ true → All (λ p. HasKeys (view_of p).store.entries) passes
 all_keys passes e k d lt =
-    let told : is_told (get_or passes k d) ≡ true = AllPass-from_list_all is_told passes e k d lt in
+    let told : has_log_key (get_or passes k d) ≡ true = AllPass-from_list_all has_log_key passes e k d lt in
     keys_by_last (view_of (get_or passes k d)).store.entries (ltb-true (number_of (last_in (view_of (get_or passes k d)).store.entries)) (2 ^ 62) told)
 
-pub keys_told : {A : Type 0} (log : Option A) (passes : List Pass) → list_all is_told passes ≡ true → IfSome log (λ _. All (λ p. HasKeys (view_of p).store.entries) passes)
+pub keys_told : {A : Type 0} (log : Option A) (passes : List Pass) → list_all has_log_key passes ≡ true → IfSome log (λ _. All (λ p. HasKeys (view_of p).store.entries) passes)
 keys_told None passes e = tt
 keys_told (Some text) passes e = all_keys passes e

@@ -21,10 +21,10 @@ number_of (Collect number) = number
 abbrev pub HasKeys : List Entry → Type 0
 HasKeys entries = KeysRise entries → HaveKeys entries
 
--- whether a log may tell a pass's last key, which is the greatest where they rise
-abbrev pub is_told : Pass → Bool
-is_told p = nat_lt (number_of (last_in (view_of p).store.entries)) (2 ^ 62)
+-- whether a log may tell a pass's last key: the greatest, where its keys rise
+abbrev pub has_log_key : Pass → Bool
+has_log_key p = nat_lt (number_of (last_in (view_of p).store.entries)) (2 ^ 62)
 
 -- the log, or none where a pass has a last key that no log tells
 abbrev pub told_log : {A : Type 0} → Option A → List Pass → Option A
-told_log log passes = if list_all is_told passes then log else None
+told_log log passes = if list_all has_log_key passes then log else None

@@ -2,7 +2,7 @@
 ghost use Rattle.std.specs.Prelude.{◌≡◌, All, IfSome};
 ghost use Rattle.std.specs.List.{list_all};
 ghost use Rattle.node_rows.specs.Told.{Tells, view_of};
-ghost use Rattle.work_desks.specs.Keys.{number_of, HasKeys, is_told, told_log};
+ghost use Rattle.work_desks.specs.Keys.{number_of, HasKeys, has_log_key, told_log};
 
 use log_text::LogText;
 use node_rows::{Last, Pass, last};
@@ -22,20 +22,20 @@ fn number_of(told: Last) -> u64
 }
 
 // Whether a log may tell a pass's last key.
-fn is_told(pass: &Pass) -> bool
+fn has_log_key(pass: &Pass) -> bool
     requires told { Tells pass.now }
-    ensures { result ≡ is_told pass.now }
+    ensures { result ≡ has_log_key pass.now }
 {
     number_of(last(pass)) < KEYS
 }
 
 // Whether it may tell that of each pass.
-fn are_told(passes: &[Pass]) -> bool
+fn have_log_keys(passes: &[Pass]) -> bool
     requires told { All Tells passes.now }
-    ensures { result ≡ list_all is_told passes.now }
+    ensures { result ≡ list_all has_log_key passes.now }
 {
     for pass in passes {
-        if !is_told(pass) {
+        if !has_log_key(pass) {
             return false;
         }
     }
@@ -43,11 +43,11 @@ fn are_told(passes: &[Pass]) -> bool
 }
 
 /// The log, where the last key of each pass is below 2^62, and else None. With a log the keys of
-/// all their entries are.
+/// all their entries are, where they rise.
 pub fn with_keys(log: Option<LogText>, passes: &[Pass]) -> Option<LogText>
     requires told { All Tells passes.now }
-    ensures result { result ≡ told_log log passes.now }
+    ensures log { result ≡ told_log log passes.now }
     ensures keys { IfSome result (λ _. All (λ p. HasKeys (view_of p).store.entries) passes.now) }
 {
-    if are_told(passes) { log } else { None }
+    if have_log_keys(passes) { log } else { None }
 }

@@ -1,5 +1,5 @@
-//! What workers are asked: terms, by which rules and settings they are rewritten, and what is told of
-//! each.
+//! What workers are asked: terms, and by which rules and settings they are rewritten; and what is
+//! told of each.
 #![tactic(auto)]
 
 mod work;

@@ -43,7 +43,7 @@ returns-in-Ok g c =
       numbers = told.numbers;
       bases = told.bases;
     })
-    (told_before left.log c.with_keys-log.result c.deref.result.now c.with_keys-log.ensures.result)
+    (told_before left.log c.with_keys-log.result c.deref.result.now c.with_keys-log.ensures.log)
     (subst (λ (ps : List Pass). IfSome c.with_keys-log.result (λ _. All (λ p. HasKeys (view_of p).store.entries) ps)) c.deref.ensures.value c.with_keys-log.ensures.keys)
 
 pub returns-in-Err : goal.returns-in-Err
