@@ -17,6 +17,7 @@ mod nodes;
 mod normal;
 mod normalizing;
 mod outward;
+mod over_values;
 mod places;
 mod rebuilding;
 mod reducing;
