@@ -9,7 +9,7 @@ use Rattle.term_model.specs.Tree.{Tree, Node, trees_of, subtrees, distinct, may_
 use Rattle.terms_api.specs.Terms.{HasTree, KeepsAll, trees, reachable, last, but_last, asked, IsSound, MayBuild, NeedsPlace}
 use Rattle.terms_api.proofs.Staying.{trees-built}
 use Rattle.plain_store.specs.Contents.{Contents, store_of, placed, collected, kept_trees, kept_among, refused, IsAbsent, IsFreeRow, HasNoFree, IsFilled, IsSame, Collected, LosesRow, CountsLosses, once_more, IsUsedUp}
-use Rattle.plain_store.specs.Outcome.{HoldsReachable, IsBuilt, IsRefused}
+use Rattle.plain_store.specs.Outcome.{HoldsReachable, IsBuilt, IsRefused, IsMade}
 use Rattle.plain_store.proofs.Placing.{IsPlace, place_found, place_free, sound_placed, built_placed, has_kept, has_it}
 use Rattle.plain_store.proofs.Keeping.{Raises, had, keeps, kept_at, loses_collected, trees_collected, sound_collected}
 use Rattle.plain_store.proofs.Crowding.{room_left, all_full}
@@ -65,15 +65,34 @@ built_at c h n r sound may place p filled =
     }
 
 -- the tree had a row
-pub outcome_found : (c : Contents) (h : Head) (n : ℕ) (r : Row) → IsSound (store_of c) → HoldsReachable c → MayBuild (store_of c) h n → (NeedsPlace (store_of c) n → ⊥) → HasTree (store_of c) r (asked (store_of c) h n) → IsBuilt c (placed c h n r) h n
+outcome_found : (c : Contents) (h : Head) (n : ℕ) (r : Row) → IsSound (store_of c) → HoldsReachable c → MayBuild (store_of c) h n → (NeedsPlace (store_of c) n → ⊥) → HasTree (store_of c) r (asked (store_of c) h n) → IsBuilt c (placed c h n r) h n
 outcome_found c h n r sound holds may place has =
     built_at c h n r sound may place (place_found c h n r sound has) (found_not_filled c h n r sound holds has)
 
 -- a row was free
-pub outcome_made : (c : Contents) (h : Head) (n : ℕ) (r : Row) → IsSound (store_of c) → HoldsReachable c → MayBuild (store_of c) h n → (NeedsPlace (store_of c) n → ⊥) → IsAbsent c (asked (store_of c) h n) → IsFreeRow c r → IsBuilt c (placed c h n r) h n
+outcome_made : (c : Contents) (h : Head) (n : ℕ) (r : Row) → IsSound (store_of c) → HoldsReachable c → MayBuild (store_of c) h n → (NeedsPlace (store_of c) n → ⊥) → IsAbsent c (asked (store_of c) h n) → IsFreeRow c r → IsBuilt c (placed c h n r) h n
 outcome_made c h n r sound holds may place absent free =
     built_at c h n r sound may place (place_free c h n r free.below free.free absent)
     (free_not_filled c h n r.0 holds free.below (kept_at c r ∙ ap (kept_among (reachable (store_of c))) free.free))
+
+-- each without a loss
+pub made_found : (c : Contents) (h : Head) (n : ℕ) (r : Row) → IsSound (store_of c) → HoldsReachable c → MayBuild (store_of c) h n → (NeedsPlace (store_of c) n → ⊥) → HasTree (store_of c) r (asked (store_of c) h n) → IsMade c (placed c h n r) h n
+made_found c h n r sound holds may place has =
+    record {
+      built = outcome_found c h n r sound holds may place has;
+      keeps = λ q u k. has_kept c h n r (place_found c h n r sound has) q u k;
+      raised = refl;
+      not_used_up = λ used. used.absent r has;
+    }
+
+pub made_free : (c : Contents) (h : Head) (n : ℕ) (r : Row) → IsSound (store_of c) → HoldsReachable c → MayBuild (store_of c) h n → (NeedsPlace (store_of c) n → ⊥) → IsAbsent c (asked (store_of c) h n) → IsFreeRow c r → IsMade c (placed c h n r) h n
+made_free c h n r sound holds may place absent free =
+    record {
+      built = outcome_made c h n r sound holds may place absent free;
+      keeps = λ q u k. has_kept c h n r (place_free c h n r free.below free.free absent) q u k;
+      raised = refl;
+      not_used_up = λ used. used.full r.0 free.below free.free;
+    }
 
 -- after a collection the same is asked
 asked_collected : (c : Contents) (raised : ℕ) (h : Head) (n : ℕ) → IsSound (store_of c) → asked (store_of (collected c raised)) h n ≡ asked (store_of c) h n

@@ -1,12 +1,12 @@
 -- What a build comes to.
-use Rattle.std.specs.Prelude.{◌≡◌, ◌+◌, [], ◌∷◌, ◌++◌, Result, Ok, Err, Contains}
+use Rattle.std.specs.Prelude.{◌≡◌, ◌+◌, ◌⊎◌, [], ◌∷◌, ◌++◌, Bool, true, false, Result, Ok, Err, Contains}
 use Rattle.term_model.specs.declared.Row.{Row}
 use Rattle.term_model.specs.declared.Head.{Head}
 use Rattle.term_model.specs.Tree.{Tree}
 use Rattle.std.specs.Prelude.{ℕ}
 use Rattle.terms_api.specs.declared.terms.BuildFault.{BuildFault}
 use Rattle.terms_api.specs.declared.terms.BuildFault.TheVariants.{Deep, StoreFull, Worn}
-use Rattle.terms_api.specs.Terms.{HasTree, IsSound, NeedsPlace, Built, NotBuilt, IsCrowded, trees, reachable, but_last, asked}
+use Rattle.terms_api.specs.Terms.{HasTree, KeepsAll, IsSound, NeedsPlace, Built, NotBuilt, IsCrowded, trees, reachable, but_last, asked}
 use Rattle.plain_store.specs.Contents.{Contents, store_of, IsSame, IsFilled, LosesRow, CountsLosses, IsUsedUp}
 
 -- every tree that can be reached from the stack has a row
@@ -43,3 +43,15 @@ Outcome old new h n (Ok _) = IsBuilt old new h n
 Outcome old new h n (Err Deep) = (new ≡ old) × NeedsPlace (store_of old) n
 Outcome old new h n (Err StoreFull) = IsRefused old new h n
 Outcome old new h n (Err Worn) = ⊥
+
+-- The tree was built, and no row was lost: the tree had a row, or one was free.
+pub record IsMade (old new : Contents) (h : Head) (n : ℕ) : Type 0 where
+  pub built : IsBuilt old new h n
+  pub keeps : KeepsAll (store_of old) (store_of new)
+  pub raised : new.raised ≡ old.raised
+  pub not_used_up : IsUsedUp old h n → ⊥
+
+-- what a build comes to that never collects
+abbrev pub Tried : Contents → Contents → Head → ℕ → Bool → Type 0
+Tried old new h n true = IsMade old new h n
+Tried old new h n false = (new ≡ old) × (NeedsPlace (store_of old) n ⊎ IsUsedUp old h n)

@@ -1,6 +1,6 @@
 // The store as its callers see it.
-ghost use Rattle.std.specs.Prelude.{◌≡◌, ◌+◌, ◌-◌, ◌^◌, ◌<◌, ◌↔◌, Option, Some, None, Result, OnOk, OnErr, IsErrOf, IsNone, IfSome, true, false, [], ◌∷◌, ◌++◌};
-ghost use Rattle.terms_api.specs.Terms.{IsSound, MayBuild, Entered, Breathed, Built as BuiltOf, NotBuilt, NeedsPlace, IsCrowded, CountsRefusal, trees, but_last, asked};
+ghost use Rattle.std.specs.Prelude.{◌≡◌, ◌+◌, ◌-◌, ◌^◌, ◌<◌, ◌⊎◌, ◌↔◌, Option, Some, None, Result, OnOk, OnErr, IsErrOf, IsNone, IfSome, true, false, [], ◌∷◌, ◌++◌};
+ghost use Rattle.terms_api.specs.Terms.{IsSound, KeepsAll, MayBuild, Entered, Breathed, Built as BuiltOf, NotBuilt, NeedsPlace, IsCrowded, CountsRefusal, trees, but_last, asked};
 ghost use Rattle.plain_store.specs.Contents.{store_of, IsFilled, IsSame, LosesRow, CountsLosses, IsUsedUp};
 
 use crate::PlainStore;
@@ -111,7 +111,32 @@ impl Terms for PlainStore {
             → IsUsedUp self.old head n }
     {
         let _ = self.is_full();
-        self.try_build(head, n)
+        self.build_tree(head, n)
+    }
+
+    /// Finds the tree's row, or takes a free one. It says no exactly where `build` collects or
+    /// answers Deep.
+    fn try_build(&mut self, head: Head, n: u32) -> bool
+        requires inside { (store_of self.old).inside ≡ true }
+        requires may { MayBuild (store_of self.old) head n }
+        ensures ok { result ≡ true → BuiltOf (store_of self.old) (store_of self.new) head n }
+        ensures trees { result ≡ true → trees (store_of self.new)
+            ≡ but_last n (trees (store_of self.old)) ++ asked (store_of self.old) head n ∷ [] }
+        ensures unchanged { result ≡ false → store_of self.new ≡ store_of self.old }
+        ensures was_sound { IsSound (store_of self.old) }
+        ensures refusals { (store_of self.new).refusals ≡ (store_of self.old).refusals }
+        ensures sound { IsSound (store_of self.new) }
+        ensures same { IsSame self.old self.new }
+        ensures nothing { result ≡ false → self.new ≡ self.old }
+        ensures no_only_where_late { result ≡ false
+            → NeedsPlace (store_of self.old) n ⊎ IsUsedUp self.old head n }
+        ensures no_place_is_no { NeedsPlace (store_of self.old) n → result ≡ false }
+        ensures used_up_is_no { IsUsedUp self.old head n → result ≡ false }
+        ensures keeps_rows { KeepsAll (store_of self.old) (store_of self.new) }
+        ensures keeps_epoch { self.new.raised ≡ self.old.raised }
+    {
+        let _ = self.is_full();
+        self.try_tree(head, n)
     }
 
     fn keep(&mut self, from: u32, top: u32) {

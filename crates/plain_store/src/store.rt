@@ -1,11 +1,11 @@
 // The store.
-ghost use Rattle.std.specs.Prelude.{◌≡◌, ◌<◌, ◌≤◌, ◌↔◌, IsTrue, IfOk, IfSome, IfNone, length, max};
+ghost use Rattle.std.specs.Prelude.{◌≡◌, ◌<◌, ◌≤◌, ◌⊎◌, ◌↔◌, IsTrue, IfOk, IfSome, IfNone, length, max};
 ghost use Rattle.terms_api.specs.Terms.{HasTree, asked, last, IsSound, MayBuild, NeedsPlace};
 ghost use Rattle.plain_store.specs.Hash.{hash};
 ghost use Rattle.plain_store.specs.Slots.{some_count};
 ghost use Rattle.plain_store.specs.Looks.{LooksFor};
-ghost use Rattle.plain_store.specs.Outcome.{HoldsReachable, Outcome};
-ghost use Rattle.plain_store.specs.Contents.{store_of, empty, placed, refused, IsAbsent, IsFreeRow, HasNoFree, Collected};
+ghost use Rattle.plain_store.specs.Outcome.{HoldsReachable, Outcome, Tried};
+ghost use Rattle.plain_store.specs.Contents.{store_of, empty, placed, refused, IsAbsent, IsFreeRow, HasNoFree, IsUsedUp, Collected};
 
 use crate::collecting::{keep_reachable, raised_once};
 use crate::event::Event;
@@ -92,7 +92,9 @@ impl PlainStore {
     /// The hash of the head over the last `n` places.
     fn hash(&self, head: Head, n: u32) -> u64
         requires { n ≤ length self.now.stack }
-        ensures { result ≡ hash head (last n self.now.stack) }
+        ensures hashed { result ≡ hash head (last n self.now.stack) }
+        ensures sound { IsSound (store_of self.now) }
+        ensures holds { HoldsReachable self.now }
     {
         hash_of(head, self.places.last(n as usize))
     }
@@ -158,51 +160,78 @@ impl PlainStore {
         self.history = self.history.and(&self.places, &Event::Refused);
     }
 
-    /// Finds the tree's row, or takes a free one, or collects and takes one that was freed.
+    /// Finds the tree's row, or takes a free one, and says whether there was one.
     #[inline(always)]
-    pub(crate) fn try_build(&mut self, head: Head, n: u32) -> Result<(), BuildFault>
+    pub(crate) fn try_tree(&mut self, head: Head, n: u32) -> bool
         requires { MayBuild (store_of self.old) head n }
-        ensures { Outcome self.old self.new head n result }
+        ensures tried { Tried self.old self.new head n result }
     {
         if self.needs_place(n) {
-            return Err(BuildFault::Deep);
+            return false;
         }
         match self.find_first(head, n) {
             Look::Found(row) => {
                 self.place(head, n, row);
-                Ok(())
+                true
             }
-            Look::Missed(hashed) => self.build_further(head, n, hashed),
-            Look::Many => self.build_many(head, n),
+            Look::Missed(hashed) => self.try_further(head, n, hashed),
+            Look::Many => self.try_many(head, n),
         }
     }
 
     /// The same where there are more than two arguments.
     #[inline(never)]
-    fn build_many(&mut self, head: Head, n: u32) -> Result<(), BuildFault>
+    fn try_many(&mut self, head: Head, n: u32) -> bool
         requires may { MayBuild (store_of self.old) head n }
         requires room { NeedsPlace (store_of self.old) n → ⊥ }
-        ensures { Outcome self.old self.new head n result }
+        ensures tried { Tried self.old self.new head n result }
     {
         let hashed = self.hash(head, n);
-        self.build_further(head, n, hashed)
+        self.try_further(head, n, hashed)
     }
 
     /// The same where the row isn't at the place of its hash, by the hash.
     #[inline(never)]
-    fn build_further(&mut self, head: Head, n: u32, hashed: u64) -> Result<(), BuildFault>
+    fn try_further(&mut self, head: Head, n: u32, hashed: u64) -> bool
         requires may { MayBuild (store_of self.old) head n }
         requires room { NeedsPlace (store_of self.old) n → ⊥ }
         requires hashed { hashed ≡ hash head (last n self.old.stack) }
-        ensures { Outcome self.old self.new head n result }
+        ensures tried { Tried self.old self.new head n result }
     {
         if let Some(row) = self.find(head, n, hashed) {
             self.place(head, n, row);
+            return true;
+        }
+        match self.make(head, n, hashed) {
+            Some(_made) => true,
+            None => false,
+        }
+    }
+
+    /// Finds the tree's row, or takes a free one, or collects and takes one that was freed.
+    #[inline(always)]
+    pub(crate) fn build_tree(&mut self, head: Head, n: u32) -> Result<(), BuildFault>
+        requires { MayBuild (store_of self.old) head n }
+        ensures { Outcome self.old self.new head n result }
+    {
+        if self.try_tree(head, n) {
             return Ok(());
         }
-        if let Some(_made) = self.make(head, n, hashed) {
-            return Ok(());
+        self.build_late(head, n)
+    }
+
+    /// Where a try said no: collects and takes a row that was freed.
+    #[cold]
+    #[inline(never)]
+    fn build_late(&mut self, head: Head, n: u32) -> Result<(), BuildFault>
+        requires may { MayBuild (store_of self.old) head n }
+        requires late { NeedsPlace (store_of self.old) n ⊎ IsUsedUp self.old head n }
+        ensures { Outcome self.old self.new head n result }
+    {
+        if self.needs_place(n) {
+            return Err(BuildFault::Deep);
         }
+        let hashed = self.hash(head, n);
         self.collect();
         if let Some(_made) = self.make(head, n, hashed) {
             return Ok(());

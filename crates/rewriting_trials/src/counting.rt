@@ -197,6 +197,18 @@ impl Terms for Counting {
         answer
     }
 
+    /// Looks at what was protected, and counts the tree where it is built. What isn't built is no
+    /// refusal.
+    fn try_build(&mut self, head: Head, n: u32) -> bool {
+        let _ = self.store.depth();
+        self.look();
+        let is_built = self.store.try_build(head, n);
+        if is_built {
+            self.count_build(true);
+        }
+        is_built
+    }
+
     /// Looks at what was protected, and lets places go.
     fn keep(&mut self, from: u32, top: u32) {
         self.look();

@@ -133,6 +133,15 @@ impl Terms for Watched {
         answer
     }
 
+    /// Compares the tree with the next that is wanted, and builds it where that needs no collection.
+    fn try_build(&mut self, head: Head, n: u32) -> bool {
+        let _ = self.store.depth();
+        self.compare(head, n);
+        let is_built = self.store.try_build(head, n);
+        self.count_build(is_built);
+        is_built
+    }
+
     fn keep(&mut self, from: u32, top: u32) {
         self.store.keep(from, top);
     }

@@ -10,9 +10,9 @@ use term_create::Full;
 use term_model::{Head, Row};
 use terms_api::BuildFault;
 
-// Creates over the last `n` places, in shared access.
+/// Creates over the last `n` places, in shared access.
 #[inline(always)]
-fn try_create<S: SharedPass>(
+pub(crate) fn try_create<S: SharedPass>(
     pass: &mut S,
     places: &mut Stack,
     head: Head,
@@ -258,6 +258,36 @@ fn build_pushed<S: SharedPass>(
     build_late(pass, places, head, rows.len() as u32)
 }
 
+/// Creates over rows that needn't be on the stack, in shared access, and puts the row on it.
+#[inline(always)]
+pub(crate) fn try_create_over<S: SharedPass>(
+    pass: &mut S,
+    places: &mut Stack,
+    head: Head,
+    rows: &[Row],
+) -> Result<(), Full>
+    requires inside { IsIn (S.view pass.old) places.old }
+    requires held { All (IsHeld (store (S.view pass.old) places.old.items)) rows.now }
+    requires room { length places.old.items + length rows.now ≤ (S.view pass.old).depth }
+    requires may { MayBuild (store (S.view pass.old) (places.old.items ++ rows.now)) head
+        (length rows.now) }
+    requires place { NeedsPlace (store (S.view pass.old) (places.old.items ++ rows.now))
+        (length rows.now) → ⊥ }
+    ensures placed { OnOk result (Creates (S.view pass.old) (S.view pass.new)
+        (places.old.items ++ rows.now) places.new.items head (length rows.now)) }
+    ensures unchanged { OnErr result (S.view pass.new ≡ S.view pass.old) }
+    ensures stack { OnErr result (places.new ≡ places.old) }
+    ensures inside { IsIn (S.view pass.new) places.new }
+{
+    match pass.create(head, rows) {
+        Ok(row) => {
+            places.put(0, row);
+            Ok(())
+        }
+        Err(full) => Err(full),
+    }
+}
+
 /// Creates over rows that needn't be on the stack, and puts the row on it. Where the store is full
 /// it puts them there first, and collects and creates.
 #[inline(always)]
@@ -278,11 +308,8 @@ pub(crate) fn build_over<S: SharedPass>(
         places.new.items head (length rows.now) result }
     ensures inside { IsIn (S.view pass.new) places.new }
 {
-    match pass.create(head, rows) {
-        Ok(row) => {
-            places.put(0, row);
-            Ok(())
-        }
+    match try_create_over(pass, places, head, rows) {
+        Ok(()) => Ok(()),
         Err(_) => build_pushed(pass, places, head, rows),
     }
 }

@@ -1,5 +1,5 @@
 // What every store of terms offers.
-ghost use Rattle.std.specs.Prelude.{◌≡◌, ◌+◌, ◌<◌, ◌≤◌, ◌↔◌, Option, Some, All, Result, OnOk, OnErr, IsErr, IsErrOf, true, false, [], ◌∷◌, ◌++◌, length, slice_get};
+ghost use Rattle.std.specs.Prelude.{◌≡◌, ◌+◌, ◌<◌, ◌≤◌, ◌↔◌, Option, Some, All, Result, OnOk, OnErr, IsErr, IsErrOf, true, false, false, [], ◌∷◌, ◌++◌, length, slice_get};
 ghost use Rattle.term_model.specs.Tree.{arguments, root};
 ghost use Rattle.terms_api.specs.Terms.{Store, IsHeld, IsSound, tree_at, Entered, Left, Breathed, pushed, pushed_all, kept, MayBuild, Built, NotBuilt, NeedsPlace, IsCrowded, CountsRefusal, trees, but_last, asked};
 
@@ -220,6 +220,52 @@ pub trait Terms {
             let _ = self.push(*row);
         }
         self.build(head, rows.len() as u32)
+    }
+
+    /// Builds as `build` does where that needs no collection and no wait, and says whether it did.
+    /// Else nothing happens, and `build` is to be asked. A store may always say no, as here.
+    fn try_build(&mut self, head: Head, n: u32) -> bool
+        requires inside { (store self.old).inside ≡ true }
+        requires may { MayBuild (store self.old) head n }
+        ensures ok { result ≡ true → Built (store self.old) (store self.new) head n }
+        ensures trees { result ≡ true → trees (store self.new)
+            ≡ but_last n (trees (store self.old)) ++ asked (store self.old) head n ∷ [] }
+        ensures unchanged { result ≡ false → store self.new ≡ store self.old }
+        ensures was_sound { IsSound (store self.old) }
+        ensures refusals { (store self.new).refusals ≡ (store self.old).refusals }
+        ensures sound { IsSound (store self.new) }
+        ensures same { same self.old self.new }
+    {
+        let _ = self.depth();
+        false
+    }
+
+    /// Builds as `build_of` does where that needs no collection and no wait, and says whether it did.
+    /// Else nothing happens, and `build_of` is to be asked. A store may always say no.
+    fn try_build_of(&mut self, head: Head, rows: &[Row]) -> bool
+        requires inside { (store self.old).inside ≡ true }
+        requires held { All (IsHeld (store self.old)) rows.now }
+        requires places { length (store self.old).stack + length rows.now ≤ (store self.old).room }
+        requires may { MayBuild (pushed_all (store self.old) rows.now) head (length rows.now) }
+        ensures ok { result ≡ true → Built (pushed_all (store self.old) rows.now) (store self.new)
+            head (length rows.now) }
+        ensures trees { result ≡ true → trees (store self.new) ≡ trees (store self.old)
+            ++ asked (pushed_all (store self.old) rows.now) head (length rows.now) ∷ [] }
+        ensures unchanged { result ≡ false → store self.new ≡ store self.old }
+        ensures was_sound { IsSound (store self.old) }
+        ensures refusals { (store self.new).refusals ≡ (store self.old).refusals }
+        ensures sound { IsSound (store self.new) }
+        ensures same { same self.old self.new }
+    {
+        let below = self.depth();
+        for row in rows {
+            let _ = self.push(*row);
+        }
+        if self.try_build(head, rows.len() as u32) {
+            return true;
+        }
+        self.keep(below, 0);
+        false
     }
 
     /// Leaves the lowest `from` and the last `top` places of the stack.

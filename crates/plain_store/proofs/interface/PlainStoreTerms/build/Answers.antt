@@ -3,7 +3,7 @@ use Rattle.plain_store.proofs.interface.PlainStoreTerms.build.Goals as goal
 
 pub returns : goal.returns
 returns c =
-    let e = c.try_build.ensures in
+    let e = c.build_tree.ensures in
     record {
       ok = end_ok _ _ _ _ _ e;
       trees = end_trees _ _ _ _ _ e;
