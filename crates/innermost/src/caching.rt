@@ -10,14 +10,12 @@ ghost use Rattle.innermost.specs.Tasks.{IsReady};
 ghost use Rattle.innermost.specs.Caching.{IsCaching, IsOnNode, GivesUpCaching, CachesNext, CachingEnds, WasRight};
 
 use crate::evaluating::begin_node;
-use crate::frames::{Parts, Task};
+use crate::frames::{Parts, Rules, Task};
 use crate::machine::reduce;
 use crate::remembering::{refresh, remember, take_known, top_row};
 use crate::spare::{LeastSpare, NoSpare};
 use crate::windows::{Window, depth_at};
 use crate::{Memo, Normal, RunFault};
-use rule_code::Code;
-use rule_match::Plan;
 use term_model::{Flat, Row};
 use terms_api::Terms;
 
@@ -32,8 +30,7 @@ struct Place {
 /// Reduces the tree on top, whose row this is, by a rule and those after it, and remembers its
 /// value.
 fn reduce_anew<T: Terms, M: Memo>(
-    plan: &Plan,
-    code: &Code,
+    rules: &Rules,
     parts: &mut Parts,
     place: Place,
     epoch: &mut Option<u64>,
@@ -41,23 +38,23 @@ fn reduce_anew<T: Terms, M: Memo>(
     memo: &mut M,
 ) -> Result<Normal, RunFault>
     requires inside { (T.store terms.old).inside ≡ true }
-    requires frames_room { code.now.depth ≤ vec_capacity parts.old.frames }
-    requires matcher { IsAutomaton plan.now.rules parts.old.matcher.automaton }
+    requires frames_room { rules.now.code.now.depth ≤ vec_capacity parts.old.frames }
+    requires matcher { IsAutomaton rules.now.plan.now.rules parts.old.matcher.automaton }
     requires row { slice_get (T.store terms.old).stack (length (T.store terms.old).stack - 1)
         ≡ Some place.row }
     requires epoch { epoch.old ≡ (T.store terms.old).epoch }
     requires state { (start : Store) × (term : Tree) × (fuel : ℕ) × (at : ℕ)
-        × IsOnNode plan.now code.now start term fuel (M.map memo.old) epoch.old at parts.old.left
+        × IsOnNode rules.now.plan.now rules.now.code.now start term fuel (M.map memo.old) epoch.old at parts.old.left
         (T.store terms.old) (Some place.rule) place.room }
     ensures state { IfOk result (λ end. (start : Store) (term : Tree) (fuel : ℕ) (at : ℕ)
-        → IsOnNode plan.now code.now start term fuel (M.map memo.old) epoch.old at parts.old.left
+        → IsOnNode rules.now.plan.now rules.now.code.now start term fuel (M.map memo.old) epoch.old at parts.old.left
         (T.store terms.old) (Some place.rule) place.room
-        → CachesNext plan.now code.now start term fuel (M.map memo.new) epoch.new at
+        → CachesNext rules.now.plan.now rules.now.code.now start term fuel (M.map memo.new) epoch.new at
         (T.store terms.new) end) }
     ensures fault { IfErr result (λ fault. (start : Store) (term : Tree) (fuel : ℕ) (at : ℕ)
-        → IsOnNode plan.now code.now start term fuel (M.map memo.old) epoch.old at parts.old.left
+        → IsOnNode rules.now.plan.now rules.now.code.now start term fuel (M.map memo.old) epoch.old at parts.old.left
         (T.store terms.old) (Some place.rule) place.room
-        → GivesUpCaching plan.now code.now start term fuel (M.map memo.new) epoch.new
+        → GivesUpCaching rules.now.plan.now rules.now.code.now start term fuel (M.map memo.new) epoch.new
         (T.store terms.new) fault) }
     ensures frames_room { vec_capacity parts.new.frames ≡ vec_capacity parts.old.frames }
     ensures matcher { parts.new.matcher.automaton ≡ parts.old.matcher.automaton }
@@ -66,7 +63,7 @@ fn reduce_anew<T: Terms, M: Memo>(
     let before = parts.left;
     let task = Task::Reduce(Some(place.rule), place.room);
     let mut spare = LeastSpare { least: place.room };
-    let end = reduce(plan, code, parts, task, &mut spare, terms)?;
+    let end = reduce(rules.plan, rules.code, parts, task, &mut spare, terms)?;
     if let Normal::Value { left } = end {
         let taken = before.saturating_sub(left);
         let least = place.room.saturating_sub(spare.least);
@@ -77,8 +74,7 @@ fn reduce_anew<T: Terms, M: Memo>(
 
 /// Takes the value of the tree on top from the memory, or reduces it.
 fn reduce_known<T: Terms, M: Memo>(
-    plan: &Plan,
-    code: &Code,
+    rules: &Rules,
     parts: &mut Parts,
     rule: u32,
     room: u32,
@@ -87,20 +83,20 @@ fn reduce_known<T: Terms, M: Memo>(
     memo: &mut M,
 ) -> Result<Normal, RunFault>
     requires inside { (T.store terms.old).inside ≡ true }
-    requires frames_room { code.now.depth ≤ vec_capacity parts.old.frames }
-    requires matcher { IsAutomaton plan.now.rules parts.old.matcher.automaton }
+    requires frames_room { rules.now.code.now.depth ≤ vec_capacity parts.old.frames }
+    requires matcher { IsAutomaton rules.now.plan.now.rules parts.old.matcher.automaton }
     requires state { (start : Store) × (term : Tree) × (fuel : ℕ) × (at : ℕ)
-        × IsOnNode plan.now code.now start term fuel (M.map memo.old) epoch.old at parts.old.left
+        × IsOnNode rules.now.plan.now rules.now.code.now start term fuel (M.map memo.old) epoch.old at parts.old.left
         (T.store terms.old) (Some rule) room }
     ensures state { IfOk result (λ end. (start : Store) (term : Tree) (fuel : ℕ) (at : ℕ)
-        → IsOnNode plan.now code.now start term fuel (M.map memo.old) epoch.old at parts.old.left
+        → IsOnNode rules.now.plan.now rules.now.code.now start term fuel (M.map memo.old) epoch.old at parts.old.left
         (T.store terms.old) (Some rule) room
-        → CachesNext plan.now code.now start term fuel (M.map memo.new) epoch.new at
+        → CachesNext rules.now.plan.now rules.now.code.now start term fuel (M.map memo.new) epoch.new at
         (T.store terms.new) end) }
     ensures fault { IfErr result (λ fault. (start : Store) (term : Tree) (fuel : ℕ) (at : ℕ)
-        → IsOnNode plan.now code.now start term fuel (M.map memo.old) epoch.old at parts.old.left
+        → IsOnNode rules.now.plan.now rules.now.code.now start term fuel (M.map memo.old) epoch.old at parts.old.left
         (T.store terms.old) (Some rule) room
-        → GivesUpCaching plan.now code.now start term fuel (M.map memo.new) epoch.new
+        → GivesUpCaching rules.now.plan.now rules.now.code.now start term fuel (M.map memo.new) epoch.new
         (T.store terms.new) fault) }
     ensures frames_room { vec_capacity parts.new.frames ≡ vec_capacity parts.old.frames }
     ensures matcher { parts.new.matcher.automaton ≡ parts.old.matcher.automaton }
@@ -112,56 +108,69 @@ fn reduce_known<T: Terms, M: Memo>(
         return Ok(Normal::Value { left: parts.left });
     }
     let place = Place { rule, room, row };
-    reduce_anew(plan, code, parts, place, epoch, terms, memo)
+    reduce_anew(rules, parts, place, epoch, terms, memo)
 }
 
-/// Evaluates a node of a term that stands so far down, after those before it.
-fn cache_node<T: Terms, M: Memo>(
-    plan: &Plan,
-    code: &Code,
-    parts: &mut Parts,
-    term: &Flat,
+/// A node of a term by its number, and how far down it stands.
+#[derive(Clone, Copy)]
+struct Node {
     at: usize,
     down: u32,
+}
+
+/// Evaluates a node of a term, after those before it.
+fn cache_node<T: Terms, M: Memo>(
+    rules: &Rules,
+    parts: &mut Parts,
+    term: &Flat,
+    node: Node,
     epoch: &mut Option<u64>,
     terms: &mut T,
     memo: &mut M,
 ) -> Result<Normal, RunFault>
     requires inside { (T.store terms.old).inside ≡ true }
-    requires frames_room { code.now.depth ≤ vec_capacity parts.old.frames }
-    requires matcher { IsAutomaton plan.now.rules parts.old.matcher.automaton }
-    requires node { at < nodes term.now }
+    requires frames_room { rules.now.code.now.depth ≤ vec_capacity parts.old.frames }
+    requires matcher { IsAutomaton rules.now.plan.now.rules parts.old.matcher.automaton }
+    requires node { node.at < nodes term.now }
     requires no_variables { IsGround term.now }
-    requires plain { IsPlain plan.now.widest term.now }
-    requires down { down ≡ slice_index (depths_of code.now.depth term.now 0) at }
+    requires plain { IsPlain rules.now.plan.now.widest term.now }
+    requires down { node.down
+        ≡ slice_index (depths_of rules.now.code.now.depth term.now 0) node.at }
     requires state { (start : Store) × (fuel : ℕ)
-        × IsCaching plan.now code.now start term.now fuel (M.map memo.old) epoch.old at
+        × IsCaching rules.now.plan.now rules.now.code.now start term.now fuel (M.map memo.old) epoch.old node.at
         parts.old.left (T.store terms.old) }
     ensures state { IfOk result (λ end. (start : Store) (fuel : ℕ)
-        → IsCaching plan.now code.now start term.now fuel (M.map memo.old) epoch.old at
+        → IsCaching rules.now.plan.now rules.now.code.now start term.now fuel (M.map memo.old) epoch.old node.at
         parts.old.left (T.store terms.old)
-        → CachesNext plan.now code.now start term.now fuel (M.map memo.new) epoch.new at
+        → CachesNext rules.now.plan.now rules.now.code.now start term.now fuel (M.map memo.new) epoch.new node.at
         (T.store terms.new) end) }
     ensures fault { IfErr result (λ fault. (start : Store) (fuel : ℕ)
-        → IsCaching plan.now code.now start term.now fuel (M.map memo.old) epoch.old at
+        → IsCaching rules.now.plan.now rules.now.code.now start term.now fuel (M.map memo.old) epoch.old node.at
         parts.old.left (T.store terms.old)
-        → GivesUpCaching plan.now code.now start term.now fuel (M.map memo.new) epoch.new
+        → GivesUpCaching rules.now.plan.now rules.now.code.now start term.now fuel (M.map memo.new) epoch.new
         (T.store terms.new) fault) }
     ensures frames_room { vec_capacity parts.new.frames ≡ vec_capacity parts.old.frames }
     ensures matcher { parts.new.matcher.automaton ≡ parts.old.matcher.automaton }
     ensures same { T.same terms.old terms.new }
 {
-    let task = begin_node(plan, code, term, at, down, &mut parts.builds, terms)?;
+    let task = begin_node(
+        rules.plan,
+        rules.code,
+        term,
+        node.at,
+        node.down,
+        &mut parts.builds,
+        terms,
+    )?;
     let Task::Reduce(Some(rule), room) = task else {
-        return reduce(plan, code, parts, task, &mut NoSpare, terms);
+        return reduce(rules.plan, rules.code, parts, task, &mut NoSpare, terms);
     };
-    reduce_known(plan, code, parts, rule, room, epoch, terms, memo)
+    reduce_known(rules, parts, rule, room, epoch, terms, memo)
 }
 
 /// Evaluates a term, with the fuel that is left, and a memory that was right at this epoch.
 pub(crate) fn evaluate_with<T: Terms, M: Memo>(
-    plan: &Plan,
-    code: &Code,
+    rules: &Rules,
     parts: &mut Parts,
     window: &mut Window,
     term: &Flat,
@@ -170,22 +179,22 @@ pub(crate) fn evaluate_with<T: Terms, M: Memo>(
     memo: &mut M,
 ) -> Result<Normal, RunFault>
     requires inside { (T.store terms.old).inside ≡ true }
-    requires frames_room { code.now.depth ≤ vec_capacity parts.old.frames }
-    requires matcher { IsAutomaton plan.now.rules parts.old.matcher.automaton }
-    requires path_room { code.now.depth ≤ vec_capacity window.old.path }
+    requires frames_room { rules.now.code.now.depth ≤ vec_capacity parts.old.frames }
+    requires matcher { IsAutomaton rules.now.plan.now.rules parts.old.matcher.automaton }
+    requires path_room { rules.now.code.now.depth ≤ vec_capacity window.old.path }
     requires window { 0 < length window.old.depths.items }
-    requires ready { IsReady plan.now code.now (T.store terms.old) }
+    requires ready { IsReady rules.now.plan.now rules.now.code.now (T.store terms.old) }
     requires no_variables { IsGround term.now }
-    requires plain { IsPlain plan.now.widest term.now }
-    requires memory { WasRight plan.now.rules (T.store terms.old).built (M.map memo.old) epoch.old
+    requires plain { IsPlain rules.now.plan.now.widest term.now }
+    requires memory { WasRight rules.now.plan.now.rules (T.store terms.old).built (M.map memo.old) epoch.old
         (T.store terms.old) }
-    ensures state { IfOk result (λ end. CachingEnds plan.now code.now (T.store terms.old) term.now
+    ensures state { IfOk result (λ end. CachingEnds rules.now.plan.now rules.now.code.now (T.store terms.old) term.now
         parts.old.left (M.map memo.new) epoch.new (T.store terms.new) end) }
-    ensures fault { IfErr result (λ fault. GivesUpCaching plan.now code.now (T.store terms.old)
+    ensures fault { IfErr result (λ fault. GivesUpCaching rules.now.plan.now rules.now.code.now (T.store terms.old)
         term.now parts.old.left (M.map memo.new) epoch.new (T.store terms.new) fault) }
     ensures frames_room { vec_capacity parts.new.frames ≡ vec_capacity parts.old.frames }
     ensures matcher { parts.new.matcher.automaton ≡ parts.old.matcher.automaton }
-    ensures path_room { code.now.depth ≤ vec_capacity window.new.path }
+    ensures path_room { rules.now.code.now.depth ≤ vec_capacity window.new.path }
     ensures window { 0 < length window.new.depths.items }
     ensures same { T.same terms.old terms.new }
 {
@@ -194,8 +203,9 @@ pub(crate) fn evaluate_with<T: Terms, M: Memo>(
     window.from = usize::MAX;
     let mut at = 0usize;
     'nodes: while at < count {
-        let down = depth_at(term, code.depth, at, window);
-        match cache_node(plan, code, parts, term, at, down, epoch, terms, memo)? {
+        let down = depth_at(term, rules.code.depth, at, window);
+        let node = Node { at, down };
+        match cache_node(rules, parts, term, node, epoch, terms, memo)? {
             Normal::Value { left } => parts.left = left,
             end => return Ok(end),
         }

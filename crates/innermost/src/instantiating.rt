@@ -21,7 +21,6 @@ fn build_node<T: Terms>(
     pattern: &Flat,
     rows: &[Row],
     room: u32,
-    limit: u32,
     at: usize,
     down: u32,
     builds: &mut u32,
@@ -29,8 +28,8 @@ fn build_node<T: Terms>(
 ) -> Result<bool, RunFault>
     requires inside { (T.store terms.old).inside ≡ true }
     requires node { at < nodes pattern.now }
-    requires limit { room ≤ limit }
-    requires down { down ≡ slice_index (depths_of limit pattern.now 0) at }
+    requires down { (limit : ℕ) × (limit ≤ 4294967295) × (room ≤ limit)
+        × (down ≡ slice_index (depths_of limit pattern.now 0) at) }
     requires state { (site : Site)
         × IsBuilding site (T.store terms.old) rows.now pattern.now room at }
     ensures state { IfOk result (λ built. (site : Site)
@@ -92,7 +91,7 @@ pub(crate) fn instantiate<T: Terms>(
     let mut at = 0usize;
     'nodes: while at < count {
         let down = depth_at(pattern, limit, at, window);
-        if !build_node(pattern, rows, room, limit, at, down, builds, terms)? {
+        if !build_node(pattern, rows, room, at, down, builds, terms)? {
             return Ok(false);
         }
         at += 1;

@@ -15,7 +15,7 @@ ghost use Rattle.innermost.specs.Machines.{IsFor, settled};
 
 use crate::caching::evaluate_with;
 use crate::evaluating::evaluate;
-use crate::frames::Parts;
+use crate::frames::{Parts, Rules};
 use crate::outward::rewrite;
 use crate::remembering::refresh;
 use crate::spots::Spot;
@@ -162,9 +162,12 @@ impl Machine {
         let _ = self.code.steps.len();
         self.parts.left = fuel;
         let mut epoch = terms.epoch();
-        let end = evaluate_with(
+        let rules = Rules {
             plan,
-            &self.code,
+            code: &self.code,
+        };
+        let end = evaluate_with(
+            &rules,
             &mut self.parts,
             &mut self.window,
             term,
@@ -259,15 +262,14 @@ impl Machine {
     {
         let base = terms.depth();
         let _ = plan.rules();
+        self.parts.left = fuel;
         let end = rewrite(
             plan,
             self.code.depth,
-            &mut self.parts.matcher,
+            &mut self.parts,
             &mut self.spots,
             &mut self.window,
             term,
-            fuel,
-            &mut self.parts.builds,
             terms,
         );
         settle(end, base, terms)

@@ -11,9 +11,9 @@ pub begin_node-requires-clause-state : goal.begin_node-requires-clause-state
 begin_node-requires-clause-state g c =
     let s = c.requires.state in
     let now = g.T.Terms.store c.args.terms.now in (
-      afresh c.args.plan.now c.args.code.now s.0 c.args.term.now s.1 (g.M.Memo.map c.args.memo.now) c.args.epoch.now c.args.at c.args.parts.now.left now s.2,
+      afresh c.args.rules.now.plan.now c.args.rules.now.code.now s.0 c.args.term.now s.1 (g.M.Memo.map c.args.memo.now) c.args.epoch.now c.args.node.at c.args.parts.now.left now s.2,
       c.args.parts.now.left,
-      begins_afresh c.args.plan.now c.args.code.now s.0 c.args.term.now s.1 (g.M.Memo.map c.args.memo.now) c.args.epoch.now c.args.at c.args.parts.now.left now s.2,
+      begins_afresh c.args.rules.now.plan.now c.args.rules.now.code.now s.0 c.args.term.now s.1 (g.M.Memo.map c.args.memo.now) c.args.epoch.now c.args.node.at c.args.parts.now.left now s.2,
     )
 
 pub returns-in_err-task : goal.returns-in_err-task
@@ -24,9 +24,9 @@ returns-in_err-task g c =
       state = rw p.1 tt;
       fault = rw (p.1, p.2) (λ start fuel k.
           let k' = k in
-          gives_up_so c.args.plan.now c.args.code.now start c.args.term.now fuel (g.M.Memo.map c.args.memo.now) c.args.epoch.now c.args.at c.args.parts.now.left now k' (g.T.Terms.store c.begin_node.new.terms) c.in_err-task.field-0.0
-          (c.in_err-task.ensures.fault (afresh c.args.plan.now c.args.code.now start c.args.term.now fuel (g.M.Memo.map c.args.memo.now) c.args.epoch.now c.args.at c.args.parts.now.left now k') c.args.parts.now.left
-          (begins_afresh c.args.plan.now c.args.code.now start c.args.term.now fuel (g.M.Memo.map c.args.memo.now) c.args.epoch.now c.args.at c.args.parts.now.left now k')));
+          gives_up_so c.args.rules.now.plan.now c.args.rules.now.code.now start c.args.term.now fuel (g.M.Memo.map c.args.memo.now) c.args.epoch.now c.args.node.at c.args.parts.now.left now k' (g.T.Terms.store c.begin_node.new.terms) c.in_err-task.field-0.0
+          (c.in_err-task.ensures.fault (afresh c.args.rules.now.plan.now c.args.rules.now.code.now start c.args.term.now fuel (g.M.Memo.map c.args.memo.now) c.args.epoch.now c.args.node.at c.args.parts.now.left now k') c.args.parts.now.left
+          (begins_afresh c.args.rules.now.plan.now c.args.rules.now.code.now start c.args.term.now fuel (g.M.Memo.map c.args.memo.now) c.args.epoch.now c.args.node.at c.args.parts.now.left now k')));
       frames_room = refl;
       matcher = refl;
       same = c.begin_node.ensures.same;
@@ -36,9 +36,9 @@ pub reduce-requires : goal.reduce-requires
 reduce-requires g c =
     let s = c.requires.state in
     let now = g.T.Terms.store c.args.terms.now in
-    let b = c.in_ok-task.ensures.state (afresh c.args.plan.now c.args.code.now s.0 c.args.term.now s.1 (g.M.Memo.map c.args.memo.now) c.args.epoch.now c.args.at c.args.parts.now.left now s.2) c.args.parts.now.left (begins_afresh c.args.plan.now c.args.code.now s.0 c.args.term.now s.1 (g.M.Memo.map c.args.memo.now) c.args.epoch.now c.args.at c.args.parts.now.left now s.2) in
+    let b = c.in_ok-task.ensures.state (afresh c.args.rules.now.plan.now c.args.rules.now.code.now s.0 c.args.term.now s.1 (g.M.Memo.map c.args.memo.now) c.args.epoch.now c.args.node.at c.args.parts.now.left now s.2) c.args.parts.now.left (begins_afresh c.args.rules.now.plan.now c.args.rules.now.code.now s.0 c.args.term.now s.1 (g.M.Memo.map c.args.memo.now) c.args.epoch.now c.args.node.at c.args.parts.now.left now s.2) in
     record {
-      inside = begun_inside c.args.plan.now c.args.code.now (afresh c.args.plan.now c.args.code.now s.0 c.args.term.now s.1 (g.M.Memo.map c.args.memo.now) c.args.epoch.now c.args.at c.args.parts.now.left now s.2) c.args.term.now c.args.at c.args.parts.now.left (g.T.Terms.store c.begin_node.new.terms) c.in_ok-task.task (c.in_ok-task.ensures.state (afresh c.args.plan.now c.args.code.now s.0 c.args.term.now s.1 (g.M.Memo.map c.args.memo.now) c.args.epoch.now c.args.at c.args.parts.now.left now s.2) c.args.parts.now.left (begins_afresh c.args.plan.now c.args.code.now s.0 c.args.term.now s.1 (g.M.Memo.map c.args.memo.now) c.args.epoch.now c.args.at c.args.parts.now.left now s.2));
+      inside = begun_inside c.args.rules.now.plan.now c.args.rules.now.code.now (afresh c.args.rules.now.plan.now c.args.rules.now.code.now s.0 c.args.term.now s.1 (g.M.Memo.map c.args.memo.now) c.args.epoch.now c.args.node.at c.args.parts.now.left now s.2) c.args.term.now c.args.node.at c.args.parts.now.left (g.T.Terms.store c.begin_node.new.terms) c.in_ok-task.task (c.in_ok-task.ensures.state (afresh c.args.rules.now.plan.now c.args.rules.now.code.now s.0 c.args.term.now s.1 (g.M.Memo.map c.args.memo.now) c.args.epoch.now c.args.node.at c.args.parts.now.left now s.2) c.args.parts.now.left (begins_afresh c.args.rules.now.plan.now c.args.rules.now.code.now s.0 c.args.term.now s.1 (g.M.Memo.map c.args.memo.now) c.args.epoch.now c.args.node.at c.args.parts.now.left now s.2));
       frames_room = c.requires.frames_room;
       matcher = c.requires.matcher;
       state = (b.inner, b.task);
@@ -50,14 +50,14 @@ returns-in_default g c =
     record {
       state = IfOk-weaker c.reduce.result _ _ (λ end h start fuel k.
           let k' = k in
-          let b = c.in_ok-task.ensures.state (afresh c.args.plan.now c.args.code.now start c.args.term.now fuel (g.M.Memo.map c.args.memo.now) c.args.epoch.now c.args.at c.args.parts.now.left now k') c.args.parts.now.left (begins_afresh c.args.plan.now c.args.code.now start c.args.term.now fuel (g.M.Memo.map c.args.memo.now) c.args.epoch.now c.args.at c.args.parts.now.left now k') in
-          node_caches c.args.plan.now c.args.code.now start c.args.term.now fuel (g.M.Memo.map c.args.memo.now) c.args.epoch.now c.args.at c.args.parts.now.left now k' (g.T.Terms.store c.reduce.new.terms) end (b.ends (g.T.Terms.store c.reduce.new.terms) end (h b.inner b.task)))
+          let b = c.in_ok-task.ensures.state (afresh c.args.rules.now.plan.now c.args.rules.now.code.now start c.args.term.now fuel (g.M.Memo.map c.args.memo.now) c.args.epoch.now c.args.node.at c.args.parts.now.left now k') c.args.parts.now.left (begins_afresh c.args.rules.now.plan.now c.args.rules.now.code.now start c.args.term.now fuel (g.M.Memo.map c.args.memo.now) c.args.epoch.now c.args.node.at c.args.parts.now.left now k') in
+          node_caches c.args.rules.now.plan.now c.args.rules.now.code.now start c.args.term.now fuel (g.M.Memo.map c.args.memo.now) c.args.epoch.now c.args.node.at c.args.parts.now.left now k' (g.T.Terms.store c.reduce.new.terms) end (b.ends (g.T.Terms.store c.reduce.new.terms) end (h b.inner b.task)))
           c.reduce.ensures.state;
       fault = IfErr-weaker c.reduce.result _ _ (λ fault h start fuel k.
           let k' = k in
-          let b = c.in_ok-task.ensures.state (afresh c.args.plan.now c.args.code.now start c.args.term.now fuel (g.M.Memo.map c.args.memo.now) c.args.epoch.now c.args.at c.args.parts.now.left now k') c.args.parts.now.left (begins_afresh c.args.plan.now c.args.code.now start c.args.term.now fuel (g.M.Memo.map c.args.memo.now) c.args.epoch.now c.args.at c.args.parts.now.left now k') in
-          gives_up_so c.args.plan.now c.args.code.now start c.args.term.now fuel (g.M.Memo.map c.args.memo.now) c.args.epoch.now c.args.at c.args.parts.now.left now k' (g.T.Terms.store c.reduce.new.terms) fault
-          (begun_gives_up c.args.plan.now c.args.code.now (afresh c.args.plan.now c.args.code.now start c.args.term.now fuel (g.M.Memo.map c.args.memo.now) c.args.epoch.now c.args.at c.args.parts.now.left now k') c.args.term.now c.args.at c.args.parts.now.left (g.T.Terms.store c.begin_node.new.terms) c.in_ok-task.task b (g.T.Terms.store c.reduce.new.terms) fault (h b.inner b.task)))
+          let b = c.in_ok-task.ensures.state (afresh c.args.rules.now.plan.now c.args.rules.now.code.now start c.args.term.now fuel (g.M.Memo.map c.args.memo.now) c.args.epoch.now c.args.node.at c.args.parts.now.left now k') c.args.parts.now.left (begins_afresh c.args.rules.now.plan.now c.args.rules.now.code.now start c.args.term.now fuel (g.M.Memo.map c.args.memo.now) c.args.epoch.now c.args.node.at c.args.parts.now.left now k') in
+          gives_up_so c.args.rules.now.plan.now c.args.rules.now.code.now start c.args.term.now fuel (g.M.Memo.map c.args.memo.now) c.args.epoch.now c.args.node.at c.args.parts.now.left now k' (g.T.Terms.store c.reduce.new.terms) fault
+          (begun_gives_up c.args.rules.now.plan.now c.args.rules.now.code.now (afresh c.args.rules.now.plan.now c.args.rules.now.code.now start c.args.term.now fuel (g.M.Memo.map c.args.memo.now) c.args.epoch.now c.args.node.at c.args.parts.now.left now k') c.args.term.now c.args.node.at c.args.parts.now.left (g.T.Terms.store c.begin_node.new.terms) c.in_ok-task.task b (g.T.Terms.store c.reduce.new.terms) fault (h b.inner b.task)))
           c.reduce.ensures.fault;
       frames_room = c.reduce.ensures.frames_room;
       matcher = c.reduce.ensures.matcher;
@@ -71,10 +71,10 @@ reduce_known-requires g c =
     let some : c.in-Reduce-Some-default.field-0 ≡ Some c.in-Reduce-Some-default.rule = rw c.in-Reduce-Some-default.is at c.in-Reduce-Some-default.field-0-is in
     let task_is : c.in_ok-task.task ≡ Reduce (Some c.in-Reduce-Some-default.rule) c.in-Reduce-Some-default.room = c.in-Reduce-Some-default.is ∙ ap (λ (o : Option ℕ). Reduce o c.in-Reduce-Some-default.room) some in
     record {
-      inside = begun_inside c.args.plan.now c.args.code.now (afresh c.args.plan.now c.args.code.now s.0 c.args.term.now s.1 (g.M.Memo.map c.args.memo.now) c.args.epoch.now c.args.at c.args.parts.now.left now s.2) c.args.term.now c.args.at c.args.parts.now.left (g.T.Terms.store c.begin_node.new.terms) c.in_ok-task.task (c.in_ok-task.ensures.state (afresh c.args.plan.now c.args.code.now s.0 c.args.term.now s.1 (g.M.Memo.map c.args.memo.now) c.args.epoch.now c.args.at c.args.parts.now.left now s.2) c.args.parts.now.left (begins_afresh c.args.plan.now c.args.code.now s.0 c.args.term.now s.1 (g.M.Memo.map c.args.memo.now) c.args.epoch.now c.args.at c.args.parts.now.left now s.2));
+      inside = begun_inside c.args.rules.now.plan.now c.args.rules.now.code.now (afresh c.args.rules.now.plan.now c.args.rules.now.code.now s.0 c.args.term.now s.1 (g.M.Memo.map c.args.memo.now) c.args.epoch.now c.args.node.at c.args.parts.now.left now s.2) c.args.term.now c.args.node.at c.args.parts.now.left (g.T.Terms.store c.begin_node.new.terms) c.in_ok-task.task (c.in_ok-task.ensures.state (afresh c.args.rules.now.plan.now c.args.rules.now.code.now s.0 c.args.term.now s.1 (g.M.Memo.map c.args.memo.now) c.args.epoch.now c.args.node.at c.args.parts.now.left now s.2) c.args.parts.now.left (begins_afresh c.args.rules.now.plan.now c.args.rules.now.code.now s.0 c.args.term.now s.1 (g.M.Memo.map c.args.memo.now) c.args.epoch.now c.args.node.at c.args.parts.now.left now s.2));
       frames_room = c.requires.frames_room;
       matcher = c.requires.matcher;
-      state = (s.0, c.args.term.now, s.1, c.args.at, node_opened c.args.plan.now c.args.code.now s.0 c.args.term.now s.1 (g.M.Memo.map c.args.memo.now) c.args.epoch.now c.args.at c.args.parts.now.left now s.2 (g.T.Terms.store c.begin_node.new.terms) (Some c.in-Reduce-Some-default.rule) c.in-Reduce-Some-default.room (begins_afresh c.args.plan.now c.args.code.now s.0 c.args.term.now s.1 (g.M.Memo.map c.args.memo.now) c.args.epoch.now c.args.at c.args.parts.now.left now s.2).points (subst (λ (t : Task). Opens c.args.plan.now c.args.code.now (afresh c.args.plan.now c.args.code.now s.0 c.args.term.now s.1 (g.M.Memo.map c.args.memo.now) c.args.epoch.now c.args.at c.args.parts.now.left now s.2) c.args.term.now c.args.at c.args.parts.now.left (begins_afresh c.args.plan.now c.args.code.now s.0 c.args.term.now s.1 (g.M.Memo.map c.args.memo.now) c.args.epoch.now c.args.at c.args.parts.now.left now s.2).points (g.T.Terms.store c.begin_node.new.terms) t) task_is (c.in_ok-task.ensures.opened (afresh c.args.plan.now c.args.code.now s.0 c.args.term.now s.1 (g.M.Memo.map c.args.memo.now) c.args.epoch.now c.args.at c.args.parts.now.left now s.2) c.args.parts.now.left (begins_afresh c.args.plan.now c.args.code.now s.0 c.args.term.now s.1 (g.M.Memo.map c.args.memo.now) c.args.epoch.now c.args.at c.args.parts.now.left now s.2))));
+      state = (s.0, c.args.term.now, s.1, c.args.node.at, node_opened c.args.rules.now.plan.now c.args.rules.now.code.now s.0 c.args.term.now s.1 (g.M.Memo.map c.args.memo.now) c.args.epoch.now c.args.node.at c.args.parts.now.left now s.2 (g.T.Terms.store c.begin_node.new.terms) (Some c.in-Reduce-Some-default.rule) c.in-Reduce-Some-default.room (begins_afresh c.args.rules.now.plan.now c.args.rules.now.code.now s.0 c.args.term.now s.1 (g.M.Memo.map c.args.memo.now) c.args.epoch.now c.args.node.at c.args.parts.now.left now s.2).points (subst (λ (t : Task). Opens c.args.rules.now.plan.now c.args.rules.now.code.now (afresh c.args.rules.now.plan.now c.args.rules.now.code.now s.0 c.args.term.now s.1 (g.M.Memo.map c.args.memo.now) c.args.epoch.now c.args.node.at c.args.parts.now.left now s.2) c.args.term.now c.args.node.at c.args.parts.now.left (begins_afresh c.args.rules.now.plan.now c.args.rules.now.code.now s.0 c.args.term.now s.1 (g.M.Memo.map c.args.memo.now) c.args.epoch.now c.args.node.at c.args.parts.now.left now s.2).points (g.T.Terms.store c.begin_node.new.terms) t) task_is (c.in_ok-task.ensures.opened (afresh c.args.rules.now.plan.now c.args.rules.now.code.now s.0 c.args.term.now s.1 (g.M.Memo.map c.args.memo.now) c.args.epoch.now c.args.node.at c.args.parts.now.left now s.2) c.args.parts.now.left (begins_afresh c.args.rules.now.plan.now c.args.rules.now.code.now s.0 c.args.term.now s.1 (g.M.Memo.map c.args.memo.now) c.args.epoch.now c.args.node.at c.args.parts.now.left now s.2))));
     }
 
 pub returns : goal.returns
@@ -85,11 +85,11 @@ returns g c =
     record {
       state = IfOk-weaker c.reduce_known.result _ _ (λ end h start fuel k.
           let k' = k in
-          h start c.args.term.now fuel c.args.at (node_opened c.args.plan.now c.args.code.now start c.args.term.now fuel (g.M.Memo.map c.args.memo.now) c.args.epoch.now c.args.at c.args.parts.now.left now k' (g.T.Terms.store c.begin_node.new.terms) (Some c.in-Reduce-Some-default.rule) c.in-Reduce-Some-default.room (begins_afresh c.args.plan.now c.args.code.now start c.args.term.now fuel (g.M.Memo.map c.args.memo.now) c.args.epoch.now c.args.at c.args.parts.now.left now k').points (subst (λ (t : Task). Opens c.args.plan.now c.args.code.now (afresh c.args.plan.now c.args.code.now start c.args.term.now fuel (g.M.Memo.map c.args.memo.now) c.args.epoch.now c.args.at c.args.parts.now.left now k') c.args.term.now c.args.at c.args.parts.now.left (begins_afresh c.args.plan.now c.args.code.now start c.args.term.now fuel (g.M.Memo.map c.args.memo.now) c.args.epoch.now c.args.at c.args.parts.now.left now k').points (g.T.Terms.store c.begin_node.new.terms) t) task_is (c.in_ok-task.ensures.opened (afresh c.args.plan.now c.args.code.now start c.args.term.now fuel (g.M.Memo.map c.args.memo.now) c.args.epoch.now c.args.at c.args.parts.now.left now k') c.args.parts.now.left (begins_afresh c.args.plan.now c.args.code.now start c.args.term.now fuel (g.M.Memo.map c.args.memo.now) c.args.epoch.now c.args.at c.args.parts.now.left now k')))))
+          h start c.args.term.now fuel c.args.node.at (node_opened c.args.rules.now.plan.now c.args.rules.now.code.now start c.args.term.now fuel (g.M.Memo.map c.args.memo.now) c.args.epoch.now c.args.node.at c.args.parts.now.left now k' (g.T.Terms.store c.begin_node.new.terms) (Some c.in-Reduce-Some-default.rule) c.in-Reduce-Some-default.room (begins_afresh c.args.rules.now.plan.now c.args.rules.now.code.now start c.args.term.now fuel (g.M.Memo.map c.args.memo.now) c.args.epoch.now c.args.node.at c.args.parts.now.left now k').points (subst (λ (t : Task). Opens c.args.rules.now.plan.now c.args.rules.now.code.now (afresh c.args.rules.now.plan.now c.args.rules.now.code.now start c.args.term.now fuel (g.M.Memo.map c.args.memo.now) c.args.epoch.now c.args.node.at c.args.parts.now.left now k') c.args.term.now c.args.node.at c.args.parts.now.left (begins_afresh c.args.rules.now.plan.now c.args.rules.now.code.now start c.args.term.now fuel (g.M.Memo.map c.args.memo.now) c.args.epoch.now c.args.node.at c.args.parts.now.left now k').points (g.T.Terms.store c.begin_node.new.terms) t) task_is (c.in_ok-task.ensures.opened (afresh c.args.rules.now.plan.now c.args.rules.now.code.now start c.args.term.now fuel (g.M.Memo.map c.args.memo.now) c.args.epoch.now c.args.node.at c.args.parts.now.left now k') c.args.parts.now.left (begins_afresh c.args.rules.now.plan.now c.args.rules.now.code.now start c.args.term.now fuel (g.M.Memo.map c.args.memo.now) c.args.epoch.now c.args.node.at c.args.parts.now.left now k')))))
           c.reduce_known.ensures.state;
       fault = IfErr-weaker c.reduce_known.result _ _ (λ fault h start fuel k.
           let k' = k in
-          h start c.args.term.now fuel c.args.at (node_opened c.args.plan.now c.args.code.now start c.args.term.now fuel (g.M.Memo.map c.args.memo.now) c.args.epoch.now c.args.at c.args.parts.now.left now k' (g.T.Terms.store c.begin_node.new.terms) (Some c.in-Reduce-Some-default.rule) c.in-Reduce-Some-default.room (begins_afresh c.args.plan.now c.args.code.now start c.args.term.now fuel (g.M.Memo.map c.args.memo.now) c.args.epoch.now c.args.at c.args.parts.now.left now k').points (subst (λ (t : Task). Opens c.args.plan.now c.args.code.now (afresh c.args.plan.now c.args.code.now start c.args.term.now fuel (g.M.Memo.map c.args.memo.now) c.args.epoch.now c.args.at c.args.parts.now.left now k') c.args.term.now c.args.at c.args.parts.now.left (begins_afresh c.args.plan.now c.args.code.now start c.args.term.now fuel (g.M.Memo.map c.args.memo.now) c.args.epoch.now c.args.at c.args.parts.now.left now k').points (g.T.Terms.store c.begin_node.new.terms) t) task_is (c.in_ok-task.ensures.opened (afresh c.args.plan.now c.args.code.now start c.args.term.now fuel (g.M.Memo.map c.args.memo.now) c.args.epoch.now c.args.at c.args.parts.now.left now k') c.args.parts.now.left (begins_afresh c.args.plan.now c.args.code.now start c.args.term.now fuel (g.M.Memo.map c.args.memo.now) c.args.epoch.now c.args.at c.args.parts.now.left now k')))))
+          h start c.args.term.now fuel c.args.node.at (node_opened c.args.rules.now.plan.now c.args.rules.now.code.now start c.args.term.now fuel (g.M.Memo.map c.args.memo.now) c.args.epoch.now c.args.node.at c.args.parts.now.left now k' (g.T.Terms.store c.begin_node.new.terms) (Some c.in-Reduce-Some-default.rule) c.in-Reduce-Some-default.room (begins_afresh c.args.rules.now.plan.now c.args.rules.now.code.now start c.args.term.now fuel (g.M.Memo.map c.args.memo.now) c.args.epoch.now c.args.node.at c.args.parts.now.left now k').points (subst (λ (t : Task). Opens c.args.rules.now.plan.now c.args.rules.now.code.now (afresh c.args.rules.now.plan.now c.args.rules.now.code.now start c.args.term.now fuel (g.M.Memo.map c.args.memo.now) c.args.epoch.now c.args.node.at c.args.parts.now.left now k') c.args.term.now c.args.node.at c.args.parts.now.left (begins_afresh c.args.rules.now.plan.now c.args.rules.now.code.now start c.args.term.now fuel (g.M.Memo.map c.args.memo.now) c.args.epoch.now c.args.node.at c.args.parts.now.left now k').points (g.T.Terms.store c.begin_node.new.terms) t) task_is (c.in_ok-task.ensures.opened (afresh c.args.rules.now.plan.now c.args.rules.now.code.now start c.args.term.now fuel (g.M.Memo.map c.args.memo.now) c.args.epoch.now c.args.node.at c.args.parts.now.left now k') c.args.parts.now.left (begins_afresh c.args.rules.now.plan.now c.args.rules.now.code.now start c.args.term.now fuel (g.M.Memo.map c.args.memo.now) c.args.epoch.now c.args.node.at c.args.parts.now.left now k')))))
           c.reduce_known.ensures.fault;
       frames_room = c.reduce_known.ensures.frames_room;
       matcher = c.reduce_known.ensures.matcher;

@@ -20,8 +20,8 @@ nodes-init g c =
       path_room = c.requires.path_room;
       window = c.requires.window;
       shows = λ i low high l. absurd (omega (arith, n, fits, low, high));
-      state = caching_begins c.args.plan.now c.args.code.now now c.args.term.now c.args.parts.now.left (g.M.Memo.map c.args.memo.now) c.args.epoch.now 0 c.args.parts.now.left now
-          (evaluation_begins c.args.plan.now c.args.code.now c.args.term.now c.args.parts.now.left now c.requires.ready c.depth.ensures.sound c.requires.inside c.requires.no_variables c.requires.plain) c.requires.memory;
+      state = caching_begins c.args.rules.now.plan.now c.args.rules.now.code.now now c.args.term.now c.args.parts.now.left (g.M.Memo.map c.args.memo.now) c.args.epoch.now 0 c.args.parts.now.left now
+          (evaluation_begins c.args.rules.now.plan.now c.args.rules.now.code.now c.args.term.now c.args.parts.now.left now c.requires.ready c.depth.ensures.sound c.requires.inside c.requires.no_variables c.requires.plain) c.requires.memory;
       same = g.met.T.Terms.same_as_itself _;
     }
 
@@ -45,7 +45,7 @@ returns-in_default g c =
     let now = g.T.Terms.store c.cache_node.new.terms in
     let start = g.T.Terms.store c.args.terms.now in
     record {
-      state = caching_end c.args.plan.now c.args.code.now start c.args.term.now c.args.parts.now.left (g.M.Memo.map c.cache_node.new.memo) c.cache_node.new.epoch c.nodes.at now c.in_ok-end.end (e.state start c.args.parts.now.left i.state) c.in_default.not-Value;
+      state = caching_end c.args.rules.now.plan.now c.args.rules.now.code.now start c.args.term.now c.args.parts.now.left (g.M.Memo.map c.cache_node.new.memo) c.cache_node.new.epoch c.nodes.at now c.in_ok-end.end (e.state start c.args.parts.now.left i.state) c.in_default.not-Value;
       fault = tt;
       frames_room = e.frames_room ∙ i.frames_room;
       matcher = e.matcher ∙ i.matcher;
@@ -63,19 +63,19 @@ nodes-preserved g c =
     let s = e.state start c.args.parts.now.left i.state in
     record {
       within = omega (arith, c.node_count-count.ensures.nodes, c.nodes-test.true);
-      inside = caching_inside c.args.plan.now c.args.code.now start c.args.term.now c.args.parts.now.left (g.M.Memo.map c.cache_node.new.memo) c.cache_node.new.epoch c.nodes.at now c.in_ok-end.end s;
+      inside = caching_inside c.args.rules.now.plan.now c.args.rules.now.code.now start c.args.term.now c.args.parts.now.left (g.M.Memo.map c.cache_node.new.memo) c.cache_node.new.epoch c.nodes.at now c.in_ok-end.end s;
       frames_room = e.frames_room ∙ i.frames_room;
       matcher = e.matcher ∙ i.matcher;
       path_room = c.depth_at-down.ensures.room;
       window = c.depth_at-down.ensures.some;
       shows = c.depth_at-down.ensures.shows;
-      state = subst (λ (end : Normal). CachesNext c.args.plan.now c.args.code.now start c.args.term.now c.args.parts.now.left (g.M.Memo.map c.cache_node.new.memo) c.cache_node.new.epoch c.nodes.at now end) c.in-Value.is s;
+      state = subst (λ (end : Normal). CachesNext c.args.rules.now.plan.now c.args.rules.now.code.now start c.args.term.now c.args.parts.now.left (g.M.Memo.map c.cache_node.new.memo) c.cache_node.new.epoch c.nodes.at now end) c.in-Value.is s;
       same = g.met.T.Terms.same_in_turn _ _ _ i.same e.same;
     }
 
 pub returns : goal.returns
 returns g c = record {
-  state = caching_all c.args.plan.now c.args.code.now (g.T.Terms.store c.args.terms.now) c.args.term.now c.args.parts.now.left (g.M.Memo.map c.nodes.memo) c.nodes.epoch c.nodes.at c.nodes.parts.left (g.T.Terms.store c.nodes.terms) (omega (arith, c.node_count-count.ensures.nodes, c.nodes-test.false)) c.nodes.invariant.within c.nodes.invariant.state;
+  state = caching_all c.args.rules.now.plan.now c.args.rules.now.code.now (g.T.Terms.store c.args.terms.now) c.args.term.now c.args.parts.now.left (g.M.Memo.map c.nodes.memo) c.nodes.epoch c.nodes.at c.nodes.parts.left (g.T.Terms.store c.nodes.terms) (omega (arith, c.node_count-count.ensures.nodes, c.nodes-test.false)) c.nodes.invariant.within c.nodes.invariant.state;
   fault = tt;
   frames_room = c.nodes.invariant.frames_room;
   matcher = c.nodes.invariant.matcher;
@@ -86,7 +86,7 @@ returns g c = record {
 
 pub depth_at-down-requires : goal.depth_at-down-requires
 depth_at-down-requires g c = record {
-  plain = (c.args.plan.now.widest, c.requires.plain);
+  plain = (c.args.rules.now.plan.now.widest, c.requires.plain);
   node = omega (arith, c.node_count-count.ensures.nodes, c.nodes-test.true);
   some = c.nodes.invariant.window;
   room = c.nodes.invariant.path_room;
@@ -96,8 +96,8 @@ depth_at-down-requires g c = record {
 pub cache_node-requires : goal.cache_node-requires
 cache_node-requires g c = record {
   inside = c.nodes.invariant.inside;
-  frames_room = subst (λ (n : ℕ). c.args.code.now.depth ≤ n) (sym c.nodes.invariant.frames_room) c.requires.frames_room;
-  matcher = subst (IsAutomaton c.args.plan.now.rules) (sym c.nodes.invariant.matcher) c.requires.matcher;
+  frames_room = subst (λ (n : ℕ). c.args.rules.now.code.now.depth ≤ n) (sym c.nodes.invariant.frames_room) c.requires.frames_room;
+  matcher = subst (IsAutomaton c.args.rules.now.plan.now.rules) (sym c.nodes.invariant.matcher) c.requires.matcher;
   node = omega (arith, c.node_count-count.ensures.nodes, c.nodes-test.true);
   no_variables = c.requires.no_variables;
   plain = c.requires.plain;

@@ -12,10 +12,10 @@ invariant-nodes g l =
       inside : (g.T.Terms.store l.terms).inside ≡ true;
       frames_room : vec_capacity l.parts.frames ≡ vec_capacity l.fn.parts.frames;
       matcher : l.parts.matcher.automaton ≡ l.fn.parts.matcher.automaton;
-      path_room : l.code.depth ≤ vec_capacity l.window.path;
+      path_room : l.rules.code.now.depth ≤ vec_capacity l.window.path;
       window : 0 < length l.window.depths.items;
-      shows : Shows l.code.depth l.term l.window.from l.window.depths.items;
-      state : IsCaching l.plan l.code (g.T.Terms.store l.fn.terms) l.term l.fn.parts.left (g.M.Memo.map l.memo) l.epoch l.at l.parts.left (g.T.Terms.store l.terms);
+      shows : Shows l.rules.code.now.depth l.term l.window.from l.window.depths.items;
+      state : IsCaching l.rules.plan.now l.rules.code.now (g.T.Terms.store l.fn.terms) l.term l.fn.parts.left (g.M.Memo.map l.memo) l.epoch l.at l.parts.left (g.T.Terms.store l.terms);
       same : g.T.Terms.same l.fn.terms l.terms;
     }
 

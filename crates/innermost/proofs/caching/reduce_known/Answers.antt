@@ -13,19 +13,19 @@ top_row-row-requires g c =
     let s = c.requires.state in
     record {
       inside = c.requires.inside;
-      some = node_places c.args.plan.now c.args.code.now s.0 s.1 s.2 (g.M.Memo.map c.args.memo.now) c.args.epoch.now s.3 c.args.parts.now.left (g.T.Terms.store c.args.terms.now) (Some c.args.rule) c.args.room s.4;
+      some = node_places c.args.rules.now.plan.now c.args.rules.now.code.now s.0 s.1 s.2 (g.M.Memo.map c.args.memo.now) c.args.epoch.now s.3 c.args.parts.now.left (g.T.Terms.store c.args.terms.now) (Some c.args.rule) c.args.room s.4;
     }
 
 pub take_known-requires : goal.take_known-requires
 take_known-requires g c =
     let s = c.requires.state in
     let t = c.top_row-row.ensures in
-    let built = node_built c.args.plan.now c.args.code.now s.0 s.1 s.2 (g.M.Memo.map c.args.memo.now) c.args.epoch.now s.3 c.args.parts.now.left (g.T.Terms.store c.args.terms.now) (Some c.args.rule) c.args.room s.4 in
+    let built = node_built c.args.rules.now.plan.now c.args.rules.now.code.now s.0 s.1 s.2 (g.M.Memo.map c.args.memo.now) c.args.epoch.now s.3 c.args.parts.now.left (g.T.Terms.store c.args.terms.now) (Some c.args.rule) c.args.room s.4 in
     record {
       inside = ap (λ (q : Store). q.inside) c.top_row-row.ensures.unchanged ∙ c.requires.inside;
       some = subst (λ (q : Store). 0 < length q.stack) (sym c.top_row-row.ensures.unchanged)
-          (node_places c.args.plan.now c.args.code.now s.0 s.1 s.2 (g.M.Memo.map c.args.memo.now) c.args.epoch.now s.3 c.args.parts.now.left (g.T.Terms.store c.args.terms.now) (Some c.args.rule) c.args.room s.4);
-      right = (c.args.plan.now.rules, built, c.refresh.ensures.right c.args.plan.now.rules built (subst (λ (q : Store). WasRight c.args.plan.now.rules built (g.M.Memo.map c.args.memo.now) c.args.epoch.now q) (sym t.unchanged) (node_memory c.args.plan.now c.args.code.now s.0 s.1 s.2 (g.M.Memo.map c.args.memo.now) c.args.epoch.now s.3 c.args.parts.now.left (g.T.Terms.store c.args.terms.now) (Some c.args.rule) c.args.room s.4)));
+          (node_places c.args.rules.now.plan.now c.args.rules.now.code.now s.0 s.1 s.2 (g.M.Memo.map c.args.memo.now) c.args.epoch.now s.3 c.args.parts.now.left (g.T.Terms.store c.args.terms.now) (Some c.args.rule) c.args.room s.4);
+      right = (c.args.rules.now.plan.now.rules, built, c.refresh.ensures.right c.args.rules.now.plan.now.rules built (subst (λ (q : Store). WasRight c.args.rules.now.plan.now.rules built (g.M.Memo.map c.args.memo.now) c.args.epoch.now q) (sym t.unchanged) (node_memory c.args.rules.now.plan.now c.args.rules.now.code.now s.0 s.1 s.2 (g.M.Memo.map c.args.memo.now) c.args.epoch.now s.3 c.args.parts.now.left (g.T.Terms.store c.args.terms.now) (Some c.args.rule) c.args.room s.4)));
     }
 
 pub returns-then-take_known : goal.returns-then-take_known
@@ -34,14 +34,14 @@ returns-then-take_known g c = record {
       let n' = n in
       let t = c.top_row-row.ensures in
       let now = g.T.Terms.store c.args.terms.now in
-      let rules = c.args.plan.now.rules in
-      let built = node_built c.args.plan.now c.args.code.now start term fuel (g.M.Memo.map c.args.memo.now) c.args.epoch.now at c.args.parts.now.left (g.T.Terms.store c.args.terms.now) (Some c.args.rule) c.args.room n' in
+      let rules = c.args.rules.now.plan.now.rules in
+      let built = node_built c.args.rules.now.plan.now c.args.rules.now.code.now start term fuel (g.M.Memo.map c.args.memo.now) c.args.epoch.now at c.args.parts.now.left (g.T.Terms.store c.args.terms.now) (Some c.args.rule) c.args.room n' in
       let map1 = g.M.Memo.map c.refresh.new.memo in
       let map2 = g.M.Memo.map c.take_known.new.memo in
-      let right = c.refresh.ensures.right rules built (subst (λ (q : Store). WasRight rules built (g.M.Memo.map c.args.memo.now) c.args.epoch.now q) (sym t.unchanged) (node_memory c.args.plan.now c.args.code.now start term fuel (g.M.Memo.map c.args.memo.now) c.args.epoch.now at c.args.parts.now.left (g.T.Terms.store c.args.terms.now) (Some c.args.rule) c.args.room n')) in
+      let right = c.refresh.ensures.right rules built (subst (λ (q : Store). WasRight rules built (g.M.Memo.map c.args.memo.now) c.args.epoch.now q) (sym t.unchanged) (node_memory c.args.rules.now.plan.now c.args.rules.now.code.now start term fuel (g.M.Memo.map c.args.memo.now) c.args.epoch.now at c.args.parts.now.left (g.T.Terms.store c.args.terms.now) (Some c.args.rule) c.args.room n')) in
       let taken = c.take_known.ensures.taken c.if-take_known.true rules built right in
       let here = subst (λ (q : Store). AreRight rules built q map1) t.unchanged right in
-      value_taken c.args.plan.now c.args.code.now start term fuel (g.M.Memo.map c.args.memo.now) c.args.epoch.now at c.args.parts.now.left (g.T.Terms.store c.args.terms.now) (Some c.args.rule) c.args.room n' (g.T.Terms.store c.take_known.new.terms) c.top_row-row.result c.take_known.new.left map2 c.refresh.new.epoch
+      value_taken c.args.rules.now.plan.now c.args.rules.now.code.now start term fuel (g.M.Memo.map c.args.memo.now) c.args.epoch.now at c.args.parts.now.left (g.T.Terms.store c.args.terms.now) (Some c.args.rule) c.args.room n' (g.T.Terms.store c.take_known.new.terms) c.top_row-row.result c.take_known.new.left map2 c.refresh.new.epoch
       (subst (λ (q : Store). IsTaken rules built q (g.T.Terms.store c.take_known.new.terms) c.top_row-row.result c.args.room c.args.parts.now.left c.take_known.new.left) t.unchanged taken)
       t.row (same_right rules built now map1 map2 c.take_known.ensures.map here) (subst (λ (q : Store). c.refresh.new.epoch ≡ q.epoch) t.unchanged c.refresh.ensures.epoch);
   fault = tt;
@@ -64,9 +64,9 @@ reduce_anew-requires g c =
         s.1,
         s.2,
         s.3,
-        node_looked c.args.plan.now c.args.code.now s.0 s.1 s.2 (g.M.Memo.map c.args.memo.now) c.args.epoch.now s.3 c.args.parts.now.left (g.T.Terms.store c.args.terms.now) (Some c.args.rule) c.args.room s.4 (g.M.Memo.map c.take_known.new.memo) c.refresh.new.epoch c.take_known.new.left (g.T.Terms.store c.take_known.new.terms)
-            (same_right c.args.plan.now.rules (node_built c.args.plan.now c.args.code.now s.0 s.1 s.2 (g.M.Memo.map c.args.memo.now) c.args.epoch.now s.3 c.args.parts.now.left (g.T.Terms.store c.args.terms.now) (Some c.args.rule) c.args.room s.4) (g.T.Terms.store c.args.terms.now) (g.M.Memo.map c.refresh.new.memo) (g.M.Memo.map c.take_known.new.memo) c.take_known.ensures.map
-            (subst (λ (q : Store). AreRight c.args.plan.now.rules (node_built c.args.plan.now c.args.code.now s.0 s.1 s.2 (g.M.Memo.map c.args.memo.now) c.args.epoch.now s.3 c.args.parts.now.left (g.T.Terms.store c.args.terms.now) (Some c.args.rule) c.args.room s.4) q (g.M.Memo.map c.refresh.new.memo)) c.top_row-row.ensures.unchanged (c.refresh.ensures.right c.args.plan.now.rules (node_built c.args.plan.now c.args.code.now s.0 s.1 s.2 (g.M.Memo.map c.args.memo.now) c.args.epoch.now s.3 c.args.parts.now.left (g.T.Terms.store c.args.terms.now) (Some c.args.rule) c.args.room s.4) (subst (λ (q : Store). WasRight c.args.plan.now.rules (node_built c.args.plan.now c.args.code.now s.0 s.1 s.2 (g.M.Memo.map c.args.memo.now) c.args.epoch.now s.3 c.args.parts.now.left (g.T.Terms.store c.args.terms.now) (Some c.args.rule) c.args.room s.4) (g.M.Memo.map c.args.memo.now) c.args.epoch.now q) (sym c.top_row-row.ensures.unchanged) (node_memory c.args.plan.now c.args.code.now s.0 s.1 s.2 (g.M.Memo.map c.args.memo.now) c.args.epoch.now s.3 c.args.parts.now.left (g.T.Terms.store c.args.terms.now) (Some c.args.rule) c.args.room s.4)))))
+        node_looked c.args.rules.now.plan.now c.args.rules.now.code.now s.0 s.1 s.2 (g.M.Memo.map c.args.memo.now) c.args.epoch.now s.3 c.args.parts.now.left (g.T.Terms.store c.args.terms.now) (Some c.args.rule) c.args.room s.4 (g.M.Memo.map c.take_known.new.memo) c.refresh.new.epoch c.take_known.new.left (g.T.Terms.store c.take_known.new.terms)
+            (same_right c.args.rules.now.plan.now.rules (node_built c.args.rules.now.plan.now c.args.rules.now.code.now s.0 s.1 s.2 (g.M.Memo.map c.args.memo.now) c.args.epoch.now s.3 c.args.parts.now.left (g.T.Terms.store c.args.terms.now) (Some c.args.rule) c.args.room s.4) (g.T.Terms.store c.args.terms.now) (g.M.Memo.map c.refresh.new.memo) (g.M.Memo.map c.take_known.new.memo) c.take_known.ensures.map
+            (subst (λ (q : Store). AreRight c.args.rules.now.plan.now.rules (node_built c.args.rules.now.plan.now c.args.rules.now.code.now s.0 s.1 s.2 (g.M.Memo.map c.args.memo.now) c.args.epoch.now s.3 c.args.parts.now.left (g.T.Terms.store c.args.terms.now) (Some c.args.rule) c.args.room s.4) q (g.M.Memo.map c.refresh.new.memo)) c.top_row-row.ensures.unchanged (c.refresh.ensures.right c.args.rules.now.plan.now.rules (node_built c.args.rules.now.plan.now c.args.rules.now.code.now s.0 s.1 s.2 (g.M.Memo.map c.args.memo.now) c.args.epoch.now s.3 c.args.parts.now.left (g.T.Terms.store c.args.terms.now) (Some c.args.rule) c.args.room s.4) (subst (λ (q : Store). WasRight c.args.rules.now.plan.now.rules (node_built c.args.rules.now.plan.now c.args.rules.now.code.now s.0 s.1 s.2 (g.M.Memo.map c.args.memo.now) c.args.epoch.now s.3 c.args.parts.now.left (g.T.Terms.store c.args.terms.now) (Some c.args.rule) c.args.room s.4) (g.M.Memo.map c.args.memo.now) c.args.epoch.now q) (sym c.top_row-row.ensures.unchanged) (node_memory c.args.rules.now.plan.now c.args.rules.now.code.now s.0 s.1 s.2 (g.M.Memo.map c.args.memo.now) c.args.epoch.now s.3 c.args.parts.now.left (g.T.Terms.store c.args.terms.now) (Some c.args.rule) c.args.room s.4)))))
             (subst (λ (q : Store). c.refresh.new.epoch ≡ q.epoch) c.top_row-row.ensures.unchanged c.refresh.ensures.epoch)
             (c.take_known.ensures.left c.if-take_known.false) (c.take_known.ensures.store c.if-take_known.false ∙ c.top_row-row.ensures.unchanged),
       );
@@ -76,17 +76,17 @@ pub returns : goal.returns
 returns g c = record {
   state = IfOk-weaker c.reduce_anew.result _ _ (λ end h start term fuel at n.
       let n' = n in
-      h start term fuel at (node_looked c.args.plan.now c.args.code.now start term fuel (g.M.Memo.map c.args.memo.now) c.args.epoch.now at c.args.parts.now.left (g.T.Terms.store c.args.terms.now) (Some c.args.rule) c.args.room n' (g.M.Memo.map c.take_known.new.memo) c.refresh.new.epoch c.take_known.new.left (g.T.Terms.store c.take_known.new.terms)
-      (same_right c.args.plan.now.rules (node_built c.args.plan.now c.args.code.now start term fuel (g.M.Memo.map c.args.memo.now) c.args.epoch.now at c.args.parts.now.left (g.T.Terms.store c.args.terms.now) (Some c.args.rule) c.args.room n') (g.T.Terms.store c.args.terms.now) (g.M.Memo.map c.refresh.new.memo) (g.M.Memo.map c.take_known.new.memo) c.take_known.ensures.map
-      (subst (λ (q : Store). AreRight c.args.plan.now.rules (node_built c.args.plan.now c.args.code.now start term fuel (g.M.Memo.map c.args.memo.now) c.args.epoch.now at c.args.parts.now.left (g.T.Terms.store c.args.terms.now) (Some c.args.rule) c.args.room n') q (g.M.Memo.map c.refresh.new.memo)) c.top_row-row.ensures.unchanged (c.refresh.ensures.right c.args.plan.now.rules (node_built c.args.plan.now c.args.code.now start term fuel (g.M.Memo.map c.args.memo.now) c.args.epoch.now at c.args.parts.now.left (g.T.Terms.store c.args.terms.now) (Some c.args.rule) c.args.room n') (subst (λ (q : Store). WasRight c.args.plan.now.rules (node_built c.args.plan.now c.args.code.now start term fuel (g.M.Memo.map c.args.memo.now) c.args.epoch.now at c.args.parts.now.left (g.T.Terms.store c.args.terms.now) (Some c.args.rule) c.args.room n') (g.M.Memo.map c.args.memo.now) c.args.epoch.now q) (sym c.top_row-row.ensures.unchanged) (node_memory c.args.plan.now c.args.code.now start term fuel (g.M.Memo.map c.args.memo.now) c.args.epoch.now at c.args.parts.now.left (g.T.Terms.store c.args.terms.now) (Some c.args.rule) c.args.room n')))))
+      h start term fuel at (node_looked c.args.rules.now.plan.now c.args.rules.now.code.now start term fuel (g.M.Memo.map c.args.memo.now) c.args.epoch.now at c.args.parts.now.left (g.T.Terms.store c.args.terms.now) (Some c.args.rule) c.args.room n' (g.M.Memo.map c.take_known.new.memo) c.refresh.new.epoch c.take_known.new.left (g.T.Terms.store c.take_known.new.terms)
+      (same_right c.args.rules.now.plan.now.rules (node_built c.args.rules.now.plan.now c.args.rules.now.code.now start term fuel (g.M.Memo.map c.args.memo.now) c.args.epoch.now at c.args.parts.now.left (g.T.Terms.store c.args.terms.now) (Some c.args.rule) c.args.room n') (g.T.Terms.store c.args.terms.now) (g.M.Memo.map c.refresh.new.memo) (g.M.Memo.map c.take_known.new.memo) c.take_known.ensures.map
+      (subst (λ (q : Store). AreRight c.args.rules.now.plan.now.rules (node_built c.args.rules.now.plan.now c.args.rules.now.code.now start term fuel (g.M.Memo.map c.args.memo.now) c.args.epoch.now at c.args.parts.now.left (g.T.Terms.store c.args.terms.now) (Some c.args.rule) c.args.room n') q (g.M.Memo.map c.refresh.new.memo)) c.top_row-row.ensures.unchanged (c.refresh.ensures.right c.args.rules.now.plan.now.rules (node_built c.args.rules.now.plan.now c.args.rules.now.code.now start term fuel (g.M.Memo.map c.args.memo.now) c.args.epoch.now at c.args.parts.now.left (g.T.Terms.store c.args.terms.now) (Some c.args.rule) c.args.room n') (subst (λ (q : Store). WasRight c.args.rules.now.plan.now.rules (node_built c.args.rules.now.plan.now c.args.rules.now.code.now start term fuel (g.M.Memo.map c.args.memo.now) c.args.epoch.now at c.args.parts.now.left (g.T.Terms.store c.args.terms.now) (Some c.args.rule) c.args.room n') (g.M.Memo.map c.args.memo.now) c.args.epoch.now q) (sym c.top_row-row.ensures.unchanged) (node_memory c.args.rules.now.plan.now c.args.rules.now.code.now start term fuel (g.M.Memo.map c.args.memo.now) c.args.epoch.now at c.args.parts.now.left (g.T.Terms.store c.args.terms.now) (Some c.args.rule) c.args.room n')))))
       (subst (λ (q : Store). c.refresh.new.epoch ≡ q.epoch) c.top_row-row.ensures.unchanged c.refresh.ensures.epoch)
       (c.take_known.ensures.left c.if-take_known.false) (c.take_known.ensures.store c.if-take_known.false ∙ c.top_row-row.ensures.unchanged)))
       c.reduce_anew.ensures.state;
   fault = IfErr-weaker c.reduce_anew.result _ _ (λ fault h start term fuel at n.
       let n' = n in
-      h start term fuel at (node_looked c.args.plan.now c.args.code.now start term fuel (g.M.Memo.map c.args.memo.now) c.args.epoch.now at c.args.parts.now.left (g.T.Terms.store c.args.terms.now) (Some c.args.rule) c.args.room n' (g.M.Memo.map c.take_known.new.memo) c.refresh.new.epoch c.take_known.new.left (g.T.Terms.store c.take_known.new.terms)
-      (same_right c.args.plan.now.rules (node_built c.args.plan.now c.args.code.now start term fuel (g.M.Memo.map c.args.memo.now) c.args.epoch.now at c.args.parts.now.left (g.T.Terms.store c.args.terms.now) (Some c.args.rule) c.args.room n') (g.T.Terms.store c.args.terms.now) (g.M.Memo.map c.refresh.new.memo) (g.M.Memo.map c.take_known.new.memo) c.take_known.ensures.map
-      (subst (λ (q : Store). AreRight c.args.plan.now.rules (node_built c.args.plan.now c.args.code.now start term fuel (g.M.Memo.map c.args.memo.now) c.args.epoch.now at c.args.parts.now.left (g.T.Terms.store c.args.terms.now) (Some c.args.rule) c.args.room n') q (g.M.Memo.map c.refresh.new.memo)) c.top_row-row.ensures.unchanged (c.refresh.ensures.right c.args.plan.now.rules (node_built c.args.plan.now c.args.code.now start term fuel (g.M.Memo.map c.args.memo.now) c.args.epoch.now at c.args.parts.now.left (g.T.Terms.store c.args.terms.now) (Some c.args.rule) c.args.room n') (subst (λ (q : Store). WasRight c.args.plan.now.rules (node_built c.args.plan.now c.args.code.now start term fuel (g.M.Memo.map c.args.memo.now) c.args.epoch.now at c.args.parts.now.left (g.T.Terms.store c.args.terms.now) (Some c.args.rule) c.args.room n') (g.M.Memo.map c.args.memo.now) c.args.epoch.now q) (sym c.top_row-row.ensures.unchanged) (node_memory c.args.plan.now c.args.code.now start term fuel (g.M.Memo.map c.args.memo.now) c.args.epoch.now at c.args.parts.now.left (g.T.Terms.store c.args.terms.now) (Some c.args.rule) c.args.room n')))))
+      h start term fuel at (node_looked c.args.rules.now.plan.now c.args.rules.now.code.now start term fuel (g.M.Memo.map c.args.memo.now) c.args.epoch.now at c.args.parts.now.left (g.T.Terms.store c.args.terms.now) (Some c.args.rule) c.args.room n' (g.M.Memo.map c.take_known.new.memo) c.refresh.new.epoch c.take_known.new.left (g.T.Terms.store c.take_known.new.terms)
+      (same_right c.args.rules.now.plan.now.rules (node_built c.args.rules.now.plan.now c.args.rules.now.code.now start term fuel (g.M.Memo.map c.args.memo.now) c.args.epoch.now at c.args.parts.now.left (g.T.Terms.store c.args.terms.now) (Some c.args.rule) c.args.room n') (g.T.Terms.store c.args.terms.now) (g.M.Memo.map c.refresh.new.memo) (g.M.Memo.map c.take_known.new.memo) c.take_known.ensures.map
+      (subst (λ (q : Store). AreRight c.args.rules.now.plan.now.rules (node_built c.args.rules.now.plan.now c.args.rules.now.code.now start term fuel (g.M.Memo.map c.args.memo.now) c.args.epoch.now at c.args.parts.now.left (g.T.Terms.store c.args.terms.now) (Some c.args.rule) c.args.room n') q (g.M.Memo.map c.refresh.new.memo)) c.top_row-row.ensures.unchanged (c.refresh.ensures.right c.args.rules.now.plan.now.rules (node_built c.args.rules.now.plan.now c.args.rules.now.code.now start term fuel (g.M.Memo.map c.args.memo.now) c.args.epoch.now at c.args.parts.now.left (g.T.Terms.store c.args.terms.now) (Some c.args.rule) c.args.room n') (subst (λ (q : Store). WasRight c.args.rules.now.plan.now.rules (node_built c.args.rules.now.plan.now c.args.rules.now.code.now start term fuel (g.M.Memo.map c.args.memo.now) c.args.epoch.now at c.args.parts.now.left (g.T.Terms.store c.args.terms.now) (Some c.args.rule) c.args.room n') (g.M.Memo.map c.args.memo.now) c.args.epoch.now q) (sym c.top_row-row.ensures.unchanged) (node_memory c.args.rules.now.plan.now c.args.rules.now.code.now start term fuel (g.M.Memo.map c.args.memo.now) c.args.epoch.now at c.args.parts.now.left (g.T.Terms.store c.args.terms.now) (Some c.args.rule) c.args.room n')))))
       (subst (λ (q : Store). c.refresh.new.epoch ≡ q.epoch) c.top_row-row.ensures.unchanged c.refresh.ensures.epoch)
       (c.take_known.ensures.left c.if-take_known.false) (c.take_known.ensures.store c.if-take_known.false ∙ c.top_row-row.ensures.unchanged)))
       c.reduce_anew.ensures.fault;

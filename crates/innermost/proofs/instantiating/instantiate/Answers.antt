@@ -88,7 +88,6 @@ pub build_node-requires : goal.build_node-requires
 build_node-requires g c = record {
   inside = c.nodes.invariant.inside;
   node = omega (arith, c.node_count-count.ensures.nodes, c.nodes-test.true);
-  limit = c.requires.limit;
-  down = c.depth_at-down.ensures.depth;
+  down = (c.args.limit, omega (arith, c.ranges.limit.fits), c.requires.limit, c.depth_at-down.ensures.depth);
   state = (c.requires.state.0, c.nodes.invariant.state c.requires.state.0 c.requires.state.1);
 }
