@@ -1,6 +1,7 @@
 //! Desks over a real store, on one thread, with values worked out by hand.
 mod ends;
 mod over;
+mod tries;
 
 ghost use Rattle.std.specs.Prelude.{◌≡◌, ◌≤◌, All, IfOk, true, false};
 ghost use Rattle.store_model.specs.NewStore.{MaySize};
