@@ -114,8 +114,8 @@ impl Terms for PlainStore {
         self.build_tree(head, n)
     }
 
-    /// Finds the tree's row, or takes a free one. It says no exactly where `build` collects or
-    /// answers Deep.
+    /// Finds the tree's row, or takes a free one. It says no exactly where every row has a tree and
+    /// none has the asked one, or where a tree without arguments finds all places in use.
     fn try_build(&mut self, head: Head, n: u32) -> bool
         requires inside { (store_of self.old).inside ≡ true }
         requires may { MayBuild (store_of self.old) head n }

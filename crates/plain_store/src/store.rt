@@ -160,7 +160,8 @@ impl PlainStore {
         self.history = self.history.and(&self.places, &Event::Refused);
     }
 
-    /// Finds the tree's row, or takes a free one, and says whether there was one.
+    /// Finds the tree's row, or takes a free one, and says whether it did. A tree without arguments
+    /// that finds no place isn't looked for.
     #[inline(always)]
     pub(crate) fn try_tree(&mut self, head: Head, n: u32) -> bool
         requires { MayBuild (store_of self.old) head n }
@@ -220,7 +221,7 @@ impl PlainStore {
         self.build_late(head, n)
     }
 
-    /// Where a try said no: collects and takes a row that was freed.
+    /// Where a try said no: answers Deep, or collects and takes a row that was freed, or refuses.
     #[cold]
     #[inline(never)]
     fn build_late(&mut self, head: Head, n: u32) -> Result<(), BuildFault>

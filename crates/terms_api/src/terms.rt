@@ -22,8 +22,7 @@ pub enum BuildFault {
 
 /// A store of maximally shared terms, as one caller sees it. It is used between `enter` and
 /// `leave`. What stands on its stack of rows, with all that can be reached from there, keeps its
-/// rows; other rows may be lost at `enter`, `breathe`, `build` and `build_of`. No call takes
-/// memory.
+/// rows; other rows may be lost at `enter`, at `breathe` and by builds. No call takes memory.
 pub trait Terms {
     /// Its rows, trees, stack and numbers.
     ghost store: { Self → Store };
@@ -222,8 +221,8 @@ pub trait Terms {
         self.build(head, rows.len() as u32)
     }
 
-    /// Builds as `build` does where that needs no collection and no wait, and says whether it did.
-    /// Else nothing happens, and `build` is to be asked. A store may always say no, as here.
+    /// Builds as `build` does, without a collection or a wait, or else does nothing, and says
+    /// whether it built. A store may always say no, as here; `build` may do it then.
     fn try_build(&mut self, head: Head, n: u32) -> bool
         requires inside { (store self.old).inside ≡ true }
         requires may { MayBuild (store self.old) head n }
@@ -240,8 +239,8 @@ pub trait Terms {
         false
     }
 
-    /// Builds as `build_of` does where that needs no collection and no wait, and says whether it did.
-    /// Else nothing happens, and `build_of` is to be asked. A store may always say no.
+    /// Builds as `build_of` does, without a collection or a wait, or else does nothing, and says
+    /// whether it built. A store may always say no; `build_of` may do it then.
     fn try_build_of(&mut self, head: Head, rows: &[Row]) -> bool
         requires inside { (store self.old).inside ≡ true }
         requires held { All (IsHeld (store self.old)) rows.now }
